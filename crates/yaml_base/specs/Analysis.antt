@@ -1,0 +1,1 @@
+-- Which styles a scalar's value allows, as tests on the whole value.

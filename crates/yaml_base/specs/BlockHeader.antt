@@ -1,0 +1,1 @@
+-- The header of a block scalar (YAML 1.1, section 9.2.1).

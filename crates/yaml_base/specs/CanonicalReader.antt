@@ -1,0 +1,1 @@
+-- Reading canonical bytes back.

@@ -1,0 +1,1 @@
+-- What canonical bytes keep of a list of events.

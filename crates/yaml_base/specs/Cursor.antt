@@ -1,0 +1,77 @@
+-- Where the next character stands, and the pieces of text that are put there (libyaml's own rules).
+use Rattle.std.specs.Prelude.{ℕ, Bool, true, false, Option, None, Some, List, [], ◌∷◌, ◌++◌, ◌==◌, ◌||◌, ◌&&◌, ◌+◌, ◌-◌, not, nat_lt, length, replicate, codes, if◌then◌else◌}
+use Rattle.yaml_base.specs.Characters.{Text, is_break, line_feed, space}
+
+-- the column of the next character, counted in characters; whether white space stands before it,
+-- or nothing but indentation and indicators that may stand in it
+pub record Cursor : Type 0 where
+  pub column : ℕ
+  pub whitespace : Bool
+  pub indention : Bool
+
+-- a text, whose line breaks are LF, and the cursor after it
+pub record Laid : Type 0 where
+  pub text : Text
+  pub cursor : Cursor
+
+-- at the start of a stream
+abbrev pub first_cursor : Cursor
+first_cursor = record { column = 0; whitespace = true; indention = true }
+
+abbrev pub nothing_laid : Cursor → Laid
+nothing_laid cursor = record { text = []; cursor = cursor }
+
+-- a text, and then what is laid at the cursor after it
+abbrev pub then_laid : Laid → (Cursor → Laid) → Laid
+then_laid first next =
+    let second = next first.cursor in record { text = first.text ++ second.text; cursor = second.cursor }
+
+-- the column after a character that stands at this one: one more, or 0 after a break
+abbrev pub next_column : ℕ → ℕ → ℕ
+next_column character column = if is_break character then 0 else column + 1
+
+-- the column after a text
+abbrev pub column_after : Text → ℕ → ℕ
+column_after [] column = column
+column_after (character ∷ rest) column = column_after rest (next_column character column)
+
+-- a text by itself: it moves the column and no flag
+abbrev pub text_laid : Text → Cursor → Laid
+text_laid text cursor =
+    record { text = text; cursor = record cursor { column = column_after text cursor.column } }
+
+-- the same text, with these flags after it
+abbrev pub with_flags : Bool → Bool → Laid → Laid
+with_flags whitespace indention laid =
+    record { text = laid.text; cursor = record { column = laid.cursor.column; whitespace = whitespace; indention = indention } }
+
+-- a new line at a column breaks the line unless the cursor stands before or at that column, free to go on
+abbrev pub breaks_line : ℕ → Cursor → Bool
+breaks_line at cursor =
+    not cursor.indention || nat_lt at cursor.column || (cursor.column == at && not cursor.whitespace)
+
+-- a new line that begins at a column: a break where one is needed, then spaces up to the column
+abbrev pub new_line : ℕ → Cursor → Laid
+new_line at cursor =
+    record {
+        text = if breaks_line at cursor then line_feed ∷ replicate at space else replicate (at - cursor.column) space;
+        cursor = record { column = at; whitespace = true; indention = true };
+    }
+
+-- a space, where one is needed and none stands there
+abbrev pub space_if : Bool → Cursor → Text
+space_if need cursor = if need && not cursor.whitespace then space ∷ [] else []
+
+-- an indicator, a space before it where one is needed, and the flags after it
+abbrev pub indicator : Text → Bool → Bool → Bool → Cursor → Laid
+indicator sign need whitespace indention cursor =
+    with_flags whitespace (cursor.indention && indention) (text_laid (space_if need cursor ++ sign) cursor)
+
+-- a name, which ends white space and indentation
+abbrev pub name_laid : Text → Cursor → Laid
+name_laid name cursor = with_flags false false (text_laid name cursor)
+
+-- the column is past the width; no width is never passed
+abbrev pub is_past_width : Option ℕ → Cursor → Bool
+is_past_width None cursor = false
+is_past_width (Some width) cursor = nat_lt width cursor.column

@@ -1,0 +1,1 @@
+-- The layout of a double-quoted scalar, over its units (YAML 1.1, section 9.1.1).

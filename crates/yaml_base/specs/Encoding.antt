@@ -1,0 +1,1 @@
+-- Texts as bytes: UTF-8 (RFC 3629) and UTF-16 (RFC 2781), and what a limit leaves of them.

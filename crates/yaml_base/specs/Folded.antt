@@ -1,0 +1,1 @@
+-- The layout of a folded scalar, over its lines.

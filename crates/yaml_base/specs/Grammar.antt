@@ -1,0 +1,1 @@
+-- The trees of nodes, documents and streams, their events, and the tree of the first events of a list.

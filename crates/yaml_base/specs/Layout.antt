@@ -1,0 +1,1 @@
+-- The text of each event of a node and of a stream.

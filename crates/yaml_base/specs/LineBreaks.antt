@@ -1,0 +1,35 @@
+-- How a finished text's line breaks are written, and how those of any text are read (YAML 1.1, section 5.4).
+use Rattle.std.specs.Prelude.{ℕ, Bool, true, false, List, [], ◌∷◌, ◌++◌, ◌==◌, ◌||◌, ◌&&◌, not, if◌then◌else◌}
+use Rattle.yaml_base.specs.Characters.{Text, line_feed, carriage_return, next_line, line_separator, paragraph_separator}
+use Rattle.yaml_base.specs.Settings.{LineBreak, carriage_return_break, line_feed_break, both_break}
+
+abbrev pub break_text : LineBreak → Text
+break_text carriage_return_break = carriage_return ∷ []
+break_text line_feed_break = line_feed ∷ []
+break_text both_break = carriage_return ∷ line_feed ∷ []
+
+-- a text whose every LF is written as the setting says; all else stands for itself
+abbrev pub with_breaks_written : LineBreak → Text → Text
+with_breaks_written setting [] = []
+with_breaks_written setting (c ∷ rest) =
+    (if c == line_feed then break_text setting else c ∷ []) ++ with_breaks_written setting rest
+
+-- what a character reads as, after a CR or after another
+abbrev pub character_read : Bool → ℕ → Text
+character_read after_carriage_return c =
+    if c == line_feed && after_carriage_return then []
+    else (if c == carriage_return || c == next_line then line_feed ∷ [] else c ∷ [])
+
+abbrev pub line_breaks_read_after : Bool → Text → Text
+line_breaks_read_after after_carriage_return [] = []
+line_breaks_read_after after_carriage_return (c ∷ rest) =
+    character_read after_carriage_return c ++ line_breaks_read_after (c == carriage_return) rest
+
+-- CR LF, CR, LF and U+0085 each read as LF; U+2028 and U+2029 read as themselves
+abbrev pub with_line_breaks_read : Text → Text
+with_line_breaks_read text = line_breaks_read_after false text
+
+-- a break in a text whose line breaks are read; under the rules of YAML 1.2 U+2028 and U+2029 are none
+abbrev pub is_read_break : Bool → ℕ → Bool
+is_read_break breaks12 c =
+    c == line_feed || (not breaks12 && (c == line_separator || c == paragraph_separator))

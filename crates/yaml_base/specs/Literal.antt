@@ -1,0 +1,1 @@
+-- The layout of a literal scalar, over its lines.

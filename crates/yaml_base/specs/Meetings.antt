@@ -1,0 +1,1 @@
+-- The walk over a document's nodes, and its events.

@@ -1,0 +1,1 @@
+-- Percent forms of tags and prefixes, and their decoding.

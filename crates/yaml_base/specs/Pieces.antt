@@ -1,0 +1,1 @@
+-- The completion of a list of events, and its first pieces.

@@ -1,0 +1,1 @@
+-- The layout of a plain scalar, over its runs.

@@ -1,0 +1,1 @@
+-- Reading a literal or folded scalar.

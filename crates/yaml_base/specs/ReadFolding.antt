@@ -1,0 +1,1 @@
+-- How blanks and breaks fold in plain and quoted text.

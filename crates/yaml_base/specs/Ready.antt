@@ -1,0 +1,1 @@
+-- Which events of a list can be written.

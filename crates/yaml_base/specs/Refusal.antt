@@ -1,0 +1,1 @@
+-- The refusal of an event after a list of events, and the accepted lists.

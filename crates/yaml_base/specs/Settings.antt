@@ -1,0 +1,65 @@
+-- What the caller sets, and what it comes to at the stream's start (libyaml's own rules).
+use Rattle.std.specs.Prelude.{ℕ, ℤ, pos, Bool, false, true, Option, None, Some, ◌==◌, ◌||◌, ◌&&◌, ◌*◌, nat_le, if◌then◌else◌, unwrap_or}
+
+pub data Encoding : Type 0 where
+  utf8 : Encoding
+  utf16_little : Encoding
+  utf16_big : Encoding
+
+pub data LineBreak : Type 0 where
+  carriage_return_break : LineBreak
+  line_feed_break : LineBreak
+  both_break : LineBreak
+
+-- the last value given to each setter; none where it wasn't called or was given ANY
+pub record Settings : Type 0 where
+  pub encoding : Option Encoding
+  pub canonical : Bool
+  pub unicode : Bool
+  pub indent : Option ℤ
+  pub width : Option ℤ
+  pub line_break : Option LineBreak
+  pub breaks12 : Bool
+  pub limit : ℕ
+
+-- what the layout goes by; a width of none is no limit
+pub record Effective : Type 0 where
+  pub encoding : Encoding
+  pub canonical : Bool
+  pub unicode : Bool
+  pub indent : ℕ
+  pub width : Option ℕ
+  pub line_break : LineBreak
+  pub breaks12 : Bool
+  pub limit : ℕ
+
+-- an indent of 2 to 9 is kept, any other becomes 2
+abbrev pub effective_indent : Option ℤ → ℕ
+effective_indent (Some (pos n)) = if nat_le 2 n && nat_le n 9 then n else 2
+effective_indent _ = 2
+
+-- a negative width and the largest `i32` are no limit; up to twice the indent it becomes 80
+abbrev pub effective_width : Option ℤ → ℕ → Option ℕ
+effective_width None indent = Some 80
+effective_width (Some (pos n)) indent =
+    if n == 2147483647 then None else Some (if nat_le n (2 * indent) then 80 else n)
+effective_width (Some _) indent = None
+
+-- the emitter's encoding, else the stream's, else UTF-8
+abbrev pub effective_encoding : Option Encoding → Option Encoding → Encoding
+effective_encoding (Some own) of_stream = own
+effective_encoding None of_stream = unwrap_or of_stream utf8
+
+abbrev pub effective : Settings → Option Encoding → Effective
+effective given of_stream =
+    let indent = effective_indent given.indent in
+    record {
+        encoding = effective_encoding given.encoding of_stream;
+        canonical = given.canonical;
+        unicode = given.unicode;
+        indent = indent;
+        width = effective_width given.width indent;
+        line_break = unwrap_or given.line_break line_feed_break;
+        breaks12 = given.breaks12;
+        limit = given.limit;
+    }

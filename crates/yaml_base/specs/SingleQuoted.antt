@@ -1,0 +1,1 @@
+-- The layout of a single-quoted scalar, over its runs.

@@ -1,0 +1,1 @@
+-- The style that is chosen for a scalar, and whether the bare tag is written.

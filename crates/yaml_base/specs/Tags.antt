@@ -1,0 +1,1 @@
+-- Directives in force, and how a tag is spelled by them (YAML 1.1, section 6.8).

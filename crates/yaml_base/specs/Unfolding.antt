@@ -1,0 +1,1 @@
+-- What it means that a tree of events unfolds a graph of nodes.

@@ -1,0 +1,2 @@
+//! Versions, tag directives, anchors and tags.
+#![tactic(auto)]

@@ -1,0 +1,2 @@
+//! The pen: an output buffer with an encoding, a cursor and a limit.
+#![tactic(auto)]

@@ -1,0 +1,2 @@
+//! Scalars: analysis, choice of style, and the five writers.
+#![tactic(auto)]
