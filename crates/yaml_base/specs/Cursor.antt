@@ -54,8 +54,8 @@ breaks_line at cursor =
 abbrev pub new_line : ℕ → Cursor → Laid
 new_line at cursor =
     record {
-        text = if breaks_line at cursor then line_feed ∷ replicate at space else replicate (at - cursor.column) space;
-        cursor = record { column = at; whitespace = true; indention = true };
+      text = if breaks_line at cursor then line_feed ∷ replicate at space else replicate (at - cursor.column) space;
+      cursor = record { column = at; whitespace = true; indention = true };
     }
 
 -- a space, where one is needed and none stands there

@@ -54,12 +54,12 @@ abbrev pub effective : Settings → Option Encoding → Effective
 effective given of_stream =
     let indent = effective_indent given.indent in
     record {
-        encoding = effective_encoding given.encoding of_stream;
-        canonical = given.canonical;
-        unicode = given.unicode;
-        indent = indent;
-        width = effective_width given.width indent;
-        line_break = unwrap_or given.line_break line_feed_break;
-        breaks12 = given.breaks12;
-        limit = given.limit;
+      encoding = effective_encoding given.encoding of_stream;
+      canonical = given.canonical;
+      unicode = given.unicode;
+      indent = indent;
+      width = effective_width given.width indent;
+      line_break = unwrap_or given.line_break line_feed_break;
+      breaks12 = given.breaks12;
+      limit = given.limit;
     }
