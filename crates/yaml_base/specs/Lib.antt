@@ -3,6 +3,7 @@ pub mod Settings
 pub mod LineBreaks
 pub mod Cursor
 pub mod Event
+pub mod Errors
 pub mod Encoding
 pub mod Percent
 pub mod Tags

@@ -1,2 +1,27 @@
 //! Types, errors and character classes of a YAML 1.1 emitter, and all definitions that its contracts cite.
 #![tactic(auto)]
+
+mod directives;
+mod encodings;
+mod errors;
+mod styles;
+
+pub use directives::{yaml_tag_directive_t, yaml_version_directive_t};
+pub use encodings::yaml_break_t::{YAML_ANY_BREAK, YAML_CR_BREAK, YAML_CRLN_BREAK, YAML_LN_BREAK};
+pub use encodings::yaml_encoding_t::{
+    YAML_ANY_ENCODING, YAML_UTF8_ENCODING, YAML_UTF16BE_ENCODING, YAML_UTF16LE_ENCODING,
+};
+pub use encodings::{yaml_break_t, yaml_encoding_t};
+pub use errors::yaml_error_type_t::{YAML_EMITTER_ERROR, YAML_MEMORY_ERROR, YAML_WRITER_ERROR};
+pub use errors::{yaml_error_t, yaml_error_type_t};
+pub use styles::yaml_mapping_style_t::{
+    YAML_ANY_MAPPING_STYLE, YAML_BLOCK_MAPPING_STYLE, YAML_FLOW_MAPPING_STYLE,
+};
+pub use styles::yaml_scalar_style_t::{
+    YAML_ANY_SCALAR_STYLE, YAML_DOUBLE_QUOTED_SCALAR_STYLE, YAML_FOLDED_SCALAR_STYLE,
+    YAML_LITERAL_SCALAR_STYLE, YAML_PLAIN_SCALAR_STYLE, YAML_SINGLE_QUOTED_SCALAR_STYLE,
+};
+pub use styles::yaml_sequence_style_t::{
+    YAML_ANY_SEQUENCE_STYLE, YAML_BLOCK_SEQUENCE_STYLE, YAML_FLOW_SEQUENCE_STYLE,
+};
+pub use styles::{yaml_mapping_style_t, yaml_scalar_style_t, yaml_sequence_style_t};

@@ -1,0 +1,65 @@
+-- The refusals: their numbers, the layer that each comes from, and their words (libyaml's own texts).
+use Rattle.std.specs.Prelude.{ℕ, List, codes}
+use Rattle.yaml_base.specs.declared.errors.yaml_error_t.{yaml_error_t}
+use Rattle.yaml_base.specs.declared.errors.yaml_error_t.TheVariants.{ExpectedStreamStart, ExpectedDocumentStart, ExpectedDocumentEnd, ExpectedNode, ExpectedNothing, IncompatibleVersion, TagHandleEmpty, TagHandleStart, TagHandleEnd, TagHandleAlphabet, TagPrefixEmpty, DuplicateDirective, AnchorEmpty, AnchorAlphabet, AliasEmpty, AliasAlphabet, TagEmpty, NoTagNorImplicit, TooDeep, WriteError, Memory}
+use Rattle.yaml_base.specs.declared.errors.yaml_error_type_t.{yaml_error_type_t}
+use Rattle.yaml_base.specs.declared.errors.yaml_error_type_t.TheVariants.{YAML_MEMORY_ERROR, YAML_WRITER_ERROR, YAML_EMITTER_ERROR}
+
+-- a refusal's number: 1 to 19 for events that can't be written, 20 for the output's limit, 21 for memory
+abbrev pub refusal_number : yaml_error_t → ℕ
+refusal_number ExpectedStreamStart = 1
+refusal_number ExpectedDocumentStart = 2
+refusal_number ExpectedDocumentEnd = 3
+refusal_number ExpectedNode = 4
+refusal_number ExpectedNothing = 5
+refusal_number IncompatibleVersion = 6
+refusal_number TagHandleEmpty = 7
+refusal_number TagHandleStart = 8
+refusal_number TagHandleEnd = 9
+refusal_number TagHandleAlphabet = 10
+refusal_number TagPrefixEmpty = 11
+refusal_number DuplicateDirective = 12
+refusal_number AnchorEmpty = 13
+refusal_number AnchorAlphabet = 14
+refusal_number AliasEmpty = 15
+refusal_number AliasAlphabet = 16
+refusal_number TagEmpty = 17
+refusal_number NoTagNorImplicit = 18
+refusal_number TooDeep = 19
+refusal_number WriteError = 20
+refusal_number Memory = 21
+
+-- the layer that a refusal comes from
+abbrev pub kind_of : yaml_error_t → yaml_error_type_t
+kind_of WriteError = YAML_WRITER_ERROR
+kind_of Memory = YAML_MEMORY_ERROR
+kind_of _ = YAML_EMITTER_ERROR
+
+-- a refusal in words; a refused growth has none
+abbrev pub problem_text : yaml_error_t → List ℕ
+problem_text ExpectedStreamStart = codes "expected STREAM-START"
+problem_text ExpectedDocumentStart = codes "expected DOCUMENT-START or STREAM-END"
+problem_text ExpectedDocumentEnd = codes "expected DOCUMENT-END"
+problem_text ExpectedNode = codes "expected SCALAR, SEQUENCE-START, MAPPING-START, or ALIAS"
+problem_text ExpectedNothing = codes "expected nothing after STREAM-END"
+problem_text IncompatibleVersion = codes "incompatible %YAML directive"
+problem_text TagHandleEmpty = codes "tag handle must not be empty"
+problem_text TagHandleStart = codes "tag handle must start with '!'"
+problem_text TagHandleEnd = codes "tag handle must end with '!'"
+problem_text TagHandleAlphabet = codes "tag handle must contain alphanumerical characters only"
+problem_text TagPrefixEmpty = codes "tag prefix must not be empty"
+problem_text DuplicateDirective = codes "duplicate %TAG directive"
+problem_text AnchorEmpty = codes "anchor value must not be empty"
+problem_text AnchorAlphabet = codes "anchor value must contain alphanumerical characters only"
+problem_text AliasEmpty = codes "alias value must not be empty"
+problem_text AliasAlphabet = codes "alias value must contain alphanumerical characters only"
+problem_text TagEmpty = codes "tag value must not be empty"
+problem_text NoTagNorImplicit = codes "neither tag nor implicit flags are specified"
+problem_text TooDeep = codes "nesting too deep"
+problem_text WriteError = codes "write error"
+problem_text Memory = codes ""
+
+-- what a refusal is printed as: its words, or that memory ran out
+abbrev pub display_text : yaml_error_t → List ℕ
+display_text Memory = codes "out of memory"
+display_text error = problem_text error

@@ -1,0 +1,40 @@
+//! How nodes are presented. A style is a wish: where it can't be kept, another is chosen.
+
+/// How a scalar is written (YAML 1.1, chapter 9).
+#[derive(Clone, Copy, PartialEq, Eq, Debug)]
+pub enum yaml_scalar_style_t {
+    /// Plain where that can be, else quoted.
+    YAML_ANY_SCALAR_STYLE,
+    /// Without quotes (section 9.1.3).
+    YAML_PLAIN_SCALAR_STYLE,
+    /// Between `'` and `'` (section 9.1.2).
+    YAML_SINGLE_QUOTED_SCALAR_STYLE,
+    /// Between `"` and `"`, with escapes (section 9.1.1).
+    YAML_DOUBLE_QUOTED_SCALAR_STYLE,
+    /// A block after `|`, line for line (section 9.2.3).
+    YAML_LITERAL_SCALAR_STYLE,
+    /// A block after `>`, whose lines are folded (section 9.2.4).
+    YAML_FOLDED_SCALAR_STYLE,
+}
+
+/// How a sequence is written (YAML 1.1, section 10.1).
+#[derive(Clone, Copy, PartialEq, Eq, Debug)]
+pub enum yaml_sequence_style_t {
+    /// A block where that can be.
+    YAML_ANY_SEQUENCE_STYLE,
+    /// An item a line, each after `- `.
+    YAML_BLOCK_SEQUENCE_STYLE,
+    /// Between `[` and `]`.
+    YAML_FLOW_SEQUENCE_STYLE,
+}
+
+/// How a mapping is written (YAML 1.1, section 10.2).
+#[derive(Clone, Copy, PartialEq, Eq, Debug)]
+pub enum yaml_mapping_style_t {
+    /// A block where that can be.
+    YAML_ANY_MAPPING_STYLE,
+    /// A pair a line.
+    YAML_BLOCK_MAPPING_STYLE,
+    /// Between `{` and `}`.
+    YAML_FLOW_MAPPING_STYLE,
+}
