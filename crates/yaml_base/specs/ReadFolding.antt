@@ -1,1 +1,50 @@
--- How blanks and breaks fold in plain and quoted text.
+-- How blanks and breaks fold in plain and quoted text (YAML 1.1, section 6.5, as libyaml has it).
+use Rattle.std.specs.Prelude.{ℕ, Bool, List, [], ◌∷◌, ◌++◌, ◌==◌, if◌then◌else◌}
+use Rattle.yaml_base.specs.Characters.{Text, is_blank, line_feed, space}
+use Rattle.yaml_base.specs.LineBreaks.{is_read_break}
+
+-- a text inside a scalar is a list of blanks, breaks, and characters that stand for themselves, escapes among them
+pub data FoldUnit : Type 0 where
+  literal_blank : ℕ → FoldUnit
+  literal_break : ℕ → FoldUnit
+  itself : ℕ → FoldUnit
+
+-- a character that isn't escaped
+abbrev pub unit_of : Bool → ℕ → FoldUnit
+unit_of breaks12 c =
+    if is_blank c then literal_blank c else if is_read_break breaks12 c then literal_break c else itself c
+
+-- a text seen from its front: the blanks that stand there or the run of breaks, and what the rest reads as
+pub record Front : Type 0 where
+  pub blanks : Text
+  pub breaks : Text
+  pub rest : Text
+
+-- a run that begins with LF reads as a space where it is that LF alone, else as the breaks that follow it;
+-- a run that begins with U+2028 or U+2029 is kept
+abbrev pub run_read : Text → Text
+run_read [] = []
+run_read (first ∷ []) = if first == line_feed then space ∷ [] else first ∷ []
+run_read (first ∷ second ∷ more) = if first == line_feed then second ∷ more else first ∷ second ∷ more
+
+abbrev pub front_read : Front → Text
+front_read front = front.blanks ++ (run_read front.breaks ++ front.rest)
+
+-- a blank more before others, or before the breaks of a run, where it is dropped
+abbrev pub blanks_before : (breaks : Text) → (blanks : Text) → Text
+blanks_before [] blanks = blanks
+blanks_before (first ∷ more) blanks = []
+
+-- one more unit before a front: blanks before, between and after the breaks of a run are dropped
+abbrev pub unit_before : FoldUnit → Front → Front
+unit_before (literal_blank c) front = record front { blanks = blanks_before front.breaks (c ∷ front.blanks) }
+unit_before (literal_break c) front = record front { blanks = []; breaks = c ∷ front.breaks }
+unit_before (itself c) front = record { blanks = []; breaks = []; rest = c ∷ front_read front }
+
+abbrev pub front_of : List FoldUnit → Front
+front_of [] = record { blanks = []; breaks = []; rest = [] }
+front_of (unit ∷ units) = unit_before unit (front_of units)
+
+-- what units read as: runs of breaks fold, blanks beside them are dropped, all else stays
+abbrev pub folding_read : List FoldUnit → Text
+folding_read units = front_read (front_of units)
