@@ -1,1 +1,2 @@
 pub mod RowsReadFolding
+pub mod RowsAnalysis

@@ -1,1 +1,117 @@
--- Which styles a scalar's value allows, as tests on the whole value.
+-- Which styles a scalar's value allows, as tests on the whole value (YAML 1.1, sections 9.1 and 9.2; libyaml's own rules).
+use Rattle.std.specs.Prelude.{ℕ, Bool, true, false, List, [], ◌∷◌, ◌==◌, ◌||◌, ◌&&◌, not, codes}
+use Rattle.std.specs.List.{list_any}
+use Rattle.yaml_base.specs.Characters.{Text, is_among, is_ascii, is_blank, is_break, is_printable, is_space, line_separator, paragraph_separator}
+
+-- what may stand as itself: all printable characters or ASCII alone; and whether U+2028 and U+2029 are
+-- taken for ordinary characters, as YAML 1.2 does
+pub record Charset : Type 0 where
+  pub unicode : Bool
+  pub breaks12 : Bool
+
+-- the styles that a value allows: plain in flow and in block, single quotes, the two block styles;
+-- and whether it holds a break
+pub record Allowances : Type 0 where
+  pub multiline : Bool
+  pub flow_plain : Bool
+  pub block_plain : Bool
+  pub single_quoted : Bool
+  pub block : Bool
+
+-- some character, seen together with what follows it, meets the test
+abbrev pub somewhere : (ℕ → Text → Bool) → Text → Bool
+somewhere test [] = false
+somewhere test (c ∷ rest) = test c rest || somewhere test rest
+
+-- the first character, where there is one, meets the test
+abbrev pub begins_with : (ℕ → Bool) → Text → Bool
+begins_with test [] = false
+begins_with test (c ∷ rest) = test c
+
+abbrev pub is_empty : Text → Bool
+is_empty [] = true
+is_empty (c ∷ rest) = false
+
+-- a blank, a break or NUL
+abbrev pub is_gap : ℕ → Bool
+is_gap c = is_blank c || is_break c || c == 0
+
+-- a gap or the end stands here
+abbrev pub ends_word : Text → Bool
+ends_word rest = is_empty rest || begins_with is_gap rest
+
+-- cannot stand as itself in a text of this charset: only double quotes can write it
+abbrev pub is_special : Charset → ℕ → Bool
+is_special charset c =
+    not (is_printable c)
+    || (not charset.unicode && not (is_ascii c))
+    || (charset.breaks12 && (c == line_separator || c == paragraph_separator))
+
+-- `---` or `...`
+abbrev pub begins_like_mark : Text → Bool
+begins_like_mark (a ∷ b ∷ c ∷ rest) = (a == 45 || a == 46) && b == a && c == a
+begins_like_mark _ = false
+
+-- a first character that means something else to a reader of plain text
+abbrev pub is_indicator : ℕ → Bool
+is_indicator c = is_among (codes "#,[]{}&*!|>'\"%@`") c
+
+-- the value begins as no plain text may: with a space, a mark, an indicator, or `?`, `:`, `-` by itself
+abbrev pub begins_unlike_plain : Text → Bool
+begins_unlike_plain [] = false
+begins_unlike_plain (c ∷ rest) =
+    is_space c
+    || begins_like_mark (c ∷ rest)
+    || is_indicator c
+    || (is_among (codes "?:-") c && ends_word rest)
+
+-- `:` before a gap or the end, or a gap before `#`
+abbrev pub is_key_or_comment : ℕ → Text → Bool
+is_key_or_comment c rest = (c == 58 && ends_word rest) || (is_gap c && begins_with (λ d. d == 35) rest)
+
+-- no plain text holds a special character, a break, a last space, a key or comment sign; in flow also
+-- none of the signs of flow collections
+abbrev pub bars_plain : Charset → Bool → ℕ → Text → Bool
+bars_plain charset flow c rest =
+    is_special charset c
+    || is_break c
+    || (is_space c && is_empty rest)
+    || is_key_or_comment c rest
+    || (flow && is_among (codes ",?:[]{}") c)
+
+-- a space before a break
+abbrev pub is_trailing_space : ℕ → Text → Bool
+is_trailing_space c rest = is_space c && begins_with is_break rest
+
+-- no single-quoted text holds a special character, or a space next to a break
+abbrev pub bars_single_quoted : Charset → ℕ → Text → Bool
+bars_single_quoted charset c rest =
+    is_special charset c || is_trailing_space c rest || (is_break c && begins_with is_space rest)
+
+-- no block text holds a special character, a last space, or a space before a break
+abbrev pub bars_block : Charset → ℕ → Text → Bool
+bars_block charset c rest =
+    is_special charset c || is_trailing_space c rest || (is_space c && is_empty rest)
+
+-- plain, in flow or in block; there the empty value too
+abbrev pub allows_plain : Charset → Bool → Text → Bool
+allows_plain charset flow value =
+    not (is_empty value && flow) && not (begins_unlike_plain value || somewhere (bars_plain charset flow) value)
+
+abbrev pub allows_single_quoted : Charset → Text → Bool
+allows_single_quoted charset value = not (somewhere (bars_single_quoted charset) value)
+
+-- literal and folded; never the empty value
+abbrev pub allows_block : Charset → Text → Bool
+allows_block charset value = not (is_empty value || somewhere (bars_block charset) value)
+
+-- all of these, for one value
+abbrev pub allowances : Charset → Text → Allowances
+allowances charset value =
+    record {
+        multiline = list_any is_break value;
+        flow_plain = allows_plain charset true value;
+        block_plain = allows_plain charset false value;
+        single_quoted = allows_single_quoted charset value;
+        block = allows_block charset value;
+    }
