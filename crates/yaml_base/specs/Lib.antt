@@ -4,6 +4,7 @@ pub mod LineBreaks
 pub mod Cursor
 pub mod Event
 pub mod Errors
+pub mod Seen
 pub mod Encoding
 pub mod Percent
 pub mod Tags
