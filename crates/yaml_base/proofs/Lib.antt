@@ -1,2 +1,3 @@
 pub mod RowsReadFolding
 pub mod RowsAnalysis
+pub mod RowsTags

@@ -1,1 +1,205 @@
--- Directives in force, and how a tag is spelled by them (YAML 1.1, section 6.8).
+-- Names, versions, tag directives and tags: what is refused in them, how a tag is spelled by the directives in force,
+-- and, by itself, how a written tag is read (YAML 1.1, sections 6.8 and 6.9, and libyaml's own rules).
+use Rattle.std.specs.Prelude.{ℕ, ℤ, pos, negsuc, Bool, true, false, Option, None, Some, List, [], ◌∷◌, ◌++◌, ◌==◌, ◌||◌, ◌&&◌, not, codes, bytes_eq, filter, option_map, option_and_then, if◌then◌else◌}
+use Rattle.std.specs.List.{list_any, list_all}
+use Rattle.std.specs.Option.{option_or}
+use Rattle.yaml_base.specs.Characters.{Text, is_alpha}
+use Rattle.yaml_base.specs.Event.{Version, TagDirective}
+use Rattle.yaml_base.specs.Percent.{percent_escaped, percent_decoded}
+
+-- The refusals of this file, by their numbers.
+abbrev pub incompatible_version : ℕ
+incompatible_version = 6
+
+abbrev pub tag_handle_empty : ℕ
+tag_handle_empty = 7
+
+abbrev pub tag_handle_start : ℕ
+tag_handle_start = 8
+
+abbrev pub tag_handle_end : ℕ
+tag_handle_end = 9
+
+abbrev pub tag_handle_alphabet : ℕ
+tag_handle_alphabet = 10
+
+abbrev pub tag_prefix_empty : ℕ
+tag_prefix_empty = 11
+
+abbrev pub duplicate_directive : ℕ
+duplicate_directive = 12
+
+abbrev pub anchor_empty : ℕ
+anchor_empty = 13
+
+abbrev pub anchor_alphabet : ℕ
+anchor_alphabet = 14
+
+abbrev pub alias_empty : ℕ
+alias_empty = 15
+
+abbrev pub alias_alphabet : ℕ
+alias_alphabet = 16
+
+abbrev pub tag_empty : ℕ
+tag_empty = 17
+
+-- the refusal of a name: it has at least one character, and all of them are of the anchor alphabet
+abbrev pub name_fault : ℕ → ℕ → Text → Option ℕ
+name_fault if_empty if_other [] = Some if_empty
+name_fault if_empty if_other (c ∷ rest) = if list_all is_alpha (c ∷ rest) then None else Some if_other
+
+abbrev pub anchor_fault : Text → Option ℕ
+anchor_fault name = name_fault anchor_empty anchor_alphabet name
+
+abbrev pub alias_fault : Text → Option ℕ
+alias_fault name = name_fault alias_empty alias_alphabet name
+
+-- the refusal of a tag that is to be written
+abbrev pub tag_fault : Text → Option ℕ
+tag_fault [] = Some tag_empty
+tag_fault (_ ∷ _) = None
+
+abbrev pub is_the_number : ℕ → ℤ → Bool
+is_the_number n (pos m) = n == m
+is_the_number n (negsuc _) = false
+
+-- the refusal of a version: it is 1.1 or 1.2
+abbrev pub version_fault : Version → Option ℕ
+version_fault version =
+    if is_the_number 1 version.major && (is_the_number 1 version.minor || is_the_number 2 version.minor) then None
+    else Some incompatible_version
+
+-- the sign that begins a tag and stands at both ends of a handle
+abbrev pub tag_mark : ℕ
+tag_mark = 0x21
+
+-- the last of a text, at least the given character
+abbrev pub last_from : ℕ → Text → ℕ
+last_from c [] = c
+last_from c (next ∷ rest) = last_from next rest
+
+-- a text without its last character
+abbrev pub without_last : Text → Text
+without_last [] = []
+without_last (c ∷ []) = []
+without_last (c ∷ next ∷ rest) = c ∷ without_last (next ∷ rest)
+
+-- the refusal of a handle: it is `!`, or any number of characters of the anchor alphabet between two `!`
+abbrev pub handle_fault : Text → Option ℕ
+handle_fault [] = Some tag_handle_empty
+handle_fault (c ∷ rest) =
+    if not (c == tag_mark) then Some tag_handle_start
+    else (if not (last_from c rest == tag_mark) then Some tag_handle_end
+    else (if list_all is_alpha (without_last rest) then None else Some tag_handle_alphabet))
+
+abbrev pub prefix_fault : Text → Option ℕ
+prefix_fault [] = Some tag_prefix_empty
+prefix_fault (_ ∷ _) = None
+
+-- the refusal of a directive by itself
+abbrev pub directive_fault : TagDirective → Option ℕ
+directive_fault directive = option_or (handle_fault directive.handle) (prefix_fault directive.prefix)
+
+abbrev pub gives_handle : Text → List TagDirective → Bool
+gives_handle handle directives = list_any (λ directive. bytes_eq handle directive.handle) directives
+
+-- the refusal of a directive after those before it: each handle is given once
+abbrev pub next_directive_fault : List TagDirective → TagDirective → Option ℕ
+next_directive_fault before directive =
+    option_or (directive_fault directive)
+    (if gives_handle directive.handle before then Some duplicate_directive else None)
+
+-- the first refusal of some directives after those before them
+abbrev pub directives_fault_after : List TagDirective → List TagDirective → Option ℕ
+directives_fault_after before [] = None
+directives_fault_after before (directive ∷ rest) =
+    option_or (next_directive_fault before directive) (directives_fault_after (before ++ directive ∷ []) rest)
+
+-- the first refusal of a document's directives, in order
+abbrev pub directives_fault : List TagDirective → Option ℕ
+directives_fault directives = directives_fault_after [] directives
+
+-- `!` stands for itself and `!!` for YAML's own types, where a document doesn't say otherwise
+abbrev pub default_directives : List TagDirective
+default_directives =
+    record { handle = codes "!"; prefix = codes "!" }
+    ∷ record { handle = codes "!!"; prefix = codes "tag:yaml.org,2002:" } ∷ []
+
+-- a document's directives in order, and the defaults whose handles it doesn't give
+abbrev pub directives_in_force : List TagDirective → List TagDirective
+directives_in_force own = own ++ filter (λ directive. not (gives_handle directive.handle own)) default_directives
+
+-- what stands behind a prefix of a text, where that is at least one character
+abbrev pub behind : Text → Text → Option Text
+behind [] [] = None
+behind [] (c ∷ rest) = Some (c ∷ rest)
+behind (p ∷ prefix) [] = None
+behind (p ∷ prefix) (c ∷ rest) = if p == c then behind prefix rest else None
+
+-- a tag as a handle and what stands behind the handle's prefix, or as it is
+pub data Spelling : Type 0 where
+  shorthand : Text → Text → Spelling
+  verbatim : Text → Spelling
+
+abbrev pub spelling_by : Text → Option Text → Spelling → Spelling
+spelling_by handle None otherwise = otherwise
+spelling_by handle (Some suffix) otherwise = shorthand handle suffix
+
+-- a tag is spelled by the first directive whose prefix it begins with and goes on from
+abbrev pub spelling : List TagDirective → Text → Spelling
+spelling [] tag = verbatim tag
+spelling (directive ∷ rest) tag = spelling_by directive.handle (behind directive.prefix tag) (spelling rest tag)
+
+-- the text of a spelling
+abbrev pub spelled : Spelling → Text
+spelled (shorthand handle suffix) = handle ++ percent_escaped suffix
+spelled (verbatim tag) = codes "!<" ++ percent_escaped tag ++ codes ">"
+
+-- what a written tag says: the bare tag, or a tag by its name
+pub data TagRead : Type 0 where
+  bare_tag : TagRead
+  named_tag : Text → TagRead
+
+-- a text up to its last `!`, and what stands behind that
+pub record AtMark : Type 0 where
+  pub handle : Text
+  pub suffix : Text
+
+-- one character before such a text
+abbrev pub at_mark_before : ℕ → Text → Text → AtMark
+at_mark_before c [] suffix =
+    if c == tag_mark then record { handle = c ∷ []; suffix = suffix } else record { handle = []; suffix = c ∷ suffix }
+at_mark_before c (h ∷ handle) suffix = record { handle = c ∷ h ∷ handle; suffix = suffix }
+
+abbrev pub at_last_mark : Text → AtMark
+at_last_mark [] = record { handle = []; suffix = [] }
+at_last_mark (c ∷ rest) = let cut = at_last_mark rest in at_mark_before c cut.handle cut.suffix
+
+-- the prefix of a handle: that of the first directive that gives it
+abbrev pub prefix_given : List TagDirective → Text → Option Text
+prefix_given [] handle = None
+prefix_given (directive ∷ rest) handle =
+    if bytes_eq directive.handle handle then Some directive.prefix else prefix_given rest handle
+
+-- a prefix, and what a text of percent forms stands for
+abbrev pub named_by : Option Text → Option Text → Option TagRead
+named_by (Some prefix) (Some suffix) = Some (named_tag (prefix ++ suffix))
+named_by _ _ = None
+
+abbrev pub shorthand_read : List TagDirective → AtMark → Option TagRead
+shorthand_read own text = named_by (prefix_given (own ++ default_directives) text.handle) (percent_decoded text.suffix)
+
+-- a text between `!<` and `>`
+abbrev pub verbatim_read : Text → Option TagRead
+verbatim_read [] = None
+verbatim_read (c ∷ rest) =
+    if last_from c rest == 0x3E then option_map named_tag (percent_decoded (without_last (c ∷ rest))) else None
+
+-- a written tag, read with a document's own directives and the defaults
+abbrev pub tag_read : List TagDirective → Text → Option TagRead
+tag_read own [] = None
+tag_read own (c ∷ []) = if c == tag_mark then Some bare_tag else None
+tag_read own (c ∷ d ∷ rest) =
+    if not (c == tag_mark) then None
+    else (if d == 0x3C then verbatim_read rest else shorthand_read own (at_last_mark (c ∷ d ∷ rest)))

@@ -1,0 +1,124 @@
+-- Worked rows of tags, names and directives, computed.
+use Rattle.std.proofs.Common.{◌≡◌, ℕ, pos, negsuc, Option, Some, None, List, [], ◌∷◌, ◌++◌, refl}
+use Rattle.std.specs.Prelude.{codes}
+use Rattle.std.specs.Str.{chars, is_utf8}
+use lib.Utf8.{encode}
+use Rattle.yaml_base.specs.Characters.{Text}
+use Rattle.yaml_base.specs.Event.{Version, TagDirective}
+use Rattle.yaml_base.specs.Percent.{percent_escaped, percent_decoded}
+use Rattle.yaml_base.specs.Tags.{directives_in_force, spelling, spelled, shorthand, verbatim, tag_read, bare_tag, named_tag, anchor_fault, alias_fault, version_fault, directives_fault, tag_fault}
+
+abbrev directive : Text → Text → TagDirective
+directive handle prefix = record { handle = handle; prefix = prefix }
+
+abbrev defaults : List TagDirective
+defaults = directives_in_force []
+
+escapes_signs : percent_escaped (codes "a!b%c,[]<> ") ≡ codes "a%21b%25c,[]%3C%3E%20"
+unfolding encode
+escapes_signs = refl
+
+escapes_utf8 : percent_escaped (0 ∷ 0xE9 ∷ 0x1F600 ∷ []) ≡ codes "%00%C3%A9%F0%9F%98%80"
+unfolding encode
+escapes_utf8 = refl
+
+reads_percent_forms : percent_decoded (codes "a%21b%C3%a9%00c") ≡ Some (codes "a!b" ++ 0xE9 ∷ 0 ∷ codes "c")
+unfolding is_utf8 chars encode
+reads_percent_forms = refl
+
+reads_no_broken_form : percent_decoded (codes "a%2") ≡ None
+unfolding is_utf8 chars encode
+reads_no_broken_form = refl
+
+reads_no_sign_in_a_form : percent_decoded (codes "%%34%31") ≡ None
+unfolding is_utf8 chars encode
+reads_no_sign_in_a_form = refl
+
+reads_no_lone_byte : percent_decoded (codes "%C3") ≡ None
+unfolding is_utf8 chars encode
+reads_no_lone_byte = refl
+
+own_type : spelled (spelling defaults (codes "tag:yaml.org,2002:int")) ≡ codes "!!int"
+own_type = refl
+
+local_tag : spelled (spelling defaults (codes "!foo")) ≡ codes "!foo"
+local_tag = refl
+
+only_the_sign : spelled (spelling defaults (codes "!")) ≡ codes "!<%21>"
+unfolding encode
+only_the_sign = refl
+
+sign_within : spelled (spelling defaults (codes "!a!b")) ≡ codes "!a%21b"
+unfolding encode
+sign_within = refl
+
+as_long_as_the_prefix : spelled (spelling defaults (codes "tag:yaml.org,2002:")) ≡ codes "!<tag:yaml.org,2002:>"
+as_long_as_the_prefix = refl
+
+own_handle :
+    spelled (spelling (directives_in_force (directive (codes "!e!") (codes "!x") ∷ [])) (codes "!xy")) ≡ codes "!e!y"
+own_handle = refl
+
+other_types :
+    spelled (spelling (directives_in_force (directive (codes "!!") (codes "tag:e.com,2000:") ∷ [])) (codes "tag:yaml.org,2002:str"))
+    ≡ codes "!<tag:yaml.org,2002:str>"
+other_types = refl
+
+null_and_accent : spelled (spelling defaults (codes "!" ++ 0xE9 ∷ 0 ∷ [])) ≡ codes "!%C3%A9%00"
+unfolding encode
+null_and_accent = refl
+
+reads_bare : tag_read [] (codes "!") ≡ Some bare_tag
+reads_bare = refl
+
+reads_shorthand : tag_read (directive (codes "!e!") (codes "!x") ∷ []) (codes "!e!y%21") ≡ Some (named_tag (codes "!xy!"))
+unfolding is_utf8 chars encode
+reads_shorthand = refl
+
+reads_default : tag_read [] (codes "!!int") ≡ Some (named_tag (codes "tag:yaml.org,2002:int"))
+unfolding is_utf8 chars encode
+reads_default = refl
+
+reads_verbatim : tag_read [] (codes "!<%21>") ≡ Some (named_tag (codes "!"))
+unfolding is_utf8 chars encode
+reads_verbatim = refl
+
+reads_no_open_verbatim : tag_read [] (codes "!<a") ≡ None
+reads_no_open_verbatim = refl
+
+reads_no_unknown_handle : tag_read [] (codes "!e!y") ≡ None
+reads_no_unknown_handle = refl
+
+names : anchor_fault (codes "a-_9Z") ≡ None
+names = refl
+
+no_name : (anchor_fault [] ≡ Some 13) × (alias_fault [] ≡ Some 15)
+no_name = (refl, refl)
+
+other_names : (anchor_fault (codes "a b") ≡ Some 14) × (alias_fault (codes "a.b") ≡ Some 16)
+other_names = (refl, refl)
+
+abbrev version : ℕ → ℕ → Option ℕ
+version major minor = version_fault (record { major = pos major; minor = pos minor })
+
+versions : (version 1 1 ≡ None) × (version 1 2 ≡ None) × (version 1 0 ≡ Some 6) × (version 1 3 ≡ Some 6) × (version 2 1 ≡ Some 6)
+versions = (refl, refl, refl, refl, refl)
+
+abbrev fault_of : Text → Text → Option ℕ
+fault_of handle prefix = directives_fault (directive handle prefix ∷ [])
+
+handles :
+    (fault_of [] (codes "x") ≡ Some 7) × (fault_of (codes "a!") (codes "x") ≡ Some 8)
+    × (fault_of (codes "!a") (codes "x") ≡ Some 9) × (fault_of (codes "!a.b!") (codes "x") ≡ Some 10)
+    × (fault_of (codes "!e!") [] ≡ Some 11) × (fault_of (codes "!e!") (codes "x") ≡ None)
+    × (fault_of (codes "!") (codes "x") ≡ None) × (fault_of (codes "!!") (codes "x") ≡ None)
+handles = (refl, refl, refl, refl, refl, refl, refl, refl)
+
+given_twice : directives_fault (directive (codes "!!") (codes "a") ∷ directive (codes "!!") (codes "b") ∷ []) ≡ Some 12
+given_twice = refl
+
+first_fault : directives_fault (directive (codes "!a!") [] ∷ directive [] (codes "b") ∷ []) ≡ Some 11
+first_fault = refl
+
+no_tag : tag_fault [] ≡ Some 17
+no_tag = refl
