@@ -1,1 +1,45 @@
 -- Texts as bytes: UTF-8 (RFC 3629) and UTF-16 (RFC 2781), and what a limit leaves of them.
+use Rattle.std.specs.Prelude.{ℕ, Option, None, Some, List, [], ◌∷◌, ◌++◌, ◌+◌, ◌-◌, ◌/◌, ◌%◌, nat_lt, take, encode_utf8, if◌then◌else◌}
+use Rattle.yaml_base.specs.Characters.{Text, byte_order_mark}
+use Rattle.yaml_base.specs.Settings.{Encoding, utf8, utf16_little, utf16_big}
+
+-- the code units of a character: itself, or from U+10000 on a pair of surrogates (RFC 2781, section 2.1)
+abbrev pub utf16_units : ℕ → List ℕ
+utf16_units c =
+    let v = c - 0x10000 in
+    if nat_lt c 0x10000 then c ∷ [] else (0xD800 + v / 0x400) ∷ (0xDC00 + v % 0x400) ∷ []
+
+-- code units as bytes, the upper byte of each first (RFC 2781, section 3.1)
+abbrev pub upper_first : List ℕ → List ℕ
+upper_first [] = []
+upper_first (unit ∷ rest) = (unit / 0x100) ∷ (unit % 0x100) ∷ upper_first rest
+
+-- code units as bytes, the lower byte of each first (RFC 2781, section 3.1)
+abbrev pub lower_first : List ℕ → List ℕ
+lower_first [] = []
+lower_first (unit ∷ rest) = (unit % 0x100) ∷ (unit / 0x100) ∷ lower_first rest
+
+-- the bytes of a character (UTF-8: RFC 3629, section 3)
+abbrev pub character_bytes : Encoding → ℕ → List ℕ
+character_bytes utf8 c = encode_utf8 c
+character_bytes utf16_little c = lower_first (utf16_units c)
+character_bytes utf16_big c = upper_first (utf16_units c)
+
+-- the bytes of a text's characters, one after another
+abbrev pub text_bytes : Encoding → Text → List ℕ
+text_bytes encoding [] = []
+text_bytes encoding (c ∷ rest) = character_bytes encoding c ++ text_bytes encoding rest
+
+-- UTF-16 begins with the mark that tells its byte order, UTF-8 has none (RFC 2781, section 3.2)
+abbrev pub mark : Encoding → Text
+mark utf8 = []
+mark _ = byte_order_mark ∷ []
+
+-- a text as a stream of bytes; before its encoding is known a stream is empty
+abbrev pub encode : Option Encoding → Text → List ℕ
+encode None text = []
+encode (Some encoding) text = text_bytes encoding (mark encoding ++ text)
+
+-- the first so many bytes, or all where they are fewer
+abbrev pub cut : ℕ → List ℕ → List ℕ
+cut limit bytes = take limit bytes
