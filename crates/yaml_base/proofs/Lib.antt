@@ -1,3 +1,4 @@
+pub mod RowsGrammar
 pub mod RowsReadFolding
 pub mod RowsAnalysis
 pub mod RowsTags

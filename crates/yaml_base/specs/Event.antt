@@ -55,27 +55,3 @@ pub data Event : Type 0 where
   sequence_end : Event
   mapping_start : Collection → Event
   mapping_end : Event
-
--- what an emitter may answer in place of Ok, in the order of their numbers from 1 to 21
-pub data Fault : Type 0 where
-  expected_stream_start : Fault
-  expected_document_start : Fault
-  expected_document_end : Fault
-  expected_node : Fault
-  expected_nothing : Fault
-  incompatible_version : Fault
-  tag_handle_empty : Fault
-  tag_handle_start : Fault
-  tag_handle_end : Fault
-  tag_handle_alphabet : Fault
-  tag_prefix_empty : Fault
-  duplicate_directive : Fault
-  anchor_empty : Fault
-  anchor_alphabet : Fault
-  alias_empty : Fault
-  alias_alphabet : Fault
-  tag_empty : Fault
-  no_tag_nor_implicit : Fault
-  too_deep : Fault
-  write_error : Fault
-  memory : Fault

@@ -1,1 +1,45 @@
--- Which events of a list can be written.
+-- Which events of a list are ready to be written (libyaml's own rule).
+use Rattle.std.specs.Prelude.{ℕ, suc, Bool, true, false, List, [], ◌∷◌, ◌==◌, ◌||◌, nat_lt, map, length, count_by, if◌then◌else◌}
+use Rattle.std.specs.List.{list_any}
+use Rattle.yaml_base.specs.Event.{Event, stream_start, stream_end, document_start, document_end, sequence_start, sequence_end, mapping_start, mapping_end}
+
+abbrev pub is_start : Event → Bool
+is_start (stream_start encoding) = true
+is_start (document_start start) = true
+is_start (sequence_start start) = true
+is_start (mapping_start start) = true
+is_start _ = false
+
+abbrev pub is_end : Event → Bool
+is_end stream_end = true
+is_end (document_end implicit) = true
+is_end sequence_end = true
+is_end mapping_end = true
+is_end _ = false
+
+-- so many events must follow an event before it is ready, where none closes it sooner
+abbrev pub awaited : Event → ℕ
+awaited (document_start start) = 1
+awaited (sequence_start start) = 2
+awaited (mapping_start start) = 3
+awaited _ = 0
+
+-- as many starts as ends stand in a list
+abbrev pub is_balanced : List Event → Bool
+is_balanced events = count_by is_start events == count_by is_end events
+
+-- the nonempty fronts of a list
+abbrev pub fronts : List Event → List (List Event)
+fronts [] = []
+fronts (event ∷ rest) = (event ∷ []) ∷ map (λ front. event ∷ front) (fronts rest)
+
+-- the first event of a list is ready where it awaits nothing, more events stand than it awaits, or some front,
+-- itself included, has as many starts as ends
+abbrev pub is_ready : Event → List Event → Bool
+is_ready event rest =
+    awaited event == 0 || nat_lt (awaited event) (length (event ∷ rest)) || list_any is_balanced (fronts (event ∷ rest))
+
+-- how many events of a list are ready: those before the first that isn't
+abbrev pub written : List Event → ℕ
+written [] = 0
+written (event ∷ rest) = if is_ready event rest then suc (written rest) else 0

@@ -1,1 +1,130 @@
--- The refusal of an event after a list of events, and the accepted lists.
+-- Which event is refused after which list, and with what fault (libyaml's own rules; YAML 1.1, section 6.8, for
+-- directives, anchors and tags).
+use Rattle.std.specs.Prelude.{◌≡◌, ℕ, ◌-◌, ◌≤◌, Bool, true, false, Option, None, Some, List, [], ◌++◌, ◌||◌, ◌&&◌, not, nat_lt, length, count_by, is_some, is_none, option_and_then, if◌then◌else◌, IsTrue}
+use Rattle.std.specs.Option.{option_or}
+use Rattle.std.specs.List.{list_all}
+use Rattle.yaml_base.specs.Characters.{Text}
+use Rattle.yaml_base.specs.Event.{Scalar, Collection, Event, document_start, alias, scalar, sequence_start, sequence_end, mapping_start, mapping_end}
+use Rattle.yaml_base.specs.Tags.{anchor_fault, alias_fault, tag_fault, version_fault, directives_fault}
+use Rattle.yaml_base.specs.Style.{lacks_tag_and_flags}
+use Rattle.yaml_base.specs.Grammar.{Level, Partial, before_stream, between_documents, within_document, after_root, after_stream, push, partial_of, Stream, stream_events}
+
+-- The refusals of this file, by their numbers.
+abbrev pub expected_stream_start : ℕ
+expected_stream_start = 1
+
+abbrev pub expected_document_start : ℕ
+expected_document_start = 2
+
+abbrev pub expected_document_end : ℕ
+expected_document_end = 3
+
+abbrev pub expected_node : ℕ
+expected_node = 4
+
+abbrev pub expected_nothing : ℕ
+expected_nothing = 5
+
+abbrev pub no_tag_nor_implicit : ℕ
+no_tag_nor_implicit = 18
+
+abbrev pub too_deep : ℕ
+too_deep = 19
+
+-- a fault where the test holds
+abbrev pub fault_if : Bool → ℕ → Option ℕ
+fault_if wrong fault = if wrong then Some fault else None
+
+-- the tag that a scalar is written with: none where a flag lets it be left out
+abbrev pub scalar_tag : Bool → Scalar → Option Text
+scalar_tag canonical content =
+    if canonical || (not content.plain_implicit && not content.quoted_implicit) then content.tag else None
+
+abbrev pub collection_tag : Bool → Collection → Option Text
+collection_tag canonical start = if canonical || not start.implicit then start.tag else None
+
+-- the refusal of an anchor and of the tag that is written, where there are any
+abbrev pub properties_fault : Option Text → Option Text → Option ℕ
+properties_fault anchor tag = option_or (option_and_then anchor_fault anchor) (option_and_then tag_fault tag)
+
+-- the anchor's or alias's fault, then that of a tag that is written: both are told before the place
+abbrev pub name_or_tag_fault : Bool → Event → Option ℕ
+name_or_tag_fault canonical (alias name) = alias_fault name
+name_or_tag_fault canonical (scalar content) =
+    properties_fault content.anchor (scalar_tag canonical content)
+name_or_tag_fault canonical (sequence_start start) =
+    properties_fault start.anchor (collection_tag canonical start)
+name_or_tag_fault canonical (mapping_start start) =
+    properties_fault start.anchor (collection_tag canonical start)
+name_or_tag_fault canonical _ = None
+
+-- what else an event's own content lacks: a scalar without a tag needs a flag
+abbrev pub content_fault : Bool → Event → Option ℕ
+content_fault canonical (scalar content) =
+    fault_if
+        (lacks_tag_and_flags (is_some (scalar_tag canonical content)) content.plain_implicit content.quoted_implicit)
+        no_tag_nor_implicit
+content_fault canonical (document_start start) =
+    option_or (option_and_then version_fault start.version) (directives_fault start.directives)
+content_fault canonical _ = None
+
+-- what must stand next
+abbrev pub expected : Partial → ℕ
+expected before_stream = expected_stream_start
+expected (between_documents encoding before) = expected_document_start
+expected (within_document encoding before start levels) = expected_node
+expected (after_root encoding before start root) = expected_document_end
+expected (after_stream stream) = expected_nothing
+
+abbrev pub place_fault : Partial → Event → Option ℕ
+place_fault partial event = fault_if (is_none (push partial event)) (expected partial)
+
+-- so many collections may be open at once (this library's own bound)
+abbrev pub most_open : ℕ
+most_open = 1000000
+
+abbrev pub begins_collection : Event → Bool
+begins_collection (sequence_start start) = true
+begins_collection (mapping_start start) = true
+begins_collection _ = false
+
+abbrev pub ends_collection : Event → Bool
+ends_collection sequence_end = true
+ends_collection mapping_end = true
+ends_collection _ = false
+
+-- the collections that are open
+abbrev pub open_levels : Partial → List Level
+open_levels (within_document encoding before start levels) = levels
+open_levels _ = []
+
+abbrev pub depth_fault : Partial → Event → Option ℕ
+depth_fault partial event =
+    fault_if (begins_collection event && not (nat_lt (length (open_levels partial)) most_open)) too_deep
+
+-- the first fault of an event at a place
+abbrev pub refusal_at : Bool → Partial → Event → Option ℕ
+refusal_at canonical partial event =
+    option_or (name_or_tag_fault canonical event)
+        (option_or (place_fault partial event)
+            (option_or (content_fault canonical event) (depth_fault partial event)))
+
+-- the fault of an event after a list; none is told after a list that begins no stream
+abbrev pub refusal : Bool → List Event → Event → Option ℕ
+refusal canonical before event = option_and_then (λ partial. refusal_at canonical partial event) (partial_of before)
+
+-- an event's own names, tags, versions and directives are in order
+abbrev pub is_sound : Bool → Event → Bool
+is_sound canonical event = is_none (option_or (name_or_tag_fault canonical event) (content_fault canonical event))
+
+-- how many collections a list of events leaves open
+abbrev pub open_count : List Event → ℕ
+open_count events = count_by begins_collection events - count_by ends_collection events
+
+-- a list is accepted where it is the events of a stream, each event is sound, and no more than so many collections
+-- are open after any front of it
+pub record IsAccepted (canonical : Bool) (events : List Event) : Type 0 where
+  pub stream : Stream
+  pub is_stream : stream_events stream ≡ events
+  pub sound : IsTrue (list_all (is_sound canonical) events)
+  pub shallow : (front rest : List Event) → front ++ rest ≡ events → open_count front ≤ most_open
