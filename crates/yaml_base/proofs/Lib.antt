@@ -3,3 +3,4 @@ pub mod RowsReadFolding
 pub mod RowsAnalysis
 pub mod RowsTags
 pub mod RowsEncoding
+pub mod RowsBlock

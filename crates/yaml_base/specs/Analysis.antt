@@ -109,9 +109,9 @@ allows_block charset value = not (is_empty value || somewhere (bars_block charse
 abbrev pub allowances : Charset → Text → Allowances
 allowances charset value =
     record {
-        multiline = list_any is_break value;
-        flow_plain = allows_plain charset true value;
-        block_plain = allows_plain charset false value;
-        single_quoted = allows_single_quoted charset value;
-        block = allows_block charset value;
+      multiline = list_any is_break value;
+      flow_plain = allows_plain charset true value;
+      block_plain = allows_plain charset false value;
+      single_quoted = allows_single_quoted charset value;
+      block = allows_block charset value;
     }

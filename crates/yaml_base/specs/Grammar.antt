@@ -116,7 +116,7 @@ push (between_documents encoding documents) stream_end =
 push (within_document encoding documents start levels) event = push_within encoding documents start levels event
 push (after_root encoding documents start root) (document_end implicit) =
     Some (between_documents encoding
-        (documents_and documents (record { start = start; root = root; end_implicit = implicit })))
+    (documents_and documents (record { start = start; root = root; end_implicit = implicit })))
 push _ _ = None
 
 abbrev pub pushed : Partial → List Event → Option Partial

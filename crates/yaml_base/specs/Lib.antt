@@ -13,6 +13,7 @@ pub mod Style
 pub mod Plain
 pub mod SingleQuoted
 pub mod DoubleQuoted
+pub mod Lines
 pub mod BlockHeader
 pub mod Literal
 pub mod Folded

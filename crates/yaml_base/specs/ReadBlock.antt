@@ -1,1 +1,161 @@
--- Reading a literal or folded scalar.
+-- How literal and folded scalars are read (this project's profile of YAML 1.1, sections 9.2 and 9.3),
+-- once line breaks are read.
+use Rattle.std.specs.Prelude.{ℕ, zero, suc, Bool, true, false, Option, None, Some, List, [], ◌∷◌, ◌++◌, ◌==◌, ◌||◌, ◌&&◌, ◌+◌, ◌-◌, not, take, option_map, option_and_then, if◌then◌else◌}
+use Rattle.yaml_base.specs.Characters.{Text, is_between, is_space, is_blank, line_feed, space}
+use Rattle.yaml_base.specs.LineBreaks.{is_read_break}
+
+-- the content of a line that has any, or the break at a line's end
+pub data Element : Type 0 where
+  content : Text → Element
+  line_end : ℕ → Element
+
+-- a character before elements: it begins their first content, or is one of its own
+abbrev pub extended : ℕ → List Element → List Element
+extended c [] = content (c ∷ []) ∷ []
+extended c (content text ∷ rest) = content (c ∷ text) ∷ rest
+extended c (line_end b ∷ rest) = content (c ∷ []) ∷ line_end b ∷ rest
+
+abbrev pub element_before : Bool → ℕ → List Element → List Element
+element_before breaks12 c elements = if is_read_break breaks12 c then line_end c ∷ elements else extended c elements
+
+-- a text cut at its breaks
+abbrev pub elements : Bool → Text → List Element
+elements breaks12 [] = []
+elements breaks12 (c ∷ rest) = element_before breaks12 c (elements breaks12 rest)
+
+-- how many spaces a text begins with
+abbrev pub leading_spaces : Text → ℕ
+leading_spaces [] = 0
+leading_spaces (c ∷ rest) = if is_space c then suc (leading_spaces rest) else 0
+
+-- the spaces before the first content
+abbrev pub detected : List Element → ℕ
+detected [] = 0
+detected (content text ∷ rest) = leading_spaces text
+detected (line_end b ∷ rest) = detected rest
+
+-- the indentation: what the digit adds to the column of the enclosing block's entries (the digit itself
+-- at the root), or else what the first content shows
+abbrev pub indentation : (digit column : Option ℕ) → List Element → ℕ
+indentation None column lines = detected lines
+indentation (Some digit) None lines = digit
+indentation (Some digit) (Some column) lines = column + digit
+
+-- a text without so many leading spaces; none where it has fewer
+abbrev pub unindented : ℕ → Text → Option Text
+unindented zero text = Some text
+unindented (suc n) [] = None
+unindented (suc n) (c ∷ rest) = if is_space c then unindented n rest else None
+
+abbrev pub element_unindented : ℕ → Element → Option Element
+element_unindented n (content text) = option_map content (unindented n text)
+element_unindented n (line_end b) = Some (line_end b)
+
+-- all contents without the indentation
+abbrev pub all_unindented : ℕ → List Element → Option (List Element)
+all_unindented n [] = Some []
+all_unindented n (element ∷ rest) =
+    option_and_then (λ first. option_map (λ others. first ∷ others) (all_unindented n rest)) (element_unindented n element)
+
+abbrev pub has_content : List Element → Bool
+has_content [] = false
+has_content (content text ∷ rest) = true
+has_content (line_end b ∷ rest) = has_content rest
+
+-- all up to the last content
+abbrev pub kept_lines : List Element → List Element
+kept_lines [] = []
+kept_lines (content text ∷ rest) = content text ∷ kept_lines rest
+kept_lines (line_end b ∷ rest) = if has_content rest then line_end b ∷ kept_lines rest else []
+
+-- the breaks after the last content
+abbrev pub final_ends : List Element → Text
+final_ends [] = []
+final_ends (content text ∷ rest) = final_ends rest
+final_ends (line_end b ∷ rest) = (if has_content rest then [] else b ∷ []) ++ final_ends rest
+
+-- literal: all is kept
+abbrev pub joined : List Element → Text
+joined [] = []
+joined (content text ∷ rest) = text ++ joined rest
+joined (line_end b ∷ rest) = b ∷ joined rest
+
+-- the text doesn't begin with a blank
+abbrev pub is_even : Text → Bool
+is_even [] = true
+is_even (c ∷ rest) = not (is_blank c)
+
+-- there is a next content, and it doesn't begin with a blank
+abbrev pub even_next : List Element → Bool
+even_next [] = false
+even_next (content text ∷ rest) = is_even text
+even_next (line_end b ∷ rest) = even_next rest
+
+-- what a folded LF reads as: a space where it stands alone, else nothing beside the breaks that follow it
+abbrev pub fold_read : List Element → Text
+fold_read [] = []
+fold_read (content text ∷ rest) = space ∷ []
+fold_read (line_end b ∷ rest) = []
+
+-- folded: a LF at the end of a content is folded, where neither that content nor the next begins with a blank
+abbrev pub unfolded : (after_even : Bool) → List Element → Text
+unfolded after_even [] = []
+unfolded after_even (content text ∷ rest) = text ++ unfolded (is_even text) rest
+unfolded after_even (line_end b ∷ rest) =
+    (if after_even && b == line_feed && even_next rest then fold_read rest else b ∷ []) ++ unfolded false rest
+
+-- what becomes of the final breaks
+pub data Chomping : Type 0 where
+  strip : Chomping
+  clip : Chomping
+  keep : Chomping
+
+-- none, all, or the first where a content stands before it
+abbrev pub chomped : Chomping → (content_before : Bool) → Text → Text
+chomped strip content_before ends = []
+chomped clip content_before ends = if content_before then take 1 ends else []
+chomped keep content_before ends = ends
+
+abbrev pub lines_read : (folded : Bool) → Chomping → List Element → Text
+lines_read folded chomping lines =
+    (if folded then unfolded false (kept_lines lines) else joined (kept_lines lines))
+    ++ chomped chomping (has_content lines) (final_ends lines)
+
+-- the header's digit, 1 to 9, where one comes next, and what follows it
+abbrev pub digit_first : Text → Option ℕ
+digit_first [] = None
+digit_first (c ∷ rest) = if is_between 49 57 c then Some (c - 48) else None
+
+abbrev pub after_digit : Text → Text
+after_digit [] = []
+after_digit (c ∷ rest) = if is_between 49 57 c then rest else c ∷ rest
+
+-- `-` strips, `+` keeps, no sign clips
+abbrev pub chomping_first : Text → Chomping
+chomping_first [] = clip
+chomping_first (c ∷ rest) = if c == 45 then strip else (if c == 43 then keep else clip)
+
+abbrev pub after_chomping : Text → Text
+after_chomping [] = []
+after_chomping (c ∷ rest) = if c == 45 || c == 43 then rest else c ∷ rest
+
+-- what follows a break; none where no break comes first
+abbrev pub after_break : Bool → Text → Option Text
+after_break breaks12 [] = None
+after_break breaks12 (c ∷ rest) = if is_read_break breaks12 c then Some rest else None
+
+-- the lines after a header
+abbrev pub read_lines : (folded : Bool) → Chomping → (digit column : Option ℕ) → List Element → Option Text
+read_lines folded chomping digit column lines =
+    option_map (lines_read folded chomping) (all_unindented (indentation digit column lines) lines)
+
+-- a block scalar from its sign on: `|` or `>`, a digit or none, a chomping sign or none, a break, lines;
+-- the column is that of the enclosing block's entries, none at the root
+abbrev pub read_block : (breaks12 : Bool) (column : Option ℕ) → Text → Option Text
+read_block breaks12 column [] = None
+read_block breaks12 column (sign ∷ rest) =
+    if sign == 124 || sign == 62
+    then option_and_then
+    (λ body. read_lines (sign == 62) (chomping_first (after_digit rest)) (digit_first rest) column (elements breaks12 body))
+    (after_break breaks12 (after_chomping (after_digit rest)))
+    else None

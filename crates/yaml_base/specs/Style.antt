@@ -50,8 +50,8 @@ abbrev pub chosen :
     → (empty tag_written plain_implicit quoted_implicit flow simple_key canonical : Bool) → Choice
 chosen allowed asked empty tag_written plain_implicit quoted_implicit flow simple_key canonical =
     let style =
-        style_fitting allowed
-            (fits_plain allowed empty tag_written plain_implicit flow simple_key)
-            (allowed.block && not flow && not simple_key)
-            (style_asked (canonical || (simple_key && allowed.multiline)) asked) in
+    style_fitting allowed
+    (fits_plain allowed empty tag_written plain_implicit flow simple_key)
+    (allowed.block && not flow && not simple_key)
+    (style_asked (canonical || (simple_key && allowed.multiline)) asked) in
     record { style = style; bare = not tag_written && not quoted_implicit && not (is_plain style) }

@@ -1,0 +1,141 @@
+-- Worked literal and folded scalars: what is laid out, and that each is read back.
+use Rattle.std.proofs.Common.{◌≡◌, refl}
+use Rattle.std.specs.Prelude.{ℕ, Bool, true, false, Option, None, Some, List, [], ◌∷◌, ◌++◌, codes}
+use Rattle.yaml_base.specs.Characters.{Text, line_feed, line_separator}
+use Rattle.yaml_base.specs.Settings.{both_break}
+use Rattle.yaml_base.specs.LineBreaks.{with_breaks_written, with_line_breaks_read}
+use Rattle.yaml_base.specs.Cursor.{Cursor, Laid, first_cursor}
+use Rattle.yaml_base.specs.BlockHeader.{header_mark}
+use Rattle.yaml_base.specs.Literal.{literal_body, literal_laid}
+use Rattle.yaml_base.specs.Folded.{folded_body, folded_laid}
+use Rattle.yaml_base.specs.ReadBlock.{read_block}
+
+-- at the root of a stream, with an indent of 2
+abbrev literal_text : Text → Text
+literal_text value = (literal_body 2 2 value first_cursor).text
+
+abbrev folded_text : Option ℕ → Text → Text
+folded_text limit value = (folded_body limit 2 2 value first_cursor).text
+
+abbrev read_root : Text → Option Text
+read_root text = read_block false None text
+
+-- U+2028 between two texts
+abbrev separated : Text → Text → Text
+separated before after = before ++ line_separator ∷ after
+
+two-breaks : literal_text (codes "a\n\n") ≡ codes "|+\n  a\n\n"
+two-breaks = refl
+
+two-breaks-read : read_root (codes "|+\n  a\n\n") ≡ Some (codes "a\n\n")
+two-breaks-read = refl
+
+break-alone : literal_text (codes "\n") ≡ codes "|2+\n\n"
+break-alone = refl
+
+break-alone-read : read_root (codes "|2+\n\n") ≡ Some (codes "\n")
+break-alone-read = refl
+
+spaced-line : folded_text (Some 80) (codes "a\nb\n\n c\n") ≡ codes ">\n  a\n\n  b\n\n   c\n"
+spaced-line = refl
+
+spaced-line-read : read_root (codes ">\n  a\n\n  b\n\n   c\n") ≡ Some (codes "a\nb\n\n c\n")
+spaced-line-read = refl
+
+unfolded-line : folded_text (Some 5) (codes " aaaaaa b") ≡ codes ">2-\n   aaaaaa b"
+unfolded-line = refl
+
+unfolded-line-read : read_root (codes ">2-\n   aaaaaa b") ≡ Some (codes " aaaaaa b")
+unfolded-line-read = refl
+
+-- an item of a block sequence: the entries of the enclosing block stand at column 0
+item : (literal_laid 2 2 (codes " a") (record { column = 1; whitespace = false; indention = true })).text ≡ codes " |2-\n   a"
+item = refl
+
+item-read : read_block false (Some 0) (codes "|2-\n   a") ≡ Some (codes " a")
+item-read = refl
+
+break-then-separator : folded_text (Some 80) (separated (codes "a\n") (codes "b")) ≡ separated (codes ">-\n  a\n\n") (codes "  b")
+break-then-separator = refl
+
+break-then-separator-read : read_root (separated (codes ">-\n  a\n\n") (codes "  b")) ≡ Some (separated (codes "a\n") (codes "b"))
+break-then-separator-read = refl
+
+separator-then-break : folded_text (Some 80) (separated (codes "a") (codes "\nb")) ≡ separated (codes ">-\n  a") (codes "\n  b")
+separator-then-break = refl
+
+separator-then-break-read : read_root (separated (codes ">-\n  a") (codes "\n  b")) ≡ Some (separated (codes "a") (codes "\nb"))
+separator-then-break-read = refl
+
+both-breaks-written : with_breaks_written both_break (literal_text (codes "a\n")) ≡ codes "|\r\n  a\r\n"
+both-breaks-written = refl
+
+both-breaks-read : read_root (with_line_breaks_read (codes "|\r\n  a\r\n")) ≡ Some (codes "a\n")
+both-breaks-read = refl
+
+breaks-alone : folded_text (Some 80) (codes "\n\n") ≡ codes ">2+\n\n\n"
+breaks-alone = refl
+
+breaks-alone-read : read_root (codes ">2+\n\n\n") ≡ Some (codes "\n\n")
+breaks-alone-read = refl
+
+break-first : folded_text (Some 80) (codes "\n a") ≡ codes ">2-\n\n   a"
+break-first = refl
+
+break-first-read : read_root (codes ">2-\n\n   a") ≡ Some (codes "\n a")
+break-first-read = refl
+
+two-spaces : folded_text (Some 5) (codes "aaaaaa  b") ≡ codes ">-\n  aaaaaa \n  b"
+two-spaces = refl
+
+two-spaces-read : read_root (codes ">-\n  aaaaaa \n  b") ≡ Some (codes "aaaaaa  b")
+two-spaces-read = refl
+
+break-before-line : folded_text (Some 80) (codes "\na\n") ≡ codes ">2\n\n  a\n"
+break-before-line = refl
+
+break-before-line-read : read_root (codes ">2\n\n  a\n") ≡ Some (codes "\na\n")
+break-before-line-read = refl
+
+-- what is read, and never written: a sign before less indented lines, a digit that is too large, no break
+-- after the header, contents of blanks alone
+too-few-spaces : read_root (codes "|\n  a\n b\n") ≡ None
+too-few-spaces = refl
+
+digit-too-large : read_root (codes "|3\n  a\n") ≡ None
+digit-too-large = refl
+
+no-break : read_root (codes "|-") ≡ None
+no-break = refl
+
+not-block : read_root (codes "a") ≡ None
+not-block = refl
+
+header-alone : read_root (codes ">\n") ≡ Some []
+header-alone = refl
+
+breaks-clipped : read_root (codes "|\n\n\n") ≡ Some []
+breaks-clipped = refl
+
+tabs-keep-breaks : read_root (codes ">\n a\n \tb\n c\n") ≡ Some (codes "a\n\tb\nc\n")
+tabs-keep-breaks = refl
+
+-- with the line breaks of YAML 1.2, U+2028 is an ordinary character
+separator-ordinary : read_block true None (separated (codes "|\n  a") (codes "b\n")) ≡ Some (separated (codes "a") (codes "b\n"))
+separator-ordinary = refl
+
+-- the cursor after the text, and the open mark
+after-literal : (literal_laid 4 2 (codes "a\nbc") first_cursor).cursor ≡ record { column = 6; whitespace = true; indention = false }
+after-literal = refl
+
+after-break : (folded_laid (Some 80) 4 2 (codes "a\nb\n") first_cursor).cursor ≡ record { column = 0; whitespace = true; indention = true }
+after-break = refl
+
+mark-of-two-breaks : header_mark (codes "a\n\n") ≡ 2
+mark-of-two-breaks = refl
+
+mark-of-break-alone : header_mark (codes "\n") ≡ 2
+mark-of-break-alone = refl
+
+mark-of-one-break : header_mark (codes "a\n") ≡ 0
+mark-of-one-break = refl
