@@ -4,3 +4,4 @@ pub mod RowsAnalysis
 pub mod RowsTags
 pub mod RowsEncoding
 pub mod RowsBlock
+pub mod RowsDouble

@@ -1,1 +1,100 @@
--- The layout of a double-quoted scalar, over its units (YAML 1.1, section 9.1.1).
+-- The layout of a double-quoted scalar (YAML 1.1, sections 5.7 and 9.1.1; folds by libyaml's own rule).
+use Rattle.std.specs.Prelude.{ℕ, Bool, true, false, Option, None, Some, List, [], ◌∷◌, ◌++◌, ◌==◌, ◌||◌, ◌&&◌, not, nat_le, if◌then◌else◌}
+use Rattle.yaml_base.specs.Characters.{Text, hex_digits, is_ascii, is_break, is_printable, is_space, space}
+use Rattle.yaml_base.specs.Cursor.{Cursor, Laid, indicator, is_past_width, new_line, nothing_laid, space_if, text_laid, then_laid}
+
+abbrev pub quote : ℕ
+quote = 0x22
+
+abbrev pub backslash : ℕ
+backslash = 0x5C
+
+-- a character that has an escape of one letter
+pub record ShortEscape : Type 0 where
+  pub character : ℕ
+  pub letter : ℕ
+
+abbrev pub short : (character letter : ℕ) → ShortEscape
+short character letter = record { character = character; letter = letter }
+
+-- NUL, bell, backspace, tab, LF, vertical tab, form feed, CR, escape, the quote, the backslash, U+0085,
+-- U+00A0, U+2028 and U+2029
+abbrev pub short_escapes : List ShortEscape
+short_escapes =
+    short 0 48 ∷ short 7 97 ∷ short 8 98 ∷ short 9 116 ∷ short 0xA 110 ∷ short 0xB 118 ∷ short 0xC 102
+    ∷ short 0xD 114 ∷ short 0x1B 101 ∷ short 0x22 0x22 ∷ short 0x5C 0x5C ∷ short 0x85 78 ∷ short 0xA0 95
+    ∷ short 0x2028 76 ∷ short 0x2029 80 ∷ []
+
+abbrev pub letter_among : List ShortEscape → ℕ → Option ℕ
+letter_among [] c = None
+letter_among (entry ∷ more) c = if c == entry.character then Some entry.letter else letter_among more c
+
+-- what follows the backslash: a letter alone, or `x`, `u`, `U` and two, four, eight digits, the fewest that do
+abbrev pub escape_after_backslash : Option ℕ → ℕ → Text
+escape_after_backslash (Some letter) c = letter ∷ []
+escape_after_backslash None c =
+    if nat_le c 0xFF then 120 ∷ hex_digits 2 c else (if nat_le c 0xFFFF then 117 ∷ hex_digits 4 c else 85 ∷ hex_digits 8 c)
+
+abbrev pub escape_text : ℕ → Text
+escape_text c = backslash ∷ escape_after_backslash (letter_among short_escapes c) c
+
+-- unprintable, past ASCII where that isn't kept, a break, the quote or the backslash
+abbrev pub needs_escape : Bool → ℕ → Bool
+needs_escape unicode c =
+    not (is_printable c) || (not unicode && not (is_ascii c)) || is_break c || c == quote || c == backslash
+
+-- a character as an escape, or as itself
+abbrev pub character_text : Bool → ℕ → Text
+character_text unicode c = if needs_escape unicode c then escape_text c else c ∷ []
+
+-- the character next to a space is there and is another than a space
+abbrev pub is_other : Option ℕ → Bool
+is_other None = false
+is_other (Some c) = not (is_space c)
+
+-- a space may be a fold where it is the first of a run and neither the value's first character nor its last
+abbrev pub may_fold : (before : Option ℕ) → (rest : Text) → Bool
+may_fold before [] = false
+may_fold before (c ∷ rest) = is_other before
+
+-- where a space follows the fold, a backslash keeps it
+abbrev pub space_kept : Text → Text
+space_kept [] = []
+space_kept (c ∷ rest) = if is_space c then backslash ∷ [] else []
+
+-- a new line in place of a space
+abbrev pub double_fold : (indent : ℕ) → (rest : Text) → Cursor → Laid
+double_fold indent rest cursor = then_laid (new_line indent cursor) (text_laid (space_kept rest))
+
+-- one character of the value, after another or at its start, before the rest
+abbrev pub double_character :
+    (unicode : Bool) → (limit : Option ℕ) → (indent : ℕ) → (before : Option ℕ) → ℕ → (rest : Text) → Cursor → Laid
+double_character unicode limit indent before c rest cursor =
+    if is_space c && may_fold before rest && is_past_width limit cursor
+    then double_fold indent rest cursor
+    else text_laid (character_text unicode c) cursor
+
+-- one character after another
+abbrev pub double_inside :
+    (unicode : Bool) → (limit : Option ℕ) → (indent : ℕ) → (before : Option ℕ) → (value : Text) → Cursor → Laid
+double_inside unicode limit indent before [] cursor = nothing_laid cursor
+double_inside unicode limit indent before (c ∷ rest) cursor =
+    then_laid
+        (double_character unicode limit indent before c rest cursor)
+        (double_inside unicode limit indent (Some c) rest)
+
+-- a quote, from which the cursor's flags are off
+abbrev pub quote_laid : Cursor → Laid
+quote_laid cursor = indicator (quote ∷ []) false false false cursor
+
+-- from quote to quote
+abbrev pub double_quoted_body : (unicode : Bool) → (limit : Option ℕ) → (indent : ℕ) → (value : Text) → Cursor → Laid
+double_quoted_body unicode limit indent value cursor =
+    then_laid
+        (then_laid (quote_laid cursor) (double_inside unicode limit indent None value))
+        quote_laid
+
+-- a space before it, where none stands there
+abbrev pub double_quoted_laid : (unicode : Bool) → (limit : Option ℕ) → (indent : ℕ) → (value : Text) → Cursor → Laid
+double_quoted_laid unicode limit indent value cursor =
+    then_laid (text_laid (space_if true cursor) cursor) (double_quoted_body unicode limit indent value)
