@@ -1,0 +1,189 @@
+use super::*;
+use std::alloc::{AllocError, Allocator};
+use std::test::Fail;
+
+fn text<A: Allocator>(alloc: A, s: &str) -> Result<String<A>, AllocError> {
+    String::from_str(alloc, s)
+}
+
+fn directive<A: Allocator + Copy>(
+    alloc: A,
+    handle: &str,
+    prefix: &str,
+) -> Result<yaml_tag_directive_t<A>, AllocError> {
+    Ok(yaml_tag_directive_t {
+        handle: text(alloc, handle)?,
+        prefix: text(alloc, prefix)?,
+    })
+}
+
+fn scalar<A: Allocator + Copy>(
+    alloc: A,
+    value: &str,
+    style: yaml_scalar_style_t,
+) -> Result<yaml_event_t<A>, AllocError> {
+    Ok(YAML_SCALAR_EVENT {
+        anchor: Some(text(alloc, "id")?),
+        tag: None,
+        value: text(alloc, value)?,
+        plain_implicit: true,
+        quoted_implicit: false,
+        style,
+    })
+}
+
+fn document_start<A: Allocator + Copy>(
+    alloc: A,
+    minor: i32,
+) -> Result<yaml_event_t<A>, AllocError> {
+    let mut tag_directives = Vec::new(alloc);
+    tag_directives.push(directive(alloc, "!", "!a")?)?;
+    Ok(YAML_DOCUMENT_START_EVENT {
+        version_directive: Some(yaml_version_directive_t { major: 1, minor }),
+        tag_directives,
+        implicit: false,
+    })
+}
+
+#[test]
+fn events_are_compared_by_what_they_hold(rt: HostRuntime) -> Result<(), Fail> {
+    let alloc = rt.alloc();
+    let plain = scalar(alloc, "a", YAML_PLAIN_SCALAR_STYLE)?;
+    assert!(rt; plain == scalar(alloc, "a", YAML_PLAIN_SCALAR_STYLE)?);
+    assert!(rt; plain != scalar(alloc, "b", YAML_PLAIN_SCALAR_STYLE)?);
+    assert!(rt; plain != scalar(alloc, "a", YAML_ANY_SCALAR_STYLE)?);
+    assert!(rt; document_start(alloc, 1)? == document_start(alloc, 1)?);
+    assert!(rt; document_start(alloc, 1)? != document_start(alloc, 2)?);
+    let default: yaml_event_t<_> = Default::default();
+    assert!(rt; default == YAML_STREAM_END_EVENT);
+    assert!(rt; default != plain);
+    Ok(())
+}
+
+#[test]
+fn events_are_printed_by_their_fields(rt: HostRuntime) -> Result<(), Fail> {
+    let alloc = rt.alloc();
+    let start = document_start(alloc, 1)?;
+    let printed = format!(in alloc; "{start:?}")?;
+    assert_eq!(rt;
+        printed.as_str(),
+        "YAML_DOCUMENT_START_EVENT { version_directive: Some(yaml_version_directive_t { major: 1, minor: 1 }), \
+        tag_directives: [yaml_tag_directive_t { handle: \"!\", prefix: \"!a\" }], implicit: false }"
+    );
+    let sequence: yaml_event_t<_> = YAML_SEQUENCE_START_EVENT {
+        anchor: None,
+        tag: Some(text(alloc, "!t")?),
+        implicit: true,
+        style: YAML_FLOW_SEQUENCE_STYLE,
+    };
+    let printed = format!(in alloc; "{sequence:?}")?;
+    assert_eq!(rt;
+        printed.as_str(),
+        "YAML_SEQUENCE_START_EVENT { anchor: None, tag: Some(\"!t\"), implicit: true, style: YAML_FLOW_SEQUENCE_STYLE }"
+    );
+    Ok(())
+}
+
+fn sequence_node<A: Allocator + Copy>(alloc: A, first: i32) -> Result<yaml_node_t<A>, AllocError> {
+    let mut items = Vec::new(alloc);
+    items.push(first)?;
+    Ok(yaml_node_t {
+        tag: text(alloc, "!t")?,
+        contents: yaml_node_data_t::Sequence {
+            items,
+            style: YAML_ANY_SEQUENCE_STYLE,
+        },
+    })
+}
+
+#[test]
+fn nodes_are_compared_and_printed_by_what_they_hold(rt: HostRuntime) -> Result<(), Fail> {
+    let alloc = rt.alloc();
+    let node = sequence_node(alloc, 2)?;
+    assert!(rt; node == sequence_node(alloc, 2)?);
+    assert!(rt; node != sequence_node(alloc, 3)?);
+    let printed = format!(in alloc; "{node:?}")?;
+    assert_eq!(rt;
+        printed.as_str(),
+        "yaml_node_t { tag: \"!t\", contents: Sequence { items: [2], style: YAML_ANY_SEQUENCE_STYLE } }"
+    );
+    let mut pairs = Vec::new(alloc);
+    pairs.push(yaml_node_pair_t { key: 1, value: 2 })?;
+    let mapping = yaml_node_data_t::Mapping {
+        pairs,
+        style: YAML_BLOCK_MAPPING_STYLE,
+    };
+    assert!(rt; mapping != node.contents);
+    let printed = format!(in alloc; "{mapping:?}")?;
+    assert_eq!(rt;
+        printed.as_str(),
+        "Mapping { pairs: [yaml_node_pair_t { key: 1, value: 2 }], style: YAML_BLOCK_MAPPING_STYLE }"
+    );
+    let scalar: yaml_node_data_t<_> = yaml_node_data_t::Scalar {
+        value: text(alloc, "v")?,
+        style: YAML_LITERAL_SCALAR_STYLE,
+    };
+    let printed = format!(in alloc; "{scalar:?}")?;
+    assert_eq!(rt;
+        printed.as_str(),
+        "Scalar { value: \"v\", style: YAML_LITERAL_SCALAR_STYLE }"
+    );
+    Ok(())
+}
+
+#[test]
+fn refusals_have_their_words(rt: HostRuntime) -> Result<(), Fail> {
+    let alloc = rt.alloc();
+    for (error, kind, words) in [
+        (
+            yaml_error_t::ExpectedNode,
+            YAML_EMITTER_ERROR,
+            "expected SCALAR, SEQUENCE-START, MAPPING-START, or ALIAS",
+        ),
+        (
+            yaml_error_t::TagHandleStart,
+            YAML_EMITTER_ERROR,
+            "tag handle must start with '!'",
+        ),
+        (
+            yaml_error_t::DuplicateDirective,
+            YAML_EMITTER_ERROR,
+            "duplicate %TAG directive",
+        ),
+        (yaml_error_t::WriteError, YAML_WRITER_ERROR, "write error"),
+        (yaml_error_t::Memory, YAML_MEMORY_ERROR, "out of memory"),
+    ] {
+        assert_eq!(rt; error.kind(), kind);
+        let printed = format!(in alloc; "{error}")?;
+        assert_eq!(rt; printed.as_str(), words);
+    }
+    assert_eq!(rt; yaml_error_t::Memory.problem(), "");
+    assert_eq!(rt; yaml_error_t::WriteError.problem(), "write error");
+    Ok(())
+}
+
+#[test]
+fn classes_have_their_members(rt: HostRuntime) {
+    for (character, alpha, printable, breaks) in [
+        ('a', true, true, false),
+        ('-', true, true, false),
+        ('\t', false, false, false),
+        ('\n', false, true, true),
+        ('\r', false, false, true),
+        ('\u{7F}', false, false, false),
+        ('\u{85}', false, false, true),
+        ('\u{A0}', false, true, false),
+        ('\u{2028}', false, true, true),
+        ('\u{FEFF}', false, false, false),
+        ('\u{FFFE}', false, false, false),
+        ('\u{1F600}', false, true, false),
+    ] {
+        assert_eq!(rt; is_alpha(character), alpha);
+        assert_eq!(rt; is_printable(character), printable);
+        assert_eq!(rt; is_break(character), breaks);
+    }
+    assert!(rt; is_ascii('\u{7F}') && !is_ascii('\u{80}'));
+    assert!(rt; is_space(' ') && !is_space('\t'));
+    assert!(rt; is_blank('\t') && !is_blank('\u{A0}'));
+    assert!(rt; is_bom('\u{FEFF}') && !is_bom('\u{FFFE}'));
+}
