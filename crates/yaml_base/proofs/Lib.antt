@@ -5,3 +5,4 @@ pub mod RowsTags
 pub mod RowsEncoding
 pub mod RowsBlock
 pub mod RowsDouble
+pub mod RowsPlain

@@ -2,6 +2,7 @@
 -- where folds stand is libyaml's own rule).
 use Rattle.std.specs.Prelude.{ℕ, Bool, true, false, Option, List, [], ◌∷◌, ◌++◌, ◌==◌, ◌||◌, ◌&&◌, not, replicate, if◌then◌else◌}
 use Rattle.yaml_base.specs.Characters.{Text, is_break, is_space, line_feed, space}
+use Rattle.yaml_base.specs.Analysis.{begins_with, is_empty}
 use Rattle.yaml_base.specs.Cursor.{Cursor, Laid, nothing_laid, then_laid, text_laid, with_flags, space_if, is_past_width}
 
 pub data Kind : Type 0 where
@@ -39,10 +40,6 @@ abbrev pub is_lone : Text → Bool
 is_lone (c ∷ []) = true
 is_lone _ = false
 
-abbrev pub begins_with : ℕ → Text → Bool
-begins_with character [] = false
-begins_with character (c ∷ rest) = c == character
-
 abbrev pub indentation : ℕ → Text
 indentation indent = replicate indent space
 
@@ -52,7 +49,7 @@ abbrev pub run_text : (written : Text → Text) (folds : Bool) (indent : ℕ) �
 run_text written folds indent spaces text =
     if folds && is_lone text then line_feed ∷ indentation indent else text
 run_text written folds indent breaks text =
-    (if begins_with line_feed text then line_feed ∷ [] else []) ++ (text ++ indentation indent)
+    (if begins_with (λ c. c == line_feed) text then line_feed ∷ [] else []) ++ (text ++ indentation indent)
 run_text written folds indent others text = written text
 
 abbrev pub is_last : List Run → Bool
@@ -70,10 +67,6 @@ runs_laid written limit indent edge (run ∷ more) cursor =
 abbrev pub plain_body : (limit : Option ℕ) (indent : ℕ) (value : Text) → Cursor → Laid
 plain_body limit indent value cursor =
     with_flags false false (runs_laid (λ text. text) limit indent true (runs value) cursor)
-
-abbrev pub is_empty : Text → Bool
-is_empty [] = true
-is_empty _ = false
 
 -- a space first where one is needed: the empty value needs none in a block
 abbrev pub plain_laid : (flow : Bool) (limit : Option ℕ) (indent : ℕ) (value : Text) → Cursor → Laid

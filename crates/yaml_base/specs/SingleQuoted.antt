@@ -16,7 +16,7 @@ single_quote cursor = indicator (codes "'") false false false cursor
 abbrev pub single_quoted_body : (limit : Option ℕ) (indent : ℕ) (value : Text) → Cursor → Laid
 single_quoted_body limit indent value cursor =
     then_laid (single_quote cursor) (λ after_quote.
-        then_laid (runs_laid quotes_doubled limit indent true (runs value) after_quote) single_quote)
+    then_laid (runs_laid quotes_doubled limit indent true (runs value) after_quote) single_quote)
 
 -- a space first where one is needed
 abbrev pub single_quoted_laid : (limit : Option ℕ) (indent : ℕ) (value : Text) → Cursor → Laid

@@ -1,0 +1,140 @@
+-- Plain and single-quoted scalars, computed: what is laid out, and that it reads back.
+use Rattle.std.proofs.Common.{◌≡◌, refl, ℕ, List, [], ◌∷◌, ◌++◌, Bool, true, false, Option, None, Some}
+use Rattle.std.specs.Prelude.{codes, map, replicate}
+use Rattle.yaml_base.specs.Characters.{Text}
+use Rattle.yaml_base.specs.Cursor.{Cursor, Laid, first_cursor}
+use Rattle.yaml_base.specs.Plain.{plain_laid, plain_body}
+use Rattle.yaml_base.specs.SingleQuoted.{single_quoted_laid, single_quoted_body}
+use Rattle.yaml_base.specs.ReadPlain.{read_plain}
+use Rattle.yaml_base.specs.ReadSingle.{read_single}
+
+-- a root in a block, indented by 2
+abbrev plain_root : Option ℕ → Text → Text
+plain_root limit value = (plain_laid false limit 2 value first_cursor).text
+
+abbrev single_root : Option ℕ → Text → Text
+single_root limit value = (single_quoted_laid limit 2 value first_cursor).text
+
+-- not at the start of a line
+abbrev later : Cursor
+later = record { column = 2; whitespace = false; indention = false }
+
+pub word : plain_root (Some 80) (codes "foo") ≡ codes "foo"
+word = refl
+
+pub nothing_in_a_block : (plain_laid false (Some 80) 2 [] later).text ≡ []
+nothing_in_a_block = refl
+
+pub space_before_a_word : (plain_laid false (Some 80) 2 (codes "b") later).text ≡ codes " b"
+space_before_a_word = refl
+
+pub space_before_a_quote : (single_quoted_laid (Some 80) 2 (codes "b") later).text ≡ codes " 'b'"
+space_before_a_quote = refl
+
+-- the cursor stands after the text, with no white space
+pub cursor_after_plain :
+    (plain_laid false (Some 5) 2 (codes "aaaaaa b") first_cursor).cursor ≡
+    record { column = 3; whitespace = false; indention = false }
+cursor_after_plain = refl
+
+pub cursor_after_single :
+    (single_quoted_laid (Some 80) 2 (codes "a\nbcd") later).cursor ≡
+    record { column = 6; whitespace = false; indention = false }
+cursor_after_single = refl
+
+pub fold : plain_root (Some 5) (codes "aaaaaa b") ≡ codes "aaaaaa\n  b"
+fold = refl
+
+-- a space at the width is not past it
+pub no_fold_at_the_width : plain_root (Some 5) (codes "aaaaa b") ≡ codes "aaaaa b"
+no_fold_at_the_width = refl
+
+pub no_width : plain_root None (codes "aaaaaa b") ≡ codes "aaaaaa b"
+no_width = refl
+
+pub no_fold_among_spaces : plain_root (Some 5) (codes "aaaaaa  b c") ≡ codes "aaaaaa  b\n  c"
+no_fold_among_spaces = refl
+
+-- columns are counted in characters
+pub fold_counts_characters :
+    plain_root (Some 5) (replicate 4 0xE9 ++ codes " b c") ≡ replicate 4 0xE9 ++ codes " b\n  c"
+fold_counts_characters = refl
+
+pub one_break : single_root (Some 80) (codes "a\nb") ≡ codes "'a\n\n  b'"
+one_break = refl
+
+pub break_alone : single_root (Some 80) (codes "\n") ≡ codes "'\n\n  '"
+break_alone = refl
+
+pub space_alone : single_root (Some 0) (codes " ") ≡ codes "' '"
+space_alone = refl
+
+-- no fold at either end
+pub no_fold_at_the_ends : single_root (Some 0) (codes " a b ") ≡ codes "' a\n  b '"
+no_fold_at_the_ends = refl
+
+pub quote_alone : single_root (Some 80) (codes "'") ≡ codes "''''"
+quote_alone = refl
+
+-- a doubled quote takes two columns
+pub quotes_take_columns : single_root (Some 5) (codes "a''' b c") ≡ codes "'a''''''\n  b c'"
+quotes_take_columns = refl
+
+pub key_sign : single_root (Some 80) (codes "a:") ≡ codes "'a:'"
+key_sign = refl
+
+pub entry_sign : single_root (Some 80) (codes "- x") ≡ codes "'- x'"
+entry_sign = refl
+
+pub nothing_quoted : single_root (Some 80) [] ≡ codes "''"
+nothing_quoted = refl
+
+abbrev separated : Text
+separated = 97 ∷ 0x2028 ∷ 98 ∷ []
+
+-- U+2028 is written once
+pub separator : single_root (Some 80) separated ≡ codes "'a" ++ 0x2028 ∷ codes "  b'"
+separator = refl
+
+abbrev separated_after_break : Text
+separated_after_break = 97 ∷ 10 ∷ 0x2028 ∷ 98 ∷ []
+
+pub separator_after_break : single_root (Some 80) separated_after_break ≡ codes "'a\n\n" ++ 0x2028 ∷ codes "  b'"
+separator_after_break = refl
+
+abbrev separated_before_break : Text
+separated_before_break = 97 ∷ 0x2028 ∷ 10 ∷ 98 ∷ []
+
+pub separator_before_break : single_root (Some 80) separated_before_break ≡ codes "'a" ++ 0x2028 ∷ codes "\n  b'"
+separator_before_break = refl
+
+-- and each of these reads back
+
+pub fold_reads : read_plain false false (codes "aaaaaa\n  b") ≡ Some (codes "aaaaaa b")
+fold_reads = refl
+
+pub one_break_reads : read_single false (codes "'a\n\n  b'") ≡ Some (codes "a\nb")
+one_break_reads = refl
+
+pub break_alone_reads : read_single false (codes "'\n\n  '") ≡ Some (codes "\n")
+break_alone_reads = refl
+
+pub no_fold_at_the_ends_reads : read_single false (codes "' a\n  b '") ≡ Some (codes " a b ")
+no_fold_at_the_ends_reads = refl
+
+pub quote_alone_reads : read_single false (codes "''''") ≡ Some (codes "'")
+quote_alone_reads = refl
+
+pub separator_reads : read_single false (codes "'a" ++ 0x2028 ∷ codes "  b'") ≡ Some separated
+separator_reads = refl
+
+pub separator_after_break_reads :
+    read_single false (codes "'a\n\n" ++ 0x2028 ∷ codes "  b'") ≡ Some separated_after_break
+separator_after_break_reads = refl
+
+pub separator_before_break_reads :
+    read_single false (codes "'a" ++ 0x2028 ∷ codes "\n  b'") ≡ Some separated_before_break
+separator_before_break_reads = refl
+
+pub space_alone_reads : read_single false (codes "' '") ≡ Some (codes " ")
+space_alone_reads = refl
