@@ -6,3 +6,6 @@ pub mod RowsEncoding
 pub mod RowsBlock
 pub mod RowsDouble
 pub mod RowsPlain
+
+pub mod RowsOfScripts
+pub mod Lines

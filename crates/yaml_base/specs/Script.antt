@@ -1,1 +1,401 @@
--- Scripts of events, as bytes.
+-- Scripts of events: what the bytes of a script say, line by line (this project's own notation).
+--     line_read text       what a line says, or nothing where it is bad by itself
+--     script_of bytes      the settings and the numbered events of a script, or the number of its first bad line
+use Rattle.std.specs.Prelude.{ℕ, suc, ℤ, pos, neg_ℤ, Bool, true, false, Option, None, Some, List, [], ◌∷◌, ◌++◌, ◌==◌, ◌||◌, ◌&&◌, not, nat_le, length, codes, chars, bytes_eq, option_map, option_and_then, if◌then◌else◌}
+use Rattle.std.specs.Option.{option_or}
+use Rattle.std.specs.List.{list_any, list_all, onto_first}
+use Rattle.std.specs.Char.{is_digit}
+use Rattle.std.specs.Str.{is_utf8, all_scalars}
+use Rattle.std.specs.Str.Parse.{digits_value}
+use Rattle.yaml_base.specs.Characters.{Text, is_between, line_feed, carriage_return, space}
+use Rattle.yaml_base.specs.Settings.{Settings, Encoding, utf8, utf16_little, utf16_big, LineBreak, carriage_return_break, line_feed_break, both_break}
+use Rattle.yaml_base.specs.Event.{Event, stream_start, stream_end, document_start, document_end, alias, scalar, sequence_start, sequence_end, mapping_start, mapping_end, ScalarStyle, any_style, plain, single_quoted, double_quoted, literal, folded, CollectionStyle, any_layout, block, flow, Version, TagDirective, Collection}
+
+-- ---- what a script says
+
+-- a setting's line
+pub data Setting : Type 0 where
+  limit_set : ℕ → Setting
+  encoding_set : Option Encoding → Setting
+  canonical_set : Bool → Setting
+  unicode_set : Bool → Setting
+  indent_set : ℤ → Setting
+  width_set : ℤ → Setting
+  break_set : Option LineBreak → Setting
+  breaks12_set : Bool → Setting
+
+-- a line says nothing (it is empty or a comment), sets something, or gives an event
+pub data Line : Type 0 where
+  says_nothing : Line
+  sets : Setting → Line
+  gives : Event → Line
+
+-- an event and the number of its line
+pub record Numbered : Type 0 where
+  pub line : ℕ
+  pub event : Event
+
+-- the number of a script's first bad line, or its settings and its events in order
+pub data Script : Type 0 where
+  bad_line : ℕ → Script
+  understood : Settings → List Numbered → Script
+
+-- ---- the characters of the notation
+
+abbrev pub quotation_mark : ℕ
+quotation_mark = 0x22
+
+abbrev pub number_sign : ℕ
+number_sign = 0x23
+
+abbrev pub backslash : ℕ
+backslash = 0x5C
+
+-- a text is this word
+abbrev pub is_word : Text → Text → Bool
+is_word text word = bytes_eq text word
+
+-- a character that separates ends a piece; any other stands first in the piece that follows
+abbrev pub cut_before : Bool → ℕ → List Text → List Text
+cut_before true c pieces = [] ∷ pieces
+cut_before false c pieces = onto_first c pieces
+
+-- a text cut at each of a character
+abbrev pub cut_at : ℕ → Text → List Text
+cut_at at [] = [] ∷ []
+cut_at at (c ∷ rest) = cut_before (c == at) c (cut_at at rest)
+
+-- ---- texts between quotation marks
+
+-- a text's next character stands after a whole character, a backslash, `\u`, or `\u{` and these characters
+pub data Within : Type 0 where
+  at_character : Within
+  at_escape : Within
+  at_brace : Within
+  at_digits : Text → Within
+
+-- the next character goes on with an escape, completes one that stands for a character, ends the text, or is wrong there
+pub data Turn : Type 0 where
+  goes_on : Within → Turn
+  stands_for : ℕ → Turn
+  ends : Turn
+  fails : Turn
+
+-- the character of `\u{..}`: one to six hexadecimal digits of a Unicode scalar value
+abbrev pub numbered_turn : Text → Turn
+numbered_turn digits =
+    let number = digits_value 16 digits in
+    if is_between 1 6 (length digits) && list_all (λ digit. is_digit digit 16) digits && all_scalars (number ∷ [])
+    then stands_for number else fails
+
+-- what a character does in a text: `\\`, `\"`, `\n` and `\u{..}` stand for characters, any other but these two for itself
+abbrev pub turn : Within → ℕ → Turn
+turn at_character c =
+    if c == quotation_mark then ends else (if c == backslash then goes_on at_escape else stands_for c)
+turn at_escape c =
+    if c == 0x75 then goes_on at_brace
+    else (if c == 0x6E then stands_for line_feed
+    else (if c == backslash || c == quotation_mark then stands_for c else fails))
+turn at_brace c = if c == 0x7B then goes_on (at_digits []) else fails
+turn (at_digits digits) c = if c == 0x7D then numbered_turn digits else goes_on (at_digits (digits ++ c ∷ []))
+
+-- what the characters behind an opening mark stand for, where the last of them is the closing mark
+abbrev pub text_from : Within → Text → Option Text
+text_from within [] = None
+text_from within (c ∷ rest) =
+    elim (turn within c) as (λ _. Option Text) [
+        goes_on next ↦ text_from next rest
+        | stands_for character ↦ option_map (λ value. character ∷ value) (text_from at_character rest)
+        | ends ↦ if length rest == 0 then Some [] else None
+        | fails ↦ None
+    ]
+
+-- ---- fields
+
+-- a field is a word as it stands, or what a text between quotation marks stands for
+pub data Field : Type 0 where
+  bare : Text → Field
+  quoted : Text → Field
+
+-- a character of a line stands outside texts, inside one, or after a backslash inside one
+pub data Standing : Type 0 where
+  outside : Standing
+  inside : Standing
+  escaped : Standing
+
+-- where the character after this one stands
+abbrev pub standing_after : Standing → ℕ → Standing
+standing_after outside c = if c == quotation_mark then inside else outside
+standing_after inside c = if c == quotation_mark then outside else (if c == backslash then escaped else inside)
+standing_after escaped c = inside
+
+-- a space outside texts separates two fields
+abbrev pub separates : Standing → ℕ → Bool
+separates outside c = c == space
+separates inside c = false
+separates escaped c = false
+
+-- a line cut at each separator
+abbrev pub cut_from : Standing → Text → List Text
+cut_from standing [] = [] ∷ []
+cut_from standing (c ∷ rest) = cut_before (separates standing c) c (cut_from (standing_after standing c) rest)
+
+-- no field is empty; one that begins with a quotation mark is a text, any other a word
+abbrev pub field_read : Text → Option Field
+field_read [] = None
+field_read (c ∷ rest) =
+    if c == quotation_mark then option_map quoted (text_from at_character rest) else Some (bare (c ∷ rest))
+
+-- the first, before the others, where all have a reading
+abbrev pub field_and : Option Field → Option (List Field) → Option (List Field)
+field_and (Some field) (Some fields) = Some (field ∷ fields)
+field_and _ _ = None
+
+-- each piece read as a field
+abbrev pub each_field : List Text → Option (List Field)
+each_field [] = Some []
+each_field (piece ∷ pieces) = field_and (field_read piece) (each_field pieces)
+
+-- the fields of a line: exactly one space stands between two, and none at either end
+abbrev pub fields_read : Text → Option (List Field)
+fields_read line = each_field (cut_from outside line)
+
+-- ---- words and numbers
+
+-- what a word means in a table
+abbrev pub named : {A : Type 0} → List (Text × A) → Text → Option A
+named [] word = None
+named (entry ∷ rest) word = if is_word word entry.0 then Some entry.1 else named rest word
+
+-- off and on, of a flag and of a setting
+abbrev pub flags : List (Text × Bool)
+flags = (codes "0", false) ∷ (codes "1", true) ∷ []
+
+abbrev pub switches : List (Text × Bool)
+switches = (codes "off", false) ∷ (codes "on", true) ∷ []
+
+-- the names of encodings, line breaks and styles; `any` leaves the choice to the emitter
+abbrev pub encodings : List (Text × Option Encoding)
+encodings = (codes "any", None) ∷ (codes "utf8", Some utf8) ∷ (codes "utf16le", Some utf16_little) ∷ (codes "utf16be", Some utf16_big) ∷ []
+
+abbrev pub line_breaks : List (Text × Option LineBreak)
+line_breaks = (codes "any", None) ∷ (codes "cr", Some carriage_return_break) ∷ (codes "ln", Some line_feed_break) ∷ (codes "crln", Some both_break) ∷ []
+
+abbrev pub scalar_styles : List (Text × ScalarStyle)
+scalar_styles = (codes "any", any_style) ∷ (codes "plain", plain) ∷ (codes "single", single_quoted) ∷ (codes "double", double_quoted) ∷ (codes "literal", literal) ∷ (codes "folded", folded) ∷ []
+
+abbrev pub collection_styles : List (Text × CollectionStyle)
+collection_styles = (codes "any", any_layout) ∷ (codes "block", block) ∷ (codes "flow", flow) ∷ []
+
+-- a number of at most this: decimal digits, one or more
+abbrev pub number_up_to : ℕ → Text → Option ℕ
+number_up_to most word =
+    let number = digits_value 10 word in
+    if nat_le 1 (length word) && list_all (λ digit. is_digit digit 10) word && nat_le number most then Some number else None
+
+-- a number of 32 bits with a sign: `-` stands before a negative one
+abbrev pub signed_number : Text → Option ℤ
+signed_number [] = None
+signed_number (c ∷ rest) =
+    if c == 0x2D then option_map (λ number. neg_ℤ (pos number)) (number_up_to 2147483648 rest)
+    else option_map pos (number_up_to 2147483647 (c ∷ rest))
+
+-- ---- settings
+
+-- what a setting's line says, by its name
+abbrev pub setting_of : Text → Text → Option Setting
+setting_of name value =
+    if is_word name (codes "limit") then option_map limit_set (number_up_to 4294967295 value)
+    else (if is_word name (codes "encoding") then option_map encoding_set (named encodings value)
+    else (if is_word name (codes "canonical") then option_map canonical_set (named switches value)
+    else (if is_word name (codes "unicode") then option_map unicode_set (named switches value)
+    else (if is_word name (codes "indent") then option_map indent_set (signed_number value)
+    else (if is_word name (codes "width") then option_map width_set (signed_number value)
+    else (if is_word name (codes "break") then option_map break_set (named line_breaks value)
+    else (if is_word name (codes "breaks12") then option_map breaks12_set (named switches value) else None)))))))
+
+-- the name of a setting
+abbrev pub setting_name : Setting → Text
+setting_name (limit_set _) = codes "limit"
+setting_name (encoding_set _) = codes "encoding"
+setting_name (canonical_set _) = codes "canonical"
+setting_name (unicode_set _) = codes "unicode"
+setting_name (indent_set _) = codes "indent"
+setting_name (width_set _) = codes "width"
+setting_name (break_set _) = codes "break"
+setting_name (breaks12_set _) = codes "breaks12"
+
+-- the settings where no line sets anything
+abbrev pub unset : Settings
+unset = record {
+    encoding = None;
+    canonical = false;
+    unicode = false;
+    indent = None;
+    width = None;
+    line_break = None;
+    breaks12 = false;
+    limit = 1000000000;
+}
+
+-- settings after one more line
+abbrev pub with_setting : Settings → Setting → Settings
+with_setting given (limit_set bytes) = record given { limit = bytes }
+with_setting given (encoding_set encoding) = record given { encoding = encoding }
+with_setting given (canonical_set on) = record given { canonical = on }
+with_setting given (unicode_set on) = record given { unicode = on }
+with_setting given (indent_set indent) = record given { indent = Some indent }
+with_setting given (width_set width) = record given { width = Some width }
+with_setting given (break_set line_break) = record given { line_break = line_break }
+with_setting given (breaks12_set on) = record given { breaks12 = on }
+
+-- what several lines set together
+abbrev pub settings_of : Settings → List Setting → Settings
+settings_of given [] = given
+settings_of given (setting ∷ rest) = settings_of (with_setting given setting) rest
+
+-- ---- events
+
+-- a text, or `-` for none
+abbrev pub text_or_none : Field → Option (Option Text)
+text_or_none (quoted value) = Some (Some value)
+text_or_none (bare word) = if is_word word (codes "-") then Some None else None
+
+-- `major.minor`
+abbrev pub version_of : List Text → Option Version
+version_of (major ∷ minor ∷ []) =
+    option_and_then (λ high. option_map (λ low. record { major = pos high; minor = pos low }) (number_up_to 2147483647 minor)) (number_up_to 2147483647 major)
+version_of _ = None
+
+-- a version, or `-` for none
+abbrev pub version_or_none : Text → Option (Option Version)
+version_or_none word = if is_word word (codes "-") then Some None else option_map (λ version. Some version) (version_of (cut_at 0x2E word))
+
+-- pairs of texts, each a handle and its prefix
+abbrev pub directives_of : List Field → Option (List TagDirective)
+directives_of [] = Some []
+directives_of (quoted handle ∷ quoted prefix ∷ rest) = option_map (λ others. record { handle = handle; prefix = prefix } ∷ others) (directives_of rest)
+directives_of _ = None
+
+-- `+STR`: an encoding
+abbrev pub stream_start_of : List Field → Option Event
+stream_start_of (bare encoding ∷ []) = option_map stream_start (named encodings encoding)
+stream_start_of _ = None
+
+-- a document's start, where each of its parts has a reading
+abbrev pub document_start_with : Option Bool → Option (Option Version) → Option (List TagDirective) → Option Event
+document_start_with (Some implicit) (Some version) (Some directives) = Some (document_start (record { version = version; directives = directives; implicit = implicit }))
+document_start_with _ _ _ = None
+
+-- `+DOC`: whether it is implicit, a version, directives
+abbrev pub document_start_of : List Field → Option Event
+document_start_of (bare implicit ∷ bare version ∷ directives) = document_start_with (named flags implicit) (version_or_none version) (directives_of directives)
+document_start_of _ = None
+
+-- `-DOC`: whether it is implicit
+abbrev pub document_end_of : List Field → Option Event
+document_end_of (bare implicit ∷ []) = option_map document_end (named flags implicit)
+document_end_of _ = None
+
+-- `=ALI`: a name
+abbrev pub alias_of : List Field → Option Event
+alias_of (quoted anchor ∷ []) = Some (alias anchor)
+alias_of _ = None
+
+-- a scalar, where each of its parts has a reading
+abbrev pub scalar_with : Option ScalarStyle → Option Bool → Option Bool → Option (Option Text) → Option (Option Text) → Text → Option Event
+scalar_with (Some style) (Some plain_implicit) (Some quoted_implicit) (Some anchor) (Some tag) value =
+    Some (scalar (record { anchor = anchor; tag = tag; value = value; plain_implicit = plain_implicit; quoted_implicit = quoted_implicit; style = style }))
+scalar_with _ _ _ _ _ value = None
+
+-- `=VAL`: a style, the plain and the quoted flag, an anchor, a tag, a value
+abbrev pub scalar_of : List Field → Option Event
+scalar_of (bare style ∷ bare plain_implicit ∷ bare quoted_implicit ∷ anchor ∷ tag ∷ quoted value ∷ []) =
+    scalar_with (named scalar_styles style) (named flags plain_implicit) (named flags quoted_implicit) (text_or_none anchor) (text_or_none tag) value
+scalar_of _ = None
+
+-- the start of a collection, where each of its parts has a reading
+abbrev pub collection_with : Option CollectionStyle → Option Bool → Option (Option Text) → Option (Option Text) → Option Collection
+collection_with (Some style) (Some implicit) (Some anchor) (Some tag) = Some (record { anchor = anchor; tag = tag; implicit = implicit; style = style })
+collection_with _ _ _ _ = None
+
+-- `+SEQ` and `+MAP`: a style, whether it is implicit, an anchor, a tag
+abbrev pub collection_of : List Field → Option Collection
+collection_of (bare style ∷ bare implicit ∷ anchor ∷ tag ∷ []) =
+    collection_with (named collection_styles style) (named flags implicit) (text_or_none anchor) (text_or_none tag)
+collection_of _ = None
+
+-- an event without any field
+abbrev pub alone : Event → List Field → Option Event
+alone event [] = Some event
+alone event _ = None
+
+-- the event that a name and its fields give
+abbrev pub event_of : Text → List Field → Option Event
+event_of name fields =
+    if is_word name (codes "+STR") then stream_start_of fields
+    else (if is_word name (codes "-STR") then alone stream_end fields
+    else (if is_word name (codes "+DOC") then document_start_of fields
+    else (if is_word name (codes "-DOC") then document_end_of fields
+    else (if is_word name (codes "=ALI") then alias_of fields
+    else (if is_word name (codes "=VAL") then scalar_of fields
+    else (if is_word name (codes "+SEQ") then option_map sequence_start (collection_of fields)
+    else (if is_word name (codes "-SEQ") then alone sequence_end fields
+    else (if is_word name (codes "+MAP") then option_map mapping_start (collection_of fields)
+    else (if is_word name (codes "-MAP") then alone mapping_end fields else None)))))))))
+
+-- ---- lines
+
+-- a name and one value set something
+abbrev pub setting_line : Text → List Field → Option Setting
+setting_line name (bare value ∷ []) = setting_of name value
+setting_line name _ = None
+
+-- what a line's fields say: the first is the name of a setting or of an event
+abbrev pub line_of : List Field → Option Line
+line_of (bare name ∷ fields) = option_or (option_map sets (setting_line name fields)) (option_map gives (event_of name fields))
+line_of _ = None
+
+-- what a line says: nothing where it is empty or, without a CR, a comment
+abbrev pub line_read : Text → Option Line
+line_read [] = Some says_nothing
+line_read (c ∷ rest) =
+    if c == number_sign then (if list_any (λ d. d == carriage_return) rest then None else Some says_nothing)
+    else option_and_then line_of (fields_read (c ∷ rest))
+
+-- what a line's bytes say: they have to be UTF-8
+abbrev pub line_understood : List ℕ → Option Line
+line_understood bytes = if is_utf8 bytes then line_read (chars bytes) else None
+
+-- ---- the whole
+
+-- what the lines so far set, and the events that they gave
+pub record Sofar : Type 0 where
+  pub settings : List Setting
+  pub events : List Numbered
+
+-- a setting may stand where no event stands before it and no line sets the same
+abbrev pub may_be_set : Setting → Sofar → Bool
+may_be_set setting before =
+    length before.events == 0 && not (list_any (λ other. is_word (setting_name setting) (setting_name other)) before.settings)
+
+-- with one more line of this number, unless it's a setting out of place
+abbrev pub with_line : ℕ → Sofar → Line → Option Sofar
+with_line number before says_nothing = Some before
+with_line number before (sets setting) =
+    if may_be_set setting before then Some (record before { settings = before.settings ++ setting ∷ [] }) else None
+with_line number before (gives event) =
+    Some (record before { events = before.events ++ record { line = number; event = event } ∷ [] })
+
+-- the script whose lines from this number on follow what others said
+abbrev pub script_from : ℕ → Sofar → List (List ℕ) → Script
+script_from number before [] = understood (settings_of unset before.settings) before.events
+script_from number before (line ∷ rest) =
+    elim (option_and_then (with_line number before) (line_understood line)) as (λ _. Script) [
+        None ↦ bad_line number
+        | Some after ↦ script_from (suc number) after rest
+    ]
+
+-- the lines are what stands between LFs, counted from 1; what follows a last LF is an empty line
+abbrev pub script_of : List ℕ → Script
+script_of bytes = script_from 1 (record { settings = []; events = [] }) (cut_at line_feed bytes)

@@ -1,0 +1,81 @@
+-- Scripts computed: each row a script, and what it says.
+use Rattle.std.specs.Prelude.{◌≡◌, pos, negsuc, true, false, None, Some, [], ◌∷◌, ◌++◌, codes, refl}
+use Rattle.std.specs.Char.{encode_utf8}
+use Rattle.std.specs.Str.{chars, is_utf8}
+use Rattle.yaml_base.specs.Settings.{utf16_little, utf16_big, both_break}
+use Rattle.yaml_base.specs.Event.{stream_start, stream_end, document_start, document_end, alias, scalar, sequence_start, sequence_end, mapping_start, mapping_end, any_style, folded, any_layout, flow}
+use Rattle.yaml_base.specs.Script.{script_of, bad_line, understood, unset}
+
+-- a canonical scalar, from its settings to the stream's end
+a_whole_script : script_of (codes "canonical on\nwidth -1\n+STR any\n+DOC 1 -\n=VAL any 1 1 - - \"a\"\n-DOC 1\n-STR\n")
+    ≡ understood (record unset { canonical = true; width = Some (negsuc 0) }) (
+        record { line = 3; event = stream_start None }
+        ∷ record { line = 4; event = document_start (record { version = None; directives = []; implicit = true }) }
+        ∷ record { line = 5; event = scalar (record { anchor = None; tag = None; value = codes "a"; plain_implicit = true; quoted_implicit = true; style = any_style }) }
+        ∷ record { line = 6; event = document_end true }
+        ∷ record { line = 7; event = stream_end } ∷ [])
+unfolding chars is_utf8 encode_utf8
+a_whole_script = refl
+
+-- every setting; comments and empty lines are skipped and counted, zeros in front change nothing
+every_setting : script_of (codes "limit 007\n# c \"x\nencoding utf16be\n\ncanonical on\nunicode on\nindent -007\nwidth 2147483647\nbreak crln\nbreaks12 on")
+    ≡ understood (record { encoding = Some utf16_big; canonical = true; unicode = true; indent = Some (negsuc 6); width = Some (pos 2147483647); line_break = Some both_break; breaks12 = true; limit = 7 }) []
+unfolding chars is_utf8 encode_utf8
+every_setting = refl
+
+-- every event, with texts of every kind of escape
+every_event : script_of (codes "+STR utf16le\n+DOC 0 1.02 \"!e!\" \"a b\" \"\" \"\\u{1f600}\"\n+MAP flow 0 - \"t\"\n=ALI \"\"\n=VAL folded 0 1 \"-\" - \"\\\\\\\"\\n #\"\n-MAP\n-DOC 0\n+SEQ any 1 \"a\" -\n-SEQ\n#\n-STR")
+    ≡ understood unset (
+        record { line = 1; event = stream_start (Some utf16_little) }
+        ∷ record { line = 2; event = document_start (record {
+            version = Some (record { major = pos 1; minor = pos 2 });
+            directives = record { handle = codes "!e!"; prefix = codes "a b" } ∷ record { handle = []; prefix = 0x1F600 ∷ [] } ∷ [];
+            implicit = false }) }
+        ∷ record { line = 3; event = mapping_start (record { anchor = None; tag = Some (codes "t"); implicit = false; style = flow }) }
+        ∷ record { line = 4; event = alias [] }
+        ∷ record { line = 5; event = scalar (record { anchor = Some (codes "-"); tag = None; value = codes "\\\"\n #"; plain_implicit = false; quoted_implicit = true; style = folded }) }
+        ∷ record { line = 6; event = mapping_end }
+        ∷ record { line = 7; event = document_end false }
+        ∷ record { line = 8; event = sequence_start (record { anchor = Some (codes "a"); tag = None; implicit = true; style = any_layout }) }
+        ∷ record { line = 9; event = sequence_end }
+        ∷ record { line = 11; event = stream_end } ∷ [])
+unfolding chars is_utf8 encode_utf8
+every_event = refl
+
+-- no bytes, and lines without any meaning
+nothing_said : (script_of [] ≡ understood unset []) × (script_of (codes "\n#\n\n") ≡ understood unset [])
+unfolding chars is_utf8 encode_utf8
+nothing_said = (refl, refl)
+
+-- characters stand for themselves in a text: the two bytes of U+00E9, a tab, a CR
+raw_characters : script_of (codes "=ALI \"" ++ 0xC3 ∷ 0xA9 ∷ 9 ∷ 13 ∷ codes "\"")
+    ≡ understood unset (record { line = 1; event = alias (0xE9 ∷ 9 ∷ 13 ∷ []) } ∷ [])
+unfolding chars is_utf8 encode_utf8
+raw_characters = refl
+
+-- scripts of one bad line
+bad_alone : (script_of (codes "+FOO") ≡ bad_line 1)
+    × (script_of (codes "+STR utf9") ≡ bad_line 1)
+    × (script_of (codes "=VAL any 1 1 - - \"a") ≡ bad_line 1)
+    × (script_of (codes "=VAL any 1 1 - - \"\\u{D800}\"") ≡ bad_line 1)
+    × (script_of (codes "+DOC 1 - \"!e!\"") ≡ bad_line 1)
+    × (script_of (codes "-STR ") ≡ bad_line 1)
+    × (script_of (codes "indent 2147483648") ≡ bad_line 1)
+    × (script_of (codes "limit 4294967296") ≡ bad_line 1)
+    × (script_of (codes "limit -0") ≡ bad_line 1)
+    × (script_of (codes "# c\r") ≡ bad_line 1)
+    × (script_of (codes "=ALI -") ≡ bad_line 1)
+    × (script_of (codes "=ALI \"a\"x") ≡ bad_line 1)
+    × (script_of (codes "=ALI \"\\u{0000041}\"") ≡ bad_line 1)
+    × (script_of (codes "+STR  any") ≡ bad_line 1)
+    × (script_of (0xFF ∷ []) ≡ bad_line 1)
+    × (script_of (0xEF ∷ 0xBB ∷ 0xBF ∷ codes "-STR") ≡ bad_line 1)
+unfolding chars is_utf8 encode_utf8
+bad_alone = (refl, refl, refl, refl, refl, refl, refl, refl, refl, refl, refl, refl, refl, refl, refl, refl)
+
+-- the number of the first bad line
+bad_later : (script_of (codes "# c\n\nwidth 5\nwidth 5\n") ≡ bad_line 4)
+    × (script_of (codes "+STR any\ncanonical on\n") ≡ bad_line 2)
+    × (script_of (codes "-STR\n \n+FOO\n") ≡ bad_line 2)
+unfolding chars is_utf8 encode_utf8
+bad_later = (refl, refl, refl)
