@@ -10,3 +10,4 @@ pub mod RowsPlain
 pub mod RowsOfScripts
 pub mod Lines
 pub mod LineBreaksRead
+pub mod BreakLaws

@@ -1,6 +1,6 @@
 -- How a finished text's line breaks are written, and how those of any text are read (YAML 1.1, section 5.4).
 use Rattle.std.specs.Prelude.{ℕ, Bool, true, false, List, [], ◌∷◌, ◌++◌, ◌==◌, ◌||◌, ◌&&◌, not, if◌then◌else◌}
-use Rattle.yaml_base.specs.Characters.{Text, line_feed, carriage_return, next_line, line_separator, paragraph_separator}
+use Rattle.yaml_base.specs.Characters.{Text, line_feed, carriage_return, next_line, is_break, line_separator, paragraph_separator, space}
 use Rattle.yaml_base.specs.Settings.{LineBreak, carriage_return_break, line_feed_break, both_break}
 
 abbrev pub break_text : LineBreak → Text
@@ -33,3 +33,19 @@ with_line_breaks_read text = line_breaks_read_after false text
 abbrev pub is_read_break : Bool → ℕ → Bool
 is_read_break breaks12 c =
     c == line_feed || (not breaks12 && (c == line_separator || c == paragraph_separator))
+
+-- a text without CR and U+0085, whose LF are all its breaks of the setting
+abbrev pub is_laid_text : Text → Bool
+is_laid_text [] = true
+is_laid_text (c ∷ rest) = not (c == carriage_return || c == next_line) && is_laid_text rest
+
+-- a line that is empty or begins with at least two spaces
+abbrev pub begins_indented : Text → Bool
+begins_indented [] = true
+begins_indented (a ∷ []) = is_break a
+begins_indented (a ∷ b ∷ rest) = is_break a || (a == space && b == space)
+
+-- each nonempty line after the first begins with at least two spaces; a line ends at any break
+abbrev pub is_indented_text : Text → Bool
+is_indented_text [] = true
+is_indented_text (c ∷ rest) = (not (is_break c) || begins_indented rest) && is_indented_text rest
