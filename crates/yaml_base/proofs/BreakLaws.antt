@@ -90,8 +90,8 @@ kept-begins : (setting : LineBreak) (a : ℕ) (rest : Text) → begins_indented 
 kept-begins setting a [] h = h
 kept-begins setting a (d ∷ rest) h =
     elim (or_cases _ _ h) [
-        inl is ↦ break-begins a (with_breaks_written setting (d ∷ rest)) is
-        | inr are ↦ spaces-begin setting a d rest are
+      | inl is ↦ break-begins a (with_breaks_written setting (d ∷ rest)) is
+      | inr are ↦ spaces-begin setting a d rest are
     ]
 
 -- a line begins as before, or with a break
@@ -125,8 +125,8 @@ character-written setting c rest true is h ih =
 character-written setting c rest false is h ih =
     let w = with_breaks_written setting rest in
     elim (or_cases (not (is_break c)) (begins_indented rest) h) [
-        inl other ↦ and_from (not (is_break c) || begins_indented w) _ (or_left (not (is_break c)) _ other) ih
-        | inr k ↦ and_from (not (is_break c) || begins_indented w) _ (or_right (not (is_break c)) _ (begins-written setting rest k)) ih
+      | inl other ↦ and_from (not (is_break c) || begins_indented w) _ (or_left (not (is_break c)) _ other) ih
+      | inr k ↦ and_from (not (is_break c) || begins_indented w) _ (or_right (not (is_break c)) _ (begins-written setting rest k)) ih
     ]
 
 -- an indented text stays so, however its line breaks are written

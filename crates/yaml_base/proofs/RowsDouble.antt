@@ -227,7 +227,7 @@ first-space = refl
 lead : (double_quoted_laid false None 2 (codes "a") (record first_cursor { whitespace = false })).text ≡ codes " \"a\""
 lead = refl
 
-many : written false (codes "\0\x07\"\\" ++ (0x85 ∷ 0x7F ∷ [])) ≡ codes "\"\\0\\a\\\"\\\\\\N\\x7F\""
+many : written false (codes "\0\u{7}\"\\" ++ (0x85 ∷ 0x7F ∷ [])) ≡ codes "\"\\0\\a\\\"\\\\\\N\\x7F\""
 many = refl
 
 -- what is read that isn't written

@@ -80,8 +80,8 @@ abbrev pub double_inside :
 double_inside unicode limit indent before [] cursor = nothing_laid cursor
 double_inside unicode limit indent before (c ∷ rest) cursor =
     then_laid
-        (double_character unicode limit indent before c rest cursor)
-        (double_inside unicode limit indent (Some c) rest)
+    (double_character unicode limit indent before c rest cursor)
+    (double_inside unicode limit indent (Some c) rest)
 
 -- a quote, from which the cursor's flags are off
 abbrev pub quote_laid : Cursor → Laid
@@ -91,8 +91,8 @@ quote_laid cursor = indicator (quote ∷ []) false false false cursor
 abbrev pub double_quoted_body : (unicode : Bool) → (limit : Option ℕ) → (indent : ℕ) → (value : Text) → Cursor → Laid
 double_quoted_body unicode limit indent value cursor =
     then_laid
-        (then_laid (quote_laid cursor) (double_inside unicode limit indent None value))
-        quote_laid
+    (then_laid (quote_laid cursor) (double_inside unicode limit indent None value))
+    quote_laid
 
 -- a space before it, where none stands there
 abbrev pub double_quoted_laid : (unicode : Bool) → (limit : Option ℕ) → (indent : ℕ) → (value : Text) → Cursor → Laid

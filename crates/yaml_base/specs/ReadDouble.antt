@@ -27,9 +27,9 @@ meaning_among _ _ c = None
 abbrev pub letter_meaning : ℕ → Option ℕ
 letter_meaning c =
     meaning_among
-        (codes "0abtnvfre\"\\N_LP ")
-        (0 ∷ 7 ∷ 8 ∷ 9 ∷ 0xA ∷ 0xB ∷ 0xC ∷ 0xD ∷ 0x1B ∷ 0x22 ∷ 0x5C ∷ 0x85 ∷ 0xA0 ∷ 0x2028 ∷ 0x2029 ∷ 0x20 ∷ [])
-        c
+    (codes "0abtnvfre\"\\N_LP ")
+    (0 ∷ 7 ∷ 8 ∷ 9 ∷ 0xA ∷ 0xB ∷ 0xC ∷ 0xD ∷ 0x1B ∷ 0x22 ∷ 0x5C ∷ 0x85 ∷ 0xA0 ∷ 0x2028 ∷ 0x2029 ∷ 0x20 ∷ [])
+    c
 
 -- how many digits follow the first one after `x`, `u`, `U`
 abbrev pub digits_after_first : ℕ → Option ℕ
