@@ -9,5 +9,4 @@ pub mod RowsPlain
 
 pub mod RowsOfScripts
 pub mod Lines
-pub mod LineBreaksRead
 pub mod BreakLaws
