@@ -10,3 +10,5 @@ pub mod RowsPlain
 pub mod RowsOfScripts
 pub mod Lines
 pub mod BreakLaws
+pub mod PercentLaws
+pub mod TagLaws

@@ -102,7 +102,7 @@ abbrev pub directive_fault : TagDirective → Option ℕ
 directive_fault directive = option_or (handle_fault directive.handle) (prefix_fault directive.prefix)
 
 abbrev pub gives_handle : Text → List TagDirective → Bool
-gives_handle handle directives = list_any (λ directive. bytes_eq handle directive.handle) directives
+gives_handle handle directives = list_any (λ directive. bytes_eq directive.handle handle) directives
 
 -- the refusal of a directive after those before it: each handle is given once
 abbrev pub next_directive_fault : List TagDirective → TagDirective → Option ℕ
