@@ -1,3 +1,6 @@
+pub mod RowsPieces
+pub mod RowEvents
+pub mod RowsLayout
 pub mod RowsGrammar
 pub mod RowsReadFolding
 pub mod RowsAnalysis

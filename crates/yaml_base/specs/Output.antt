@@ -1,1 +1,32 @@
--- The bytes of an accepted list.
+-- What an accepted list comes to under its caller's settings: text and bytes.
+use Rattle.std.specs.Prelude.{ℕ, Option, None, Some, List, [], ◌∷◌}
+use Rattle.yaml_base.specs.Characters.{Text}
+use Rattle.yaml_base.specs.Settings.{Encoding, Settings, Effective, effective}
+use Rattle.yaml_base.specs.LineBreaks.{with_breaks_written}
+use Rattle.yaml_base.specs.Encoding.{encode, cut}
+use Rattle.yaml_base.specs.Event.{Event, stream_start}
+use Rattle.yaml_base.specs.Layout.{Piece, text_of}
+use Rattle.yaml_base.specs.Pieces.{list_layout}
+
+-- the encoding that a list's stream start asks for
+abbrev pub encoding_asked : List Event → Option Encoding
+encoding_asked (stream_start encoding ∷ rest) = encoding
+encoding_asked _ = None
+
+-- the settings that a list is written by
+abbrev pub settings_for : Settings → List Event → Effective
+settings_for given events = effective given (encoding_asked events)
+
+-- the text of some pieces, with its line breaks as the settings say
+abbrev pub text_written : Effective → List Piece → Text
+text_written s pieces = with_breaks_written s.line_break (text_of pieces)
+
+-- the bytes of some pieces, before any limit
+abbrev pub bytes_written : Effective → List Piece → List ℕ
+bytes_written s pieces = encode (Some s.encoding) (text_written s pieces)
+
+-- the output of an accepted list
+abbrev pub output_of : Settings → List Event → List ℕ
+output_of given events =
+    let s = settings_for given events in
+    cut s.limit (bytes_written s (list_layout s events))

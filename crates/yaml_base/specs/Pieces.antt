@@ -1,1 +1,68 @@
--- The completion of a list of events, and its first pieces.
+-- The text of a list of events that is no whole stream yet: the shortest way to end it, and the pieces that stand before
+-- its end is known.
+use Rattle.std.specs.Prelude.{ℕ, Bool, true, false, Option, None, Some, List, [], ◌∷◌, ◌++◌, take, unwrap_or, option_map, flat_map}
+use Rattle.yaml_base.specs.Characters.{Text}
+use Rattle.yaml_base.specs.Settings.{Effective}
+use Rattle.yaml_base.specs.Event.{any_style, Scalar, Event, stream_start, stream_end, document_end, scalar, sequence_end, mapping_end}
+use Rattle.yaml_base.specs.Grammar.{no_nodes, nodes_and, no_pairs, pairs_and, Level, at_item, at_key, at_value, Partial, before_stream, between_documents, within_document, after_root, after_stream, partial_of, tree_of}
+use Rattle.yaml_base.specs.Layout.{Piece, text_of, layout}
+
+-- an empty scalar without anchor and tag, both flags on
+abbrev pub empty_scalar : Event
+empty_scalar =
+    scalar (record {
+        anchor = None;
+        tag = None;
+        value = [];
+        plain_implicit = true;
+        quoted_implicit = true;
+        style = any_style;
+    })
+
+-- the innermost open collection lacks the value of its last key, one entry where it has just begun, and its end
+abbrev pub innermost_missing : Level → List Event
+innermost_missing (at_item start no_nodes) = empty_scalar ∷ sequence_end ∷ []
+innermost_missing (at_item start (nodes_and items item)) = sequence_end ∷ []
+innermost_missing (at_key start no_pairs) = empty_scalar ∷ empty_scalar ∷ mapping_end ∷ []
+innermost_missing (at_key start (pairs_and pairs key value)) = mapping_end ∷ []
+innermost_missing (at_value start pairs key) = empty_scalar ∷ mapping_end ∷ []
+
+-- one around it has that one as its last item, key or value
+abbrev pub outer_missing : Level → List Event
+outer_missing (at_item start items) = sequence_end ∷ []
+outer_missing (at_key start pairs) = empty_scalar ∷ mapping_end ∷ []
+outer_missing (at_value start pairs key) = mapping_end ∷ []
+
+-- a document lacks its root, or what its open collections lack
+abbrev pub levels_missing : List Level → List Event
+levels_missing [] = empty_scalar ∷ []
+levels_missing (innermost ∷ outer) = innermost_missing innermost ++ flat_map outer_missing outer
+
+-- the events that end a list, all of them implicit
+abbrev pub missing : Partial → List Event
+missing before_stream = stream_start None ∷ stream_end ∷ []
+missing (between_documents encoding before) = stream_end ∷ []
+missing (within_document encoding before start levels) =
+    levels_missing levels ++ (document_end true ∷ stream_end ∷ [])
+missing (after_root encoding before start root) = document_end true ∷ stream_end ∷ []
+missing (after_stream stream) = []
+
+abbrev pub missing_after : Option Partial → List Event
+missing_after None = []
+missing_after (Some partial) = missing partial
+
+-- a list that begins a stream, and the events that end it
+abbrev pub completion : List Event → List Event
+completion events = events ++ missing_after (partial_of events)
+
+-- the pieces of a whole list; a list that is no stream has none
+abbrev pub list_layout : Effective → List Event → List Piece
+list_layout s events = unwrap_or (option_map (layout s) (tree_of events)) []
+
+-- the first so many pieces of the completion of the first so many events
+abbrev pub pieces : Effective → List Event → ℕ → List Piece
+pieces s events k = take k (list_layout s (completion (take k events)))
+
+-- their text
+abbrev pub text_after : Effective → List Event → ℕ → Text
+text_after s events k = text_of (pieces s events k)
