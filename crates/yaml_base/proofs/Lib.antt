@@ -9,9 +9,8 @@ pub mod RowsEncoding
 pub mod RowsBlock
 pub mod RowsDouble
 pub mod RowsPlain
-
-pub mod RowsOfScripts
-pub mod Lines
 pub mod BreakLaws
 pub mod PercentLaws
 pub mod TagLaws
+pub mod RowsScript
+pub mod RowsMeetings

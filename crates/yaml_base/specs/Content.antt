@@ -1,1 +1,64 @@
--- What canonical bytes keep of a list of events.
+-- What canonical bytes keep of a list of events: versions, directives, and the trees of kinds, anchors, tags, values and
+-- aliases (the serialization tree of YAML 1.1, section 3.2.2). Styles, other flags and document marks are dropped.
+use Rattle.std.specs.Prelude.{Bool, Option, None, Some, List, [], ◌∷◌, ◌++◌, option_map}
+use Rattle.yaml_base.specs.Characters.{Text}
+use Rattle.yaml_base.specs.Event.{Version, TagDirective, Event}
+use Rattle.yaml_base.specs.Grammar.{Node, alias_node, scalar_node, sequence_node, mapping_node, Nodes, no_nodes, nodes_and, Pairs, no_pairs, pairs_and, Document, Documents, no_documents, documents_and, tree_of}
+
+-- a scalar has a tag; else it counts whether it may go without one where it isn't plain
+pub data ScalarTag : Type 0 where
+  tagged : Text → ScalarTag
+  untagged : (quoted_implicit : Bool) → ScalarTag
+
+-- a node's content, with its anchor and tag; lists grow at their end
+mutual
+  pub data Content : Type 0 where
+    alias_content : Text → Content
+    scalar_content : Option Text → ScalarTag → Text → Content
+    sequence_content : Option Text → Option Text → Contents → Content
+    mapping_content : Option Text → Option Text → ContentPairs → Content
+
+  pub data Contents : Type 0 where
+    no_contents : Contents
+    contents_and : Contents → Content → Contents
+
+  pub data ContentPairs : Type 0 where
+    no_content_pairs : ContentPairs
+    content_pairs_and : ContentPairs → Content → Content → ContentPairs
+
+pub record DocumentContent : Type 0 where
+  pub version : Option Version
+  pub directives : List TagDirective
+  pub root : Content
+
+abbrev pub scalar_tag : Option Text → Bool → ScalarTag
+scalar_tag (Some tag) quoted_implicit = tagged tag
+scalar_tag None quoted_implicit = untagged quoted_implicit
+
+-- the content of a tree
+abbrev mutual
+  pub node_content : Node → Content
+  node_content (alias_node name) = alias_content name
+  node_content (scalar_node content) = scalar_content content.anchor (scalar_tag content.tag content.quoted_implicit) content.value
+  node_content (sequence_node start items) = sequence_content start.anchor start.tag (nodes_content items)
+  node_content (mapping_node start pairs) = mapping_content start.anchor start.tag (pairs_content pairs)
+
+  pub nodes_content : Nodes → Contents
+  nodes_content no_nodes = no_contents
+  nodes_content (nodes_and items item) = contents_and (nodes_content items) (node_content item)
+
+  pub pairs_content : Pairs → ContentPairs
+  pairs_content no_pairs = no_content_pairs
+  pairs_content (pairs_and pairs key value) = content_pairs_and (pairs_content pairs) (node_content key) (node_content value)
+
+abbrev pub document_content : Document → DocumentContent
+document_content document =
+    record { version = document.start.version; directives = document.start.directives; root = node_content document.root }
+
+abbrev pub documents_content : Documents → List DocumentContent
+documents_content no_documents = []
+documents_content (documents_and documents document) = documents_content documents ++ document_content document ∷ []
+
+-- the content of a whole list of events
+abbrev pub content_of : List Event → Option (List DocumentContent)
+content_of events = option_map (λ stream. documents_content stream.documents) (tree_of events)

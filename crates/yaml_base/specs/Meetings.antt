@@ -1,1 +1,153 @@
--- The walk over a document's nodes, and its events.
+-- A document as a graph of numbered nodes, the walk over it, and its events (libyaml's dumper; here a shared node gets
+-- its anchor however deep it lies).
+use Rattle.std.specs.Prelude.{ℕ, zero, suc, Bool, true, false, Option, None, Some, List, [], ◌∷◌, ◌++◌, ◌==◌, ◌+◌, ◌-◌, not, length, replicate, filter, filter_map, flat_map, fold, position, decimal, codes, bytes_eq, slice_get, option_map, unwrap_or, if◌then◌else◌}
+use Rattle.std.specs.List.{list_any}
+use Rattle.yaml_base.specs.Characters.{Text}
+use Rattle.yaml_base.specs.Event.{Event, DocumentStart, ScalarStyle, CollectionStyle, document_start, document_end, alias, scalar, sequence_start, sequence_end, mapping_start, mapping_end}
+
+-- ---- documents of nodes
+
+pub record NumberPair : Type 0 where
+  pub key : ℕ
+  pub value : ℕ
+
+-- what a node holds: a value, or the numbers of other nodes
+pub data Held : Type 0 where
+  scalar_held : Text → ScalarStyle → Held
+  sequence_held : List ℕ → CollectionStyle → Held
+  mapping_held : List NumberPair → CollectionStyle → Held
+
+pub record GraphNode : Type 0 where
+  pub tag : Text
+  pub held : Held
+
+-- a document: its nodes are numbered from 1
+pub record Graph : Type 0 where
+  pub start : DocumentStart
+  pub nodes : List GraphNode
+  pub end_implicit : Bool
+
+-- the node of a number
+abbrev pub node_numbered : Graph → ℕ → Option GraphNode
+node_numbered graph zero = None
+node_numbered graph (suc before) = slice_get graph.nodes before
+
+-- the numbers that a node holds, in order, keys before values
+abbrev pub numbers_held : Held → List ℕ
+numbers_held (scalar_held value style) = []
+numbers_held (sequence_held items style) = items
+numbers_held (mapping_held pairs style) = flat_map (λ pair. pair.key ∷ pair.value ∷ []) pairs
+
+abbrev pub numbers_in : Option GraphNode → List ℕ
+numbers_in None = []
+numbers_in (Some node) = numbers_held node.held
+
+-- the children of the node of a number
+abbrev pub children : Graph → ℕ → List ℕ
+children graph number = numbers_in (node_numbered graph number)
+
+-- ---- the walk
+
+-- the walk enters a node where it first meets it, and leaves it behind its children; elsewhere it meets it again
+pub data Step : Type 0 where
+  enters : ℕ → Step
+  leaves : ℕ → Step
+  meets_again : ℕ → Step
+
+abbrev pub is_entry_of : ℕ → Step → Bool
+is_entry_of number (enters other) = number == other
+is_entry_of number _ = false
+
+-- steps, and then those of the walk from a node on, at most so many nodes deep
+abbrev pub steps_from : ℕ → Graph → List Step → ℕ → List Step
+steps_from zero graph before number = before
+steps_from (suc depth) graph before number =
+    elim (list_any (is_entry_of number) before) as (λ _. List Step) [
+        true ↦ before ++ meets_again number ∷ []
+        | false ↦ fold (steps_from depth graph) (before ++ enters number ∷ []) (children graph number) ++ leaves number ∷ []
+    ]
+
+-- the depth-first walk from node 1: no more nodes can be entered inside each other than there are
+abbrev pub steps : Graph → List Step
+steps graph = steps_from (suc (length graph.nodes)) graph [] 1
+
+-- the node that a step meets
+abbrev pub node_met : Step → Option ℕ
+node_met (enters number) = Some number
+node_met (leaves number) = None
+node_met (meets_again number) = Some number
+
+-- the nodes in the order of the walk's meetings
+abbrev pub meetings : Graph → List ℕ
+meetings graph = filter_map node_met (steps graph)
+
+-- ---- anchors
+
+abbrev pub node_met_again : Step → Option ℕ
+node_met_again (meets_again number) = Some number
+node_met_again _ = None
+
+-- each number of a list where it first stands
+abbrev pub first_of_each : List ℕ → List ℕ
+first_of_each [] = []
+first_of_each (number ∷ rest) = number ∷ filter (λ other. not (other == number)) (first_of_each rest)
+
+-- the nodes that are met twice or more, in the order of their second meetings
+abbrev pub shared_nodes : List Step → List ℕ
+shared_nodes walk = first_of_each (filter_map node_met_again walk)
+
+-- `id` and a number of at least three digits
+abbrev pub numbered_name : ℕ → Text
+numbered_name number = codes "id" ++ replicate (3 - length (decimal number)) 0x30 ++ decimal number
+
+-- the anchor of a node: shared nodes are numbered from 1
+abbrev pub anchor_of : List Step → ℕ → Option Text
+anchor_of walk number = option_map (λ place. numbered_name (place + 1)) (position (λ other. other == number) (shared_nodes walk))
+
+-- ---- events
+
+abbrev pub string_tag : Text
+string_tag = codes "tag:yaml.org,2002:str"
+
+abbrev pub sequence_tag : Text
+sequence_tag = codes "tag:yaml.org,2002:seq"
+
+abbrev pub mapping_tag : Text
+mapping_tag = codes "tag:yaml.org,2002:map"
+
+-- the event that begins a node; its flags are on exactly where it has the tag of its kind
+abbrev pub beginning_of : Option Text → Text → Held → Event
+beginning_of anchor tag (scalar_held value style) =
+    let implicit = bytes_eq tag string_tag in
+    scalar (record { anchor = anchor; tag = Some tag; value = value; plain_implicit = implicit; quoted_implicit = implicit; style = style })
+beginning_of anchor tag (sequence_held items style) =
+    sequence_start (record { anchor = anchor; tag = Some tag; implicit = bytes_eq tag sequence_tag; style = style })
+beginning_of anchor tag (mapping_held pairs style) =
+    mapping_start (record { anchor = anchor; tag = Some tag; implicit = bytes_eq tag mapping_tag; style = style })
+
+abbrev pub beginning_events : Option Text → Option GraphNode → List Event
+beginning_events anchor None = []
+beginning_events anchor (Some node) = beginning_of anchor node.tag node.held ∷ []
+
+-- the event that ends a node, where it has one
+abbrev pub ending_of : Held → List Event
+ending_of (scalar_held value style) = []
+ending_of (sequence_held items style) = sequence_end ∷ []
+ending_of (mapping_held pairs style) = mapping_end ∷ []
+
+abbrev pub ending_events : Option GraphNode → List Event
+ending_events None = []
+ending_events (Some node) = ending_of node.held
+
+-- the events of a step of a walk
+abbrev pub step_events : Graph → List Step → Step → List Event
+step_events graph walk (enters number) = beginning_events (anchor_of walk number) (node_numbered graph number)
+step_events graph walk (leaves number) = ending_events (node_numbered graph number)
+step_events graph walk (meets_again number) = alias (unwrap_or (anchor_of walk number) []) ∷ []
+
+-- the events of a document; a document without nodes has none
+abbrev pub document_event_list : Graph → List Event
+document_event_list graph =
+    let walk = steps graph in
+    if length graph.nodes == 0 then []
+    else document_start graph.start ∷ (flat_map (step_events graph walk) walk ++ document_end graph.end_implicit ∷ [])

@@ -3,7 +3,7 @@
 --     script_of bytes      the settings and the numbered events of a script, or the number of its first bad line
 use Rattle.std.specs.Prelude.{ℕ, suc, ℤ, pos, neg_ℤ, Bool, true, false, Option, None, Some, List, [], ◌∷◌, ◌++◌, ◌==◌, ◌||◌, ◌&&◌, not, nat_le, length, codes, chars, bytes_eq, option_map, option_and_then, if◌then◌else◌}
 use Rattle.std.specs.Option.{option_or}
-use Rattle.std.specs.List.{list_any, list_all, onto_first}
+use Rattle.std.specs.List.{list_any, list_all, onto_first, slice_split}
 use Rattle.std.specs.Char.{is_digit}
 use Rattle.std.specs.Str.{is_utf8, all_scalars}
 use Rattle.std.specs.Str.Parse.{digits_value}
@@ -54,16 +54,6 @@ backslash = 0x5C
 -- a text is this word
 abbrev pub is_word : Text → Text → Bool
 is_word text word = bytes_eq text word
-
--- a character that separates ends a piece; any other stands first in the piece that follows
-abbrev pub cut_before : Bool → ℕ → List Text → List Text
-cut_before true c pieces = [] ∷ pieces
-cut_before false c pieces = onto_first c pieces
-
--- a text cut at each of a character
-abbrev pub cut_at : ℕ → Text → List Text
-cut_at at [] = [] ∷ []
-cut_at at (c ∷ rest) = cut_before (c == at) c (cut_at at rest)
 
 -- ---- texts between quotation marks
 
@@ -134,6 +124,11 @@ abbrev pub separates : Standing → ℕ → Bool
 separates outside c = c == space
 separates inside c = false
 separates escaped c = false
+
+-- a character that separates ends a piece; any other stands first in the piece that follows
+abbrev pub cut_before : Bool → ℕ → List Text → List Text
+cut_before true c pieces = [] ∷ pieces
+cut_before false c pieces = onto_first c pieces
 
 -- a line cut at each separator
 abbrev pub cut_from : Standing → Text → List Text
@@ -269,7 +264,7 @@ version_of _ = None
 
 -- a version, or `-` for none
 abbrev pub version_or_none : Text → Option (Option Version)
-version_or_none word = if is_word word (codes "-") then Some None else option_map (λ version. Some version) (version_of (cut_at 0x2E word))
+version_or_none word = if is_word word (codes "-") then Some None else option_map (λ version. Some version) (version_of (slice_split (λ c. c == 0x2E) word))
 
 -- pairs of texts, each a handle and its prefix
 abbrev pub directives_of : List Field → Option (List TagDirective)
@@ -398,4 +393,4 @@ script_from number before (line ∷ rest) =
 
 -- the lines are what stands between LFs, counted from 1; what follows a last LF is an empty line
 abbrev pub script_of : List ℕ → Script
-script_of bytes = script_from 1 (record { settings = []; events = [] }) (cut_at line_feed bytes)
+script_of bytes = script_from 1 (record { settings = []; events = [] }) (slice_split (λ byte. byte == line_feed) bytes)

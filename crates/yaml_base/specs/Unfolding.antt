@@ -1,1 +1,180 @@
--- What it means that a tree of events unfolds a graph of nodes.
+-- What it means that a tree unfolds a document's graph (YAML 1.1, section 3.2.2, from the graph's side: each alias stands
+-- for the node that carries its anchor).
+use Rattle.std.specs.Prelude.{◌≡◌, ℕ, Bool, true, false, Option, None, Some, List, [], ◌∷◌, ◌++◌, ◌==◌, Contains, count_by, bytes_eq, option_map, ⊤, if◌then◌else◌}
+use Rattle.yaml_base.specs.Characters.{Text}
+use Rattle.yaml_base.specs.Event.{ScalarStyle, CollectionStyle}
+use Rattle.yaml_base.specs.Grammar.{Node, alias_node, scalar_node, sequence_node, mapping_node, Nodes, no_nodes, nodes_and, Pairs, no_pairs, pairs_and}
+use Rattle.yaml_base.specs.Content.{ScalarTag, tagged, untagged, Content, alias_content, scalar_content, sequence_content, mapping_content, Contents, no_contents, contents_and, ContentPairs, no_content_pairs, content_pairs_and}
+use Rattle.yaml_base.specs.Meetings.{Held, scalar_held, sequence_held, mapping_held, GraphNode, Graph, node_numbered, children}
+
+-- ---- what trees of events and contents have in common
+
+-- a kind, with a style where styles are told
+pub data Kind : Type 0 where
+  scalar_kind : Text → Option ScalarStyle → Kind
+  sequence_kind : Option CollectionStyle → Kind
+  mapping_kind : Option CollectionStyle → Kind
+
+pub record Label : Type 0 where
+  pub tag : Option Text
+  pub kind : Kind
+
+-- an alias, or a node with its anchor, its label and its children in order; in a mapping a key stands before its value
+mutual
+  pub data Shape : Type 0 where
+    alias_shape : Text → Shape
+    node_shape : Option Text → Label → Shapes → Shape
+
+  pub data Shapes : Type 0 where
+    no_shapes : Shapes
+    shapes_and : Shapes → Shape → Shapes
+
+-- the shape of a tree of events, styles told
+abbrev mutual
+  pub node_shape_of : Node → Shape
+  node_shape_of (alias_node name) = alias_shape name
+  node_shape_of (scalar_node content) =
+      node_shape content.anchor (record { tag = content.tag; kind = scalar_kind content.value (Some content.style) }) no_shapes
+  node_shape_of (sequence_node start items) =
+      node_shape start.anchor (record { tag = start.tag; kind = sequence_kind (Some start.style) }) (nodes_shapes items)
+  node_shape_of (mapping_node start pairs) =
+      node_shape start.anchor (record { tag = start.tag; kind = mapping_kind (Some start.style) }) (pairs_shapes pairs)
+
+  pub nodes_shapes : Nodes → Shapes
+  nodes_shapes no_nodes = no_shapes
+  nodes_shapes (nodes_and items item) = shapes_and (nodes_shapes items) (node_shape_of item)
+
+  pub pairs_shapes : Pairs → Shapes
+  pairs_shapes no_pairs = no_shapes
+  pairs_shapes (pairs_and pairs key value) = shapes_and (shapes_and (pairs_shapes pairs) (node_shape_of key)) (node_shape_of value)
+
+abbrev pub tag_told : ScalarTag → Option Text
+tag_told (tagged tag) = Some tag
+tag_told (untagged quoted_implicit) = None
+
+-- the shape of a content, without styles
+abbrev mutual
+  pub content_shape : Content → Shape
+  content_shape (alias_content name) = alias_shape name
+  content_shape (scalar_content anchor tag value) =
+      node_shape anchor (record { tag = tag_told tag; kind = scalar_kind value None }) no_shapes
+  content_shape (sequence_content anchor tag items) =
+      node_shape anchor (record { tag = tag; kind = sequence_kind None }) (contents_shapes items)
+  content_shape (mapping_content anchor tag pairs) =
+      node_shape anchor (record { tag = tag; kind = mapping_kind None }) (content_pairs_shapes pairs)
+
+  pub contents_shapes : Contents → Shapes
+  contents_shapes no_contents = no_shapes
+  contents_shapes (contents_and items item) = shapes_and (contents_shapes items) (content_shape item)
+
+  pub content_pairs_shapes : ContentPairs → Shapes
+  content_pairs_shapes no_content_pairs = no_shapes
+  content_pairs_shapes (content_pairs_and pairs key value) =
+      shapes_and (shapes_and (content_pairs_shapes pairs) (content_shape key)) (content_shape value)
+
+-- ---- a node's number at each place of a tree
+
+mutual
+  pub data Placed : Type 0 where
+    alias_placed : Text → ℕ → Placed
+    node_placed : Option Text → ℕ → PlacedAll → Placed
+
+  pub data PlacedAll : Type 0 where
+    none_placed : PlacedAll
+    placed_and : PlacedAll → Placed → PlacedAll
+
+abbrev pub number_at : Placed → ℕ
+number_at (alias_placed name number) = number
+number_at (node_placed anchor number below) = number
+
+abbrev pub numbers_at : PlacedAll → List ℕ
+numbers_at none_placed = []
+numbers_at (placed_and before last) = numbers_at before ++ number_at last ∷ []
+
+-- the label of a graph's node, its style told or not
+abbrev pub kind_held : Bool → Held → Kind
+kind_held styled (scalar_held value style) = scalar_kind value (if styled then Some style else None)
+kind_held styled (sequence_held items style) = sequence_kind (if styled then Some style else None)
+kind_held styled (mapping_held pairs style) = mapping_kind (if styled then Some style else None)
+
+abbrev pub label_of : Bool → GraphNode → Label
+label_of styled node = record { tag = Some node.tag; kind = kind_held styled node.held }
+
+-- the numbers fit a shape: at each place that isn't an alias the node has the label told there, and its children are
+-- those of the places below, in order
+abbrev mutual
+  pub HasShape : Bool → Graph → Placed → Shape → Type 0
+  HasShape styled graph (alias_placed name number) (alias_shape told) = name ≡ told
+  HasShape styled graph (node_placed anchor number below) (node_shape told label shapes) =
+      (anchor ≡ told)
+      × (option_map (label_of styled) (node_numbered graph number) ≡ Some label)
+      × (numbers_at below ≡ children graph number)
+      × HaveShapes styled graph below shapes
+  HasShape styled graph _ _ = ⊥
+
+  pub HaveShapes : Bool → Graph → PlacedAll → Shapes → Type 0
+  HaveShapes styled graph none_placed no_shapes = ⊤
+  HaveShapes styled graph (placed_and before last) (shapes_and shapes shape) =
+      HaveShapes styled graph before shapes × HasShape styled graph last shape
+  HaveShapes styled graph _ _ = ⊥
+
+-- ---- places in order
+
+-- a place is an alias, or a node with its anchor
+pub data Place : Type 0 where
+  alias_place : Text → ℕ → Place
+  node_place : Option Text → ℕ → Place
+
+-- the places of a tree in the order in which they begin
+abbrev mutual
+  pub places : Placed → List Place
+  places (alias_placed name number) = alias_place name number ∷ []
+  places (node_placed anchor number below) = node_place anchor number ∷ places_below below
+
+  pub places_below : PlacedAll → List Place
+  places_below none_placed = []
+  places_below (placed_and before last) = places_below before ++ places last
+
+abbrev pub carries : Text → Place → Bool
+carries name (node_place (Some anchor) number) = bytes_eq name anchor
+carries name _ = false
+
+abbrev pub is_place_of : ℕ → Place → Bool
+is_place_of number (node_place anchor other) = number == other
+is_place_of number (alias_place name other) = false
+
+-- an alias has the number of the one place that carries its anchor, which begins before it
+abbrev pub IsNamed : List Place → List Place → Place → Type 0
+IsNamed all before (alias_place name number) =
+    (count_by (carries name) all ≡ 1) × Contains before (node_place (Some name) number)
+IsNamed all before (node_place anchor number) = ⊤
+
+-- each alias of a list of places, after those before it
+abbrev pub AreNamed : List Place → List Place → List Place → Type 0
+AreNamed all before [] = ⊤
+AreNamed all before (place ∷ rest) = IsNamed all before place × AreNamed all (before ++ place ∷ []) rest
+
+-- ---- unfolding
+
+-- node 1 and the children of each node that is reached are reached
+pub data IsReached (graph : Graph) : ℕ → Type 0 where
+  first_reached : IsReached graph 1
+  child_reached : {number child : ℕ} → IsReached graph number → Contains (children graph number) child → IsReached graph child
+
+-- a shape unfolds a graph: each of its places has a number; the root has 1; each node that is reached has exactly one
+-- place that isn't an alias, and no other node has any
+pub record Unfolds (styled : Bool) (graph : Graph) (shape : Shape) : Type 0 where
+  pub placed : Placed
+  pub root : number_at placed ≡ 1
+  pub fits : HasShape styled graph placed shape
+  pub named : AreNamed (places placed) [] (places placed)
+  pub once : (number : ℕ) → IsReached graph number → count_by (is_place_of number) (places placed) ≡ 1
+  pub no_other : (number : ℕ) → (IsReached graph number → ⊥) → count_by (is_place_of number) (places placed) ≡ 0
+
+-- a tree of events unfolds a graph, styles and all
+abbrev pub TreeUnfolds : Graph → Node → Type 0
+TreeUnfolds graph tree = Unfolds true graph (node_shape_of tree)
+
+-- a content unfolds a graph but for its styles
+abbrev pub ContentUnfolds : Graph → Content → Type 0
+ContentUnfolds graph content = Unfolds false graph (content_shape content)
