@@ -1,0 +1,167 @@
+-- A value's parts, and that a reader cuts indented parts where they were joined.
+use Rattle.std.proofs.Common.{◌≡◌, refl, sym, ap, ◌∙◌, append_assoc, append-nil}
+use Rattle.std.proofs.lemmas.Bool.{cases_Bool}
+use Rattle.std.specs.Prelude.{ℕ, zero, suc, Bool, true, false, List, [], ◌∷◌, ◌++◌, ◌==◌, Option, None, Some, replicate, option_map, option_and_then, if◌then◌else◌}
+use Rattle.yaml_base.specs.Analysis.{begins_with}
+use Rattle.yaml_base.specs.Characters.{Text, is_break, is_blank, is_space, space, carriage_return, next_line}
+use Rattle.yaml_base.specs.LineBreaks.{is_read_break}
+use Rattle.yaml_base.specs.Lines.{Part, line, line_break, begun, parts}
+use Rattle.yaml_base.specs.Literal.{indented}
+use Rattle.yaml_base.specs.ReadBlock.{Element, content, line_end, elements, extended, joined, leading_spaces, detected, unindented, all_unindented}
+
+-- a character that a writer and a reader take for the same: a break or not, a space or no blank;
+-- and no break that reads as another
+pub record Ordinary (breaks12 : Bool) (c : ℕ) : Type 0 where
+  pub same_break : is_read_break breaks12 c ≡ is_break c
+  pub same_blank : is_blank c ≡ is_space c
+  pub no_return : (c == carriage_return) ≡ false
+  pub no_next_line : (c == next_line) ≡ false
+
+abbrev pub AllOrdinary : Bool → Text → Type 0
+AllOrdinary breaks12 [] = Unit {0}
+AllOrdinary breaks12 (c ∷ rest) = Ordinary breaks12 c × AllOrdinary breaks12 rest
+
+-- the characters of a line
+abbrev pub IsLine : Bool → Text → Type 0
+IsLine breaks12 [] = Unit {0}
+IsLine breaks12 (c ∷ rest) = Ordinary breaks12 c × (is_break c ≡ false) × IsLine breaks12 rest
+
+-- parts that don't begin with a line
+abbrev pub BeginsBroken : List Part → Type 0
+BeginsBroken [] = Unit {0}
+BeginsBroken (line text ∷ rest) = ⊥
+BeginsBroken (line_break b ∷ rest) = Unit {0}
+
+-- parts as they come from a text: no line next to a line
+abbrev pub Clean : Bool → List Part → Type 0
+Clean breaks12 [] = Unit {0}
+Clean breaks12 (line text ∷ rest) = IsLine breaks12 text × BeginsBroken rest × Clean breaks12 rest
+Clean breaks12 (line_break b ∷ rest) = Ordinary breaks12 b × (is_break b ≡ true) × Clean breaks12 rest
+
+-- a character of a line, before clean parts
+pub clean-begun : (breaks12 : Bool) (c : ℕ) (ps : List Part) → Ordinary breaks12 c → is_break c ≡ false → Clean breaks12 ps → Clean breaks12 (begun c ps)
+clean-begun breaks12 c [] o e h = ((o, e, tt), tt, tt)
+clean-begun breaks12 c (line text ∷ rest) o e h = ((o, e, h.0), h.1, h.2)
+clean-begun breaks12 c (line_break b ∷ rest) o e h = ((o, e, tt), tt, h)
+
+clean-before : (breaks12 : Bool) (c : ℕ) (ps : List Part) → Ordinary breaks12 c → Clean breaks12 ps
+    → (b : Bool) → is_break c ≡ b → Clean breaks12 (if b then line_break c ∷ ps else begun c ps)
+clean-before breaks12 c ps o h true e = (o, e, h)
+clean-before breaks12 c ps o h false e = clean-begun breaks12 c ps o e h
+
+pub parts-clean : (breaks12 : Bool) (value : Text) → AllOrdinary breaks12 value → Clean breaks12 (parts value)
+parts-clean breaks12 [] h = tt
+parts-clean breaks12 (c ∷ rest) h = clean-before breaks12 c (parts rest) h.0 (parts-clean breaks12 rest h.1) (is_break c) refl
+
+-- the elements that a reader finds where parts stand by themselves
+abbrev pub bare : List Part → List Element
+bare [] = []
+bare (line text ∷ rest) = content text ∷ bare rest
+bare (line_break b ∷ rest) = line_end b ∷ bare rest
+
+-- and where each line is indented
+abbrev pub shifted : ℕ → List Part → List Element
+shifted indent [] = []
+shifted indent (line text ∷ rest) = content (replicate indent space ++ text) ∷ shifted indent rest
+shifted indent (line_break b ∷ rest) = line_end b ∷ shifted indent rest
+
+joined-begun : (c : ℕ) (ps : List Part) → joined (bare (begun c ps)) ≡ c ∷ joined (bare ps)
+joined-begun c [] = refl
+joined-begun c (line text ∷ rest) = refl
+joined-begun c (line_break b ∷ rest) = refl
+
+joined-before : (c : ℕ) (ps : List Part) (b : Bool) → joined (bare (if b then line_break c ∷ ps else begun c ps)) ≡ c ∷ joined (bare ps)
+joined-before c ps true = refl
+joined-before c ps false = joined-begun c ps
+
+-- a value's parts, joined, are the value
+pub joined-parts : (value : Text) → joined (bare (parts value)) ≡ value
+joined-parts [] = refl
+joined-parts (c ∷ rest) = joined-before c (parts rest) (is_break c) ∙ ap (λ t. c ∷ t) (joined-parts rest)
+
+-- elements that don't begin with a content
+abbrev NoContentFirst : List Element → Type 0
+NoContentFirst [] = Unit {0}
+NoContentFirst (content text ∷ rest) = ⊥
+NoContentFirst (line_end b ∷ rest) = Unit {0}
+
+broken-shifted : (indent : ℕ) (ps : List Part) → BeginsBroken ps → NoContentFirst (shifted indent ps)
+broken-shifted indent [] h = tt
+broken-shifted indent (line text ∷ rest) h = h
+broken-shifted indent (line_break b ∷ rest) h = tt
+
+-- text without a break, as the reader sees it
+abbrev Unbroken : Bool → Text → Type 0
+Unbroken breaks12 [] = Unit {0}
+Unbroken breaks12 (c ∷ rest) = (is_read_break breaks12 c ≡ false) × Unbroken breaks12 rest
+
+line-unbroken : (breaks12 : Bool) (text : Text) → IsLine breaks12 text → Unbroken breaks12 text
+line-unbroken breaks12 [] h = tt
+line-unbroken breaks12 (c ∷ rest) h = ((h.0).same_break ∙ h.1, line-unbroken breaks12 rest h.2)
+
+spaces-unbroken : (breaks12 : Bool) (n : ℕ) (text : Text) → Unbroken breaks12 text → Unbroken breaks12 (replicate n space ++ text)
+spaces-unbroken breaks12 zero text h = h
+spaces-unbroken true (suc n) text h = (refl, spaces-unbroken true n text h)
+spaces-unbroken false (suc n) text h = (refl, spaces-unbroken false n text h)
+
+extended-alone : (c : ℕ) (es : List Element) → NoContentFirst es → extended c es ≡ content (c ∷ []) ∷ es
+extended-alone c [] h = refl
+extended-alone c (content text ∷ rest) h = absurd h
+extended-alone c (line_end b ∷ rest) h = refl
+
+element-unbroken : (breaks12 : Bool) (c : ℕ) (es : List Element) (b : Bool) → b ≡ false → (if b then line_end c ∷ es else extended c es) ≡ extended c es
+element-unbroken breaks12 c es b e = rw e refl
+
+-- a text without a break, and then one that doesn't begin with a content
+elements-unbroken : (breaks12 : Bool) (c : ℕ) (text rest : Text) → Unbroken breaks12 (c ∷ text) → NoContentFirst (elements breaks12 rest)
+    → elements breaks12 (c ∷ (text ++ rest)) ≡ content (c ∷ text) ∷ elements breaks12 rest
+elements-unbroken breaks12 c [] rest h apart =
+    element-unbroken breaks12 c (elements breaks12 rest) (is_read_break breaks12 c) h.0 ∙ extended-alone c (elements breaks12 rest) apart
+elements-unbroken breaks12 c (d ∷ text) rest h apart =
+    element-unbroken breaks12 c (elements breaks12 (d ∷ (text ++ rest))) (is_read_break breaks12 c) h.0
+    ∙ ap (extended c) (elements-unbroken breaks12 d text rest h.1 apart)
+
+element-broken : (c : ℕ) (es : List Element) (b : Bool) → b ≡ true → (if b then line_end c ∷ es else extended c es) ≡ line_end c ∷ es
+element-broken c es b e = rw e refl
+
+-- a reader cuts indented clean parts where they were joined
+pub elements-indented : (breaks12 : Bool) (less : ℕ) (ps : List Part) → Clean breaks12 ps → elements breaks12 (indented (suc less) ps) ≡ shifted (suc less) ps
+elements-indented breaks12 less [] h = refl
+elements-indented breaks12 less (line text ∷ rest) h =
+    let further : elements breaks12 (indented (suc less) rest) ≡ shifted (suc less) rest = elements-indented breaks12 less rest h.2 in
+    let apart : NoContentFirst (elements breaks12 (indented (suc less) rest)) = rw further (broken-shifted (suc less) rest h.1) in
+    elements-unbroken breaks12 space (replicate less space ++ text) (indented (suc less) rest)
+        (spaces-unbroken breaks12 (suc less) text (line-unbroken breaks12 text h.0)) apart
+    ∙ ap (λ es. content (space ∷ (replicate less space ++ text)) ∷ es) further
+elements-indented breaks12 less (line_break b ∷ rest) h =
+    element-broken b (elements breaks12 (indented (suc less) rest)) (is_read_break breaks12 b) ((h.0).same_break ∙ h.1)
+    ∙ ap (λ es. line_end b ∷ es) (elements-indented breaks12 less rest h.2)
+
+unindented-spaces : (n : ℕ) (text : Text) → unindented n (replicate n space ++ text) ≡ Some text
+unindented-spaces zero text = refl
+unindented-spaces (suc n) text = unindented-spaces n text
+
+-- and takes the indentation away again
+pub unindented-shifted : (n : ℕ) (ps : List Part) → all_unindented n (shifted n ps) ≡ Some (bare ps)
+unindented-shifted n [] = refl
+unindented-shifted n (line text ∷ rest) =
+    rw (unindented-spaces n text) (ap (option_map (λ others. content text ∷ others)) (unindented-shifted n rest))
+unindented-shifted n (line_break b ∷ rest) = ap (option_map (λ others. line_end b ∷ others)) (unindented-shifted n rest)
+
+-- the parts begin with a line, and that not with a space, or there are none
+abbrev pub BeginsFlush : List Part → Type 0
+BeginsFlush [] = Unit {0}
+BeginsFlush (line text ∷ rest) = begins_with is_space text ≡ false
+BeginsFlush (line_break b ∷ rest) = ⊥
+
+leading-spaces : (n : ℕ) (text : Text) → begins_with is_space text ≡ false → leading_spaces (replicate n space ++ text) ≡ n
+leading-spaces zero [] h = refl
+leading-spaces zero (c ∷ rest) h = rw h refl
+leading-spaces (suc n) text h = ap suc (leading-spaces n text h)
+
+-- where no digit tells the indentation, the first line shows it
+pub detected-shifted : (n : ℕ) (ps : List Part) → BeginsFlush ps → all_unindented (detected (shifted n ps)) (shifted n ps) ≡ Some (bare ps)
+detected-shifted n [] h = refl
+detected-shifted n (line text ∷ rest) h =
+    ap (λ k. all_unindented k (shifted n (line text ∷ rest))) (leading-spaces n text h) ∙ unindented-shifted n (line text ∷ rest)
+detected-shifted n (line_break b ∷ rest) h = absurd h
