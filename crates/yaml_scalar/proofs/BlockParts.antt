@@ -131,7 +131,7 @@ elements-indented breaks12 less (line text ∷ rest) h =
     let further : elements breaks12 (indented (suc less) rest) ≡ shifted (suc less) rest = elements-indented breaks12 less rest h.2 in
     let apart : NoContentFirst (elements breaks12 (indented (suc less) rest)) = rw further (broken-shifted (suc less) rest h.1) in
     elements-unbroken breaks12 space (replicate less space ++ text) (indented (suc less) rest)
-        (spaces-unbroken breaks12 (suc less) text (line-unbroken breaks12 text h.0)) apart
+    (spaces-unbroken breaks12 (suc less) text (line-unbroken breaks12 text h.0)) apart
     ∙ ap (λ es. content (space ∷ (replicate less space ++ text)) ∷ es) further
 elements-indented breaks12 less (line_break b ∷ rest) h =
     element-broken b (elements breaks12 (indented (suc less) rest)) (is_read_break breaks12 b) ((h.0).same_break ∙ h.1)

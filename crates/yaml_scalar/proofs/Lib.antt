@@ -1,1 +1,3 @@
 pub mod BlockParts
+pub mod BlockFinal
+pub mod BlockFolds

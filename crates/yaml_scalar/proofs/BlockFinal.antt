@@ -1,0 +1,129 @@
+-- The breaks at a block scalar's end: the header's sign says what chomping needs to keep them.
+use Rattle.std.proofs.Common.{◌≡◌, refl, sym, ap, ◌∙◌, append_assoc, append-nil, inl, inr}
+use Rattle.std.proofs.lemmas.Bool.{cases_Bool, false≢true}
+use Rattle.std.specs.Prelude.{ℕ, zero, suc, Bool, true, false, List, [], ◌∷◌, ◌++◌, ◌==◌, ◌&&◌, Option, None, Some, if◌then◌else◌}
+use Rattle.yaml_base.specs.Characters.{Text, is_break, line_feed, space}
+use Rattle.yaml_base.specs.Lines.{Part, line, line_break, begun, parts}
+use Rattle.yaml_base.specs.BlockHeader.{Ending, without_break, one_break, more_breaks, ending}
+use Rattle.yaml_base.specs.ReadBlock.{Element, content, line_end, joined, unfolded, has_content, kept_lines, final_ends, is_even, even_next, fold_read, Chomping, strip, clip, keep, chomped, lines_read}
+use Rattle.yaml_scalar.proofs.BlockParts.{bare}
+
+-- where there is no content, nothing is kept
+kept-none : (es : List Element) → has_content es ≡ false → kept_lines es ≡ []
+kept-none [] h = refl
+kept-none (content text ∷ rest) h = cc h
+kept-none (line_end b ∷ rest) h = rw h refl
+
+even-none : (es : List Element) → has_content es ≡ false → even_next es ≡ false
+even-none [] h = refl
+even-none (content text ∷ rest) h = cc h
+even-none (line_end b ∷ rest) h = even-none rest h
+
+even-kept : (es : List Element) → even_next (kept_lines es) ≡ even_next es
+even-kept [] = refl
+even-kept (content text ∷ rest) = refl
+even-kept (line_end b ∷ rest) =
+    elim (cases_Bool (has_content rest)) [
+      | inl some ↦ rw some (even-kept rest)
+      | inr none ↦ rw none (sym (even-none rest none))
+    ]
+
+fold-kept : (es : List Element) → fold_read (kept_lines es) ≡ fold_read es
+fold-kept [] = refl
+fold-kept (content text ∷ rest) = refl
+fold-kept (line_end b ∷ rest) =
+    elim (cases_Bool (has_content rest)) [ inl some ↦ rw some refl | inr none ↦ rw none refl ]
+
+-- what a line's end reads as
+abbrev break_read : Bool → ℕ → List Element → Text
+break_read after_even b rest = if after_even && b == line_feed && even_next rest then fold_read rest else b ∷ []
+
+break-none : (after_even : Bool) (b : ℕ) (rest : List Element) → even_next rest ≡ false → break_read after_even b rest ≡ b ∷ []
+break-none true b rest h = by (b == line_feed)
+  where
+    by : (same : Bool) → (if same && even_next rest then fold_read rest else b ∷ []) ≡ b ∷ []
+    by true = rw h refl
+    by false = refl
+break-none false b rest h = refl
+
+-- literal: what is kept and the final breaks make up all
+pub joined-kept : (es : List Element) → joined (kept_lines es) ++ final_ends es ≡ joined es
+joined-kept [] = refl
+joined-kept (content text ∷ rest) = append_assoc text (joined (kept_lines rest)) (final_ends rest) ∙ ap (λ t. text ++ t) (joined-kept rest)
+joined-kept (line_end b ∷ rest) =
+    elim (cases_Bool (has_content rest)) [
+      | inl some ↦ rw some (ap (λ t. b ∷ t) (joined-kept rest))
+      | inr none ↦
+          let here = joined-kept rest in
+          rw none (ap (λ t. b ∷ t) (rw (kept-none rest none) at here))
+    ]
+
+-- folded: likewise
+pub unfolded-kept : (after_even : Bool) (es : List Element) → unfolded after_even (kept_lines es) ++ final_ends es ≡ unfolded after_even es
+unfolded-kept after_even [] = refl
+unfolded-kept after_even (content text ∷ rest) =
+    append_assoc text (unfolded (is_even text) (kept_lines rest)) (final_ends rest) ∙ ap (λ t. text ++ t) (unfolded-kept (is_even text) rest)
+unfolded-kept after_even (line_end b ∷ rest) =
+    elim (cases_Bool (has_content rest)) [
+      | inl some ↦ rw (some, even-kept rest, fold-kept rest)
+          (append_assoc (break_read after_even b rest) (unfolded false (kept_lines rest)) (final_ends rest)
+          ∙ ap (λ t. break_read after_even b rest ++ t) (unfolded-kept false rest))
+      | inr none ↦
+          let here = unfolded-kept false rest in
+          rw none (ap (λ t. b ∷ t) (rw (kept-none rest none) at here)
+          ∙ ap (λ t. t ++ unfolded false rest) (sym (break-none after_even b rest (even-none rest none))))
+    ]
+
+-- what an ending says of the final breaks
+abbrev pub Ends : Ending → List Element → Type 0
+Ends without_break es = (has_content es ≡ true) × (final_ends es ≡ [])
+Ends one_break es = (has_content es ≡ true) × ((b : ℕ) × (final_ends es ≡ b ∷ []))
+Ends more_breaks es = Unit {0}
+
+ends-begun : (e : Ending) (c : ℕ) (ps : List Part) → Ends e (bare ps) → Ends e (bare (begun c ps))
+ends-begun without_break c [] h = (refl, refl)
+ends-begun without_break c (line text ∷ rest) h = h
+ends-begun without_break c (line_break b ∷ rest) h = (refl, h.1)
+ends-begun one_break c [] h = absurd (false≢true h.0)
+ends-begun one_break c (line text ∷ rest) h = h
+ends-begun one_break c (line_break b ∷ rest) h = (refl, h.1)
+ends-begun more_breaks c ps h = tt
+
+ends-broken : (e : Ending) (c : ℕ) (es : List Element) → Ends e es → Ends e (line_end c ∷ es)
+ends-broken without_break c es h = (h.0, rw h.0 (h.1))
+ends-broken one_break c es h = (h.0, (h.1.0, rw h.0 (h.1.1)))
+ends-broken more_breaks c es h = tt
+
+ends-before : (e : Ending) (c : ℕ) (ps : List Part) (b : Bool) → Ends e (bare ps) → Ends e (bare (if b then line_break c ∷ ps else begun c ps))
+ends-before e c ps true h = ends-broken e c (bare ps) h
+ends-before e c ps false h = ends-begun e c ps h
+
+-- a value of one character
+ends-one : (c : ℕ) (b : Bool) → Ends (if b then more_breaks else without_break) (bare (if b then line_break c ∷ [] else begun c []))
+ends-one c true = tt
+ends-one c false = (refl, refl)
+
+-- of two characters
+ends-two : (c d : ℕ) (a b : Bool) → Ends (if b then (if a then more_breaks else one_break) else without_break)
+    (bare (if a then line_break c ∷ (if b then line_break d ∷ [] else begun d []) else begun c (if b then line_break d ∷ [] else begun d [])))
+ends-two c d true true = tt
+ends-two c d true false = (refl, refl)
+ends-two c d false true = (refl, (d, refl))
+ends-two c d false false = (refl, refl)
+
+-- the last two characters of a value say how its parts end
+pub ends-parts : (c : ℕ) (value : Text) → Ends (ending (c ∷ value)) (bare (parts (c ∷ value)))
+ends-parts c [] = ends-one c (is_break c)
+ends-parts c (d ∷ []) = ends-two c d (is_break c) (is_break d)
+ends-parts c (d ∷ e ∷ rest) = ends-before (ending (d ∷ e ∷ rest)) c (parts (d ∷ e ∷ rest)) (is_break c) (ends-parts d (e ∷ rest))
+
+-- the chomping that the header's sign asks for
+abbrev pub chomping_of : Ending → Chomping
+chomping_of without_break = strip
+chomping_of one_break = clip
+chomping_of more_breaks = keep
+
+pub chomped-ends : (e : Ending) (es : List Element) → Ends e es → chomped (chomping_of e) (has_content es) (final_ends es) ≡ final_ends es
+chomped-ends without_break es h = sym (h.1)
+chomped-ends one_break es h = rw (h.0, h.1.1) refl
+chomped-ends more_breaks es h = refl

@@ -1,0 +1,216 @@
+-- Folded parts: they are clean, end as the value does, and read as the value.
+use Rattle.std.proofs.Common.{◌≡◌, refl, sym, ap, ◌∙◌, append_assoc, append-nil, inl, inr}
+use Rattle.std.proofs.lemmas.Bool.{cases_Bool, false≢true, and_parts, not-true, eqb-true}
+use Rattle.std.specs.Prelude.{ℕ, zero, suc, Bool, true, false, List, [], ◌∷◌, ◌++◌, ◌==◌, ◌&&◌, ◌+◌, not, Option, None, Some, if◌then◌else◌}
+use Rattle.yaml_base.specs.Analysis.{begins_with}
+use Rattle.yaml_base.specs.Characters.{Text, is_break, is_space, is_blank, line_feed, space}
+use Rattle.yaml_base.specs.Lines.{Part, line, line_break, begun, parts}
+use Rattle.yaml_base.specs.Folded.{is_past, folds, cut_from, cut_line, next_even, folded_parts}
+use Rattle.yaml_base.specs.ReadBlock.{Element, content, line_end, joined, unfolded, has_content, final_ends, is_even, even_next, fold_read}
+use Rattle.yaml_scalar.proofs.BlockParts.{bare, Clean, IsLine, Ordinary, BeginsBroken, BeginsFlush, clean-begun}
+
+-- a line feed is ordinary
+feed-ordinary : (breaks12 : Bool) → Ordinary breaks12 line_feed
+feed-ordinary true = record { same_break = refl; same_blank = refl; no_return = refl; no_next_line = refl }
+feed-ordinary false = record { same_break = refl; same_blank = refl; no_return = refl; no_next_line = refl }
+
+-- the reader takes a line to begin with a blank where the writer takes it to begin with a space
+even-flush : (breaks12 : Bool) (text : Text) → IsLine breaks12 text → is_even text ≡ not (begins_with is_space text)
+even-flush breaks12 [] h = refl
+even-flush breaks12 (c ∷ rest) h = ap not ((h.0).same_blank)
+
+-- what is known of a line that was cut, its first part and the others: before any rest they are clean, end as
+-- the rest does, and read as the line
+record Cut (breaks12 : Bool) (text first : Text) (others : List Part) : Type 0 where
+  clean : (rest : List Part) → BeginsBroken rest → Clean breaks12 rest → Clean breaks12 (line first ∷ (others ++ rest))
+  ends : (rest : List Part) → final_ends (bare (others ++ rest)) ≡ final_ends (bare rest)
+  reads : (rest : List Part) → first ++ unfolded true (bare (others ++ rest)) ≡ text ++ unfolded true (bare rest)
+  flush : begins_with is_space text ≡ false → begins_with is_space first ≡ false
+  even : begins_with is_space text ≡ false → is_even first ≡ true
+
+abbrev IsCut : Bool → Text → List Part → Type 0
+IsCut breaks12 text [] = ⊥
+IsCut breaks12 text (line first ∷ others) = Cut breaks12 text first others
+IsCut breaks12 text (line_break b ∷ rest) = ⊥
+
+-- one character more
+cut-step : (breaks12 : Bool) (c : ℕ) (rest : Text) → Ordinary breaks12 c → is_break c ≡ false → (further : List Part) → IsCut breaks12 rest further
+    → (fold : Bool) → (fold ≡ true → (is_space c ≡ true) × (begins_with is_space rest ≡ false))
+    → IsCut breaks12 (c ∷ rest) (if fold then line [] ∷ line_break line_feed ∷ further else begun c further)
+cut-step breaks12 c rest o e [] k fold f = absurd k
+cut-step breaks12 c rest o e (line_break b ∷ others) k fold f = absurd k
+cut-step breaks12 c rest o e (line first ∷ others) k true f =
+    let spaced : c ≡ space = eqb-true c space (f refl).0 in
+    let even : is_even first ≡ true = k.even (f refl).1 in
+    record {
+      clean = λ more broken h. (tt, tt, (feed-ordinary breaks12, refl, k.clean more broken h));
+      ends = λ more. k.ends more;
+      reads = λ more. rw (even, spaced) (ap (λ t. space ∷ t) (k.reads more));
+      flush = λ none. refl;
+      even = λ none. refl;
+    }
+cut-step breaks12 c rest o e (line first ∷ others) k false f =
+    record {
+      clean = λ more broken h. clean-begun breaks12 c (line first ∷ (others ++ more)) o e (k.clean more broken h);
+      ends = λ more. k.ends more;
+      reads = λ more. ap (λ t. c ∷ t) (k.reads more);
+      flush = λ none. none;
+      even = λ none. ap not (o.same_blank ∙ none);
+    }
+
+-- a fold stands in place of a space, before another character
+fold-spaced : (limit : Option ℕ) (column c : ℕ) (rest : Text) → folds limit column c rest ≡ true → (is_space c ≡ true) × (begins_with is_space rest ≡ false)
+fold-spaced limit column c rest h =
+    let outer = and_parts (is_space c && not (begins_with is_space rest)) (is_past limit column) h in
+    let inner = and_parts (is_space c) (not (begins_with is_space rest)) outer.0 in
+    (inner.0, not-true (begins_with is_space rest) inner.1)
+
+cut-known : (breaks12 : Bool) (limit : Option ℕ) (indent column : ℕ) (text : Text) → IsLine breaks12 text → IsCut breaks12 text (cut_from limit indent column text)
+cut-known breaks12 limit indent column [] h =
+    record {
+      clean = λ more broken k. (tt, broken, k);
+      ends = λ more. refl;
+      reads = λ more. refl;
+      flush = λ none. refl;
+      even = λ none. refl;
+    }
+cut-known breaks12 limit indent column (c ∷ rest) h =
+    let at : ℕ = if folds limit column c rest then indent else column + 1 in
+    cut-step breaks12 c rest h.0 h.1 (cut_from limit indent at rest) (cut-known breaks12 limit indent at rest h.2)
+    (folds limit column c rest) (fold-spaced limit column c rest)
+
+-- what is known of a line's parts
+record LineCut (breaks12 : Bool) (text : Text) (ps : List Part) : Type 0 where
+  clean : (rest : List Part) → BeginsBroken rest → Clean breaks12 rest → Clean breaks12 (ps ++ rest)
+  ends : (rest : List Part) → final_ends (bare (ps ++ rest)) ≡ final_ends (bare rest)
+  reads : (after_even : Bool) (rest : List Part) → unfolded after_even (bare (ps ++ rest)) ≡ text ++ unfolded (not (begins_with is_space text)) (bare rest)
+  even : (rest : List Part) → even_next (bare (ps ++ rest)) ≡ not (begins_with is_space text)
+  some : (rest : List Part) → has_content (bare (ps ++ rest)) ≡ true
+  flush : (rest : List Part) → begins_with is_space text ≡ false → BeginsFlush (ps ++ rest)
+
+line-of-cut : (breaks12 : Bool) (text : Text) → IsLine breaks12 text → begins_with is_space text ≡ false → (ps : List Part) → IsCut breaks12 text ps → LineCut breaks12 text ps
+line-of-cut breaks12 text h none [] k = absurd k
+line-of-cut breaks12 text h none (line_break b ∷ others) k = absurd k
+line-of-cut breaks12 text h none (line first ∷ others) k =
+    record {
+      clean = λ rest. k.clean rest;
+      ends = λ rest. k.ends rest;
+      reads = λ after_even rest. rw (k.even none, none) (k.reads rest);
+      even = λ rest. rw none (k.even none);
+      some = λ rest. refl;
+      flush = λ rest e. k.flush e;
+    }
+
+line-cut : (breaks12 : Bool) (limit : Option ℕ) (indent : ℕ) (text : Text) → IsLine breaks12 text → LineCut breaks12 text (cut_line limit indent text)
+line-cut breaks12 limit indent text h = by (begins_with is_space text) refl
+  where
+    by : (spaced : Bool) → begins_with is_space text ≡ spaced → LineCut breaks12 text (if spaced then line text ∷ [] else cut_from limit indent indent text)
+    by true e = record {
+      clean = λ rest broken k. (h, broken, k);
+      ends = λ rest. refl;
+      reads = λ after_even rest. ap (λ b. text ++ unfolded b (bare rest)) (even-flush breaks12 text h);
+      even = λ rest. even-flush breaks12 text h;
+      some = λ rest. refl;
+      flush = λ rest f. f;
+    }
+    by false e = line-of-cut breaks12 text h e (cut_from limit indent indent text) (cut-known breaks12 limit indent indent text h)
+
+abbrev twice_or_once : Bool → ℕ → List Part
+twice_or_once twice b = if twice then line_break b ∷ line_break b ∷ [] else line_break b ∷ []
+
+-- a break once or twice, before other parts
+twice-begins : (twice : Bool) (b : ℕ) (ps : List Part) → BeginsBroken (twice_or_once twice b ++ ps)
+twice-begins true b ps = tt
+twice-begins false b ps = tt
+
+twice-clean : (breaks12 twice : Bool) (b : ℕ) (ps : List Part) → Ordinary breaks12 b → is_break b ≡ true → Clean breaks12 ps → Clean breaks12 (twice_or_once twice b ++ ps)
+twice-clean breaks12 true b ps o e h = (o, e, (o, e, h))
+twice-clean breaks12 false b ps o e h = (o, e, h)
+
+twice-content : (twice : Bool) (b : ℕ) (ps : List Part) → has_content (bare (twice_or_once twice b ++ ps)) ≡ has_content (bare ps)
+twice-content true b ps = refl
+twice-content false b ps = refl
+
+twice-even : (twice : Bool) (b : ℕ) (ps : List Part) → even_next (bare (twice_or_once twice b ++ ps)) ≡ even_next (bare ps)
+twice-even true b ps = refl
+twice-even false b ps = refl
+
+-- it is doubled exactly where it would be folded, and then its second stays
+twice-reads : (twice after_even : Bool) (b : ℕ) (ps : List Part) → (after_even && b == line_feed && even_next (bare ps)) ≡ twice
+    → unfolded after_even (bare (twice_or_once twice b ++ ps)) ≡ b ∷ unfolded false (bare ps)
+twice-reads true after_even b ps e = rw e refl
+twice-reads false after_even b ps e = rw e refl
+
+-- it is doubled only where a content follows, so not among the final breaks
+twice-ends : (twice some : Bool) (b : ℕ) (ps : List Part) → has_content (bare ps) ≡ some → (twice ≡ true → some ≡ true)
+    → final_ends (bare (twice_or_once twice b ++ ps)) ≡ (if some then [] else b ∷ []) ++ final_ends (bare ps)
+twice-ends true true b ps s f = rw s refl
+twice-ends true false b ps s f = absurd (false≢true (f refl))
+twice-ends false some b ps s f = rw s refl
+
+-- a next line is a content
+even-some : (ps : List Part) → next_even ps ≡ true → has_content (bare ps) ≡ true
+even-some [] h = cc h
+even-some (line text ∷ rest) h = refl
+even-some (line_break b ∷ rest) h = even-some rest h
+
+module _ (breaks12 : Bool) (limit : Option ℕ) (indent : ℕ) where
+  folded-begins : (after_even : Bool) (ps : List Part) → BeginsBroken ps → BeginsBroken (folded_parts limit indent after_even ps)
+  folded-begins after_even [] h = tt
+  folded-begins after_even (line text ∷ rest) h = absurd h
+  folded-begins after_even (line_break b ∷ rest) h =
+      twice-begins (after_even && b == line_feed && next_even rest) b (folded_parts limit indent false rest)
+
+  -- folded parts are clean
+  pub folded-clean : (after_even : Bool) (ps : List Part) → Clean breaks12 ps → Clean breaks12 (folded_parts limit indent after_even ps)
+  folded-clean after_even [] h = tt
+  folded-clean after_even (line text ∷ rest) h =
+      let even = not (begins_with is_space text) in
+      (line-cut breaks12 limit indent text h.0).clean (folded_parts limit indent even rest) (folded-begins even rest h.1) (folded-clean even rest h.2)
+  folded-clean after_even (line_break b ∷ rest) h =
+      twice-clean breaks12 (after_even && b == line_feed && next_even rest) b (folded_parts limit indent false rest) h.0 h.1 (folded-clean false rest h.2)
+
+  -- hold content where the value does
+  pub folded-content : (after_even : Bool) (ps : List Part) → Clean breaks12 ps → has_content (bare (folded_parts limit indent after_even ps)) ≡ has_content (bare ps)
+  folded-content after_even [] h = refl
+  folded-content after_even (line text ∷ rest) h =
+      (line-cut breaks12 limit indent text h.0).some (folded_parts limit indent (not (begins_with is_space text)) rest)
+  folded-content after_even (line_break b ∷ rest) h =
+      twice-content (after_even && b == line_feed && next_even rest) b (folded_parts limit indent false rest) ∙ folded-content false rest h.2
+
+  -- are followed by a line without a leading blank where the value's are
+  folded-even : (after_even : Bool) (ps : List Part) → Clean breaks12 ps → even_next (bare (folded_parts limit indent after_even ps)) ≡ next_even ps
+  folded-even after_even [] h = refl
+  folded-even after_even (line text ∷ rest) h =
+      (line-cut breaks12 limit indent text h.0).even (folded_parts limit indent (not (begins_with is_space text)) rest)
+  folded-even after_even (line_break b ∷ rest) h =
+      twice-even (after_even && b == line_feed && next_even rest) b (folded_parts limit indent false rest) ∙ folded-even false rest h.2
+
+  -- read as the value
+  pub folded-reads : (after_even : Bool) (ps : List Part) → Clean breaks12 ps → unfolded after_even (bare (folded_parts limit indent after_even ps)) ≡ joined (bare ps)
+  folded-reads after_even [] h = refl
+  folded-reads after_even (line text ∷ rest) h =
+      let even = not (begins_with is_space text) in
+      (line-cut breaks12 limit indent text h.0).reads after_even (folded_parts limit indent even rest) ∙ ap (λ t. text ++ t) (folded-reads even rest h.2)
+  folded-reads after_even (line_break b ∷ rest) h =
+      twice-reads (after_even && b == line_feed && next_even rest) after_even b (folded_parts limit indent false rest)
+      (ap (λ next. after_even && b == line_feed && next) (folded-even false rest h.2))
+      ∙ ap (λ t. b ∷ t) (folded-reads false rest h.2)
+
+  -- end as the value does
+  pub folded-ends : (after_even : Bool) (ps : List Part) → Clean breaks12 ps → final_ends (bare (folded_parts limit indent after_even ps)) ≡ final_ends (bare ps)
+  folded-ends after_even [] h = refl
+  folded-ends after_even (line text ∷ rest) h =
+      let even = not (begins_with is_space text) in
+      (line-cut breaks12 limit indent text h.0).ends (folded_parts limit indent even rest) ∙ folded-ends even rest h.2
+  folded-ends after_even (line_break b ∷ rest) h =
+      twice-ends (after_even && b == line_feed && next_even rest) (has_content (bare rest)) b (folded_parts limit indent false rest)
+      (folded-content false rest h.2) (λ e. even-some rest (and_parts (after_even && b == line_feed) (next_even rest) e).1)
+      ∙ ap (λ t. (if has_content (bare rest) then [] else b ∷ []) ++ t) (folded-ends false rest h.2)
+
+  -- and begin with a line that shows the indentation where the value's do
+  pub folded-flush : (ps : List Part) → Clean breaks12 ps → BeginsFlush ps → BeginsFlush (folded_parts limit indent false ps)
+  folded-flush [] h f = tt
+  folded-flush (line text ∷ rest) h f =
+      (line-cut breaks12 limit indent text h.0).flush (folded_parts limit indent (not (begins_with is_space text)) rest) f
+  folded-flush (line_break b ∷ rest) h f = absurd f
