@@ -1,5 +1,5 @@
 -- The refusals: their numbers, the layer that each comes from, and their words (libyaml's own texts).
-use Rattle.std.specs.Prelude.{ℕ, List, codes}
+use Rattle.std.specs.Prelude.{ℕ, List, codes, Option, None, Some, Result, Ok, Err}
 use Rattle.yaml_base.specs.declared.errors.yaml_error_t.{yaml_error_t}
 use Rattle.yaml_base.specs.declared.errors.yaml_error_t.TheVariants.{ExpectedStreamStart, ExpectedDocumentStart, ExpectedDocumentEnd, ExpectedNode, ExpectedNothing, IncompatibleVersion, TagHandleEmpty, TagHandleStart, TagHandleEnd, TagHandleAlphabet, TagPrefixEmpty, DuplicateDirective, AnchorEmpty, AnchorAlphabet, AliasEmpty, AliasAlphabet, TagEmpty, NoTagNorImplicit, TooDeep, WriteError, Memory}
 use Rattle.yaml_base.specs.declared.errors.yaml_error_type_t.{yaml_error_type_t}
@@ -63,3 +63,8 @@ problem_text Memory = codes ""
 abbrev pub display_text : yaml_error_t → List ℕ
 display_text Memory = codes "out of memory"
 display_text error = problem_text error
+
+-- the number of the refusal that a call answered; none where it succeeded
+abbrev pub refused : {T : Type 0} → Result T yaml_error_t → Option ℕ
+refused (Ok _) = None
+refused (Err error) = Some (refusal_number error)

@@ -1,0 +1,5 @@
+use Rattle.yaml_base.proofs.PercentLaws as percent
+use Rattle.yaml_mark.proofs.laws.escaped_text_reads.Goals as goal
+
+pub returns : goal.returns
+returns c = percent.decoded_escaped
