@@ -1,3 +1,4 @@
 pub mod BlockParts
 pub mod BlockFinal
 pub mod BlockFolds
+pub mod QuotingSteps

@@ -1,0 +1,221 @@
+-- Plain and single-quoted lines laid out character by character, and that this is their layout by runs.
+use Rattle.std.proofs.Common.{◌≡◌, refl, sym, ap, ◌∙◌, subst, ℕ, List, [], ◌∷◌, ◌++◌, Bool, true, false, append_assoc}
+use Rattle.std.specs.Prelude.{Option, ◌==◌, ◌||◌, ◌&&◌, not, if◌then◌else◌}
+use Rattle.std.proofs.Math.Bool.{and-false, and-true, or-false}
+use Rattle.yaml_base.specs.Characters.{Text, is_break, is_space, line_feed, space}
+use Rattle.yaml_base.specs.Cursor.{Cursor, Laid, nothing_laid, then_laid, text_laid, column_after, is_past_width}
+use Rattle.yaml_base.specs.Analysis.{begins_with, is_empty}
+use Rattle.yaml_base.specs.Plain.{Kind, spaces, breaks, others, kind_of, is_same_kind, Run, joined_to, runs, is_lone, indentation, run_text, is_last, runs_laid}
+
+-- the first character, where there is one, is of this kind
+abbrev pub begins_kind : Kind → Text → Bool
+begins_kind kind [] = false
+begins_kind kind (c ∷ rest) = is_same_kind kind (kind_of c)
+
+-- a character's text, by its kind, the kind of the character before and what follows
+abbrev pub step_text :
+    (written : Text → Text) (folds : Bool) (indent : ℕ) (before kind : Kind) (c : ℕ) (rest : Text) → Text
+step_text written folds indent before spaces c rest =
+    if folds && not (is_same_kind before spaces || (is_empty rest || begins_kind spaces rest))
+    then line_feed ∷ indentation indent
+    else c ∷ []
+step_text written folds indent before breaks c rest =
+    (if c == line_feed && not (is_same_kind before breaks) then line_feed ∷ [] else [])
+    ++ (c ∷ (if begins_kind breaks rest then [] else indentation indent))
+step_text written folds indent before others c rest = written (c ∷ [])
+
+-- a value from some character on; its start counts as if a space stood before it
+abbrev pub steps_laid :
+    (written : Text → Text) (limit : Option ℕ) (indent : ℕ) (before : Kind) → Text → Cursor → Laid
+steps_laid written limit indent before [] cursor = nothing_laid cursor
+steps_laid written limit indent before (c ∷ rest) cursor =
+    then_laid
+    (text_laid (step_text written (is_past_width limit cursor) indent before (kind_of c) c rest) cursor)
+    (steps_laid written limit indent (kind_of c) rest)
+
+-- texts are written character by character, and white space stands for itself
+pub record WritesEach (written : Text → Text) : Type 0 where
+  pub nothing : written [] ≡ []
+  pub joined : (front rest : Text) → written (front ++ rest) ≡ written front ++ written rest
+
+-- what is left of a run, after a character of its kind
+abbrev tail_text : (written : Text → Text) (indent : ℕ) → Kind → Text → Text
+tail_text written indent spaces text = text
+tail_text written indent breaks text = text ++ indentation indent
+tail_text written indent others text = written text
+
+abbrev first_text : (written : Text → Text) (folds : Bool) (indent : ℕ) (same : Bool) → Kind → Text → Text
+first_text written folds indent true kind text = tail_text written indent kind text
+first_text written folds indent false kind text = run_text written folds indent kind text
+
+-- runs, the first of which goes on where the character before is of its kind
+abbrev continued :
+    (written : Text → Text) (limit : Option ℕ) (indent : ℕ) (before : Kind) → List Run → Cursor → Laid
+continued written limit indent before [] cursor = nothing_laid cursor
+continued written limit indent before (run ∷ more) cursor =
+    then_laid
+    (text_laid
+    (first_text written (is_past_width limit cursor && not (is_last more)) indent (is_same_kind before run.kind) run.kind run.text)
+    cursor)
+    (runs_laid written limit indent false more)
+
+column_after-append : (a b : Text) (column : ℕ) → column_after (a ++ b) column ≡ column_after b (column_after a column)
+column_after-append [] b column = refl
+column_after-append (c ∷ a) b column = column_after-append a b _
+
+-- two texts laid one after another are one text
+two_texts :
+    (a b : Text) (next : Cursor → Laid) (cursor : Cursor) →
+    then_laid (text_laid a cursor) (λ after. then_laid (text_laid b after) next) ≡ then_laid (text_laid (a ++ b) cursor) next
+two_texts a b next cursor = simp (column_after-append, append_assoc)
+
+-- a character that ends its run
+lone_text :
+    (written : Text → Text) (folds : Bool) (indent : ℕ) (before kind : Kind) (c : ℕ) (rest : Text) (last : Bool) →
+    is_empty rest ≡ last →
+    begins_kind kind rest ≡ false →
+    step_text written folds indent before kind c rest ≡
+    first_text written (folds && not last) indent (is_same_kind before kind) kind (c ∷ [])
+lone_text written folds indent spaces spaces c rest last e b = simp and-false
+lone_text written folds indent breaks spaces c rest last e b = simp (e, b, and-true, or-false)
+lone_text written folds indent others spaces c rest last e b = simp (e, b, and-true, or-false)
+lone_text written folds indent spaces breaks c rest last e b = simp (b, and-true)
+lone_text written folds indent breaks breaks c rest last e b = simp (b, and-false)
+lone_text written folds indent others breaks c rest last e b = simp (b, and-true)
+lone_text written folds indent spaces others c rest last e b = refl
+lone_text written folds indent breaks others c rest last e b = refl
+lone_text written folds indent others others c rest last e b = refl
+
+-- a character whose run goes on
+joined_text :
+    (written : Text → Text) → WritesEach written →
+    (folds other : Bool) (indent : ℕ) (before kind : Kind) (c d : ℕ) (rest run : Text) →
+    is_same_kind kind (kind_of d) ≡ true →
+    step_text written folds indent before kind c (d ∷ rest) ++ tail_text written indent kind (d ∷ run) ≡
+    first_text written other indent (is_same_kind before kind) kind (c ∷ d ∷ run)
+joined_text written w folds other indent spaces spaces c d rest run e = simp and-false
+joined_text written w folds other indent breaks spaces c d rest run e = simp (e, and-false)
+joined_text written w folds other indent others spaces c d rest run e = simp (e, and-false)
+joined_text written w folds other indent spaces breaks c d rest run e = simp (e, and-true, append_assoc)
+joined_text written w folds other indent breaks breaks c d rest run e = simp (e, and-false)
+joined_text written w folds other indent others breaks c d rest run e = simp (e, and-true, append_assoc)
+joined_text written w folds other indent spaces others c d rest run e = sym (w.joined (c ∷ []) (d ∷ run))
+joined_text written w folds other indent breaks others c d rest run e = sym (w.joined (c ∷ []) (d ∷ run))
+joined_text written w folds other indent others others c d rest run e = sym (w.joined (c ∷ []) (d ∷ run))
+
+joined_kinds :
+    (written : Text → Text) → WritesEach written →
+    (folds other : Bool) (indent : ℕ) (before kind next : Kind) (c d : ℕ) (rest run : Text) →
+    kind ≡ next →
+    is_same_kind kind (kind_of d) ≡ true →
+    step_text written folds indent before kind c (d ∷ rest) ++ tail_text written indent next (d ∷ run) ≡
+    first_text written other indent (is_same_kind before next) next (c ∷ d ∷ run)
+joined_kinds written w folds other indent before kind next c d rest run same e =
+    subst (λ (k : Kind).
+    step_text written folds indent before kind c (d ∷ rest) ++ tail_text written indent k (d ∷ run) ≡
+    first_text written other indent (is_same_kind before k) k (c ∷ d ∷ run))
+    same (joined_text written w folds other indent before kind c d rest run e)
+
+-- the first run has an edge
+edge_text :
+    (written : Text → Text) (folds : Bool) (indent : ℕ) (kind : Kind) (text : Text) (last : Bool) →
+    first_text written (folds && not last) indent (is_same_kind spaces kind) kind text ≡
+    run_text written (folds && not (true || last)) indent kind text
+edge_text written folds indent spaces text last = simp and-false
+edge_text written folds indent breaks text last = refl
+edge_text written folds indent others text last = refl
+
+pub same_kind : (a b : Kind) → is_same_kind a b ≡ true → a ≡ b
+same_kind spaces spaces e = refl
+same_kind breaks breaks e = refl
+same_kind others others e = refl
+same_kind spaces breaks e = cc
+same_kind spaces others e = cc
+same_kind breaks spaces e = cc
+same_kind breaks others e = cc
+same_kind others spaces e = cc
+same_kind others breaks e = cc
+
+-- the runs of a value that begins with this character
+record Shape (d : ℕ) (after : List Run) : Type 0 where
+  text : Text
+  more : List Run
+  is : joined_to d after ≡ record { kind = kind_of d; text = d ∷ text } ∷ more
+
+shape_by : (d : ℕ) (first : Run) (more : List Run) (same : Bool) → is_same_kind (kind_of d) first.kind ≡ same → Shape d (first ∷ more)
+shape_by d first more true e = record {
+  text = first.text;
+  more = more;
+  is = simp e (ap (λ (k : Kind). record { kind = k; text = d ∷ first.text } ∷ more) (sym (same_kind (kind_of d) first.kind e)));
+}
+shape_by d first more false e = record { text = []; more = first ∷ more; is = simp e }
+
+shape_of : (d : ℕ) (after : List Run) → Shape d after
+shape_of d [] = record { text = []; more = []; is = refl }
+shape_of d (first ∷ more) = shape_by d first more _ refl
+
+abbrev Agrees : (written : Text → Text) (limit : Option ℕ) (indent : ℕ) (before : Kind) (c : ℕ) (rest : Text) (after : List Run) (cursor : Cursor) → Type 0
+Agrees written limit indent before c rest after cursor =
+    then_laid
+    (text_laid (step_text written (is_past_width limit cursor) indent before (kind_of c) c rest) cursor)
+    (continued written limit indent (kind_of c) after) ≡
+    continued written limit indent before (joined_to c after) cursor
+
+agrees_by :
+    (written : Text → Text) → WritesEach written →
+    (limit : Option ℕ) (indent : ℕ) (before : Kind) (c d : ℕ) (rest text : Text) (more : List Run) (cursor : Cursor) →
+    (same : Bool) → is_same_kind (kind_of c) (kind_of d) ≡ same →
+    Agrees written limit indent before c (d ∷ rest) (record { kind = kind_of d; text = d ∷ text } ∷ more) cursor
+agrees_by written w limit indent before c d rest text more cursor true e =
+    let next = runs_laid written limit indent false more in
+    let step = step_text written (is_past_width limit cursor) indent before (kind_of c) c (d ∷ rest) in
+    let folds = is_past_width limit cursor && not (is_last more) in
+    simp e (two_texts step (tail_text written indent (kind_of d) (d ∷ text)) next cursor
+    ∙ ap (λ (t : Text). then_laid (text_laid t cursor) next)
+    (joined_kinds written w (is_past_width limit cursor) folds indent before (kind_of c) (kind_of d) c d rest text
+    (same_kind (kind_of c) (kind_of d) e) e))
+agrees_by written w limit indent before c d rest text more cursor false e =
+    simp e (ap (λ (t : Text). then_laid (text_laid t cursor)
+    (runs_laid written limit indent false (record { kind = kind_of d; text = d ∷ text } ∷ more)))
+    (lone_text written (is_past_width limit cursor) indent before (kind_of c) c (d ∷ rest) false refl e))
+
+agrees :
+    (written : Text → Text) → WritesEach written →
+    (limit : Option ℕ) (indent : ℕ) (before : Kind) (c : ℕ) (rest : Text) (cursor : Cursor) →
+    Agrees written limit indent before c rest (runs rest) cursor
+agrees written w limit indent before c [] cursor =
+    ap (λ (t : Text). then_laid (text_laid t cursor) nothing_laid)
+    (lone_text written (is_past_width limit cursor) indent before (kind_of c) c [] true refl refl)
+agrees written w limit indent before c (d ∷ rest) cursor =
+    let shape = shape_of d (runs rest) in
+    subst (λ (after : List Run). Agrees written limit indent before c (d ∷ rest) after cursor) (sym shape.is)
+    (agrees_by written w limit indent before c d rest shape.text shape.more cursor _ refl)
+
+steps_continue :
+    (written : Text → Text) → WritesEach written →
+    (limit : Option ℕ) (indent : ℕ) (before : Kind) (value : Text) (cursor : Cursor) →
+    steps_laid written limit indent before value cursor ≡ continued written limit indent before (runs value) cursor
+steps_continue written w limit indent before [] cursor = refl
+steps_continue written w limit indent before (c ∷ rest) cursor =
+    let step = step_text written (is_past_width limit cursor) indent before (kind_of c) c rest in
+    ap (λ (after : Laid). record { text = step ++ after.text; cursor = after.cursor })
+    (steps_continue written w limit indent (kind_of c) rest (text_laid step cursor).cursor)
+    ∙ agrees written w limit indent before c rest cursor
+
+-- the start of a value counts as if a space stood before it
+edge_continues :
+    (written : Text → Text) (limit : Option ℕ) (indent : ℕ) (after : List Run) (cursor : Cursor) →
+    continued written limit indent spaces after cursor ≡ runs_laid written limit indent true after cursor
+edge_continues written limit indent [] cursor = refl
+edge_continues written limit indent (run ∷ more) cursor =
+    ap (λ (t : Text). then_laid (text_laid t cursor) (runs_laid written limit indent false more))
+    (edge_text written (is_past_width limit cursor) indent run.kind run.text (is_last more))
+
+-- the layout by runs is the layout by characters
+pub runs_by_steps :
+    (written : Text → Text) → WritesEach written →
+    (limit : Option ℕ) (indent : ℕ) (value : Text) (cursor : Cursor) →
+    runs_laid written limit indent true (runs value) cursor ≡ steps_laid written limit indent spaces value cursor
+runs_by_steps written w limit indent value cursor =
+    sym (steps_continue written w limit indent spaces value cursor
+    ∙ edge_continues written limit indent (runs value) cursor)
