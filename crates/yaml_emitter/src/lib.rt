@@ -1,0 +1,4 @@
+//! The emitter: settings, queue, states.
+#![tactic(auto)]
+
+mod settings;

@@ -1,0 +1,1 @@
+//! What the caller sets, and what it comes to at the stream's start.
