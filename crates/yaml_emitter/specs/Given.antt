@@ -1,7 +1,57 @@
 -- The settings of an emitter, as the definitions see them.
-use Rattle.std.specs.Prelude.{ℕ, ℤ, Bool, Option, None, Some}
-use Rattle.yaml_base.specs.Settings.{Settings, Effective, Encoding, utf8, utf16_little, utf16_big, LineBreak, carriage_return_break, line_feed_break, both_break}
-use Rattle.yaml_base.specs.declared.encodings.yaml_encoding_t.{yaml_encoding_t}
-use Rattle.yaml_base.specs.declared.encodings.yaml_encoding_t.TheVariants.{YAML_ANY_ENCODING, YAML_UTF8_ENCODING, YAML_UTF16LE_ENCODING, YAML_UTF16BE_ENCODING}
-use Rattle.yaml_base.specs.declared.encodings.yaml_break_t.{yaml_break_t}
-use Rattle.yaml_base.specs.declared.encodings.yaml_break_t.TheVariants.{YAML_ANY_BREAK, YAML_CR_BREAK, YAML_LN_BREAK, YAML_CRLN_BREAK}
+use Rattle.std.specs.Prelude.{ℕ, ℤ, pos, negsuc, Bool, false, Option, None, Some, ◌==◌, if◌then◌else◌, unwrap_or}
+use Rattle.yaml_base.specs.Settings.{Settings, Effective, utf8, line_feed_break}
+use Rattle.yaml_base.specs.Seen.{seen_encoding, seen_break}
+use Rattle.yaml_emitter.specs.declared.settings.GivenSettings.{GivenSettings}
+use Rattle.yaml_emitter.specs.declared.settings.EffectiveSettings.{EffectiveSettings}
+
+-- what the setters were given
+abbrev pub seen_given : GivenSettings → Settings
+seen_given given =
+    record {
+      encoding = seen_encoding given.encoding;
+      canonical = given.canonical;
+      unicode = given.unicode;
+      indent = given.indent;
+      width = given.width;
+      line_break = seen_break given.line_break;
+      breaks12 = given.breaks12;
+      limit = given.limit;
+    }
+
+-- a width of the largest `i32` is no limit
+abbrev pub seen_width : ℤ → Option ℕ
+seen_width (pos n) = if n == 2147483647 then None else Some n
+seen_width (negsuc n) = None
+
+abbrev pub seen_indent : ℤ → ℕ
+seen_indent (pos n) = n
+seen_indent (negsuc n) = 0
+
+-- what the layout goes by
+abbrev pub seen_effective : EffectiveSettings → Effective
+seen_effective settings =
+    record {
+      encoding = unwrap_or (seen_encoding settings.encoding) utf8;
+      canonical = settings.canonical;
+      unicode = settings.unicode;
+      indent = seen_indent settings.indent;
+      width = seen_width settings.width;
+      line_break = unwrap_or (seen_break settings.line_break) line_feed_break;
+      breaks12 = settings.breaks12;
+      limit = settings.limit;
+    }
+
+-- before any setter
+abbrev pub nothing_given : Settings
+nothing_given =
+    record {
+      encoding = None;
+      canonical = false;
+      unicode = false;
+      indent = None;
+      width = None;
+      line_break = None;
+      breaks12 = false;
+      limit = 18446744073709551615;
+    }

@@ -1,1 +1,125 @@
 //! What the caller sets, and what it comes to at the stream's start.
+
+ghost use Rattle.std.specs.Prelude.{◌≡◌, pos, ◌≤ℤ◌, Some, unwrap_or};
+ghost use Rattle.yaml_base.specs.Settings.{effective, effective_encoding, effective_indent, effective_width, line_feed_break};
+ghost use Rattle.yaml_base.specs.Seen.{seen_encoding, seen_break};
+ghost use Rattle.yaml_emitter.specs.Given.{nothing_given, seen_width, seen_indent, seen_given, seen_effective};
+
+use yaml_base::{
+    YAML_ANY_BREAK, YAML_ANY_ENCODING, YAML_LN_BREAK, YAML_UTF8_ENCODING, yaml_break_t,
+    yaml_encoding_t,
+};
+
+/// The last value given to each setter.
+#[derive(Clone, Copy)]
+pub(crate) struct GivenSettings {
+    pub encoding: yaml_encoding_t,
+    pub canonical: bool,
+    pub unicode: bool,
+    pub indent: Option<i32>,
+    pub width: Option<i32>,
+    pub line_break: yaml_break_t,
+    pub breaks12: bool,
+    pub limit: usize,
+}
+
+/// What the layout goes by. Neither the encoding nor the break is ANY.
+#[derive(Clone, Copy)]
+pub(crate) struct EffectiveSettings {
+    pub encoding: yaml_encoding_t,
+    pub canonical: bool,
+    pub unicode: bool,
+    /// In columns, 2 to 9.
+    pub indent: i32,
+    /// In characters; `i32::MAX` for no limit.
+    pub width: i32,
+    pub line_break: yaml_break_t,
+    pub breaks12: bool,
+    pub limit: usize,
+}
+
+/// An indent of 2 to 9 is kept, any other becomes 2.
+fn indent_of(given: Option<i32>) -> i32
+    ensures gives { seen_indent result ≡ effective_indent given }
+    ensures low { pos 2 ≤ℤ result }
+    ensures high { result ≤ℤ pos 9 }
+{
+    match given {
+        Some(indent) if 2 <= indent && indent <= 9 => indent,
+        _ => 2,
+    }
+}
+
+/// A negative width is no limit; up to twice the indent it becomes 80.
+fn width_of(given: Option<i32>, indent: i32) -> i32
+    requires low { pos 2 ≤ℤ indent }
+    requires high { indent ≤ℤ pos 9 }
+    ensures { seen_width result ≡ effective_width given (seen_indent indent) }
+{
+    match given {
+        None => 80,
+        Some(width) if width < 0 => i32::MAX,
+        Some(width) if width <= 2 * indent => 80,
+        Some(width) => width,
+    }
+}
+
+/// ANY is taken for LF.
+fn break_of(given: yaml_break_t) -> yaml_break_t
+    ensures { seen_break result ≡ Some (unwrap_or (seen_break given) line_feed_break) }
+{
+    match given {
+        YAML_ANY_BREAK => YAML_LN_BREAK,
+        other => other,
+    }
+}
+
+/// The emitter's own encoding, else the stream's, else UTF-8.
+fn encoding_of(own: yaml_encoding_t, of_stream: yaml_encoding_t) -> yaml_encoding_t
+    ensures {
+        seen_encoding result ≡ Some (effective_encoding (seen_encoding own) (seen_encoding of_stream))
+    }
+{
+    match own {
+        YAML_ANY_ENCODING => match of_stream {
+            YAML_ANY_ENCODING => YAML_UTF8_ENCODING,
+            other => other,
+        },
+        other => other,
+    }
+}
+
+impl GivenSettings {
+    /// Nothing is set: no limit below the largest vector.
+    pub(crate) fn new() -> Self
+        ensures { seen_given result ≡ nothing_given }
+    {
+        GivenSettings {
+            encoding: YAML_ANY_ENCODING,
+            canonical: false,
+            unicode: false,
+            indent: None,
+            width: None,
+            line_break: YAML_ANY_BREAK,
+            breaks12: false,
+            limit: usize::MAX,
+        }
+    }
+
+    /// What the settings come to for a stream that begins with this encoding.
+    pub(crate) fn effective(&self, of_stream: yaml_encoding_t) -> EffectiveSettings
+        ensures { seen_effective result ≡ effective (seen_given self.now) (seen_encoding of_stream) }
+    {
+        let indent = indent_of(self.indent);
+        EffectiveSettings {
+            encoding: encoding_of(self.encoding, of_stream),
+            canonical: self.canonical,
+            unicode: self.unicode,
+            indent,
+            width: width_of(self.width, indent),
+            line_break: break_of(self.line_break),
+            breaks12: self.breaks12,
+            limit: self.limit,
+        }
+    }
+}
