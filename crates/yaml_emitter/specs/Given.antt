@@ -1,5 +1,5 @@
 -- The settings of an emitter, as the definitions see them.
-use Rattle.std.specs.Prelude.{ℕ, ℤ, pos, negsuc, Bool, false, Option, None, Some, ◌==◌, if◌then◌else◌, unwrap_or}
+use Rattle.std.specs.Prelude.{ℕ, ℤ, pos, negsuc, false, Option, None, Some, ◌==◌, if◌then◌else◌, unwrap_or}
 use Rattle.yaml_base.specs.Settings.{Settings, Effective, utf8, line_feed_break}
 use Rattle.yaml_base.specs.Seen.{seen_encoding, seen_break}
 use Rattle.yaml_emitter.specs.declared.settings.GivenSettings.{GivenSettings}

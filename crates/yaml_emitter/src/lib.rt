@@ -1,4 +1,5 @@
 //! The emitter: settings, queue, states.
 #![tactic(auto)]
 
+mod queue;
 mod settings;

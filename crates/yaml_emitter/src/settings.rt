@@ -76,9 +76,7 @@ fn break_of(given: yaml_break_t) -> yaml_break_t
 
 /// The emitter's own encoding, else the stream's, else UTF-8.
 fn encoding_of(own: yaml_encoding_t, of_stream: yaml_encoding_t) -> yaml_encoding_t
-    ensures {
-        seen_encoding result ≡ Some (effective_encoding (seen_encoding own) (seen_encoding of_stream))
-    }
+    ensures { seen_encoding result ≡ Some (effective_encoding (seen_encoding own) (seen_encoding of_stream)) }
 {
     match own {
         YAML_ANY_ENCODING => match of_stream {

@@ -1,0 +1,87 @@
+//! Which events can be written: the head of the queue waits for those that decide how it is written.
+
+ghost use Rattle.std.specs.Prelude.{◌≡◌, if◌then◌else◌};
+ghost use Rattle.std.specs.List.{list_any};
+ghost use Rattle.yaml_base.specs.Ready.{is_start, is_end, awaited, is_balanced, fronts, is_ready};
+ghost use Rattle.yaml_base.specs.Seen.{seen_event, seen_events};
+ghost use Rattle.yaml_emitter.specs.Queue.{is_head_ready};
+
+use std::alloc::Allocator;
+use yaml_base::yaml_event_t;
+use yaml_base::yaml_event_t::{
+    YAML_DOCUMENT_END_EVENT, YAML_DOCUMENT_START_EVENT, YAML_MAPPING_END_EVENT,
+    YAML_MAPPING_START_EVENT, YAML_SEQUENCE_END_EVENT, YAML_SEQUENCE_START_EVENT,
+    YAML_STREAM_END_EVENT, YAML_STREAM_START_EVENT,
+};
+
+fn begins<A: Allocator>(event: &yaml_event_t<A>) -> bool
+    ensures { result ≡ is_start (seen_event event.now) }
+{
+    match event {
+        YAML_STREAM_START_EVENT { .. }
+        | YAML_DOCUMENT_START_EVENT { .. }
+        | YAML_SEQUENCE_START_EVENT { .. }
+        | YAML_MAPPING_START_EVENT { .. } => true,
+        _ => false,
+    }
+}
+
+fn ends<A: Allocator>(event: &yaml_event_t<A>) -> bool
+    ensures { result ≡ is_end (seen_event event.now) }
+{
+    match event {
+        YAML_STREAM_END_EVENT
+        | YAML_DOCUMENT_END_EVENT { .. }
+        | YAML_SEQUENCE_END_EVENT
+        | YAML_MAPPING_END_EVENT => true,
+        _ => false,
+    }
+}
+
+/// How many events must follow this one, where none closes it sooner.
+fn followers<A: Allocator>(event: &yaml_event_t<A>) -> usize
+    ensures { result ≡ awaited (seen_event event.now) }
+{
+    match event {
+        YAML_DOCUMENT_START_EVENT { .. } => 1,
+        YAML_SEQUENCE_START_EVENT { .. } => 2,
+        YAML_MAPPING_START_EVENT { .. } => 3,
+        _ => 0,
+    }
+}
+
+fn one_if(holds: bool) -> usize
+    ensures { result ≡ (if holds then 1 else 0) }
+{
+    if holds { 1 } else { 0 }
+}
+
+/// Whether some front of the events has as many starts as ends.
+fn closes<A: Allocator>(events: &[yaml_event_t<A>]) -> bool
+    ensures { result ≡ list_any is_balanced (fronts (seen_events events.now)) }
+{
+    let mut starts = 0usize;
+    let mut ended = 0usize;
+    for event in events {
+        starts += one_if(begins(event));
+        ended += one_if(ends(event));
+        if starts == ended {
+            return true;
+        }
+    }
+    false
+}
+
+/// Whether the first event can be written now; there is none in an empty queue.
+pub(crate) fn is_next_ready<A: Allocator>(events: &[yaml_event_t<A>]) -> bool
+    ensures { result ≡ is_head_ready (seen_events events.now) }
+{
+    if events.len() == 0 {
+        return false;
+    }
+    let awaits = followers(&events[0]);
+    if awaits == 0 || awaits < events.len() {
+        return true;
+    }
+    closes(events)
+}
