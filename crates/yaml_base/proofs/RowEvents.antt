@@ -10,14 +10,14 @@ use Rattle.yaml_base.specs.Pieces.{list_layout}
 abbrev pub plain_settings : Settings
 plain_settings =
     record {
-        encoding = None;
-        canonical = false;
-        unicode = false;
-        indent = None;
-        width = None;
-        line_break = None;
-        breaks12 = false;
-        limit = 1000000000;
+      encoding = None;
+      canonical = false;
+      unicode = false;
+      indent = None;
+      width = None;
+      line_break = None;
+      breaks12 = false;
+      limit = 1000000000;
     }
 
 abbrev pub canonical_settings : Settings
@@ -35,12 +35,12 @@ of_indent indent = record plain_settings { indent = Some indent }
 abbrev pub untagged : Text → ScalarStyle → Event
 untagged value style =
     scalar (record {
-        anchor = None;
-        tag = None;
-        value = value;
-        plain_implicit = true;
-        quoted_implicit = true;
-        style = style;
+      anchor = None;
+      tag = None;
+      value = value;
+      plain_implicit = true;
+      quoted_implicit = true;
+      style = style;
     })
 
 abbrev pub leaf : Text → Event
@@ -50,12 +50,12 @@ leaf value = untagged value any_style
 abbrev pub tagged : Option Text → Option Text → Text → Event
 tagged anchor tag value =
     scalar (record {
-        anchor = anchor;
-        tag = tag;
-        value = value;
-        plain_implicit = false;
-        quoted_implicit = false;
-        style = any_style;
+      anchor = anchor;
+      tag = tag;
+      value = value;
+      plain_implicit = false;
+      quoted_implicit = false;
+      style = any_style;
     })
 
 abbrev pub in_style : CollectionStyle → Collection

@@ -104,7 +104,7 @@ empty_prefix = refl
 
 handle_twice :
     refusal false between
-        (directed None (directive (codes "!e!") (codes "p") ∷ directive (codes "!") (codes "r") ∷ directive (codes "!e!") (codes "q") ∷ []))
+    (directed None (directive (codes "!e!") (codes "p") ∷ directive (codes "!") (codes "r") ∷ directive (codes "!e!") (codes "q") ∷ []))
     ≡ Some duplicate_directive
 handle_twice = refl
 

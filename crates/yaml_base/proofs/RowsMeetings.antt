@@ -28,8 +28,8 @@ a_sequence anchor = sequence_start (record { anchor = anchor; tag = Some sequenc
 -- a node shared two levels down
 shared_below : (meetings (graph_of (sequence_of (2 ∷ []) ∷ sequence_of (3 ∷ 3 ∷ []) ∷ string_of (codes "a") ∷ [])) ≡ 1 ∷ 2 ∷ 3 ∷ 3 ∷ [])
     × (document_event_list (graph_of (sequence_of (2 ∷ []) ∷ sequence_of (3 ∷ 3 ∷ []) ∷ string_of (codes "a") ∷ []))
-        ≡ document_start start ∷ a_sequence None ∷ a_sequence None ∷ a_string (Some (codes "id001")) (codes "a") ∷ alias (codes "id001")
-            ∷ sequence_end ∷ sequence_end ∷ document_end true ∷ [])
+    ≡ document_start start ∷ a_sequence None ∷ a_sequence None ∷ a_string (Some (codes "id001")) (codes "a") ∷ alias (codes "id001")
+    ∷ sequence_end ∷ sequence_end ∷ document_end true ∷ [])
 unfolding digits
 shared_below = (refl, refl)
 
@@ -42,23 +42,23 @@ holds_itself = refl
 -- anchors are numbered by second meetings: the inner node's comes first
 shared_twice : (meetings (graph_of (sequence_of (2 ∷ 2 ∷ []) ∷ sequence_of (3 ∷ 3 ∷ []) ∷ string_of (codes "a") ∷ [])) ≡ 1 ∷ 2 ∷ 3 ∷ 3 ∷ 2 ∷ [])
     × (document_event_list (graph_of (sequence_of (2 ∷ 2 ∷ []) ∷ sequence_of (3 ∷ 3 ∷ []) ∷ string_of (codes "a") ∷ []))
-        ≡ document_start start ∷ a_sequence None ∷ a_sequence (Some (codes "id002")) ∷ a_string (Some (codes "id001")) (codes "a") ∷ alias (codes "id001")
-            ∷ sequence_end ∷ alias (codes "id002") ∷ sequence_end ∷ document_end true ∷ [])
+    ≡ document_start start ∷ a_sequence None ∷ a_sequence (Some (codes "id002")) ∷ a_string (Some (codes "id001")) (codes "a") ∷ alias (codes "id001")
+    ∷ sequence_end ∷ alias (codes "id002") ∷ sequence_end ∷ document_end true ∷ [])
 unfolding digits
 shared_twice = (refl, refl)
 
 -- a mapping that is a value of its own
 mapping_within_itself : document_event_list (graph_of (record { tag = mapping_tag; held = mapping_held (record { key = 2; value = 1 } ∷ []) block } ∷ string_of (codes "k") ∷ []))
     ≡ document_start start ∷ mapping_start (record { anchor = Some (codes "id001"); tag = Some mapping_tag; implicit = true; style = block })
-        ∷ a_string None (codes "k") ∷ alias (codes "id001") ∷ mapping_end ∷ document_end true ∷ []
+    ∷ a_string None (codes "k") ∷ alias (codes "id001") ∷ mapping_end ∷ document_end true ∷ []
 unfolding digits
 mapping_within_itself = refl
 
 -- a scalar with another tag has its flags off; a node that isn't reached is left out; no nodes have no events
 other_tag : (document_event_list (graph_of (record { tag = codes "tag:yaml.org,2002:int"; held = scalar_held (codes "5") any_style } ∷ string_of (codes "b") ∷ []))
-        ≡ document_start start
-            ∷ scalar (record { anchor = None; tag = Some (codes "tag:yaml.org,2002:int"); value = codes "5"; plain_implicit = false; quoted_implicit = false; style = any_style })
-            ∷ document_end true ∷ [])
+    ≡ document_start start
+    ∷ scalar (record { anchor = None; tag = Some (codes "tag:yaml.org,2002:int"); value = codes "5"; plain_implicit = false; quoted_implicit = false; style = any_style })
+    ∷ document_end true ∷ [])
     × (document_event_list (graph_of []) ≡ [])
 other_tag = (refl, refl)
 
@@ -89,8 +89,8 @@ strings (suc more) = string_of (codes "x") ∷ strings more
 
 -- a sequence of 100 strings and again of these: the last one's anchor and alias have three digits
 many_shared : (slice_get (document_event_list (graph_of (sequence_of (numbers_from 2 100 ++ numbers_from 2 100) ∷ strings 100))) 101
-        ≡ Some (a_string (Some (codes "id100")) (codes "x")))
+    ≡ Some (a_string (Some (codes "id100")) (codes "x")))
     × (slice_get (document_event_list (graph_of (sequence_of (numbers_from 2 100 ++ numbers_from 2 100) ∷ strings 100))) 201
-        ≡ Some (alias (codes "id100")))
+    ≡ Some (alias (codes "id100")))
 unfolding digits
 many_shared = (refl, refl)

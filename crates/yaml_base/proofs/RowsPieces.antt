@@ -31,8 +31,8 @@ sequence_start_completed = refl
 mapping_start_completed :
     completion (begun (sequence_start (in_style block) ∷ mapping_start (in_style flow) ∷ []))
     ≡ alone
-        (sequence_start (in_style block) ∷ mapping_start (in_style flow) ∷ empty_scalar ∷ empty_scalar ∷ mapping_end
-        ∷ sequence_end ∷ [])
+    (sequence_start (in_style block) ∷ mapping_start (in_style flow) ∷ empty_scalar ∷ empty_scalar ∷ mapping_end
+    ∷ sequence_end ∷ [])
 mapping_start_completed = refl
 
 value_completed :
@@ -46,8 +46,8 @@ whole_list_completed = refl
 -- an anchor stands, its bracket waits
 anchor_alone :
     ready_text plain_settings
-        (begun (sequence_start (record { anchor = Some (codes "a"); tag = None; implicit = true; style = flow })
-        ∷ sequence_start (in_style flow) ∷ leaf (codes "x") ∷ []))
+    (begun (sequence_start (record { anchor = Some (codes "a"); tag = None; implicit = true; style = flow })
+    ∷ sequence_start (in_style flow) ∷ leaf (codes "x") ∷ []))
     ≡ codes "&a"
 anchor_alone = refl
 
@@ -58,21 +58,21 @@ open_flow_sequence = refl
 
 open_canonical_sequence :
     ready_text canonical_settings
-        (begun (sequence_start (in_style any_layout) ∷ leaf (codes "a") ∷ leaf (codes "b") ∷ []))
+    (begun (sequence_start (in_style any_layout) ∷ leaf (codes "a") ∷ leaf (codes "b") ∷ []))
     ≡ codes "---\n[\n  \"a\",\n  \"b\""
 open_canonical_sequence = refl
 
 -- an empty sequence as a key is simple, a sequence that goes on isn't
 key_that_ends :
     ready_text plain_settings
-        (begun (mapping_start (in_style block) ∷ sequence_start (in_style block) ∷ sequence_end ∷ leaf (codes "v") ∷ []))
+    (begun (mapping_start (in_style block) ∷ sequence_start (in_style block) ∷ sequence_end ∷ leaf (codes "v") ∷ []))
     ≡ codes "[]: v"
 unfolding lib.Utf8.encode
 key_that_ends = refl
 
 key_that_goes_on :
     ready_text plain_settings
-        (begun (mapping_start (in_style block) ∷ sequence_start (in_style block) ∷ leaf (codes "a") ∷ leaf (codes "b") ∷ []))
+    (begun (mapping_start (in_style block) ∷ sequence_start (in_style block) ∷ leaf (codes "a") ∷ leaf (codes "b") ∷ []))
     ≡ codes "? - a\n  - b"
 key_that_goes_on = refl
 

@@ -9,11 +9,11 @@ use Rattle.yaml_base.specs.Script.{script_of, bad_line, understood, unset}
 -- a canonical scalar, from its settings to the stream's end
 a_whole_script : script_of (codes "canonical on\nwidth -1\n+STR any\n+DOC 1 -\n=VAL any 1 1 - - \"a\"\n-DOC 1\n-STR\n")
     ≡ understood (record unset { canonical = true; width = Some (negsuc 0) }) (
-        record { line = 3; event = stream_start None }
-        ∷ record { line = 4; event = document_start (record { version = None; directives = []; implicit = true }) }
-        ∷ record { line = 5; event = scalar (record { anchor = None; tag = None; value = codes "a"; plain_implicit = true; quoted_implicit = true; style = any_style }) }
-        ∷ record { line = 6; event = document_end true }
-        ∷ record { line = 7; event = stream_end } ∷ [])
+    record { line = 3; event = stream_start None }
+    ∷ record { line = 4; event = document_start (record { version = None; directives = []; implicit = true }) }
+    ∷ record { line = 5; event = scalar (record { anchor = None; tag = None; value = codes "a"; plain_implicit = true; quoted_implicit = true; style = any_style }) }
+    ∷ record { line = 6; event = document_end true }
+    ∷ record { line = 7; event = stream_end } ∷ [])
 unfolding chars is_utf8 encode_utf8
 a_whole_script = refl
 
@@ -26,19 +26,23 @@ every_setting = refl
 -- every event, with texts of every kind of escape
 every_event : script_of (codes "+STR utf16le\n+DOC 0 1.02 \"!e!\" \"a b\" \"\" \"\\u{1f600}\"\n+MAP flow 0 - \"t\"\n=ALI \"\"\n=VAL folded 0 1 \"-\" - \"\\\\\\\"\\n #\"\n-MAP\n-DOC 0\n+SEQ any 1 \"a\" -\n-SEQ\n#\n-STR")
     ≡ understood unset (
-        record { line = 1; event = stream_start (Some utf16_little) }
-        ∷ record { line = 2; event = document_start (record {
-            version = Some (record { major = pos 1; minor = pos 2 });
-            directives = record { handle = codes "!e!"; prefix = codes "a b" } ∷ record { handle = []; prefix = 0x1F600 ∷ [] } ∷ [];
-            implicit = false }) }
-        ∷ record { line = 3; event = mapping_start (record { anchor = None; tag = Some (codes "t"); implicit = false; style = flow }) }
-        ∷ record { line = 4; event = alias [] }
-        ∷ record { line = 5; event = scalar (record { anchor = Some (codes "-"); tag = None; value = codes "\\\"\n #"; plain_implicit = false; quoted_implicit = true; style = folded }) }
-        ∷ record { line = 6; event = mapping_end }
-        ∷ record { line = 7; event = document_end false }
-        ∷ record { line = 8; event = sequence_start (record { anchor = Some (codes "a"); tag = None; implicit = true; style = any_layout }) }
-        ∷ record { line = 9; event = sequence_end }
-        ∷ record { line = 11; event = stream_end } ∷ [])
+    record { line = 1; event = stream_start (Some utf16_little) }
+    ∷ record {
+      line = 2;
+      event = document_start (record {
+        version = Some (record { major = pos 1; minor = pos 2 });
+        directives = record { handle = codes "!e!"; prefix = codes "a b" } ∷ record { handle = []; prefix = 0x1F600 ∷ [] } ∷ [];
+        implicit = false;
+      });
+    }
+    ∷ record { line = 3; event = mapping_start (record { anchor = None; tag = Some (codes "t"); implicit = false; style = flow }) }
+    ∷ record { line = 4; event = alias [] }
+    ∷ record { line = 5; event = scalar (record { anchor = Some (codes "-"); tag = None; value = codes "\\\"\n #"; plain_implicit = false; quoted_implicit = true; style = folded }) }
+    ∷ record { line = 6; event = mapping_end }
+    ∷ record { line = 7; event = document_end false }
+    ∷ record { line = 8; event = sequence_start (record { anchor = Some (codes "a"); tag = None; implicit = true; style = any_layout }) }
+    ∷ record { line = 9; event = sequence_end }
+    ∷ record { line = 11; event = stream_end } ∷ [])
 unfolding chars is_utf8 encode_utf8
 every_event = refl
 

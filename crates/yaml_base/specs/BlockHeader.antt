@@ -1,5 +1,5 @@
 -- The header of literal and folded scalars (YAML 1.1, section 9.2).
-use Rattle.std.specs.Prelude.{ℕ, Bool, true, false, List, [], ◌∷◌, ◌++◌, ◌||◌, ◌+◌, if◌then◌else◌}
+use Rattle.std.specs.Prelude.{ℕ, Bool, true, false, Option, None, Some, List, [], ◌∷◌, ◌++◌, ◌||◌, ◌+◌, ◌≡◌, if◌then◌else◌}
 use Rattle.yaml_base.specs.Characters.{Text, is_break, is_space, line_feed}
 use Rattle.yaml_base.specs.Analysis.{begins_with}
 use Rattle.yaml_base.specs.Cursor.{Cursor, Laid, nothing_laid, then_laid, text_laid, with_flags, indicator}
@@ -68,3 +68,9 @@ abbrev pub block_body : (sign best_indent : ℕ) (value lines : Text) → Cursor
 block_body sign best_indent value lines cursor =
     then_laid (header_laid sign best_indent value cursor)
     (λ headed. with_flags true (ends_in_break (ending value)) (text_laid lines headed))
+
+-- the entries of the enclosing block stand at the scalar's indentation less the indent; at the root there are none,
+-- and the two are equal
+abbrev pub Encloses : (indent best_indent : ℕ) → (column : Option ℕ) → Type 0
+Encloses indent best_indent None = indent ≡ best_indent
+Encloses indent best_indent (Some column) = indent ≡ column + best_indent

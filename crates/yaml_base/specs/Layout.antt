@@ -73,8 +73,8 @@ then_pieces first next =
 abbrev pub one_piece : ℕ → Laid → PiecesLaid
 one_piece mark laid =
     record {
-        pieces = record { lead = laid.text; body = None } ∷ [];
-        standing = record { cursor = laid.cursor; mark = mark };
+      pieces = record { lead = laid.text; body = None } ∷ [];
+      standing = record { cursor = laid.cursor; mark = mark };
     }
 
 -- Places and indentation
@@ -150,7 +150,7 @@ abbrev pub is_simple_scalar : Bool → List TagDirective → Scalar → Bool
 is_simple_scalar canonical directives content =
     not (list_any is_break content.value)
     && is_short
-        (byte_count content.value + name_count content.anchor + tag_count directives (scalar_tag canonical content))
+    (byte_count content.value + name_count content.anchor + tag_count directives (scalar_tag canonical content))
 
 abbrev pub is_simple_collection : Bool → List TagDirective → Collection → (empty : Bool) → Bool
 is_simple_collection canonical directives start empty =
@@ -220,8 +220,8 @@ spelling_laid (shorthand handle suffix) cursor =
     then_laid (handle_laid handle cursor) (name_laid (percent_escaped suffix))
 spelling_laid (verbatim tag) cursor =
     then_laid
-        (then_laid (indicator (codes "!<") true false false cursor) (name_laid (percent_escaped tag)))
-        (indicator (codes ">") false false false)
+    (then_laid (indicator (codes "!<") true false false cursor) (name_laid (percent_escaped tag)))
+    (indicator (codes ">") false false false)
 
 -- the tag that is written, or the bare tag
 abbrev pub tag_laid : List TagDirective → Option Text → (bare : Bool) → Cursor → Laid
@@ -239,7 +239,7 @@ properties_laid directives anchor tag bare cursor =
 abbrev pub alias_laid : Text → (simple : Bool) → Cursor → Laid
 alias_laid name simple cursor =
     then_laid (then_laid (indicator (codes "*") true false false cursor) (name_laid name))
-        (text_laid (if simple then codes " " else []))
+    (text_laid (if simple then codes " " else []))
 
 -- the space before a scalar's body: an empty plain scalar in a block needs none
 abbrev pub separation_laid : ScalarStyle → (in_flow : Bool) → Text → Cursor → Laid
@@ -263,9 +263,9 @@ mark_after _ value mark = mark
 abbrev pub choice_of : Effective → Place → (simple : Bool) → Scalar → Choice
 choice_of s place simple content =
     chosen
-        (allowances (record { unicode = s.unicode; breaks12 = s.breaks12 }) content.value)
-        content.style (is_empty content.value) (is_some (scalar_tag s.canonical content))
-        content.plain_implicit content.quoted_implicit (is_in_flow place) simple s.canonical
+    (allowances (record { unicode = s.unicode; breaks12 = s.breaks12 }) content.value)
+    content.style (is_empty content.value) (is_some (scalar_tag s.canonical content))
+    content.plain_implicit content.quoted_implicit (is_in_flow place) simple s.canonical
 
 -- a scalar's piece; a simple key has no fold
 abbrev pub scalar_piece :
@@ -273,42 +273,42 @@ abbrev pub scalar_piece :
 scalar_piece s directives place column simple content standing =
     let choice = choice_of s place simple content in
     let lead =
-        then_laid
-            (then_laid
-                (place_laid s place simple column standing.cursor)
-                (properties_laid directives content.anchor (scalar_tag s.canonical content) choice.bare))
-            (separation_laid choice.style (is_in_flow place) content.value) in
+    then_laid
+    (then_laid
+    (place_laid s place simple column standing.cursor)
+    (properties_laid directives content.anchor (scalar_tag s.canonical content) choice.bare))
+    (separation_laid choice.style (is_in_flow place) content.value) in
     let body =
-        body_laid choice.style s (if simple then None else s.width) (deeper s.indent column) content.value lead.cursor in
+    body_laid choice.style s (if simple then None else s.width) (deeper s.indent column) content.value lead.cursor in
     record {
-        pieces =
-            record {
-                lead = lead.text;
-                body =
-                    Some (record {
-                        style = choice.style;
-                        in_flow = is_in_flow place;
-                        column = column;
-                        value = content.value;
-                        text = body.text;
-                    });
-            } ∷ [];
-        standing = record { cursor = body.cursor; mark = mark_after choice.style content.value standing.mark };
+      pieces =
+          record {
+            lead = lead.text;
+            body =
+                Some (record {
+                  style = choice.style;
+                  in_flow = is_in_flow place;
+                  column = column;
+                  value = content.value;
+                  text = body.text;
+                });
+          } ∷ [];
+      standing = record { cursor = body.cursor; mark = mark_after choice.style content.value standing.mark };
     }
 
 abbrev pub alias_piece : Effective → Place → Option ℕ → (simple : Bool) → Text → Standing → PiecesLaid
 alias_piece s place column simple name standing =
     one_piece standing.mark
-        (then_laid (place_laid s place simple column standing.cursor) (alias_laid name simple))
+    (then_laid (place_laid s place simple column standing.cursor) (alias_laid name simple))
 
 -- a collection's start: its brackets come with the next event
 abbrev pub start_piece :
     Effective → List TagDirective → Place → Option ℕ → (simple : Bool) → Collection → Standing → PiecesLaid
 start_piece s directives place column simple start standing =
     one_piece standing.mark
-        (then_laid
-            (place_laid s place simple column standing.cursor)
-            (properties_laid directives start.anchor (collection_tag s.canonical start) false))
+    (then_laid
+    (place_laid s place simple column standing.cursor)
+    (properties_laid directives start.anchor (collection_tag s.canonical start) false))
 
 abbrev pub asks_flow : CollectionStyle → Bool
 asks_flow flow = true
@@ -351,9 +351,9 @@ abbrev pub collection_laid :
     Effective → Brackets → (in_flow undented empty : Bool) → Option ℕ → PiecesLaid → (ℕ → Standing → PiecesLaid) → PiecesLaid
 collection_laid s brackets in_flow undented empty column start entries =
     then_pieces
-        (then_pieces start
-            (λ standing. entries (entries_column in_flow undented s.indent column standing.cursor) standing))
-        (end_piece s brackets in_flow empty column)
+    (then_pieces start
+    (λ standing. entries (entries_column in_flow undented s.indent column standing.cursor) standing))
+    (end_piece s brackets in_flow empty column)
 
 abbrev pub item_place : (in_flow first : Bool) → Place
 item_place in_flow first = if in_flow then flow_item first else block_item
@@ -371,36 +371,36 @@ abbrev mutual
       alias_piece s place column (is_key place && not s.canonical && is_simple_alias name) name standing
   node_laid (scalar_node content) s directives place column standing =
       scalar_piece s directives place column
-          (is_key place && not s.canonical && is_simple_scalar s.canonical directives content) content standing
+      (is_key place && not s.canonical && is_simple_scalar s.canonical directives content) content standing
   node_laid (sequence_node start items) s directives place column standing =
       let in_flow = is_written_in_flow s place start (has_no_nodes items) in
       collection_laid s square in_flow (is_in_mapping place) (has_no_nodes items) column
-          (start_piece s directives place column
-              (is_key place && not s.canonical && is_simple_collection s.canonical directives start (has_no_nodes items))
-              start standing)
-          (nodes_laid items s directives in_flow)
+      (start_piece s directives place column
+      (is_key place && not s.canonical && is_simple_collection s.canonical directives start (has_no_nodes items))
+      start standing)
+      (nodes_laid items s directives in_flow)
   node_laid (mapping_node start pairs) s directives place column standing =
       let in_flow = is_written_in_flow s place start (has_no_pairs pairs) in
       collection_laid s curly in_flow false (has_no_pairs pairs) column
-          (start_piece s directives place column
-              (is_key place && not s.canonical && is_simple_collection s.canonical directives start (has_no_pairs pairs))
-              start standing)
-          (pairs_laid pairs s directives in_flow)
+      (start_piece s directives place column
+      (is_key place && not s.canonical && is_simple_collection s.canonical directives start (has_no_pairs pairs))
+      start standing)
+      (pairs_laid pairs s directives in_flow)
 
   pub nodes_laid : Nodes → Effective → List TagDirective → (in_flow : Bool) → ℕ → Standing → PiecesLaid
   nodes_laid no_nodes s directives in_flow column standing = no_pieces standing
   nodes_laid (nodes_and items item) s directives in_flow column standing =
       then_pieces (nodes_laid items s directives in_flow column standing)
-          (node_laid item s directives (item_place in_flow (has_no_nodes items)) (Some column))
+      (node_laid item s directives (item_place in_flow (has_no_nodes items)) (Some column))
 
   pub pairs_laid : Pairs → Effective → List TagDirective → (in_flow : Bool) → ℕ → Standing → PiecesLaid
   pairs_laid no_pairs s directives in_flow column standing = no_pieces standing
   pairs_laid (pairs_and pairs key value) s directives in_flow column standing =
       then_pieces
-          (then_pieces (pairs_laid pairs s directives in_flow column standing)
-              (node_laid key s directives (key_place in_flow (has_no_pairs pairs)) (Some column)))
-          (node_laid value s directives
-              (value_place in_flow (is_simple s.canonical directives key)) (Some column))
+      (then_pieces (pairs_laid pairs s directives in_flow column standing)
+      (node_laid key s directives (key_place in_flow (has_no_pairs pairs)) (Some column)))
+      (node_laid value s directives
+      (value_place in_flow (is_simple s.canonical directives key)) (Some column))
 
 -- Documents and streams
 
@@ -431,9 +431,9 @@ version_laid (Some version) cursor =
 abbrev pub tag_directive_laid : TagDirective → Cursor → Laid
 tag_directive_laid directive cursor =
     line_ended
-        (then_laid
-            (then_laid (sign_laid (codes "%TAG") cursor) (handle_laid directive.handle))
-            (handle_laid (percent_escaped directive.prefix)))
+    (then_laid
+    (then_laid (sign_laid (codes "%TAG") cursor) (handle_laid directive.handle))
+    (handle_laid (percent_escaped directive.prefix)))
 
 abbrev pub tag_directives_laid : List TagDirective → Cursor → Laid
 tag_directives_laid [] cursor = nothing_laid cursor
@@ -455,12 +455,12 @@ document_mark_laid canonical cursor =
 abbrev pub document_start_laid : Bool → (first : Bool) → DocumentStart → Standing → Laid
 document_start_laid canonical first start standing =
     then_laid
-        (then_laid
-            (then_laid
-                (laid_if (has_directives start && not (standing.mark == 0)) closing_mark_laid standing.cursor)
-                (version_laid start.version))
-            (tag_directives_laid start.directives))
-        (laid_if (is_explicit canonical first start) (document_mark_laid canonical))
+    (then_laid
+    (then_laid
+    (laid_if (has_directives start && not (standing.mark == 0)) closing_mark_laid standing.cursor)
+    (version_laid start.version))
+    (tag_directives_laid start.directives))
+    (laid_if (is_explicit canonical first start) (document_mark_laid canonical))
 
 abbrev pub document_start_piece : Bool → (first : Bool) → DocumentStart → Standing → PiecesLaid
 document_start_piece canonical first start standing =
@@ -475,9 +475,9 @@ document_end_piece false standing = one_piece 0 (then_laid (new_line 0 standing.
 abbrev pub document_laid : Effective → (first : Bool) → Document → Standing → PiecesLaid
 document_laid s first document standing =
     then_pieces
-        (then_pieces (document_start_piece s.canonical first document.start standing)
-            (node_laid document.root s (directives_in_force document.start.directives) at_root None))
-        (document_end_piece document.end_implicit)
+    (then_pieces (document_start_piece s.canonical first document.start standing)
+    (node_laid document.root s (directives_in_force document.start.directives) at_root None))
+    (document_end_piece document.end_implicit)
 
 abbrev pub has_no_documents : Documents → Bool
 has_no_documents no_documents = true
@@ -504,8 +504,8 @@ stream_start_piece standing = one_piece standing.mark (nothing_laid standing.cur
 abbrev pub stream_laid : Effective → Stream → PiecesLaid
 stream_laid s stream =
     then_pieces
-        (then_pieces (stream_start_piece first_standing) (documents_laid s stream.documents))
-        stream_end_piece
+    (then_pieces (stream_start_piece first_standing) (documents_laid s stream.documents))
+    stream_end_piece
 
 abbrev pub layout : Effective → Stream → List Piece
 layout s stream = (stream_laid s stream).pieces

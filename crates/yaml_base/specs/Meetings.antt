@@ -63,8 +63,8 @@ abbrev pub steps_from : ℕ → Graph → List Step → ℕ → List Step
 steps_from zero graph before number = before
 steps_from (suc depth) graph before number =
     elim (list_any (is_entry_of number) before) as (λ _. List Step) [
-        true ↦ before ++ meets_again number ∷ []
-        | false ↦ fold (steps_from depth graph) (before ++ enters number ∷ []) (children graph number) ++ leaves number ∷ []
+      | true ↦ before ++ meets_again number ∷ []
+      | false ↦ fold (steps_from depth graph) (before ++ enters number ∷ []) (children graph number) ++ leaves number ∷ []
     ]
 
 -- the depth-first walk from node 1: no more nodes can be entered inside each other than there are

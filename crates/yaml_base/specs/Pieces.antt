@@ -11,12 +11,12 @@ use Rattle.yaml_base.specs.Layout.{Piece, text_of, layout}
 abbrev pub empty_scalar : Event
 empty_scalar =
     scalar (record {
-        anchor = None;
-        tag = None;
-        value = [];
-        plain_implicit = true;
-        quoted_implicit = true;
-        style = any_style;
+      anchor = None;
+      tag = None;
+      value = [];
+      plain_implicit = true;
+      quoted_implicit = true;
+      style = any_style;
     })
 
 -- the innermost open collection lacks the value of its last key, one entry where it has just begun, and its end

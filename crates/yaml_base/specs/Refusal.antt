@@ -62,8 +62,8 @@ name_or_tag_fault canonical _ = None
 abbrev pub content_fault : Bool → Event → Option ℕ
 content_fault canonical (scalar content) =
     fault_if
-        (lacks_tag_and_flags (is_some (scalar_tag canonical content)) content.plain_implicit content.quoted_implicit)
-        no_tag_nor_implicit
+    (lacks_tag_and_flags (is_some (scalar_tag canonical content)) content.plain_implicit content.quoted_implicit)
+    no_tag_nor_implicit
 content_fault canonical (document_start start) =
     option_or (option_and_then version_fault start.version) (directives_fault start.directives)
 content_fault canonical _ = None
@@ -106,8 +106,8 @@ depth_fault partial event =
 abbrev pub refusal_at : Bool → Partial → Event → Option ℕ
 refusal_at canonical partial event =
     option_or (name_or_tag_fault canonical event)
-        (option_or (place_fault partial event)
-            (option_or (content_fault canonical event) (depth_fault partial event)))
+    (option_or (place_fault partial event)
+    (option_or (content_fault canonical event) (depth_fault partial event)))
 
 -- the fault of an event after a list; none is told after a list that begins no stream
 abbrev pub refusal : Bool → List Event → Event → Option ℕ

@@ -94,10 +94,10 @@ abbrev pub text_from : Within → Text → Option Text
 text_from within [] = None
 text_from within (c ∷ rest) =
     elim (turn within c) as (λ _. Option Text) [
-        goes_on next ↦ text_from next rest
-        | stands_for character ↦ option_map (λ value. character ∷ value) (text_from at_character rest)
-        | ends ↦ if length rest == 0 then Some [] else None
-        | fails ↦ None
+      | goes_on next ↦ text_from next rest
+      | stands_for character ↦ option_map (λ value. character ∷ value) (text_from at_character rest)
+      | ends ↦ if length rest == 0 then Some [] else None
+      | fails ↦ None
     ]
 
 -- ---- fields
@@ -223,14 +223,14 @@ setting_name (breaks12_set _) = codes "breaks12"
 -- the settings where no line sets anything
 abbrev pub unset : Settings
 unset = record {
-    encoding = None;
-    canonical = false;
-    unicode = false;
-    indent = None;
-    width = None;
-    line_break = None;
-    breaks12 = false;
-    limit = 1000000000;
+  encoding = None;
+  canonical = false;
+  unicode = false;
+  indent = None;
+  width = None;
+  line_break = None;
+  breaks12 = false;
+  limit = 1000000000;
 }
 
 -- settings after one more line
@@ -387,8 +387,8 @@ abbrev pub script_from : ℕ → Sofar → List (List ℕ) → Script
 script_from number before [] = understood (settings_of unset before.settings) before.events
 script_from number before (line ∷ rest) =
     elim (option_and_then (with_line number before) (line_understood line)) as (λ _. Script) [
-        None ↦ bad_line number
-        | Some after ↦ script_from (suc number) after rest
+      | None ↦ bad_line number
+      | Some after ↦ script_from (suc number) after rest
     ]
 
 -- the lines are what stands between LFs, counted from 1; what follows a last LF is an empty line

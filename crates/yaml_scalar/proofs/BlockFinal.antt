@@ -1,11 +1,11 @@
 -- The breaks at a block scalar's end: the header's sign says what chomping needs to keep them.
-use Rattle.std.proofs.Common.{◌≡◌, refl, sym, ap, ◌∙◌, append_assoc, append-nil, inl, inr}
+use Rattle.std.proofs.Common.{◌≡◌, refl, sym, ap, ◌∙◌, append_assoc, inl, inr}
 use Rattle.std.proofs.lemmas.Bool.{cases_Bool, false≢true}
-use Rattle.std.specs.Prelude.{ℕ, zero, suc, Bool, true, false, List, [], ◌∷◌, ◌++◌, ◌==◌, ◌&&◌, Option, None, Some, if◌then◌else◌}
-use Rattle.yaml_base.specs.Characters.{Text, is_break, line_feed, space}
+use Rattle.std.specs.Prelude.{ℕ, Bool, true, false, List, [], ◌∷◌, ◌++◌, ◌==◌, ◌&&◌, if◌then◌else◌}
+use Rattle.yaml_base.specs.Characters.{Text, is_break, line_feed}
 use Rattle.yaml_base.specs.Lines.{Part, line, line_break, begun, parts}
 use Rattle.yaml_base.specs.BlockHeader.{Ending, without_break, one_break, more_breaks, ending}
-use Rattle.yaml_base.specs.ReadBlock.{Element, content, line_end, joined, unfolded, has_content, kept_lines, final_ends, is_even, even_next, fold_read, Chomping, strip, clip, keep, chomped, lines_read}
+use Rattle.yaml_base.specs.ReadBlock.{Element, content, line_end, joined, unfolded, has_content, kept_lines, final_ends, is_even, even_next, fold_read, Chomping, strip, clip, keep, chomped}
 use Rattle.yaml_scalar.proofs.BlockParts.{bare}
 
 -- where there is no content, nothing is kept

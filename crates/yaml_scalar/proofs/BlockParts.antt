@@ -1,7 +1,6 @@
 -- A value's parts, and that a reader cuts indented parts where they were joined.
-use Rattle.std.proofs.Common.{◌≡◌, refl, sym, ap, ◌∙◌, append_assoc, append-nil}
-use Rattle.std.proofs.lemmas.Bool.{cases_Bool}
-use Rattle.std.specs.Prelude.{ℕ, zero, suc, Bool, true, false, List, [], ◌∷◌, ◌++◌, ◌==◌, Option, None, Some, replicate, option_map, option_and_then, if◌then◌else◌}
+use Rattle.std.proofs.Common.{◌≡◌, refl, ap, ◌∙◌}
+use Rattle.std.specs.Prelude.{ℕ, zero, suc, Bool, true, false, List, [], ◌∷◌, ◌++◌, ◌==◌, Some, replicate, option_map, if◌then◌else◌}
 use Rattle.yaml_base.specs.Analysis.{begins_with}
 use Rattle.yaml_base.specs.Characters.{Text, is_break, is_blank, is_space, space, carriage_return, next_line}
 use Rattle.yaml_base.specs.LineBreaks.{is_read_break}

@@ -2,3 +2,4 @@ pub mod BlockParts
 pub mod BlockFinal
 pub mod BlockFolds
 pub mod QuotingSteps
+pub mod BlockReads

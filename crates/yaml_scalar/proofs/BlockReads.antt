@@ -1,0 +1,196 @@
+-- A literal or folded body is read as exactly its value.
+use Rattle.std.proofs.Common.{◌≡◌, ◌≤◌, refl, sym, ap, ◌∙◌, append_assoc, arith}
+use Rattle.std.proofs.lemmas.Bool.{false≢true, or_parts, not-false, not-true, eqb-true, false_from_ne_true, and_from, le-leb}
+use Rattle.std.specs.Prelude.{ℕ, zero, suc, Bool, true, false, List, [], ◌∷◌, ◌++◌, ◌==◌, ◌&&◌, ◌||◌, ◌+◌, ◌-◌, not, Option, None, Some, option_map, if◌then◌else◌}
+use Rattle.yaml_base.specs.Analysis.{Charset, somewhere, is_empty, is_special, is_trailing_space, bars_block, allows_block}
+use Rattle.yaml_base.specs.Characters.{Text, is_break, is_ascii, is_printable, is_between, is_space, space, tab, line_feed, carriage_return, next_line, line_separator, paragraph_separator}
+use Rattle.yaml_base.specs.Cursor.{Cursor}
+use Rattle.yaml_base.specs.Lines.{Part, line, line_break, begun, parts}
+use Rattle.yaml_base.specs.BlockHeader.{Ending, without_break, one_break, more_breaks, ending, begins_blank, indentation_hint, ending_hint, hint_laid, block_body, Encloses}
+use Rattle.yaml_base.specs.Literal.{indented, literal_body}
+use Rattle.yaml_base.specs.Folded.{folded_parts, folded_body}
+use Rattle.yaml_base.specs.ReadBlock.{elements, unfolded, has_content, kept_lines, final_ends, indentation, all_unindented, chomped, lines_read, read_lines, digit_first, after_digit, read_block}
+use Rattle.yaml_scalar.proofs.BlockParts.{Ordinary, AllOrdinary, Clean, BeginsFlush, bare, shifted, parts-clean, joined-parts, elements-indented, unindented-shifted, detected-shifted}
+use Rattle.yaml_scalar.proofs.BlockFinal.{ends-parts, chomping_of, chomped-ends, joined-kept, unfolded-kept}
+use Rattle.yaml_scalar.proofs.BlockFolds.{folded-clean, folded-content, folded-reads, folded-ends, folded-flush}
+
+-- what isn't printable isn't among printable characters
+other-than : (c d : ℕ) → is_printable c ≡ true → is_printable d ≡ false → (c == d) ≡ false
+other-than c d p q = false_from_ne_true (c == d) (λ e. false≢true (sym q ∙ rw (eqb-true c d e) at p))
+
+same-break : (feed separator paragraph breaks12 : Bool) → (breaks12 ≡ true → (separator || paragraph) ≡ false)
+    → (feed || (not breaks12 && (separator || paragraph))) ≡ (feed || false || false || separator || paragraph)
+same-break true s p b h = refl
+same-break false true p true h = sym (h refl)
+same-break false true p false h = refl
+same-break false false true true h = sym (h refl)
+same-break false false true false h = refl
+same-break false false false true h = refl
+same-break false false false false h = refl
+
+or-none : (a : Bool) → (a || false) ≡ a
+or-none true = refl
+or-none false = refl
+
+-- a character that isn't special is ordinary
+ordinary : (charset : Charset) (c : ℕ) → is_special charset c ≡ false → Ordinary charset.breaks12 c
+ordinary charset c h =
+    let outer = or_parts (not (is_printable c) || (not charset.unicode && not (is_ascii c))) (charset.breaks12 && (c == line_separator || c == paragraph_separator)) h in
+    let printable : is_printable c ≡ true = not-false (is_printable c) (or_parts (not (is_printable c)) (not charset.unicode && not (is_ascii c)) outer.0).0 in
+    let return : (c == carriage_return) ≡ false = other-than c carriage_return printable refl in
+    let next : (c == next_line) ≡ false = other-than c next_line printable refl in
+    let tabless : (c == tab) ≡ false = other-than c tab printable refl in
+    record {
+      same_break = rw (return, next) (same-break (c == line_feed) (c == line_separator) (c == paragraph_separator) charset.breaks12
+          (λ e. rw e at outer.1));
+      same_blank = rw tabless (or-none (c == space));
+      no_return = return;
+      no_next_line = next;
+    }
+
+ordinary-somewhere : (charset : Charset) (value : Text) → somewhere (bars_block charset) value ≡ false → AllOrdinary charset.breaks12 value
+ordinary-somewhere charset [] h = tt
+ordinary-somewhere charset (c ∷ rest) h =
+    let split = or_parts (bars_block charset c rest) (somewhere (bars_block charset) rest) h in
+    let bars = or_parts (is_special charset c || is_trailing_space c rest) (is_space c && is_empty rest) split.0 in
+    (ordinary charset c (or_parts (is_special charset c) (is_trailing_space c rest) bars.0).0, ordinary-somewhere charset rest split.1)
+
+-- a value that block styles are allowed for isn't empty, and all its characters are ordinary
+pub allowed-ordinary : (charset : Charset) (value : Text) → allows_block charset value ≡ true → AllOrdinary charset.breaks12 value
+allowed-ordinary charset value h =
+    let parts = or_parts (is_empty value) (somewhere (bars_block charset) value) (not-true (is_empty value || somewhere (bars_block charset) value) h) in
+    ordinary-somewhere charset value parts.1
+
+-- the text of a hint
+hint-text : (hint : Text) (cursor : Cursor) → (hint_laid hint cursor).text ≡ hint
+hint-text [] cursor = refl
+hint-text (c ∷ rest) cursor = refl
+
+-- the text of a header, and the lines after it
+pub block-text : (sign best_indent : ℕ) (value lines : Text) (cursor : Cursor)
+    → (block_body sign best_indent value lines cursor).text ≡ sign ∷ ((indentation_hint best_indent value ++ ending_hint (ending value)) ++ line_feed ∷ lines)
+block-text sign best_indent value lines cursor =
+    rw (hint-text (indentation_hint best_indent value), hint-text (ending_hint (ending value)))
+    (ap (λ t. sign ∷ t) (append_assoc (indentation_hint best_indent value ++ ending_hint (ending value)) (line_feed ∷ []) lines))
+
+-- the digit of an indent of 2 to 9
+is-digit : (n : ℕ) → 2 ≤ n → n ≤ 9 → is_between 49 57 (48 + n) ≡ true
+is-digit n low high = and_from _ _ (le-leb 49 (48 + n) (omega arith)) (le-leb (48 + n) 57 (omega arith))
+
+digit-read : (n : ℕ) (rest : Text) → 2 ≤ n → n ≤ 9 → digit_first ((48 + n) ∷ rest) ≡ Some n
+digit-read n rest low high =
+    let less : (48 + n) - 48 ≡ n = omega arith in
+    rw (is-digit n low high) (ap Some less)
+
+digit-passed : (n : ℕ) (rest : Text) → 2 ≤ n → n ≤ 9 → after_digit ((48 + n) ∷ rest) ≡ rest
+digit-passed n rest low high = rw (is-digit n low high) refl
+
+-- the digit that a header gives
+abbrev digit_of : Bool → ℕ → Option ℕ
+digit_of blank best_indent = if blank then Some best_indent else None
+
+abbrev digit_text : Bool → ℕ → Text
+digit_text blank best_indent = if blank then (48 + best_indent) ∷ [] else []
+
+abbrev sign_of : Bool → ℕ
+sign_of folded = if folded then 62 else 124
+
+-- the reader takes from a header what it says
+read-header : (breaks12 folded blank : Bool) (e : Ending) (best_indent : ℕ) (column : Option ℕ) (lines : Text) → 2 ≤ best_indent → best_indent ≤ 9
+    → read_block breaks12 column (sign_of folded ∷ ((digit_text blank best_indent ++ ending_hint e) ++ line_feed ∷ lines))
+    ≡ read_lines folded (chomping_of e) (digit_of blank best_indent) column (elements breaks12 lines)
+read-header breaks12 true true without_break n column lines low high = rw (digit-read n (45 ∷ line_feed ∷ lines) low high, digit-passed n (45 ∷ line_feed ∷ lines) low high) refl
+read-header breaks12 true true one_break n column lines low high = rw (digit-read n (line_feed ∷ lines) low high, digit-passed n (line_feed ∷ lines) low high) refl
+read-header breaks12 true true more_breaks n column lines low high = rw (digit-read n (43 ∷ line_feed ∷ lines) low high, digit-passed n (43 ∷ line_feed ∷ lines) low high) refl
+read-header breaks12 false true without_break n column lines low high = rw (digit-read n (45 ∷ line_feed ∷ lines) low high, digit-passed n (45 ∷ line_feed ∷ lines) low high) refl
+read-header breaks12 false true one_break n column lines low high = rw (digit-read n (line_feed ∷ lines) low high, digit-passed n (line_feed ∷ lines) low high) refl
+read-header breaks12 false true more_breaks n column lines low high = rw (digit-read n (43 ∷ line_feed ∷ lines) low high, digit-passed n (43 ∷ line_feed ∷ lines) low high) refl
+read-header breaks12 true false without_break n column lines low high = refl
+read-header breaks12 true false one_break n column lines low high = refl
+read-header breaks12 true false more_breaks n column lines low high = refl
+read-header breaks12 false false without_break n column lines low high = refl
+read-header breaks12 false false one_break n column lines low high = refl
+read-header breaks12 false false more_breaks n column lines low high = refl
+
+-- the indentation that a digit tells, or that the first line shows, is the lines' own
+unindented-lines : (blank : Bool) (indent best_indent : ℕ) (column : Option ℕ) (ps : List Part) → Encloses indent best_indent column
+    → (blank ≡ false → BeginsFlush ps)
+    → all_unindented (indentation (digit_of blank best_indent) column (shifted indent ps)) (shifted indent ps) ≡ Some (bare ps)
+unindented-lines true indent best_indent None ps e f = rw (sym e) (unindented-shifted indent ps)
+unindented-lines true indent best_indent (Some column) ps e f = rw (sym e) (unindented-shifted indent ps)
+unindented-lines false indent best_indent None ps e f = detected-shifted indent ps (f refl)
+unindented-lines false indent best_indent (Some column) ps e f = detected-shifted indent ps (f refl)
+
+-- a value's first character says whether its first line shows the indentation
+flush-parts : (c : ℕ) (rest : Text) → begins_blank (c ∷ rest) ≡ false → BeginsFlush (parts (c ∷ rest))
+flush-parts c rest h = by (is_break c) refl
+  where
+    both : (is_space c ≡ false) × (is_break c ≡ false)
+    both = or_parts (is_space c) (is_break c) h
+
+    by : (b : Bool) → is_break c ≡ b → BeginsFlush (if b then line_break c ∷ parts rest else begun c (parts rest))
+    by true e = absurd (false≢true (sym both.1 ∙ e))
+    by false e = flush-begun c (parts rest) both.0
+      where
+        flush-begun : (d : ℕ) (ps : List Part) → is_space d ≡ false → BeginsFlush (begun d ps)
+        flush-begun d [] k = k
+        flush-begun d (line text ∷ others) k = k
+        flush-begun d (line_break b ∷ others) k = k
+
+flush-value : (value : Text) → begins_blank value ≡ false → BeginsFlush (parts value)
+flush-value [] h = tt
+flush-value (c ∷ rest) h = flush-parts c rest h
+
+-- whatever lines stand under a value's header, they are read without their indentation
+block-reads : (breaks12 folded : Bool) (indent best_indent : ℕ) (column : Option ℕ) (value : Text) (ps : List Part) (cursor : Cursor)
+    → 2 ≤ best_indent → best_indent ≤ 9 → 1 ≤ indent → Encloses indent best_indent column
+    → Clean breaks12 ps → (begins_blank value ≡ false → BeginsFlush ps)
+    → read_block breaks12 column (block_body (sign_of folded) best_indent value (indented indent ps) cursor).text
+    ≡ Some (lines_read folded (chomping_of (ending value)) (bare ps))
+block-reads breaks12 folded zero best_indent column value ps cursor low high positive e clean flush = absurd (omega arith)
+block-reads breaks12 folded (suc less) best_indent column value ps cursor low high positive e clean flush =
+    ap (read_block breaks12 column) (block-text (sign_of folded) best_indent value (indented (suc less) ps) cursor)
+    ∙ read-header breaks12 folded (begins_blank value) (ending value) best_indent column (indented (suc less) ps) low high
+    ∙ ap (read_lines folded (chomping_of (ending value)) (digit_of (begins_blank value) best_indent) column) (elements-indented breaks12 less ps clean)
+    ∙ ap (option_map (lines_read folded (chomping_of (ending value)))) (unindented-lines (begins_blank value) (suc less) best_indent column ps e flush)
+
+-- the value's own lines read as the value
+literal-lines : (value : Text) → lines_read false (chomping_of (ending value)) (bare (parts value)) ≡ value
+literal-lines [] = refl
+literal-lines (c ∷ rest) =
+    rw (chomped-ends (ending (c ∷ rest)) (bare (parts (c ∷ rest))) (ends-parts c rest)) (joined-kept (bare (parts (c ∷ rest))) ∙ joined-parts (c ∷ rest))
+
+-- and its folded lines
+folded-lines : (breaks12 : Bool) (limit : Option ℕ) (indent : ℕ) (value : Text) → AllOrdinary breaks12 value
+    → lines_read true (chomping_of (ending value)) (bare (folded_parts limit indent false (parts value))) ≡ value
+folded-lines breaks12 limit indent [] h = refl
+folded-lines breaks12 limit indent (c ∷ rest) h =
+    let value : Text = c ∷ rest in
+    let ps : List Part = parts value in
+    let written : List Part = folded_parts limit indent false ps in
+    let clean : Clean breaks12 ps = parts-clean breaks12 value h in
+    let chomping : chomped (chomping_of (ending value)) (has_content (bare written)) (final_ends (bare written)) ≡ final_ends (bare written) =
+    rw (folded-content breaks12 limit indent false ps clean, folded-ends breaks12 limit indent false ps clean)
+    (chomped-ends (ending value) (bare ps) (ends-parts c rest)) in
+    ap (λ t. unfolded false (kept_lines (bare written)) ++ t) chomping
+    ∙ unfolded-kept false (bare written) ∙ folded-reads breaks12 limit indent false ps clean ∙ joined-parts value
+
+module _ (charset : Charset) (value : Text) (allowed : allows_block charset value ≡ true) (indent best_indent : ℕ)
+    (low : 2 ≤ best_indent) (high : best_indent ≤ 9) (above : best_indent ≤ indent) (column : Option ℕ) (enclosing : Encloses indent best_indent column)
+    (cursor : Cursor) where
+  -- a literal body is read as its value
+  pub literal-reads : read_block charset.breaks12 column (literal_body indent best_indent value cursor).text ≡ Some value
+  literal-reads =
+      block-reads charset.breaks12 false indent best_indent column value (parts value) cursor low high (omega arith) enclosing
+      (parts-clean charset.breaks12 value (allowed-ordinary charset value allowed)) (flush-value value)
+      ∙ ap Some (literal-lines value)
+
+  -- a folded body is read as its value
+  pub folded-read : (limit : Option ℕ) → read_block charset.breaks12 column (folded_body limit indent best_indent value cursor).text ≡ Some value
+  folded-read limit =
+      let ordinary : AllOrdinary charset.breaks12 value = allowed-ordinary charset value allowed in
+      let clean : Clean charset.breaks12 (parts value) = parts-clean charset.breaks12 value ordinary in
+      block-reads charset.breaks12 true indent best_indent column value (folded_parts limit indent false (parts value)) cursor low high (omega arith) enclosing
+      (folded-clean charset.breaks12 limit indent false (parts value) clean)
+      (λ e. folded-flush charset.breaks12 limit indent (parts value) clean (flush-value value e))
+      ∙ ap Some (folded-lines charset.breaks12 limit indent value ordinary)
