@@ -1,3 +1,4 @@
+pub mod Trees
 pub mod RowsPieces
 pub mod RowEvents
 pub mod RowsLayout

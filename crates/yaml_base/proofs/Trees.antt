@@ -1,0 +1,62 @@
+-- A list of events has at most one tree: pushing a tree's events gives the tree back.
+use Rattle.std.proofs.Common.{◌≡◌, refl, sym, ap, ◌∙◌, append_assoc, append-nil}
+use Rattle.std.specs.Prelude.{Bool, Option, None, Some, List, [], ◌∷◌, ◌++◌, option_and_then}
+use Rattle.yaml_base.specs.Characters.{Text}
+use Rattle.yaml_base.specs.Settings.{Encoding}
+use Rattle.yaml_base.specs.Event.{DocumentStart, Scalar, Collection, Event, stream_start, stream_end, document_start, document_end, alias, scalar, sequence_start, sequence_end, mapping_start, mapping_end}
+use Rattle.yaml_base.specs.Grammar.{Node, alias_node, scalar_node, sequence_node, mapping_node, Nodes, no_nodes, nodes_and, Pairs, no_pairs, pairs_and, Document, Documents, no_documents, documents_and, Stream, node_events, nodes_events, pairs_events, document_events, documents_events, stream_events, Level, at_item, at_key, at_value, Partial, before_stream, between_documents, within_document, after_root, after_stream, with_node, push, pushed, partial_of, finished, tree_of}
+
+-- Pushing a node's events appends the node.
+mutual
+  pub node_pushed : (node : Node) (e : Option Encoding) (d : Documents) (s : DocumentStart) (levels : List Level) (rest : List Event) → pushed (within_document e d s levels) (node_events node ++ rest) ≡ pushed (with_node e d s levels node) rest
+  node_pushed (alias_node name) e d s levels rest = refl
+  node_pushed (scalar_node content) e d s levels rest = refl
+  node_pushed (sequence_node c items) e d s levels rest =
+      ap (pushed (within_document e d s (at_item c no_nodes ∷ levels))) (append_assoc (nodes_events items) (sequence_end ∷ []) rest)
+      ∙ nodes_pushed items c e d s levels (sequence_end ∷ rest)
+  node_pushed (mapping_node c pairs) e d s levels rest =
+      ap (pushed (within_document e d s (at_key c no_pairs ∷ levels))) (append_assoc (pairs_events pairs) (mapping_end ∷ []) rest)
+      ∙ pairs_pushed pairs c e d s levels (mapping_end ∷ rest)
+
+  pub nodes_pushed : (items : Nodes) (c : Collection) (e : Option Encoding) (d : Documents) (s : DocumentStart) (levels : List Level) (rest : List Event) → pushed (within_document e d s (at_item c no_nodes ∷ levels)) (nodes_events items ++ rest) ≡ pushed (within_document e d s (at_item c items ∷ levels)) rest
+  nodes_pushed no_nodes c e d s levels rest = refl
+  nodes_pushed (nodes_and items item) c e d s levels rest =
+      ap (pushed (within_document e d s (at_item c no_nodes ∷ levels))) (append_assoc (nodes_events items) (node_events item) rest)
+      ∙ nodes_pushed items c e d s levels (node_events item ++ rest)
+      ∙ node_pushed item e d s (at_item c items ∷ levels) rest
+
+  pub pairs_pushed : (pairs : Pairs) (c : Collection) (e : Option Encoding) (d : Documents) (s : DocumentStart) (levels : List Level) (rest : List Event) → pushed (within_document e d s (at_key c no_pairs ∷ levels)) (pairs_events pairs ++ rest) ≡ pushed (within_document e d s (at_key c pairs ∷ levels)) rest
+  pairs_pushed no_pairs c e d s levels rest = refl
+  pairs_pushed (pairs_and pairs key value) c e d s levels rest =
+      ap (pushed (within_document e d s (at_key c no_pairs ∷ levels)))
+          (append_assoc (pairs_events pairs) (node_events key ++ node_events value) rest
+          ∙ ap (λ after. pairs_events pairs ++ after) (append_assoc (node_events key) (node_events value) rest))
+      ∙ pairs_pushed pairs c e d s levels (node_events key ++ (node_events value ++ rest))
+      ∙ node_pushed key e d s (at_key c pairs ∷ levels) (node_events value ++ rest)
+      ∙ node_pushed value e d s (at_value c pairs key ∷ levels) rest
+
+-- A document's, and several documents'.
+pub document_pushed : (x : Document) (e : Option Encoding) (d : Documents) (rest : List Event) → pushed (between_documents e d) (document_events x ++ rest) ≡ pushed (between_documents e (documents_and d x)) rest
+document_pushed x e d rest =
+    ap (pushed (within_document e d x.start [])) (append_assoc (node_events x.root) (document_end x.end_implicit ∷ []) rest)
+    ∙ node_pushed x.root e d x.start [] (document_end x.end_implicit ∷ rest)
+
+pub documents_pushed : (d : Documents) (e : Option Encoding) (rest : List Event) → pushed (between_documents e no_documents) (documents_events d ++ rest) ≡ pushed (between_documents e d) rest
+documents_pushed no_documents e rest = refl
+documents_pushed (documents_and d x) e rest =
+    ap (pushed (between_documents e no_documents)) (append_assoc (documents_events d) (document_events x) rest)
+    ∙ documents_pushed d e (document_events x ++ rest)
+    ∙ document_pushed x e d rest
+
+-- Pushing a stream's events gives the stream.
+pub stream_pushed : (t : Stream) → partial_of (stream_events t) ≡ Some (after_stream t)
+stream_pushed t = documents_pushed t.documents t.encoding (stream_end ∷ [])
+
+pub tree_of-stream_events : (t : Stream) → tree_of (stream_events t) ≡ Some t
+tree_of-stream_events t = ap (option_and_then finished) (stream_pushed t)
+
+-- Two trees with the same events are the same tree.
+pub one_tree : (t u : Stream) → stream_events t ≡ stream_events u → t ≡ u
+one_tree t u same =
+    let joined : Some t ≡ Some u = sym (tree_of-stream_events t) ∙ ap tree_of same ∙ tree_of-stream_events u in
+    cc
