@@ -1,5 +1,5 @@
 -- Trees of events, and their events in order (YAML 1.1, section 3.2.1, and libyaml's event grammar).
-use Rattle.std.specs.Prelude.{Bool, true, Option, None, Some, List, [], ◌∷◌, ◌++◌, option_and_then}
+use Rattle.std.specs.Prelude.{◌≡◌, Bool, true, Option, None, Some, List, [], ◌∷◌, ◌++◌, option_and_then}
 use Rattle.yaml_base.specs.Characters.{Text}
 use Rattle.yaml_base.specs.Settings.{Encoding}
 use Rattle.yaml_base.specs.Event.{DocumentStart, Scalar, Collection, Event, stream_start, stream_end, document_start, document_end, alias, scalar, sequence_start, sequence_end, mapping_start, mapping_end}
@@ -134,3 +134,7 @@ finished _ = None
 -- the tree of a whole list
 abbrev pub tree_of : List Event → Option Stream
 tree_of events = option_and_then finished (partial_of events)
+
+-- a list is the events of at most one stream
+abbrev pub OneTree : Type 0
+OneTree = (t u : Stream) → stream_events t ≡ stream_events u → t ≡ u
