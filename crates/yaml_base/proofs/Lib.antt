@@ -15,3 +15,4 @@ pub mod PercentLaws
 pub mod TagLaws
 pub mod RowsScript
 pub mod RowsMeetings
+pub mod RowsCanonical

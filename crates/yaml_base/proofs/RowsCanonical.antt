@@ -1,0 +1,107 @@
+-- Canonical bytes read back, computed: each row a text or its bytes, and the content.
+use Rattle.std.specs.Prelude.{◌≡◌, pos, true, false, None, Some, [], ◌∷◌, ◌++◌, codes, refl}
+use Rattle.std.specs.Char.{encode_utf8}
+use Rattle.std.specs.Str.{chars, is_utf8}
+use Rattle.yaml_base.specs.Characters.{Text}
+use Rattle.yaml_base.specs.Content.{tagged, untagged, Content, alias_content, scalar_content, sequence_content, mapping_content, no_contents, contents_and, no_content_pairs, content_pairs_and, DocumentContent}
+use Rattle.yaml_base.specs.CanonicalReader.{canonical_content}
+
+-- a document without version and directives
+abbrev root : Content → DocumentContent
+root content = record { version = None; directives = []; root = content }
+
+-- an untagged scalar that may go without a tag
+abbrev scalar_of : Text → Content
+scalar_of value = scalar_content None (untagged true) value
+
+a_scalar : canonical_content false (codes "---\n\"a\"\n") ≡ Some (root (scalar_of (codes "a")) ∷ [])
+unfolding chars is_utf8 encode_utf8
+a_scalar = refl
+
+no_documents_at_all : canonical_content false [] ≡ Some []
+unfolding chars is_utf8 encode_utf8
+no_documents_at_all = refl
+
+two_documents : canonical_content false (codes "---\n\"a\"\n...\n%YAML 1.1\n---\n\"b\"\n")
+    ≡ Some (root (scalar_of (codes "a")) ∷ record { version = Some (record { major = pos 1; minor = pos 1 }); directives = []; root = scalar_of (codes "b") } ∷ [])
+unfolding chars is_utf8 encode_utf8
+two_documents = refl
+
+a_folded_text : canonical_content false (codes "---\n\"aaaaaa\n  \\ b\"\n") ≡ Some (root (scalar_of (codes "aaaaaa  b")) ∷ [])
+unfolding chars is_utf8 encode_utf8
+a_folded_text = refl
+
+a_mapping : canonical_content false (codes "---\n!!map {\n  ? &a !!str \"k\"\n  : *a,\n}\n")
+    ≡ Some (root (mapping_content None (Some (codes "tag:yaml.org,2002:map"))
+    (content_pairs_and no_content_pairs (scalar_content (Some (codes "a")) (tagged (codes "tag:yaml.org,2002:str")) (codes "k")) (alias_content (codes "a")))) ∷ [])
+unfolding chars is_utf8 encode_utf8
+a_mapping = refl
+
+nested_collections : canonical_content false (codes "---\n[\n  {},\n  \"a\",\n]\n")
+    ≡ Some (root (sequence_content None None (contents_and (contents_and no_contents (mapping_content None None no_content_pairs)) (scalar_of (codes "a")))) ∷ [])
+unfolding chars is_utf8 encode_utf8
+nested_collections = refl
+
+the_bare_tag : canonical_content false (codes "---\n! \"a\"\n") ≡ Some (root (scalar_content None (untagged false) (codes "a")) ∷ [])
+unfolding chars is_utf8 encode_utf8
+the_bare_tag = refl
+
+a_verbatim_tag : canonical_content false (codes "---\n!<%21> \"x\"\n") ≡ Some (root (scalar_content None (tagged (codes "!")) (codes "x")) ∷ [])
+unfolding chars is_utf8 encode_utf8
+a_verbatim_tag = refl
+
+own_directive : canonical_content false (codes "%TAG !e! %21x\n---\n!e!y \"x\"\n")
+    ≡ Some (record { version = None; directives = record { handle = codes "!e!"; prefix = codes "!x" } ∷ []; root = scalar_content None (tagged (codes "!xy")) (codes "x") } ∷ [])
+unfolding chars is_utf8 encode_utf8
+own_directive = refl
+
+percent_forms : canonical_content false (codes "---\n!%C3%A9 \"x\"\n") ≡ Some (root (scalar_content None (tagged (0x21 ∷ 0xE9 ∷ [])) (codes "x")) ∷ [])
+unfolding chars is_utf8 encode_utf8
+percent_forms = refl
+
+utf16_upper_first : canonical_content false (0xFE ∷ 0xFF ∷ 0 ∷ 0x2D ∷ 0 ∷ 0x2D ∷ 0 ∷ 0x2D ∷ 0 ∷ 0x0A ∷ 0 ∷ 0x22 ∷ 0 ∷ 0x61 ∷ 0 ∷ 0x22 ∷ 0 ∷ 0x0A ∷ [])
+    ≡ Some (root (scalar_of (codes "a")) ∷ [])
+utf16_upper_first = refl
+
+utf16_lower_first : canonical_content false (0xFF ∷ 0xFE ∷ 0x2D ∷ 0 ∷ 0x2D ∷ 0 ∷ 0x2D ∷ 0 ∷ 0x0A ∷ 0 ∷ 0x22 ∷ 0 ∷ 0x3D ∷ 0xD8 ∷ 0 ∷ 0xDE ∷ 0x22 ∷ 0 ∷ 0x0A ∷ 0 ∷ [])
+    ≡ Some (root (scalar_of (0x1F600 ∷ [])) ∷ [])
+utf16_lower_first = refl
+
+-- what the emitter never writes: blanks and breaks anywhere between tokens, and none where none is needed
+written_otherwise : canonical_content false (codes " \t\n---\"a\"---[*a,[],]...")
+    ≡ Some (root (scalar_of (codes "a"))
+    ∷ root (sequence_content None None (contents_and (contents_and no_contents (alias_content (codes "a"))) (sequence_content None None no_contents))) ∷ [])
+unfolding chars is_utf8 encode_utf8
+written_otherwise = refl
+
+-- U+2028 is a break, and under the rules of YAML 1.2 it isn't
+line_separators : (canonical_content false (codes "---" ++ 0xE2 ∷ 0x80 ∷ 0xA8 ∷ codes "\"a\"") ≡ Some (root (scalar_of (codes "a")) ∷ []))
+    × (canonical_content true (codes "---" ++ 0xE2 ∷ 0x80 ∷ 0xA8 ∷ codes "\"a\"") ≡ None)
+unfolding chars is_utf8 encode_utf8
+line_separators = (refl, refl)
+
+-- no reading: a comma is missing, a `"` isn't escaped, an escape is unknown, a percent form is cut, `---` is missing, text trails
+broken : (canonical_content false (codes "---\n[\"a\"]\n") ≡ None)
+    × (canonical_content false (codes "---\n\"a\"b\"\n") ≡ None)
+    × (canonical_content false (codes "---\n\"\\q\"\n") ≡ None)
+    × (canonical_content false (codes "---\n!a%2 \"x\"\n") ≡ None)
+    × (canonical_content false (codes "\"a\"\n") ≡ None)
+    × (canonical_content false (codes "---\n\"a\" b\n") ≡ None)
+unfolding chars is_utf8 encode_utf8
+broken = (refl, refl, refl, refl, refl, refl)
+
+-- nor have: two versions, an unknown handle, a tag before an anchor, the bare tag before a collection, `...` twice, a
+-- key alone, a tag that ends at a break, a directive without a document, bytes that aren't UTF-8, a lone surrogate, a mark in UTF-8
+broken_otherwise : (canonical_content false (codes "%YAML 1.1\n%YAML 1.1\n---\n\"a\"\n") ≡ None)
+    × (canonical_content false (codes "---\n!e!t \"x\"\n") ≡ None)
+    × (canonical_content false (codes "---\n!!str &a \"x\"\n") ≡ None)
+    × (canonical_content false (codes "---\n! [ ]\n") ≡ None)
+    × (canonical_content false (codes "---\n\"a\"\n...\n...\n") ≡ None)
+    × (canonical_content false (codes "---\n{? \"a\",}\n") ≡ None)
+    × (canonical_content false (codes "---\n!!str\n\"x\"\n") ≡ None)
+    × (canonical_content false (codes "%YAML 1.1\n") ≡ None)
+    × (canonical_content false (0xFF ∷ []) ≡ None)
+    × (canonical_content false (0xFF ∷ 0xFE ∷ 0 ∷ 0xD8 ∷ []) ≡ None)
+    × (canonical_content false (0xEF ∷ 0xBB ∷ 0xBF ∷ codes "---\n\"a\"\n") ≡ None)
+unfolding chars is_utf8 encode_utf8
+broken_otherwise = (refl, refl, refl, refl, refl, refl, refl, refl, refl, refl, refl)
