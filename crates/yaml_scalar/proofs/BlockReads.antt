@@ -89,10 +89,10 @@ digit-passed n rest low high = rw (is-digit n low high) refl
 abbrev digit_of : Bool → ℕ → Option ℕ
 digit_of blank best_indent = if blank then Some best_indent else None
 
-abbrev digit_text : Bool → ℕ → Text
+abbrev pub digit_text : Bool → ℕ → Text
 digit_text blank best_indent = if blank then (48 + best_indent) ∷ [] else []
 
-abbrev sign_of : Bool → ℕ
+abbrev pub sign_of : Bool → ℕ
 sign_of folded = if folded then 62 else 124
 
 -- the reader takes from a header what it says

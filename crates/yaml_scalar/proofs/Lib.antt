@@ -3,3 +3,4 @@ pub mod BlockFinal
 pub mod BlockFolds
 pub mod QuotingSteps
 pub mod BlockReads
+pub mod BlockLines

@@ -1,0 +1,173 @@
+-- A literal or folded body holds no CR and no U+0085, and each of its nonempty lines after the header begins with
+-- two spaces at least; so both hold as its line breaks are written, and reading it gives the value.
+use Rattle.std.proofs.Common.{◌≡◌, ◌≤◌, refl, ap, ◌∙◌, append_assoc, arith}
+use Rattle.std.proofs.lemmas.Bool.{and_from, or_from, or_left, or_right, not_from_false, ne_eqb}
+use Rattle.std.specs.Prelude.{ℕ, zero, suc, Bool, true, false, List, [], ◌∷◌, ◌++◌, ◌==◌, ◌||◌, ◌+◌, not, Option, Some, replicate}
+use Rattle.yaml_base.specs.Analysis.{Charset, allows_block}
+use Rattle.yaml_base.specs.Characters.{Text, is_break, space, line_feed, carriage_return, next_line, line_separator, paragraph_separator}
+use Rattle.yaml_base.specs.Settings.{LineBreak}
+use Rattle.yaml_base.specs.LineBreaks.{is_laid_text, begins_indented, is_indented_text, with_breaks_written, with_line_breaks_read}
+use Rattle.yaml_base.specs.Cursor.{Cursor}
+use Rattle.yaml_base.specs.Lines.{Part, line, line_break, parts}
+use Rattle.yaml_base.specs.BlockHeader.{Ending, without_break, one_break, more_breaks, ending, begins_blank, ending_hint, block_body, Encloses}
+use Rattle.yaml_base.specs.Literal.{indented, literal_body}
+use Rattle.yaml_base.specs.Folded.{folded_parts, folded_body}
+use Rattle.yaml_base.specs.ReadBlock.{read_block}
+use Rattle.yaml_base.proofs.BreakLaws.{breaks-round, laid-append, indented-written}
+use Rattle.yaml_scalar.proofs.BlockParts.{Ordinary, IsLine, Clean, parts-clean}
+use Rattle.yaml_scalar.proofs.BlockFolds.{folded-clean}
+use Rattle.yaml_scalar.proofs.BlockReads.{allowed-ordinary, digit_text, sign_of, block-text, literal-reads, folded-read}
+
+-- an ordinary character may stand in a laid text
+ordinary-laid : (breaks12 : Bool) (c : ℕ) → Ordinary breaks12 c → not (c == carriage_return || c == next_line) ≡ true
+ordinary-laid breaks12 c o = not_from_false (c == carriage_return || c == next_line) (or_from _ _ o.no_return o.no_next_line)
+
+line-laid : (breaks12 : Bool) (text : Text) → IsLine breaks12 text → is_laid_text text ≡ true
+line-laid breaks12 [] h = refl
+line-laid breaks12 (c ∷ rest) h = and_from _ _ (ordinary-laid breaks12 c h.0) (line-laid breaks12 rest h.2)
+
+spaces-laid : (n : ℕ) → is_laid_text (replicate n space) ≡ true
+spaces-laid zero = refl
+spaces-laid (suc n) = spaces-laid n
+
+lines-laid : (breaks12 : Bool) (indent : ℕ) (ps : List Part) → Clean breaks12 ps → is_laid_text (indented indent ps) ≡ true
+lines-laid breaks12 indent [] h = refl
+lines-laid breaks12 indent (line text ∷ rest) h =
+    laid-append (replicate indent space ++ text) (indented indent rest)
+    (laid-append (replicate indent space) text (spaces-laid indent) (line-laid breaks12 text h.0)) (lines-laid breaks12 indent rest h.2)
+lines-laid breaks12 indent (line_break b ∷ rest) h = and_from _ _ (ordinary-laid breaks12 b h.0) (lines-laid breaks12 indent rest h.2)
+
+-- a text without a break, before another
+line-indented : (breaks12 : Bool) (text rest : Text) → IsLine breaks12 text → is_indented_text rest ≡ true → is_indented_text (text ++ rest) ≡ true
+line-indented breaks12 [] rest h k = k
+line-indented breaks12 (c ∷ text) rest h k = rw h.1 (line-indented breaks12 text rest h.2 k)
+
+spaces-indented : (n : ℕ) (rest : Text) → is_indented_text rest ≡ true → is_indented_text (replicate n space ++ rest) ≡ true
+spaces-indented zero rest k = k
+spaces-indented (suc n) rest k = spaces-indented n rest k
+
+break-first : (b : ℕ) (rest : Text) → is_break b ≡ true → begins_indented (b ∷ rest) ≡ true
+break-first b [] h = h
+break-first b (c ∷ rest) h = or_left _ _ h
+
+-- lines after at least two spaces each
+lines-begin : (breaks12 : Bool) (less : ℕ) (ps : List Part) → Clean breaks12 ps → begins_indented (indented (suc (suc less)) ps) ≡ true
+lines-begin breaks12 less [] h = refl
+lines-begin breaks12 less (line text ∷ rest) h = refl
+lines-begin breaks12 less (line_break b ∷ rest) h = break-first b (indented (suc (suc less)) rest) h.1
+
+lines-indented : (breaks12 : Bool) (less : ℕ) (ps : List Part) → Clean breaks12 ps → is_indented_text (indented (suc (suc less)) ps) ≡ true
+lines-indented breaks12 less [] h = refl
+lines-indented breaks12 less (line text ∷ rest) h =
+    ap is_indented_text (append_assoc (replicate (suc (suc less)) space) text (indented (suc (suc less)) rest))
+    ∙ spaces-indented (suc (suc less)) (text ++ indented (suc (suc less)) rest)
+    (line-indented breaks12 text (indented (suc (suc less)) rest) h.0 (lines-indented breaks12 less rest h.2))
+lines-indented breaks12 less (line_break b ∷ rest) h =
+    and_from _ _ (or_right _ _ (lines-begin breaks12 less rest h.2)) (lines-indented breaks12 less rest h.2)
+
+digit-laid : (n : ℕ) → n ≤ 9 → not ((48 + n) == carriage_return || (48 + n) == next_line) ≡ true
+digit-laid n high = not_from_false _ (or_from _ _ (ne_eqb (48 + n) carriage_return (λ e. omega (arith, e))) (ne_eqb (48 + n) next_line (λ e. omega (arith, e))))
+
+digit-unbroken : (n : ℕ) → n ≤ 9 → is_break (48 + n) ≡ false
+digit-unbroken n high =
+    or_from _ _ (or_from _ _ (or_from _ _ (or_from _ _ (ne_eqb (48 + n) line_feed (λ e. omega (arith, e))) (ne_eqb (48 + n) carriage_return (λ e. omega (arith, e))))
+    (ne_eqb (48 + n) next_line (λ e. omega (arith, e)))) (ne_eqb (48 + n) line_separator (λ e. omega (arith, e)))) (ne_eqb (48 + n) paragraph_separator (λ e. omega (arith, e)))
+
+hint-laid : (e : Ending) → is_laid_text (ending_hint e) ≡ true
+hint-laid without_break = refl
+hint-laid one_break = refl
+hint-laid more_breaks = refl
+
+digit-text-laid : (blank : Bool) (n : ℕ) → n ≤ 9 → is_laid_text (digit_text blank n) ≡ true
+digit-text-laid true n high = and_from _ _ (digit-laid n high) refl
+digit-text-laid false n high = refl
+
+-- the header before laid lines
+header-laid : (folded blank : Bool) (e : Ending) (n : ℕ) (lines : Text) → n ≤ 9 → is_laid_text lines ≡ true
+    → is_laid_text (sign_of folded ∷ ((digit_text blank n ++ ending_hint e) ++ line_feed ∷ lines)) ≡ true
+header-laid true blank e n lines high h = laid-append (digit_text blank n ++ ending_hint e) (line_feed ∷ lines)
+    (laid-append (digit_text blank n) (ending_hint e) (digit-text-laid blank n high) (hint-laid e)) h
+header-laid false blank e n lines high h = laid-append (digit_text blank n ++ ending_hint e) (line_feed ∷ lines)
+    (laid-append (digit_text blank n) (ending_hint e) (digit-text-laid blank n high) (hint-laid e)) h
+
+-- the header's break is the first, so the lines after it begin with two spaces
+hint-indented : (e : Ending) (rest : Text) → is_indented_text rest ≡ true → is_indented_text (ending_hint e ++ rest) ≡ true
+hint-indented without_break rest h = h
+hint-indented one_break rest h = h
+hint-indented more_breaks rest h = h
+
+digit-indented : (blank : Bool) (n : ℕ) (rest : Text) → n ≤ 9 → is_indented_text rest ≡ true → is_indented_text (digit_text blank n ++ rest) ≡ true
+digit-indented true n rest high h = rw (digit-unbroken n high) h
+digit-indented false n rest high h = h
+
+sign-indented : (folded : Bool) (rest : Text) → is_indented_text rest ≡ true → is_indented_text (sign_of folded ∷ rest) ≡ true
+sign-indented true rest h = h
+sign-indented false rest h = h
+
+header-indented : (folded blank : Bool) (e : Ending) (n : ℕ) (lines : Text) → n ≤ 9 → begins_indented lines ≡ true → is_indented_text lines ≡ true
+    → is_indented_text (sign_of folded ∷ ((digit_text blank n ++ ending_hint e) ++ line_feed ∷ lines)) ≡ true
+header-indented folded blank e n lines high b h =
+    sign-indented folded ((digit_text blank n ++ ending_hint e) ++ line_feed ∷ lines)
+    (ap is_indented_text (append_assoc (digit_text blank n) (ending_hint e) (line_feed ∷ lines))
+    ∙ digit-indented blank n (ending_hint e ++ line_feed ∷ lines) high (hint-indented e (line_feed ∷ lines) (and_from _ _ b h)))
+
+-- a body of clean lines
+body-laid : (breaks12 folded : Bool) (indent best_indent : ℕ) (value : Text) (ps : List Part) (cursor : Cursor) → best_indent ≤ 9 → Clean breaks12 ps
+    → is_laid_text (block_body (sign_of folded) best_indent value (indented indent ps) cursor).text ≡ true
+body-laid breaks12 folded indent best_indent value ps cursor high clean =
+    ap is_laid_text (block-text (sign_of folded) best_indent value (indented indent ps) cursor)
+    ∙ header-laid folded (begins_blank value) (ending value) best_indent (indented indent ps) high (lines-laid breaks12 indent ps clean)
+
+body-indented : (breaks12 folded : Bool) (indent best_indent : ℕ) (value : Text) (ps : List Part) (cursor : Cursor) → best_indent ≤ 9 → 2 ≤ indent → Clean breaks12 ps
+    → is_indented_text (block_body (sign_of folded) best_indent value (indented indent ps) cursor).text ≡ true
+body-indented breaks12 folded zero best_indent value ps cursor high low clean = absurd (omega arith)
+body-indented breaks12 folded (suc zero) best_indent value ps cursor high low clean = absurd (omega arith)
+body-indented breaks12 folded (suc (suc less)) best_indent value ps cursor high low clean =
+    ap is_indented_text (block-text (sign_of folded) best_indent value (indented (suc (suc less)) ps) cursor)
+    ∙ header-indented folded (begins_blank value) (ending value) best_indent (indented (suc (suc less)) ps) high
+    (lines-begin breaks12 less ps clean) (lines-indented breaks12 less ps clean)
+
+-- what is promised of a body: as it was written, with any line breaks, it reads as the value, and each nonempty
+-- line after its first begins with at least two spaces
+pub record IsBlockText (breaks12 : Bool) (column : Option ℕ) (setting : LineBreak) (value body : Text) : Type 0 where
+  pub reads : read_block breaks12 column (with_line_breaks_read (with_breaks_written setting body)) ≡ Some value
+  pub indented : is_indented_text (with_breaks_written setting body) ≡ true
+
+block-kept : (breaks12 : Bool) (column : Option ℕ) (setting : LineBreak) (value body : Text) → is_laid_text body ≡ true → is_indented_text body ≡ true
+    → read_block breaks12 column body ≡ Some value → IsBlockText breaks12 column setting value body
+block-kept breaks12 column setting value body laid lines reads = record {
+  reads = rw (breaks-round setting body laid) reads;
+  indented = indented-written setting body lines;
+}
+
+module _ (charset : Charset) (value : Text) (allowed : allows_block charset value ≡ true) (indent best_indent : ℕ)
+    (low : 2 ≤ best_indent) (high : best_indent ≤ 9) (above : best_indent ≤ indent) (cursor : Cursor) where
+  pub literal-laid : is_laid_text (literal_body indent best_indent value cursor).text ≡ true
+  literal-laid = body-laid charset.breaks12 false indent best_indent value (parts value) cursor high
+      (parts-clean charset.breaks12 value (allowed-ordinary charset value allowed))
+
+  pub folded-laid : (limit : Option ℕ) → is_laid_text (folded_body limit indent best_indent value cursor).text ≡ true
+  folded-laid limit = body-laid charset.breaks12 true indent best_indent value (folded_parts limit indent false (parts value)) cursor high
+      (folded-clean charset.breaks12 limit indent false (parts value) (parts-clean charset.breaks12 value (allowed-ordinary charset value allowed)))
+
+  pub literal-indented : is_indented_text (literal_body indent best_indent value cursor).text ≡ true
+  literal-indented = body-indented charset.breaks12 false indent best_indent value (parts value) cursor high (omega arith)
+      (parts-clean charset.breaks12 value (allowed-ordinary charset value allowed))
+
+  pub folded-indented : (limit : Option ℕ) → is_indented_text (folded_body limit indent best_indent value cursor).text ≡ true
+  folded-indented limit = body-indented charset.breaks12 true indent best_indent value (folded_parts limit indent false (parts value)) cursor high (omega arith)
+      (folded-clean charset.breaks12 limit indent false (parts value) (parts-clean charset.breaks12 value (allowed-ordinary charset value allowed)))
+
+  -- a literal body, as it was written, is its value's
+  pub literal-kept : (column : Option ℕ) → Encloses indent best_indent column → (setting : LineBreak)
+      → IsBlockText charset.breaks12 column setting value (literal_body indent best_indent value cursor).text
+  literal-kept column enclosing setting =
+      block-kept charset.breaks12 column setting value (literal_body indent best_indent value cursor).text literal-laid literal-indented
+      (literal-reads charset value allowed indent best_indent low high above column enclosing cursor)
+
+  -- and a folded body
+  pub folded-kept : (limit : Option ℕ) (column : Option ℕ) → Encloses indent best_indent column → (setting : LineBreak)
+      → IsBlockText charset.breaks12 column setting value (folded_body limit indent best_indent value cursor).text
+  folded-kept limit column enclosing setting =
+      block-kept charset.breaks12 column setting value (folded_body limit indent best_indent value cursor).text (folded-laid limit) (folded-indented limit)
+      (folded-read charset value allowed indent best_indent low high above column enclosing cursor limit)
