@@ -4,3 +4,6 @@ pub mod BlockFolds
 pub mod QuotingSteps
 pub mod BlockReads
 pub mod BlockLines
+pub mod EscapesRead
+pub mod Unbroken
+pub mod DoubleReads

@@ -1,0 +1,350 @@
+-- What stands between double quotes reads as the value, and its later lines are indented.
+use Rattle.std.proofs.Common.{◌≡◌, ◌⊎◌, refl, subst, sym, ◌∙◌, ap, arith, append-nil, append_assoc, inl, inr}
+use Rattle.std.proofs.lemmas.Bool.{true≢false, and_parts, and_right, eqb-true, lt-ltb, or_left, or_right}
+use Rattle.std.proofs.lemmas.Bool.Decides.{nat_tests}
+use Rattle.std.proofs.Math.Utf8.{scalar}
+use Rattle.std.specs.Prelude.{ℕ, zero, suc, Bool, true, false, not, Option, None, Some, List, [], ◌∷◌, ◌++◌, ◌==◌, ◌||◌, ◌&&◌, ◌+◌, ◌≤◌, replicate, if◌then◌else◌}
+use Rattle.std.specs.Str.{all_scalars}
+use Rattle.yaml_base.specs.Characters.{Text, carriage_return, is_blank, is_break, is_printable, is_space, line_feed, line_separator, next_line, paragraph_separator, space}
+use Rattle.yaml_base.specs.Cursor.{Cursor, Laid, breaks_line, column_after, is_past_width, text_laid, then_laid}
+use Rattle.yaml_base.specs.DoubleQuoted.{backslash, character_text, double_fold, double_inside, double_quoted_body, escape_text, is_other, may_fold, needs_escape, quote, quote_laid, space_kept}
+use Rattle.yaml_base.specs.LineBreaks.{is_indented_text, is_laid_text, is_read_break, with_breaks_written, with_line_breaks_read}
+use Rattle.yaml_base.specs.Settings.{LineBreak}
+use Rattle.yaml_base.specs.ReadDouble.{QuotedReading, between, double_quoted_front, quoted_from, read_double, value_alone, with_unit}
+use Rattle.yaml_base.specs.ReadFolding.{FoldUnit, Front, folding_read, front_of, front_read, itself, literal_blank, literal_break, unit_before}
+use Rattle.yaml_base.proofs.BreakLaws.{breaks-round, indented-written, laid-append}
+use Rattle.yaml_scalar.proofs.EscapesRead.{escape-reads}
+use Rattle.yaml_scalar.proofs.Unbroken.{character-long, character-unbroken, is_unbroken, unbroken-column, unbroken-indented, unbroken-laid, unbroken-replicate, unescaped}
+
+-- a printable character other than a space is no blank
+no-blank : (c : ℕ) → is_printable c ≡ true → is_space c ≡ false → is_blank c ≡ false
+no-blank c p s = grind (arith, nat_tests)
+
+-- what is no break is none to a reader
+read-break-parts : (y a b c d e : Bool) → (a || b || c || d || e) ≡ false → (a || (not y && (d || e))) ≡ false
+read-break-parts y true b c d e h = cc
+read-break-parts y false true c d e h = cc
+read-break-parts y false false true d e h = cc
+read-break-parts y false false false true e h = cc
+read-break-parts y false false false false true h = cc
+read-break-parts true false false false false false h = refl
+read-break-parts false false false false false false h = refl
+
+no-read-break : (breaks12 : Bool) (c : ℕ) → is_break c ≡ false → is_read_break breaks12 c ≡ false
+no-read-break breaks12 c h =
+    read-break-parts breaks12 (c == line_feed) (c == carriage_return) (c == next_line) (c == line_separator) (c == paragraph_separator) h
+
+-- a character that needs no escape and is no space reads as itself
+other-reads : (breaks12 unicode : Bool) (c : ℕ) (rest : Text) → needs_escape unicode c ≡ false → is_space c ≡ false
+    → quoted_from breaks12 between (c ∷ rest) ≡ with_unit (itself c) (quoted_from breaks12 between rest)
+other-reads breaks12 unicode c rest h s =
+    let u = unescaped unicode c h in
+    let no_quote : (c == quote) ≡ false = u.no_quote in
+    let no_backslash : (c == backslash) ≡ false = u.no_backslash in
+    let blank = no-blank c u.printable s in
+    let brk = no-read-break breaks12 c u.no_break in
+    rw (no_quote, no_backslash, blank, brk)
+
+-- a character that is no space reads as itself, as an escape or not
+character-reads : (breaks12 unicode : Bool) (c : ℕ) (rest : Text) → scalar c ≡ true → is_space c ≡ false
+    → quoted_from breaks12 between (character_text unicode c ++ rest) ≡ with_unit (itself c) (quoted_from breaks12 between rest)
+character-reads breaks12 unicode c rest h s = go (needs_escape unicode c) refl
+  where
+    go : (b : Bool) → needs_escape unicode c ≡ b
+        → quoted_from breaks12 between ((if b then escape_text c else c ∷ []) ++ rest) ≡ with_unit (itself c) (quoted_from breaks12 between rest)
+    go true is = escape-reads breaks12 c rest h
+    go false is = other-reads breaks12 unicode c rest is s
+
+-- a space stands as itself
+space-text : (unicode : Bool) → character_text unicode space ≡ space ∷ []
+space-text true = refl
+space-text false = refl
+
+-- what a text between the quotes is seen as from its front, up to the closing quote
+record SeenAs (breaks12 : Bool) (text tail : Text) (front : Front) : Type 0 where
+  pub units : List FoldUnit
+  pub are : quoted_from breaks12 between (text ++ quote ∷ tail) ≡ Some (record { units = units; rest = tail })
+  pub front_is : front_of units ≡ front
+
+-- a character that is no blank or break before such a text
+abbrev front_at : Text → Front
+front_at value = record { blanks = []; breaks = []; rest = value }
+
+seen-nothing : (breaks12 : Bool) (tail : Text) → SeenAs breaks12 [] tail (front_at [])
+seen-nothing breaks12 tail = record { units = []; are = refl; front_is = refl }
+
+-- one more unit before what is seen
+seen-more : (breaks12 : Bool) (written text tail : Text) (unit : FoldUnit) (front : Front)
+    → ((rest : Text) → quoted_from breaks12 between (written ++ rest) ≡ with_unit unit (quoted_from breaks12 between rest))
+    → SeenAs breaks12 text tail front → SeenAs breaks12 (written ++ text) tail (unit_before unit front)
+seen-more breaks12 written text tail unit front reads seen = record {
+  units = unit ∷ seen.units;
+  are = rw (append_assoc written text (quote ∷ tail), reads (text ++ quote ∷ tail), seen.are);
+  front_is = ap (unit_before unit) seen.front_is;
+}
+
+-- spaces before it
+abbrev blanks_ahead : ℕ → Front → Front
+blanks_ahead zero front = front
+blanks_ahead (suc n) front = unit_before (literal_blank space) (blanks_ahead n front)
+
+seen-blanks : (breaks12 : Bool) (n : ℕ) (text tail : Text) (front : Front)
+    → SeenAs breaks12 text tail front → SeenAs breaks12 (replicate n space ++ text) tail (blanks_ahead n front)
+seen-blanks breaks12 zero text tail front seen = seen
+seen-blanks breaks12 (suc n) text tail front seen =
+    seen-more breaks12 (space ∷ []) (replicate n space ++ text) tail (literal_blank space) (blanks_ahead n front)
+    (λ rest. refl)
+    (seen-blanks breaks12 n text tail front seen)
+
+-- spaces before a front without blanks and breaks are blanks, and a break before them drops them
+blanks-dropped : (n : ℕ) (value : Text)
+    → ((blanks_ahead n (front_at value)).breaks ≡ []) × ((blanks_ahead n (front_at value)).rest ≡ value)
+blanks-dropped zero value = (refl, refl)
+blanks-dropped (suc n) value = blanks-dropped n value
+
+fold-read : (n : ℕ) (value : Text)
+    → front_read (unit_before (literal_break line_feed) (blanks_ahead n (front_at value))) ≡ space ∷ value
+fold-read n value = let p = blanks-dropped n value in rw (p.0, p.1)
+
+-- a blank before a front without breaks is kept
+blank-kept : (c : ℕ) (blanks breaks rest : Text) → breaks ≡ []
+    → front_read (unit_before (literal_blank c) (record { blanks = blanks; breaks = breaks; rest = rest }))
+    ≡ c ∷ front_read (record { blanks = blanks; breaks = breaks; rest = rest })
+blank-kept c blanks breaks rest e = rw e
+
+-- a fold stands behind a character that is no space
+may-fold-other : (before : Option ℕ) (rest : Text) → may_fold before rest ≡ true → is_other before ≡ true
+may-fold-other before [] h = cc
+may-fold-other before (c ∷ rest) h = h
+
+-- behind such a character the column is past the indentation
+abbrev margin : Option ℕ → ℕ
+margin before = if is_other before then 1 else 0
+
+-- a fold here breaks the line: the cursor is behind no indentation, or past its own
+abbrev Fits : (indent : ℕ) → (before : Option ℕ) → Cursor → Type 0
+Fits indent before cursor = (cursor.indention ≡ false) ⊎ (indent + margin before ≤ cursor.column)
+
+fits-breaks : (indent : ℕ) (before : Option ℕ) (cursor : Cursor) → is_other before ≡ true → Fits indent before cursor
+    → breaks_line indent cursor ≡ true
+fits-breaks indent before cursor h (inl e) = rw e
+fits-breaks indent before cursor h (inr le) =
+    let k : indent + 1 ≤ cursor.column = rw h at le in
+    or_left _ _ (or_right (not cursor.indention) _ (lt-ltb indent cursor.column (omega arith)))
+
+-- what is laid between the quotes for a value, after a character or at the start
+record Inside (breaks12 : Bool) (tail : Text) (before : Option ℕ) (value text : Text) : Type 0 where
+  pub front : Front
+  pub seen : SeenAs breaks12 text tail front
+  pub value_is : front_read front ≡ value
+  pub no_breaks : is_other before ≡ false → front.breaks ≡ []
+  pub kept : is_other before ≡ false → SeenAs breaks12 (space_kept value ++ text) tail (front_at value)
+  pub laid : is_laid_text text ≡ true
+  pub indented : is_indented_text (text ++ quote ∷ []) ≡ true
+
+inside-nothing : (breaks12 : Bool) (tail : Text) (before : Option ℕ) → Inside breaks12 tail before [] []
+inside-nothing breaks12 tail before = record {
+  front = front_at [];
+  seen = seen-nothing breaks12 tail;
+  value_is = refl;
+  no_breaks = λ h. refl;
+  kept = λ h. seen-nothing breaks12 tail;
+  laid = refl;
+  indented = refl;
+}
+
+-- a character that is no space
+inside-other : (breaks12 unicode : Bool) (tail : Text) (before : Option ℕ) (c : ℕ) (rest text : Text)
+    → scalar c ≡ true → is_space c ≡ false
+    → Inside breaks12 tail (Some c) rest text → Inside breaks12 tail before (c ∷ rest) (character_text unicode c ++ text)
+inside-other breaks12 unicode tail before c rest text h s ih =
+    let more = seen-more breaks12 (character_text unicode c) text tail (itself c) ih.front
+    (λ after. character-reads breaks12 unicode c after h s) ih.seen in
+    let seen : SeenAs breaks12 (character_text unicode c ++ text) tail (front_at (c ∷ rest)) =
+    subst (λ (v : Text). SeenAs breaks12 (character_text unicode c ++ text) tail (front_at (c ∷ v))) ih.value_is more in
+    let no = character-unbroken unicode c in
+    record {
+      front = front_at (c ∷ rest);
+      seen = seen;
+      value_is = refl;
+      no_breaks = λ k. refl;
+      kept = λ k. rw s seen;
+      laid = laid-append (character_text unicode c) text (unbroken-laid (character_text unicode c) no) ih.laid;
+      indented = rw (append_assoc (character_text unicode c) text (quote ∷ []))
+          (unbroken-indented (character_text unicode c) (text ++ quote ∷ []) no ih.indented);
+    }
+
+-- a space that isn't folded
+inside-space : (breaks12 : Bool) (tail : Text) (before : Option ℕ) (rest text : Text)
+    → Inside breaks12 tail (Some space) rest text → Inside breaks12 tail before (space ∷ rest) (space ∷ text)
+inside-space breaks12 tail before rest text ih = record {
+  front = unit_before (literal_blank space) ih.front;
+  seen = seen-more breaks12 (space ∷ []) text tail (literal_blank space) ih.front (λ after. refl) ih.seen;
+  value_is = blank-kept space ih.front.blanks ih.front.breaks ih.front.rest (ih.no_breaks refl) ∙ ap (λ v. space ∷ v) ih.value_is;
+  no_breaks = λ k. ih.no_breaks refl;
+  kept = λ k. subst (λ (v : Text). SeenAs breaks12 (backslash ∷ space ∷ text) tail (front_at (space ∷ v))) ih.value_is
+      (seen-more breaks12 (backslash ∷ space ∷ []) text tail (itself space) ih.front (λ after. refl) ih.seen);
+  laid = ih.laid;
+  indented = ih.indented;
+}
+
+-- what a fold's indentation leaves of a line
+fold-indented : (indent : ℕ) (rest : Text) → 2 ≤ indent → is_indented_text rest ≡ true
+    → is_indented_text (line_feed ∷ (replicate indent space ++ rest)) ≡ true
+fold-indented zero rest h k = absurd (omega arith)
+fold-indented (suc zero) rest h k = absurd (omega arith)
+fold-indented (suc (suc n)) rest h k = unbroken-indented (replicate n space) rest (unbroken-replicate n) k
+
+kept-unbroken : (rest : Text) → is_unbroken (space_kept rest) ≡ true
+kept-unbroken [] = refl
+kept-unbroken (c ∷ rest) = go (is_space c)
+  where
+    go : (b : Bool) → is_unbroken (if b then backslash ∷ [] else []) ≡ true
+    go true = refl
+    go false = refl
+
+-- a space that is folded
+inside-fold : (breaks12 : Bool) (tail : Text) (before : Option ℕ) (indent : ℕ) (rest text : Text)
+    → 2 ≤ indent → is_other before ≡ true
+    → Inside breaks12 tail (Some space) rest text
+    → Inside breaks12 tail before (space ∷ rest) ((line_feed ∷ replicate indent space ++ space_kept rest) ++ text)
+inside-fold breaks12 tail before indent rest text wide other ih =
+    let spaces = replicate indent space in
+    let kept = space_kept rest in
+    let regroup : (line_feed ∷ spaces ++ kept) ++ text ≡ line_feed ∷ (spaces ++ (kept ++ text)) = ap (λ t. line_feed ∷ t) (append_assoc spaces kept text) in
+    let no_kept = kept-unbroken rest in
+    subst (λ (t : Text). Inside breaks12 tail before (space ∷ rest) t) (sym regroup) (record {
+      front = unit_before (literal_break line_feed) (blanks_ahead indent (front_at rest));
+      seen = seen-more breaks12 (line_feed ∷ []) (spaces ++ (kept ++ text)) tail (literal_break line_feed) (blanks_ahead indent (front_at rest))
+          (λ after. refl)
+          (seen-blanks breaks12 indent (kept ++ text) tail (front_at rest) (ih.kept refl));
+      value_is = fold-read indent rest;
+      no_breaks = λ k. absurd (true≢false (sym other ∙ k));
+      kept = λ k. absurd (true≢false (sym other ∙ k));
+      laid = laid-append spaces (kept ++ text) (unbroken-laid spaces (unbroken-replicate indent)) (laid-append kept text (unbroken-laid kept no_kept) ih.laid);
+      indented = rw (append_assoc spaces (kept ++ text) (quote ∷ []), append_assoc kept text (quote ∷ []))
+          (fold-indented indent (kept ++ (text ++ quote ∷ [])) wide (unbroken-indented kept (text ++ quote ∷ []) no_kept ih.indented));
+    })
+
+-- a fold ends at its indentation, or behind the backslash
+kept-column : (rest : Text) (column : ℕ) → column ≤ column_after (space_kept rest) column
+kept-column rest column = let e = unbroken-column (space_kept rest) column (kept-unbroken rest) in omega (arith, e)
+
+margin-small : (before : Option ℕ) → margin before ≤ 1
+margin-small before = go (is_other before)
+  where
+    go : (b : Bool) → (if b then 1 else 0) ≤ 1
+    go true = omega arith
+    go false = omega arith
+
+-- the cursor behind a character's text
+fits-character : (unicode : Bool) (indent : ℕ) (before : Option ℕ) (c : ℕ) (cursor : Cursor) → Fits indent before cursor
+    → Fits indent (Some c) (text_laid (character_text unicode c) cursor).cursor
+fits-character unicode indent before c cursor (inl e) = inl e
+fits-character unicode indent before c cursor (inr le) =
+    let e = unbroken-column (character_text unicode c) cursor.column (character-unbroken unicode c) in
+    let long = character-long unicode c in
+    let small : margin (Some c) ≤ 1 = margin-small (Some c) in
+    inr (omega (arith, e))
+
+module _ (breaks12 unicode : Bool) (limit : Option ℕ) (indent : ℕ) (wide : 2 ≤ indent) (tail : Text) where
+  -- what follows a character
+  abbrev Follows : (c : ℕ) (rest : Text) → Type 0
+  Follows c rest =
+      (next : Cursor) → Fits indent (Some c) next → Inside breaks12 tail (Some c) rest (double_inside unicode limit indent (Some c) rest next).text
+
+  -- a character, laid so, and what follows it
+  abbrev Goes : (before : Option ℕ) (rest : Text) → Laid → ℕ → Type 0
+  Goes before rest laid c =
+      Follows c rest → Inside breaks12 tail before (c ∷ rest) (then_laid laid (double_inside unicode limit indent (Some c) rest)).text
+
+  space-folded : (before : Option ℕ) (rest : Text) (cursor : Cursor) → is_other before ≡ true → breaks_line indent cursor ≡ true
+      → Goes before rest (double_fold indent rest cursor) space
+  space-folded before rest cursor other breaks ih =
+      let next : Cursor = (double_fold indent rest cursor).cursor in
+      let fits : Fits indent (Some space) next = inr (let le = kept-column rest indent in omega arith) in
+      rw breaks (inside-fold breaks12 tail before indent rest _ wide other (ih next fits))
+
+  space-stays : (before : Option ℕ) (rest : Text) (cursor : Cursor) → Fits indent before cursor
+      → Goes before rest (text_laid (character_text unicode space) cursor) space
+  space-stays before rest cursor fits ih =
+      let next = ih (text_laid (character_text unicode space) cursor).cursor (fits-character unicode indent before space cursor fits) in
+      rw (space-text unicode) (inside-space breaks12 tail before rest _ (rw (space-text unicode) at next))
+
+  -- one character and what follows it
+  step : (before : Option ℕ) (c : ℕ) (rest : Text) (cursor : Cursor) (folds spaced : Bool)
+      → (is_space c && may_fold before rest && is_past_width limit cursor) ≡ folds → is_space c ≡ spaced
+      → scalar c ≡ true → Fits indent before cursor
+      → Goes before rest (if folds then double_fold indent rest cursor else text_laid (character_text unicode c) cursor) c
+  step before c rest cursor true spaced is is_s h fits ih =
+      let p : ((is_space c && may_fold before rest) ≡ true) × (is_past_width limit cursor ≡ true) = and_parts _ _ is in
+      let q : (is_space c ≡ true) × (may_fold before rest ≡ true) = and_parts _ _ p.0 in
+      let e : c ≡ space = eqb-true c space q.0 in
+      let other = may-fold-other before rest q.1 in
+      let breaks = fits-breaks indent before cursor other fits in
+      subst (Goes before rest (double_fold indent rest cursor)) (sym e) (space-folded before rest cursor other breaks) ih
+  step before c rest cursor false true is is_s h fits ih =
+      let e : c ≡ space = eqb-true c space is_s in
+      subst (λ (k : ℕ). Goes before rest (text_laid (character_text unicode k) cursor) k) (sym e) (space-stays before rest cursor fits) ih
+  step before c rest cursor false false is is_s h fits ih =
+      inside-other breaks12 unicode tail before c rest _ h is_s (ih _ (fits-character unicode indent before c cursor fits))
+
+  -- all that stands between the quotes
+  inside-reads : (value : Text) (before : Option ℕ) (cursor : Cursor) → all_scalars value ≡ true → Fits indent before cursor
+      → Inside breaks12 tail before value (double_inside unicode limit indent before value cursor).text
+  inside-reads [] before cursor h fits = inside-nothing breaks12 tail before
+  inside-reads (c ∷ rest) before cursor h fits =
+      let p : (scalar c ≡ true) × (all_scalars rest ≡ true) = and_parts _ _ h in
+      step before c rest cursor _ (is_space c) refl refl p.0 fits (λ next. inside-reads rest (Some c) next p.1)
+
+-- the cursor behind the opening quote
+abbrev quoted_cursor : Cursor → Cursor
+quoted_cursor cursor = (quote_laid cursor).cursor
+
+body-inside : (breaks12 unicode : Bool) (limit : Option ℕ) (indent : ℕ) (value : Text) (cursor : Cursor) (tail : Text)
+    → 2 ≤ indent → all_scalars value ≡ true
+    → Inside breaks12 tail None value (double_inside unicode limit indent None value (quoted_cursor cursor)).text
+body-inside breaks12 unicode limit indent value cursor tail wide h =
+    inside-reads breaks12 unicode limit indent wide tail value None (quoted_cursor cursor) h (inl (and_right cursor.indention false refl))
+
+abbrev reading_before : (rest value : Text) → Option QuotedReading
+reading_before rest value = Some (record { value = value; rest = rest })
+
+-- a body at the front of a text reads as the value, and what follows its closing quote is the rest
+pub double-front : (breaks12 unicode : Bool) (limit : Option ℕ) (indent : ℕ) (value : Text) (cursor : Cursor) (rest : Text)
+    → 2 ≤ indent → all_scalars value ≡ true
+    → double_quoted_front breaks12 ((double_quoted_body unicode limit indent value cursor).text ++ rest)
+    ≡ Some (record { value = value; rest = rest })
+double-front breaks12 unicode limit indent value cursor rest wide h =
+    let inside = body-inside breaks12 unicode limit indent value cursor rest wide h in
+    let text = (double_inside unicode limit indent None value (quoted_cursor cursor)).text in
+    let same : folding_read inside.seen.units ≡ value = ap front_read inside.seen.front_is ∙ inside.value_is in
+    rw (append_assoc text (quote ∷ []) rest, inside.seen.are) (ap (reading_before rest) same)
+
+-- a body holds neither CR nor U+0085
+pub double-laid : (unicode : Bool) (limit : Option ℕ) (indent : ℕ) (value : Text) (cursor : Cursor)
+    → 2 ≤ indent → all_scalars value ≡ true
+    → is_laid_text (double_quoted_body unicode limit indent value cursor).text ≡ true
+double-laid unicode limit indent value cursor wide h =
+    let inside = body-inside false unicode limit indent value cursor [] wide h in
+    laid-append (double_inside unicode limit indent None value (quoted_cursor cursor)).text (quote ∷ []) inside.laid refl
+
+-- a body, however its line breaks are written, reads as the value
+pub double-reads : (breaks12 unicode : Bool) (limit : Option ℕ) (indent : ℕ) (value : Text) (cursor : Cursor) (setting : LineBreak)
+    → 2 ≤ indent → all_scalars value ≡ true
+    → read_double breaks12
+    (with_line_breaks_read (with_breaks_written setting (double_quoted_body unicode limit indent value cursor).text))
+    ≡ Some value
+double-reads breaks12 unicode limit indent value cursor setting wide h =
+    let body = (double_quoted_body unicode limit indent value cursor).text in
+    let front = double-front breaks12 unicode limit indent value cursor [] wide h in
+    ap (read_double breaks12) (breaks-round setting body (double-laid unicode limit indent value cursor wide h))
+    ∙ ap value_alone (subst (λ (t : Text). double_quoted_front breaks12 t ≡ reading_before [] value) (append-nil body) front)
+
+-- each nonempty line of a body after the first begins with two spaces, however its line breaks are written
+pub double-indented : (unicode : Bool) (limit : Option ℕ) (indent : ℕ) (value : Text) (cursor : Cursor) (setting : LineBreak)
+    → 2 ≤ indent → all_scalars value ≡ true
+    → is_indented_text (with_breaks_written setting (double_quoted_body unicode limit indent value cursor).text) ≡ true
+double-indented unicode limit indent value cursor setting wide h =
+    let inside = body-inside false unicode limit indent value cursor [] wide h in
+    indented-written setting (double_quoted_body unicode limit indent value cursor).text inside.indented

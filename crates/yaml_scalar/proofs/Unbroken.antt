@@ -1,0 +1,129 @@
+-- Texts without a break: what they do to a column and to a text's lines; and that no written character holds one.
+use Rattle.std.proofs.Common.{◌≡◌, refl, arith}
+use Rattle.std.proofs.lemmas.Bool.{agree_below_at, and_from, and_parts, not-false, not-true, or_left}
+use Rattle.std.specs.Prelude.{ℕ, zero, suc, Bool, true, false, not, Option, None, Some, List, [], ◌∷◌, ◌++◌, ◌==◌, ◌||◌, ◌&&◌, ◌+◌, ◌/◌, ◌%◌, ◌≤◌, nat_le, length, replicate, if◌then◌else◌}
+use Rattle.yaml_base.specs.Characters.{Text, carriage_return, hex_digit, hex_digits, is_ascii, is_break, is_printable, line_feed, line_separator, next_line, paragraph_separator, space}
+use Rattle.yaml_base.specs.Cursor.{column_after}
+use Rattle.yaml_base.specs.DoubleQuoted.{ShortEscape, backslash, character_text, escape_after_backslash, escape_text, letter_among, needs_escape, quote, short_escapes}
+use Rattle.yaml_base.specs.LineBreaks.{is_indented_text, is_laid_text}
+
+-- no character of the text is a break
+abbrev pub is_unbroken : Text → Bool
+is_unbroken [] = true
+is_unbroken (c ∷ rest) = not (is_break c) && is_unbroken rest
+
+pub unbroken-append : (a b : Text) → is_unbroken a ≡ true → is_unbroken b ≡ true → is_unbroken (a ++ b) ≡ true
+unbroken-append [] b h k = k
+unbroken-append (c ∷ a) b h k =
+    let p : (not (is_break c) ≡ true) × (is_unbroken a ≡ true) = and_parts _ _ h in
+    and_from _ _ p.0 (unbroken-append a b p.1 k)
+
+pub unbroken-replicate : (n : ℕ) → is_unbroken (replicate n space) ≡ true
+unbroken-replicate zero = refl
+unbroken-replicate (suc n) = unbroken-replicate n
+
+-- such a text moves the column by its length
+pub unbroken-column : (text : Text) (column : ℕ) → is_unbroken text ≡ true → column_after text column ≡ column + length text
+unbroken-column [] column h = omega arith
+unbroken-column (c ∷ rest) column h =
+    let p : (not (is_break c) ≡ true) × (is_unbroken rest ≡ true) = and_parts _ _ h in
+    let q : is_break c ≡ false = not-true _ p.0 in
+    let ih : column_after rest (column + 1) ≡ column + 1 + length rest = unbroken-column rest (column + 1) p.1 in
+    rw q (omega (arith, ih))
+
+-- CR and U+0085 are breaks
+second-and-third : (a b c d e : Bool) → (a || b || c || d || e) ≡ false → not (b || c) ≡ true
+second-and-third true b c d e h = cc
+second-and-third false true c d e h = cc
+second-and-third false false true d e h = cc
+second-and-third false false false d e h = refl
+
+pub unbroken-laid : (text : Text) → is_unbroken text ≡ true → is_laid_text text ≡ true
+unbroken-laid [] h = refl
+unbroken-laid (c ∷ rest) h =
+    let p : (not (is_break c) ≡ true) × (is_unbroken rest ≡ true) = and_parts _ _ h in
+    let q : is_break c ≡ false = not-true _ p.0 in
+    and_from _ _ (second-and-third (c == line_feed) (c == carriage_return) (c == next_line) (c == line_separator) (c == paragraph_separator) q) (unbroken-laid rest p.1)
+
+-- lines behind such a text are as they are
+pub unbroken-indented : (a b : Text) → is_unbroken a ≡ true → is_indented_text b ≡ true → is_indented_text (a ++ b) ≡ true
+unbroken-indented [] b h k = k
+unbroken-indented (c ∷ a) b h k =
+    let p : (not (is_break c) ≡ true) × (is_unbroken a ≡ true) = and_parts _ _ h in
+    and_from _ _ (or_left _ _ p.0) (unbroken-indented a b p.1 k)
+
+-- no letter of a table is a break
+abbrev letters_unbroken : List ShortEscape → Bool
+letters_unbroken [] = true
+letters_unbroken (entry ∷ more) = not (is_break entry.letter) && letters_unbroken more
+
+letter-found : (table : List ShortEscape) (c letter : ℕ) → letters_unbroken table ≡ true
+    → letter_among table c ≡ Some letter → not (is_break letter) ≡ true
+letter-found [] c letter h found = cc
+letter-found (entry ∷ more) c letter h found =
+    let p : (not (is_break entry.letter) ≡ true) × (letters_unbroken more ≡ true) = and_parts _ _ h in
+    letter-here more entry c letter (c == entry.character) p.0 (letter-found more c letter p.1) found
+  where
+    letter-here : (more : List ShortEscape) (entry : ShortEscape) (c letter : ℕ) (b : Bool) → not (is_break entry.letter) ≡ true
+        → (letter_among more c ≡ Some letter → not (is_break letter) ≡ true)
+        → (if b then Some entry.letter else letter_among more c) ≡ Some letter → not (is_break letter) ≡ true
+    letter-here more entry c letter true here later h = let e : entry.letter ≡ letter = cc in rw (← e) here
+    letter-here more entry c letter false here later h = later h
+
+-- no digit is a break
+digit-unbroken : (n : ℕ) → not (is_break (hex_digit (n % 16))) ≡ true
+digit-unbroken n = agree_below_at (λ d. not (is_break (hex_digit d))) (λ d. true) 16 (n % 16) refl (omega arith)
+
+digits-unbroken : (count n : ℕ) → is_unbroken (hex_digits count n) ≡ true
+digits-unbroken zero n = refl
+digits-unbroken (suc count) n =
+    unbroken-append (hex_digits count (n / 16)) (hex_digit (n % 16) ∷ []) (digits-unbroken count (n / 16)) (and_from _ true (digit-unbroken n) refl)
+
+number-unbroken : (c : ℕ) (two four : Bool)
+    → is_unbroken (if two then 120 ∷ hex_digits 2 c else (if four then 117 ∷ hex_digits 4 c else 85 ∷ hex_digits 8 c)) ≡ true
+number-unbroken c true four = digits-unbroken 2 c
+number-unbroken c false true = digits-unbroken 4 c
+number-unbroken c false false = digits-unbroken 8 c
+
+rest-unbroken : (c : ℕ) (found : Option ℕ) → letter_among short_escapes c ≡ found → is_unbroken (escape_after_backslash found c) ≡ true
+rest-unbroken c (Some letter) found = and_from _ true (letter-found short_escapes c letter refl found) refl
+rest-unbroken c None found = number-unbroken c (nat_le c 0xFF) (nat_le c 0xFFFF)
+
+escape-unbroken : (c : ℕ) → is_unbroken (escape_text c) ≡ true
+escape-unbroken c = rest-unbroken c (letter_among short_escapes c) refl
+
+parts-false : (a b c d e : Bool) → (a || b || c || d || e) ≡ false → (a ≡ false) × (c ≡ false) × (d ≡ false) × (e ≡ false)
+parts-false true b c d e h = cc
+parts-false false true c d e h = cc
+parts-false false false true d e h = cc
+parts-false false false false true e h = cc
+parts-false false false false false true h = cc
+parts-false false false false false false h = (refl, refl, refl, refl)
+
+-- a character that needs no escape is printable, and neither a break nor the quote nor the backslash
+pub record Unescaped (c : ℕ) : Type 0 where
+  pub printable : is_printable c ≡ true
+  pub no_break : is_break c ≡ false
+  pub no_quote : (c == quote) ≡ false
+  pub no_backslash : (c == backslash) ≡ false
+
+pub unescaped : (unicode : Bool) (c : ℕ) → needs_escape unicode c ≡ false → Unescaped c
+unescaped unicode c h =
+    let p = parts-false (not (is_printable c)) (not unicode && not (is_ascii c)) (is_break c) (c == quote) (c == backslash) h in
+    record { printable = not-false _ p.0; no_break = p.1; no_quote = p.2; no_backslash = p.3 }
+
+-- no text of a character holds a break
+pub character-unbroken : (unicode : Bool) (c : ℕ) → is_unbroken (character_text unicode c) ≡ true
+character-unbroken unicode c = go (needs_escape unicode c) refl
+  where
+    go : (b : Bool) → needs_escape unicode c ≡ b → is_unbroken (if b then escape_text c else c ∷ []) ≡ true
+    go true is = escape-unbroken c
+    go false is = let e : is_break c ≡ false = (unescaped unicode c is).no_break in rw e
+
+-- each holds a character
+pub character-long : (unicode : Bool) (c : ℕ) → 1 ≤ length (character_text unicode c)
+character-long unicode c = go (needs_escape unicode c)
+  where
+    go : (b : Bool) → 1 ≤ length (if b then escape_text c else c ∷ [])
+    go true = omega arith
+    go false = omega arith
