@@ -16,11 +16,11 @@ use Rattle.yaml_base.proofs.PercentLaws.{decoded_escaped, stands_written, separa
 
 -- A verbatim tag.
 
-last-append : (c : ℕ) (rest : Text) (end : ℕ) → last_from c (rest ++ end ∷ []) ≡ end
+pub last-append : (c : ℕ) (rest : Text) (end : ℕ) → last_from c (rest ++ end ∷ []) ≡ end
 last-append c [] end = refl
 last-append c (next ∷ rest) end = last-append next rest end
 
-without_last-append : (text : Text) (end : ℕ) → without_last (text ++ end ∷ []) ≡ text
+pub without_last-append : (text : Text) (end : ℕ) → without_last (text ++ end ∷ []) ≡ text
 without_last-append [] end = refl
 without_last-append (c ∷ []) end = refl
 without_last-append (c ∷ next ∷ rest) end = ap (λ x. c ∷ x) (without_last-append (next ∷ rest) end)
@@ -58,7 +58,7 @@ stands_no_mark (c ∷ rest) h =
 
 -- The form of a handle.
 
-front_and_last : (c d : ℕ) (rest : Text) → d ∷ rest ≡ without_last (d ∷ rest) ++ last_from c (d ∷ rest) ∷ []
+pub front_and_last : (c d : ℕ) (rest : Text) → d ∷ rest ≡ without_last (d ∷ rest) ++ last_from c (d ∷ rest) ∷ []
 front_and_last c d [] = refl
 front_and_last c d (e ∷ rest) = ap (λ x. d ∷ x) (front_and_last d e rest)
 

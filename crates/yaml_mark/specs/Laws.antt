@@ -1,5 +1,5 @@
 -- The laws of written tags.
-use Rattle.std.specs.Prelude.{◌≡◌, Bool, true, false, Option, None, Some, List, ◌||◌, ◌≢◌, codes}
+use Rattle.std.specs.Prelude.{◌≡◌, true, false, None, Some, List, ◌||◌, ◌≢◌, codes}
 use Rattle.std.specs.List.{list_any}
 use Rattle.std.specs.Str.{all_scalars}
 use Rattle.yaml_base.specs.Characters.{Text, is_blank, is_break, is_among}

@@ -1,0 +1,134 @@
+-- What a text's bytes say of the refusals of names and handles, which go by its characters.
+use Rattle.std.proofs.Common.{◌≡◌, ◌≢◌, ℕ, ◌<◌, Bool, true, false, cond, Option, Some, None, List, [], ◌∷◌, ◌++◌, refl, sym, ◌∙◌, ap, subst, length, get_or, arith, lit<}
+use Rattle.std.proofs.lemmas.Bool.{eqb-true, ne_eqb}
+use Rattle.std.proofs.lemmas.List.{length-append}
+use Rattle.std.proofs.lemmas.Grind.{common_steps}
+use Rattle.std.proofs.Math.Seq.{take-append_seam}
+use Rattle.std.proofs.lemmas.Str.{chars-nil, encodes-chars, encode_ascii, encodes-append, chars_past_char, IsUtf8-past_char, IsUtf8-take, IsCharBoundary-before_ascii, chars-append}
+use Rattle.std.specs.Prelude.{◌==◌, IsUtf8}
+use Rattle.std.specs.List.{list_all}
+use Rattle.std.specs.Option.{option_or}
+use Rattle.std.specs.Str.{chars}
+use lib.Utf8.{encode, encodes}
+use Rattle.yaml_base.specs.Characters.{Text, is_alpha}
+use Rattle.yaml_base.specs.Tags.{name_fault, handle_fault, prefix_fault, tag_mark, last_from, without_last}
+use Rattle.yaml_base.proofs.TagLaws.{last-append, without_last-append, front_and_last}
+
+nothing : (bytes : List ℕ) → (length bytes == 0) ≡ true → bytes ≡ []
+nothing [] h = refl
+nothing (b ∷ bytes) h = let e : length (b ∷ bytes) ≡ 0 = eqb-true _ _ h in absurd (omega arith)
+
+no_characters : (bytes : List ℕ) → (length bytes == 0) ≡ true → chars bytes ≡ []
+no_characters bytes h = ap chars (nothing bytes h) ∙ chars-nil
+
+begins : (text : Text) (bytes : List ℕ) → encodes text ≡ bytes → (length bytes == 0) ≡ false → (c : ℕ) × (rest : Text) × (text ≡ c ∷ rest)
+begins [] bytes e h = let P : List ℕ → Type 0 = λ x. (length x == 0) ≡ false in absurd (let k : true ≡ false = subst P (sym e) h in cc)
+begins (c ∷ rest) bytes e h = (c, rest, refl)
+
+-- a text that isn't empty has a first character
+pub characters_begin : (bytes : List ℕ) → IsUtf8 bytes → (length bytes == 0) ≡ false → (c : ℕ) × (rest : Text) × (chars bytes ≡ c ∷ rest)
+characters_begin bytes u h = begins (chars bytes) bytes (encodes-chars bytes u) h
+
+pub empty_name : (bytes : List ℕ) (if_empty if_other : ℕ) → (length bytes == 0) ≡ true → Some if_empty ≡ name_fault if_empty if_other (chars bytes)
+empty_name bytes a b h = rw (no_characters bytes h) refl
+
+good : (text : Text) (if_empty if_other c : ℕ) (rest : Text) → text ≡ c ∷ rest → list_all is_alpha text ≡ true → None ≡ name_fault if_empty if_other text
+good text a b c rest e h =
+    let P : Text → Type 0 = λ t. list_all is_alpha t ≡ true → None ≡ name_fault a b t in
+    let Q : (list_all is_alpha (c ∷ rest) ≡ true) → None ≡ name_fault a b (c ∷ rest) = λ k. rw k refl in
+    subst P (sym e) Q h
+
+pub good_name : (bytes : List ℕ) (if_empty if_other : ℕ) → IsUtf8 bytes → (length bytes == 0) ≡ false → list_all is_alpha (chars bytes) ≡ true → None ≡ name_fault if_empty if_other (chars bytes)
+good_name bytes a b u n h = let first = characters_begin bytes u n in good (chars bytes) a b first.0 first.1 first.2 h
+
+pub either_way : {A : Type 0} (test : Bool) {x y z : A} → x ≡ y → x ≡ z → x ≡ cond test y z
+either_way true h k = h
+either_way false h k = k
+
+-- Handles.
+
+pub empty_handle : (bytes : List ℕ) → (length bytes == 0) ≡ true → Some 7 ≡ handle_fault (chars bytes)
+empty_handle bytes h = rw (no_characters bytes h) refl
+
+started : (c : ℕ) (rest : Text) → (c == tag_mark) ≡ false → Some 8 ≡ handle_fault (c ∷ rest)
+started c rest h = rw h refl
+
+begins_otherwise : (bytes : List ℕ) (c : ℕ) (rest : Text) → encodes (c ∷ rest) ≡ bytes → ((more : List ℕ) → bytes ≢ tag_mark ∷ more) → (c == tag_mark) ≡ false
+begins_otherwise bytes c rest e h =
+    ne_eqb c tag_mark (λ same. h (encodes rest) (sym e ∙ ap (λ x. encode x ++ encodes rest) same ∙ ap (λ x. x ++ encodes rest) (encode_ascii tag_mark (lit< tt))))
+
+pub no_start : (bytes : List ℕ) → IsUtf8 bytes → (length bytes == 0) ≡ false → ((more : List ℕ) → bytes ≢ tag_mark ∷ more) → Some 8 ≡ handle_fault (chars bytes)
+no_start bytes u n h =
+    let first = characters_begin bytes u n in
+    let e : encodes (first.0 ∷ first.1) ≡ bytes = ap encodes (sym first.2) ∙ encodes-chars bytes u in
+    started first.0 first.1 (begins_otherwise bytes first.0 first.1 e h) ∙ ap handle_fault (sym first.2)
+
+-- `!` and a rest
+mark_and : (bytes rest : List ℕ) → IsUtf8 bytes → bytes ≡ tag_mark ∷ rest → (chars bytes ≡ tag_mark ∷ chars rest) × IsUtf8 rest
+mark_and bytes rest u e =
+    let split : bytes ≡ encode tag_mark ++ rest = e ∙ ap (λ x. x ++ rest) (sym (encode_ascii tag_mark (lit< tt))) in
+    (chars_past_char bytes rest tag_mark u split, IsUtf8-past_char bytes rest tag_mark u split)
+
+pub mark_alone : (bytes rest : List ℕ) → IsUtf8 bytes → bytes ≡ tag_mark ∷ rest → (length rest == 0) ≡ true → None ≡ handle_fault (chars bytes)
+mark_alone bytes rest u e h =
+    ap handle_fault (sym ((mark_and bytes rest u e).0 ∙ ap (λ x. tag_mark ∷ x) (no_characters rest h)))
+
+ends_otherwise : (bytes : List ℕ) (c : ℕ) (more : Text) → encodes (c ∷ more) ≡ bytes → ((front : List ℕ) → bytes ≢ front ++ tag_mark ∷ []) → (last_from tag_mark (c ∷ more) == tag_mark) ≡ false
+ends_otherwise bytes c more e h =
+    ne_eqb _ _
+    (λ same. h (encodes (without_last (c ∷ more)))
+    (sym e
+    ∙ ap encodes (front_and_last tag_mark c more)
+    ∙ encodes-append (without_last (c ∷ more)) (last_from tag_mark (c ∷ more) ∷ [])
+    ∙ ap (λ x. encodes (without_last (c ∷ more)) ++ (encode x ++ [])) same
+    ∙ ap (λ x. encodes (without_last (c ∷ more)) ++ (x ++ [])) (encode_ascii tag_mark (lit< tt))))
+
+ended : (c : ℕ) (more : Text) → (last_from tag_mark (c ∷ more) == tag_mark) ≡ false → Some 9 ≡ handle_fault (tag_mark ∷ c ∷ more)
+ended c more h = rw h refl
+
+pub no_end : (bytes rest : List ℕ) → IsUtf8 bytes → bytes ≡ tag_mark ∷ rest → (length rest == 0) ≡ false → ((front : List ℕ) → rest ≢ front ++ tag_mark ∷ []) → Some 9 ≡ handle_fault (chars bytes)
+no_end bytes rest u e n h =
+    let whole = mark_and bytes rest u e in
+    let first = characters_begin rest whole.1 n in
+    let spelled : encodes (first.0 ∷ first.1) ≡ rest = ap encodes (sym first.2) ∙ encodes-chars rest whole.1 in
+    ended first.0 first.1 (ends_otherwise rest first.0 first.1 spelled h)
+    ∙ ap handle_fault (ap (λ x. tag_mark ∷ x) (sym first.2) ∙ sym whole.0)
+
+one_mark : chars (tag_mark ∷ []) ≡ tag_mark ∷ []
+unfolding chars
+one_mark = refl
+
+front_is_text : (front : List ℕ) → IsUtf8 (front ++ tag_mark ∷ []) → IsUtf8 front
+front_is_text front u =
+    let inside : length front < length (front ++ tag_mark ∷ []) = omega (arith, length-append front (tag_mark ∷ [])) in
+    let byte : get_or (front ++ tag_mark ∷ []) (length front) 0 < 128 = grind (arith, common_steps) in
+    let P : List ℕ → Type 0 = λ x. IsUtf8 x in
+    subst P (take-append_seam front (tag_mark ∷ []))
+    (IsUtf8-take (front ++ tag_mark ∷ []) (length front) u
+    (IsCharBoundary-before_ascii (front ++ tag_mark ∷ []) (length front) inside byte))
+
+between : (middle : Text) (kept : Bool) → list_all is_alpha middle ≡ kept → cond kept None (Some 10) ≡ handle_fault (tag_mark ∷ (middle ++ tag_mark ∷ []))
+between middle kept h = rw (last-append tag_mark middle tag_mark, without_last-append middle tag_mark, h) refl
+
+pub both_marks : (bytes rest middle : List ℕ) (kept : Bool) → IsUtf8 bytes → bytes ≡ tag_mark ∷ rest → rest ≡ middle ++ tag_mark ∷ [] → list_all is_alpha (chars middle) ≡ kept → cond kept None (Some 10) ≡ handle_fault (chars bytes)
+both_marks bytes rest middle kept u e f h =
+    let whole = mark_and bytes rest u e in
+    let P : List ℕ → Type 0 = λ x. IsUtf8 x in
+    let cut : chars rest ≡ chars middle ++ tag_mark ∷ [] =
+    ap chars f ∙ chars-append middle (tag_mark ∷ []) (front_is_text middle (subst P f whole.1)) ∙ ap (λ x. chars middle ++ x) one_mark
+    in
+    between (chars middle) kept h ∙ ap handle_fault (ap (λ x. tag_mark ∷ x) (sym cut) ∙ sym whole.0)
+
+-- Prefixes.
+
+pub empty_prefix : (bytes : List ℕ) → (length bytes == 0) ≡ true → Some 11 ≡ prefix_fault (chars bytes)
+empty_prefix bytes h = rw (no_characters bytes h) refl
+
+pub good_prefix : (bytes : List ℕ) → IsUtf8 bytes → (length bytes == 0) ≡ false → None ≡ prefix_fault (chars bytes)
+good_prefix bytes u h = rw (characters_begin bytes u h).2 refl
+
+-- a directive with a good handle is refused for its prefix alone; its texts are those that a reader of it got
+pub by_prefix : (handle prefix handle_got prefix_got : List ℕ) (fault : Option ℕ) → handle_got ≡ handle → prefix_got ≡ prefix → None ≡ handle_fault (chars handle_got) → fault ≡ prefix_fault (chars prefix_got) → fault ≡ option_or (handle_fault (chars handle)) (prefix_fault (chars prefix))
+by_prefix handle prefix handle_got prefix_got fault e f h k =
+    k ∙ ap (λ x. prefix_fault (chars x)) f
+    ∙ ap (λ x. option_or x (prefix_fault (chars prefix))) (h ∙ ap (λ x. handle_fault (chars x)) e)

@@ -1,0 +1,84 @@
+//! Anchors, aliases, versions and tag directives: what is refused in them.
+ghost use Rattle.std.specs.Prelude.{◌≡◌, ◌==◌, length, chars, if◌then◌else◌};
+ghost use Rattle.std.specs.List.{list_all};
+ghost use Rattle.yaml_base.specs.Characters as class;
+ghost use Rattle.yaml_base.specs.Errors.{refused};
+ghost use Rattle.yaml_base.specs.Seen.{seen_version, seen_directive};
+ghost use Rattle.yaml_base.specs.Tags.{anchor_fault, alias_fault, version_fault, handle_fault, directive_fault};
+
+use std::alloc::Allocator;
+use yaml_base::{is_alpha, yaml_error_t, yaml_tag_directive_t, yaml_version_directive_t};
+
+/// Refuses a version other than 1.1 and 1.2 (`IncompatibleVersion`).
+pub fn analyze_version(version: yaml_version_directive_t) -> Result<(), yaml_error_t>
+    ensures { refused result ≡ version_fault (seen_version version) }
+{
+    match (version.major, version.minor) {
+        (1, 1 | 2) => Ok(()),
+        _ => Err(yaml_error_t::IncompatibleVersion),
+    }
+}
+
+/// Refuses an anchor, or an alias, that is empty (`AnchorEmpty`, `AliasEmpty`) or has another character than `0-9`,
+/// `A-Z`, `a-z`, `_` and `-` (`AnchorAlphabet`, `AliasAlphabet`).
+pub fn analyze_anchor(anchor: &str, alias: bool) -> Result<(), yaml_error_t>
+    ensures { refused result ≡ (if alias then alias_fault (chars anchor.now) else anchor_fault (chars anchor.now)) }
+{
+    if anchor.is_empty() {
+        return Err(if alias {
+            yaml_error_t::AliasEmpty
+        } else {
+            yaml_error_t::AnchorEmpty
+        });
+    }
+    if !is_all_alpha(anchor) {
+        return Err(if alias {
+            yaml_error_t::AliasAlphabet
+        } else {
+            yaml_error_t::AnchorAlphabet
+        });
+    }
+    Ok(())
+}
+
+/// Refuses, in this order, a tag handle that is empty (`TagHandleEmpty`), doesn't start or doesn't end with `!`
+/// (`TagHandleStart`, `TagHandleEnd`) or has another character than those of anchors between the two
+/// (`TagHandleAlphabet`), and an empty prefix (`TagPrefixEmpty`).
+pub fn analyze_tag_directive<A: Allocator>(
+    directive: &yaml_tag_directive_t<A>,
+) -> Result<(), yaml_error_t>
+    ensures { refused result ≡ directive_fault (seen_directive directive.now) }
+{
+    analyze_handle(directive.handle.as_str())?;
+    if directive.prefix.as_str().is_empty() {
+        return Err(yaml_error_t::TagPrefixEmpty);
+    }
+    Ok(())
+}
+
+fn analyze_handle(handle: &str) -> Result<(), yaml_error_t>
+    ensures { refused result ≡ handle_fault (chars handle.now) }
+{
+    if handle.is_empty() {
+        return Err(yaml_error_t::TagHandleEmpty);
+    }
+    let Some(rest) = handle.strip_prefix('!') else {
+        return Err(yaml_error_t::TagHandleStart);
+    };
+    if rest.is_empty() {
+        return Ok(());
+    }
+    let Some(middle) = rest.strip_suffix('!') else {
+        return Err(yaml_error_t::TagHandleEnd);
+    };
+    if !is_all_alpha(middle) {
+        return Err(yaml_error_t::TagHandleAlphabet);
+    }
+    Ok(())
+}
+
+fn is_all_alpha(text: &str) -> bool
+    ensures { result ≡ list_all class.is_alpha (chars text.now) }
+{
+    text.chars().all(|c| is_alpha(c))
+}
