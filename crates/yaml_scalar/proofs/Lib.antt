@@ -7,3 +7,5 @@ pub mod BlockLines
 pub mod EscapesRead
 pub mod Unbroken
 pub mod DoubleReads
+pub mod QuotingText
+pub mod QuotingFolds

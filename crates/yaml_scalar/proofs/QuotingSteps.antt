@@ -33,9 +33,10 @@ steps_laid written limit indent before (c ∷ rest) cursor =
     (text_laid (step_text written (is_past_width limit cursor) indent before (kind_of c) c rest) cursor)
     (steps_laid written limit indent (kind_of c) rest)
 
--- texts are written character by character, and white space stands for itself
+-- texts are written character by character, and each but `'` stands for itself
 pub record WritesEach (written : Text → Text) : Type 0 where
   pub nothing : written [] ≡ []
+  pub kept : (c : ℕ) → (c == 39) ≡ false → written (c ∷ []) ≡ c ∷ []
   pub joined : (front rest : Text) → written (front ++ rest) ≡ written front ++ written rest
 
 -- what is left of a run, after a character of its kind

@@ -1,0 +1,294 @@
+-- Folding reads the lines of plain and single-quoted text as the value.
+use Rattle.std.proofs.Common.{◌≡◌, refl, sym, ap, ◌∙◌, subst, ℕ, suc, zero, List, [], ◌∷◌, ◌++◌, Bool, true, false, append_assoc}
+use Rattle.std.specs.Prelude.{Option, ◌==◌, ◌||◌, ◌&&◌, not, if◌then◌else◌, replicate, map}
+use Rattle.std.proofs.lemmas.Bool.{eqb-true, or_parts, and_parts, not-true, not-false}
+use Rattle.std.proofs.Math.Bool.{and-false}
+use Rattle.yaml_base.specs.Characters.{Text, is_break, is_space, is_printable, line_feed, space}
+use Rattle.yaml_base.specs.Cursor.{Cursor, Laid, text_laid, is_past_width}
+use Rattle.yaml_base.specs.Analysis.{Charset, is_empty, is_special, begins_with, somewhere, bars_single_quoted, is_trailing_space}
+use Rattle.yaml_base.specs.Plain.{Kind, spaces, breaks, others, kind_of, is_same_kind, indentation}
+use Rattle.yaml_base.specs.ReadFolding.{FoldUnit, literal_blank, literal_break, itself, unit_of, Front, run_read, front_read, front_of, unit_before, folding_read}
+use Rattle.yaml_scalar.proofs.QuotingSteps.{begins_kind, step_text}
+use Rattle.yaml_scalar.proofs.QuotingText.{bare_steps}
+
+abbrev pub unit_of_kind : Kind → ℕ → FoldUnit
+unit_of_kind spaces c = literal_blank c
+unit_of_kind breaks c = literal_break c
+unit_of_kind others c = itself c
+
+-- two characters differ where one is printable and the other isn't
+unlike_by : (c d : ℕ) (same : Bool) → (c == d) ≡ same → is_printable c ≡ true → is_printable d ≡ false → same ≡ false
+unlike_by c d false e p q = refl
+unlike_by c d true e p q = sym p ∙ (ap is_printable (eqb-true c d e) ∙ q)
+
+unlike : (c d : ℕ) → is_printable c ≡ true → is_printable d ≡ false → (c == d) ≡ false
+unlike c d p q = unlike_by c d _ refl p q
+
+-- the tests of a reader and of a writer, on each character that both tell apart
+same_unit :
+    (c : ℕ) (is_sp is_tab is_lf is_cr is_nel is_ls is_ps breaks12 : Bool) →
+    is_tab ≡ false → is_cr ≡ false → is_nel ≡ false → (breaks12 && (is_ls || is_ps)) ≡ false →
+    (if is_sp || is_tab then literal_blank c
+    else if is_lf || (not breaks12 && (is_ls || is_ps)) then literal_break c else itself c) ≡
+    unit_of_kind (if is_sp then spaces else if is_lf || is_cr || is_nel || is_ls || is_ps then breaks else others) c
+same_unit c true is_tab is_lf is_cr is_nel is_ls is_ps breaks12 t r n s = refl
+same_unit c false is_tab true is_cr is_nel is_ls is_ps breaks12 t r n s = simp t
+same_unit c false is_tab false is_cr is_nel is_ls is_ps true t r n s = simp (t, r, n, s)
+same_unit c false is_tab false is_cr is_nel true is_ps false t r n s = simp (t, r, n)
+same_unit c false is_tab false is_cr is_nel false true false t r n s = simp (t, r, n)
+same_unit c false is_tab false is_cr is_nel false false false t r n s = simp (t, r, n)
+
+-- the reader takes a character that isn't special for what the writer takes it for
+pub unit_by_kind :
+    (charset : Charset) (c : ℕ) → is_special charset c ≡ false → unit_of charset.breaks12 c ≡ unit_of_kind (kind_of c) c
+unit_by_kind charset c clean =
+    let parts = or_parts _ _ clean in
+    let printable : is_printable c ≡ true = not-false _ (or_parts _ _ parts.0).0 in
+    same_unit c (c == 32) (c == 9) (c == 10) (c == 13) (c == 0x85) (c == 0x2028) (c == 0x2029) charset.breaks12
+    (unlike c 9 printable refl) (unlike c 13 printable refl) (unlike c 0x85 printable refl) parts.1
+
+abbrev pub front_at : Bool → Text → Front
+front_at breaks12 text = front_of (map (unit_of breaks12) text)
+
+-- indentation changes only the blanks of a front
+indentation-breaks :
+    (breaks12 : Bool) (indent : ℕ) (text : Text) →
+    (front_at breaks12 (indentation indent ++ text)).breaks ≡ (front_at breaks12 text).breaks
+indentation-breaks breaks12 zero text = refl
+indentation-breaks breaks12 (suc n) text = indentation-breaks breaks12 n text
+
+indentation-rest :
+    (breaks12 : Bool) (indent : ℕ) (text : Text) →
+    (front_at breaks12 (indentation indent ++ text)).rest ≡ (front_at breaks12 text).rest
+indentation-rest breaks12 zero text = refl
+indentation-rest breaks12 (suc n) text = indentation-rest breaks12 n text
+
+-- no space stands beside a break: what may not follow a character of this kind
+abbrev pub clashes : Kind → Text → Bool
+clashes spaces rest = begins_with is_break rest
+clashes breaks rest = begins_with is_space rest
+clashes others rest = false
+
+-- what a front must be for a value after a character of this kind
+pub record AfterSpace (value : Text) (front : Front) : Type 0 where
+  pub whole : front_read front ≡ value
+  pub no_breaks : begins_with is_break value ≡ false → front.breaks ≡ []
+  pub no_blanks : begins_with is_space value ≡ false → front.blanks ≡ []
+
+pub record AfterBreak (value : Text) (front : Front) : Type 0 where
+  pub no_blanks : front.blanks ≡ []
+  pub whole : front.breaks ++ front.rest ≡ value
+
+abbrev pub ReadsAfter : Kind → Text → Front → Type 0
+ReadsAfter spaces value front = AfterSpace value front
+ReadsAfter breaks value front = begins_with is_space value ≡ false → AfterBreak value front
+ReadsAfter others value front = front_read front ≡ value
+
+-- a character that is neither a space nor a break
+own_step :
+    (before : Kind) (c : ℕ) (rest : Text) (front : Front) →
+    front_read front ≡ rest →
+    ReadsAfter before (c ∷ rest) (unit_before (itself c) front)
+own_step spaces c rest front read = record {
+  whole = ap (λ (t : Text). c ∷ t) read;
+  no_breaks = λ _. refl;
+  no_blanks = λ _. refl;
+}
+own_step breaks c rest front read = λ _. record { no_blanks = refl; whole = ap (λ (t : Text). c ∷ t) read }
+own_step others c rest front read = ap (λ (t : Text). c ∷ t) read
+
+-- where no break stands first, a front's blanks and rest are what it reads as
+clear_read :
+    (value : Text) (front : Front) → front.breaks ≡ [] → front_read front ≡ value → front.blanks ++ front.rest ≡ value
+clear_read value front clear read =
+    subst (λ (run : Text). front.blanks ++ (run_read run ++ front.rest) ≡ value) clear read
+
+space_read :
+    (value : Text) (front : Front) → front.breaks ≡ [] → front_read front ≡ value →
+    front_read (unit_before (literal_blank space) front) ≡ space ∷ value
+space_read value front clear read = rw clear (ap (λ (t : Text). space ∷ t) (clear_read value front clear read))
+
+-- a space that stays
+space_step :
+    (before : Kind) (rest : Text) (front : Front) →
+    AfterSpace rest front →
+    begins_with is_break rest ≡ false →
+    ReadsAfter before (space ∷ rest) (unit_before (literal_blank space) front)
+space_step spaces rest front after clear = record {
+  whole = space_read rest front (after.no_breaks clear) after.whole;
+  no_breaks = λ _. after.no_breaks clear;
+  no_blanks = λ e. cc;
+}
+space_step breaks rest front after clear = λ e. cc
+space_step others rest front after clear = space_read rest front (after.no_breaks clear) after.whole
+
+bare_read : (value : Text) (front : Front) → front.breaks ≡ [] → front.blanks ≡ [] → front_read front ≡ value → front.rest ≡ value
+bare_read value front clear none read =
+    subst (λ (blanks : Text). blanks ++ front.rest ≡ value) none (clear_read value front clear read)
+
+fold_read :
+    (value : Text) (front : Front) → front.breaks ≡ [] → front.blanks ≡ [] → front_read front ≡ value →
+    run_read (line_feed ∷ front.breaks) ++ front.rest ≡ space ∷ value
+fold_read value front clear none read = rw clear (ap (λ (t : Text). space ∷ t) (bare_read value front clear none read))
+
+-- a space that becomes a break and indentation
+fold_step :
+    (before : Kind) (rest : Text) (front : Front) →
+    is_same_kind before spaces ≡ false →
+    AfterSpace rest front →
+    begins_with is_break rest ≡ false →
+    begins_with is_space rest ≡ false →
+    ReadsAfter before (space ∷ rest) (record { blanks = []; breaks = line_feed ∷ front.breaks; rest = front.rest })
+fold_step spaces rest front other after clear own = cc
+fold_step breaks rest front other after clear own = λ e. cc
+fold_step others rest front other after clear own =
+    fold_read rest front (after.no_breaks clear) (after.no_blanks own) after.whole
+
+-- a run that doesn't begin with LF is kept
+run_kept : (c : ℕ) (more : Text) → (c == line_feed) ≡ false → run_read (c ∷ more) ≡ c ∷ more
+run_kept c [] e = simp e
+run_kept c (d ∷ more) e = simp e
+
+-- a run of breaks, its first one LF written twice or not
+abbrev broken : Bool → ℕ → Text → Text → Front
+broken doubled c more rest =
+    record { blanks = []; breaks = (if doubled then line_feed ∷ [] else []) ++ (c ∷ more); rest = rest }
+
+broken_read :
+    (c : ℕ) (value more rest : Text) (feed : Bool) → (c == line_feed) ≡ feed → more ++ rest ≡ value →
+    front_read (broken (feed && true) c more rest) ≡ c ∷ value
+broken_read c value more rest true e whole = ap (λ (t : Text). c ∷ t) whole
+broken_read c value more rest false e whole = rw (run_kept c more e) (ap (λ (t : Text). c ∷ t) whole)
+
+-- LF is written twice where no break stands before it
+break_step :
+    (before : Kind) (c : ℕ) (value more rest : Text) →
+    is_break c ≡ true →
+    more ++ rest ≡ value →
+    ReadsAfter before (c ∷ value) (broken (c == line_feed && not (is_same_kind before breaks)) c more rest)
+break_step spaces c value more rest b whole = record {
+  whole = broken_read c value more rest _ refl whole;
+  no_breaks = λ e. cc;
+  no_blanks = λ _. refl;
+}
+break_step breaks c value more rest b whole =
+    λ _. record { no_blanks = refl; whole = rw (and-false (c == line_feed)) (ap (λ (t : Text). c ∷ t) whole) }
+break_step others c value more rest b whole = broken_read c value more rest _ refl whole
+
+-- the front of a break as it is laid out
+broken_front :
+    (breaks12 doubled goes_on : Bool) (indent c : ℕ) (text : Text) →
+    unit_of breaks12 c ≡ literal_break c →
+    front_at breaks12
+    (((if doubled then line_feed ∷ [] else []) ++ (c ∷ (if goes_on then [] else indentation indent))) ++ text) ≡
+    broken doubled c (front_at breaks12 text).breaks (front_at breaks12 text).rest
+broken_front breaks12 true true indent c text u = rw u
+broken_front breaks12 false true indent c text u = rw u
+broken_front breaks12 true false indent c text u = rw u (simp (indentation-breaks, indentation-rest))
+broken_front breaks12 false false indent c text u = rw u (simp (indentation-breaks, indentation-rest))
+
+spaces_only : (s b : Bool) → (if s then spaces else if b then breaks else others) ≡ spaces → s ≡ true
+spaces_only true b e = refl
+spaces_only false true e = cc
+spaces_only false false e = cc
+
+breaks_only : (s b : Bool) → (if s then spaces else if b then breaks else others) ≡ breaks → b ≡ true
+breaks_only true b e = cc
+breaks_only false true e = refl
+breaks_only false false e = cc
+
+same_as_space : (s b : Bool) → is_same_kind spaces (if s then spaces else if b then breaks else others) ≡ s
+same_as_space true b = refl
+same_as_space false true = refl
+same_as_space false false = refl
+
+begins_space : (rest : Text) → begins_kind spaces rest ≡ begins_with is_space rest
+begins_space [] = refl
+begins_space (c ∷ rest) = same_as_space (is_space c) (is_break c)
+
+-- what a fold needs
+record Folds (before : Kind) (rest : Text) : Type 0 where
+  other : is_same_kind before spaces ≡ false
+  own : begins_with is_space rest ≡ false
+
+folds_where :
+    (folds : Bool) (before : Kind) (rest : Text) →
+    (folds && not (is_same_kind before spaces || (is_empty rest || begins_kind spaces rest))) ≡ true →
+    Folds before rest
+folds_where folds before rest e =
+    let parts = or_parts (is_same_kind before spaces) _ (not-true _ (and_parts folds _ e).1) in
+    let later = or_parts (is_empty rest) (begins_kind spaces rest) parts.1 in
+    record { other = parts.0; own = sym (begins_space rest) ∙ later.1 }
+
+spaced :
+    (breaks12 folds : Bool) (indent : ℕ) (before : Kind) (rest text : Text) →
+    begins_with is_break rest ≡ false →
+    AfterSpace rest (front_at breaks12 text) →
+    (folded : Bool) →
+    (folds && not (is_same_kind before spaces || (is_empty rest || begins_kind spaces rest))) ≡ folded →
+    ReadsAfter before (space ∷ rest)
+    (front_at breaks12 ((if folded then line_feed ∷ indentation indent else space ∷ []) ++ text))
+spaced breaks12 folds indent before rest text clear after true e =
+    let where_folds = folds_where folds before rest e in
+    rw (indentation-breaks breaks12 indent text, indentation-rest breaks12 indent text)
+    (fold_step before rest (front_at breaks12 text) where_folds.other after clear where_folds.own)
+spaced breaks12 folds indent before rest text clear after false e =
+    space_step before rest (front_at breaks12 text) after clear
+
+-- one character's text before what reads as the rest
+step_reads :
+    (charset : Charset) (folds : Bool) (indent : ℕ) (before kind : Kind) (c : ℕ) (rest text : Text) →
+    kind_of c ≡ kind →
+    is_special charset c ≡ false →
+    clashes kind rest ≡ false →
+    ReadsAfter kind rest (front_at charset.breaks12 text) →
+    ReadsAfter before (c ∷ rest)
+    (front_at charset.breaks12 (step_text (λ t. t) folds indent before kind c rest ++ text))
+step_reads charset folds indent before spaces c rest text k clean clear after =
+    rw (eqb-true c 32 (spaces_only (is_space c) (is_break c) k))
+    (spaced charset.breaks12 folds indent before rest text clear after _ refl)
+step_reads charset folds indent before breaks c rest text k clean clear after =
+    let unit = unit_by_kind charset c clean ∙ ap (λ (kind : Kind). unit_of_kind kind c) k in
+    let front = after clear in
+    rw (broken_front charset.breaks12 (c == line_feed && not (is_same_kind before breaks)) (begins_kind breaks rest) indent c text unit)
+    (break_step before c rest (front_at charset.breaks12 text).breaks (front_at charset.breaks12 text).rest
+    (breaks_only (is_space c) (is_break c) k) front.whole)
+step_reads charset folds indent before others c rest text k clean clear after =
+    let unit = unit_by_kind charset c clean ∙ ap (λ (kind : Kind). unit_of_kind kind c) k in
+    rw unit (own_step before c rest (front_at charset.breaks12 text) after)
+
+-- a value that single quotes may hold has no space beside a break
+clear_after :
+    (charset : Charset) (c : ℕ) (rest : Text) (kind : Kind) →
+    kind_of c ≡ kind →
+    bars_single_quoted charset c rest ≡ false →
+    clashes kind rest ≡ false
+clear_after charset c rest spaces k clean =
+    let trailing = (or_parts _ _ (or_parts _ _ clean).0).1 in
+    sym (ap (λ (b : Bool). b && begins_with is_break rest) (spaces_only (is_space c) (is_break c) k)) ∙ trailing
+clear_after charset c rest breaks k clean =
+    sym (ap (λ (b : Bool). b && begins_with is_space rest) (breaks_only (is_space c) (is_break c) k)) ∙ (or_parts _ _ clean).1
+clear_after charset c rest others k clean = refl
+
+pub lines_read :
+    (charset : Charset) (written : Text → Text) (limit : Option ℕ) (indent : ℕ) (before : Kind) (value : Text) (cursor : Cursor) →
+    somewhere (bars_single_quoted charset) value ≡ false →
+    ReadsAfter before value (front_at charset.breaks12 (bare_steps written limit indent before value cursor))
+lines_read charset written limit indent spaces [] cursor clean =
+    record { whole = refl; no_breaks = λ _. refl; no_blanks = λ _. refl }
+lines_read charset written limit indent breaks [] cursor clean = λ _. record { no_blanks = refl; whole = refl }
+lines_read charset written limit indent others [] cursor clean = refl
+lines_read charset written limit indent before (c ∷ rest) cursor clean =
+    let parts = or_parts (bars_single_quoted charset c rest) (somewhere (bars_single_quoted charset) rest) clean in
+    step_reads charset (is_past_width limit cursor) indent before (kind_of c) c rest _ refl
+    (or_parts _ _ (or_parts _ _ parts.0).0).0
+    (clear_after charset c rest (kind_of c) refl parts.0)
+    (lines_read charset written limit indent (kind_of c) rest _ parts.1)
+
+-- a value that single quotes may hold is what folding reads of its lines
+pub folding_reads :
+    (charset : Charset) (written : Text → Text) (limit : Option ℕ) (indent : ℕ) (value : Text) (cursor : Cursor) →
+    somewhere (bars_single_quoted charset) value ≡ false →
+    folding_read (map (unit_of charset.breaks12) (bare_steps written limit indent spaces value cursor)) ≡ value
+folding_reads charset written limit indent value cursor clean =
+    (lines_read charset written limit indent spaces value cursor clean).whole

@@ -1,0 +1,118 @@
+-- The text of plain and single-quoted lines before quotes are doubled: each character is the value's, or of a break or indentation.
+use Rattle.std.proofs.Common.{◌≡◌, refl, sym, ap, ◌∙◌, subst, ℕ, suc, zero, List, [], ◌∷◌, ◌++◌, Bool, true, false, append_assoc}
+use Rattle.std.specs.Prelude.{Option, ◌==◌, ◌||◌, ◌&&◌, not, if◌then◌else◌, replicate}
+use Rattle.std.specs.List.{list_any}
+use Rattle.std.proofs.lemmas.Bool.{eqb-true, or_parts}
+use Rattle.std.proofs.lemmas.List.Folds.{list_any-append}
+use Rattle.yaml_base.specs.Characters.{Text, is_break, is_space, line_feed, space}
+use Rattle.yaml_base.specs.Cursor.{Cursor, Laid, text_laid, is_past_width}
+use Rattle.yaml_base.specs.Analysis.{is_empty}
+use Rattle.yaml_base.specs.Plain.{Kind, spaces, breaks, others, kind_of, is_same_kind, indentation}
+use Rattle.yaml_scalar.proofs.QuotingSteps.{WritesEach, begins_kind, step_text, steps_laid}
+
+-- the lines with each character as it is; the cursor is that of the text as it is written
+abbrev pub bare_steps : (written : Text → Text) (limit : Option ℕ) (indent : ℕ) (before : Kind) → Text → Cursor → Text
+bare_steps written limit indent before [] cursor = []
+bare_steps written limit indent before (c ∷ rest) cursor =
+    let folds = is_past_width limit cursor in
+    let after = text_laid (step_text written folds indent before (kind_of c) c rest) cursor in
+    step_text (λ t. t) folds indent before (kind_of c) c rest
+    ++ bare_steps written limit indent (kind_of c) rest after.cursor
+
+any_cond :
+    (test : ℕ → Bool) (b : Bool) (x y : Text) →
+    list_any test x ≡ false →
+    list_any test y ≡ false →
+    list_any test (if b then x else y) ≡ false
+any_cond test true x y a b = a
+any_cond test false x y a b = b
+
+any_both :
+    (test : ℕ → Bool) (x y : Text) → list_any test x ≡ false → list_any test y ≡ false → list_any test (x ++ y) ≡ false
+any_both test x y a b = list_any-append test x y ∙ simp (a, b)
+
+any_one : (test : ℕ → Bool) (c : ℕ) (rest : Text) → test c ≡ false → list_any test rest ≡ false → list_any test (c ∷ rest) ≡ false
+any_one test c rest a b = simp (a, b)
+
+pub any_indentation : (test : ℕ → Bool) (indent : ℕ) → test space ≡ false → list_any test (indentation indent) ≡ false
+any_indentation test zero a = refl
+any_indentation test (suc n) a = any_one test space (indentation n) a (any_indentation test n a)
+
+-- no character of a step meets a test that the value's character, LF and the space don't meet
+pub any_step :
+    (test : ℕ → Bool) (folds : Bool) (indent : ℕ) (before kind : Kind) (c : ℕ) (rest : Text) →
+    test line_feed ≡ false →
+    test space ≡ false →
+    test c ≡ false →
+    list_any test (step_text (λ t. t) folds indent before kind c rest) ≡ false
+any_step test folds indent before spaces c rest feed blank own =
+    any_cond test _ (line_feed ∷ indentation indent) (c ∷ [])
+    (any_one test line_feed (indentation indent) feed (any_indentation test indent blank))
+    (any_one test c [] own refl)
+any_step test folds indent before breaks c rest feed blank own =
+    any_both test (if c == line_feed && not (is_same_kind before breaks) then line_feed ∷ [] else []) _
+    (any_cond test _ (line_feed ∷ []) [] (any_one test line_feed [] feed refl) refl)
+    (any_one test c _ own (any_cond test _ [] (indentation indent) refl (any_indentation test indent blank)))
+any_step test folds indent before others c rest feed blank own = any_one test c [] own refl
+
+-- the same of all lines
+pub any_bare :
+    (test : ℕ → Bool) → test line_feed ≡ false → test space ≡ false →
+    (written : Text → Text) (limit : Option ℕ) (indent : ℕ) (before : Kind) (value : Text) (cursor : Cursor) →
+    list_any test value ≡ false →
+    list_any test (bare_steps written limit indent before value cursor) ≡ false
+any_bare test feed blank written limit indent before [] cursor own = refl
+any_bare test feed blank written limit indent before (c ∷ rest) cursor own =
+    let parts = or_parts (test c) (list_any test rest) own in
+    any_both test (step_text (λ t. t) (is_past_width limit cursor) indent before (kind_of c) c rest) _
+    (any_step test (is_past_width limit cursor) indent before (kind_of c) c rest feed blank parts.0)
+    (any_bare test feed blank written limit indent (kind_of c) rest _ parts.1)
+
+abbrev is_quote : ℕ → Bool
+is_quote c = c == 39
+
+not_quote_by :
+    (c : ℕ) (kind : Kind) (quote : Bool) → is_quote c ≡ quote → kind_of c ≡ kind → is_same_kind kind others ≡ false → quote ≡ false
+not_quote_by c kind false q k e = refl
+not_quote_by c kind true q k e =
+    let same : others ≡ kind = subst (λ (n : ℕ). kind_of n ≡ kind) (eqb-true c 39 q) k in
+    let other : true ≡ false = subst (λ (x : Kind). is_same_kind x others ≡ false) (sym same) e in
+    other
+
+not_quote : (c : ℕ) (kind : Kind) → kind_of c ≡ kind → is_same_kind kind others ≡ false → is_quote c ≡ false
+not_quote c kind k e = not_quote_by c kind _ refl k e
+
+-- a text without `'` is written as it is
+written_kept : (written : Text → Text) → WritesEach written → (text : Text) → list_any is_quote text ≡ false → written text ≡ text
+written_kept written w [] clean = w.nothing
+written_kept written w (c ∷ rest) clean =
+    let parts = or_parts (is_quote c) (list_any is_quote rest) clean in
+    w.joined (c ∷ []) rest
+    ∙ (ap (λ (t : Text). t ++ written rest) (w.kept c parts.0)
+    ∙ ap (λ (t : Text). c ∷ t) (written_kept written w rest parts.1))
+
+step_written :
+    (written : Text → Text) → WritesEach written →
+    (folds : Bool) (indent : ℕ) (before kind : Kind) (c : ℕ) (rest : Text) →
+    kind_of c ≡ kind →
+    written (step_text (λ t. t) folds indent before kind c rest) ≡ step_text written folds indent before kind c rest
+step_written written w folds indent before spaces c rest k =
+    written_kept written w _ (any_step is_quote folds indent before spaces c rest refl refl (not_quote c spaces k refl))
+step_written written w folds indent before breaks c rest k =
+    written_kept written w _ (any_step is_quote folds indent before breaks c rest refl refl (not_quote c breaks k refl))
+step_written written w folds indent before others c rest k = refl
+
+-- the text of a layout is that of its bare lines, written
+pub bare_written :
+    (written : Text → Text) → WritesEach written →
+    (limit : Option ℕ) (indent : ℕ) (before : Kind) (value : Text) (cursor : Cursor) →
+    (steps_laid written limit indent before value cursor).text ≡ written (bare_steps written limit indent before value cursor)
+bare_written written w limit indent before [] cursor = sym w.nothing
+bare_written written w limit indent before (c ∷ rest) cursor =
+    let folds = is_past_width limit cursor in
+    let step = step_text written folds indent before (kind_of c) c rest in
+    let after = (text_laid step cursor).cursor in
+    ap (λ (t : Text). step ++ t) (bare_written written w limit indent (kind_of c) rest after)
+    ∙ (ap (λ (t : Text). t ++ written (bare_steps written limit indent (kind_of c) rest after))
+    (sym (step_written written w folds indent before (kind_of c) c rest refl))
+    ∙ sym (w.joined (step_text (λ t. t) folds indent before (kind_of c) c rest) _))
