@@ -71,7 +71,7 @@ laid-append (c ∷ a) b h k =
     and_from _ _ p.0 (laid-append a b p.1 k)
 
 -- a line that begins with a break is empty
-break-begins : (c : ℕ) (rest : Text) → is_break c ≡ true → begins_indented (c ∷ rest) ≡ true
+pub break-begins : (c : ℕ) (rest : Text) → is_break c ≡ true → begins_indented (c ∷ rest) ≡ true
 break-begins c [] h = h
 break-begins c (d ∷ rest) h = or_left _ _ h
 

@@ -9,3 +9,5 @@ pub mod Unbroken
 pub mod DoubleReads
 pub mod QuotingText
 pub mod QuotingFolds
+pub mod QuotingIndents
+pub mod SingleReads

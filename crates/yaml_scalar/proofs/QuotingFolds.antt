@@ -1,9 +1,11 @@
 -- Folding reads the lines of plain and single-quoted text as the value.
 use Rattle.std.proofs.Common.{◌≡◌, refl, sym, ap, ◌∙◌, subst, ℕ, suc, zero, List, [], ◌∷◌, ◌++◌, Bool, true, false, append_assoc}
 use Rattle.std.specs.Prelude.{Option, ◌==◌, ◌||◌, ◌&&◌, not, if◌then◌else◌, replicate, map}
-use Rattle.std.proofs.lemmas.Bool.{eqb-true, or_parts, and_parts, not-true, not-false}
+use Rattle.std.proofs.lemmas.Bool.{eqb-true, or_parts, and_from, and_parts, not-true, not-false, not_from_false}
+use Rattle.std.specs.List.{list_any}
+use Rattle.yaml_base.specs.LineBreaks.{is_laid_text}
 use Rattle.std.proofs.Math.Bool.{and-false}
-use Rattle.yaml_base.specs.Characters.{Text, is_break, is_space, is_printable, line_feed, space}
+use Rattle.yaml_base.specs.Characters.{Text, carriage_return, next_line, is_break, is_space, is_printable, line_feed, space}
 use Rattle.yaml_base.specs.Cursor.{Cursor, Laid, text_laid, is_past_width}
 use Rattle.yaml_base.specs.Analysis.{Charset, is_empty, is_special, begins_with, somewhere, bars_single_quoted, is_trailing_space}
 use Rattle.yaml_base.specs.Plain.{Kind, spaces, breaks, others, kind_of, is_same_kind, indentation}
@@ -21,7 +23,7 @@ unlike_by : (c d : ℕ) (same : Bool) → (c == d) ≡ same → is_printable c �
 unlike_by c d false e p q = refl
 unlike_by c d true e p q = sym p ∙ (ap is_printable (eqb-true c d e) ∙ q)
 
-unlike : (c d : ℕ) → is_printable c ≡ true → is_printable d ≡ false → (c == d) ≡ false
+pub unlike : (c d : ℕ) → is_printable c ≡ true → is_printable d ≡ false → (c == d) ≡ false
 unlike c d p q = unlike_by c d _ refl p q
 
 -- the tests of a reader and of a writer, on each character that both tell apart
@@ -187,12 +189,12 @@ broken_front breaks12 false true indent c text u = rw u
 broken_front breaks12 true false indent c text u = rw u (simp (indentation-breaks, indentation-rest))
 broken_front breaks12 false false indent c text u = rw u (simp (indentation-breaks, indentation-rest))
 
-spaces_only : (s b : Bool) → (if s then spaces else if b then breaks else others) ≡ spaces → s ≡ true
+pub spaces_only : (s b : Bool) → (if s then spaces else if b then breaks else others) ≡ spaces → s ≡ true
 spaces_only true b e = refl
 spaces_only false true e = cc
 spaces_only false false e = cc
 
-breaks_only : (s b : Bool) → (if s then spaces else if b then breaks else others) ≡ breaks → b ≡ true
+pub breaks_only : (s b : Bool) → (if s then spaces else if b then breaks else others) ≡ breaks → b ≡ true
 breaks_only true b e = cc
 breaks_only false true e = refl
 breaks_only false false e = cc
@@ -292,3 +294,25 @@ pub folding_reads :
     folding_read (map (unit_of charset.breaks12) (bare_steps written limit indent spaces value cursor)) ≡ value
 folding_reads charset written limit indent value cursor clean =
     (lines_read charset written limit indent spaces value cursor clean).whole
+
+-- CR and U+0085 are read as other breaks than they are
+abbrev pub is_return : ℕ → Bool
+is_return c = c == carriage_return || c == next_line
+
+-- a value that quotes may hold has none
+pub no_returns :
+    (charset : Charset) (value : Text) →
+    somewhere (bars_single_quoted charset) value ≡ false →
+    list_any is_return value ≡ false
+no_returns charset [] clean = refl
+no_returns charset (c ∷ rest) clean =
+    let parts = or_parts (bars_single_quoted charset c rest) (somewhere (bars_single_quoted charset) rest) clean in
+    let ordinary = (or_parts _ _ (or_parts _ _ parts.0).0).0 in
+    let printable : is_printable c ≡ true = not-false _ (or_parts _ _ (or_parts _ _ ordinary).0).0 in
+    simp (unlike c carriage_return printable refl, unlike c next_line printable refl) (no_returns charset rest parts.1)
+
+pub laid_without_returns : (text : Text) → list_any is_return text ≡ false → is_laid_text text ≡ true
+laid_without_returns [] clean = refl
+laid_without_returns (c ∷ rest) clean =
+    let parts = or_parts (is_return c) (list_any is_return rest) clean in
+    and_from _ _ (not_from_false _ parts.0) (laid_without_returns rest parts.1)

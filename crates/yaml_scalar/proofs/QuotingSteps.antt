@@ -2,9 +2,10 @@
 use Rattle.std.proofs.Common.{◌≡◌, refl, sym, ap, ◌∙◌, subst, ℕ, List, [], ◌∷◌, ◌++◌, Bool, true, false, append_assoc}
 use Rattle.std.specs.Prelude.{Option, ◌==◌, ◌||◌, ◌&&◌, not, if◌then◌else◌}
 use Rattle.std.proofs.Math.Bool.{and-false, and-true, or-false}
-use Rattle.yaml_base.specs.Characters.{Text, line_feed}
+use Rattle.yaml_base.specs.Characters.{Text, is_break, line_feed}
 use Rattle.yaml_base.specs.Cursor.{Cursor, Laid, nothing_laid, then_laid, text_laid, column_after, is_past_width}
 use Rattle.yaml_base.specs.Analysis.{is_empty}
+use Rattle.yaml_scalar.proofs.Unbroken.{is_unbroken}
 use Rattle.yaml_base.specs.Plain.{Kind, spaces, breaks, others, kind_of, is_same_kind, Run, joined_to, runs, indentation, run_text, is_last, runs_laid}
 
 -- the first character, where there is one, is of this kind
@@ -37,6 +38,7 @@ steps_laid written limit indent before (c ∷ rest) cursor =
 pub record WritesEach (written : Text → Text) : Type 0 where
   pub nothing : written [] ≡ []
   pub kept : (c : ℕ) → (c == 39) ≡ false → written (c ∷ []) ≡ c ∷ []
+  pub unbroken : (c : ℕ) → is_break c ≡ false → is_unbroken (written (c ∷ [])) ≡ true
   pub joined : (front rest : Text) → written (front ++ rest) ≡ written front ++ written rest
 
 -- what is left of a run, after a character of its kind

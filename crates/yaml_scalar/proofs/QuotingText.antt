@@ -19,7 +19,7 @@ bare_steps written limit indent before (c ∷ rest) cursor =
     step_text (λ t. t) folds indent before (kind_of c) c rest
     ++ bare_steps written limit indent (kind_of c) rest after.cursor
 
-any_cond :
+pub any_cond :
     (test : ℕ → Bool) (b : Bool) (x y : Text) →
     list_any test x ≡ false →
     list_any test y ≡ false →

@@ -1,0 +1,116 @@
+-- Each nonempty line of plain and single-quoted text after the first begins with two spaces.
+use Rattle.std.proofs.Common.{◌≡◌, refl, sym, ap, ◌∙◌, subst, ℕ, suc, zero, ◌≤◌, List, [], ◌∷◌, ◌++◌, Bool, true, false, append_assoc, arith}
+use Rattle.std.specs.Prelude.{Option, ◌==◌, ◌||◌, ◌&&◌, not, if◌then◌else◌, replicate}
+use Rattle.std.proofs.lemmas.Bool.{and_from, or_right, eqb-true, not_from_false}
+use Rattle.std.proofs.Math.Bool.{and-false}
+use Rattle.yaml_base.specs.Characters.{Text, is_break, is_space, line_feed, space}
+use Rattle.yaml_base.specs.Cursor.{Cursor, Laid, text_laid, is_past_width}
+use Rattle.yaml_base.specs.Analysis.{is_empty}
+use Rattle.yaml_base.specs.LineBreaks.{begins_indented, is_indented_text}
+use Rattle.yaml_base.specs.Plain.{Kind, spaces, breaks, others, kind_of, is_same_kind, indentation}
+use Rattle.yaml_base.proofs.BreakLaws.{break-begins}
+use Rattle.yaml_scalar.proofs.Unbroken.{is_unbroken, unbroken-indented, unbroken-replicate}
+use Rattle.yaml_scalar.proofs.QuotingSteps.{WritesEach, begins_kind, step_text, steps_laid}
+use Rattle.yaml_scalar.proofs.QuotingFolds.{spaces_only, breaks_only}
+
+indentation-begins : (indent : ℕ) → 2 ≤ indent → (text : Text) → begins_indented (indentation indent ++ text) ≡ true
+indentation-begins zero wide text = absurd (omega arith)
+indentation-begins (suc zero) wide text = absurd (omega arith)
+indentation-begins (suc (suc n)) wide text = refl
+
+others_only : (s b : Bool) → (if s then spaces else if b then breaks else others) ≡ others → b ≡ false
+others_only true b e = cc
+others_only false true e = cc
+others_only false false e = refl
+
+-- a break and the line that begins behind it
+after_break : (c : ℕ) (text : Text) → begins_indented text ≡ true → is_indented_text text ≡ true → is_indented_text (c ∷ text) ≡ true
+after_break c text begins lines = and_from _ _ (or_right (not (is_break c)) _ begins) lines
+
+indented_line : (indent : ℕ) → 2 ≤ indent → (c : ℕ) (text : Text) → is_indented_text text ≡ true → is_indented_text (c ∷ (indentation indent ++ text)) ≡ true
+indented_line indent wide c text lines =
+    after_break c (indentation indent ++ text) (indentation-begins indent wide text)
+    (unbroken-indented (indentation indent) text (unbroken-replicate indent) lines)
+
+folded_line :
+    (folds : Bool) (indent : ℕ) → 2 ≤ indent → (text : Text) → is_indented_text text ≡ true →
+    is_indented_text ((if folds then line_feed ∷ indentation indent else space ∷ []) ++ text) ≡ true
+folded_line true indent wide text lines = indented_line indent wide line_feed text lines
+folded_line false indent wide text lines = lines
+
+broken_line :
+    (goes_on : Bool) (indent : ℕ) → 2 ≤ indent → (c : ℕ) (text : Text) →
+    is_indented_text text ≡ true →
+    (goes_on ≡ true → begins_indented text ≡ true) →
+    is_indented_text ((c ∷ (if goes_on then [] else indentation indent)) ++ text) ≡ true
+broken_line true indent wide c text lines begins = after_break c text (begins refl) lines
+broken_line false indent wide c text lines begins = indented_line indent wide c text lines
+
+doubled_line :
+    (doubled : Bool) (c : ℕ) (text : Text) → is_break c ≡ true → is_indented_text (c ∷ text) ≡ true →
+    is_indented_text ((if doubled then line_feed ∷ [] else []) ++ (c ∷ text)) ≡ true
+doubled_line true c text b lines = after_break line_feed (c ∷ text) (break-begins c text b) lines
+doubled_line false c text b lines = lines
+
+step_indented :
+    (written : Text → Text) → WritesEach written →
+    (folds : Bool) (indent : ℕ) → 2 ≤ indent →
+    (before kind : Kind) (c : ℕ) (rest text : Text) →
+    kind_of c ≡ kind →
+    is_indented_text text ≡ true →
+    (is_same_kind kind breaks ≡ true → begins_kind breaks rest ≡ true → begins_indented text ≡ true) →
+    is_indented_text (step_text written folds indent before kind c rest ++ text) ≡ true
+step_indented written w folds indent wide before spaces c rest text k lines begins =
+    rw (eqb-true c 32 (spaces_only (is_space c) (is_break c) k))
+    (folded_line (folds && not (is_same_kind before spaces || (is_empty rest || begins_kind spaces rest))) indent wide text lines)
+step_indented written w folds indent wide before breaks c rest text k lines begins =
+    let first = if c == line_feed && not (is_same_kind before breaks) then line_feed ∷ [] else [] in
+    let run = if begins_kind breaks rest then [] else indentation indent in
+    rw (append_assoc first (c ∷ run) text)
+    (doubled_line (c == line_feed && not (is_same_kind before breaks)) c (run ++ text) (breaks_only (is_space c) (is_break c) k)
+    (broken_line (begins_kind breaks rest) indent wide c text lines (begins refl)))
+step_indented written w folds indent wide before others c rest text k lines begins =
+    unbroken-indented (written (c ∷ [])) text (w.unbroken c (others_only (is_space c) (is_break c) k)) lines
+
+-- a run that goes on goes on with a break
+run_begins :
+    (written : Text → Text) (limit : Option ℕ) (indent : ℕ) (before kind : Kind) (c : ℕ) (rest text : Text) (folds : Bool) →
+    kind_of c ≡ kind →
+    is_same_kind before breaks ≡ true →
+    is_same_kind breaks kind ≡ true →
+    begins_indented (step_text written folds indent before kind c rest ++ text) ≡ true
+run_begins written limit indent before spaces c rest text folds k same here = cc
+run_begins written limit indent before breaks c rest text folds k same here =
+    simp (same, and-false) (break-begins c _ (breaks_only (is_space c) (is_break c) k))
+run_begins written limit indent before others c rest text folds k same here = cc
+
+text_begins :
+    (written : Text → Text) (limit : Option ℕ) (indent : ℕ) (before : Kind) (value after : Text) (cursor : Cursor) →
+    is_same_kind before breaks ≡ true →
+    begins_kind breaks value ≡ true →
+    begins_indented ((steps_laid written limit indent before value cursor).text ++ after) ≡ true
+text_begins written limit indent before [] after cursor same here = cc
+text_begins written limit indent before (c ∷ rest) after cursor same here =
+    let folds = is_past_width limit cursor in
+    let step = step_text written folds indent before (kind_of c) c rest in
+    let more = (steps_laid written limit indent (kind_of c) rest (text_laid step cursor).cursor).text in
+    rw (append_assoc step more after)
+    (run_begins written limit indent before (kind_of c) c rest (more ++ after) folds refl same here)
+
+-- lines before a text whose later lines are indented
+pub lines_indented :
+    (written : Text → Text) → WritesEach written →
+    (limit : Option ℕ) (indent : ℕ) → 2 ≤ indent →
+    (before : Kind) (value after : Text) (cursor : Cursor) →
+    is_indented_text after ≡ true →
+    is_indented_text ((steps_laid written limit indent before value cursor).text ++ after) ≡ true
+lines_indented written w limit indent wide before [] after cursor lines = lines
+lines_indented written w limit indent wide before (c ∷ rest) after cursor lines =
+    let folds = is_past_width limit cursor in
+    let step = step_text written folds indent before (kind_of c) c rest in
+    let later = (text_laid step cursor).cursor in
+    let more = (steps_laid written limit indent (kind_of c) rest later).text in
+    rw (append_assoc step more after)
+    (step_indented written w folds indent wide before (kind_of c) c rest (more ++ after) refl
+    (lines_indented written w limit indent wide (kind_of c) rest after later lines)
+    (text_begins written limit indent (kind_of c) rest after later))

@@ -1,0 +1,116 @@
+-- A single-quoted body reads as its value, and its later lines are indented.
+use Rattle.std.proofs.Common.{◌≡◌, refl, sym, ap, ◌∙◌, subst, ℕ, ◌≤◌, List, [], ◌∷◌, ◌++◌, Bool, true, false, append_assoc, append-nil}
+use Rattle.std.specs.Prelude.{Option, None, Some, ◌==◌, ◌||◌, ◌&&◌, not, if◌then◌else◌, map, option_map}
+use Rattle.std.specs.List.{list_any}
+use Rattle.std.proofs.lemmas.Bool.{eqb-true, not-true, or_parts}
+use Rattle.std.proofs.lemmas.List.Folds.{list_any-append}
+use Rattle.yaml_base.specs.Characters.{Text, is_break, carriage_return, next_line, is_printable}
+use Rattle.yaml_base.specs.Cursor.{Cursor}
+use Rattle.yaml_base.specs.Settings.{LineBreak}
+use Rattle.yaml_base.specs.LineBreaks.{is_indented_text, is_laid_text, with_breaks_written, with_line_breaks_read}
+use Rattle.yaml_base.specs.Analysis.{Charset, allows_single_quoted, bars_single_quoted, somewhere}
+use Rattle.yaml_base.specs.Plain.{spaces}
+use Rattle.yaml_base.specs.SingleQuoted.{quotes_doubled, single_quote, single_quoted_body}
+use Rattle.yaml_base.specs.ReadFolding.{unit_of, folding_read}
+use Rattle.yaml_base.specs.ReadSingle.{unquoted, read_single}
+use Rattle.yaml_base.proofs.BreakLaws.{breaks-round, indented-written, laid-append}
+use Rattle.yaml_scalar.proofs.Unbroken.{is_unbroken}
+use Rattle.yaml_scalar.proofs.QuotingSteps.{WritesEach, steps_laid, runs_by_steps}
+use Rattle.yaml_scalar.proofs.QuotingText.{bare_steps, bare_written, any_bare, any_cond}
+use Rattle.yaml_scalar.proofs.QuotingFolds.{folding_reads, is_return, no_returns, laid_without_returns}
+use Rattle.yaml_scalar.proofs.QuotingIndents.{lines_indented}
+
+doubled-joined : (front rest : Text) → quotes_doubled (front ++ rest) ≡ quotes_doubled front ++ quotes_doubled rest
+doubled-joined [] rest = refl
+doubled-joined (c ∷ front) rest =
+    ap (λ (t : Text). (if c == 39 then 39 ∷ 39 ∷ [] else c ∷ []) ++ t) (doubled-joined front rest)
+    ∙ sym (append_assoc (if c == 39 then 39 ∷ 39 ∷ [] else c ∷ []) (quotes_doubled front) (quotes_doubled rest))
+
+doubled-unbroken : (c : ℕ) (quote : Bool) → is_break c ≡ false → is_unbroken ((if quote then 39 ∷ 39 ∷ [] else c ∷ []) ++ []) ≡ true
+doubled-unbroken c true e = refl
+doubled-unbroken c false e = simp e
+
+pub doubled_writes : WritesEach quotes_doubled
+doubled_writes = record {
+  nothing = refl;
+  kept = λ c e. simp e;
+  unbroken = λ c e. doubled-unbroken c (c == 39) e;
+  joined = doubled-joined;
+}
+
+unquoted-other : (c : ℕ) (rest : Text) → (c == 39) ≡ false → unquoted (c ∷ rest) ≡ option_map (λ t. c ∷ t) (unquoted rest)
+unquoted-other c [] e = simp e
+unquoted-other c (d ∷ rest) e = simp e
+
+unquoted-step :
+    (c : ℕ) (text after : Text) (quote : Bool) → (c == 39) ≡ quote → unquoted after ≡ Some text →
+    unquoted ((if quote then 39 ∷ 39 ∷ [] else c ∷ []) ++ after) ≡ Some (c ∷ text)
+unquoted-step c text after true e read = rw (eqb-true c 39 e, read)
+unquoted-step c text after false e read = rw (unquoted-other c after e, read)
+
+-- quotes undo, up to the closing one
+unquoted-doubled : (text : Text) → unquoted (quotes_doubled text ++ 39 ∷ []) ≡ Some text
+unquoted-doubled [] = refl
+unquoted-doubled (c ∷ rest) =
+    rw (append_assoc (if c == 39 then 39 ∷ 39 ∷ [] else c ∷ []) (quotes_doubled rest) (39 ∷ []))
+    (unquoted-step c rest (quotes_doubled rest ++ 39 ∷ []) (c == 39) refl (unquoted-doubled rest))
+
+-- the lines between the quotes, before each quote of theirs is doubled
+abbrev inside : (limit : Option ℕ) (indent : ℕ) (value : Text) → Cursor → Text
+inside limit indent value cursor = bare_steps quotes_doubled limit indent spaces value (single_quote cursor).cursor
+
+body-inside :
+    (limit : Option ℕ) (indent : ℕ) (value : Text) (cursor : Cursor) →
+    (single_quoted_body limit indent value cursor).text ≡ 39 ∷ (quotes_doubled (inside limit indent value cursor) ++ 39 ∷ [])
+body-inside limit indent value cursor =
+    rw (
+      runs_by_steps quotes_doubled doubled_writes limit indent value (single_quote cursor).cursor,
+      bare_written quotes_doubled doubled_writes limit indent spaces value (single_quote cursor).cursor,
+    )
+
+any_doubled : (test : ℕ → Bool) → test 39 ≡ false → (text : Text) → list_any test text ≡ false → list_any test (quotes_doubled text) ≡ false
+any_doubled test quote [] clean = refl
+any_doubled test quote (c ∷ rest) clean =
+    let parts = or_parts (test c) (list_any test rest) clean in
+    list_any-append test (if c == 39 then 39 ∷ 39 ∷ [] else c ∷ []) (quotes_doubled rest)
+    ∙ simp (any_cond test (c == 39) (39 ∷ 39 ∷ []) (c ∷ []) (simp quote) (simp parts.0), any_doubled test quote rest parts.1)
+
+-- a body holds neither CR nor U+0085
+pub single-laid :
+    (charset : Charset) (limit : Option ℕ) (indent : ℕ) (value : Text) (cursor : Cursor) →
+    allows_single_quoted charset value ≡ true →
+    is_laid_text (single_quoted_body limit indent value cursor).text ≡ true
+single-laid charset limit indent value cursor allowed =
+    let clean = no_returns charset value (not-true _ allowed) in
+    let bare = any_bare is_return refl refl quotes_doubled limit indent spaces value (single_quote cursor).cursor clean in
+    let doubled = laid_without_returns (quotes_doubled (inside limit indent value cursor)) (any_doubled is_return refl (inside limit indent value cursor) bare) in
+    ap is_laid_text (body-inside limit indent value cursor)
+    ∙ laid-append (quotes_doubled (inside limit indent value cursor)) (39 ∷ []) doubled refl
+
+-- a body, however its line breaks are written, reads as the value
+pub single-reads :
+    (charset : Charset) (limit : Option ℕ) (indent : ℕ) (value : Text) (cursor : Cursor) (setting : LineBreak) →
+    allows_single_quoted charset value ≡ true →
+    read_single charset.breaks12
+    (with_line_breaks_read (with_breaks_written setting (single_quoted_body limit indent value cursor).text)) ≡
+    Some value
+single-reads charset limit indent value cursor setting allowed =
+    let body = (single_quoted_body limit indent value cursor).text in
+    let text = inside limit indent value cursor in
+    let folded = λ (t : Text). folding_read (map (unit_of charset.breaks12) t) in
+    ap (read_single charset.breaks12)
+    (breaks-round setting body (single-laid charset limit indent value cursor allowed) ∙ body-inside limit indent value cursor)
+    ∙ (ap (option_map folded) (unquoted-doubled text)
+    ∙ ap (λ (t : Text). Some t)
+    (folding_reads charset quotes_doubled limit indent value (single_quote cursor).cursor (not-true _ allowed)))
+
+-- each nonempty line of a body after the first begins with two spaces, however its line breaks are written
+pub single-indented :
+    (limit : Option ℕ) (indent : ℕ) (value : Text) (cursor : Cursor) (setting : LineBreak) →
+    2 ≤ indent →
+    is_indented_text (with_breaks_written setting (single_quoted_body limit indent value cursor).text) ≡ true
+single-indented limit indent value cursor setting wide =
+    let after = (single_quote cursor).cursor in
+    indented-written setting (single_quoted_body limit indent value cursor).text
+    (rw (runs_by_steps quotes_doubled doubled_writes limit indent value after)
+    (lines_indented quotes_doubled doubled_writes limit indent wide spaces value (39 ∷ []) after refl))
