@@ -1,0 +1,5 @@
+pub mod Decoding
+pub mod Adding
+pub mod Starting
+pub mod Writing
+pub mod Composing

@@ -1,0 +1,6 @@
+pub mod Page
+pub mod Wrote
+pub mod Outlet
+pub mod Encoded
+pub mod Decode
+pub mod Pen

@@ -1,2 +1,8 @@
 //! The pen: an output buffer with an encoding, a cursor and a limit.
 #![tactic(auto)]
+
+mod encoded;
+mod outlet;
+mod pen;
+
+pub use pen::Pen;

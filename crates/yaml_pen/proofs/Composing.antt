@@ -1,0 +1,197 @@
+-- How calls that write compose: one after another, a failure on the way, and changes of the cursor between.
+use Rattle.std.proofs.Common.{◌≡◌, ◌==◌, refl, sym, ◌∙◌, ap, subst, ℕ, Bool, Option, None, Some, Result, Ok, Err, List, [], ◌∷◌, ◌++◌, IsSome, append_assoc, append-nil, if◌then◌else◌}
+use Rattle.std.proofs.lemmas.Bool.{false≢true}
+use Rattle.yaml_base.specs.Characters.{Text, line_feed}
+use Rattle.yaml_base.specs.Settings.{Encoding, LineBreak}
+use Rattle.yaml_base.specs.LineBreaks.{with_breaks_written, break_text}
+use Rattle.yaml_base.specs.Cursor.{Cursor, Laid, then_laid, nothing_laid}
+use Rattle.yaml_base.specs.declared.errors.yaml_error_t.{yaml_error_t}
+use Rattle.yaml_pen.specs.Page.{Page, IsReady, IsHandedOut, encoded, told}
+use Rattle.yaml_pen.specs.Wrote.{Wrote, WroteAll, Flushed, Grew, KeepsSettings, named_text}
+use Rattle.yaml_pen.proofs.Writing.{none_from_told}
+
+-- line breaks are written part by part
+pub with_breaks_written-append : (setting : LineBreak) (xs ys : Text) → with_breaks_written setting (xs ++ ys) ≡ with_breaks_written setting xs ++ with_breaks_written setting ys
+with_breaks_written-append setting [] ys = refl
+with_breaks_written-append setting (x ∷ xs) ys =
+    let first : Text = if x == line_feed then break_text setting else x ∷ [] in
+    ap (λ l. first ++ l) (with_breaks_written-append setting xs ys) ∙ sym (append_assoc first (with_breaks_written setting xs) (with_breaks_written setting ys))
+
+-- after Ok there is no error
+pub wrote_no_error : {lay : Cursor → Laid} {before after : Page} → Wrote lay before after (Ok tt) → after.error ≡ None
+wrote_no_error {lay} {before} {after} wrote = none_from_told after.error wrote.answered
+
+-- after Ok all is written
+pub wrote_all : {lay : Cursor → Laid} {before after : Page} → Wrote lay before after (Ok tt) → WroteAll lay before after
+wrote_all wrote = wrote.all (wrote_no_error wrote)
+
+error_from_told : (error : Option yaml_error_t) (e : yaml_error_t) → Err e ≡ told error → error ≡ None → {P : Type 0} → P
+error_from_told None e is none {P} = cc
+error_from_told (Some error) e is none {P} = cc
+
+failed_has_error : (error : Option yaml_error_t) (e : yaml_error_t) → Err e ≡ told error → IsSome error
+failed_has_error None e is = cc
+failed_has_error (Some error) e is = refl
+
+-- the text of two layouts, one after another
+named_text-then : (first next : Cursor → Laid) (before between : Page) → between.cursor ≡ (first before.cursor).cursor → between.line_break ≡ before.line_break
+    → named_text (λ c. then_laid (first c) next) before ≡ named_text first before ++ named_text next between
+named_text-then first next before between cursor line_break =
+    with_breaks_written-append before.line_break (first before.cursor).text (next (first before.cursor).cursor).text
+    ∙ ap (λ (c : Cursor). named_text first before ++ with_breaks_written before.line_break (next c).text) (sym cursor)
+    ∙ ap (λ b. named_text first before ++ with_breaks_written b (next between.cursor).text) (sym line_break)
+
+-- a call after one that answered Ok: both layouts in turn
+pub wrote_then : {first next : Cursor → Laid} {before between after : Page} {answer : Result (Unit {0}) yaml_error_t}
+    → Wrote first before between (Ok tt) → Wrote next between after answer
+    → Wrote (λ c. then_laid (first c) next) before after answer
+wrote_then {first} {next} {before} {between} {after} {answer} one two =
+    let whole = wrote_all one in
+    let named = named_text-then first next before between whole.cursor one.settings.line_break in
+    record {
+      answered = two.answered;
+      ready = two.ready;
+      settings = record {
+          encoding = two.settings.encoding ∙ one.settings.encoding;
+          line_break = two.settings.line_break ∙ one.settings.line_break;
+          limit = two.settings.limit ∙ one.settings.limit;
+        };
+      handed = two.handed;
+      grew = record {
+          front = named_text first before ++ two.grew.front;
+          rest = two.grew.rest;
+          parts = named ∙ ap (λ l. named_text first before ++ l) two.grew.parts ∙ sym (append_assoc (named_text first before) two.grew.front two.grew.rest);
+          grown = two.grew.grown ∙ ap (λ l. l ++ two.grew.front) whole.text ∙ append_assoc before.text (named_text first before) two.grew.front;
+        };
+      all = λ none.
+        let last = two.all none in
+        record {
+          no_error = whole.no_error;
+          text = last.text ∙ ap (λ l. l ++ named_text next between) whole.text ∙ append_assoc before.text (named_text first before) (named_text next between)
+            ∙ ap (λ l. before.text ++ l) (sym named);
+          cursor = last.cursor ∙ ap (λ (c : Cursor). (next c).cursor) whole.cursor;
+        };
+      stopped = λ some. absurd (false≢true (subst (λ (o : Option yaml_error_t). IsSome o) whole.no_error some));
+    }
+
+-- a call that failed: whatever was to be written after it
+pub wrote_failed : {first : Cursor → Laid} (next : Cursor → Laid) {before after : Page} {error : yaml_error_t}
+    → Wrote first before after (Err error)
+    → Wrote (λ c. then_laid (first c) next) before after (Err error)
+wrote_failed {first} next {before} {after} {error} one =
+    let second : Text = with_breaks_written before.line_break (next (first before.cursor).cursor).text in
+    record {
+      answered = one.answered;
+      ready = one.ready;
+      settings = one.settings;
+      handed = one.handed;
+      grew = record {
+          front = one.grew.front;
+          rest = one.grew.rest ++ second;
+          parts = with_breaks_written-append before.line_break (first before.cursor).text (next (first before.cursor).cursor).text
+            ∙ ap (λ l. l ++ second) one.grew.parts ∙ append_assoc one.grew.front one.grew.rest second;
+          grown = one.grew.grown;
+        };
+      all = λ none. error_from_told after.error error one.answered none;
+      stopped = one.stopped;
+    }
+
+-- nothing is written by no call
+pub wrote_nothing : {page : Page} → IsReady page → page.error ≡ None → IsHandedOut (encoded page) page.output page.limit page.error
+    → Wrote nothing_laid page page (Ok tt)
+wrote_nothing {page} ready none handed =
+    record {
+      answered = sym (ap told none);
+      ready = ready;
+      settings = record { encoding = refl; line_break = refl; limit = refl };
+      handed = handed;
+      grew = record { front = []; rest = []; parts = refl; grown = sym (append-nil page.text) };
+      all = λ _. record { no_error = none; text = sym (append-nil page.text); cursor = refl };
+      stopped = λ _. refl;
+    }
+
+-- on a pen that failed before nothing is written, whatever was to be
+pub wrote_stopped : (lay : Cursor → Laid) {page : Page} {error : yaml_error_t} → IsReady page → page.error ≡ Some error → IsHandedOut (encoded page) page.output page.limit page.error
+    → Wrote lay page page (Err error)
+wrote_stopped lay {page} {error} ready some handed =
+    record {
+      answered = sym (ap told some);
+      ready = ready;
+      settings = record { encoding = refl; line_break = refl; limit = refl };
+      handed = handed;
+      grew = record { front = []; rest = named_text lay page; parts = refl; grown = sym (append-nil page.text) };
+      all = λ none. error_from_told page.error error (sym (ap told some)) none;
+      stopped = λ _. refl;
+    }
+
+-- what is written depends on what the layout puts at the cursor alone
+pub wrote_as : {lay other : Cursor → Laid} {before after : Page} {answer : Result (Unit {0}) yaml_error_t}
+    → lay before.cursor ≡ other before.cursor → Wrote lay before after answer → Wrote other before after answer
+wrote_as {lay} {other} {before} {after} {answer} same wrote =
+    let text = ap (λ (l : Laid). with_breaks_written before.line_break l.text) same in
+    record {
+      answered = wrote.answered;
+      ready = wrote.ready;
+      settings = wrote.settings;
+      handed = wrote.handed;
+      grew = record { front = wrote.grew.front; rest = wrote.grew.rest; parts = sym text ∙ wrote.grew.parts; grown = wrote.grew.grown };
+      all = λ none.
+        let whole = wrote.all none in
+        record {
+          no_error = whole.no_error;
+          text = whole.text ∙ ap (λ l. before.text ++ l) text;
+          cursor = whole.cursor ∙ ap (λ (l : Laid). l.cursor) same;
+        };
+      stopped = wrote.stopped;
+    }
+
+-- the cursor is changed after what was written
+pub wrote_changing : {lay : Cursor → Laid} (change : Cursor → Cursor) {before between after : Page}
+    → Wrote lay before between (Ok tt) → after ≡ record between { cursor = change between.cursor }
+    → Wrote (λ c. record { text = (lay c).text; cursor = change (lay c).cursor }) before after (Ok tt)
+wrote_changing {lay} change {before} {between} {after} wrote is =
+    let whole = wrote_all wrote in
+    let P : Page → Type 0 = λ p. Wrote (λ c. record { text = (lay c).text; cursor = change (lay c).cursor }) before p (Ok tt) in
+    let changed : P (record between { cursor = change between.cursor }) = record {
+          answered = wrote.answered;
+          ready = record { begun = wrote.ready.begun; marked = wrote.ready.marked };
+          settings = record { encoding = wrote.settings.encoding; line_break = wrote.settings.line_break; limit = wrote.settings.limit };
+          handed = wrote.handed;
+          grew = wrote.grew;
+          all = λ _. record { no_error = whole.no_error; text = whole.text; cursor = ap change whole.cursor };
+          stopped = λ some. absurd (false≢true (subst (λ (o : Option yaml_error_t). IsSome o) whole.no_error some));
+        } in
+    subst P (sym is) changed
+
+-- the cursor is changed before what is written
+pub changed_wrote : {lay : Cursor → Laid} (change : Cursor → Cursor) {before between after : Page} {answer : Result (Unit {0}) yaml_error_t}
+    → between ≡ record before { cursor = change before.cursor } → Wrote lay between after answer
+    → Wrote (λ c. lay (change c)) before after answer
+changed_wrote {lay} change {before} {between} {after} {answer} is wrote =
+    let P : Page → Type 0 = λ p. Wrote lay p after answer in
+    let changed : Wrote lay (record before { cursor = change before.cursor }) after answer = subst P is wrote in
+    record {
+      answered = changed.answered;
+      ready = changed.ready;
+      settings = record { encoding = changed.settings.encoding; line_break = changed.settings.line_break; limit = changed.settings.limit };
+      handed = changed.handed;
+      grew = changed.grew;
+      all = λ none. let whole = changed.all none in record { no_error = whole.no_error; text = whole.text; cursor = whole.cursor };
+      stopped = changed.stopped;
+    }
+
+-- a flush writes nothing
+pub flushed_wrote : {before after : Page} {answer : Result (Unit {0}) yaml_error_t} → IsReady before → Flushed before after answer → Wrote nothing_laid before after answer
+flushed_wrote {before} {after} {answer} ready flushed =
+    let encoding = ap (λ (p : Page). p.encoding) flushed.kept in
+    let due = ap (λ (p : Page). p.mark_due) flushed.kept in
+    let text = ap (λ (p : Page). p.text) flushed.kept in
+    record {
+      answered = flushed.answered;
+      ready = record { begun = subst (λ (o : Option Encoding). IsSome o) (sym encoding) ready.begun; marked = due ∙ ready.marked };
+      settings = record { encoding = encoding; line_break = ap (λ (p : Page). p.line_break) flushed.kept; limit = ap (λ (p : Page). p.limit) flushed.kept };
+      handed = flushed.handed;
+      grew = record { front = []; rest = []; parts = refl; grown = text ∙ sym (append-nil before.text) };
+      all = λ none. record { no_error = (flushed.all none).0; text = text ∙ sym (append-nil before.text); cursor = ap (λ (p : Page). p.cursor) flushed.kept };
+      stopped = λ some. flushed.stopped some ∙ ap (λ (c : Cursor). let p : Page = record before { cursor = c } in p) (sym (ap (λ (p : Page). p.cursor) flushed.kept));
+    }

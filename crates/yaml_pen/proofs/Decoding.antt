@@ -1,0 +1,94 @@
+-- The bytes of a text decode to the text.
+use Rattle.std.proofs.Common.{◌≡◌, refl, sym, ◌∙◌, ap, ℕ, ◌+◌, ◌-◌, ◌*◌, ◌/◌, ◌%◌, ◌<◌, ◌≤◌, Bool, true, false, cond, ◌&&◌, ◌⊎◌, inl, inr, Option, Some, List, [], ◌∷◌, ◌++◌, nat_lt, nat_le, take, drop, encode_utf8, arith, append_assoc, lt-ltb, le-ltb, le-leb}
+use Rattle.std.specs.Char.{IsScalar}
+use Rattle.std.specs.Str.{all_scalars, chars, encode_utf8_all}
+use Rattle.std.proofs.lemmas.Str.{chars-encodes}
+use Rattle.std.proofs.lemmas.Bool.{lt-leb, cases_lt, and_parts}
+use lib.Utf8.{scalar_cases}
+use Rattle.yaml_base.specs.Characters.{Text, byte_order_mark}
+use Rattle.yaml_base.specs.Settings.{Encoding, utf8, utf16_little, utf16_big}
+use Rattle.yaml_base.specs.Encoding.{utf16_units, upper_first, lower_first, character_bytes, text_bytes, encode, mark}
+use Rattle.yaml_pen.specs.Decode.{units_upper_first, units_lower_first, text_of_units, text_of_bytes, decode}
+
+-- a text's code units
+abbrev units_of : Text → List ℕ
+units_of [] = []
+units_of (c ∷ rest) = utf16_units c ++ units_of rest
+
+units_upper_first-upper_first : (units : List ℕ) → units_upper_first (upper_first units) ≡ units
+units_upper_first-upper_first [] = refl
+units_upper_first-upper_first (u ∷ rest) =
+    let e : u / 0x100 * 0x100 + u % 0x100 ≡ u = omega arith in
+    rw e (ap (λ us. u ∷ us) (units_upper_first-upper_first rest))
+
+units_lower_first-lower_first : (units : List ℕ) → units_lower_first (lower_first units) ≡ units
+units_lower_first-lower_first [] = refl
+units_lower_first-lower_first (u ∷ rest) =
+    let e : u / 0x100 * 0x100 + u % 0x100 ≡ u = omega arith in
+    rw e (ap (λ us. u ∷ us) (units_lower_first-lower_first rest))
+
+upper_first-append : (xs ys : List ℕ) → upper_first (xs ++ ys) ≡ upper_first xs ++ upper_first ys
+upper_first-append [] ys = refl
+upper_first-append (x ∷ xs) ys = ap (λ l. (x / 0x100) ∷ (x % 0x100) ∷ l) (upper_first-append xs ys)
+
+lower_first-append : (xs ys : List ℕ) → lower_first (xs ++ ys) ≡ lower_first xs ++ lower_first ys
+lower_first-append [] ys = refl
+lower_first-append (x ∷ xs) ys = ap (λ l. (x % 0x100) ∷ (x / 0x100) ∷ l) (lower_first-append xs ys)
+
+text_bytes-big : (text : Text) → text_bytes utf16_big text ≡ upper_first (units_of text)
+text_bytes-big [] = refl
+text_bytes-big (c ∷ rest) =
+    ap (λ l. upper_first (utf16_units c) ++ l) (text_bytes-big rest) ∙ sym (upper_first-append (utf16_units c) (units_of rest))
+
+text_bytes-little : (text : Text) → text_bytes utf16_little text ≡ lower_first (units_of text)
+text_bytes-little [] = refl
+text_bytes-little (c ∷ rest) =
+    ap (λ l. lower_first (utf16_units c) ++ l) (text_bytes-little rest) ∙ sym (lower_first-append (utf16_units c) (units_of rest))
+
+text_bytes-utf8 : (text : Text) → text_bytes utf8 text ≡ encode_utf8_all text
+text_bytes-utf8 [] = refl
+text_bytes-utf8 (c ∷ rest) = ap (λ l. encode_utf8 c ++ l) (text_bytes-utf8 rest)
+
+-- no surrogate stands alone
+not_a_surrogate : (c : ℕ) → IsScalar c → (nat_le 0xD800 c && nat_lt c 0xDC00) ≡ false
+not_a_surrogate c s =
+    elim (scalar_cases c s) as (λ _. (nat_le 0xD800 c && nat_lt c 0xDC00) ≡ false) [
+      inl low ↦ rw (lt-leb 0xD800 c low)
+    | inr high ↦ rw (le-leb 0xD800 c (omega arith), le-ltb c 0xDC00 (omega arith))
+    ]
+
+lone : (c : ℕ) (units : List ℕ) → IsScalar c → text_of_units (c ∷ units) ≡ c ∷ text_of_units units
+lone c [] s = refl
+lone c (u ∷ us) s =
+    ap (λ t. cond t ((0x10000 + (c - 0xD800) * 0x400 + (u - 0xDC00)) ∷ text_of_units us) (c ∷ text_of_units (u ∷ us))) (not_a_surrogate c s)
+
+below_end : (c : ℕ) → IsScalar c → c < 0x110000
+below_end c s = elim (scalar_cases c s) as (λ _. c < 0x110000) [ inl low ↦ omega arith | inr high ↦ omega arith ]
+
+pair : (c : ℕ) (units : List ℕ) → IsScalar c → 0x10000 ≤ c
+    → text_of_units ((0xD800 + (c - 0x10000) / 0x400) ∷ (0xDC00 + (c - 0x10000) % 0x400) ∷ units) ≡ c ∷ text_of_units units
+pair c units s above =
+    let below = below_end c s in
+    let from : 0xD800 ≤ 0xD800 + (c - 0x10000) / 0x400 = omega arith in
+    let to : 0xD800 + (c - 0x10000) / 0x400 < 0xDC00 = omega arith in
+    let same : 0x10000 + (0xD800 + (c - 0x10000) / 0x400 - 0xD800) * 0x400 + (0xDC00 + (c - 0x10000) % 0x400 - 0xDC00) ≡ c = omega arith in
+    rw (le-leb 0xD800 (0xD800 + (c - 0x10000) / 0x400) from, lt-ltb (0xD800 + (c - 0x10000) / 0x400) 0xDC00 to) (ap (λ x. x ∷ text_of_units units) same)
+
+text_of_units-utf16_units : (c : ℕ) (units : List ℕ) → IsScalar c → text_of_units (utf16_units c ++ units) ≡ c ∷ text_of_units units
+text_of_units-utf16_units c units s =
+    elim (cases_lt c 0x10000) as (λ _. text_of_units (utf16_units c ++ units) ≡ c ∷ text_of_units units) [
+      inl low ↦ rw (lt-ltb c 0x10000 low) (lone c units s)
+    | inr high ↦ rw (le-ltb c 0x10000 high) (pair c units s high)
+    ]
+
+text_of_units-units_of : (text : Text) → all_scalars text ≡ true → text_of_units (units_of text) ≡ text
+text_of_units-units_of [] s = refl
+text_of_units-units_of (c ∷ rest) s =
+    let parts = and_parts _ _ s in
+    text_of_units-utf16_units c (units_of rest) parts.0 ∙ ap (λ l. c ∷ l) (text_of_units-units_of rest parts.1)
+
+pub decode-encode : (encoding : Encoding) (text : Text) → all_scalars text ≡ true → decode (Some encoding) (encode (Some encoding) text) ≡ text
+unfolding decode
+decode-encode utf8 text s = ap chars (text_bytes-utf8 text) ∙ chars-encodes text s
+decode-encode utf16_little text s = ap text_of_units (ap units_lower_first (text_bytes-little text) ∙ units_lower_first-lower_first (units_of text)) ∙ text_of_units-units_of text s
+decode-encode utf16_big text s = ap text_of_units (ap units_upper_first (text_bytes-big text) ∙ units_upper_first-upper_first (units_of text)) ∙ text_of_units-units_of text s

@@ -1,0 +1,177 @@
+-- What it does to a pen that its bytes grow by those of a text.
+use Rattle.std.proofs.Common.{◌≡◌, refl, sym, ◌∙◌, ap, ℕ, ◌==◌, true, false, Bool, Option, None, Some, Result, Ok, Err, List, [], ◌∷◌, ◌++◌, IsSome, min, unwrap_or, if◌then◌else◌, arith, append-nil, subst}
+use Rattle.std.specs.Str.{all_scalars}
+use Rattle.std.specs.Char.{IsScalar}
+use Rattle.std.proofs.lemmas.Bool.{false≢true, and_from}
+use Rattle.yaml_base.specs.Characters.{Text, line_feed}
+use Rattle.yaml_base.specs.Settings.{Encoding, LineBreak, carriage_return_break, line_feed_break, both_break}
+use Rattle.yaml_base.specs.Encoding.{encode, character_bytes, text_bytes}
+use Rattle.yaml_base.specs.LineBreaks.{with_breaks_written, break_text}
+use Rattle.yaml_base.specs.Cursor.{Cursor, Laid, column_after, next_column, text_laid}
+use Rattle.yaml_base.specs.Seen.{seen_encoding, seen_break}
+use Rattle.yaml_base.specs.declared.encodings.yaml_encoding_t.{yaml_encoding_t}
+use Rattle.yaml_base.specs.declared.encodings.yaml_break_t.{yaml_break_t}
+use Rattle.yaml_base.specs.declared.errors.yaml_error_t.{yaml_error_t}
+use Rattle.yaml_pen.specs.Page.{Page, IsReady, IsHandedOut, encoded, told}
+use Rattle.yaml_pen.specs.Wrote.{Wrote, WroteAll, Grew, KeepsSettings, named_text}
+use Rattle.yaml_pen.specs.Outlet.{Bytes, IsSound, Appended}
+use Rattle.yaml_pen.specs.Pen.{page_of, IsPen}
+use Rattle.yaml_pen.specs.Decode.{decode}
+use Rattle.yaml_pen.proofs.Adding.{AreText, AreText-grown, decode-grown}
+
+pub column_after-append : (xs ys : Text) (column : ℕ) → column_after (xs ++ ys) column ≡ column_after ys (column_after xs column)
+column_after-append [] ys column = refl
+column_after-append (x ∷ xs) ys column = column_after-append xs ys (next_column x column)
+
+-- a layout names a text at a page: the text that it puts at the cursor, with the page's line breaks, and the
+-- cursor after it
+pub record Names (raw : Text) (lay : Cursor → Laid) (page : Page) : Type 0 where
+  pub text : named_text lay page ≡ raw
+  pub cursor : (lay page.cursor).cursor ≡ record page.cursor { column = column_after raw page.cursor.column }
+
+-- a call that answered Ok left no error
+pub none_from_told : (error : Option yaml_error_t) → Ok tt ≡ told error → error ≡ None
+none_from_told None e = refl
+none_from_told (Some error) e = cc
+
+-- bytes grew by those of a text, and nothing failed
+pub record Adds (e : Encoding) (raw : Text) (before after : Bytes) : Type 0 where
+  pub all : after.all ≡ before.all ++ text_bytes e raw
+  pub no_error : before.error ≡ None
+  pub unfailed : after.error ≡ None
+  pub limit : after.limit ≡ before.limit
+  pub sound : IsSound after
+
+pub Adds-appended : (e : Encoding) (raw : Text) (bytes : List ℕ) (before after : Bytes)
+    → Appended bytes before after (Ok tt) → bytes ≡ text_bytes e raw → Adds e raw before after
+Adds-appended e raw bytes before after appended is =
+    let none = none_from_told after.error appended.answered in
+    record {
+      all = (appended.whole none).1 ∙ ap (λ l. before.all ++ l) is;
+      no_error = (appended.whole none).0;
+      unfailed = none;
+      limit = appended.limit;
+      sound = appended.handed;
+    }
+
+-- the text of a pen's bytes, in an encoding that is known
+are_text : (e : Encoding) (encoding : yaml_encoding_t) (line_break : yaml_break_t) (bytes : Bytes) (whitespace indention due : Bool) (column : ℕ)
+    → IsPen (page_of encoding due line_break bytes whitespace indention) bytes.all column → due ≡ false → seen_encoding encoding ≡ Some e
+    → AreText (Some e) bytes.all
+are_text e encoding line_break bytes whitespace indention due column pen not_due seen =
+    record {
+      encoded = pen.bytes ∙ ap (λ d. if d then [] else encode (seen_encoding encoding) (decode (seen_encoding encoding) bytes.all)) not_due ∙ ap (λ s. encode s (decode s bytes.all)) seen;
+      scalars = sym (ap (λ s. all_scalars (decode s bytes.all)) seen) ∙ pen.scalars;
+    }
+
+bytes_of_text : (e : Encoding) (encoding : yaml_encoding_t) (bytes : Bytes) (due : Bool) → due ≡ false → seen_encoding encoding ≡ Some e → AreText (Some e) bytes.all
+    → bytes.all ≡ (if due then [] else encode (seen_encoding encoding) (decode (seen_encoding encoding) bytes.all))
+bytes_of_text e encoding bytes due not_due seen are =
+    are.encoded ∙ sym (ap (λ s. encode s (decode s bytes.all)) seen) ∙ sym (ap (λ d. if d then [] else encode (seen_encoding encoding) (decode (seen_encoding encoding) bytes.all)) not_due)
+
+text_added : (e : Encoding) (encoding : yaml_encoding_t) (raw : Text) (before after : Bytes)
+    → AreText (Some e) before.all → all_scalars raw ≡ true → seen_encoding encoding ≡ Some e → Adds e raw before after
+    → decode (seen_encoding encoding) after.all ≡ decode (seen_encoding encoding) before.all ++ raw
+text_added e encoding raw before after are scalars seen adds =
+    ap (λ s. decode s after.all) seen ∙ ap (decode (Some e)) adds.all ∙ decode-grown e before.all raw are scalars ∙ sym (ap (λ s. decode s before.all ++ raw) seen)
+
+pub IsPen-added : (e : Encoding) (raw : Text) (encoding : yaml_encoding_t) (line_break : yaml_break_t) (before after : Bytes) (whitespace indention due : Bool) (column stored : ℕ)
+    → IsPen (page_of encoding due line_break before whitespace indention) before.all column → due ≡ false → seen_encoding encoding ≡ Some e
+    → all_scalars raw ≡ true → Adds e raw before after
+    → stored ≡ min (column_after raw (column_after (decode (seen_encoding encoding) before.all) 0)) 4294967295
+    → IsPen (page_of encoding due line_break after whitespace indention) after.all stored
+IsPen-added e raw encoding line_break before after whitespace indention due column stored pen not_due seen scalars adds is_column =
+    let are = are_text e encoding line_break before whitespace indention due column pen not_due seen in
+    let grown = AreText-grown e before.all raw are scalars in
+    let text = text_added e encoding raw before after are scalars seen adds in
+    record {
+      bytes = bytes_of_text e encoding after due not_due seen (subst (AreText (Some e)) (sym adds.all) grown);
+      scalars = ap (λ s. all_scalars (decode s after.all)) seen ∙ ap (λ l. all_scalars (decode (Some e) l)) adds.all ∙ grown.scalars;
+      column = is_column ∙ ap (λ n. min n 4294967295) (sym (column_after-append (decode (seen_encoding encoding) before.all) raw 0) ∙ ap (λ t. column_after t 0) (sym text));
+      handed = adds.sound;
+      unfailed = λ _. adds.unfailed;
+      marks = λ h. pen.marks h;
+    }
+
+-- it writes the text
+Wrote-page : (e : Encoding) (raw : Text) (encoding : yaml_encoding_t) (line_break : yaml_break_t) (before after : Bytes) (whitespace indention due : Bool) (column : ℕ) (lay : Cursor → Laid)
+    → IsPen (page_of encoding due line_break before whitespace indention) before.all column
+    → seen_encoding encoding ≡ Some e
+    → all_scalars raw ≡ true → Adds e raw before after
+    → IsReady (page_of encoding due line_break before whitespace indention)
+    → Names raw lay (page_of encoding due line_break before whitespace indention)
+    → Wrote lay (page_of encoding due line_break before whitespace indention) (page_of encoding due line_break after whitespace indention) (Ok tt)
+Wrote-page e raw encoding line_break before after whitespace indention due column lay pen seen scalars adds ready names =
+    let are = are_text e encoding line_break before whitespace indention due column pen ready.marked seen in
+    let grown = subst (AreText (Some e)) (sym adds.all) (AreText-grown e before.all raw are scalars) in
+    let text = text_added e encoding raw before after are scalars seen adds in
+    let bytes = grown.encoded ∙ sym (ap (λ s. encode s (decode s after.all)) seen) in
+    record {
+      answered = sym (ap told adds.unfailed);
+      ready = record { begun = ready.begun; marked = ready.marked };
+      settings = record { encoding = refl; line_break = refl; limit = adds.limit };
+      handed = subst (λ (b : List ℕ). IsHandedOut b after.output after.limit after.error) bytes adds.sound;
+      grew = record { front = raw; rest = []; parts = names.text ∙ sym (append-nil raw); grown = text };
+      all = λ _. record {
+          no_error = adds.no_error;
+          text = text ∙ ap (λ l. decode (seen_encoding encoding) before.all ++ l) (sym names.text);
+          cursor = ap (λ (n : ℕ). let c : Cursor = record { column = n; whitespace = whitespace; indention = indention } in c)
+              (ap (λ t. column_after t 0) text ∙ column_after-append (decode (seen_encoding encoding) before.all) raw 0)
+            ∙ sym names.cursor;
+        };
+      stopped = λ some. absurd (false≢true (subst (λ (o : Option yaml_error_t). IsSome o) adds.no_error some));
+    }
+
+pub Wrote-added : (e : Encoding) (raw : Text) (encoding : yaml_encoding_t) (line_break : yaml_break_t) (before after : Bytes) (whitespace indention due : Bool) (column : ℕ) (page : Page) (lay : Cursor → Laid)
+    → IsPen (page_of encoding due line_break before whitespace indention) before.all column
+    → seen_encoding encoding ≡ Some e
+    → all_scalars raw ≡ true → Adds e raw before after
+    → page_of encoding due line_break before whitespace indention ≡ page
+    → IsReady page → Names raw lay page
+    → Wrote lay page (page_of encoding due line_break after whitespace indention) (Ok tt)
+Wrote-added e raw encoding line_break before after whitespace indention due column page lay pen seen scalars adds viewed =
+    let P : Page → Type 0 = λ p. IsReady p → Names raw lay p → Wrote lay p (page_of encoding due line_break after whitespace indention) (Ok tt) in
+    subst P viewed (Wrote-page e raw encoding line_break before after whitespace indention due column lay pen seen scalars adds)
+
+pub known_encoding : (encoding : Option Encoding) → IsSome encoding → (e : Encoding) × (encoding ≡ Some e)
+known_encoding None some = absurd (false≢true some)
+known_encoding (Some e) some = (e, refl)
+
+pub character_bytes-text : (e : Encoding) (c : ℕ) → character_bytes e c ≡ text_bytes e (c ∷ [])
+character_bytes-text e c = sym (append-nil (character_bytes e c))
+
+pub scalar-text : (c : ℕ) → IsScalar c → all_scalars (c ∷ []) ≡ true
+scalar-text c scalar = and_from _ _ scalar refl
+
+-- a character other than LF names itself
+pub Names-character : (c : ℕ) (page : Page) → (c == line_feed) ≡ false → Names (c ∷ []) (text_laid (c ∷ [])) page
+Names-character c page other =
+    record {
+      text = ap (λ b. (if b then break_text page.line_break else c ∷ []) ++ []) other;
+      cursor = refl;
+    }
+
+-- the setting that a pen keeps, and its break
+abbrev pub line_break_of : yaml_break_t → LineBreak
+line_break_of line_break = unwrap_or (seen_break line_break) line_feed_break
+
+abbrev pub break_of : yaml_break_t → Text
+break_of line_break = break_text (line_break_of line_break)
+
+pub scalar-break : (setting : LineBreak) → all_scalars (break_text setting) ≡ true
+scalar-break carriage_return_break = refl
+scalar-break line_feed_break = refl
+scalar-break both_break = refl
+
+pub break-column : (setting : LineBreak) (column : ℕ) → column_after (break_text setting) column ≡ 0
+break-column carriage_return_break column = refl
+break-column line_feed_break column = refl
+break-column both_break column = refl
+
+-- LF names the break of the setting
+pub Names-break : (page : Page) → Names (break_text page.line_break) (text_laid (line_feed ∷ [])) page
+Names-break page =
+    record {
+      text = append-nil (break_text page.line_break);
+      cursor = ap (λ (n : ℕ). let c : Cursor = record page.cursor { column = n } in c) (sym (break-column page.line_break page.cursor.column));
+    }

@@ -1,0 +1,68 @@
+-- What contracts see of a pen.
+use Rattle.std.specs.Prelude.{◌≡◌, ℕ, ℤ, pos, negsuc, ◌<◌, ◌≤◌, ◌⊎◌, Bool, true, false, Option, None, Some, Result, Ok, Err, List, [], IsSome, length, if◌then◌else◌}
+use Rattle.yaml_base.specs.Characters.{Text}
+use Rattle.yaml_base.specs.Settings.{Encoding, utf8, LineBreak, line_feed_break}
+use Rattle.yaml_base.specs.Cursor.{Cursor, first_cursor}
+use Rattle.yaml_base.specs.Encoding.{encode, cut}
+use Rattle.yaml_base.specs.declared.errors.yaml_error_t.{yaml_error_t}
+use Rattle.yaml_base.specs.declared.errors.yaml_error_t.TheVariants.{WriteError, Memory}
+
+-- the settings (no encoding before the stream is begun), whether the byte order mark still has to be
+-- written, the text so far without the mark, the cursor after it (its column unbounded), the bytes
+-- handed out, and the first error
+pub record Page : Type 0 where
+  pub encoding : Option Encoding
+  pub mark_due : Bool
+  pub line_break : LineBreak
+  pub limit : ℕ
+  pub text : Text
+  pub cursor : Cursor
+  pub output : List ℕ
+  pub error : Option yaml_error_t
+
+-- the bytes of the text so far
+abbrev pub encoded : Page → List ℕ
+encoded page = encode page.encoding page.text
+
+-- UTF-16 begins with a mark
+abbrev pub has_mark : Option Encoding → Bool
+has_mark None = false
+has_mark (Some utf8) = false
+has_mark (Some _) = true
+
+-- the bytes written so far: none before the mark is
+abbrev pub written_bytes : Page → List ℕ
+written_bytes page = if page.mark_due then [] else encoded page
+
+-- no byte is written and nothing failed
+pub record IsUntouched (page : Page) : Type 0 where
+  pub no_bytes : written_bytes page ≡ []
+  pub no_error : page.error ≡ None
+
+-- begun, with the mark that its encoding asks for
+pub record IsReady (page : Page) : Type 0 where
+  pub begun : IsSome page.encoding
+  pub marked : page.mark_due ≡ false
+
+-- how a call tells the pen's error
+abbrev pub told : Option yaml_error_t → Result (Unit {0}) yaml_error_t
+told None = Ok tt
+told (Some error) = Err error
+
+-- what is handed out of these bytes: a beginning within the limit; after the limit was passed all that it
+-- leaves; a pen fails by its limit and by memory alone
+pub record IsHandedOut (bytes : List ℕ) (output : List ℕ) (limit : ℕ) (error : Option yaml_error_t) : Type 0 where
+  pub beginning : output ≡ cut (length output) bytes
+  pub within : length output ≤ limit
+  pub full : error ≡ Some WriteError → (limit < length bytes) × (output ≡ cut limit bytes)
+  pub named : (error ≡ None) ⊎ (error ≡ Some WriteError) ⊎ (error ≡ Some Memory)
+
+-- a pen that was made with this limit
+abbrev pub new_page : ℕ → Page
+new_page limit =
+    record { encoding = None; mark_due = false; line_break = line_feed_break; limit = limit; text = []; cursor = first_cursor; output = []; error = None }
+
+-- a number that isn't negative
+abbrev pub natural : ℤ → ℕ
+natural (pos n) = n
+natural (negsuc _) = 0
