@@ -1,0 +1,144 @@
+#!/usr/bin/env python3
+"""Random cases with what a model makes of them, as JSON lines: make_cases.py MODEL [FIRST [COUNT]]
+
+MODEL is a folder with the plain model of the library in Python (layout.py, readers.py, cases.py, gen.py, compare.py).
+The model was written from the rules alone and shares nothing with the definitions. A case is one of four kinds, by its seed:
+
+  list      settings and events: effective settings, how many events are ready after each front, the first refusal or
+            the completion, the pieces (also of two fronts), the scalars' bodies, the output, the content
+  text      a text for one of the readers, and its reading or null
+  bytes     canonical bytes, most of them spoiled, and their content or null
+  script    a script, many of them spoiled, and what it says
+  document  nodes, and the events of their document
+"""
+import dataclasses, json, random, sys
+
+KINDS = ["list"] * 5 + ["text"] * 2 + ["bytes", "script", "document"]
+
+
+def of_list(seed):
+    case = cases.case(seed)
+    events = replay(case["events"])
+    if "refused" not in case:
+        r = random.Random(seed + 1)
+        eff = layout.effective(readers.Settings(**case["settings"]), first_encoding(events))
+        ks = sorted({r.randrange(len(events) + 1), r.randrange(len(events) + 1)})
+        case["fronts"] = [dict(k=k, pieces=layout.pieces(eff, events, k)) for k in ks]
+    return case
+
+
+def first_encoding(events):
+    return events[0].encoding if events and isinstance(events[0], layout.StreamStart) else "any"
+
+
+def replay(events):
+    out = []
+    for e in events:
+        e = dict(e)
+        kind = getattr(layout, e.pop("kind"))
+        if "tags" in e:
+            e["tags"] = tuple(tuple(t) for t in e["tags"])
+            e["version"] = None if e["version"] is None else tuple(e["version"])
+        out.append(kind(**e))
+    return out
+
+
+def some(r, alphabet, most):
+    return "".join(r.choice(alphabet) for _ in range(r.randint(0, most)))
+
+
+SPACED = ["a", "b", " ", " ", "\n", "\n", "\t", "\u2028", "é"]
+
+
+def of_text(seed):
+    r = random.Random(seed)
+    reader = r.choice(["plain", "single", "double", "block"])
+    breaks12, flow, column = r.random() < 0.3, r.random() < 0.5, None
+    if reader == "plain":
+        text = some(r, SPACED + list(":#-?,[]{}'\"%.&"), 8)
+        value = readers.read_plain(text, flow, breaks12)
+    elif reader == "single":
+        inside = some(r, SPACED + ["''", "''", "\"", "'"] if r.random() < 0.3 else SPACED + ["''"], 8)
+        text = "'" + inside + r.choice(["'"] * 9 + [""])
+        value = readers.read_single(text, breaks12)
+    elif reader == "double":
+        units = SPACED + ["\\n", "\\\"", "\\\\", "\\ ", "\\x41", "\\u2028", "\\U0001F600", "\\0", "\\_", "\\L", "'"]
+        if r.random() < 0.3: units = units + ["\\q", "\\x4", "\\uD800", "\\xe9", "\"", "\\\n", "\\U00110000", "\\"]
+        text = '"' + some(r, units, 8) + r.choice(['"'] * 9 + [""])
+        value = readers.read_double(text, breaks12)
+    else:
+        column = r.choice([None, 0, 1, 2])
+        header = r.choice("|>") + r.choice(["", "", "1", "2", "3"]) + r.choice(["", "-", "+"])
+        lines = [r.choice(["", "", " " * r.randint(0, 4) + some(r, ["a", "b", " ", "\t", "é"], 4)]) for _ in range(r.randint(0, 5))]
+        text = header + r.choice(["\n"] * 9 + [""]) + "".join(line + r.choice(["\n", "\n", "\n", "\u2028"]) for line in lines)
+        if r.random() < 0.3: text = text.rstrip("\n")
+        value = readers.read_block(text, column, breaks12)
+    return dict(reader=reader, breaks12=breaks12, flow=flow, column=column, text=text, value=value)
+
+
+WRITTEN = ["---", "...", '"a"', '"b c"', "[", "]", "{", "}", "?", ":", ",", "*a", "&a", "!t", "! ", "!!str ", "%YAML 1.1\n", "%TAG !e! x\n", "!e!y ", " ", "\n", "#", "'"]
+
+
+def of_bytes(seed):
+    r = random.Random(seed)
+    s, events = gen.settings(r), gen.events(r)
+    s.canonical = True
+    eff = layout.effective(s, first_encoding(events))
+    data = layout.encode(eff.encoding, "".join(layout.layout_of(eff, events).pieces))
+    if r.random() < 0.2: data = "".join(r.choice(WRITTEN) for _ in range(r.randint(1, 8))).encode()
+    for _ in range(r.choice([0, 1, 1, 2])):
+        i = r.randrange(len(data) + 1)
+        k = r.random()
+        if k < 0.3: data = data[:i] + data[i + 1:]
+        elif k < 0.7: data = data[:i] + r.choice(WRITTEN).encode() + data[i:]
+        elif k < 0.9: data = data[:i]
+        else: data = data[:i] + bytes([r.randrange(256)]) + data[i:]
+    breaks12 = r.random() < 0.3
+    return dict(bytes=data.hex(), breaks12=breaks12, content=readers.canonical_read(data, breaks12))
+
+
+def of_script(seed):
+    data = compare.script_of(seed)
+    if seed % 3 > 0: data = compare.spoiled(random.Random(seed), data)
+    said = readers.parse_script(data)
+    if said[0] == "bad": return dict(bytes=data.hex(), bad=said[1])
+    return dict(bytes=data.hex(), settings=dataclasses.asdict(said[0]), events=[dict(line=n, event=cases.plain(e)) for n, e in said[1]])
+
+
+TAGS = ["tag:yaml.org,2002:str", "tag:yaml.org,2002:seq", "tag:yaml.org,2002:map", "!t"]
+
+
+def of_document(seed):
+    r = random.Random(seed)
+    count = r.choice([0, 1, 1, 2, 3, 4, 6, 8])
+    nodes = []
+    for _ in range(count):
+        k, tag, style = r.random(), r.choice(TAGS), r.choice(["any", "block", "flow"])
+        some_numbers = [r.randint(1, count) for _ in range(2 * r.choice([0, 1, 1, 2, 3]))]
+        if k < 0.3: nodes.append(["scalar", tag, gen.text(r, ["a", "b", " ", "\n", "é"], 4), r.choice(["any", "plain", "folded"])])
+        elif k < 0.7: nodes.append(["seq", tag, some_numbers, style])
+        else: nodes.append(["map", tag, list(zip(some_numbers[0::2], some_numbers[1::2])), style])
+    start, end = layout.DocStart(None, (), r.random() < 0.5), layout.DocEnd(r.random() < 0.5)
+    return dict(nodes=nodes, start=start.implicit, end=end.implicit, events=[cases.plain(e) for e in layout.document_events(nodes, start, end)])
+
+
+def case_of(seed):
+    kind = KINDS[seed % len(KINDS)]
+    return dict(dict(list=of_list, text=of_text, bytes=of_bytes, script=of_script, document=of_document)[kind](seed), what=kind, seed=seed)
+
+
+def is_small(case):
+    """The sample keeps cases of few events, so that a check of one file stays short."""
+    return len(json.dumps(case)) < 6000
+
+
+if __name__ == "__main__":
+    sys.path.insert(0, sys.argv[1])
+    sys.setrecursionlimit(100000)
+    import cases, compare, gen, layout, readers
+    first, count = (int(x) for x in (sys.argv[2:] + ["0", "300"][len(sys.argv) - 2:]))
+    seed = first
+    while count > 0:
+        case = case_of(seed)
+        if is_small(case): print(json.dumps(case)); count -= 1
+        seed += 1
