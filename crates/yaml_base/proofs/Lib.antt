@@ -1,3 +1,4 @@
+pub mod StepLaws
 pub mod Trees
 pub mod RowsPieces
 pub mod RowEvents

@@ -56,6 +56,12 @@ pub record Standing : Type 0 where
   pub cursor : Cursor
   pub mark : ℕ
 
+-- one event's piece, and where writing stands after it
+pub record PieceLaid : Type 0 where
+  pub piece : Piece
+  pub standing : Standing
+
+-- several events' pieces in order
 pub record PiecesLaid : Type 0 where
   pub pieces : List Piece
   pub standing : Standing
@@ -63,46 +69,45 @@ pub record PiecesLaid : Type 0 where
 abbrev pub no_pieces : Standing → PiecesLaid
 no_pieces standing = record { pieces = []; standing = standing }
 
+abbrev pub one_piece : PieceLaid → PiecesLaid
+one_piece laid = record { pieces = laid.piece ∷ []; standing = laid.standing }
+
 -- pieces, and then those written where they leave off
 abbrev pub then_pieces : PiecesLaid → (Standing → PiecesLaid) → PiecesLaid
 then_pieces first next =
     let second = next first.standing in
     record { pieces = first.pieces ++ second.pieces; standing = second.standing }
 
--- one piece without a body, with the open mark after it
-abbrev pub one_piece : ℕ → Laid → PiecesLaid
-one_piece mark laid =
+-- a piece without a body, with the open mark after it
+abbrev pub lead_alone : ℕ → Laid → PieceLaid
+lead_alone mark laid =
     record {
-      pieces = record { lead = laid.text; body = None } ∷ [];
-      standing = record { cursor = laid.cursor; mark = mark };
+        piece = record { lead = laid.text; body = None };
+        standing = record { cursor = laid.cursor; mark = mark };
     }
 
 -- Places and indentation
 
--- where a node stands; the first of a flow collection writes its bracket; a value knows whether its key is simple
-pub data Place : Type 0 where
-  at_root : Place
-  flow_item : (first : Bool) → Place
-  flow_key : (first : Bool) → Place
-  flow_value : (simple : Bool) → Place
-  block_item : Place
-  block_key : Place
-  block_value : (simple : Bool) → Place
+-- what a node is: the first item or key of a flow collection writes its bracket; a value knows whether its key is simple
+pub data Role : Type 0 where
+  as_root : Role
+  as_item : (first : Bool) → Role
+  as_key : (first : Bool) → Role
+  as_value : (simple : Bool) → Role
 
-abbrev pub is_in_flow : Place → Bool
-is_in_flow (flow_item first) = true
-is_in_flow (flow_key first) = true
-is_in_flow (flow_value simple) = true
-is_in_flow _ = false
+-- where a node stands: in flow or in block, as what, and the column of the entries around it (none: the root)
+pub record Place : Type 0 where
+  pub in_flow : Bool
+  pub role : Role
+  pub column : Option ℕ
 
-abbrev pub is_key : Place → Bool
-is_key (flow_key first) = true
-is_key block_key = true
+abbrev pub is_key : Role → Bool
+is_key (as_key first) = true
 is_key _ = false
 
-abbrev pub is_in_mapping : Place → Bool
-is_in_mapping block_key = true
-is_in_mapping (block_value simple) = true
+abbrev pub is_in_mapping : Role → Bool
+is_in_mapping (as_key first) = true
+is_in_mapping (as_value simple) = true
 is_in_mapping _ = false
 
 -- a new line begins at the column in force, or at 0 at the root
@@ -173,6 +178,10 @@ is_simple canonical directives (sequence_node start items) =
 is_simple canonical directives (mapping_node start pairs) =
     not canonical && is_simple_collection canonical directives start (has_no_pairs pairs)
 
+-- a node that is a key, and a simple one
+abbrev pub is_simple_at : Place → Bool → List TagDirective → Node → Bool
+is_simple_at place canonical directives node = is_key place.role && is_simple canonical directives node
+
 -- What a place puts before its node
 
 -- in flow a new line stands where the line is too long, and always in canonical mode
@@ -189,22 +198,30 @@ abbrev pub key_sign : (simple ind : Bool) → Cursor → Laid
 key_sign true ind cursor = nothing_laid cursor
 key_sign false ind cursor = indicator (codes "?") true false ind cursor
 
-abbrev pub place_laid : Effective → Place → (simple : Bool) → Option ℕ → Cursor → Laid
-place_laid s at_root simple column cursor = nothing_laid cursor
-place_laid s (flow_item first) simple column cursor =
+abbrev pub flow_place_laid : Effective → Role → (simple : Bool) → Option ℕ → Cursor → Laid
+flow_place_laid s as_root simple column cursor = nothing_laid cursor
+flow_place_laid s (as_item first) simple column cursor =
     then_laid (opening_or_comma (codes "[") first cursor) (flow_break s column)
-place_laid s (flow_key first) simple column cursor =
+flow_place_laid s (as_key first) simple column cursor =
     then_laid (then_laid (opening_or_comma (codes "{") first cursor) (flow_break s column)) (key_sign simple false)
-place_laid s (flow_value true) simple column cursor = indicator (codes ":") false false false cursor
-place_laid s (flow_value false) simple column cursor =
+flow_place_laid s (as_value true) simple column cursor = indicator (codes ":") false false false cursor
+flow_place_laid s (as_value false) simple column cursor =
     then_laid (flow_break s column cursor) (indicator (codes ":") true false false)
-place_laid s block_item simple column cursor =
+
+abbrev pub block_place_laid : Role → (simple : Bool) → Option ℕ → Cursor → Laid
+block_place_laid as_root simple column cursor = nothing_laid cursor
+block_place_laid (as_item first) simple column cursor =
     then_laid (new_line (line_column column) cursor) (indicator (codes "-") true false true)
-place_laid s block_key simple column cursor =
+block_place_laid (as_key first) simple column cursor =
     then_laid (new_line (line_column column) cursor) (key_sign simple true)
-place_laid s (block_value true) simple column cursor = indicator (codes ":") false false false cursor
-place_laid s (block_value false) simple column cursor =
+block_place_laid (as_value true) simple column cursor = indicator (codes ":") false false false cursor
+block_place_laid (as_value false) simple column cursor =
     then_laid (new_line (line_column column) cursor) (indicator (codes ":") true false true)
+
+abbrev pub place_laid : Effective → Place → (simple : Bool) → Cursor → Laid
+place_laid s place simple cursor =
+    if place.in_flow then flow_place_laid s place.role simple place.column cursor
+    else block_place_laid place.role simple place.column cursor
 
 -- Anchors and tags
 
@@ -265,50 +282,48 @@ choice_of s place simple content =
     chosen
     (allowances (record { unicode = s.unicode; breaks12 = s.breaks12 }) content.value)
     content.style (is_empty content.value) (is_some (scalar_tag s.canonical content))
-    content.plain_implicit content.quoted_implicit (is_in_flow place) simple s.canonical
+    content.plain_implicit content.quoted_implicit (place.in_flow) simple s.canonical
 
 -- a scalar's piece; a simple key has no fold
-abbrev pub scalar_piece :
-    Effective → List TagDirective → Place → Option ℕ → (simple : Bool) → Scalar → Standing → PiecesLaid
-scalar_piece s directives place column simple content standing =
+abbrev pub scalar_piece : Effective → List TagDirective → Place → (simple : Bool) → Scalar → Standing → PieceLaid
+scalar_piece s directives place simple content standing =
     let choice = choice_of s place simple content in
     let lead =
-    then_laid
-    (then_laid
-    (place_laid s place simple column standing.cursor)
-    (properties_laid directives content.anchor (scalar_tag s.canonical content) choice.bare))
-    (separation_laid choice.style (is_in_flow place) content.value) in
+        then_laid
+            (then_laid
+                (place_laid s place simple standing.cursor)
+                (properties_laid directives content.anchor (scalar_tag s.canonical content) choice.bare))
+            (separation_laid choice.style place.in_flow content.value) in
     let body =
-    body_laid choice.style s (if simple then None else s.width) (deeper s.indent column) content.value lead.cursor in
+        body_laid choice.style s (if simple then None else s.width) (deeper s.indent place.column) content.value
+            lead.cursor in
     record {
-      pieces =
-          record {
-            lead = lead.text;
-            body =
-                Some (record {
-                  style = choice.style;
-                  in_flow = is_in_flow place;
-                  column = column;
-                  value = content.value;
-                  text = body.text;
-                });
-          } ∷ [];
-      standing = record { cursor = body.cursor; mark = mark_after choice.style content.value standing.mark };
+        piece =
+            record {
+                lead = lead.text;
+                body =
+                    Some (record {
+                        style = choice.style;
+                        in_flow = place.in_flow;
+                        column = place.column;
+                        value = content.value;
+                        text = body.text;
+                    });
+            };
+        standing = record { cursor = body.cursor; mark = mark_after choice.style content.value standing.mark };
     }
 
-abbrev pub alias_piece : Effective → Place → Option ℕ → (simple : Bool) → Text → Standing → PiecesLaid
-alias_piece s place column simple name standing =
-    one_piece standing.mark
-    (then_laid (place_laid s place simple column standing.cursor) (alias_laid name simple))
+abbrev pub alias_piece : Effective → Place → (simple : Bool) → Text → Standing → PieceLaid
+alias_piece s place simple name standing =
+    lead_alone standing.mark (then_laid (place_laid s place simple standing.cursor) (alias_laid name simple))
 
 -- a collection's start: its brackets come with the next event
-abbrev pub start_piece :
-    Effective → List TagDirective → Place → Option ℕ → (simple : Bool) → Collection → Standing → PiecesLaid
-start_piece s directives place column simple start standing =
-    one_piece standing.mark
-    (then_laid
-    (place_laid s place simple column standing.cursor)
-    (properties_laid directives start.anchor (collection_tag s.canonical start) false))
+abbrev pub start_piece : Effective → List TagDirective → Place → (simple : Bool) → Collection → Standing → PieceLaid
+start_piece s directives place simple start standing =
+    lead_alone standing.mark
+        (then_laid
+            (place_laid s place simple standing.cursor)
+            (properties_laid directives start.anchor (collection_tag s.canonical start) false))
 
 abbrev pub asks_flow : CollectionStyle → Bool
 asks_flow flow = true
@@ -316,14 +331,7 @@ asks_flow _ = false
 
 -- a collection is written in flow where it stands in flow, in canonical mode, by its style, or where it is empty
 abbrev pub is_written_in_flow : Effective → Place → Collection → (empty : Bool) → Bool
-is_written_in_flow s place start empty = is_in_flow place || s.canonical || asks_flow start.style || empty
-
-abbrev pub empty_or_comma : Effective → Text → (empty : Bool) → Option ℕ → Cursor → Laid
-empty_or_comma s bracket true column cursor = indicator bracket true true false cursor
-empty_or_comma s bracket false column cursor =
-    if s.canonical
-    then then_laid (indicator (codes ",") false false false cursor) (new_line (line_column column))
-    else nothing_laid cursor
+is_written_in_flow s place start empty = place.in_flow || s.canonical || asks_flow start.style || empty
 
 -- the brackets of a sequence or of a mapping
 pub record Brackets : Type 0 where
@@ -336,71 +344,73 @@ square = record { opening = codes "["; closing = codes "]" }
 abbrev pub curly : Brackets
 curly = record { opening = codes "{"; closing = codes "}" }
 
+-- before the closing bracket stands the opening one where nothing is between them; in canonical mode a comma
+-- after the last entry, and a new line
+abbrev pub empty_or_comma : Effective → Text → (empty : Bool) → Option ℕ → Cursor → Laid
+empty_or_comma s opening true column cursor = indicator opening true true false cursor
+empty_or_comma s opening false column cursor =
+    if s.canonical
+    then then_laid (indicator (codes ",") false false false cursor) (new_line (line_column column))
+    else nothing_laid cursor
+
 -- a collection's end: a block collection's writes nothing
 abbrev pub end_laid : Effective → Brackets → (in_flow empty : Bool) → Option ℕ → Cursor → Laid
 end_laid s brackets false empty column cursor = nothing_laid cursor
 end_laid s brackets true empty column cursor =
     then_laid (empty_or_comma s brackets.opening empty column cursor) (indicator brackets.closing false false false)
 
-abbrev pub end_piece : Effective → Brackets → (in_flow empty : Bool) → Option ℕ → Standing → PiecesLaid
+abbrev pub end_piece : Effective → Brackets → (in_flow empty : Bool) → Option ℕ → Standing → PieceLaid
 end_piece s brackets in_flow empty column standing =
-    one_piece standing.mark (end_laid s brackets in_flow empty column standing.cursor)
+    lead_alone standing.mark (end_laid s brackets in_flow empty column standing.cursor)
+
+abbrev pub entry_place : (in_flow : Bool) → Role → ℕ → Place
+entry_place in_flow role column = record { in_flow = in_flow; role = role; column = Some column }
 
 -- a collection's start, its entries at their column, and its end
 abbrev pub collection_laid :
-    Effective → Brackets → (in_flow undented empty : Bool) → Option ℕ → PiecesLaid → (ℕ → Standing → PiecesLaid) → PiecesLaid
+    Effective → Brackets → (in_flow undented empty : Bool) → Option ℕ → PieceLaid → (ℕ → Standing → PiecesLaid)
+    → PiecesLaid
 collection_laid s brackets in_flow undented empty column start entries =
     then_pieces
-    (then_pieces start
-    (λ standing. entries (entries_column in_flow undented s.indent column standing.cursor) standing))
-    (end_piece s brackets in_flow empty column)
+        (then_pieces (one_piece start)
+            (entries (entries_column in_flow undented s.indent column start.standing.cursor)))
+        (λ standing. one_piece (end_piece s brackets in_flow empty column standing))
 
-abbrev pub item_place : (in_flow first : Bool) → Place
-item_place in_flow first = if in_flow then flow_item first else block_item
-
-abbrev pub key_place : (in_flow first : Bool) → Place
-key_place in_flow first = if in_flow then flow_key first else block_key
-
-abbrev pub value_place : (in_flow simple : Bool) → Place
-value_place in_flow simple = if in_flow then flow_value simple else block_value simple
-
--- a node at its place, where the entries of its block stand at a column: its events' pieces, in order
+-- a node at its place: its events' pieces, in order
 abbrev mutual
-  pub node_laid : Node → Effective → List TagDirective → Place → Option ℕ → Standing → PiecesLaid
-  node_laid (alias_node name) s directives place column standing =
-      alias_piece s place column (is_key place && not s.canonical && is_simple_alias name) name standing
-  node_laid (scalar_node content) s directives place column standing =
-      scalar_piece s directives place column
-      (is_key place && not s.canonical && is_simple_scalar s.canonical directives content) content standing
-  node_laid (sequence_node start items) s directives place column standing =
+  pub node_laid : Node → Effective → List TagDirective → Place → Standing → PiecesLaid
+  node_laid (alias_node name) s directives place standing =
+      one_piece (alias_piece s place (is_simple_at place s.canonical directives (alias_node name)) name standing)
+  node_laid (scalar_node content) s directives place standing =
+      one_piece
+          (scalar_piece s directives place (is_simple_at place s.canonical directives (scalar_node content)) content standing)
+  node_laid (sequence_node start items) s directives place standing =
       let in_flow = is_written_in_flow s place start (has_no_nodes items) in
-      collection_laid s square in_flow (is_in_mapping place) (has_no_nodes items) column
-      (start_piece s directives place column
-      (is_key place && not s.canonical && is_simple_collection s.canonical directives start (has_no_nodes items))
-      start standing)
-      (nodes_laid items s directives in_flow)
-  node_laid (mapping_node start pairs) s directives place column standing =
+      collection_laid s square in_flow (is_in_mapping place.role) (has_no_nodes items) place.column
+          (start_piece s directives place (is_simple_at place s.canonical directives (sequence_node start items))
+              start standing)
+          (nodes_laid items s directives in_flow)
+  node_laid (mapping_node start pairs) s directives place standing =
       let in_flow = is_written_in_flow s place start (has_no_pairs pairs) in
-      collection_laid s curly in_flow false (has_no_pairs pairs) column
-      (start_piece s directives place column
-      (is_key place && not s.canonical && is_simple_collection s.canonical directives start (has_no_pairs pairs))
-      start standing)
-      (pairs_laid pairs s directives in_flow)
+      collection_laid s curly in_flow false (has_no_pairs pairs) place.column
+          (start_piece s directives place (is_simple_at place s.canonical directives (mapping_node start pairs))
+              start standing)
+          (pairs_laid pairs s directives in_flow)
 
   pub nodes_laid : Nodes → Effective → List TagDirective → (in_flow : Bool) → ℕ → Standing → PiecesLaid
   nodes_laid no_nodes s directives in_flow column standing = no_pieces standing
-  nodes_laid (nodes_and items item) s directives in_flow column standing =
+  nodes_laid (nodes_and items last) s directives in_flow column standing =
       then_pieces (nodes_laid items s directives in_flow column standing)
-      (node_laid item s directives (item_place in_flow (has_no_nodes items)) (Some column))
+          (node_laid last s directives (entry_place in_flow (as_item (has_no_nodes items)) column))
 
   pub pairs_laid : Pairs → Effective → List TagDirective → (in_flow : Bool) → ℕ → Standing → PiecesLaid
   pairs_laid no_pairs s directives in_flow column standing = no_pieces standing
-  pairs_laid (pairs_and pairs key value) s directives in_flow column standing =
+  pairs_laid (pairs_and pairs last_key last_value) s directives in_flow column standing =
       then_pieces
-      (then_pieces (pairs_laid pairs s directives in_flow column standing)
-      (node_laid key s directives (key_place in_flow (has_no_pairs pairs)) (Some column)))
-      (node_laid value s directives
-      (value_place in_flow (is_simple s.canonical directives key)) (Some column))
+          (then_pieces (pairs_laid pairs s directives in_flow column standing)
+              (node_laid last_key s directives (entry_place in_flow (as_key (has_no_pairs pairs)) column)))
+          (node_laid last_value s directives
+              (entry_place in_flow (as_value (is_simple s.canonical directives last_key)) column))
 
 -- Documents and streams
 
@@ -462,22 +472,25 @@ document_start_laid canonical first start standing =
     (tag_directives_laid start.directives))
     (laid_if (is_explicit canonical first start) (document_mark_laid canonical))
 
-abbrev pub document_start_piece : Bool → (first : Bool) → DocumentStart → Standing → PiecesLaid
+abbrev pub document_start_piece : Bool → (first : Bool) → DocumentStart → Standing → PieceLaid
 document_start_piece canonical first start standing =
-    one_piece 0 (document_start_laid canonical first start standing)
+    lead_alone 0 (document_start_laid canonical first start standing)
 
 -- an implicit end leaves the document open, an explicit one closes it
-abbrev pub document_end_piece : (implicit : Bool) → Standing → PiecesLaid
+abbrev pub document_end_piece : (implicit : Bool) → Standing → PieceLaid
 document_end_piece true standing =
-    one_piece (if standing.mark == 0 then 1 else standing.mark) (new_line 0 standing.cursor)
-document_end_piece false standing = one_piece 0 (then_laid (new_line 0 standing.cursor) closing_mark_laid)
+    lead_alone (if standing.mark == 0 then 1 else standing.mark) (new_line 0 standing.cursor)
+document_end_piece false standing = lead_alone 0 (then_laid (new_line 0 standing.cursor) closing_mark_laid)
+
+abbrev pub root_place : Place
+root_place = record { in_flow = false; role = as_root; column = None }
 
 abbrev pub document_laid : Effective → (first : Bool) → Document → Standing → PiecesLaid
 document_laid s first document standing =
     then_pieces
-    (then_pieces (document_start_piece s.canonical first document.start standing)
-    (node_laid document.root s (directives_in_force document.start.directives) at_root None))
-    (document_end_piece document.end_implicit)
+        (then_pieces (one_piece (document_start_piece s.canonical first document.start standing))
+            (node_laid document.root s (directives_in_force document.start.directives) root_place))
+        (λ after. one_piece (document_end_piece document.end_implicit after))
 
 abbrev pub has_no_documents : Documents → Bool
 has_no_documents no_documents = true
@@ -492,20 +505,20 @@ abbrev pub first_standing : Standing
 first_standing = record { cursor = first_cursor; mark = 0 }
 
 -- a stream whose last document keeps its final breaks is closed
-abbrev pub stream_end_piece : Standing → PiecesLaid
+abbrev pub stream_end_piece : Standing → PieceLaid
 stream_end_piece standing =
-    one_piece standing.mark (laid_if (standing.mark == 2) closing_mark_laid standing.cursor)
+    lead_alone standing.mark (laid_if (standing.mark == 2) closing_mark_laid standing.cursor)
 
 -- a stream's start writes nothing
-abbrev pub stream_start_piece : Standing → PiecesLaid
-stream_start_piece standing = one_piece standing.mark (nothing_laid standing.cursor)
+abbrev pub stream_start_piece : Standing → PieceLaid
+stream_start_piece standing = lead_alone standing.mark (nothing_laid standing.cursor)
 
 -- the pieces of a stream, one for each of its events
 abbrev pub stream_laid : Effective → Stream → PiecesLaid
 stream_laid s stream =
     then_pieces
-    (then_pieces (stream_start_piece first_standing) (documents_laid s stream.documents))
-    stream_end_piece
+        (then_pieces (one_piece (stream_start_piece first_standing)) (documents_laid s stream.documents))
+        (λ after. one_piece (stream_end_piece after))
 
 abbrev pub layout : Effective → Stream → List Piece
 layout s stream = (stream_laid s stream).pieces

@@ -26,6 +26,7 @@ pub mod Grammar
 pub mod Refusal
 pub mod Ready
 pub mod Layout
+pub mod Steps
 pub mod Pieces
 pub mod Output
 pub mod Content

@@ -1,0 +1,134 @@
+-- The pieces of a list, event by event, are those of its tree's layout.
+use Rattle.std.proofs.Common.{◌≡◌, refl, sym, ap, ◌∙◌, append_assoc, append-nil}
+use Rattle.std.specs.Prelude.{ℕ, Bool, true, false, Option, None, Some, List, [], ◌∷◌, ◌++◌, option_and_then, option_map, unwrap_or}
+use Rattle.yaml_base.specs.Settings.{Effective}
+use Rattle.yaml_base.specs.Event.{TagDirective, DocumentStart, Collection, Event, stream_start, stream_end, document_start, document_end, alias, scalar, sequence_start, sequence_end, mapping_start, mapping_end}
+use Rattle.yaml_base.specs.Tags.{directives_in_force}
+use Rattle.yaml_base.specs.Grammar.{Node, alias_node, scalar_node, sequence_node, mapping_node, Nodes, no_nodes, nodes_and, Pairs, no_pairs, pairs_and, Document, Documents, no_documents, documents_and, Stream, node_events, nodes_events, pairs_events, document_events, documents_events, stream_events}
+use Rattle.yaml_base.specs.Layout.{Piece, Standing, PieceLaid, PiecesLaid, one_piece, then_pieces, Role, as_item, as_key, as_value, Place, is_in_mapping, entries_column, has_no_nodes, has_no_pairs, is_simple, is_simple_at, start_piece, is_written_in_flow, square, curly, end_piece, entry_place, root_place, node_laid, nodes_laid, pairs_laid, document_start_piece, document_end_piece, document_laid, has_no_documents, documents_laid, first_standing, stream_start_piece, stream_end_piece, stream_laid, layout}
+use Rattle.yaml_base.specs.Steps.{Frame, Stage, at_stream, at_document, at_node, at_document_end, at_nothing, next_place, stage_after, step, ends_next, Steps, then_steps, steps}
+
+-- pieces of a tree, and then steps from where they leave off
+abbrev after_pieces : PiecesLaid → (Standing → Steps) → Steps
+after_pieces laid next =
+    let after = next laid.standing in
+    record { pieces = laid.pieces ++ after.pieces; standing = after.standing; stage = after.stage }
+
+-- More pieces and then steps: the pieces, then the more, then the steps.
+after_pieces-then_pieces : (a : PiecesLaid) (f : Standing → PiecesLaid) (g : Standing → Steps) → after_pieces (then_pieces a f) g ≡ after_pieces a (λ standing. after_pieces (f standing) g)
+after_pieces-then_pieces a f g =
+    let b = f a.standing in
+    let c = g b.standing in
+    ap (λ (pieces : List Piece). let made : Steps = record { pieces = pieces; standing = c.standing; stage = c.stage } in made)
+        (append_assoc a.pieces b.pieces c.pieces)
+
+-- Steps that agree where the pieces leave off.
+after_pieces-same : (a : PiecesLaid) (f g : Standing → Steps) → f a.standing ≡ g a.standing → after_pieces a f ≡ after_pieces a g
+after_pieces-same a f g same =
+    ap (λ (after : Steps). let made : Steps = record { pieces = a.pieces ++ after.pieces; standing = after.standing; stage = after.stage } in made) same
+
+-- No node begins with a collection's end.
+node_begins : (n : Node) (rest : List Event) (follows : Bool) → ends_next (node_events n ++ rest) follows ≡ false
+node_begins (alias_node name) rest follows = refl
+node_begins (scalar_node content) rest follows = refl
+node_begins (sequence_node c items) rest follows = refl
+node_begins (mapping_node c pairs) rest follows = refl
+
+nodes_begin : (items : Nodes) (rest : List Event) (follows : Bool) → ends_next rest follows ≡ false → ends_next (nodes_events items ++ rest) follows ≡ false
+nodes_begin no_nodes rest follows opens = opens
+nodes_begin (nodes_and items last) rest follows opens =
+    ap (λ events. ends_next events follows) (append_assoc (nodes_events items) (node_events last) rest)
+    ∙ nodes_begin items (node_events last ++ rest) follows (node_begins last rest follows)
+
+pairs_begin : (pairs : Pairs) (rest : List Event) (follows : Bool) → ends_next rest follows ≡ false → ends_next (pairs_events pairs ++ rest) follows ≡ false
+pairs_begin no_pairs rest follows opens = opens
+pairs_begin (pairs_and pairs key value) rest follows opens =
+    ap (λ events. ends_next events follows)
+        (append_assoc (pairs_events pairs) (node_events key ++ node_events value) rest
+        ∙ ap (λ after. pairs_events pairs ++ after) (append_assoc (node_events key) (node_events value) rest))
+    ∙ pairs_begin pairs (node_events key ++ (node_events value ++ rest)) follows (node_begins key (node_events value ++ rest) follows)
+
+-- A collection's end follows its start at once exactly where it is empty.
+sequence_ends : (items : Nodes) (rest : List Event) (follows : Bool) → ends_next (nodes_events items ++ sequence_end ∷ rest) follows ≡ has_no_nodes items
+sequence_ends no_nodes rest follows = refl
+sequence_ends (nodes_and items last) rest follows =
+    ap (λ events. ends_next events follows) (append_assoc (nodes_events items) (node_events last) (sequence_end ∷ rest))
+    ∙ nodes_begin items (node_events last ++ sequence_end ∷ rest) follows (node_begins last (sequence_end ∷ rest) follows)
+
+mapping_ends : (pairs : Pairs) (rest : List Event) (follows : Bool) → ends_next (pairs_events pairs ++ mapping_end ∷ rest) follows ≡ has_no_pairs pairs
+mapping_ends no_pairs rest follows = refl
+mapping_ends (pairs_and pairs key value) rest follows =
+    ap (λ events. ends_next events follows)
+        (append_assoc (pairs_events pairs) (node_events key ++ node_events value) (mapping_end ∷ rest)
+        ∙ ap (λ after. pairs_events pairs ++ after) (append_assoc (node_events key) (node_events value) (mapping_end ∷ rest)))
+    ∙ pairs_begin pairs (node_events key ++ (node_events value ++ mapping_end ∷ rest)) follows (node_begins key (node_events value ++ mapping_end ∷ rest) follows)
+
+abbrev frame_at : (in_flow : Bool) → Role → ℕ → (simple : Bool) → Frame
+frame_at in_flow role column simple = record { place = entry_place in_flow role column; simple = simple }
+
+-- Steps over a tree's events give its pieces and go on.
+mutual
+  pub node_steps : (n : Node) (s : Effective) (follows : Bool) (rest : List Event) (d : List TagDirective) (frames : List Frame) (standing : Standing) → steps s follows (node_events n ++ rest) (at_node d frames) standing ≡ after_pieces (node_laid n s d (next_place frames) standing) (steps s follows rest (stage_after d frames (is_simple_at (next_place frames) s.canonical d n)))
+  node_steps (alias_node name) s follows rest d frames standing = refl
+  node_steps (scalar_node content) s follows rest d frames standing = refl
+  node_steps (sequence_node c items) s follows rest d frames standing =
+      let place = next_place frames in
+      let empty = has_no_nodes items in
+      let simple = is_simple_at place s.canonical d (sequence_node c items) in
+      let in_flow = is_written_in_flow s place c empty in
+      let start = start_piece s d place simple c standing in
+      let column = entries_column in_flow (is_in_mapping place.role) s.indent place.column start.standing.cursor in
+      let entries = nodes_laid items s d in_flow column in
+      let end : Standing → PiecesLaid = (λ after. one_piece (end_piece s square in_flow empty place.column after)) in
+      let next = steps s follows rest (stage_after d frames simple) in
+      ap (λ events. steps s follows (sequence_start c ∷ events) (at_node d frames) standing) (append_assoc (nodes_events items) (sequence_end ∷ []) rest)
+      ∙ ap (λ ends. then_steps (step s (at_node d frames) (sequence_start c) ends standing) (steps s follows (nodes_events items ++ sequence_end ∷ rest))) (sequence_ends items rest follows)
+      ∙ after_pieces-same (one_piece start) (steps s follows (nodes_events items ++ sequence_end ∷ rest) (at_node d (frame_at in_flow (as_item true) column simple ∷ frames))) (λ after. after_pieces (entries after) (λ last. after_pieces (end last) next)) (nodes_steps items s follows (sequence_end ∷ rest) d in_flow column simple frames start.standing)
+      ∙ sym (after_pieces-then_pieces (then_pieces (one_piece start) entries) end next
+            ∙ after_pieces-then_pieces (one_piece start) entries (λ last. after_pieces (end last) next))
+  node_steps (mapping_node c pairs) s follows rest d frames standing =
+      let place = next_place frames in
+      let empty = has_no_pairs pairs in
+      let simple = is_simple_at place s.canonical d (mapping_node c pairs) in
+      let in_flow = is_written_in_flow s place c empty in
+      let start = start_piece s d place simple c standing in
+      let column = entries_column in_flow false s.indent place.column start.standing.cursor in
+      let entries = pairs_laid pairs s d in_flow column in
+      let end : Standing → PiecesLaid = (λ after. one_piece (end_piece s curly in_flow empty place.column after)) in
+      let next = steps s follows rest (stage_after d frames simple) in
+      ap (λ events. steps s follows (mapping_start c ∷ events) (at_node d frames) standing) (append_assoc (pairs_events pairs) (mapping_end ∷ []) rest)
+      ∙ ap (λ ends. then_steps (step s (at_node d frames) (mapping_start c) ends standing) (steps s follows (pairs_events pairs ++ mapping_end ∷ rest))) (mapping_ends pairs rest follows)
+      ∙ after_pieces-same (one_piece start) (steps s follows (pairs_events pairs ++ mapping_end ∷ rest) (at_node d (frame_at in_flow (as_key true) column simple ∷ frames))) (λ after. after_pieces (entries after) (λ last. after_pieces (end last) next)) (pairs_steps pairs s follows (mapping_end ∷ rest) d in_flow column simple frames start.standing)
+      ∙ sym (after_pieces-then_pieces (then_pieces (one_piece start) entries) end next
+            ∙ after_pieces-then_pieces (one_piece start) entries (λ last. after_pieces (end last) next))
+
+  pub nodes_steps : (items : Nodes) (s : Effective) (follows : Bool) (rest : List Event) (d : List TagDirective) (in_flow : Bool) (column : ℕ) (simple : Bool) (frames : List Frame) (standing : Standing) → steps s follows (nodes_events items ++ rest) (at_node d (frame_at in_flow (as_item true) column simple ∷ frames)) standing ≡ after_pieces (nodes_laid items s d in_flow column standing) (steps s follows rest (at_node d (frame_at in_flow (as_item (has_no_nodes items)) column simple ∷ frames)))
+  nodes_steps no_nodes s follows rest d in_flow column simple frames standing = refl
+  nodes_steps (nodes_and items last) s follows rest d in_flow column simple frames standing =
+      let place = entry_place in_flow (as_item (has_no_nodes items)) column in
+      let before = nodes_laid items s d in_flow column standing in
+      let next = steps s follows rest (at_node d (frame_at in_flow (as_item false) column simple ∷ frames)) in
+      ap (λ events. steps s follows events (at_node d (frame_at in_flow (as_item true) column simple ∷ frames)) standing) (append_assoc (nodes_events items) (node_events last) rest)
+      ∙ nodes_steps items s follows (node_events last ++ rest) d in_flow column simple frames standing
+      ∙ after_pieces-same before (steps s follows (node_events last ++ rest) (at_node d (frame_at in_flow (as_item (has_no_nodes items)) column simple ∷ frames))) (λ after. after_pieces (node_laid last s d place after) next) (node_steps last s follows rest d (frame_at in_flow (as_item (has_no_nodes items)) column simple ∷ frames) before.standing)
+      ∙ sym (after_pieces-then_pieces before (node_laid last s d place) next)
+
+  pub pairs_steps : (pairs : Pairs) (s : Effective) (follows : Bool) (rest : List Event) (d : List TagDirective) (in_flow : Bool) (column : ℕ) (simple : Bool) (frames : List Frame) (standing : Standing) → steps s follows (pairs_events pairs ++ rest) (at_node d (frame_at in_flow (as_key true) column simple ∷ frames)) standing ≡ after_pieces (pairs_laid pairs s d in_flow column standing) (steps s follows rest (at_node d (frame_at in_flow (as_key (has_no_pairs pairs)) column simple ∷ frames)))
+  pairs_steps no_pairs s follows rest d in_flow column simple frames standing = refl
+  pairs_steps (pairs_and pairs last_key last_value) s follows rest d in_flow column simple frames standing =
+      let key_place = entry_place in_flow (as_key (has_no_pairs pairs)) column in
+      let key_simple = is_simple s.canonical d last_key in
+      let value_place = entry_place in_flow (as_value key_simple) column in
+      let before = pairs_laid pairs s d in_flow column standing in
+      let keyed = then_pieces before (node_laid last_key s d key_place) in
+      let at_the_key = frame_at in_flow (as_key (has_no_pairs pairs)) column simple ∷ frames in
+      let at_the_value = frame_at in_flow (as_value key_simple) column simple ∷ frames in
+      let next = steps s follows rest (at_node d (frame_at in_flow (as_key false) column simple ∷ frames)) in
+      ap (λ events. steps s follows events (at_node d (frame_at in_flow (as_key true) column simple ∷ frames)) standing)
+          (append_assoc (pairs_events pairs) (node_events last_key ++ node_events last_value) rest
+          ∙ ap (λ after. pairs_events pairs ++ after) (append_assoc (node_events last_key) (node_events last_value) rest))
+      ∙ pairs_steps pairs s follows (node_events last_key ++ (node_events last_value ++ rest)) d in_flow column simple frames standing
+      ∙ after_pieces-same before (steps s follows (node_events last_key ++ (node_events last_value ++ rest)) (at_node d at_the_key)) (λ after. after_pieces (node_laid last_key s d key_place after) (steps s follows (node_events last_value ++ rest) (at_node d at_the_value))) (node_steps last_key s follows (node_events last_value ++ rest) d at_the_key before.standing)
+      ∙ sym (after_pieces-then_pieces before (node_laid last_key s d key_place) (steps s follows (node_events last_value ++ rest) (at_node d at_the_value)))
+      ∙ after_pieces-same keyed (steps s follows (node_events last_value ++ rest) (at_node d at_the_value)) (λ after. after_pieces (node_laid last_value s d value_place after) next) (node_steps last_value s follows rest d at_the_value keyed.standing)
+      ∙ sym (after_pieces-then_pieces keyed (node_laid last_value s d value_place) next)

@@ -1,0 +1,150 @@
+-- The same pieces, event by event, for contracts of code that writes them so: an event's piece needs the places that
+-- are open and, at a collection's start, whether its end follows at once. A law says that these are the layout's pieces.
+use Rattle.std.specs.Prelude.{Bool, true, false, Option, None, Some, List, [], ◌∷◌, ◌++◌, ◌&&◌, not}
+use Rattle.yaml_base.specs.Characters.{Text}
+use Rattle.yaml_base.specs.Settings.{Effective}
+use Rattle.yaml_base.specs.Cursor.{nothing_laid}
+use Rattle.yaml_base.specs.Event.{TagDirective, DocumentStart, Scalar, Collection, Event, stream_start, stream_end, document_start, document_end, alias, scalar, sequence_start, sequence_end, mapping_start, mapping_end}
+use Rattle.yaml_base.specs.Tags.{directives_in_force}
+use Rattle.yaml_base.specs.Refusal.{ends_collection}
+use Rattle.yaml_base.specs.Layout.{Piece, Standing, PieceLaid, Role, as_root, as_item, as_key, as_value, Place, is_key, is_in_mapping, entries_column, is_simple_alias, is_simple_scalar, is_simple_collection, lead_alone, scalar_piece, alias_piece, start_piece, is_written_in_flow, Brackets, square, curly, end_piece, entry_place, root_place, document_start_piece, document_end_piece, stream_start_piece, stream_end_piece}
+
+-- an open collection: where its next entry stands, and whether it is itself a simple key
+pub record Frame : Type 0 where
+  pub place : Place
+  pub simple : Bool
+
+-- what comes next: the stream's start, a document or the stream's end, a node or the innermost collection's end in a
+-- document with these directives and open collections, a document's end, or nothing
+pub data Stage : Type 0 where
+  at_stream : Stage
+  at_document : (first : Bool) → Stage
+  at_node : List TagDirective → List Frame → Stage
+  at_document_end : Stage
+  at_nothing : Stage
+
+-- where the next node stands
+abbrev pub next_place : List Frame → Place
+next_place [] = root_place
+next_place (frame ∷ outer) = frame.place
+
+abbrev pub role_after : Role → (simple : Bool) → Role
+role_after as_root simple = as_root
+role_after (as_item first) simple = as_item false
+role_after (as_key first) simple = as_value simple
+role_after (as_value was_simple) simple = as_key false
+
+abbrev pub place_after : Place → (simple : Bool) → Place
+place_after place simple = record place { role = role_after place.role simple }
+
+-- after a node, which may have been a simple key
+abbrev pub stage_after : List TagDirective → List Frame → (simple : Bool) → Stage
+stage_after directives [] simple = at_document_end
+stage_after directives (frame ∷ outer) simple =
+    at_node directives (record frame { place = place_after frame.place simple } ∷ outer)
+
+abbrev pub is_first : Role → Bool
+is_first (as_item first) = first
+is_first (as_key first) = first
+is_first _ = false
+
+-- an event's piece, and what comes next
+pub record Stepped : Type 0 where
+  pub laid : PieceLaid
+  pub stage : Stage
+
+-- an event out of place writes nothing
+abbrev pub stopped : Standing → Stepped
+stopped standing = record { laid = lead_alone standing.mark (nothing_laid standing.cursor); stage = at_nothing }
+
+-- an alias or a scalar, which may be a simple key
+abbrev pub leaf_step : List TagDirective → List Frame → (simple : Bool) → PieceLaid → Stepped
+leaf_step directives frames simple laid = record { laid = laid; stage = stage_after directives frames simple }
+
+-- the frame of a collection whose start is written
+abbrev pub frame_opened :
+    Effective → Place → (in_flow undented simple : Bool) → Role → PieceLaid → Frame
+frame_opened s place in_flow undented simple role laid =
+    record {
+        place = entry_place in_flow role (entries_column in_flow undented s.indent place.column laid.standing.cursor);
+        simple = simple;
+    }
+
+abbrev pub start_step :
+    Effective → List TagDirective → List Frame → (undented simple empty : Bool) → Role → Collection → Standing → Stepped
+start_step s directives frames undented simple empty role start standing =
+    let place = next_place frames in
+    let laid = start_piece s directives place simple start standing in
+    record {
+        laid = laid;
+        stage =
+            at_node directives
+                (frame_opened s place (is_written_in_flow s place start empty) undented simple role laid ∷ frames);
+    }
+
+abbrev pub end_step : Effective → Brackets → List TagDirective → List Frame → Standing → Stepped
+end_step s brackets directives [] standing = stopped standing
+end_step s brackets directives (frame ∷ outer) standing =
+    record {
+        laid =
+            end_piece s brackets frame.place.in_flow (is_first frame.place.role) (next_place outer).column standing;
+        stage = stage_after directives outer frame.simple;
+    }
+
+-- an event within a document; empty: the collection that it starts ends at once
+abbrev pub node_step : Effective → List TagDirective → List Frame → Event → (empty : Bool) → Standing → Stepped
+node_step s directives frames (alias name) empty standing =
+    let simple = is_key (next_place frames).role && (not s.canonical && is_simple_alias name) in
+    leaf_step directives frames simple (alias_piece s (next_place frames) simple name standing)
+node_step s directives frames (scalar content) empty standing =
+    let simple =
+        is_key (next_place frames).role && (not s.canonical && is_simple_scalar s.canonical directives content) in
+    leaf_step directives frames simple (scalar_piece s directives (next_place frames) simple content standing)
+node_step s directives frames (sequence_start start) empty standing =
+    start_step s directives frames (is_in_mapping (next_place frames).role)
+        (is_key (next_place frames).role && (not s.canonical && is_simple_collection s.canonical directives start empty))
+        empty (as_item true) start standing
+node_step s directives frames (mapping_start start) empty standing =
+    start_step s directives frames false
+        (is_key (next_place frames).role && (not s.canonical && is_simple_collection s.canonical directives start empty))
+        empty (as_key true) start standing
+node_step s directives frames sequence_end empty standing = end_step s square directives frames standing
+node_step s directives frames mapping_end empty standing = end_step s curly directives frames standing
+node_step s directives frames _ empty standing = stopped standing
+
+-- an event at a stage
+abbrev pub step : Effective → Stage → Event → (empty : Bool) → Standing → Stepped
+step s at_stream (stream_start encoding) empty standing =
+    record { laid = stream_start_piece standing; stage = at_document true }
+step s (at_document first) (document_start start) empty standing =
+    record {
+        laid = document_start_piece s.canonical first start standing;
+        stage = at_node (directives_in_force start.directives) [];
+    }
+step s (at_document first) stream_end empty standing = record { laid = stream_end_piece standing; stage = at_nothing }
+step s (at_node directives frames) event empty standing = node_step s directives frames event empty standing
+step s at_document_end (document_end implicit) empty standing =
+    record { laid = document_end_piece implicit standing; stage = at_document false }
+step s _ event empty standing = stopped standing
+
+-- the next event is a collection's end; where no event follows, as is said
+abbrev pub ends_next : List Event → Bool → Bool
+ends_next [] follows = follows
+ends_next (event ∷ rest) follows = ends_collection event
+
+-- several events' pieces, where writing stands after them, and what comes next
+pub record Steps : Type 0 where
+  pub pieces : List Piece
+  pub standing : Standing
+  pub stage : Stage
+
+abbrev pub then_steps : Stepped → (Stage → Standing → Steps) → Steps
+then_steps stepped next =
+    let after = next stepped.stage stepped.laid.standing in
+    record { pieces = stepped.laid.piece ∷ after.pieces; standing = after.standing; stage = after.stage }
+
+-- events one after another; follows: a collection's end follows them
+abbrev pub steps : Effective → (follows : Bool) → List Event → Stage → Standing → Steps
+steps s follows [] stage standing = record { pieces = []; standing = standing; stage = stage }
+steps s follows (event ∷ rest) stage standing =
+    then_steps (step s stage event (ends_next rest follows) standing) (steps s follows rest)
