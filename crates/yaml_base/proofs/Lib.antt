@@ -1,3 +1,5 @@
+pub mod Completions
+pub mod Pushes
 pub mod StepLaws
 pub mod Trees
 pub mod RowsPieces

@@ -132,3 +132,39 @@ mutual
       ∙ sym (after_pieces-then_pieces before (node_laid last_key s d key_place) (steps s follows (node_events last_value ++ rest) (at_node d at_the_value)))
       ∙ after_pieces-same keyed (steps s follows (node_events last_value ++ rest) (at_node d at_the_value)) (λ after. after_pieces (node_laid last_value s d value_place after) next) (node_steps last_value s follows rest d at_the_value keyed.standing)
       ∙ sym (after_pieces-then_pieces keyed (node_laid last_value s d value_place) next)
+
+pub document_steps : (x : Document) (s : Effective) (first follows : Bool) (rest : List Event) (standing : Standing) → steps s follows (document_events x ++ rest) (at_document first) standing ≡ after_pieces (document_laid s first x standing) (steps s follows rest (at_document false))
+document_steps x s first follows rest standing =
+    let d = directives_in_force x.start.directives in
+    let start = document_start_piece s.canonical first x.start standing in
+    let root = node_laid x.root s d root_place in
+    let end : Standing → PiecesLaid = (λ after. one_piece (document_end_piece x.end_implicit after)) in
+    let next = steps s follows rest (at_document false) in
+    ap (λ events. steps s follows (document_start x.start ∷ events) (at_document first) standing) (append_assoc (node_events x.root) (document_end x.end_implicit ∷ []) rest)
+    ∙ after_pieces-same (one_piece start) (steps s follows (node_events x.root ++ document_end x.end_implicit ∷ rest) (at_node d [])) (λ after. after_pieces (root after) (λ last. after_pieces (end last) next)) (node_steps x.root s follows (document_end x.end_implicit ∷ rest) d [] start.standing)
+    ∙ sym (after_pieces-then_pieces (then_pieces (one_piece start) root) end next
+          ∙ after_pieces-then_pieces (one_piece start) root (λ last. after_pieces (end last) next))
+
+pub documents_steps : (x : Documents) (s : Effective) (follows : Bool) (rest : List Event) (standing : Standing) → steps s follows (documents_events x ++ rest) (at_document true) standing ≡ after_pieces (documents_laid s x standing) (steps s follows rest (at_document (has_no_documents x)))
+documents_steps no_documents s follows rest standing = refl
+documents_steps (documents_and x last) s follows rest standing =
+    let before = documents_laid s x standing in
+    let first = has_no_documents x in
+    let next = steps s follows rest (at_document false) in
+    ap (λ events. steps s follows events (at_document true) standing) (append_assoc (documents_events x) (document_events last) rest)
+    ∙ documents_steps x s follows (document_events last ++ rest) standing
+    ∙ after_pieces-same before (steps s follows (document_events last ++ rest) (at_document first)) (λ after. after_pieces (document_laid s first last after) next) (document_steps last s first follows rest before.standing)
+    ∙ sym (after_pieces-then_pieces before (document_laid s first last) next)
+
+-- The layout of a stream is what its events give, one after another.
+pub stream_steps : (t : Stream) (s : Effective) → (steps s false (stream_events t) at_stream first_standing).pieces ≡ layout s t
+stream_steps t s =
+    let start = stream_start_piece first_standing in
+    let inside = documents_laid s t.documents in
+    let end : Standing → PiecesLaid = (λ after. one_piece (stream_end_piece after)) in
+    let next : Standing → Steps = steps s false [] at_nothing in
+    ap (λ (made : Steps). made.pieces)
+        (after_pieces-same (one_piece start) (steps s false (documents_events t.documents ++ stream_end ∷ []) (at_document true)) (λ after. after_pieces (inside after) (λ last. after_pieces (end last) next)) (documents_steps t.documents s false (stream_end ∷ []) start.standing)
+        ∙ sym (after_pieces-then_pieces (then_pieces (one_piece start) inside) end next
+              ∙ after_pieces-then_pieces (one_piece start) inside (λ last. after_pieces (end last) next)))
+    ∙ append-nil (layout s t)

@@ -1,0 +1,86 @@
+-- The completion of a list that begins a stream is a stream.
+use Rattle.std.proofs.Common.{◌≡◌, refl, sym, ap, ◌∙◌, append_assoc, append-nil}
+use Rattle.std.specs.Prelude.{Bool, true, Option, None, Some, List, [], ◌∷◌, ◌++◌, option_and_then, flat_map}
+use Rattle.yaml_base.specs.Settings.{Encoding}
+use Rattle.yaml_base.specs.Event.{any_style, DocumentStart, Scalar, Event, stream_start, stream_end, document_start, document_end, alias, scalar, sequence_start, sequence_end, mapping_start, mapping_end}
+use Rattle.yaml_base.specs.Grammar.{Node, alias_node, scalar_node, sequence_node, mapping_node, Nodes, no_nodes, nodes_and, Pairs, no_pairs, pairs_and, Document, Documents, no_documents, documents_and, Stream, stream_events, Level, at_item, at_key, at_value, Partial, before_stream, between_documents, within_document, after_root, after_stream, with_node, push, pushed, partial_of, finished, tree_of}
+use Rattle.yaml_base.specs.Pieces.{empty_scalar, innermost_missing, outer_missing, levels_missing, missing, missing_after, completion}
+use Rattle.yaml_base.proofs.Pushes.{partial_events, partial_of_events}
+
+append_next : (a b : List Event) (next : Option Partial) → ((q : Partial) → pushed q (a ++ b) ≡ option_and_then (λ r. pushed r b) (pushed q a)) → option_and_then (λ q. pushed q (a ++ b)) next ≡ option_and_then (λ q. pushed q b) (option_and_then (λ q. pushed q a) next)
+append_next a b None others = refl
+append_next a b (Some q) others = others q
+
+-- Pushing a list and then another is pushing both.
+pub pushed-append : (a b : List Event) (p : Partial) → pushed p (a ++ b) ≡ option_and_then (λ q. pushed q b) (pushed p a)
+pushed-append [] b p = refl
+pushed-append (event ∷ a) b p = append_next a b (push p event) (λ q. pushed-append a b q)
+
+abbrev empty_node : Node
+empty_node = scalar_node (record { anchor = None; tag = None; value = []; plain_implicit = true; quoted_implicit = true; style = any_style })
+
+-- the innermost collection, completed
+abbrev innermost_node : Level → Node
+innermost_node (at_item c no_nodes) = sequence_node c (nodes_and no_nodes empty_node)
+innermost_node (at_item c (nodes_and items last)) = sequence_node c (nodes_and items last)
+innermost_node (at_key c no_pairs) = mapping_node c (pairs_and no_pairs empty_node empty_node)
+innermost_node (at_key c (pairs_and pairs key value)) = mapping_node c (pairs_and pairs key value)
+innermost_node (at_value c pairs key) = mapping_node c (pairs_and pairs key empty_node)
+
+-- the root, when a node is the last in these open collections
+abbrev root_around : List Level → Node → Node
+root_around [] n = n
+root_around (at_item c items ∷ outer) n = root_around outer (sequence_node c (nodes_and items n))
+root_around (at_key c pairs ∷ outer) n = root_around outer (mapping_node c (pairs_and pairs n empty_node))
+root_around (at_value c pairs key ∷ outer) n = root_around outer (mapping_node c (pairs_and pairs key n))
+
+abbrev root_completed : List Level → Node
+root_completed [] = empty_node
+root_completed (innermost ∷ outer) = root_around outer (innermost_node innermost)
+
+abbrev with_document : Option Encoding → Documents → DocumentStart → Node → Stream
+with_document e d s root =
+    record { encoding = e; documents = documents_and d (record { start = s; root = root; end_implicit = true }) }
+
+-- the stream that completes a partial tree
+abbrev pub stream_completed : Partial → Stream
+stream_completed before_stream = record { encoding = None; documents = no_documents }
+stream_completed (between_documents e d) = record { encoding = e; documents = d }
+stream_completed (within_document e d s levels) = with_document e d s (root_completed levels)
+stream_completed (after_root e d s root) = with_document e d s root
+stream_completed (after_stream t) = t
+
+outer_pushed : (outer : List Level) (n : Node) (e : Option Encoding) (d : Documents) (s : DocumentStart) (rest : List Event) → pushed (with_node e d s outer n) (flat_map outer_missing outer ++ rest) ≡ pushed (after_root e d s (root_around outer n)) rest
+outer_pushed [] n e d s rest = refl
+outer_pushed (at_item c items ∷ outer) n e d s rest = outer_pushed outer (sequence_node c (nodes_and items n)) e d s rest
+outer_pushed (at_key c pairs ∷ outer) n e d s rest = outer_pushed outer (mapping_node c (pairs_and pairs n empty_node)) e d s rest
+outer_pushed (at_value c pairs key ∷ outer) n e d s rest = outer_pushed outer (mapping_node c (pairs_and pairs key n)) e d s rest
+
+levels_pushed : (levels : List Level) (e : Option Encoding) (d : Documents) (s : DocumentStart) (rest : List Event) → pushed (within_document e d s levels) (levels_missing levels ++ rest) ≡ pushed (after_root e d s (root_completed levels)) rest
+levels_pushed [] e d s rest = refl
+levels_pushed (at_item c no_nodes ∷ outer) e d s rest = outer_pushed outer (sequence_node c (nodes_and no_nodes empty_node)) e d s rest
+levels_pushed (at_item c (nodes_and items last) ∷ outer) e d s rest = outer_pushed outer (sequence_node c (nodes_and items last)) e d s rest
+levels_pushed (at_key c no_pairs ∷ outer) e d s rest = outer_pushed outer (mapping_node c (pairs_and no_pairs empty_node empty_node)) e d s rest
+levels_pushed (at_key c (pairs_and pairs key value) ∷ outer) e d s rest = outer_pushed outer (mapping_node c (pairs_and pairs key value)) e d s rest
+levels_pushed (at_value c pairs key ∷ outer) e d s rest = outer_pushed outer (mapping_node c (pairs_and pairs key empty_node)) e d s rest
+
+pub missing_pushed : (p : Partial) → pushed p (missing p) ≡ Some (after_stream (stream_completed p))
+missing_pushed before_stream = refl
+missing_pushed (between_documents e d) = refl
+missing_pushed (within_document e d s levels) = levels_pushed levels e d s (document_end true ∷ stream_end ∷ [])
+missing_pushed (after_root e d s root) = refl
+missing_pushed (after_stream t) = refl
+
+pub completion_pushed : (events : List Event) (p : Partial) → partial_of events ≡ Some p → partial_of (completion events) ≡ Some (after_stream (stream_completed p))
+completion_pushed events p begins =
+    pushed-append events (missing_after (partial_of events)) before_stream
+    ∙ ap (λ (o : Option Partial). option_and_then (λ q. pushed q (missing_after o)) o) begins
+    ∙ missing_pushed p
+
+-- Where a list begins one that is a whole stream's, it begins a stream.
+pub front_begins : (a b : List Event) (q : Partial) → partial_of (a ++ b) ≡ Some q → (p : Partial) × (partial_of a ≡ Some p)
+front_begins a b q whole = of (partial_of a) (sym (pushed-append a b before_stream) ∙ whole)
+  where
+    of : (o : Option Partial) → option_and_then (λ r. pushed r b) o ≡ Some q → (p : Partial) × (o ≡ Some p)
+    of None is = cc
+    of (Some p) is = (p, refl)

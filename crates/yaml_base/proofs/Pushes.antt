@@ -1,0 +1,125 @@
+-- A partial tree's events: each push adds its event at their end.
+use Rattle.std.proofs.Common.{◌≡◌, refl, sym, ap, ◌∙◌, append_assoc, append-nil}
+use Rattle.std.specs.Prelude.{Bool, Option, None, Some, List, [], ◌∷◌, ◌++◌, option_and_then}
+use Rattle.yaml_base.specs.Settings.{Encoding}
+use Rattle.yaml_base.specs.Event.{DocumentStart, Collection, Event, stream_start, stream_end, document_start, document_end, alias, scalar, sequence_start, sequence_end, mapping_start, mapping_end}
+use Rattle.yaml_base.specs.Grammar.{Node, alias_node, scalar_node, sequence_node, mapping_node, Nodes, no_nodes, nodes_and, Pairs, no_pairs, pairs_and, Document, Documents, no_documents, documents_and, Stream, node_events, nodes_events, pairs_events, document_events, documents_events, stream_events, Level, at_item, at_key, at_value, Partial, before_stream, between_documents, within_document, after_root, after_stream, with_node, closed, push_within, push, pushed, partial_of, finished, tree_of}
+
+abbrev pub level_events : Level → List Event
+level_events (at_item c items) = sequence_start c ∷ nodes_events items
+level_events (at_key c pairs) = mapping_start c ∷ pairs_events pairs
+level_events (at_value c pairs key) = mapping_start c ∷ (pairs_events pairs ++ node_events key)
+
+abbrev pub levels_events : List Level → List Event
+levels_events [] = []
+levels_events (level ∷ outer) = levels_events outer ++ level_events level
+
+-- the events of a document that has begun
+abbrev pub begun_events : Option Encoding → Documents → DocumentStart → List Event → List Event
+begun_events e d s inside = (stream_start e ∷ (documents_events d ++ document_start s ∷ [])) ++ inside
+
+abbrev pub partial_events : Partial → List Event
+partial_events before_stream = []
+partial_events (between_documents e d) = stream_start e ∷ documents_events d
+partial_events (within_document e d s levels) = begun_events e d s (levels_events levels)
+partial_events (after_root e d s root) = begun_events e d s (node_events root)
+partial_events (after_stream t) = stream_events t
+
+-- A node more: its events come last.
+added : (e : Option Encoding) (d : Documents) (s : DocumentStart) (outer : List Event) (level node : List Event) → begun_events e d s (outer ++ (level ++ node)) ≡ begun_events e d s (outer ++ level) ++ node
+added e d s outer level node =
+    let head = stream_start e ∷ (documents_events d ++ document_start s ∷ []) in
+    ap (λ inside. head ++ inside) (sym (append_assoc outer level node)) ∙ sym (append_assoc head (outer ++ level) node)
+
+with_node_events : (e : Option Encoding) (d : Documents) (s : DocumentStart) (levels : List Level) (n : Node) → partial_events (with_node e d s levels n) ≡ begun_events e d s (levels_events levels) ++ node_events n
+with_node_events e d s [] n = ap (λ events. events ++ node_events n) (sym (append-nil (stream_start e ∷ (documents_events d ++ document_start s ∷ []))))
+with_node_events e d s (at_item c items ∷ outer) n = added e d s (levels_events outer) (sequence_start c ∷ nodes_events items) (node_events n)
+with_node_events e d s (at_key c pairs ∷ outer) n = added e d s (levels_events outer) (mapping_start c ∷ pairs_events pairs) (node_events n)
+with_node_events e d s (at_value c pairs key ∷ outer) n =
+    ap (λ events. begun_events e d s (levels_events outer ++ (mapping_start c ∷ events))) (sym (append_assoc (pairs_events pairs) (node_events key) (node_events n)))
+    ∙ added e d s (levels_events outer) (mapping_start c ∷ (pairs_events pairs ++ node_events key)) (node_events n)
+
+-- The end of the innermost collection.
+closed_events : (level : Level) (event : Event) (n : Node) → closed level event ≡ Some n → node_events n ≡ level_events level ++ event ∷ []
+closed_events (at_item c items) sequence_end n is =
+    let same : sequence_node c items ≡ n = cc in ap node_events (sym same)
+closed_events (at_key c pairs) mapping_end n is =
+    let same : mapping_node c pairs ≡ n = cc in ap node_events (sym same)
+closed_events level event n is = cc
+
+abbrev AddsEvent : Partial → Event → Partial → Type 0
+AddsEvent p event q = partial_events q ≡ partial_events p ++ event ∷ []
+
+closed_added : (e : Option Encoding) (d : Documents) (s : DocumentStart) (level : Level) (outer : List Level) (event : Event) (made : Option Node) (q : Partial) → closed level event ≡ made → option_and_then (λ node. Some (with_node e d s outer node)) made ≡ Some q → AddsEvent (within_document e d s (level ∷ outer)) event q
+closed_added e d s level outer event None q is given = cc
+closed_added e d s level outer event (Some n) q is given =
+    let same : with_node e d s outer n ≡ q = cc in
+    ap partial_events (sym same)
+    ∙ with_node_events e d s outer n
+    ∙ ap (λ events. begun_events e d s (levels_events outer) ++ events) (closed_events level event n is)
+    ∙ append_assoc (stream_start e ∷ (documents_events d ++ document_start s ∷ [])) (levels_events outer) (level_events level ++ event ∷ [])
+    ∙ added e d s (levels_events outer) (level_events level) (event ∷ [])
+
+node_added : (e : Option Encoding) (d : Documents) (s : DocumentStart) (levels : List Level) (n : Node) (q : Partial) → Some (with_node e d s levels n) ≡ Some q → partial_events q ≡ begun_events e d s (levels_events levels) ++ node_events n
+node_added e d s levels n q given =
+    let same : with_node e d s levels n ≡ q = cc in
+    ap partial_events (sym same) ∙ with_node_events e d s levels n
+
+level_added : (e : Option Encoding) (d : Documents) (s : DocumentStart) (levels : List Level) (level : Level) (event : Event) (q : Partial) → level_events level ≡ event ∷ [] → Some (within_document e d s (level ∷ levels)) ≡ Some q → AddsEvent (within_document e d s levels) event q
+level_added e d s levels level event q only given =
+    let same : within_document e d s (level ∷ levels) ≡ q = cc in
+    let head = stream_start e ∷ (documents_events d ++ document_start s ∷ []) in
+    ap partial_events (sym same)
+    ∙ ap (λ events. begun_events e d s (levels_events levels ++ events)) only
+    ∙ sym (append_assoc head (levels_events levels) (event ∷ []))
+
+within_added : (e : Option Encoding) (d : Documents) (s : DocumentStart) (levels : List Level) (event : Event) (q : Partial) → push_within e d s levels event ≡ Some q → AddsEvent (within_document e d s levels) event q
+within_added e d s levels (alias name) q given = node_added e d s levels (alias_node name) q given
+within_added e d s levels (scalar content) q given = node_added e d s levels (scalar_node content) q given
+within_added e d s levels (sequence_start c) q given = level_added e d s levels (at_item c no_nodes) (sequence_start c) q refl given
+within_added e d s levels (mapping_start c) q given = level_added e d s levels (at_key c no_pairs) (mapping_start c) q refl given
+within_added e d s (level ∷ levels) event q given = closed_added e d s level levels event (closed level event) q refl given
+within_added e d s [] event q given = cc
+
+document_added : (e : Option Encoding) (d : Documents) (x : Document) → stream_start e ∷ documents_events (documents_and d x) ≡ begun_events e d x.start (node_events x.root) ++ document_end x.end_implicit ∷ []
+document_added e d x =
+    let head = documents_events d ++ document_start x.start ∷ [] in
+    ap (λ events. stream_start e ∷ events)
+        (sym (append_assoc (documents_events d) (document_start x.start ∷ []) (node_events x.root ++ document_end x.end_implicit ∷ []))
+        ∙ sym (append_assoc head (node_events x.root) (document_end x.end_implicit ∷ [])))
+
+pub push_events : (p : Partial) (event : Event) (q : Partial) → push p event ≡ Some q → AddsEvent p event q
+push_events before_stream (stream_start encoding) q given =
+    let same : between_documents encoding no_documents ≡ q = cc in ap partial_events (sym same)
+push_events (between_documents e d) (document_start s) q given =
+    let same : within_document e d s [] ≡ q = cc in
+    ap partial_events (sym same) ∙ append-nil (stream_start e ∷ (documents_events d ++ document_start s ∷ []))
+push_events (between_documents e d) stream_end q given =
+    let t : Stream = record { encoding = e; documents = d } in
+    let same : after_stream t ≡ q = cc in ap partial_events (sym same)
+push_events (within_document e d s levels) event q given = within_added e d s levels event q given
+push_events (after_root e d s root) (document_end implicit) q given =
+    let x : Document = record { start = s; root = root; end_implicit = implicit } in
+    let same : between_documents e (documents_and d x) ≡ q = cc in
+    ap partial_events (sym same) ∙ document_added e d x
+push_events p event q given = cc
+
+abbrev AddsEvents : List Event → Partial → Partial → Type 0
+AddsEvents events p q = pushed p events ≡ Some q → partial_events q ≡ partial_events p ++ events
+
+one_more : (event : Event) (events : List Event) (p q : Partial) → ((r : Partial) → AddsEvents events r q) → (next : Option Partial) → push p event ≡ next → option_and_then (λ r. pushed r events) next ≡ Some q → partial_events q ≡ partial_events p ++ event ∷ events
+one_more event events p q others None is given = cc
+one_more event events p q others (Some r) is given =
+    others r given
+    ∙ ap (λ before. before ++ events) (push_events p event r is)
+    ∙ append_assoc (partial_events p) (event ∷ []) events
+
+-- Pushing several events adds them all.
+pub pushed_events : (events : List Event) (p q : Partial) → AddsEvents events p q
+pushed_events [] p q given =
+    let same : p ≡ q = cc in ap partial_events (sym same) ∙ sym (append-nil (partial_events p))
+pushed_events (event ∷ events) p q given =
+    one_more event events p q (λ r. pushed_events events r q) (push p event) refl given
+
+pub partial_of_events : (events : List Event) (p : Partial) → partial_of events ≡ Some p → partial_events p ≡ events
+partial_of_events events p given = pushed_events events before_stream p given
