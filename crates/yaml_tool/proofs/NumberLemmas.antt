@@ -1,0 +1,98 @@
+-- A number is read digit by digit, and no further than its greatest value.
+use Rattle.std.proofs.Common.{◌≡◌, ℕ, suc, add-one, drop, drop-cons, get_or, length, ◌+◌, ◌*◌, ◌<◌, ◌≤◌, Bool, true, false, ◌&&◌, nat_le, nat_lt, Option, None, Some, List, [], ◌∷◌, refl, sym, subst, arith, if◌then◌else◌}
+use Rattle.std.proofs.Math.Nat.{mul-le-mul_left}
+use Rattle.std.proofs.lemmas.Bool.Decides.{nat_tests}
+use Rattle.std.specs.List.{list_all}
+use Rattle.std.specs.Char.{is_digit, digit_value}
+use Rattle.std.specs.Str.{all_scalars}
+use Rattle.std.specs.Str.Parse.{digits_value_after}
+use Rattle.yaml_base.specs.Script as notation
+use Rattle.yaml_base.specs.Script.{stands_for, fails}
+use Rattle.yaml_tool.specs.Numbers.{number_after}
+
+lt_true : (a b : ℕ) → a < b → nat_lt a b ≡ true
+lt_true a b h = grind (arith, nat_tests)
+
+lt_false : (a b : ℕ) → b ≤ a → nat_lt a b ≡ false
+lt_false a b h = grind (arith, nat_tests)
+
+le_true : (a b : ℕ) → a ≤ b → nat_le a b ≡ true
+le_true a b h = grind (arith, nat_tests)
+
+le_false : (a b : ℕ) → b < a → nat_le a b ≡ false
+le_false a b h = grind (arith, nat_tests)
+
+-- more digits make no number less
+pub grows : (radix number : ℕ) (rest : List ℕ) → 1 ≤ radix → number ≤ digits_value_after radix number rest
+grows radix number [] positive = omega arith
+grows radix number (c ∷ rest) positive =
+    let more : number * 1 ≤ number * radix = mul-le-mul_left number positive in
+    omega (arith, more, grows radix (number * radix + digit_value c) rest positive)
+
+taken : (first others within : Bool) (x : Option ℕ) → first ≡ true → (if (first && others) && within then x else None) ≡ (if others && within then x else None)
+taken first others within x h = subst (λ (b : Bool). (if (b && others) && within then x else None) ≡ (if others && within then x else None)) (sym h) refl
+
+refused : (first others within : Bool) (x : Option ℕ) → first ≡ false → (if (first && others) && within then x else None) ≡ None
+refused first others within x h = subst (λ (b : Bool). (if (b && others) && within then x else None) ≡ None) (sym h) refl
+
+beyond : (digits within : Bool) (x : Option ℕ) → within ≡ false → (if digits && within then x else None) ≡ None
+beyond true within x h = subst (λ (b : Bool). (if true && b then x else None) ≡ None) (sym h) refl
+beyond false within x h = refl
+
+-- past the greatest value there is no way back
+pub too_great : (radix most number : ℕ) (rest : List ℕ) → 1 ≤ radix → most < number → number_after radix most number rest ≡ None
+too_great radix most number rest positive above =
+    let whole = digits_value_after radix number rest in
+    let past : most < whole = omega (arith, grows radix number rest positive) in
+    beyond (list_all (λ digit. is_digit digit radix) rest) (nat_le whole most) (Some whole) (le_false whole most past)
+
+-- a digit is taken
+next_digit : (radix most number c : ℕ) (rest : List ℕ) → digit_value c < radix → number_after radix most number (c ∷ rest) ≡ number_after radix most (number * radix + digit_value c) rest
+next_digit radix most number c rest is =
+    let whole = digits_value_after radix (number * radix + digit_value c) rest in
+    taken (is_digit c radix) (list_all (λ digit. is_digit digit radix) rest) (nat_le whole most) (Some whole) (lt_true (digit_value c) radix is)
+
+-- anything else is not
+no_digit : (radix most number c : ℕ) (rest : List ℕ) → radix ≤ digit_value c → number_after radix most number (c ∷ rest) ≡ None
+no_digit radix most number c rest is_not =
+    let whole = digits_value_after radix (number * radix + digit_value c) rest in
+    refused (is_digit c radix) (list_all (λ digit. is_digit digit radix) rest) (nat_le whole most) (Some whole) (lt_false (digit_value c) radix is_not)
+
+-- the same at a place of a word
+pub digit_at : (radix most number base d i : ℕ) (word : List ℕ) → base ≡ radix → i < length word → d ≡ digit_value (get_or word i 0) → d < radix → number_after radix most number (drop i word) ≡ number_after radix most (number * base + d) (drop (i + 1) word)
+digit_at radix most number base d i word is_base inside is small =
+    let step = next_digit radix most number (get_or word i 0) (drop (suc i) word) (subst (λ n. n < radix) is small) in
+    let opened = drop-cons word i 0 inside in
+    rw (add-one, is_base, is, opened) step
+
+pub no_digit_at : (radix most number i : ℕ) (word : List ℕ) → i < length word → radix ≤ digit_value (get_or word i 0) → number_after radix most number (drop i word) ≡ None
+no_digit_at radix most number i word inside is_not =
+    rw (drop-cons word i 0 inside) (no_digit radix most number (get_or word i 0) (drop (suc i) word) is_not)
+
+-- a word that isn't empty is a number where its digits come to one
+pub number_of_some : (most : ℕ) (word : List ℕ) → 0 < length word → notation.number_up_to most word ≡ number_after 10 most 0 word
+number_of_some most [] some = absurd (omega arith)
+number_of_some most (c ∷ rest) some =
+    let whole = digits_value_after 10 0 (c ∷ rest) in
+    taken (nat_le 1 (length (c ∷ rest))) (list_all (λ digit. is_digit digit 10) (c ∷ rest)) (nat_le whole most) (Some whole) (le_true 1 (length (c ∷ rest)) some)
+
+-- the character that a number is, or that there is none
+abbrev pub character_turn : Option ℕ → notation.Turn
+character_turn None = fails
+character_turn (Some number) = if all_scalars (number ∷ []) then stands_for number else fails
+
+no_scalar : (number : ℕ) → 1114111 < number → all_scalars (number ∷ []) ≡ false
+no_scalar number above = grind (arith, nat_tests)
+
+joined : (between digits within : Bool) (number : ℕ) → between ≡ true → (within ≡ false → all_scalars (number ∷ []) ≡ false)
+    → (if (between && digits) && all_scalars (number ∷ []) then stands_for number else fails) ≡ character_turn (if digits && within then Some number else None)
+joined true false within number is past = refl
+joined true true true number is past = refl
+joined true true false number is past = subst (λ (b : Bool). (if (true && true) && b then stands_for number else fails) ≡ fails) (sym (past refl)) refl
+joined false digits within number is past = cc
+
+-- one to six hexadecimal digits are the character that they number
+pub character_of_digits : (digits : List ℕ) → 1 ≤ length digits → length digits ≤ 6 → notation.numbered_turn digits ≡ character_turn (number_after 16 1114111 0 digits)
+character_of_digits digits some few =
+    let number = digits_value_after 16 0 digits in
+    joined (nat_le 1 (length digits) && nat_le (length digits) 6) (list_all (λ digit. is_digit digit 16) digits) (nat_le number 1114111) number (grind (arith, nat_tests)) (λ past. no_scalar number (grind (arith, nat_tests, past)))

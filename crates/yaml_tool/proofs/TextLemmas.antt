@@ -1,0 +1,87 @@
+-- A text is read turn by turn: `\u{..}` is cut at its closing brace.
+use Rattle.std.proofs.Common.{◌≡◌, ℕ, ◌<◌, Bool, true, false, ◌||◌, ◌==◌, Option, None, Some, option_map, List, [], ◌∷◌, ◌++◌, length, length-append, append_assoc, append-nil, refl, sym, subst, ap, ◌∙◌, arith, if◌then◌else◌}
+use Rattle.std.specs.Prelude.{String}
+use Rattle.std.specs.String.{string_bytes}
+use Rattle.std.specs.Char.{encode_utf8}
+use Rattle.std.specs.Str.{chars, encode_utf8_all}
+use Rattle.std.proofs.lemmas.Str.{chars-nil, encodes-append, encodes-chars, IsUtf8-string_bytes, chars_from_encodes}
+use Rattle.yaml_base.specs.Seen.{seen_text}
+use Rattle.yaml_base.specs.Characters.{Text}
+use Rattle.yaml_base.specs.Script as notation
+use Rattle.yaml_base.specs.Script.{goes_on, stands_for, ends, fails, at_character, at_digits, at_brace, text_from, numbered_turn, turn}
+use Rattle.yaml_tool.specs.Cuts.{IsFree, IsCut}
+
+-- what a turn and the characters behind it are read as
+abbrev pub read_turn : notation.Turn → Text → Option Text
+read_turn (goes_on next) rest = text_from next rest
+read_turn (stands_for character) rest = option_map (λ value. character ∷ value) (text_from at_character rest)
+read_turn ends rest = if length rest == 0 then Some [] else None
+read_turn fails rest = None
+
+one_turn : (t : notation.Turn) (rest : Text) → (elim t as (λ _. Option Text) [
+  | goes_on next ↦ text_from next rest
+  | stands_for character ↦ option_map (λ value. character ∷ value) (text_from at_character rest)
+  | ends ↦ if length rest == 0 then Some [] else None
+  | fails ↦ None
+]) ≡ read_turn t rest
+one_turn (goes_on next) rest = refl
+one_turn (stands_for character) rest = refl
+one_turn ends rest = refl
+one_turn fails rest = refl
+
+first_turn : (within : notation.Within) (c : ℕ) (rest : Text) → text_from within (c ∷ rest) ≡ read_turn (turn within c) rest
+first_turn within c rest = one_turn (turn within c) rest
+
+neither : (a b : Bool) → (a || b) ≡ false → (a ≡ false) × (b ≡ false)
+neither false b h = (refl, h)
+neither true b h = cc
+
+digit_goes_on : (digits : Text) (c : ℕ) → (c == 0x7D) ≡ false → turn (at_digits digits) c ≡ goes_on (at_digits (digits ++ c ∷ []))
+digit_goes_on digits c h = subst (λ (b : Bool). (if b then numbered_turn digits else goes_on (at_digits (digits ++ c ∷ []))) ≡ goes_on (at_digits (digits ++ c ∷ []))) (sym h) refl
+
+-- no closing brace, no character
+digits_without_end : (digits front : Text) → IsFree 0x7D front → text_from (at_digits digits) front ≡ None
+digits_without_end digits [] free = refl
+digits_without_end digits (c ∷ front) free =
+    let both = neither (c == 0x7D) _ free in
+    first_turn (at_digits digits) c front
+    ∙ ap (λ t. read_turn t front) (digit_goes_on digits c both.0) ∙ digits_without_end (digits ++ c ∷ []) front both.1
+
+-- up to the first closing brace they are one character
+digits_with_end : (digits front back : Text) → IsFree 0x7D front → text_from (at_digits digits) (front ++ (0x7D ∷ back)) ≡ read_turn (numbered_turn (digits ++ front)) back
+digits_with_end digits [] back free = first_turn (at_digits digits) 0x7D back ∙ ap (λ (ds : Text). read_turn (numbered_turn ds) back) (sym (append-nil digits))
+digits_with_end digits (c ∷ front) back free =
+    let both = neither (c == 0x7D) _ free in
+    first_turn (at_digits digits) c (front ++ (0x7D ∷ back))
+    ∙ ap (λ t. read_turn t (front ++ (0x7D ∷ back))) (digit_goes_on digits c both.0)
+    ∙ digits_with_end (digits ++ c ∷ []) front back both.1
+    ∙ ap (λ (ds : Text). read_turn (numbered_turn ds) back) (append_assoc digits (c ∷ []) front)
+
+pub braced : (behind digits front back : Text) → behind ≡ 0x7B ∷ digits → IsCut 0x7D digits front back → text_from at_brace behind ≡ read_turn (numbered_turn front) back
+braced behind digits front back opened cut = rw (opened, cut.0) (digits_with_end [] front back cut.1)
+
+pub unbraced : (behind digits : Text) → behind ≡ 0x7B ∷ digits → IsFree 0x7D digits → text_from at_brace behind ≡ None
+unbraced behind digits opened free = rw opened (digits_without_end [] digits free)
+
+-- a string that has grown by a character has one character more
+pub seen_pushed : {A : Type 0} (text grown : String A) (c : ℕ) → string_bytes grown ≡ string_bytes text ++ encode_utf8 c → seen_text grown ≡ seen_text text ++ c ∷ []
+seen_pushed text grown c grows =
+    let all = chars (string_bytes text) ++ c ∷ [] in
+    let spelled : encode_utf8_all all ≡ string_bytes grown =
+    encodes-append (chars (string_bytes text)) (c ∷ []) ∙ ap (λ (bs : List ℕ). bs ++ encode_utf8_all (c ∷ [])) (encodes-chars (string_bytes text) (IsUtf8-string_bytes text)) ∙ ap (λ (bs : List ℕ). string_bytes text ++ bs) (append-nil (encode_utf8 c)) ∙ sym grows in
+    sym (chars_from_encodes all (string_bytes grown) (IsUtf8-string_bytes grown) spelled)
+
+pub one_more : {A : Type 0} (text grown : String A) (c : ℕ) (others : Option Text) → string_bytes grown ≡ string_bytes text ++ encode_utf8 c
+    → option_map (λ more. seen_text text ++ more) (option_map (λ value. c ∷ value) others) ≡ option_map (λ more. seen_text grown ++ more) others
+one_more text grown c None grows = refl
+one_more text grown c (Some more) grows =
+    ap (λ (all : List ℕ). Some all) (sym (append_assoc (seen_text text) (c ∷ []) more) ∙ ap (λ (front : List ℕ). front ++ more) (sym (seen_pushed text grown c grows)))
+
+-- an empty string has no characters
+pub nothing_before : {A : Type 0} (text : String A) (read : Option Text) → string_bytes text ≡ [] → read ≡ option_map (λ more. seen_text text ++ more) read
+nothing_before text None empty = refl
+nothing_before text (Some more) empty = ap (λ (front : List ℕ). Some (front ++ more)) (sym (ap chars empty ∙ chars-nil))
+
+-- what stands behind a cut is shorter
+pub shorter : (behind digits front back : Text) → behind ≡ 0x7B ∷ digits → IsCut 0x7D digits front back → length back < length behind
+shorter behind digits front back opened cut = rw (opened, cut.0) (omega (arith, length-append front (0x7D ∷ back)))

@@ -1,0 +1,6 @@
+//! Scripts of YAML events: how they are read.
+#![tactic(auto)]
+
+mod numbers;
+mod texts;
+mod words;
