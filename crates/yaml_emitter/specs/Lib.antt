@@ -1,3 +1,2 @@
 pub mod Given
 pub mod Queue
-pub mod Machine
