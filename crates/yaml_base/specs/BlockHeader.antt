@@ -64,10 +64,13 @@ ends_in_break without_break = false
 ends_in_break one_break = true
 ends_in_break more_breaks = true
 
+-- lines as they are laid out under a value's header
+abbrev pub lines_laid : (value lines : Text) → Cursor → Laid
+lines_laid value lines cursor = with_flags true (ends_in_break (ending value)) (text_laid lines cursor)
+
 abbrev pub block_body : (sign best_indent : ℕ) (value lines : Text) → Cursor → Laid
 block_body sign best_indent value lines cursor =
-    then_laid (header_laid sign best_indent value cursor)
-    (λ headed. with_flags true (ends_in_break (ending value)) (text_laid lines headed))
+    then_laid (header_laid sign best_indent value cursor) (lines_laid value lines)
 
 -- the entries of the enclosing block stand at the scalar's indentation less the indent; at the root there are none,
 -- and the two are equal

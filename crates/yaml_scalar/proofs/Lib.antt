@@ -11,3 +11,4 @@ pub mod QuotingText
 pub mod QuotingFolds
 pub mod QuotingIndents
 pub mod SingleReads
+pub mod BlockSteps
