@@ -12,3 +12,5 @@ pub mod QuotingFolds
 pub mod QuotingIndents
 pub mod SingleReads
 pub mod BlockSteps
+pub mod Somewhere
+pub mod FirstCharacters

@@ -1,2 +1,8 @@
 //! Scalars: analysis, choice of style, and the five writers.
 #![tactic(auto)]
+
+mod analysis;
+mod style;
+
+pub use analysis::{analyze_scalar, scalar_data_t};
+pub use style::select_scalar_style;

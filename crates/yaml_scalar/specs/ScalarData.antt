@@ -1,0 +1,25 @@
+-- What contracts see of an analysis and of a choice.
+use Rattle.std.specs.Prelude.{Bool}
+use Rattle.yaml_base.specs.Analysis.{Allowances, Charset}
+use Rattle.yaml_base.specs.Seen.{seen_scalar_style}
+use Rattle.yaml_base.specs.Style.{Choice}
+use Rattle.yaml_base.specs.declared.styles.yaml_scalar_style_t.{yaml_scalar_style_t}
+use Rattle.yaml_scalar.specs.declared.analysis.scalar_data_t.{scalar_data_t}
+use Rattle.yaml_scalar.specs.declared.analysis.charset_t.{charset_t}
+
+abbrev pub seen_data : scalar_data_t → Allowances
+seen_data given =
+    record {
+      multiline = given.multiline;
+      flow_plain = given.flow_plain_allowed;
+      block_plain = given.block_plain_allowed;
+      single_quoted = given.single_quoted_allowed;
+      block = given.block_allowed;
+    }
+
+abbrev pub seen_charset : charset_t → Charset
+seen_charset given = record { unicode = given.unicode; breaks12 = given.breaks12 }
+
+-- a style and whether the bare tag is written
+abbrev pub seen_choice : yaml_scalar_style_t × Bool → Choice
+seen_choice given = record { style = seen_scalar_style given.0; bare = given.1 }
