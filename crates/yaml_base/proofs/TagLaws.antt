@@ -124,7 +124,7 @@ behind_step true p c prefix text suffix h e = (eqb-true p c h, e)
 behind_step false p c prefix text suffix h e = absurd (cc)
 
 -- with the prefix it is the text
-behind-whole : (prefix text suffix : Text) → behind prefix text ≡ Some suffix → prefix ++ suffix ≡ text
+pub behind-whole : (prefix text suffix : Text) → behind prefix text ≡ Some suffix → prefix ++ suffix ≡ text
 behind-whole [] [] suffix e = cc
 behind-whole [] (c ∷ text) suffix e = cc
 behind-whole (p ∷ prefix) [] suffix e = cc
@@ -133,14 +133,14 @@ behind-whole (p ∷ prefix) (c ∷ text) suffix e =
     ap (λ x. p ∷ x) (behind-whole prefix text suffix step.1) ∙ ap (λ x. x ∷ text) step.0
 
 -- and it is at least one character
-behind_begins : (prefix text : Text) → behind prefix text ≡ Some [] → ⊥
+pub behind_begins : (prefix text : Text) → behind prefix text ≡ Some [] → ⊥
 behind_begins [] [] e = cc
 behind_begins [] (c ∷ text) e = cc
 behind_begins (p ∷ prefix) [] e = cc
 behind_begins (p ∷ prefix) (c ∷ text) e =
     behind_begins prefix text (behind_step (p == c) p c prefix text [] refl e).1
 
-scalars_behind : (prefix suffix : Text) → scalars (prefix ++ suffix) ≡ true → scalars suffix ≡ true
+pub scalars_behind : (prefix suffix : Text) → scalars (prefix ++ suffix) ≡ true → scalars suffix ≡ true
 scalars_behind [] suffix h = h
 scalars_behind (p ∷ prefix) suffix h = scalars_behind prefix suffix (and_parts (scalar p) (scalars (prefix ++ suffix)) h).1
 

@@ -18,7 +18,7 @@ nothing : (bytes : List ℕ) → (length bytes == 0) ≡ true → bytes ≡ []
 nothing [] h = refl
 nothing (b ∷ bytes) h = let e : length (b ∷ bytes) ≡ 0 = eqb-true _ _ h in absurd (omega arith)
 
-no_characters : (bytes : List ℕ) → (length bytes == 0) ≡ true → chars bytes ≡ []
+pub no_characters : (bytes : List ℕ) → (length bytes == 0) ≡ true → chars bytes ≡ []
 no_characters bytes h = ap chars (nothing bytes h) ∙ chars-nil
 
 begins : (text : Text) (bytes : List ℕ) → encodes text ≡ bytes → (length bytes == 0) ≡ false → (c : ℕ) × (rest : Text) × (text ≡ c ∷ rest)

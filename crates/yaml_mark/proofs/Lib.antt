@@ -1,1 +1,3 @@
 pub mod HandleFacts
+pub mod DirectiveFacts
+pub mod TagFacts

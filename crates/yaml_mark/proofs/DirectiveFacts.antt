@@ -1,0 +1,28 @@
+-- What the bytes of directives say of their characters.
+use Rattle.std.proofs.Common.{◌≡◌, ℕ, ◌||◌, List, [], ◌∷◌, refl, sym, ◌∙◌, ap, map}
+use Rattle.std.proofs.lemmas.Bool.Decides.{same_from_decides}
+use Rattle.std.proofs.lemmas.Slice.Eq.{bytes_eq-Decides}
+use Rattle.std.proofs.lemmas.Str.{encodes-chars, IsUtf8-string_bytes}
+use Rattle.std.specs.Prelude.{IsUtf8, bytes_eq, string_bytes}
+use Rattle.std.specs.List.{list_any}
+use Rattle.std.specs.Str.{chars}
+use lib.Utf8.{encodes}
+use Rattle.yaml_base.specs.declared.directives.yaml_tag_directive_t.{yaml_tag_directive_t}
+use Rattle.yaml_base.specs.Seen.{seen_directive}
+use Rattle.yaml_base.specs.Tags.{gives_handle}
+
+same_characters : (xs ys : List ℕ) → IsUtf8 xs → IsUtf8 ys → chars xs ≡ chars ys → xs ≡ ys
+same_characters xs ys u v e = sym (encodes-chars xs u) ∙ ap encodes e ∙ encodes-chars ys v
+
+-- texts are equal by their bytes just where they are by their characters
+pub bytes_eq-chars : (xs ys : List ℕ) → IsUtf8 xs → IsUtf8 ys → bytes_eq xs ys ≡ bytes_eq (chars xs) (chars ys)
+bytes_eq-chars xs ys u v =
+    let whole = bytes_eq-Decides (chars xs) (chars ys) in
+    same_from_decides _ _ (bytes_eq-Decides xs ys) ((λ h. same_characters xs ys u v (whole.0 h)), (λ e. whole.1 (ap chars e)))
+
+pub gives_by_bytes : {A : Type 0} (handle : List ℕ) → IsUtf8 handle → (list : List (yaml_tag_directive_t A)) → list_any (λ d. bytes_eq (string_bytes d.handle) handle) list ≡ gives_handle (chars handle) (map seen_directive list)
+gives_by_bytes handle u [] = refl
+gives_by_bytes handle u (d ∷ list) =
+    ap (λ x. x || list_any (λ e. bytes_eq (string_bytes e.handle) handle) list)
+    (bytes_eq-chars (string_bytes d.handle) handle (IsUtf8-string_bytes d.handle) u)
+    ∙ ap (λ x. bytes_eq (chars (string_bytes d.handle)) (chars handle) || x) (gives_by_bytes handle u list)

@@ -1,0 +1,13 @@
+use Rattle.std.proofs.Common.{◌∙◌, ap, map}
+use Rattle.std.specs.Str.{chars}
+use Rattle.yaml_base.specs.Seen.{seen_directive}
+use Rattle.yaml_base.specs.Tags.{gives_handle}
+use Rattle.yaml_mark.proofs.DirectiveFacts.{gives_by_bytes}
+use Rattle.yaml_mark.proofs.directives.Directives.gives.Goals as goal
+
+pub returns : goal.returns
+returns g c =
+    c.some_handle_is.ensures
+    ∙ gives_by_bytes c.args.handle.now c.utf8.handle c.as_slice.result.now
+    ∙ ap (λ x. gives_handle (chars c.args.handle.now) (map seen_directive x)) c.as_slice.ensures.value
+    ∙ ap (gives_handle (chars c.args.handle.now)) c.self.view_is

@@ -1,0 +1,137 @@
+//! The tag directives in force in a document (YAML 1.1, section 6.8.2).
+ghost use Rattle.std.specs.Prelude.{◌≡◌, true, false, Option, None, Some, List, [], ◌∷◌, ◌++◌, ◌<◌, length, encode_utf8_all, position, map, is_ok, IfErr, slice_get, option_map, chars, bytes_eq, string_bytes, if◌then◌else◌};
+ghost use Rattle.std.specs.List.{list_any};
+ghost use Rattle.yaml_base.specs.Errors.{refused};
+ghost use Rattle.yaml_base.specs.Event.{TagDirective};
+ghost use Rattle.yaml_base.specs.Seen.{seen_directive};
+ghost use Rattle.yaml_base.specs.Tags.{gives_handle, duplicate_directive};
+ghost use Rattle.yaml_mark.specs.Spelled.{fits, begins_and_is_shorter};
+
+use std::alloc::{AllocError, Allocator};
+use std::marker::Model;
+use yaml_base::{yaml_error_t, yaml_tag_directive_t};
+
+/// Tag directives in order, each with a text of its own.
+#[derive(Drop)]
+pub struct Directives<A: Allocator> {
+    list: Vec<yaml_tag_directive_t<A>, A>,
+}
+
+impl<A: Allocator> Model for Directives<A> {
+    ghost Value = { List TagDirective };
+
+    ghost view = { λ d. map seen_directive d.list.items };
+}
+
+impl<A: Allocator> Directives<A> {
+    /// No directives; takes no memory.
+    pub fn new(alloc: A) -> Directives<A>
+        ensures { result ≡ [] }
+    {
+        Directives {
+            list: Vec::new(alloc),
+        }
+    }
+
+    /// Adds a copy of a directive at the end. Where its handle is there already, nothing is added, and the answer is
+    /// `DuplicateDirective`, or `Ok` if duplicates are allowed. `Memory` where a growth was refused; then nothing is
+    /// added either.
+    pub fn append(
+        &mut self,
+        directive: &yaml_tag_directive_t<A>,
+        allow_duplicates: bool,
+    ) -> Result<(), yaml_error_t>
+    where
+        A: Copy,
+        ensures there { gives_handle (seen_directive directive.now).handle self.old ≡ true → (refused result ≡ (if allow_duplicates then None else Some duplicate_directive)) × (self.new ≡ self.old) }
+        ensures added { gives_handle (seen_directive directive.now).handle self.old ≡ false → self.new ≡ (if is_ok result then self.old ++ seen_directive directive.now ∷ [] else self.old) }
+        ensures memory { gives_handle (seen_directive directive.now).handle self.old ≡ false → IfErr result (λ e. e ≡ yaml_error_t.Memory) }
+    {
+        if self.gives(directive.handle.as_str()) {
+            return if allow_duplicates {
+                Ok(())
+            } else {
+                Err(yaml_error_t::DuplicateDirective)
+            };
+        }
+        self.push_copy(directive).map_err(|_| yaml_error_t::Memory)
+    }
+
+    /// Leaves no directives; takes no memory.
+    pub fn clear(&mut self)
+        ensures { self.new ≡ [] }
+    {
+        self.list.clear();
+    }
+
+    /// The number of directives.
+    pub fn len(&self) -> usize
+        ensures { result ≡ length self.now }
+    {
+        self.list.len()
+    }
+
+    /// The directive at a place from 0 on, if there is one.
+    pub fn get(&self, i: usize) -> Option<&yaml_tag_directive_t<A>>
+        ensures { option_map (λ d. seen_directive d.now) result ≡ slice_get self.now i }
+    {
+        self.list.get(i)
+    }
+
+    /// The number of the first directive whose prefix is shorter than the tag and begins it.
+    pub(crate) fn first_fitting(&self, tag: &str) -> Option<usize>
+        ensures { result ≡ position (fits tag.now) self.now }
+    {
+        first_prefix(self.list.as_slice(), tag)
+    }
+
+    /// The length in bytes of the prefix of a directive that is there.
+    pub(crate) fn prefix_length(&self, number: usize) -> usize
+        requires { number < length self.now }
+        ensures { (d : TagDirective) → slice_get self.now number ≡ Some d → result ≡ length (encode_utf8_all d.prefix) }
+    {
+        self.list[number].prefix.as_str().len()
+    }
+
+    fn gives(&self, handle: &str) -> bool
+        ensures { result ≡ gives_handle (chars handle.now) self.now }
+    {
+        some_handle_is(self.list.as_slice(), handle)
+    }
+
+    fn push_copy(&mut self, directive: &yaml_tag_directive_t<A>) -> Result<(), AllocError>
+    where
+        A: Copy,
+        ensures { self.new ≡ (if is_ok result then self.old ++ seen_directive directive.now ∷ [] else self.old) }
+    {
+        let alloc = *self.list.allocator();
+        let copy = yaml_tag_directive_t {
+            handle: String::from_str(alloc, directive.handle.as_str())?,
+            prefix: String::from_str(alloc, directive.prefix.as_str())?,
+        };
+        self.list.push(copy)?;
+        Ok(())
+    }
+}
+
+fn some_handle_is<A: Allocator>(directives: &[yaml_tag_directive_t<A>], handle: &str) -> bool
+    ensures { result ≡ list_any (λ d. bytes_eq (string_bytes d.handle) handle.now) directives.now }
+{
+    directives
+        .iter()
+        .any(|directive| directive.handle.as_str() == handle)
+}
+
+fn first_prefix<A: Allocator>(directives: &[yaml_tag_directive_t<A>], tag: &str) -> Option<usize>
+    ensures { result ≡ position (λ d. begins_and_is_shorter (string_bytes d.prefix) tag.now) directives.now }
+{
+    directives
+        .iter()
+        .position(|directive| goes_on_from(tag, directive.prefix.as_str()))
+}
+
+fn goes_on_from(tag: &str, prefix: &str) -> bool
+    ensures { result ≡ begins_and_is_shorter prefix.now tag.now }
+{
+    prefix.len() < tag.len() && tag.starts_with(prefix)
+}
