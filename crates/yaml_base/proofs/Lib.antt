@@ -19,3 +19,4 @@ pub mod TagLaws
 pub mod RowsScript
 pub mod RowsMeetings
 pub mod RowsCanonical
+pub mod RowsUnfolding

@@ -1,9 +1,12 @@
 -- Documents of nodes, computed: their meetings and their events.
-use Rattle.std.specs.Prelude.{◌≡◌, ℕ, zero, suc, true, false, Option, None, Some, List, [], ◌∷◌, ◌++◌, length, filter_map, codes, refl, slice_get}
+use Rattle.std.specs.Prelude.{◌≡◌, ℕ, zero, suc, true, false, Option, None, Some, List, [], ◌∷◌, ◌++◌, length, filter_map, flat_map, codes, refl, slice_get}
+use Rattle.std.specs.Char.{encode_utf8}
 use Rattle.std.specs.Fmt.{digits}
 use Rattle.yaml_base.specs.Characters.{Text}
 use Rattle.yaml_base.specs.Event.{Event, DocumentStart, document_start, document_end, alias, scalar, sequence_start, sequence_end, mapping_start, mapping_end, any_style, block}
-use Rattle.yaml_base.specs.Meetings.{GraphNode, Graph, scalar_held, sequence_held, mapping_held, string_tag, sequence_tag, mapping_tag, meetings, document_event_list}
+use Rattle.yaml_base.specs.Settings.{Settings}
+use Rattle.yaml_base.specs.Meetings.{NumberPair, GraphNode, Graph, scalar_held, sequence_held, mapping_held, string_tag, sequence_tag, mapping_tag, meetings, document_event_list}
+use Rattle.yaml_base.proofs.RowEvents.{plain_settings, canonical_settings, stream_of, laid_under}
 
 -- nodes with the tags of their kinds, in a document without directives whose marks are implicit
 abbrev string_of : Text → GraphNode
@@ -11,6 +14,9 @@ string_of value = record { tag = string_tag; held = scalar_held value any_style 
 
 abbrev sequence_of : List ℕ → GraphNode
 sequence_of items = record { tag = sequence_tag; held = sequence_held items block }
+
+abbrev mapping_of : List NumberPair → GraphNode
+mapping_of pairs = record { tag = mapping_tag; held = mapping_held pairs block }
 
 abbrev start : DocumentStart
 start = record { version = None; directives = []; implicit = true }
@@ -48,7 +54,7 @@ unfolding digits
 shared_twice = (refl, refl)
 
 -- a mapping that is a value of its own
-mapping_within_itself : document_event_list (graph_of (record { tag = mapping_tag; held = mapping_held (record { key = 2; value = 1 } ∷ []) block } ∷ string_of (codes "k") ∷ []))
+mapping_within_itself : document_event_list (graph_of (mapping_of (record { key = 2; value = 1 } ∷ []) ∷ string_of (codes "k") ∷ []))
     ≡ document_start start ∷ mapping_start (record { anchor = Some (codes "id001"); tag = Some mapping_tag; implicit = true; style = block })
     ∷ a_string None (codes "k") ∷ alias (codes "id001") ∷ mapping_end ∷ document_end true ∷ []
 unfolding digits
@@ -94,3 +100,57 @@ many_shared : (slice_get (document_event_list (graph_of (sequence_of (numbers_fr
     ≡ Some (alias (codes "id100")))
 unfolding digits
 many_shared = (refl, refl)
+
+-- ---- the text of documents in a stream
+
+abbrev dumped : Settings → List (List GraphNode) → Text
+dumped settings documents = laid_under settings (stream_of (flat_map (λ nodes. document_event_list (graph_of nodes)) documents))
+
+abbrev dumped_alone : List GraphNode → Text
+dumped_alone nodes = dumped plain_settings (nodes ∷ [])
+
+shared_items : dumped_alone (sequence_of (2 ∷ 2 ∷ []) ∷ string_of (codes "a") ∷ []) ≡ codes "- &id001 a\n- *id001\n"
+unfolding digits encode_utf8
+shared_items = refl
+
+shared_below_text : dumped_alone (sequence_of (2 ∷ []) ∷ sequence_of (3 ∷ 3 ∷ []) ∷ string_of (codes "a") ∷ []) ≡ codes "- - &id001 a\n  - *id001\n"
+unfolding digits encode_utf8
+shared_below_text = refl
+
+holds_itself_text : dumped_alone (sequence_of (1 ∷ []) ∷ []) ≡ codes "&id001\n- *id001\n"
+unfolding digits encode_utf8
+holds_itself_text = refl
+
+shared_twice_text : dumped_alone (sequence_of (2 ∷ 2 ∷ []) ∷ sequence_of (3 ∷ 3 ∷ []) ∷ string_of (codes "a") ∷ [])
+    ≡ codes "- &id002\n  - &id001 a\n  - *id001\n- *id002\n"
+unfolding digits encode_utf8
+shared_twice_text = refl
+
+mapping_within_itself_text : dumped_alone (mapping_of (record { key = 2; value = 1 } ∷ []) ∷ string_of (codes "k") ∷ []) ≡ codes "&id001\nk: *id001\n"
+unfolding digits encode_utf8
+mapping_within_itself_text = refl
+
+unreached_text : dumped_alone (string_of (codes "a") ∷ string_of (codes "b") ∷ []) ≡ codes "a\n"
+unfolding digits encode_utf8
+unreached_text = refl
+
+other_tag_text : dumped_alone (record { tag = codes "tag:yaml.org,2002:int"; held = scalar_held (codes "5") any_style } ∷ []) ≡ codes "!!int 5\n"
+unfolding digits encode_utf8
+other_tag_text = refl
+
+-- numbers begin anew in each document
+dumped_twice : (let nodes = sequence_of (2 ∷ 2 ∷ []) ∷ string_of (codes "a") ∷ [] in dumped plain_settings (nodes ∷ nodes ∷ []))
+    ≡ codes "- &id001 a\n- *id001\n---\n- &id001 a\n- *id001\n"
+unfolding digits encode_utf8
+dumped_twice = refl
+
+mapping_within_itself_canonical : dumped canonical_settings ((mapping_of (record { key = 2; value = 1 } ∷ []) ∷ string_of (codes "k") ∷ []) ∷ [])
+    ≡ codes "---\n&id001 !!map {\n  ? !!str \"k\"\n  : *id001,\n}\n"
+unfolding digits encode_utf8
+mapping_within_itself_canonical = refl
+
+-- the numbers of nodes don't show: nodes 2 and 3 exchanged
+exchanged : dumped canonical_settings ((sequence_of (2 ∷ 2 ∷ []) ∷ sequence_of (3 ∷ 3 ∷ []) ∷ string_of (codes "a") ∷ []) ∷ [])
+    ≡ dumped canonical_settings ((sequence_of (3 ∷ 3 ∷ []) ∷ string_of (codes "a") ∷ sequence_of (2 ∷ 2 ∷ []) ∷ []) ∷ [])
+unfolding digits encode_utf8
+exchanged = refl

@@ -1,0 +1,128 @@
+-- Trees that unfold a graph, and trees that don't.
+use Rattle.std.proofs.Common.{◌≡◌, ◌⊎◌, inl, inr, subst, ap, refl, arith}
+use Rattle.std.proofs.lemmas.Bool.Decides.{nat_tests}
+use Rattle.std.specs.Prelude.{ℕ, zero, suc, true, None, Some, [], ◌∷◌, slice_index, Contains, count_by, codes}
+use Rattle.yaml_base.specs.Event.{any_style, block}
+use Rattle.yaml_base.specs.Grammar.{Node, alias_node, scalar_node, sequence_node, mapping_node, no_nodes, nodes_and, no_pairs, pairs_and}
+use Rattle.yaml_base.specs.Content.{node_content}
+use Rattle.yaml_base.specs.Meetings.{Graph, scalar_held, sequence_held, mapping_held, string_tag, sequence_tag, mapping_tag, children}
+use Rattle.yaml_base.specs.Unfolding.{TreeUnfolds, ContentUnfolds, HasShape, node_shape_of, number_at, node_place, alias_place, IsReached, first_reached, child_reached, Placed, is_place_of, places, alias_placed, node_placed, none_placed, placed_and}
+
+-- a mapping whose one key is a string, and whose value is the mapping
+abbrev graph : Graph
+graph =
+    record {
+      start = record { version = None; directives = []; implicit = true };
+      nodes =
+          record { tag = mapping_tag; held = mapping_held (record { key = 2; value = 1 } ∷ []) block }
+          ∷ record { tag = string_tag; held = scalar_held (codes "k") any_style } ∷ [];
+      end_implicit = true;
+    }
+
+abbrev tree : Node
+tree =
+    mapping_node (record { anchor = Some (codes "id001"); tag = Some mapping_tag; implicit = true; style = block })
+    (pairs_and no_pairs
+    (scalar_node (record { anchor = None; tag = Some string_tag; value = codes "k"; plain_implicit = true; quoted_implicit = true; style = any_style }))
+    (alias_node (codes "id001")))
+
+-- only nodes 1 and 2 are reached
+held_by_one : (child : ℕ) → Contains (2 ∷ 1 ∷ []) child → (child ≡ 1) ⊎ (child ≡ 2)
+held_by_one child (zero, below, e) = inr (omega (arith, e))
+held_by_one child (suc zero, below, e) = inl (omega (arith, e))
+held_by_one child (suc (suc k), below, e) = absurd (omega (arith, below))
+
+held_by_none : (child : ℕ) → Contains [] child → ⊥
+held_by_none child (k, below, e) = omega (arith, below)
+
+reached : {number : ℕ} → IsReached graph number → (number ≡ 1) ⊎ (number ≡ 2)
+reached first_reached = inl refl
+reached (child_reached {number = parent} {child = child} r held) =
+    elim (reached r) as (λ _. (child ≡ 1) ⊎ (child ≡ 2)) [
+      | inl e ↦ held_by_one child (subst (λ n. Contains (children graph n) child) e held)
+      | inr e ↦ absurd (held_by_none child (subst (λ n. Contains (children graph n) child) e held))
+    ]
+
+abbrev placed_tree : Placed
+placed_tree = node_placed (Some (codes "id001")) 1 (placed_and (placed_and none_placed (node_placed None 2 none_placed)) (alias_placed (codes "id001") 1))
+
+stands_once : (number : ℕ) → IsReached graph number → count_by (is_place_of number) (places placed_tree) ≡ 1
+stands_once number r = elim (reached r) as (λ _. count_by (is_place_of number) (places placed_tree) ≡ 1) [ inl e ↦ rw e refl | inr e ↦ rw e refl ]
+
+stands_nowhere : (number : ℕ) → (IsReached graph number → ⊥) → count_by (is_place_of number) (places placed_tree) ≡ 0
+stands_nowhere zero unreached = refl
+stands_nowhere (suc zero) unreached = absurd (unreached first_reached)
+stands_nowhere (suc (suc zero)) unreached = absurd (unreached (child_reached first_reached (0, omega arith, refl)))
+stands_nowhere (suc (suc (suc n))) unreached = grind (arith, nat_tests)
+
+unfolds : TreeUnfolds graph tree
+unfolds =
+    record {
+      placed = placed_tree;
+      root = refl;
+      fits = (refl, refl, refl, ((tt, (refl, refl, refl, tt)), refl));
+      named = (tt, (tt, ((refl, (0, omega arith, refl)), tt)));
+      once = stands_once;
+      no_other = stands_nowhere;
+    }
+
+content_unfolds : ContentUnfolds graph (node_content tree)
+content_unfolds =
+    record {
+      placed = placed_tree;
+      root = refl;
+      fits = (refl, refl, refl, ((tt, (refl, refl, refl, tt)), refl));
+      named = (tt, (tt, ((refl, (0, omega arith, refl)), tt)));
+      once = stands_once;
+      no_other = stands_nowhere;
+    }
+
+-- ---- a tree that doesn't unfold its graph: the second of two equal nodes is written as an alias of the first
+
+abbrev two_equal : Graph
+two_equal =
+    record {
+      start = record { version = None; directives = []; implicit = true };
+      nodes =
+          record { tag = sequence_tag; held = sequence_held (2 ∷ 3 ∷ []) block }
+          ∷ record { tag = string_tag; held = scalar_held (codes "k") any_style }
+          ∷ record { tag = string_tag; held = scalar_held (codes "k") any_style } ∷ [];
+      end_implicit = true;
+    }
+
+abbrev one_for_two : Node
+one_for_two =
+    sequence_node (record { anchor = None; tag = Some sequence_tag; implicit = true; style = block })
+    (nodes_and
+    (nodes_and no_nodes
+    (scalar_node (record { anchor = Some (codes "id001"); tag = Some string_tag; value = codes "k"; plain_implicit = true; quoted_implicit = true; style = any_style })))
+    (alias_node (codes "id001")))
+
+third_reached : IsReached two_equal 3
+third_reached = child_reached first_reached (1, omega arith, refl)
+
+-- node 3 would have no place but the alias
+third_missing : (number first second : ℕ) → number ≡ 1 → first ∷ second ∷ [] ≡ children two_equal number
+    → count_by (is_place_of 3) (node_place None number ∷ node_place (Some (codes "id001")) first ∷ alias_place (codes "id001") second ∷ []) ≡ 1 → ⊥
+third_missing number first second root numbers once =
+    let at_root : first ∷ second ∷ [] ≡ 2 ∷ 3 ∷ [] = subst (λ n. first ∷ second ∷ [] ≡ children two_equal n) root numbers in
+    let first_is : first ≡ 2 = ap (λ xs. slice_index xs 0) at_root in
+    let counted : count_by (is_place_of 3) (node_place None 1 ∷ node_place (Some (codes "id001")) 2 ∷ alias_place (codes "id001") second ∷ []) ≡ 1 =
+    subst (λ m. count_by (is_place_of 3) (node_place None 1 ∷ node_place (Some (codes "id001")) m ∷ alias_place (codes "id001") second ∷ []) ≡ 1) first_is
+    (subst (λ n. count_by (is_place_of 3) (node_place None n ∷ node_place (Some (codes "id001")) first ∷ alias_place (codes "id001") second ∷ []) ≡ 1) root once) in
+    omega (arith, counted)
+
+refuted : (p : Placed) → number_at p ≡ 1 → HasShape true two_equal p (node_shape_of one_for_two)
+    → ((number : ℕ) → IsReached two_equal number → count_by (is_place_of number) (places p) ≡ 1) → ⊥
+refuted (alias_placed name number) root fits once = fits
+refuted (node_placed anchor number none_placed) root fits once = fits.3
+refuted (node_placed anchor number (placed_and none_placed last)) root fits once = fits.3.0
+refuted (node_placed anchor number (placed_and (placed_and (placed_and all more) item) last)) root fits once = fits.3.0.0
+refuted (node_placed anchor number (placed_and (placed_and none_placed (alias_placed name item)) last)) root fits once = fits.3.0.1
+refuted (node_placed anchor number (placed_and (placed_and none_placed (node_placed given item (placed_and all more))) last)) root fits once = fits.3.0.1.3
+refuted (node_placed anchor number (placed_and (placed_and none_placed (node_placed given item none_placed)) (node_placed other last below))) root fits once = fits.3.1
+refuted (node_placed anchor number (placed_and (placed_and none_placed (node_placed given item none_placed)) (alias_placed name last))) root fits once =
+    third_missing number item last root fits.2 (once 3 third_reached)
+
+one_for_two_refused : TreeUnfolds two_equal one_for_two → ⊥
+one_for_two_refused u = refuted u.placed u.root u.fits u.once
