@@ -1,5 +1,5 @@
 -- The text of a stream, one piece for each event (libyaml's own rules; YAML 1.1, chapters 6 to 9, for the signs).
-use Rattle.std.specs.Prelude.{ℕ, Bool, true, false, Option, None, Some, List, [], ◌∷◌, ◌++◌, ◌==◌, ◌||◌, ◌&&◌, ◌+◌, not, nat_le, length, codes, is_some, unwrap_or, pos, encode_utf8_all, filter_map, flat_map, if◌then◌else◌}
+use Rattle.std.specs.Prelude.{◌≡◌, ℕ, Bool, true, false, Option, None, Some, List, [], ◌∷◌, ◌++◌, ◌==◌, ◌||◌, ◌&&◌, ◌+◌, not, nat_le, length, codes, is_some, unwrap_or, pos, encode_utf8_all, filter_map, flat_map, if◌then◌else◌}
 use Rattle.std.specs.List.{list_any}
 use Rattle.std.specs.Ordering.{int_eq}
 use Rattle.yaml_base.specs.Characters.{Text, is_break}
@@ -16,7 +16,7 @@ use Rattle.yaml_base.specs.DoubleQuoted.{double_quoted_body}
 use Rattle.yaml_base.specs.BlockHeader.{header_mark}
 use Rattle.yaml_base.specs.Literal.{literal_body}
 use Rattle.yaml_base.specs.Folded.{folded_body}
-use Rattle.yaml_base.specs.Grammar.{Node, alias_node, scalar_node, sequence_node, mapping_node, Nodes, no_nodes, nodes_and, Pairs, no_pairs, pairs_and, Document, Documents, no_documents, documents_and, Stream}
+use Rattle.yaml_base.specs.Grammar.{Node, alias_node, scalar_node, sequence_node, mapping_node, Nodes, no_nodes, nodes_and, Pairs, no_pairs, pairs_and, Document, Documents, no_documents, documents_and, Stream, stream_events}
 use Rattle.yaml_base.specs.Refusal.{scalar_tag, collection_tag}
 
 -- Pieces
@@ -522,3 +522,7 @@ stream_laid s stream =
 
 abbrev pub layout : Effective → Stream → List Piece
 layout s stream = (stream_laid s stream).pieces
+
+-- a layout has one piece for each event
+abbrev pub OnePieceEach : Type 0
+OnePieceEach = (s : Effective) (stream : Stream) → length (layout s stream) ≡ length (stream_events stream)

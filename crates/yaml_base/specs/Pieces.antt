@@ -1,10 +1,11 @@
 -- The text of a list of events that is no whole stream yet: the shortest way to end it, and the pieces that stand before
 -- its end is known.
-use Rattle.std.specs.Prelude.{ℕ, Bool, true, false, Option, None, Some, List, [], ◌∷◌, ◌++◌, take, unwrap_or, option_map, flat_map}
+use Rattle.std.specs.Prelude.{◌≡◌, ℕ, ◌≤◌, ◌&&◌, length, Bool, true, false, Option, None, Some, List, [], ◌∷◌, ◌++◌, take, unwrap_or, option_map, flat_map}
 use Rattle.yaml_base.specs.Characters.{Text}
 use Rattle.yaml_base.specs.Settings.{Effective}
 use Rattle.yaml_base.specs.Event.{any_style, Scalar, Event, stream_start, stream_end, document_end, scalar, sequence_end, mapping_end}
 use Rattle.yaml_base.specs.Grammar.{no_nodes, nodes_and, no_pairs, pairs_and, Level, at_item, at_key, at_value, Partial, before_stream, between_documents, within_document, after_root, after_stream, partial_of, tree_of}
+use Rattle.yaml_base.specs.Refusal.{begins_collection, ends_collection, IsAccepted}
 use Rattle.yaml_base.specs.Layout.{Piece, text_of, layout}
 
 -- an empty scalar without anchor and tag, both flags on
@@ -66,3 +67,26 @@ pieces s events k = take k (list_layout s (completion (take k events)))
 -- their text
 abbrev pub text_after : Effective → List Event → ℕ → Text
 text_after s events k = text_of (pieces s events k)
+
+-- the last event of a list begins a collection
+abbrev pub begins_last : List Event → Bool
+begins_last [] = false
+begins_last (event ∷ []) = begins_collection event
+begins_last (event ∷ next ∷ rest) = begins_last (next ∷ rest)
+
+-- the first event of a list ends a collection
+abbrev pub ends_first : List Event → Bool
+ends_first [] = false
+ends_first (event ∷ rest) = ends_collection event
+
+-- a list begins a collection last, and what follows ends it at once
+abbrev pub closes_at_once : List Event → List Event → Bool
+closes_at_once front rest = begins_last front && ends_first rest
+
+-- every accepted list that begins with the first so many events, and doesn't at once close a collection that they begin
+-- last, has their pieces: so they can be written before the end is known
+abbrev pub PiecesStand : Type 0
+PiecesStand =
+    (s : Effective) (events rest : List Event) (k : ℕ) → k ≤ length events
+    → IsAccepted s.canonical (take k events ++ rest) → closes_at_once (take k events) rest ≡ false
+    → take k (list_layout s (take k events ++ rest)) ≡ pieces s events k
