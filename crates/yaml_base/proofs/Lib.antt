@@ -1,3 +1,4 @@
+pub mod ReadyLaws
 pub mod PieceLaws
 pub mod Completions
 pub mod Pushes

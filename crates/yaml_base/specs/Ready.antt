@@ -1,5 +1,5 @@
 -- Which events of a list are ready to be written (libyaml's own rule).
-use Rattle.std.specs.Prelude.{ℕ, suc, Bool, true, false, List, [], ◌∷◌, ◌==◌, ◌||◌, nat_lt, map, length, count_by, if◌then◌else◌}
+use Rattle.std.specs.Prelude.{ℕ, suc, ◌≤◌, Bool, true, false, List, [], ◌∷◌, ◌++◌, ◌==◌, ◌||◌, nat_lt, map, length, count_by, if◌then◌else◌}
 use Rattle.std.specs.List.{list_any}
 use Rattle.yaml_base.specs.Event.{Event, stream_start, stream_end, document_start, document_end, sequence_start, sequence_end, mapping_start, mapping_end}
 
@@ -43,3 +43,7 @@ is_ready event rest =
 abbrev pub written : List Event → ℕ
 written [] = 0
 written (event ∷ rest) = if is_ready event rest then suc (written rest) else 0
+
+-- as a list grows, no event that was ready waits again
+abbrev pub ReadyStays : Type 0
+ReadyStays = (events more : List Event) → written events ≤ written (events ++ more)

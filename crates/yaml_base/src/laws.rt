@@ -1,8 +1,30 @@
 //! Laws of the definitions, each the contract of a function that does nothing: what they promise together.
 ghost use Rattle.yaml_base.specs.Grammar.{OneTree};
+ghost use Rattle.yaml_base.specs.Layout.{OnePieceEach};
+ghost use Rattle.yaml_base.specs.Pieces.{PiecesStand};
+ghost use Rattle.yaml_base.specs.Ready.{ReadyStays};
 
 /// A list of events is the events of at most one tree.
 pub fn list_has_one_tree()
     ensures { OneTree }
+{
+}
+
+/// A layout has one piece for each event.
+pub fn layout_has_one_piece_each()
+    ensures { OnePieceEach }
+{
+}
+
+/// The pieces of a beginning are those of every accepted list that goes on from it, but for one that at once closes a
+/// collection which the beginning starts last.
+pub fn pieces_stand()
+    ensures { PiecesStand }
+{
+}
+
+/// An event that is ready stays ready as the list grows.
+pub fn ready_events_stay_ready()
+    ensures { ReadyStays }
 {
 }

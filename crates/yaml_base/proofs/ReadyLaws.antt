@@ -1,0 +1,54 @@
+-- Ready events stay ready as a list grows.
+use Rattle.std.proofs.Common.{◌≡◌, refl, sym, ap, ◌∙◌, arith}
+use Rattle.std.proofs.lemmas.List.{length-append}
+use Rattle.std.proofs.lemmas.Bool.Decides.{nat_tests}
+use Rattle.std.specs.Prelude.{ℕ, suc, ◌≤◌, ◌+◌, Bool, true, false, ◌||◌, ◌==◌, nat_lt, List, [], ◌∷◌, ◌++◌, length, map, if◌then◌else◌}
+use Rattle.std.specs.List.{list_any}
+use Rattle.yaml_base.specs.Event.{Event}
+use Rattle.yaml_base.specs.Ready.{awaited, is_balanced, fronts, is_ready, written, ReadyStays}
+
+any_map : (p : List Event → Bool) (f : List Event → List Event) (xs : List (List Event)) → list_any p (map f xs) ≡ list_any (λ x. p (f x)) xs
+any_map p f [] = refl
+any_map p f (x ∷ xs) = ap (λ b. p (f x) || b) (any_map p f xs)
+
+either : (a b c : Bool) → (b ≡ true → c ≡ true) → a || b ≡ true → a || c ≡ true
+either true b c more given = refl
+either false b c more given = more given
+
+-- A front of a list is a front of every longer one.
+any_front : (a b : List Event) (p : List Event → Bool) → list_any p (fronts a) ≡ true → list_any p (fronts (a ++ b)) ≡ true
+any_front [] b p given = cc
+any_front (x ∷ a) b p given =
+    either (p (x ∷ [])) (list_any p (map (λ front. x ∷ front) (fronts a))) (list_any p (map (λ front. x ∷ front) (fronts (a ++ b))))
+        (λ some. any_map p (λ front. x ∷ front) (fronts (a ++ b)) ∙ any_front a b (λ front. p (x ∷ front)) (sym (any_map p (λ front. x ∷ front) (fronts a)) ∙ some))
+        given
+
+more_stand : (n : ℕ) (a b : List Event) → nat_lt n (length a) ≡ true → nat_lt n (length (a ++ b)) ≡ true
+more_stand n a b given = grind (arith, nat_tests, length-append a b)
+
+either_of : (a b c d : Bool) → (a ≡ true → c ≡ true) → (b ≡ true → d ≡ true) → a || b ≡ true → c || d ≡ true
+either_of true b c d first second given = ap (λ x. x || d) (first refl)
+either_of false b true d first second given = refl
+either_of false b false d first second given = second given
+
+ready_stays : (event : Event) (rest more : List Event) → is_ready event rest ≡ true → is_ready event (rest ++ more) ≡ true
+ready_stays event rest more given =
+    either_of
+        (awaited event == 0 || nat_lt (awaited event) (length (event ∷ rest)))
+        (list_any is_balanced (fronts (event ∷ rest)))
+        (awaited event == 0 || nat_lt (awaited event) (length (event ∷ (rest ++ more))))
+        (list_any is_balanced (fronts (event ∷ (rest ++ more))))
+        (either (awaited event == 0) (nat_lt (awaited event) (length (event ∷ rest))) (nat_lt (awaited event) (length (event ∷ (rest ++ more)))) (more_stand (awaited event) (event ∷ rest) more))
+        (any_front (event ∷ rest) more is_balanced)
+        given
+
+counted : (now later : Bool) (m n : ℕ) → (now ≡ true → later ≡ true) → m ≤ n → (if now then suc m else 0) ≤ (if later then suc n else 0)
+counted false later m n stays h = omega arith
+counted true true m n stays h = omega arith
+counted true false m n stays h = let no : false ≡ true = stays refl in cc
+
+pub written_grows : ReadyStays
+written_grows [] more = omega arith
+written_grows (event ∷ rest) more =
+    counted (is_ready event rest) (is_ready event (rest ++ more)) (written rest) (written (rest ++ more))
+        (ready_stays event rest more) (written_grows rest more)
