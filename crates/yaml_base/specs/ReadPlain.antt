@@ -25,7 +25,7 @@ begins_no_plain breaks12 (c ∷ rest) =
     begins_with_three 45 (c ∷ rest)
     || begins_with_three 46 (c ∷ rest)
     || is_among (codes "#,[]{}&*!|>'\"%@`") c
-    || (is_among (codes "-?:") c && begins_white breaks12 rest)
+    || (is_among (codes "?:-") c && begins_white breaks12 rest)
 
 abbrev pub begins_with_hash : Text → Bool
 begins_with_hash [] = false

@@ -14,3 +14,5 @@ pub mod SingleReads
 pub mod BlockSteps
 pub mod Somewhere
 pub mod FirstCharacters
+pub mod PlainStarts
+pub mod PlainReads

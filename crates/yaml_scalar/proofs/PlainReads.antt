@@ -1,0 +1,142 @@
+-- A plain body reads as its value, and its later lines are indented.
+use Rattle.std.proofs.Common.{◌≡◌, refl, sym, ap, ◌∙◌, ℕ, ◌≤◌, List, [], ◌∷◌, ◌++◌, Bool, true, false, append-nil}
+use Rattle.std.specs.Prelude.{Option, None, Some, ◌==◌, ◌||◌, ◌&&◌, not, if◌then◌else◌, map}
+use Rattle.std.proofs.lemmas.Bool.{and_parts, or_parts, or_from, not-true}
+use Rattle.std.proofs.Math.Bool.{and-false}
+use Rattle.yaml_base.specs.Characters.{Text, is_break, is_space}
+use Rattle.yaml_base.specs.Cursor.{Cursor}
+use Rattle.yaml_base.specs.Settings.{LineBreak}
+use Rattle.yaml_base.specs.LineBreaks.{is_indented_text, is_laid_text, with_breaks_written, with_line_breaks_read}
+use Rattle.yaml_base.specs.Analysis.{Charset, allows_plain, bars_plain, bars_single_quoted, begins_unlike_plain, begins_with, is_empty, somewhere}
+use Rattle.yaml_base.specs.Plain.{plain_body, spaces}
+use Rattle.yaml_base.specs.ReadFolding.{unit_of, folding_read}
+use Rattle.yaml_base.specs.ReadPlain.{begins_no_plain, holds_no_plain, read_plain}
+use Rattle.yaml_base.proofs.BreakLaws.{breaks-round, indented-written}
+use Rattle.yaml_scalar.proofs.QuotingSteps.{WritesEach, steps_laid, runs_by_steps}
+use Rattle.yaml_scalar.proofs.QuotingText.{bare_steps, bare_written, any_bare}
+use Rattle.yaml_scalar.proofs.QuotingFolds.{folding_reads, is_return, no_returns, laid_without_returns}
+use Rattle.yaml_scalar.proofs.QuotingIndents.{lines_indented}
+use Rattle.yaml_scalar.proofs.PlainStarts.{lines_begin, lines_full, lines_hold}
+
+pub itself_writes : WritesEach (λ text. text)
+itself_writes = record {
+  nothing = refl;
+  kept = λ c e. refl;
+  unbroken = λ c e. simp e;
+  joined = λ front rest. refl;
+}
+
+-- the lines of a plain body
+abbrev lines : (limit : Option ℕ) (indent : ℕ) (value : Text) → Cursor → Text
+lines limit indent value cursor = bare_steps (λ text. text) limit indent spaces value cursor
+
+body-lines :
+    (limit : Option ℕ) (indent : ℕ) (value : Text) (cursor : Cursor) →
+    (plain_body limit indent value cursor).text ≡ lines limit indent value cursor
+body-lines limit indent value cursor =
+    rw (
+      runs_by_steps (λ text. text) itself_writes limit indent value cursor,
+      bare_written (λ text. text) itself_writes limit indent spaces value cursor,
+    )
+
+no_break_begins :
+    (charset : Charset) (flow : Bool) (value : Text) →
+    somewhere (bars_plain charset flow) value ≡ false →
+    begins_with is_break value ≡ false
+no_break_begins charset flow [] clean = refl
+no_break_begins charset flow (c ∷ rest) clean =
+    (or_parts _ _ (or_parts _ _ (or_parts _ _ (or_parts _ _ (or_parts _ _ clean).0).0).0).0).1
+
+-- a value that allows plain text allows single quotes
+plain_is_single :
+    (charset : Charset) (flow : Bool) (value : Text) →
+    somewhere (bars_plain charset flow) value ≡ false →
+    somewhere (bars_single_quoted charset) value ≡ false
+plain_is_single charset flow [] clean = refl
+plain_is_single charset flow (c ∷ rest) clean =
+    let parts = or_parts (bars_plain charset flow c rest) (somewhere (bars_plain charset flow) rest) clean in
+    let to_break = or_parts _ _ (or_parts _ _ (or_parts _ _ (or_parts _ _ parts.0).0).0).0 in
+    let trailing : (is_space c && begins_with is_break rest) ≡ false =
+    ap (λ (b : Bool). is_space c && b) (no_break_begins charset flow rest parts.1) ∙ and-false (is_space c) in
+    let leading : (is_break c && begins_with is_space rest) ≡ false =
+    ap (λ (b : Bool). b && begins_with is_space rest) to_break.1 in
+    or_from (bars_single_quoted charset c rest) (somewhere (bars_single_quoted charset) rest)
+    (or_from _ _ (or_from _ _ to_break.0 trailing) leading)
+    (plain_is_single charset flow rest parts.1)
+
+plain_bars :
+    (charset : Charset) (flow : Bool) (value : Text) →
+    allows_plain charset flow value ≡ true →
+    somewhere (bars_plain charset flow) value ≡ false
+plain_bars charset flow value allowed = (or_parts _ _ (not-true _ (and_parts _ _ allowed).1)).1
+
+plain_begins :
+    (charset : Charset) (flow : Bool) (value : Text) →
+    allows_plain charset flow value ≡ true →
+    begins_unlike_plain value ≡ false
+plain_begins charset flow value allowed = (or_parts _ _ (not-true _ (and_parts _ _ allowed).1)).0
+
+-- a body holds neither CR nor U+0085
+pub plain-laid :
+    (charset : Charset) (flow : Bool) (limit : Option ℕ) (indent : ℕ) (value : Text) (cursor : Cursor) →
+    allows_plain charset flow value ≡ true →
+    is_laid_text (plain_body limit indent value cursor).text ≡ true
+plain-laid charset flow limit indent value cursor allowed =
+    let clean = plain_is_single charset flow value (plain_bars charset flow value allowed) in
+    ap is_laid_text (body-lines limit indent value cursor)
+    ∙ laid_without_returns (lines limit indent value cursor)
+    (any_bare is_return refl refl (λ text. text) limit indent spaces value cursor (no_returns charset value clean))
+
+-- a text that breaks no rule of plain text is read by folding, unless it is empty in flow
+unbarred_read :
+    (breaks12 flow : Bool) (text : Text) →
+    (is_empty text && flow) ≡ false →
+    begins_no_plain breaks12 text ≡ false →
+    holds_no_plain breaks12 flow text ≡ false →
+    read_plain breaks12 flow text ≡ Some (folding_read (map (unit_of breaks12) text))
+unbarred_read breaks12 flow [] full begins holds = simp full
+unbarred_read breaks12 flow (c ∷ rest) full begins holds = simp (begins, holds)
+
+value_reads :
+    (charset : Charset) (flow : Bool) (limit : Option ℕ) (indent : ℕ) (value : Text) (cursor : Cursor) →
+    allows_plain charset flow value ≡ true →
+    read_plain charset.breaks12 flow (lines limit indent value cursor) ≡
+    Some (folding_read (map (unit_of charset.breaks12) (lines limit indent value cursor)))
+value_reads charset flow limit indent [] cursor allowed =
+    unbarred_read charset.breaks12 flow [] (not-true _ (and_parts _ _ allowed).0) refl refl
+value_reads charset flow limit indent (c ∷ rest) cursor allowed =
+    let bars = plain_bars charset flow (c ∷ rest) allowed in
+    let begins = plain_begins charset flow (c ∷ rest) allowed in
+    let whole = no_break_begins charset flow (c ∷ rest) bars in
+    unbarred_read charset.breaks12 flow (lines limit indent (c ∷ rest) cursor)
+    (lines_full (λ text. text) limit indent spaces c rest cursor begins whole flow)
+    (lines_begin charset.breaks12 (λ text. text) limit indent spaces c rest cursor begins whole)
+    (lines_hold charset flow (λ text. text) limit indent spaces (c ∷ rest) cursor bars)
+
+-- a body, however its line breaks are written, reads as the value
+pub plain-reads :
+    (charset : Charset) (flow : Bool) (limit : Option ℕ) (indent : ℕ) (value : Text) (cursor : Cursor) (setting : LineBreak) →
+    allows_plain charset flow value ≡ true →
+    read_plain charset.breaks12 flow
+    (with_line_breaks_read (with_breaks_written setting (plain_body limit indent value cursor).text)) ≡
+    Some value
+plain-reads charset flow limit indent value cursor setting allowed =
+    let body = (plain_body limit indent value cursor).text in
+    let clean = plain_is_single charset flow value (plain_bars charset flow value allowed) in
+    ap (read_plain charset.breaks12 flow)
+    (breaks-round setting body (plain-laid charset flow limit indent value cursor allowed) ∙ body-lines limit indent value cursor)
+    ∙ (value_reads charset flow limit indent value cursor allowed
+    ∙ ap (λ (t : Text). Some t) (folding_reads charset (λ text. text) limit indent value cursor clean))
+
+-- each nonempty line of a body after the first begins with two spaces, however its line breaks are written
+pub plain-indented :
+    (limit : Option ℕ) (indent : ℕ) (value : Text) (cursor : Cursor) (setting : LineBreak) →
+    2 ≤ indent →
+    is_indented_text (with_breaks_written setting (plain_body limit indent value cursor).text) ≡ true
+plain-indented limit indent value cursor setting wide =
+    let body = (plain_body limit indent value cursor).text in
+    let lines : is_indented_text ((steps_laid (λ text. text) limit indent spaces value cursor).text ++ []) ≡ true =
+    lines_indented (λ text. text) itself_writes limit indent wide spaces value [] cursor refl in
+    indented-written setting body
+    (rw (runs_by_steps (λ text. text) itself_writes limit indent value cursor)
+    (rw append-nil at lines))

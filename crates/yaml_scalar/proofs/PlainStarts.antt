@@ -1,0 +1,332 @@
+-- Where plain lines begin as the value does, and hold no sign that plain text may not hold.
+use Rattle.std.proofs.Common.{◌≡◌, refl, sym, ap, ◌∙◌, subst, ℕ, suc, zero, List, [], ◌∷◌, ◌++◌, Bool, true, false, append_assoc, true≢false}
+use Rattle.std.specs.Prelude.{Option, ◌==◌, ◌||◌, ◌&&◌, not, if◌then◌else◌, codes}
+use Rattle.std.proofs.lemmas.Bool.{eqb-true, or_parts, or_from}
+use Rattle.std.proofs.Math.Bool.{and-false, and-true, and_assoc}
+use Rattle.yaml_base.specs.Characters.{Text, is_among, is_blank, is_break, is_space, line_feed, line_separator, paragraph_separator, space}
+use Rattle.yaml_base.specs.Cursor.{Cursor, text_laid, is_past_width}
+use Rattle.yaml_base.specs.Analysis.{Charset, bars_plain, begins_like_mark, begins_unlike_plain, begins_with, ends_word, is_empty, is_gap, somewhere}
+use Rattle.yaml_base.specs.Plain.{Kind, spaces, breaks, others, kind_of, is_same_kind, indentation}
+use Rattle.yaml_base.specs.ReadPlain.{begins_no_plain, begins_with_three, begins_white, begins_with_hash, holds_no_plain, is_read_white}
+use Rattle.yaml_scalar.proofs.QuotingSteps.{begins_kind, step_text}
+use Rattle.yaml_scalar.proofs.QuotingText.{bare_steps}
+use Rattle.yaml_scalar.proofs.QuotingFolds.{spaces_only, breaks_only}
+
+-- what a reader takes for white space is a gap to a writer
+gap_by :
+    (sp tab lf cr nel ls ps zero_sign breaks12 : Bool) →
+    ((sp || tab) || (lf || cr || nel || ls || ps) || zero_sign) ≡ false →
+    ((sp || tab) || (lf || (not breaks12 && (ls || ps)))) ≡ false
+gap_by false false false cr nel false false zero_sign breaks12 e = and-false (not breaks12)
+gap_by true tab lf cr nel ls ps zero_sign breaks12 e = cc
+gap_by false true lf cr nel ls ps zero_sign breaks12 e = cc
+gap_by false false true cr nel ls ps zero_sign breaks12 e = cc
+gap_by false false false true nel true ps zero_sign breaks12 e = cc
+gap_by false false false true nel false true zero_sign breaks12 e = cc
+gap_by false false false false true true ps zero_sign breaks12 e = cc
+gap_by false false false false true false true zero_sign breaks12 e = cc
+gap_by false false false false false true ps zero_sign breaks12 e = cc
+gap_by false false false false false false true zero_sign breaks12 e = cc
+
+pub white_is_gap : (breaks12 : Bool) (c : ℕ) → is_gap c ≡ false → is_read_white breaks12 c ≡ false
+white_is_gap breaks12 c e =
+    gap_by (c == 32) (c == 9) (c == 10) (c == 13) (c == 0x85) (c == 0x2028) (c == 0x2029) (c == 0) breaks12 e
+
+break_is_gap : (c : ℕ) → is_break c ≡ true → is_gap c ≡ false → false ≡ true
+break_is_gap c b e =
+    let parts = or_parts (is_blank c) (is_break c) (or_parts (is_blank c || is_break c) (c == 0) e).0 in
+    sym parts.1 ∙ b
+
+-- a step begins white only where its character is a gap
+step_white :
+    (breaks12 folds : Bool) (indent : ℕ) (before kind : Kind) (c : ℕ) (rest text : Text) →
+    kind_of c ≡ kind →
+    is_gap c ≡ false →
+    begins_white breaks12 (step_text (λ t. t) folds indent before kind c rest ++ text) ≡ false
+step_white breaks12 folds indent before spaces c rest text k e =
+    absurd (true≢false (sym (ap is_gap (eqb-true c 32 (spaces_only (is_space c) (is_break c) k))) ∙ e))
+step_white breaks12 folds indent before breaks c rest text k e =
+    absurd (true≢false (sym (break_is_gap c (breaks_only (is_space c) (is_break c) k) e)))
+step_white breaks12 folds indent before others c rest text k e = white_is_gap breaks12 c e
+
+pub lines_white :
+    (breaks12 : Bool) (written : Text → Text) (limit : Option ℕ) (indent : ℕ) (before : Kind) (rest : Text) (cursor : Cursor) →
+    ends_word rest ≡ false →
+    begins_white breaks12 (bare_steps written limit indent before rest cursor) ≡ false
+lines_white breaks12 written limit indent before [] cursor e = cc
+lines_white breaks12 written limit indent before (c ∷ rest) cursor e =
+    step_white breaks12 (is_past_width limit cursor) indent before (kind_of c) c rest _ refl e
+
+-- a step begins with `#` only where its character is it
+hash_of_fold :
+    (folds : Bool) (indent : ℕ) (text : Text) →
+    begins_with_hash ((if folds then line_feed ∷ indentation indent else space ∷ []) ++ text) ≡ false
+hash_of_fold true indent text = refl
+hash_of_fold false indent text = refl
+
+hash_of_break :
+    (doubled : Bool) (c : ℕ) (more text : Text) →
+    (c == 35) ≡ false →
+    begins_with_hash (((if doubled then line_feed ∷ [] else []) ++ (c ∷ more)) ++ text) ≡ false
+hash_of_break true c more text e = refl
+hash_of_break false c more text e = e
+
+step_hash :
+    (folds : Bool) (indent : ℕ) (before kind : Kind) (c : ℕ) (rest text : Text) →
+    kind_of c ≡ kind →
+    (c == 35) ≡ false →
+    begins_with_hash (step_text (λ t. t) folds indent before kind c rest ++ text) ≡ false
+step_hash folds indent before spaces c rest text k e =
+    rw (eqb-true c 32 (spaces_only (is_space c) (is_break c) k))
+    (hash_of_fold (folds && not (is_same_kind before spaces || (is_empty rest || begins_kind spaces rest))) indent text)
+step_hash folds indent before breaks c rest text k e =
+    hash_of_break (c == line_feed && not (is_same_kind before breaks)) c _ text e
+step_hash folds indent before others c rest text k e = e
+
+pub lines_hash :
+    (written : Text → Text) (limit : Option ℕ) (indent : ℕ) (before : Kind) (rest : Text) (cursor : Cursor) →
+    begins_with (λ c. c == 35) rest ≡ false →
+    begins_with_hash (bare_steps written limit indent before rest cursor) ≡ false
+lines_hash written limit indent before [] cursor e = refl
+lines_hash written limit indent before (c ∷ rest) cursor e =
+    step_hash (is_past_width limit cursor) indent before (kind_of c) c rest _ refl e
+
+-- both tests of a pair can only turn false
+and_turns : (a b c d : Bool) → (a ≡ false → c ≡ false) → (b ≡ false → d ≡ false) → (a && b) ≡ false → (c && d) ≡ false
+and_turns false b c d f g e = ap (λ (x : Bool). x && d) (f refl)
+and_turns true b c d f g e = ap (λ (x : Bool). c && x) (g e) ∙ and-false c
+
+-- the signs that no plain text holds, at a character that stands as itself
+kept_holds :
+    (breaks12 flow : Bool) (c : ℕ) (rest text : Text) →
+    ((c == 58 && ends_word rest) || (is_gap c && begins_with (λ d. d == 35) rest)) ≡ false →
+    (flow && is_among (codes ",?:[]{}") c) ≡ false →
+    (ends_word rest ≡ false → begins_white breaks12 text ≡ false) →
+    (begins_with (λ d. d == 35) rest ≡ false → begins_with_hash text ≡ false) →
+    holds_no_plain breaks12 flow text ≡ false →
+    holds_no_plain breaks12 flow (c ∷ text) ≡ false
+kept_holds breaks12 flow c rest text signs in_flow white hash later =
+    let parts = or_parts (c == 58 && ends_word rest) (is_gap c && begins_with (λ d. d == 35) rest) signs in
+    let key : (c == 58 && begins_white breaks12 text) ≡ false =
+    and_turns (c == 58) (ends_word rest) (c == 58) (begins_white breaks12 text) (λ e. e) white parts.0 in
+    let comment : (is_read_white breaks12 c && begins_with_hash text) ≡ false =
+    and_turns (is_gap c) (begins_with (λ d. d == 35) rest) (is_read_white breaks12 c) (begins_with_hash text)
+    (white_is_gap breaks12 c) hash parts.1 in
+    or_from _ _ (or_from _ _ (or_from _ _ key comment) in_flow) later
+
+indented_hash :
+    (indent : ℕ) (text : Text) → begins_with_hash text ≡ false → begins_with_hash (indentation indent ++ text) ≡ false
+indented_hash zero text hash = hash
+indented_hash (suc n) text hash = refl
+
+-- indentation holds none
+indented_holds :
+    (breaks12 flow : Bool) (indent : ℕ) (text : Text) →
+    begins_with_hash text ≡ false →
+    holds_no_plain breaks12 flow text ≡ false →
+    holds_no_plain breaks12 flow (indentation indent ++ text) ≡ false
+indented_holds breaks12 flow zero text hash later = later
+indented_holds breaks12 flow (suc n) text hash later =
+    simp (indented_hash n text hash, and-false) (indented_holds breaks12 flow n text hash later)
+
+-- nor does a fold
+folded_holds :
+    (breaks12 flow : Bool) (indent : ℕ) (text : Text) →
+    begins_with_hash text ≡ false →
+    holds_no_plain breaks12 flow text ≡ false →
+    holds_no_plain breaks12 flow (line_feed ∷ (indentation indent ++ text)) ≡ false
+folded_holds breaks12 flow indent text hash later =
+    simp (indented_hash indent text hash, and-false) (indented_holds breaks12 flow indent text hash later)
+
+spaced_holds :
+    (breaks12 flow folds : Bool) (indent : ℕ) (rest text : Text) →
+    begins_with (λ d. d == 35) rest ≡ false →
+    (ends_word rest ≡ false → begins_white breaks12 text ≡ false) →
+    (begins_with (λ d. d == 35) rest ≡ false → begins_with_hash text ≡ false) →
+    holds_no_plain breaks12 flow text ≡ false →
+    holds_no_plain breaks12 flow ((if folds then line_feed ∷ indentation indent else space ∷ []) ++ text) ≡ false
+spaced_holds breaks12 flow true indent rest text own white hash later =
+    folded_holds breaks12 flow indent text (hash own) later
+spaced_holds breaks12 flow false indent rest text own white hash later =
+    kept_holds breaks12 flow space rest text own (and-false flow) white hash later
+
+step_holds :
+    (breaks12 flow folds : Bool) (indent : ℕ) (before kind : Kind) (c : ℕ) (rest text : Text) →
+    kind_of c ≡ kind →
+    is_break c ≡ false →
+    ((c == 58 && ends_word rest) || (is_gap c && begins_with (λ d. d == 35) rest)) ≡ false →
+    (flow && is_among (codes ",?:[]{}") c) ≡ false →
+    (ends_word rest ≡ false → begins_white breaks12 text ≡ false) →
+    (begins_with (λ d. d == 35) rest ≡ false → begins_with_hash text ≡ false) →
+    holds_no_plain breaks12 flow text ≡ false →
+    holds_no_plain breaks12 flow (step_text (λ t. t) folds indent before kind c rest ++ text) ≡ false
+step_holds breaks12 flow folds indent before spaces c rest text k whole signs in_flow white hash later =
+    let is : c ≡ 32 = eqb-true c 32 (spaces_only (is_space c) (is_break c) k) in
+    let own : begins_with (λ d. d == 35) rest ≡ false =
+    subst (λ (n : ℕ). ((n == 58 && ends_word rest) || (is_gap n && begins_with (λ d. d == 35) rest)) ≡ false) is signs in
+    rw is (spaced_holds breaks12 flow
+    (folds && not (is_same_kind before spaces || (is_empty rest || begins_kind spaces rest))) indent rest text own white hash later)
+step_holds breaks12 flow folds indent before breaks c rest text k whole signs in_flow white hash later =
+    absurd (true≢false (sym (breaks_only (is_space c) (is_break c) k) ∙ whole))
+step_holds breaks12 flow folds indent before others c rest text k whole signs in_flow white hash later =
+    kept_holds breaks12 flow c rest text signs in_flow white hash later
+
+-- the lines of a value that allows plain text hold no sign that plain text may not hold
+pub lines_hold :
+    (charset : Charset) (flow : Bool) (written : Text → Text) (limit : Option ℕ) (indent : ℕ) (before : Kind) (value : Text) (cursor : Cursor) →
+    somewhere (bars_plain charset flow) value ≡ false →
+    holds_no_plain charset.breaks12 flow (bare_steps written limit indent before value cursor) ≡ false
+lines_hold charset flow written limit indent before [] cursor clean = refl
+lines_hold charset flow written limit indent before (c ∷ rest) cursor clean =
+    let parts = or_parts (bars_plain charset flow c rest) (somewhere (bars_plain charset flow) rest) clean in
+    let to_flow = or_parts _ _ parts.0 in
+    let to_signs = or_parts _ _ to_flow.0 in
+    let to_end = or_parts _ _ to_signs.0 in
+    let to_break = or_parts _ _ to_end.0 in
+    let folds = is_past_width limit cursor in
+    let after = (text_laid (step_text written folds indent before (kind_of c) c rest) cursor).cursor in
+    step_holds charset.breaks12 flow folds indent before (kind_of c) c rest
+    (bare_steps written limit indent (kind_of c) rest after) refl to_break.1 to_signs.1 to_flow.1
+    (lines_white charset.breaks12 written limit indent (kind_of c) rest after)
+    (lines_hash written limit indent (kind_of c) rest after)
+    (lines_hold charset flow written limit indent (kind_of c) rest after parts.1)
+
+-- how often a text begins with one character
+abbrev begins_times : ℕ → ℕ → Text → Bool
+begins_times zero mark text = true
+begins_times (suc n) mark [] = false
+begins_times (suc n) mark (c ∷ rest) = c == mark && begins_times n mark rest
+
+three_times : (mark : ℕ) (text : Text) → begins_with_three mark text ≡ begins_times 3 mark text
+three_times mark [] = refl
+three_times mark (a ∷ []) = sym (and-false (a == mark))
+three_times mark (a ∷ b ∷ []) = sym (simp and-false)
+three_times mark (a ∷ b ∷ c ∷ rest) = simp (and-true, and_assoc)
+
+-- a character that is no white space
+record IsSign (mark : ℕ) : Type 0 where
+  no_space : (space == mark) ≡ false
+  no_feed : (line_feed == mark) ≡ false
+  no_break : is_break mark ≡ false
+
+other_break : (mark c : ℕ) (same : Bool) → (c == mark) ≡ same → is_break mark ≡ false → is_break c ≡ true → same ≡ false
+other_break mark c false e m b = refl
+other_break mark c true e m b = sym b ∙ (ap is_break (eqb-true c mark e) ∙ m)
+
+fold_times :
+    (mark : ℕ) → IsSign mark → (n : ℕ) (folds : Bool) (indent : ℕ) (text : Text) →
+    begins_times (suc n) mark ((if folds then line_feed ∷ indentation indent else space ∷ []) ++ text) ≡ false
+fold_times mark sign n true indent text = simp sign.no_feed
+fold_times mark sign n false indent text = simp sign.no_space
+
+break_times :
+    (mark : ℕ) → IsSign mark → (n : ℕ) (doubled : Bool) (c : ℕ) (more text : Text) →
+    (c == mark) ≡ false →
+    begins_times (suc n) mark (((if doubled then line_feed ∷ [] else []) ++ (c ∷ more)) ++ text) ≡ false
+break_times mark sign n true c more text e = simp sign.no_feed
+break_times mark sign n false c more text e = simp e
+
+step_times :
+    (mark : ℕ) → IsSign mark → (n : ℕ) (folds : Bool) (indent : ℕ) (before kind : Kind) (c : ℕ) (rest text : Text) →
+    kind_of c ≡ kind →
+    begins_times n mark text ≡ begins_times n mark rest →
+    begins_times (suc n) mark (step_text (λ t. t) folds indent before kind c rest ++ text) ≡ begins_times (suc n) mark (c ∷ rest)
+step_times mark sign n folds indent before spaces c rest text k later =
+    rw (eqb-true c 32 (spaces_only (is_space c) (is_break c) k))
+    (fold_times mark sign n (folds && not (is_same_kind before spaces || (is_empty rest || begins_kind spaces rest))) indent text
+    ∙ sym (simp sign.no_space))
+step_times mark sign n folds indent before breaks c rest text k later =
+    let other = other_break mark c (c == mark) refl sign.no_break (breaks_only (is_space c) (is_break c) k) in
+    break_times mark sign n (c == line_feed && not (is_same_kind before breaks)) c _ text other ∙ sym (simp other)
+step_times mark sign n folds indent before others c rest text k later = ap (λ (b : Bool). c == mark && b) later
+
+-- lines begin with a sign as often as the value does
+times_kept :
+    (mark : ℕ) → IsSign mark → (n : ℕ) (written : Text → Text) (limit : Option ℕ) (indent : ℕ) (before : Kind) (value : Text) (cursor : Cursor) →
+    begins_times n mark (bare_steps written limit indent before value cursor) ≡ begins_times n mark value
+times_kept mark sign zero written limit indent before value cursor = refl
+times_kept mark sign (suc n) written limit indent before [] cursor = refl
+times_kept mark sign (suc n) written limit indent before (c ∷ rest) cursor =
+    step_times mark sign n (is_past_width limit cursor) indent before (kind_of c) c rest _ refl
+    (times_kept mark sign n written limit indent (kind_of c) rest _)
+
+no_dashes : (a b c : ℕ) (is : Bool) → (a == 45) ≡ is → ((is || a == 46) && b == a && c == a) ≡ false → (is && b == 45 && c == 45) ≡ false
+no_dashes a b c false d e = refl
+no_dashes a b c true d e = subst (λ (n : ℕ). (b == n && c == n) ≡ false) (eqb-true a 45 d) e
+
+no_dots : (a b c : ℕ) (is : Bool) → (a == 46) ≡ is → ((a == 45 || is) && b == a && c == a) ≡ false → (is && b == 46 && c == 46) ≡ false
+no_dots a b c false d e = refl
+no_dots a b c true d e =
+    subst (λ (n : ℕ). ((n == 45 || true) && b == n && c == n) ≡ false) (eqb-true a 46 d) e
+
+-- a value that doesn't begin with a mark begins with no three dashes and no three dots
+dashes : (value : Text) → begins_like_mark value ≡ false → begins_with_three 45 value ≡ false
+dashes [] e = refl
+dashes (a ∷ []) e = refl
+dashes (a ∷ b ∷ []) e = refl
+dashes (a ∷ b ∷ c ∷ rest) e = no_dashes a b c (a == 45) refl e
+
+dots : (value : Text) → begins_like_mark value ≡ false → begins_with_three 46 value ≡ false
+dots [] e = refl
+dots (a ∷ []) e = refl
+dots (a ∷ b ∷ []) e = refl
+dots (a ∷ b ∷ c ∷ rest) e = no_dots a b c (a == 46) refl e
+
+lines_three :
+    (mark : ℕ) → IsSign mark → (written : Text → Text) (limit : Option ℕ) (indent : ℕ) (before : Kind) (value : Text) (cursor : Cursor) →
+    begins_with_three mark value ≡ false →
+    begins_with_three mark (bare_steps written limit indent before value cursor) ≡ false
+lines_three mark sign written limit indent before value cursor e =
+    three_times mark (bare_steps written limit indent before value cursor)
+    ∙ (times_kept mark sign 3 written limit indent before value cursor ∙ (sym (three_times mark value) ∙ e))
+
+kind_of_sign : (s b : Bool) → s ≡ false → b ≡ false → (if s then spaces else if b then breaks else others) ≡ others
+kind_of_sign s b e f = rw (e, f)
+
+-- a value's lines begin with its first character, where that is neither a space nor a break
+first_kept :
+    (folds : Bool) (indent : ℕ) (before : Kind) (c : ℕ) (rest : Text) →
+    is_space c ≡ false →
+    is_break c ≡ false →
+    step_text (λ t. t) folds indent before (kind_of c) c rest ≡ c ∷ []
+first_kept folds indent before c rest e f =
+    ap (λ (kind : Kind). step_text (λ t. t) folds indent before kind c rest) (kind_of_sign (is_space c) (is_break c) e f)
+
+pub lines_full :
+    (written : Text → Text) (limit : Option ℕ) (indent : ℕ) (before : Kind) (c : ℕ) (rest : Text) (cursor : Cursor) →
+    begins_unlike_plain (c ∷ rest) ≡ false →
+    is_break c ≡ false →
+    (flow : Bool) →
+    (is_empty (bare_steps written limit indent before (c ∷ rest) cursor) && flow) ≡ false
+lines_full written limit indent before c rest cursor e f flow =
+    let to_mark = or_parts _ _ (or_parts _ _ (or_parts _ _ e).0).0 in
+    let folds = is_past_width limit cursor in
+    let after = (text_laid (step_text written folds indent before (kind_of c) c rest) cursor).cursor in
+    ap (λ (step : Text). is_empty (step ++ bare_steps written limit indent (kind_of c) rest after) && flow)
+    (first_kept folds indent before c rest to_mark.0 f)
+
+-- lines begin with no sign that the value doesn't begin with
+pub lines_begin :
+    (breaks12 : Bool) (written : Text → Text) (limit : Option ℕ) (indent : ℕ) (before : Kind) (c : ℕ) (rest : Text) (cursor : Cursor) →
+    begins_unlike_plain (c ∷ rest) ≡ false →
+    is_break c ≡ false →
+    begins_no_plain breaks12 (bare_steps written limit indent before (c ∷ rest) cursor) ≡ false
+lines_begin breaks12 written limit indent before c rest cursor e f =
+    let to_word = or_parts _ _ e in
+    let to_indicator = or_parts _ _ to_word.0 in
+    let to_mark = or_parts _ _ to_indicator.0 in
+    let folds = is_past_width limit cursor in
+    let after = (text_laid (step_text written folds indent before (kind_of c) c rest) cursor).cursor in
+    let text = bare_steps written limit indent (kind_of c) rest after in
+    let whole : bare_steps written limit indent before (c ∷ rest) cursor ≡ c ∷ text =
+    ap (λ (step : Text). step ++ text) (first_kept folds indent before c rest to_mark.0 f) in
+    let three = λ (mark : ℕ) (sign : IsSign mark) (none : begins_with_three mark (c ∷ rest) ≡ false).
+    sym (ap (begins_with_three mark) whole) ∙ lines_three mark sign written limit indent before (c ∷ rest) cursor none in
+    let word : (is_among (codes "?:-") c && begins_white breaks12 text) ≡ false =
+    and_turns (is_among (codes "?:-") c) (ends_word rest) (is_among (codes "?:-") c) (begins_white breaks12 text)
+    (λ g. g) (lines_white breaks12 written limit indent (kind_of c) rest after) to_word.1 in
+    ap (begins_no_plain breaks12) whole
+    ∙ or_from _ _ (or_from _ _ (or_from _ _
+    (three 45 (record { no_space = refl; no_feed = refl; no_break = refl }) (dashes (c ∷ rest) to_mark.1))
+    (three 46 (record { no_space = refl; no_feed = refl; no_break = refl }) (dots (c ∷ rest) to_mark.1)))
+    to_indicator.1) word
