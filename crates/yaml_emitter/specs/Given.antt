@@ -24,10 +24,6 @@ abbrev pub seen_width : ℤ → Option ℕ
 seen_width (pos n) = if n == 2147483647 then None else Some n
 seen_width (negsuc n) = None
 
-abbrev pub seen_indent : ℤ → ℕ
-seen_indent (pos n) = n
-seen_indent (negsuc n) = 0
-
 -- what the layout goes by
 abbrev pub seen_effective : EffectiveSettings → Effective
 seen_effective settings =
@@ -35,7 +31,7 @@ seen_effective settings =
       encoding = unwrap_or (seen_encoding settings.encoding) utf8;
       canonical = settings.canonical;
       unicode = settings.unicode;
-      indent = seen_indent settings.indent;
+      indent = settings.indent;
       width = seen_width settings.width;
       line_break = unwrap_or (seen_break settings.line_break) line_feed_break;
       breaks12 = settings.breaks12;

@@ -1,9 +1,9 @@
 //! What the caller sets, and what it comes to at the stream's start.
 
-ghost use Rattle.std.specs.Prelude.{◌≡◌, pos, ◌≤ℤ◌, Some, unwrap_or};
+ghost use Rattle.std.specs.Prelude.{◌≡◌, ◌≤◌, Some, unwrap_or};
 ghost use Rattle.yaml_base.specs.Settings.{effective, effective_encoding, effective_indent, effective_width, line_feed_break};
 ghost use Rattle.yaml_base.specs.Seen.{seen_encoding, seen_break};
-ghost use Rattle.yaml_emitter.specs.Given.{nothing_given, seen_width, seen_indent, seen_given, seen_effective};
+ghost use Rattle.yaml_emitter.specs.Given.{nothing_given, seen_width, seen_given, seen_effective};
 
 use yaml_base::{
     YAML_ANY_BREAK, YAML_ANY_ENCODING, YAML_LN_BREAK, YAML_UTF8_ENCODING, yaml_break_t,
@@ -30,7 +30,7 @@ pub(crate) struct EffectiveSettings {
     pub canonical: bool,
     pub unicode: bool,
     /// In columns, 2 to 9.
-    pub indent: i32,
+    pub indent: u32,
     /// In characters; `i32::MAX` for no limit.
     pub width: i32,
     pub line_break: yaml_break_t,
@@ -39,27 +39,27 @@ pub(crate) struct EffectiveSettings {
 }
 
 /// An indent of 2 to 9 is kept, any other becomes 2.
-fn indent_of(given: Option<i32>) -> i32
-    ensures gives { seen_indent result ≡ effective_indent given }
-    ensures low { pos 2 ≤ℤ result }
-    ensures high { result ≤ℤ pos 9 }
+fn indent_of(given: Option<i32>) -> u32
+    ensures gives { result ≡ effective_indent given }
+    ensures low { 2 ≤ result }
+    ensures high { result ≤ 9 }
 {
     match given {
-        Some(indent) if 2 <= indent && indent <= 9 => indent,
+        Some(indent) if 2 <= indent && indent <= 9 => indent as u32,
         _ => 2,
     }
 }
 
 /// A negative width is no limit; up to twice the indent it becomes 80.
-fn width_of(given: Option<i32>, indent: i32) -> i32
-    requires low { pos 2 ≤ℤ indent }
-    requires high { indent ≤ℤ pos 9 }
-    ensures { seen_width result ≡ effective_width given (seen_indent indent) }
+fn width_of(given: Option<i32>, indent: u32) -> i32
+    requires { indent ≤ 9 }
+    ensures { seen_width result ≡ effective_width given indent }
 {
+    let least = 2 * indent as i32;
     match given {
         None => 80,
         Some(width) if width < 0 => i32::MAX,
-        Some(width) if width <= 2 * indent => 80,
+        Some(width) if width <= least => 80,
         Some(width) => width,
     }
 }
