@@ -1,5 +1,6 @@
 //! The emitter: settings, queue, states.
 #![tactic(auto)]
 
+mod place;
 mod queue;
 mod settings;

@@ -1,0 +1,95 @@
+//! Where a node stands, and the collections that are open around it.
+
+ghost use Rattle.std.specs.Prelude.{◌≡◌, ◌+◌, ◌≤◌, ◌^◌, ◌<◌};
+ghost use Rattle.yaml_base.specs.Layout.{deeper, is_in_mapping, is_key, line_column, root_place};
+ghost use Rattle.yaml_base.specs.Steps.{is_first, role_after};
+ghost use Rattle.yaml_emitter.specs.Places.{seen_role, seen_place, seen_frame};
+
+/// What a node is. The first item or key of a flow collection writes its bracket; a value knows
+/// whether its key is simple.
+#[derive(Clone, Copy)]
+pub(crate) enum Role {
+    Root,
+    Item { first: bool },
+    Key { first: bool },
+    Value { simple: bool },
+}
+
+/// Where a node stands: in flow or in block, as what, and the column of the entries around it.
+#[derive(Clone, Copy)]
+pub(crate) struct Place {
+    pub in_flow: bool,
+    pub role: Role,
+    /// In characters; none at the root.
+    pub column: Option<u32>,
+}
+
+/// An open collection: where its next entry stands, and whether it is itself a simple key.
+#[derive(Clone, Copy)]
+pub(crate) struct Frame {
+    pub place: Place,
+    pub simple: bool,
+}
+
+impl Role {
+    pub(crate) fn is_key(self) -> bool
+        ensures { result ≡ is_key (seen_role self) }
+    {
+        matches!(self, Role::Key { .. })
+    }
+
+    pub(crate) fn is_in_mapping(self) -> bool
+        ensures { result ≡ is_in_mapping (seen_role self) }
+    {
+        matches!(self, Role::Key { .. } | Role::Value { .. })
+    }
+
+    /// No entry of the collection is written yet.
+    pub(crate) fn is_first(self) -> bool
+        ensures { result ≡ is_first (seen_role self) }
+    {
+        match self {
+            Role::Item { first } | Role::Key { first } => first,
+            _ => false,
+        }
+    }
+
+    /// What the node after one is, which may have been a simple key.
+    pub(crate) fn after(self, simple: bool) -> Role
+        ensures { seen_role result ≡ role_after (seen_role self) simple }
+    {
+        match self {
+            Role::Root => Role::Root,
+            Role::Item { .. } => Role::Item { first: false },
+            Role::Key { .. } => Role::Value { simple },
+            Role::Value { .. } => Role::Key { first: false },
+        }
+    }
+}
+
+impl Place {
+    pub(crate) fn root() -> Place
+        ensures { seen_place result ≡ root_place }
+    {
+        Place {
+            in_flow: false,
+            role: Role::Root,
+            column: None,
+        }
+    }
+
+    /// Where a new line begins here.
+    pub(crate) fn line_column(&self) -> u32
+        ensures { result ≡ line_column (seen_place self.now).column }
+    {
+        self.column.unwrap_or(0)
+    }
+
+    /// One indent further in.
+    pub(crate) fn deeper(&self, indent: u32) -> u32
+        requires { deeper indent (seen_place self.now).column < 2 ^ 32 }
+        ensures { result ≡ deeper indent (seen_place self.now).column }
+    {
+        self.line_column() + indent
+    }
+}
