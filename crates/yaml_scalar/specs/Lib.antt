@@ -1,1 +1,2 @@
 pub mod ScalarData
+pub mod Width

@@ -3,6 +3,7 @@
 
 mod analysis;
 mod style;
+mod width;
 
 pub use analysis::{analyze_scalar, scalar_data_t};
 pub use style::select_scalar_style;
