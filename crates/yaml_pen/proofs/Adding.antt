@@ -1,5 +1,5 @@
 -- Bytes that are appended to those of a text are decoded as text that is appended.
-use Rattle.std.proofs.Common.{◌≡◌, refl, sym, ◌∙◌, ap, ℕ, true, Option, Some, List, [], ◌∷◌, ◌++◌, append_assoc, arith}
+use Rattle.std.proofs.Common.{◌≡◌, refl, sym, ◌∙◌, ap, ℕ, true, Option, Some, List, [], ◌∷◌, ◌++◌, append_assoc}
 use Rattle.std.specs.Str.{all_scalars}
 use Rattle.std.proofs.lemmas.Bool.{and_parts, and_from}
 use Rattle.yaml_base.specs.Characters.{Text}

@@ -1,14 +1,15 @@
 -- How calls that write compose: one after another, a failure on the way, and changes of the cursor between.
-use Rattle.std.proofs.Common.{◌≡◌, ◌==◌, refl, sym, ◌∙◌, ap, subst, ℕ, Bool, Option, None, Some, Result, Ok, Err, List, [], ◌∷◌, ◌++◌, IsSome, append_assoc, append-nil, if◌then◌else◌}
+use Rattle.std.proofs.Common.{◌≡◌, ◌==◌, refl, sym, ◌∙◌, ap, subst, ℕ, Option, None, Some, Result, Ok, Err, [], ◌∷◌, ◌++◌, IsSome, IsErr, IsErrAnd, append_assoc, append-nil, if◌then◌else◌}
 use Rattle.std.proofs.lemmas.Bool.{false≢true}
+use Rattle.std.proofs.lemmas.Result.{err_from_is_err_and}
 use Rattle.yaml_base.specs.Characters.{Text, line_feed}
 use Rattle.yaml_base.specs.Settings.{Encoding, LineBreak}
 use Rattle.yaml_base.specs.LineBreaks.{with_breaks_written, break_text}
-use Rattle.yaml_base.specs.Cursor.{Cursor, Laid, then_laid, nothing_laid}
+use Rattle.yaml_base.specs.Cursor.{Cursor, Laid, then_laid, nothing_laid, text_laid}
 use Rattle.yaml_base.specs.declared.errors.yaml_error_t.{yaml_error_t}
 use Rattle.yaml_pen.specs.Page.{Page, IsReady, IsHandedOut, encoded, told}
-use Rattle.yaml_pen.specs.Wrote.{Wrote, WroteAll, Flushed, Grew, KeepsSettings, named_text}
-use Rattle.yaml_pen.proofs.Writing.{none_from_told}
+use Rattle.yaml_pen.specs.Wrote.{Wrote, WroteAll, Flushed, named_text}
+use Rattle.yaml_pen.proofs.Writing.{none_from_told, column_after-append}
 
 -- line breaks are written part by part
 pub with_breaks_written-append : (setting : LineBreak) (xs ys : Text) → with_breaks_written setting (xs ++ ys) ≡ with_breaks_written setting xs ++ with_breaks_written setting ys
@@ -52,25 +53,25 @@ wrote_then {first} {next} {before} {between} {after} {answer} one two =
       answered = two.answered;
       ready = two.ready;
       settings = record {
-          encoding = two.settings.encoding ∙ one.settings.encoding;
-          line_break = two.settings.line_break ∙ one.settings.line_break;
-          limit = two.settings.limit ∙ one.settings.limit;
-        };
+        encoding = two.settings.encoding ∙ one.settings.encoding;
+        line_break = two.settings.line_break ∙ one.settings.line_break;
+        limit = two.settings.limit ∙ one.settings.limit;
+      };
       handed = two.handed;
       grew = record {
-          front = named_text first before ++ two.grew.front;
-          rest = two.grew.rest;
-          parts = named ∙ ap (λ l. named_text first before ++ l) two.grew.parts ∙ sym (append_assoc (named_text first before) two.grew.front two.grew.rest);
-          grown = two.grew.grown ∙ ap (λ l. l ++ two.grew.front) whole.text ∙ append_assoc before.text (named_text first before) two.grew.front;
-        };
+        front = named_text first before ++ two.grew.front;
+        rest = two.grew.rest;
+        parts = named ∙ ap (λ l. named_text first before ++ l) two.grew.parts ∙ sym (append_assoc (named_text first before) two.grew.front two.grew.rest);
+        grown = two.grew.grown ∙ ap (λ l. l ++ two.grew.front) whole.text ∙ append_assoc before.text (named_text first before) two.grew.front;
+      };
       all = λ none.
-        let last = two.all none in
-        record {
-          no_error = whole.no_error;
-          text = last.text ∙ ap (λ l. l ++ named_text next between) whole.text ∙ append_assoc before.text (named_text first before) (named_text next between)
-            ∙ ap (λ l. before.text ++ l) (sym named);
-          cursor = last.cursor ∙ ap (λ (c : Cursor). (next c).cursor) whole.cursor;
-        };
+          let last = two.all none in
+          record {
+            no_error = whole.no_error;
+            text = last.text ∙ ap (λ l. l ++ named_text next between) whole.text ∙ append_assoc before.text (named_text first before) (named_text next between)
+                ∙ ap (λ l. before.text ++ l) (sym named);
+            cursor = last.cursor ∙ ap (λ (c : Cursor). (next c).cursor) whole.cursor;
+          };
       stopped = λ some. absurd (false≢true (subst (λ (o : Option yaml_error_t). IsSome o) whole.no_error some));
     }
 
@@ -86,12 +87,12 @@ wrote_failed {first} next {before} {after} {error} one =
       settings = one.settings;
       handed = one.handed;
       grew = record {
-          front = one.grew.front;
-          rest = one.grew.rest ++ second;
-          parts = with_breaks_written-append before.line_break (first before.cursor).text (next (first before.cursor).cursor).text
+        front = one.grew.front;
+        rest = one.grew.rest ++ second;
+        parts = with_breaks_written-append before.line_break (first before.cursor).text (next (first before.cursor).cursor).text
             ∙ ap (λ l. l ++ second) one.grew.parts ∙ append_assoc one.grew.front one.grew.rest second;
-          grown = one.grew.grown;
-        };
+        grown = one.grew.grown;
+      };
       all = λ none. error_from_told after.error error one.answered none;
       stopped = one.stopped;
     }
@@ -125,9 +126,9 @@ wrote_stopped lay {page} {error} ready some handed =
     }
 
 -- what is written depends on what the layout puts at the cursor alone
-pub wrote_as : {lay other : Cursor → Laid} {before after : Page} {answer : Result (Unit {0}) yaml_error_t}
+pub wrote_as : {lay : Cursor → Laid} (other : Cursor → Laid) {before after : Page} {answer : Result (Unit {0}) yaml_error_t}
     → lay before.cursor ≡ other before.cursor → Wrote lay before after answer → Wrote other before after answer
-wrote_as {lay} {other} {before} {after} {answer} same wrote =
+wrote_as {lay} other {before} {after} {answer} same wrote =
     let text = ap (λ (l : Laid). with_breaks_written before.line_break l.text) same in
     record {
       answered = wrote.answered;
@@ -136,12 +137,12 @@ wrote_as {lay} {other} {before} {after} {answer} same wrote =
       handed = wrote.handed;
       grew = record { front = wrote.grew.front; rest = wrote.grew.rest; parts = sym text ∙ wrote.grew.parts; grown = wrote.grew.grown };
       all = λ none.
-        let whole = wrote.all none in
-        record {
-          no_error = whole.no_error;
-          text = whole.text ∙ ap (λ l. before.text ++ l) text;
-          cursor = whole.cursor ∙ ap (λ (l : Laid). l.cursor) same;
-        };
+          let whole = wrote.all none in
+          record {
+            no_error = whole.no_error;
+            text = whole.text ∙ ap (λ l. before.text ++ l) text;
+            cursor = whole.cursor ∙ ap (λ (l : Laid). l.cursor) same;
+          };
       stopped = wrote.stopped;
     }
 
@@ -153,14 +154,14 @@ wrote_changing {lay} change {before} {between} {after} wrote is =
     let whole = wrote_all wrote in
     let P : Page → Type 0 = λ p. Wrote (λ c. record { text = (lay c).text; cursor = change (lay c).cursor }) before p (Ok tt) in
     let changed : P (record between { cursor = change between.cursor }) = record {
-          answered = wrote.answered;
-          ready = record { begun = wrote.ready.begun; marked = wrote.ready.marked };
-          settings = record { encoding = wrote.settings.encoding; line_break = wrote.settings.line_break; limit = wrote.settings.limit };
-          handed = wrote.handed;
-          grew = wrote.grew;
-          all = λ _. record { no_error = whole.no_error; text = whole.text; cursor = ap change whole.cursor };
-          stopped = λ some. absurd (false≢true (subst (λ (o : Option yaml_error_t). IsSome o) whole.no_error some));
-        } in
+      answered = wrote.answered;
+      ready = record { begun = wrote.ready.begun; marked = wrote.ready.marked };
+      settings = record { encoding = wrote.settings.encoding; line_break = wrote.settings.line_break; limit = wrote.settings.limit };
+      handed = wrote.handed;
+      grew = wrote.grew;
+      all = λ _. record { no_error = whole.no_error; text = whole.text; cursor = ap change whole.cursor };
+      stopped = λ some. absurd (false≢true (subst (λ (o : Option yaml_error_t). IsSome o) whole.no_error some));
+    } in
     subst P (sym is) changed
 
 -- the cursor is changed before what is written
@@ -195,3 +196,55 @@ flushed_wrote {before} {after} {answer} ready flushed =
       all = λ none. record { no_error = (flushed.all none).0; text = text ∙ sym (append-nil before.text); cursor = ap (λ (p : Page). p.cursor) flushed.kept };
       stopped = λ some. flushed.stopped some ∙ ap (λ (c : Cursor). let p : Page = record before { cursor = c } in p) (sym (ap (λ (p : Page). p.cursor) flushed.kept));
     }
+
+-- two texts, one after another
+pub text_laid-append : (xs ys : Text) (cursor : Cursor) → then_laid (text_laid xs cursor) (text_laid ys) ≡ text_laid (xs ++ ys) cursor
+text_laid-append xs ys cursor =
+    ap (λ (n : ℕ). let l : Laid = record { text = xs ++ ys; cursor = record cursor { column = n } } in l) (sym (column_after-append xs ys cursor.column))
+
+pub wrote_text_then : {xs ys : Text} {before between after : Page} {answer : Result (Unit {0}) yaml_error_t}
+    → Wrote (text_laid xs) before between (Ok tt) → Wrote (text_laid ys) between after answer
+    → Wrote (text_laid (xs ++ ys)) before after answer
+wrote_text_then {xs} {ys} {before} one two = wrote_as (text_laid (xs ++ ys)) (text_laid-append xs ys before.cursor) (wrote_then one two)
+
+pub wrote_text_failed : {xs : Text} (ys : Text) {before after : Page} {error : yaml_error_t}
+    → Wrote (text_laid xs) before after (Err error)
+    → Wrote (text_laid (xs ++ ys)) before after (Err error)
+wrote_text_failed {xs} ys {before} one = wrote_as (text_laid (xs ++ ys)) (text_laid-append xs ys before.cursor) (wrote_failed (text_laid ys) one)
+
+-- no text is written where nothing is
+pub wrote_no_text : {before after : Page} {answer : Result (Unit {0}) yaml_error_t} → Wrote nothing_laid before after answer → Wrote (text_laid []) before after answer
+wrote_no_text wrote = wrote
+
+-- the exit of a `?` tells the error of the call that failed
+pub wrote_exit : {lay : Cursor → Laid} {before after : Page} {error : yaml_error_t} {answer : Result (Unit {0}) yaml_error_t}
+    → IsErr answer × IsErrAnd answer (λ told. told ≡ error) → Wrote lay before after (Err error) → Wrote lay before after answer
+wrote_exit {lay} {before} {after} {error} {answer} is wrote =
+    let p = err_from_is_err_and answer is.1 in
+    subst (λ (r : Result (Unit {0}) yaml_error_t). Wrote lay before after r) (sym (p.1 ∙ ap (λ (e : yaml_error_t). let r : Result (Unit {0}) yaml_error_t = Err e in r) p.2)) wrote
+
+-- a call that failed, where all that was to be written begins with its text
+pub wrote_cut : {lay : Cursor → Laid} (other : Cursor → Laid) (rest : Text) {before after : Page} {error : yaml_error_t}
+    → (other before.cursor).text ≡ (lay before.cursor).text ++ rest → Wrote lay before after (Err error) → Wrote other before after (Err error)
+wrote_cut {lay} other rest {before} {after} {error} is one =
+    let setting : LineBreak = before.line_break in
+    record {
+      answered = one.answered;
+      ready = one.ready;
+      settings = one.settings;
+      handed = one.handed;
+      grew = record {
+        front = one.grew.front;
+        rest = one.grew.rest ++ with_breaks_written setting rest;
+        parts = ap (with_breaks_written setting) is ∙ with_breaks_written-append setting (lay before.cursor).text rest
+            ∙ ap (λ l. l ++ with_breaks_written setting rest) one.grew.parts ∙ append_assoc one.grew.front one.grew.rest (with_breaks_written setting rest);
+        grown = one.grew.grown;
+      };
+      all = λ none. error_from_told after.error error one.answered none;
+      stopped = one.stopped;
+    }
+
+-- of a call that failed the named text alone counts
+pub wrote_failed_as : {lay : Cursor → Laid} (other : Cursor → Laid) {before after : Page} {error : yaml_error_t}
+    → (lay before.cursor).text ≡ (other before.cursor).text → Wrote lay before after (Err error) → Wrote other before after (Err error)
+wrote_failed_as {lay} other {before} same one = wrote_cut other [] (sym same ∙ sym (append-nil (lay before.cursor).text)) one

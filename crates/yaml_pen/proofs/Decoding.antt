@@ -1,14 +1,14 @@
 -- The bytes of a text decode to the text.
-use Rattle.std.proofs.Common.{◌≡◌, refl, sym, ◌∙◌, ap, ℕ, ◌+◌, ◌-◌, ◌*◌, ◌/◌, ◌%◌, ◌<◌, ◌≤◌, Bool, true, false, cond, ◌&&◌, ◌⊎◌, inl, inr, Option, Some, List, [], ◌∷◌, ◌++◌, nat_lt, nat_le, take, drop, encode_utf8, arith, append_assoc, lt-ltb, le-ltb, le-leb}
+use Rattle.std.proofs.Common.{◌≡◌, refl, sym, ◌∙◌, ap, ℕ, ◌+◌, ◌-◌, ◌*◌, ◌/◌, ◌%◌, ◌<◌, ◌≤◌, true, false, cond, ◌&&◌, inl, inr, Some, List, [], ◌∷◌, ◌++◌, nat_lt, nat_le, encode_utf8, arith, lt-ltb, le-ltb, le-leb}
 use Rattle.std.specs.Char.{IsScalar}
 use Rattle.std.specs.Str.{all_scalars, chars, encode_utf8_all}
 use Rattle.std.proofs.lemmas.Str.{chars-encodes}
 use Rattle.std.proofs.lemmas.Bool.{lt-leb, cases_lt, and_parts}
 use lib.Utf8.{scalar_cases}
-use Rattle.yaml_base.specs.Characters.{Text, byte_order_mark}
+use Rattle.yaml_base.specs.Characters.{Text}
 use Rattle.yaml_base.specs.Settings.{Encoding, utf8, utf16_little, utf16_big}
-use Rattle.yaml_base.specs.Encoding.{utf16_units, upper_first, lower_first, character_bytes, text_bytes, encode, mark}
-use Rattle.yaml_pen.specs.Decode.{units_upper_first, units_lower_first, text_of_units, text_of_bytes, decode}
+use Rattle.yaml_base.specs.Encoding.{utf16_units, upper_first, lower_first, text_bytes, encode}
+use Rattle.yaml_pen.specs.Decode.{units_upper_first, units_lower_first, text_of_units, decode}
 
 -- a text's code units
 abbrev units_of : Text → List ℕ
@@ -53,8 +53,8 @@ text_bytes-utf8 (c ∷ rest) = ap (λ l. encode_utf8 c ++ l) (text_bytes-utf8 re
 not_a_surrogate : (c : ℕ) → IsScalar c → (nat_le 0xD800 c && nat_lt c 0xDC00) ≡ false
 not_a_surrogate c s =
     elim (scalar_cases c s) as (λ _. (nat_le 0xD800 c && nat_lt c 0xDC00) ≡ false) [
-      inl low ↦ rw (lt-leb 0xD800 c low)
-    | inr high ↦ rw (le-leb 0xD800 c (omega arith), le-ltb c 0xDC00 (omega arith))
+      | inl low ↦ rw (lt-leb 0xD800 c low)
+      | inr high ↦ rw (le-leb 0xD800 c (omega arith), le-ltb c 0xDC00 (omega arith))
     ]
 
 lone : (c : ℕ) (units : List ℕ) → IsScalar c → text_of_units (c ∷ units) ≡ c ∷ text_of_units units
@@ -77,8 +77,8 @@ pair c units s above =
 text_of_units-utf16_units : (c : ℕ) (units : List ℕ) → IsScalar c → text_of_units (utf16_units c ++ units) ≡ c ∷ text_of_units units
 text_of_units-utf16_units c units s =
     elim (cases_lt c 0x10000) as (λ _. text_of_units (utf16_units c ++ units) ≡ c ∷ text_of_units units) [
-      inl low ↦ rw (lt-ltb c 0x10000 low) (lone c units s)
-    | inr high ↦ rw (le-ltb c 0x10000 high) (pair c units s high)
+      | inl low ↦ rw (lt-ltb c 0x10000 low) (lone c units s)
+      | inr high ↦ rw (le-ltb c 0x10000 high) (pair c units s high)
     ]
 
 text_of_units-units_of : (text : Text) → all_scalars text ≡ true → text_of_units (units_of text) ≡ text

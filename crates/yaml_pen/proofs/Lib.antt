@@ -3,3 +3,5 @@ pub mod Adding
 pub mod Starting
 pub mod Writing
 pub mod Composing
+pub mod Fronts
+pub mod NewLines

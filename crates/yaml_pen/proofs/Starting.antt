@@ -1,6 +1,6 @@
 -- A pen that wrote no byte has no text.
-use Rattle.std.proofs.Common.{◌≡◌, refl, sym, ◌∙◌, ap, ℕ, true, false, Bool, Option, None, Some, List, [], ◌∷◌, ◌++◌, min, unwrap_or, if◌then◌else◌}
-use Rattle.std.specs.Str.{all_scalars, chars}
+use Rattle.std.proofs.Common.{◌≡◌, refl, sym, ◌∙◌, ap, ℕ, true, false, Bool, Option, None, Some, List, [], min, unwrap_or, if◌then◌else◌}
+use Rattle.std.specs.Str.{all_scalars}
 use Rattle.std.proofs.lemmas.Str.{chars-nil}
 use Rattle.std.proofs.lemmas.Bool.{false≢true}
 use Rattle.yaml_base.specs.Characters.{Text, byte_order_mark}
@@ -10,7 +10,7 @@ use Rattle.yaml_base.specs.Cursor.{column_after}
 use Rattle.yaml_base.specs.Seen.{seen_encoding, seen_break}
 use Rattle.yaml_base.specs.declared.encodings.yaml_encoding_t.{yaml_encoding_t}
 use Rattle.yaml_base.specs.declared.encodings.yaml_break_t.{yaml_break_t}
-use Rattle.yaml_pen.specs.Page.{Page, IsUntouched, IsHandedOut, written_bytes, has_mark}
+use Rattle.yaml_pen.specs.Page.{Page, IsHandedOut, has_mark}
 use Rattle.yaml_pen.specs.Outlet.{Bytes, IsSound}
 use Rattle.yaml_pen.specs.Pen.{page_of, IsPen}
 use Rattle.yaml_pen.specs.Decode.{decode}
@@ -43,8 +43,8 @@ IsPen-begun encoding old line_break bytes whitespace indention column due empty 
     let before = decode-empty (seen_encoding old) bytes.all empty in
     record {
       bytes = empty ∙ sym (ap (λ d. if d then [] else encode (seen_encoding encoding) (decode (seen_encoding encoding) bytes.all)) is_due
-        ∙ ap (λ t. if has_mark (seen_encoding encoding) then [] else encode (seen_encoding encoding) t) text
-        ∙ nothing_begun (seen_encoding encoding));
+          ∙ ap (λ t. if has_mark (seen_encoding encoding) then [] else encode (seen_encoding encoding) t) text
+          ∙ nothing_begun (seen_encoding encoding));
       scalars = ap all_scalars text;
       column = stored ∙ ap (λ t. min (column_after t 0) 4294967295) (before ∙ sym text);
       handed = handed;
@@ -57,15 +57,15 @@ pub page-begun : (encoding old : yaml_encoding_t) (line_break old_break : yaml_b
     → bytes.all ≡ [] → due ≡ has_mark (seen_encoding encoding)
     → page_of old old_due old_break bytes whitespace indention ≡ page
     → page_of encoding due line_break bytes whitespace indention
-      ≡ record page { encoding = seen_encoding encoding; mark_due = has_mark (seen_encoding encoding); line_break = unwrap_or (seen_break line_break) line_feed_break }
+    ≡ record page { encoding = seen_encoding encoding; mark_due = has_mark (seen_encoding encoding); line_break = unwrap_or (seen_break line_break) line_feed_break }
 page-begun encoding old line_break old_break bytes whitespace indention due old_due page empty is_due viewed =
     let text : decode (seen_encoding encoding) bytes.all ≡ decode (seen_encoding old) bytes.all =
-          decode-empty (seen_encoding encoding) bytes.all empty ∙ sym (decode-empty (seen_encoding old) bytes.all empty) in
+    decode-empty (seen_encoding encoding) bytes.all empty ∙ sym (decode-empty (seen_encoding old) bytes.all empty) in
     let changed : Page → Page = λ (p : Page). record p {
-          encoding = seen_encoding encoding;
-          mark_due = has_mark (seen_encoding encoding);
-          line_break = unwrap_or (seen_break line_break) line_feed_break;
-        } in
+      encoding = seen_encoding encoding;
+      mark_due = has_mark (seen_encoding encoding);
+      line_break = unwrap_or (seen_break line_break) line_feed_break;
+    } in
     ap (λ t. record {
       encoding = seen_encoding encoding;
       mark_due = due;
@@ -140,7 +140,7 @@ page-marked e encoding line_break bytes after whitespace indention due column pa
     let marks : has_mark (Some e) ≡ true = ap has_mark (sym seen) ∙ pen.marks is_due in
     let all : after.all ≡ character_bytes e byte_order_mark = ap (λ (b : Bytes). b.all) is in
     let text : decode (seen_encoding encoding) after.all ≡ decode (seen_encoding encoding) bytes.all =
-          ap (λ s. decode s after.all) seen ∙ ap (decode (Some e)) all ∙ mark-decoded e marks ∙ sym (decode-empty (seen_encoding encoding) bytes.all empty) in
+    ap (λ s. decode s after.all) seen ∙ ap (decode (Some e)) all ∙ mark-decoded e marks ∙ sym (decode-empty (seen_encoding encoding) bytes.all empty) in
     let unmarked : Page → Page = λ (p : Page). record p { mark_due = false } in
     ap (λ (b : Bytes). page_with encoding line_break b (decode (seen_encoding encoding) after.all) whitespace indention) is
     ∙ ap (λ t. page_with encoding line_break bytes t whitespace indention) text

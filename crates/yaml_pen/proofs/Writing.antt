@@ -1,19 +1,19 @@
 -- What it does to a pen that its bytes grow by those of a text.
-use Rattle.std.proofs.Common.{◌≡◌, refl, sym, ◌∙◌, ap, ℕ, ◌==◌, true, false, Bool, Option, None, Some, Result, Ok, Err, List, [], ◌∷◌, ◌++◌, IsSome, min, unwrap_or, if◌then◌else◌, arith, append-nil, subst}
+use Rattle.std.proofs.Common.{◌≡◌, refl, sym, ◌∙◌, ap, ℕ, ◌==◌, true, false, Bool, Option, None, Some, Ok, List, [], ◌∷◌, ◌++◌, IsSome, min, unwrap_or, if◌then◌else◌, append-nil, subst}
 use Rattle.std.specs.Str.{all_scalars}
 use Rattle.std.specs.Char.{IsScalar}
 use Rattle.std.proofs.lemmas.Bool.{false≢true, and_from}
 use Rattle.yaml_base.specs.Characters.{Text, line_feed}
 use Rattle.yaml_base.specs.Settings.{Encoding, LineBreak, carriage_return_break, line_feed_break, both_break}
 use Rattle.yaml_base.specs.Encoding.{encode, character_bytes, text_bytes}
-use Rattle.yaml_base.specs.LineBreaks.{with_breaks_written, break_text}
+use Rattle.yaml_base.specs.LineBreaks.{break_text}
 use Rattle.yaml_base.specs.Cursor.{Cursor, Laid, column_after, next_column, text_laid}
 use Rattle.yaml_base.specs.Seen.{seen_encoding, seen_break}
 use Rattle.yaml_base.specs.declared.encodings.yaml_encoding_t.{yaml_encoding_t}
 use Rattle.yaml_base.specs.declared.encodings.yaml_break_t.{yaml_break_t}
 use Rattle.yaml_base.specs.declared.errors.yaml_error_t.{yaml_error_t}
-use Rattle.yaml_pen.specs.Page.{Page, IsReady, IsHandedOut, encoded, told}
-use Rattle.yaml_pen.specs.Wrote.{Wrote, WroteAll, Grew, KeepsSettings, named_text}
+use Rattle.yaml_pen.specs.Page.{Page, IsReady, IsHandedOut, told}
+use Rattle.yaml_pen.specs.Wrote.{Wrote, named_text}
 use Rattle.yaml_pen.specs.Outlet.{Bytes, IsSound, Appended}
 use Rattle.yaml_pen.specs.Pen.{page_of, IsPen}
 use Rattle.yaml_pen.specs.Decode.{decode}
@@ -113,12 +113,12 @@ Wrote-page e raw encoding line_break before after whitespace indention due colum
       handed = subst (λ (b : List ℕ). IsHandedOut b after.output after.limit after.error) bytes adds.sound;
       grew = record { front = raw; rest = []; parts = names.text ∙ sym (append-nil raw); grown = text };
       all = λ _. record {
-          no_error = adds.no_error;
-          text = text ∙ ap (λ l. decode (seen_encoding encoding) before.all ++ l) (sym names.text);
-          cursor = ap (λ (n : ℕ). let c : Cursor = record { column = n; whitespace = whitespace; indention = indention } in c)
-              (ap (λ t. column_after t 0) text ∙ column_after-append (decode (seen_encoding encoding) before.all) raw 0)
+        no_error = adds.no_error;
+        text = text ∙ ap (λ l. decode (seen_encoding encoding) before.all ++ l) (sym names.text);
+        cursor = ap (λ (n : ℕ). let c : Cursor = record { column = n; whitespace = whitespace; indention = indention } in c)
+            (ap (λ t. column_after t 0) text ∙ column_after-append (decode (seen_encoding encoding) before.all) raw 0)
             ∙ sym names.cursor;
-        };
+      };
       stopped = λ some. absurd (false≢true (subst (λ (o : Option yaml_error_t). IsSome o) adds.no_error some));
     }
 

@@ -1,5 +1,5 @@
 -- The text of bytes that a pen wrote: what a pen holds is bytes alone.
-use Rattle.std.specs.Prelude.{◌≡◌, ℕ, Bool, true, false, Option, None, Some, List, [], ◌∷◌, ◌+◌, ◌-◌, ◌*◌, ◌≤◌, nat_le, nat_lt, ◌&&◌, drop, if◌then◌else◌}
+use Rattle.std.specs.Prelude.{ℕ, Option, None, Some, List, [], ◌∷◌, ◌+◌, ◌-◌, ◌*◌, nat_le, nat_lt, ◌&&◌, drop, if◌then◌else◌}
 use Rattle.std.specs.Str.{chars}
 use Rattle.yaml_base.specs.Characters.{Text}
 use Rattle.yaml_base.specs.Settings.{Encoding, utf8, utf16_little, utf16_big}

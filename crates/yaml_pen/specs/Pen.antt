@@ -1,5 +1,5 @@
 -- What a pen's fields come to.
-use Rattle.std.specs.Prelude.{◌≡◌, ℕ, Bool, true, Option, None, List, unwrap_or, min}
+use Rattle.std.specs.Prelude.{◌≡◌, ℕ, Bool, true, None, List, unwrap_or, min}
 use Rattle.std.specs.Str.{all_scalars}
 use Rattle.yaml_base.specs.Cursor.{column_after}
 use Rattle.yaml_base.specs.Settings.{line_feed_break}

@@ -1,11 +1,10 @@
 -- What a call that writes does to a pen.
-use Rattle.std.specs.Prelude.{◌≡◌, ℕ, ◌<◌, ◌≤◌, Bool, Option, None, Some, Result, Ok, Err, List, [], ◌++◌, IsSome, length}
+use Rattle.std.specs.Prelude.{◌≡◌, None, Some, Result, ◌++◌, IsSome}
 use Rattle.yaml_base.specs.Characters.{Text}
 use Rattle.yaml_base.specs.LineBreaks.{with_breaks_written}
 use Rattle.yaml_base.specs.Cursor.{Cursor, Laid}
-use Rattle.yaml_base.specs.Encoding.{cut}
 use Rattle.yaml_base.specs.declared.errors.yaml_error_t.{yaml_error_t}
-use Rattle.yaml_base.specs.declared.errors.yaml_error_t.TheVariants.{WriteError, Memory}
+use Rattle.yaml_base.specs.declared.errors.yaml_error_t.TheVariants.{Memory}
 use Rattle.yaml_pen.specs.Page.{Page, encoded, told, IsReady, IsHandedOut}
 
 -- the settings of a page stay

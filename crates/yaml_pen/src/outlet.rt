@@ -32,8 +32,8 @@ impl<A: Allocator> Model for Outlet<A> {
 
 impl<A: Allocator> Outlet<A> {
     pub(crate) fn new(alloc: A) -> Result<Outlet<A>, AllocError>
-
-    where A: Copy
+    where
+        A: Copy,
         ensures { IfOk result (λ o. o ≡ record { all = []; output = []; limit = usize.MAX; error = None }) }
     {
         let buffer = Box::new(alloc, ArrayVec::new()).map_err(|_| AllocError)?;
@@ -131,9 +131,13 @@ fn hand_out<A: Allocator>(
     }
     let room = limit - output.len();
     if buffer.len() <= room {
-        output.extend_from_slice(buffer).map_err(|_| yaml_error_t::Memory)
+        output
+            .extend_from_slice(buffer)
+            .map_err(|_| yaml_error_t::Memory)
     } else {
-        output.extend_from_slice(&buffer[..room]).map_err(|_| yaml_error_t::Memory)?;
+        output
+            .extend_from_slice(&buffer[..room])
+            .map_err(|_| yaml_error_t::Memory)?;
         Err(yaml_error_t::WriteError)
     }
 }

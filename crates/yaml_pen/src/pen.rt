@@ -1,14 +1,15 @@
 //! A pen writes text: it keeps the cursor, encodes, and hands its bytes out within a limit.
-ghost use Rattle.std.specs.Prelude.{◌≡◌, ℕ, ◌==◌, pos, ◌≤ℤ◌, ◌<◌, ◌++◌, [], ◌∷◌, false, true, min, not, Option, IsOk, IsSome, IfOk, Some, None, codes, unwrap_or};
+ghost use Rattle.std.specs.Prelude.{◌≡◌, ℕ, ◌==◌, ◌&&◌, pos, ◌≤ℤ◌, ◌<◌, ◌++◌, [], ◌∷◌, false, true, min, not, Option, IsOk, IsSome, IfOk, Some, None, codes, unwrap_or, replicate};
 ghost use Rattle.std.specs.Str.{chars};
 ghost use Rattle.std.specs.List.{list_any};
-ghost use Rattle.yaml_base.specs.Characters.{is_break, line_feed};
-ghost use Rattle.yaml_base.specs.Cursor.{next_column, text_laid, new_line, indicator};
+ghost use Rattle.yaml_base.specs.Characters.{is_break, line_feed, space};
+ghost use Rattle.yaml_base.specs.Cursor.{next_column, text_laid, nothing_laid, breaks_line, new_line, space_if, indicator};
 ghost use Rattle.yaml_base.specs.Settings.{line_feed_break};
 ghost use Rattle.yaml_base.specs.Encoding.{encode};
 ghost use Rattle.yaml_base.specs.Seen.{seen_encoding, seen_break};
 ghost use Rattle.yaml_pen.specs.Page.{Page, IsUntouched, IsReady, IsHandedOut, encoded, has_mark, new_page, natural};
 ghost use Rattle.yaml_pen.specs.Wrote.{Wrote, Flushed};
+ghost use Rattle.yaml_pen.specs.Lines.{line_break_laid, spaces_to};
 
 use crate::encoded::{encoded_break, encoded_character};
 use crate::outlet::Outlet;
@@ -43,7 +44,8 @@ impl<A: Allocator> Pen<A> {
     /// finds no room.
     #[tactic(auto, unfolding(crate::specs::Decode::decode))]
     pub fn new(alloc: A) -> Result<Pen<A>, yaml_error_t>
-    where A: Copy
+    where
+        A: Copy,
         ensures { IfOk result (λ pen. pen ≡ new_page usize.MAX) }
     {
         let outlet = Outlet::new(alloc).map_err(|_| yaml_error_t::Memory)?;
@@ -72,9 +74,9 @@ impl<A: Allocator> Pen<A> {
         requires encoding { IsSome (seen_encoding encoding) }
         requires line_break { IsSome (seen_break line_break) }
         ensures { self.new ≡ record self.old {
-            encoding = seen_encoding encoding;
-            mark_due = has_mark (seen_encoding encoding);
-            line_break = unwrap_or (seen_break line_break) line_feed_break;
+          encoding = seen_encoding encoding;
+          mark_due = has_mark (seen_encoding encoding);
+          line_break = unwrap_or (seen_break line_break) line_feed_break;
         } }
     {
         self.encoding = encoding;
@@ -196,6 +198,144 @@ impl<A: Allocator> Pen<A> {
         }
     }
 
+    /// Begins a new line at a column, counted in characters: breaks the line unless the cursor stands
+    /// before or at that column, free to go on, and writes spaces up to it.
+    pub fn write_indent(&mut self, indent: i32) -> Result<(), yaml_error_t>
+        requires ready { IsReady self.old }
+        requires not_negative { pos 0 ≤ℤ indent }
+        ensures written { Wrote (new_line (natural indent)) self.old self.new result }
+        ensures stays { IsSome self.old.error → self.new ≡ self.old }
+    {
+        self.begin_line(indent as u32)
+    }
+
+    /// Writes an indicator, a space before it where one is needed and none stands there; then white space
+    /// stands before the cursor where `whitespace` says so, and indentation goes on only where `indention`
+    /// says so.
+    pub fn write_indicator(
+        &mut self,
+        text: &str,
+        need_whitespace: bool,
+        whitespace: bool,
+        indention: bool,
+    ) -> Result<(), yaml_error_t>
+        requires ready { IsReady self.old }
+        requires no_break { list_any is_break (chars text.now) ≡ false }
+        ensures written { Wrote (indicator (chars text.now) need_whitespace whitespace indention) self.old self.new result }
+        ensures stays { IsSome self.old.error → self.new ≡ self.old }
+    {
+        self.separate(need_whitespace)?;
+        self.write_text(text)?;
+        self.set_flags(whitespace, indention);
+        Ok(())
+    }
+
+    fn set_flags(&mut self, whitespace: bool, indention: bool)
+        ensures { self.new ≡ record self.old {
+          cursor = record self.old.cursor {
+            whitespace = whitespace;
+            indention = self.old.cursor.indention && indention;
+          };
+        } }
+    {
+        self.whitespace = whitespace;
+        self.indention = self.indention && indention;
+    }
+
+    fn begin_line(&mut self, at: u32) -> Result<(), yaml_error_t>
+        requires ready { IsReady self.old }
+        requires below { at < 2147483648 }
+        ensures written { Wrote (new_line at) self.old self.new result }
+        ensures stays { IsSome self.old.error → self.new ≡ self.old }
+    {
+        self.break_line(at)?;
+        self.write_spaces_to(at)?;
+        self.set_whitespace(true);
+        self.set_indention(true);
+        Ok(())
+    }
+
+    // Breaks the line where a new line at this column needs it.
+    fn break_line(&mut self, at: u32) -> Result<(), yaml_error_t>
+        requires ready { IsReady self.old }
+        requires below { at < 2147483648 }
+        ensures written { Wrote (line_break_laid at) self.old self.new result }
+        ensures stays { IsSome self.old.error → self.new ≡ self.old }
+    {
+        if self.breaks_line(at) {
+            self.put_break()
+        } else {
+            self.go_on()
+        }
+    }
+
+    fn breaks_line(&self, at: u32) -> bool
+        requires { at < 2147483648 }
+        ensures { result ≡ breaks_line at self.now.cursor }
+    {
+        !self.indention || self.column > at || (self.column == at && !self.whitespace)
+    }
+
+    fn write_spaces_to(&mut self, at: u32) -> Result<(), yaml_error_t>
+        requires ready { IsReady self.old }
+        requires below { at < 2147483648 }
+        ensures written { Wrote (spaces_to at) self.old self.new result }
+        ensures stays { IsSome self.old.error → self.new ≡ self.old }
+    {
+        let missing = at.saturating_sub(self.column);
+        self.write_spaces(missing)
+    }
+
+    fn write_spaces(&mut self, count: u32) -> Result<(), yaml_error_t>
+        requires ready { IsReady self.old }
+        ensures written { Wrote (text_laid (replicate count space)) self.old self.new result }
+        ensures stays { IsSome self.old.error → self.new ≡ self.old }
+    {
+        self.go_on()?;
+        for written in 0..count {
+            self.write_character(' ')?;
+        }
+        Ok(())
+    }
+
+    // A space, where one is needed and none stands there.
+    fn separate(&mut self, need_whitespace: bool) -> Result<(), yaml_error_t>
+        requires ready { IsReady self.old }
+        ensures written { Wrote (λ cursor. text_laid (space_if need_whitespace cursor) cursor) self.old self.new result }
+        ensures stays { IsSome self.old.error → self.new ≡ self.old }
+    {
+        if need_whitespace && !self.whitespace {
+            self.write_character(' ')
+        } else {
+            self.go_on()
+        }
+    }
+
+    fn write_text(&mut self, text: &str) -> Result<(), yaml_error_t>
+        requires ready { IsReady self.old }
+        requires no_break { list_any is_break (chars text.now) ≡ false }
+        ensures written { Wrote (text_laid (chars text.now)) self.old self.new result }
+        ensures stays { IsSome self.old.error → self.new ≡ self.old }
+    {
+        self.go_on()?;
+        let mut characters = text.chars();
+        while let Some(character) = characters.next() {
+            self.write_character(character)?;
+        }
+        Ok(())
+    }
+
+    // Nothing is written, and the error of a pen that failed is told.
+    fn go_on(&self) -> Result<(), yaml_error_t>
+        requires { IsReady self.now }
+        ensures { Wrote nothing_laid self.now self.now result }
+    {
+        match self.error() {
+            Some(error) => Err(error),
+            None => Ok(()),
+        }
+    }
+
     fn write_character(&mut self, character: char) -> Result<(), yaml_error_t>
         requires ready { IsReady self.old }
         requires not_line_feed { (character == line_feed) ≡ false }
@@ -222,5 +362,9 @@ fn has_mark(encoding: yaml_encoding_t) -> bool
 fn next_column(character: char, column: u32) -> u32
     ensures { (unbounded : ℕ) → column ≡ min unbounded 4294967295 → result ≡ min (next_column character unbounded) 4294967295 }
 {
-    if is_break(character) { 0 } else { column.saturating_add(1) }
+    if is_break(character) {
+        0
+    } else {
+        column.saturating_add(1)
+    }
 }

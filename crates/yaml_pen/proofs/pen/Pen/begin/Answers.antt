@@ -12,4 +12,4 @@ pub returns : goal.returns
 returns g c =
     let untouched = subst IsUntouched (sym c.self.view_is) c.requires.untouched in
     page-begun c.args.encoding c.self.inside.encoding c.args.line_break c.self.inside.line_break c.self.inside.outlet c.self.inside.whitespace c.self.inside.indention
-      c.has_mark-self-inside.result c.self.inside.mark_due c.args.self.now (c.self.invariant.bytes ∙ untouched.no_bytes) c.has_mark-self-inside.ensures c.self.view_is
+    c.has_mark-self-inside.result c.self.inside.mark_due c.args.self.now (c.self.invariant.bytes ∙ untouched.no_bytes) c.has_mark-self-inside.ensures c.self.view_is

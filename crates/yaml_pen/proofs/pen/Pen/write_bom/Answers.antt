@@ -1,4 +1,4 @@
-use Rattle.std.proofs.Common.{sym, ◌∙◌, ap, List, ℕ}
+use Rattle.std.proofs.Common.{◌∙◌, ap, List, ℕ}
 use Rattle.yaml_pen.specs.Page.{Page}
 use Rattle.yaml_pen.specs.Outlet.{Bytes}
 use Rattle.yaml_pen.proofs.Starting.{IsPen-marked, page-marked, some_encoding}
@@ -11,7 +11,7 @@ invariant_of-self g c =
     let marked = c.as_slice.ensures.value ∙ c.encoded_character-mark.ensures e.0 e.1 in
     let after = c.begin.ensures.bytes ∙ ap (λ (l : List ℕ). let b : Bytes = record c.self.inside.outlet { all = l } in b) marked in
     IsPen-marked e.0 c.self.inside.encoding c.self.inside.line_break c.self.inside.outlet c.begin.new.self c.self.inside.whitespace c.self.inside.indention
-      c.self.inside.mark_due c.self.inside.column c.self.invariant due e.1 after c.begin.ensures.sound
+    c.self.inside.mark_due c.self.inside.column c.self.invariant due e.1 after c.begin.ensures.sound
 
 pub returns-clause-page : goal.returns-clause-page
 returns-clause-page g c =
@@ -20,4 +20,4 @@ returns-clause-page g c =
     let marked = c.as_slice.ensures.value ∙ c.encoded_character-mark.ensures e.0 e.1 in
     let after = c.begin.ensures.bytes ∙ ap (λ (l : List ℕ). let b : Bytes = record c.self.inside.outlet { all = l } in b) marked in
     page-marked e.0 c.self.inside.encoding c.self.inside.line_break c.self.inside.outlet c.begin.new.self c.self.inside.whitespace c.self.inside.indention
-      c.self.inside.mark_due c.self.inside.column c.args.self.now c.self.invariant due e.1 after c.self.view_is
+    c.self.inside.mark_due c.self.inside.column c.args.self.now c.self.invariant due e.1 after c.self.view_is

@@ -1,0 +1,23 @@
+use Rattle.std.proofs.Common.{◌≡◌, ◌∙◌, ap, sym, ◌++◌, ◌+◌, ◌-◌, ◌∷◌, [], replicate, arith, subst, List, ℕ, Ok}
+use Rattle.std.proofs.lemmas.List.{replicate_more, replicate-append-replicate}
+use Rattle.yaml_base.specs.Characters.{space}
+use Rattle.yaml_base.specs.Cursor.{text_laid}
+use Rattle.yaml_pen.specs.Wrote.{Wrote}
+use Rattle.yaml_pen.proofs.Composing.{wrote_exit, wrote_cut, wrote_text_then}
+use Rattle.yaml_pen.proofs.pen.Pen.write_spaces.Goals as goal
+
+pub returns-in_err-write_character-clause-written : goal.returns-in_err-write_character-clause-written
+returns-in_err-write_character-clause-written g c =
+    let written = c.loop-written.written in
+    let more : replicate c.args.count space ≡ (replicate written space ++ space ∷ []) ++ replicate (c.args.count - (written + 1)) space =
+    sym (ap (λ l. l ++ replicate (c.args.count - (written + 1)) space) (replicate_more written space)
+    ∙ replicate-append-replicate (written + 1) (c.args.count - (written + 1)) space
+    ∙ ap (λ n. replicate n space) (omega arith)) in
+    wrote_exit c.from_residual-in_err-write_character.ensures
+    (wrote_cut (text_laid (replicate c.args.count space)) (replicate (c.args.count - (written + 1)) space) more
+    (wrote_text_then c.loop-written.invariant c.in_err-write_character.ensures.written))
+
+pub loop-written-preserved : goal.loop-written-preserved
+loop-written-preserved g c =
+    subst (λ (l : List ℕ). Wrote (text_laid l) c.args.self.now c.write_character.new.self (Ok tt)) (replicate_more c.loop-written.written space)
+    (wrote_text_then c.loop-written.invariant c.in_ok-write_character.ensures.written)

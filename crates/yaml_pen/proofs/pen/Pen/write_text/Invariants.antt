@@ -1,0 +1,12 @@
+use Rattle.std.specs.Str.{chars, IsUtf8}
+use Rattle.std.specs.Str.Iter.{chars_rest}
+use Rattle.std.proofs.Common.{length}
+use Rattle.yaml_pen.proofs.Fronts.{WroteFront}
+use Rattle.yaml_pen.proofs.pen.Pen.write_text.Given as goal
+
+abbrev pub invariant-loop-character : goal.invariant-loop-character
+invariant-loop-character g l =
+    WroteFront (chars l.fn.text) (chars (chars_rest l.characters)) l.initial.self l.self × IsUtf8 (chars_rest l.characters)
+
+abbrev pub decreases-loop-character : goal.decreases-loop-character
+decreases-loop-character g l = length (chars_rest l.characters)
