@@ -1,2 +1,3 @@
 pub mod ScalarData
 pub mod Width
+pub mod ReadsBack

@@ -2,6 +2,7 @@
 #![tactic(auto)]
 
 mod analysis;
+mod steps;
 mod style;
 mod width;
 

@@ -1,0 +1,29 @@
+//! Steps that the writers of scalars share.
+ghost use Rattle.std.specs.Prelude.{◌≡◌};
+ghost use Rattle.yaml_base.specs.Cursor.{is_past_width, nothing_laid};
+ghost use Rattle.yaml_pen.specs.Page.{IsReady};
+ghost use Rattle.yaml_pen.specs.Wrote.{Wrote};
+ghost use Rattle.yaml_scalar.specs.Width.{limit_where};
+
+use crate::width;
+use std::alloc::Allocator;
+use yaml_base::yaml_error_t;
+use yaml_pen::Pen;
+
+/// The column is past the width, and folds are allowed.
+pub(crate) fn may_fold_here<A: Allocator>(pen: &Pen<A>, allow_breaks: bool, width: i32) -> bool
+    ensures { result ≡ is_past_width (limit_where allow_breaks width) pen.now.cursor }
+{
+    allow_breaks && width::is_past_width(pen, width)
+}
+
+/// Nothing is written; the error of a pen that failed is told.
+pub(crate) fn go_on<A: Allocator>(pen: &Pen<A>) -> Result<(), yaml_error_t>
+    requires { IsReady pen.now }
+    ensures { Wrote nothing_laid pen.now pen.now result }
+{
+    match pen.error() {
+        Some(error) => Err(error),
+        None => Ok(()),
+    }
+}
