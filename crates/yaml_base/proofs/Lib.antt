@@ -1,3 +1,5 @@
+pub mod Accepted
+pub mod OpenCounts
 pub mod ReadyLaws
 pub mod PieceLaws
 pub mod Completions

@@ -1,6 +1,6 @@
 -- Which event is refused after which list, and with what fault (libyaml's own rules; YAML 1.1, section 6.8, for
 -- directives, anchors and tags).
-use Rattle.std.specs.Prelude.{◌≡◌, ℕ, ◌-◌, ◌≤◌, Bool, true, false, Option, None, Some, List, [], ◌++◌, ◌||◌, ◌&&◌, not, nat_lt, length, count_by, is_some, is_none, option_and_then, if◌then◌else◌, IsTrue}
+use Rattle.std.specs.Prelude.{◌≡◌, ◌↔◌, ℕ, ◌-◌, ◌≤◌, Bool, true, false, Option, None, Some, List, [], ◌∷◌, ◌++◌, ◌||◌, ◌&&◌, not, nat_lt, length, count_by, is_some, is_none, option_and_then, if◌then◌else◌}
 use Rattle.std.specs.Option.{option_or}
 use Rattle.std.specs.List.{list_all}
 use Rattle.yaml_base.specs.Characters.{Text}
@@ -126,5 +126,16 @@ open_count events = count_by begins_collection events - count_by ends_collection
 pub record IsAccepted (canonical : Bool) (events : List Event) : Type 0 where
   pub stream : Stream
   pub is_stream : stream_events stream ≡ events
-  pub sound : IsTrue (list_all (is_sound canonical) events)
+  pub sound : list_all (is_sound canonical) events ≡ true
   pub shallow : (front rest : List Event) → front ++ rest ≡ events → open_count front ≤ most_open
+
+-- some accepted list begins with these events
+pub record BeginsAccepted (canonical : Bool) (events : List Event) : Type 0 where
+  pub rest : List Event
+  pub accepted : IsAccepted canonical (events ++ rest)
+
+-- after events that begin an accepted list, an event is refused exactly where no accepted list goes on with it
+abbrev pub RefusedExactly : Type 0
+RefusedExactly =
+    (canonical : Bool) (before : List Event) (event : Event) → BeginsAccepted canonical before
+    → (refusal canonical before event ≡ None) ↔ BeginsAccepted canonical (before ++ event ∷ [])

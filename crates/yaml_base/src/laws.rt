@@ -3,6 +3,7 @@ ghost use Rattle.yaml_base.specs.Grammar.{OneTree};
 ghost use Rattle.yaml_base.specs.Layout.{OnePieceEach};
 ghost use Rattle.yaml_base.specs.Pieces.{PiecesStand};
 ghost use Rattle.yaml_base.specs.Ready.{ReadyStays};
+ghost use Rattle.yaml_base.specs.Refusal.{RefusedExactly};
 
 /// A list of events is the events of at most one tree.
 pub fn list_has_one_tree()
@@ -26,5 +27,11 @@ pub fn pieces_stand()
 /// An event that is ready stays ready as the list grows.
 pub fn ready_events_stay_ready()
     ensures { ReadyStays }
+{
+}
+
+/// After events that begin an accepted list, the next event is refused exactly where no accepted list goes on with it.
+pub fn refused_exactly()
+    ensures { RefusedExactly }
 {
 }

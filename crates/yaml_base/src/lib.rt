@@ -25,7 +25,9 @@ pub use events::yaml_event_t::{
     YAML_MAPPING_START_EVENT, YAML_SCALAR_EVENT, YAML_SEQUENCE_END_EVENT,
     YAML_SEQUENCE_START_EVENT, YAML_STREAM_END_EVENT, YAML_STREAM_START_EVENT,
 };
-pub use laws::{layout_has_one_piece_each, list_has_one_tree, pieces_stand, ready_events_stay_ready};
+pub use laws::{
+    layout_has_one_piece_each, list_has_one_tree, pieces_stand, ready_events_stay_ready, refused_exactly,
+};
 pub use nodes::{yaml_node_data_t, yaml_node_pair_t, yaml_node_t};
 pub use styles::yaml_mapping_style_t::{
     YAML_ANY_MAPPING_STYLE, YAML_BLOCK_MAPPING_STYLE, YAML_FLOW_MAPPING_STYLE,
