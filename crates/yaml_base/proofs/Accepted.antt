@@ -1,15 +1,14 @@
 -- An event is refused exactly where no accepted list goes on with it.
 use Rattle.std.proofs.Common.{◌≡◌, refl, sym, ap, ◌∙◌, arith, append_assoc, append-nil}
-use Rattle.std.proofs.lemmas.List.{append_cancel_left}
 use Rattle.std.proofs.lemmas.List.Sums.{sum_by-append}
 use Rattle.std.proofs.lemmas.List.Folds.{list_all-append}
 use Rattle.std.proofs.lemmas.Bool.{ltb-true, lt-ltb}
 use Rattle.std.specs.Option.{option_or}
 use Rattle.std.specs.List.{list_all}
-use Rattle.std.specs.Prelude.{ℕ, suc, ◌+◌, ◌-◌, ◌≤◌, ◌<◌, ◌⊎◌, ◌↔◌, Bool, true, false, cond, not, ◌&&◌, nat_lt, Option, None, Some, List, [], ◌∷◌, ◌++◌, length, count_by, is_none, option_and_then, flat_map}
-use Rattle.yaml_base.specs.Event.{Event, stream_start, stream_end, document_start, document_end, alias, scalar, sequence_start, sequence_end, mapping_start, mapping_end}
-use Rattle.yaml_base.specs.Grammar.{Stream, stream_events, Nodes, no_nodes, nodes_and, no_pairs, pairs_and, Level, at_item, at_key, at_value, Partial, before_stream, between_documents, within_document, after_root, after_stream, push, pushed, partial_of}
-use Rattle.yaml_base.specs.Refusal.{fault_if, too_deep, name_or_tag_fault, content_fault, expected, place_fault, most_open, begins_collection, ends_collection, open_levels, depth_fault, refusal_at, refusal, is_sound, open_count, IsAccepted, BeginsAccepted, RefusedExactly}
+use Rattle.std.specs.Prelude.{ℕ, ◌+◌, ◌≤◌, ◌<◌, Bool, true, false, cond, not, ◌&&◌, nat_lt, Option, None, Some, List, [], ◌∷◌, ◌++◌, length, count_by, is_none, option_and_then, flat_map}
+use Rattle.yaml_base.specs.Event.{Event, stream_end, document_end, sequence_start, sequence_end, mapping_start, mapping_end}
+use Rattle.yaml_base.specs.Grammar.{no_nodes, nodes_and, no_pairs, pairs_and, Level, at_item, at_key, at_value, Partial, before_stream, between_documents, within_document, after_root, after_stream, push, pushed, partial_of}
+use Rattle.yaml_base.specs.Refusal.{fault_if, too_deep, name_or_tag_fault, content_fault, expected, place_fault, most_open, begins_collection, ends_collection, open_levels, depth_fault, refusal_at, refusal, is_sound, open_count, BeginsAccepted, RefusedExactly}
 use Rattle.yaml_base.specs.Pieces.{empty_scalar, innermost_missing, outer_missing, levels_missing, missing, missing_after, completion}
 use Rattle.yaml_base.proofs.Trees.{stream_pushed}
 use Rattle.yaml_base.proofs.Pushes.{partial_of_events}
@@ -46,10 +45,10 @@ stands_from_begins canonical events given =
     let whole : partial_of (events ++ rest) ≡ Some (after_stream given.accepted.stream) = ap partial_of (sym given.accepted.is_stream) ∙ stream_pushed given.accepted.stream in
     let begun = front_begins events rest (after_stream given.accepted.stream) whole in
     record {
-        partial = begun.0;
-        is_partial = begun.1;
-        sound = and_left (list_all (is_sound canonical) events) (list_all (is_sound canonical) rest) (sym (list_all-append (is_sound canonical) events rest) ∙ given.accepted.sound);
-        shallow = (λ front more is. given.accepted.shallow front (more ++ rest) (sym (append_assoc front more rest) ∙ ap (λ events. events ++ rest) is));
+      partial = begun.0;
+      is_partial = begun.1;
+      sound = and_left (list_all (is_sound canonical) events) (list_all (is_sound canonical) rest) (sym (list_all-append (is_sound canonical) events rest) ∙ given.accepted.sound);
+      shallow = (λ front more is. given.accepted.shallow front (more ++ rest) (sym (append_assoc front more rest) ∙ ap (λ events. events ++ rest) is));
     }
 
 -- Missing events are sound and begin no collection.
@@ -60,8 +59,8 @@ record Easy (canonical : Bool) (events : List Event) : Type 0 where
 easy_both : (canonical : Bool) (a b : List Event) → Easy canonical a → Easy canonical b → Easy canonical (a ++ b)
 easy_both canonical a b h k =
     record {
-        sound = list_all-append (is_sound canonical) a b ∙ and_both (list_all (is_sound canonical) a) (list_all (is_sound canonical) b) h.sound k.sound;
-        none = omega (arith, sum_by-append (λ x. cond (begins_collection x) 1 0) a b, h.none, k.none);
+      sound = list_all-append (is_sound canonical) a b ∙ and_both (list_all (is_sound canonical) a) (list_all (is_sound canonical) b) h.sound k.sound;
+      none = omega (arith, sum_by-append (λ x. cond (begins_collection x) 1 0) a b, h.none, k.none);
     }
 
 outer_easy : (canonical : Bool) (outer : List Level) → Easy canonical (flat_map outer_missing outer)
@@ -128,7 +127,7 @@ shallow_cut events more front rest shallow few (within x is) = shallow front x i
 shallow_cut events more front rest shallow few (past x is others) =
     let counted : starts x + starts rest ≡ starts more = sym (starts-append x rest) ∙ ap starts others in
     let bound : (m : ℕ) → open_count events + starts more ≤ m → open_count (events ++ x) ≤ m =
-        (λ m h. omega (arith, starts-append events x, stops-append events x, counted)) in
+    (λ m h. omega (arith, starts-append events x, stops-append events x, counted)) in
     let all : open_count (events ++ x) ≤ most_open = bound most_open few in
     rw is all
 
@@ -145,14 +144,14 @@ begins_from_stands canonical events stands =
     let all : open_count events ≤ most_open = stands.shallow events [] (append-nil events) in
     let bound : (m : ℕ) → open_count events ≤ m → open_count events + starts (missing p) ≤ m = (λ m h. omega (arith, easy.none)) in
     record {
-        rest = missing p;
-        accepted =
-            record {
-                stream = stream_completed p;
-                is_stream = partial_of_events (completion events) (after_stream (stream_completed p)) (completion_pushed events p stands.is_partial) ∙ same;
-                sound = list_all-append (is_sound canonical) events (missing p) ∙ and_both (list_all (is_sound canonical) events) (list_all (is_sound canonical) (missing p)) stands.sound easy.sound;
-                shallow = shallow_more events (missing p) stands.shallow (bound most_open all);
-            };
+      rest = missing p;
+      accepted =
+          record {
+            stream = stream_completed p;
+            is_stream = partial_of_events (completion events) (after_stream (stream_completed p)) (completion_pushed events p stands.is_partial) ∙ same;
+            sound = list_all-append (is_sound canonical) events (missing p) ∙ and_both (list_all (is_sound canonical) events) (list_all (is_sound canonical) (missing p)) stands.sound easy.sound;
+            shallow = shallow_more events (missing p) stands.shallow (bound most_open all);
+          };
     }
 
 or_none : (a b : Option ℕ) → a ≡ None → b ≡ None → option_or a b ≡ None
@@ -219,13 +218,13 @@ next_stands canonical before event given accepted =
     let sound_event : is_sound canonical event ≡ true = ap is_none (or_none names content names_none content_none) in
     let pushes : (q : Partial) × (push p event ≡ Some q) = is_some_value (push p event) (no_fault (is_none (push p event)) (expected p) place_none) in
     let room : begins_collection event ≡ true → length (open_levels p) < most_open =
-        (λ begins. ltb-true (length (open_levels p)) most_open (has_room (begins_collection event) (nat_lt (length (open_levels p)) most_open) (no_fault wrong_depth too_deep depth_none) begins)) in
+    (λ begins. ltb-true (length (open_levels p)) most_open (has_room (begins_collection event) (nat_lt (length (open_levels p)) most_open) (no_fault wrong_depth too_deep depth_none) begins)) in
     let all : open_count before ≤ most_open = given.shallow before [] (append-nil before) in
     record {
-        partial = pushes.0;
-        is_partial = pushed_next before event p given.is_partial ∙ ap (λ o. option_and_then (λ next. Some next) o) pushes.1;
-        sound = list_all-append (is_sound canonical) before (event ∷ []) ∙ and_both (list_all (is_sound canonical) before) (list_all (is_sound canonical) (event ∷ [])) given.sound (and_both (is_sound canonical event) true sound_event refl);
-        shallow = shallow_more before (event ∷ []) given.shallow (few_starts before event most_open (length (open_levels p)) (begins_collection event) refl (open_count-levels before p given.is_partial) all room);
+      partial = pushes.0;
+      is_partial = pushed_next before event p given.is_partial ∙ ap (λ o. option_and_then (λ next. Some next) o) pushes.1;
+      sound = list_all-append (is_sound canonical) before (event ∷ []) ∙ and_both (list_all (is_sound canonical) before) (list_all (is_sound canonical) (event ∷ [])) given.sound (and_both (is_sound canonical event) true sound_event refl);
+      shallow = shallow_more before (event ∷ []) given.shallow (few_starts before event most_open (length (open_levels p)) (begins_collection event) refl (open_count-levels before p given.is_partial) all room);
     }
 
 begins_no_end : (event : Event) → begins_collection event ≡ true → stops (event ∷ []) ≡ 0
@@ -253,15 +252,16 @@ not_refused canonical before event given next =
     let stands_at : is_none (push p event) ≡ false = some_pushed (push p event) next.partial (sym (pushed_next before event p given.is_partial) ∙ next.is_partial) in
     let all : open_count (before ++ event ∷ []) ≤ most_open = next.shallow (before ++ event ∷ []) [] (append-nil (before ++ event ∷ [])) in
     let deep : begins_collection event && not room ≡ false =
-        room_if (begins_collection event) room
-            (λ begins. lt-ltb (length (open_levels p)) most_open (room_left before event most_open (length (open_levels p)) (omega arith) (open_count-levels before p given.is_partial) all begins)) in
+    room_if (begins_collection event) room
+    (λ begins. lt-ltb (length (open_levels p)) most_open (room_left before event most_open (length (open_levels p)) (omega arith) (open_count-levels before p given.is_partial) all begins)) in
     or_none names (option_or (place_fault p event) (option_or content (depth_fault p event))) (none_left names content own_none)
-        (or_none (place_fault p event) (option_or content (depth_fault p event)) (ap (λ b. fault_if b (expected p)) stands_at)
-            (or_none content (depth_fault p event) (none_right names content own_none) (ap (λ b. fault_if b too_deep) deep)))
+    (or_none (place_fault p event) (option_or content (depth_fault p event)) (ap (λ b. fault_if b (expected p)) stands_at)
+    (or_none content (depth_fault p event) (none_right names content own_none) (ap (λ b. fault_if b too_deep) deep)))
 
 pub refused_exactly : RefusedExactly
 refused_exactly canonical before event begun =
     let given = stands_from_begins canonical before begun in
-    let here = refusal_here canonical before event given.partial given.is_partial in
-    ( (λ none. begins_from_stands canonical (before ++ event ∷ []) (next_stands canonical before event given (sym here ∙ none)))
-    , (λ more. here ∙ not_refused canonical before event given (stands_from_begins canonical (before ++ event ∷ []) more)) )
+    let here = refusal_here canonical before event given.partial given.is_partial in (
+      (λ none. begins_from_stands canonical (before ++ event ∷ []) (next_stands canonical before event given (sym here ∙ none))),
+      (λ more. here ∙ not_refused canonical before event given (stands_from_begins canonical (before ++ event ∷ []) more)),
+    )

@@ -1,11 +1,10 @@
 -- The completion of a list that begins a stream is a stream.
-use Rattle.std.proofs.Common.{◌≡◌, refl, sym, ap, ◌∙◌, append_assoc, append-nil}
-use Rattle.std.specs.Prelude.{Bool, true, Option, None, Some, List, [], ◌∷◌, ◌++◌, option_and_then, flat_map}
+use Rattle.std.proofs.Common.{◌≡◌, refl, sym, ap, ◌∙◌}
+use Rattle.std.specs.Prelude.{true, Option, None, Some, List, [], ◌∷◌, ◌++◌, option_and_then, flat_map}
 use Rattle.yaml_base.specs.Settings.{Encoding}
-use Rattle.yaml_base.specs.Event.{any_style, DocumentStart, Scalar, Event, stream_start, stream_end, document_start, document_end, alias, scalar, sequence_start, sequence_end, mapping_start, mapping_end}
-use Rattle.yaml_base.specs.Grammar.{Node, alias_node, scalar_node, sequence_node, mapping_node, Nodes, no_nodes, nodes_and, Pairs, no_pairs, pairs_and, Document, Documents, no_documents, documents_and, Stream, stream_events, Level, at_item, at_key, at_value, Partial, before_stream, between_documents, within_document, after_root, after_stream, with_node, push, pushed, partial_of, finished, tree_of}
-use Rattle.yaml_base.specs.Pieces.{empty_scalar, innermost_missing, outer_missing, levels_missing, missing, missing_after, completion}
-use Rattle.yaml_base.proofs.Pushes.{partial_events, partial_of_events}
+use Rattle.yaml_base.specs.Event.{any_style, DocumentStart, Event, stream_end, document_end}
+use Rattle.yaml_base.specs.Grammar.{Node, scalar_node, sequence_node, mapping_node, no_nodes, nodes_and, no_pairs, pairs_and, Documents, no_documents, documents_and, Stream, Level, at_item, at_key, at_value, Partial, before_stream, between_documents, within_document, after_root, after_stream, with_node, push, pushed, partial_of}
+use Rattle.yaml_base.specs.Pieces.{outer_missing, levels_missing, missing, missing_after, completion}
 
 append_next : (a b : List Event) (next : Option Partial) → ((q : Partial) → pushed q (a ++ b) ≡ option_and_then (λ r. pushed r b) (pushed q a)) → option_and_then (λ q. pushed q (a ++ b)) next ≡ option_and_then (λ q. pushed q b) (option_and_then (λ q. pushed q a) next)
 append_next a b None others = refl

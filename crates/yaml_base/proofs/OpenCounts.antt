@@ -1,10 +1,10 @@
 -- How many collections are open: in a list's events, and in the partial tree that it is.
 use Rattle.std.proofs.Common.{◌≡◌, refl, sym, ap, ◌∙◌, arith}
 use Rattle.std.proofs.lemmas.List.Sums.{sum_by-append}
-use Rattle.std.specs.Prelude.{ℕ, suc, ◌+◌, ◌-◌, ◌≤◌, Bool, true, false, cond, Option, Some, List, [], ◌∷◌, ◌++◌, length, count_by}
+use Rattle.std.specs.Prelude.{ℕ, ◌+◌, true, false, cond, Option, Some, List, [], ◌∷◌, ◌++◌, length, count_by}
 use Rattle.yaml_base.specs.Settings.{Encoding}
-use Rattle.yaml_base.specs.Event.{DocumentStart, Event, stream_start, stream_end, document_start, document_end, alias, scalar, sequence_start, sequence_end, mapping_start, mapping_end}
-use Rattle.yaml_base.specs.Grammar.{Node, alias_node, scalar_node, sequence_node, mapping_node, Nodes, no_nodes, nodes_and, Pairs, no_pairs, pairs_and, Document, Documents, no_documents, documents_and, Stream, node_events, nodes_events, pairs_events, document_events, documents_events, stream_events, Level, at_item, at_key, at_value, Partial, before_stream, between_documents, within_document, after_root, after_stream, partial_of}
+use Rattle.yaml_base.specs.Event.{DocumentStart, Event, stream_start, stream_end, document_start, document_end, sequence_start, sequence_end, mapping_start, mapping_end}
+use Rattle.yaml_base.specs.Grammar.{Node, alias_node, scalar_node, sequence_node, mapping_node, Nodes, no_nodes, nodes_and, Pairs, no_pairs, pairs_and, Document, Documents, no_documents, documents_and, node_events, nodes_events, pairs_events, document_events, documents_events, Level, at_item, at_key, at_value, Partial, before_stream, between_documents, within_document, after_root, after_stream, partial_of}
 use Rattle.yaml_base.specs.Refusal.{begins_collection, ends_collection, open_levels, open_count}
 use Rattle.yaml_base.proofs.Pushes.{level_events, levels_events, begun_events, partial_events, partial_of_events}
 
@@ -44,10 +44,10 @@ mutual
   node_leaves (scalar_node content) = record { counts = refl }
   node_leaves (sequence_node c items) =
       ended sequence_end (sequence_start c ∷ nodes_events items) refl refl
-          (started (sequence_start c) (nodes_events items) 0 refl refl (nodes_leave items))
+      (started (sequence_start c) (nodes_events items) 0 refl refl (nodes_leave items))
   node_leaves (mapping_node c pairs) =
       ended mapping_end (mapping_start c ∷ pairs_events pairs) refl refl
-          (started (mapping_start c) (pairs_events pairs) 0 refl refl (pairs_leave pairs))
+      (started (mapping_start c) (pairs_events pairs) 0 refl refl (pairs_leave pairs))
 
   nodes_leave : (items : Nodes) → Leaves (nodes_events items) 0
   nodes_leave no_nodes = record { counts = refl }
@@ -57,7 +57,7 @@ mutual
   pairs_leave no_pairs = record { counts = refl }
   pairs_leave (pairs_and pairs key value) =
       both (pairs_events pairs) (node_events key ++ node_events value) 0 0 (pairs_leave pairs)
-          (both (node_events key) (node_events value) 0 0 (node_leaves key) (node_leaves value))
+      (both (node_events key) (node_events value) 0 0 (node_leaves key) (node_leaves value))
 
 -- an event that is neither
 none_more : (event : Event) (rest : List Event) (n : ℕ) → begins_collection event ≡ false → ends_collection event ≡ false → Leaves rest n → Leaves (event ∷ rest) n
@@ -79,7 +79,7 @@ level_leaves (at_item c items) = started (sequence_start c) (nodes_events items)
 level_leaves (at_key c pairs) = started (mapping_start c) (pairs_events pairs) 0 refl refl (pairs_leave pairs)
 level_leaves (at_value c pairs key) =
     started (mapping_start c) (pairs_events pairs ++ node_events key) 0 refl refl
-        (both (pairs_events pairs) (node_events key) 0 0 (pairs_leave pairs) (node_leaves key))
+    (both (pairs_events pairs) (node_events key) 0 0 (pairs_leave pairs) (node_leaves key))
 
 levels_leave : (levels : List Level) → Leaves (levels_events levels) (length levels)
 levels_leave [] = record { counts = refl }
@@ -90,9 +90,9 @@ levels_leave (level ∷ outer) =
 begun_leaves : (e : Option Encoding) (d : Documents) (s : DocumentStart) (inside : List Event) (n : ℕ) → Leaves inside n → Leaves (begun_events e d s inside) n
 begun_leaves e d s inside n h =
     let given = both (stream_start e ∷ (documents_events d ++ document_start s ∷ [])) inside 0 n
-        (none_more (stream_start e) (documents_events d ++ document_start s ∷ []) 0 refl refl
-            (both (documents_events d) (document_start s ∷ []) 0 0 (documents_leave d) (record { counts = refl })))
-        h in
+    (none_more (stream_start e) (documents_events d ++ document_start s ∷ []) 0 refl refl
+    (both (documents_events d) (document_start s ∷ []) 0 0 (documents_leave d) (record { counts = refl })))
+    h in
     record { counts = omega (arith, given.counts) }
 
 partial_leaves : (p : Partial) → Leaves (partial_events p) (length (open_levels p))

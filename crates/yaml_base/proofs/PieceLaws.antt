@@ -1,18 +1,18 @@
 -- One piece for each event; and the pieces of a beginning are those of each list that goes on from it.
-use Rattle.std.proofs.Common.{◌≡◌, refl, sym, ap, ◌∙◌, append_assoc, append-nil}
+use Rattle.std.proofs.Common.{◌≡◌, refl, sym, ap, ◌∙◌}
 use Rattle.std.proofs.lemmas.List.{take_at, length-take-le}
-use Rattle.std.specs.Prelude.{ℕ, suc, ◌≤◌, Bool, true, false, ◌&&◌, Option, None, Some, List, [], ◌∷◌, ◌++◌, length, take, option_and_then, option_map, unwrap_or}
+use Rattle.std.specs.Prelude.{suc, Bool, true, false, ◌&&◌, Option, None, Some, List, [], ◌∷◌, ◌++◌, length, take, option_and_then, option_map, unwrap_or}
 use Rattle.yaml_base.specs.Settings.{Effective}
-use Rattle.yaml_base.specs.Event.{TagDirective, DocumentStart, Event, stream_start, stream_end, document_start, document_end, alias, scalar, sequence_start, sequence_end, mapping_start, mapping_end}
-use Rattle.yaml_base.specs.Grammar.{Stream, stream_events, at_item, at_key, no_nodes, no_pairs, Partial, before_stream, between_documents, within_document, after_root, after_stream, push, pushed, partial_of, finished, tree_of}
-use Rattle.yaml_base.specs.Refusal.{begins_collection, ends_collection, IsAccepted}
-use Rattle.yaml_base.specs.Layout.{Piece, Standing, first_standing, layout, OnePieceEach}
-use Rattle.yaml_base.specs.Steps.{Frame, Stage, at_stream, at_document, at_node, at_document_end, at_nothing, Stepped, step, ends_next, Steps, then_steps, steps}
-use Rattle.yaml_base.specs.Pieces.{missing, missing_after, completion, list_layout, pieces, begins_last, ends_first, closes_at_once, PiecesStand}
+use Rattle.yaml_base.specs.Event.{Event, stream_start, stream_end, document_start, document_end, alias, scalar, sequence_start, sequence_end, mapping_start, mapping_end}
+use Rattle.yaml_base.specs.Grammar.{Stream, stream_events, at_item, at_key, no_nodes, no_pairs, Partial, before_stream, within_document, after_stream, push, pushed, partial_of, finished}
+use Rattle.yaml_base.specs.Refusal.{begins_collection, ends_collection}
+use Rattle.yaml_base.specs.Layout.{Standing, first_standing, layout, OnePieceEach}
+use Rattle.yaml_base.specs.Steps.{Stage, at_stream, at_document, at_node, at_document_end, step, ends_next, Steps, then_steps, steps}
+use Rattle.yaml_base.specs.Pieces.{missing, missing_after, completion, list_layout, begins_last, ends_first, closes_at_once, PiecesStand}
 use Rattle.yaml_base.proofs.Trees.{stream_pushed}
 use Rattle.yaml_base.proofs.StepLaws.{stream_steps}
 use Rattle.yaml_base.proofs.Pushes.{partial_of_events}
-use Rattle.yaml_base.proofs.Completions.{pushed-append, stream_completed, completion_pushed, front_begins}
+use Rattle.yaml_base.proofs.Completions.{stream_completed, completion_pushed, front_begins}
 
 -- Each event gives one piece.
 pub steps_count : (events : List Event) (s : Effective) (follows : Bool) (stage : Stage) (standing : Standing) → length (steps s follows events stage standing).pieces ≡ length events
@@ -42,7 +42,7 @@ steps-append (event ∷ a) b s follows stage standing =
     let stepped = step s stage event (ends_next a (ends_next b follows)) standing in
     ap (λ empty. then_steps (step s stage event empty standing) (steps s follows (a ++ b))) (ends_next-append a b follows)
     ∙ ap (λ (after : Steps). let made : Steps = record { pieces = stepped.laid.piece ∷ after.pieces; standing = after.standing; stage = after.stage } in made)
-        (steps-append a b s follows stepped.stage stepped.laid.standing)
+    (steps-append a b s follows stepped.stage stepped.laid.standing)
 
 -- The first pieces are those of the front.
 pub front_pieces : (a b : List Event) (s : Effective) (follows : Bool) (stage : Stage) (standing : Standing) → take (length a) (steps s follows (a ++ b) stage standing).pieces ≡ (steps s (ends_next b follows) a stage standing).pieces
@@ -72,7 +72,7 @@ steps_same (event ∷ []) s f g stage standing other =
 steps_same (event ∷ next ∷ rest) s f g stage standing other =
     let stepped = step s stage event (ends_collection next) standing in
     ap (λ (after : Steps). let made : Steps = record { pieces = stepped.laid.piece ∷ after.pieces; standing = after.standing; stage = after.stage } in made)
-        (steps_same (next ∷ rest) s f g stepped.stage stepped.laid.standing other)
+    (steps_same (next ∷ rest) s f g stepped.stage stepped.laid.standing other)
 
 ends_next-first : (rest : List Event) → ends_next rest false ≡ ends_first rest
 ends_next-first [] = refl
@@ -138,8 +138,8 @@ begun_pieces front p s begins =
     let same : completion front ≡ front ++ missing p = ap (λ o. front ++ missing_after o) begins in
     ap (λ events. take (length front) (list_layout s events)) same
     ∙ front_layout front (missing p) (stream_completed p) s
-        (ap partial_of (sym same) ∙ completion_pushed front p begins)
-        (completion_not_closed front before_stream p begins)
+    (ap partial_of (sym same) ∙ completion_pushed front p begins)
+    (completion_not_closed front before_stream p begins)
 
 pub pieces_stand : PiecesStand
 pieces_stand s events rest k within accepted other =

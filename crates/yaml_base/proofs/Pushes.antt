@@ -1,9 +1,9 @@
 -- A partial tree's events: each push adds its event at their end.
 use Rattle.std.proofs.Common.{◌≡◌, refl, sym, ap, ◌∙◌, append_assoc, append-nil}
-use Rattle.std.specs.Prelude.{Bool, Option, None, Some, List, [], ◌∷◌, ◌++◌, option_and_then}
+use Rattle.std.specs.Prelude.{Option, None, Some, List, [], ◌∷◌, ◌++◌, option_and_then}
 use Rattle.yaml_base.specs.Settings.{Encoding}
-use Rattle.yaml_base.specs.Event.{DocumentStart, Collection, Event, stream_start, stream_end, document_start, document_end, alias, scalar, sequence_start, sequence_end, mapping_start, mapping_end}
-use Rattle.yaml_base.specs.Grammar.{Node, alias_node, scalar_node, sequence_node, mapping_node, Nodes, no_nodes, nodes_and, Pairs, no_pairs, pairs_and, Document, Documents, no_documents, documents_and, Stream, node_events, nodes_events, pairs_events, document_events, documents_events, stream_events, Level, at_item, at_key, at_value, Partial, before_stream, between_documents, within_document, after_root, after_stream, with_node, closed, push_within, push, pushed, partial_of, finished, tree_of}
+use Rattle.yaml_base.specs.Event.{DocumentStart, Event, stream_start, stream_end, document_start, document_end, alias, scalar, sequence_start, sequence_end, mapping_start, mapping_end}
+use Rattle.yaml_base.specs.Grammar.{Node, alias_node, scalar_node, sequence_node, mapping_node, no_nodes, no_pairs, Document, Documents, no_documents, documents_and, Stream, node_events, nodes_events, pairs_events, documents_events, stream_events, Level, at_item, at_key, at_value, Partial, before_stream, between_documents, within_document, after_root, after_stream, with_node, closed, push_within, push, pushed, partial_of}
 
 abbrev pub level_events : Level → List Event
 level_events (at_item c items) = sequence_start c ∷ nodes_events items
@@ -85,8 +85,8 @@ document_added : (e : Option Encoding) (d : Documents) (x : Document) → stream
 document_added e d x =
     let head = documents_events d ++ document_start x.start ∷ [] in
     ap (λ events. stream_start e ∷ events)
-        (sym (append_assoc (documents_events d) (document_start x.start ∷ []) (node_events x.root ++ document_end x.end_implicit ∷ []))
-        ∙ sym (append_assoc head (node_events x.root) (document_end x.end_implicit ∷ [])))
+    (sym (append_assoc (documents_events d) (document_start x.start ∷ []) (node_events x.root ++ document_end x.end_implicit ∷ []))
+    ∙ sym (append_assoc head (node_events x.root) (document_end x.end_implicit ∷ [])))
 
 pub push_events : (p : Partial) (event : Event) (q : Partial) → push p event ≡ Some q → AddsEvent p event q
 push_events before_stream (stream_start encoding) q given =

@@ -2,7 +2,7 @@
 use Rattle.std.proofs.Common.{◌≡◌, refl, sym, ap, ◌∙◌, arith}
 use Rattle.std.proofs.lemmas.List.{length-append}
 use Rattle.std.proofs.lemmas.Bool.Decides.{nat_tests}
-use Rattle.std.specs.Prelude.{ℕ, suc, ◌≤◌, ◌+◌, Bool, true, false, ◌||◌, ◌==◌, nat_lt, List, [], ◌∷◌, ◌++◌, length, map, if◌then◌else◌}
+use Rattle.std.specs.Prelude.{ℕ, suc, ◌≤◌, Bool, true, false, ◌||◌, ◌==◌, nat_lt, List, [], ◌∷◌, ◌++◌, length, map, if◌then◌else◌}
 use Rattle.std.specs.List.{list_any}
 use Rattle.yaml_base.specs.Event.{Event}
 use Rattle.yaml_base.specs.Ready.{awaited, is_balanced, fronts, is_ready, written, ReadyStays}
@@ -20,8 +20,8 @@ any_front : (a b : List Event) (p : List Event → Bool) → list_any p (fronts 
 any_front [] b p given = cc
 any_front (x ∷ a) b p given =
     either (p (x ∷ [])) (list_any p (map (λ front. x ∷ front) (fronts a))) (list_any p (map (λ front. x ∷ front) (fronts (a ++ b))))
-        (λ some. any_map p (λ front. x ∷ front) (fronts (a ++ b)) ∙ any_front a b (λ front. p (x ∷ front)) (sym (any_map p (λ front. x ∷ front) (fronts a)) ∙ some))
-        given
+    (λ some. any_map p (λ front. x ∷ front) (fronts (a ++ b)) ∙ any_front a b (λ front. p (x ∷ front)) (sym (any_map p (λ front. x ∷ front) (fronts a)) ∙ some))
+    given
 
 more_stand : (n : ℕ) (a b : List Event) → nat_lt n (length a) ≡ true → nat_lt n (length (a ++ b)) ≡ true
 more_stand n a b given = grind (arith, nat_tests, length-append a b)
@@ -34,13 +34,13 @@ either_of false b false d first second given = second given
 ready_stays : (event : Event) (rest more : List Event) → is_ready event rest ≡ true → is_ready event (rest ++ more) ≡ true
 ready_stays event rest more given =
     either_of
-        (awaited event == 0 || nat_lt (awaited event) (length (event ∷ rest)))
-        (list_any is_balanced (fronts (event ∷ rest)))
-        (awaited event == 0 || nat_lt (awaited event) (length (event ∷ (rest ++ more))))
-        (list_any is_balanced (fronts (event ∷ (rest ++ more))))
-        (either (awaited event == 0) (nat_lt (awaited event) (length (event ∷ rest))) (nat_lt (awaited event) (length (event ∷ (rest ++ more)))) (more_stand (awaited event) (event ∷ rest) more))
-        (any_front (event ∷ rest) more is_balanced)
-        given
+    (awaited event == 0 || nat_lt (awaited event) (length (event ∷ rest)))
+    (list_any is_balanced (fronts (event ∷ rest)))
+    (awaited event == 0 || nat_lt (awaited event) (length (event ∷ (rest ++ more))))
+    (list_any is_balanced (fronts (event ∷ (rest ++ more))))
+    (either (awaited event == 0) (nat_lt (awaited event) (length (event ∷ rest))) (nat_lt (awaited event) (length (event ∷ (rest ++ more)))) (more_stand (awaited event) (event ∷ rest) more))
+    (any_front (event ∷ rest) more is_balanced)
+    given
 
 counted : (now later : Bool) (m n : ℕ) → (now ≡ true → later ≡ true) → m ≤ n → (if now then suc m else 0) ≤ (if later then suc n else 0)
 counted false later m n stays h = omega arith
@@ -51,4 +51,4 @@ pub written_grows : ReadyStays
 written_grows [] more = omega arith
 written_grows (event ∷ rest) more =
     counted (is_ready event rest) (is_ready event (rest ++ more)) (written rest) (written (rest ++ more))
-        (ready_stays event rest more) (written_grows rest more)
+    (ready_stays event rest more) (written_grows rest more)

@@ -1,7 +1,7 @@
 -- Refusals, places and ready events, computed.
 use Rattle.std.proofs.Common.{◌≡◌, ℕ, Bool, true, false, List, [], ◌∷◌, ◌++◌, Option, Some, None, refl, codes, pos, replicate, map, length, not, nat_lt, ap}
 use Rattle.yaml_base.specs.Characters.{Text}
-use Rattle.yaml_base.specs.Event.{ScalarStyle, any_style, CollectionStyle, any_layout, flow, Version, TagDirective, DocumentStart, Scalar, Collection, Event, stream_start, stream_end, document_start, document_end, alias, scalar, sequence_start, sequence_end, mapping_start, mapping_end}
+use Rattle.yaml_base.specs.Event.{any_style, any_layout, flow, Version, TagDirective, DocumentStart, Collection, Event, stream_start, stream_end, document_start, document_end, alias, scalar, sequence_start, sequence_end, mapping_start, mapping_end}
 use Rattle.yaml_base.specs.Grammar.{Level, within_document, no_documents}
 use Rattle.yaml_base.specs.Refusal.{refusal, refusal_at, fault_if, expected_stream_start, expected_document_start, expected_document_end, expected_node, expected_nothing, no_tag_nor_implicit, too_deep}
 use Rattle.yaml_base.specs.Tags.{incompatible_version, tag_handle_empty, tag_handle_start, tag_handle_end, tag_handle_alphabet, tag_prefix_empty, duplicate_directive, anchor_empty, anchor_alphabet, alias_empty, alias_alphabet, tag_empty}

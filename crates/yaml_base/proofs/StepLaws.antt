@@ -1,12 +1,12 @@
 -- The pieces of a list, event by event, are those of its tree's layout.
 use Rattle.std.proofs.Common.{◌≡◌, refl, sym, ap, ◌∙◌, append_assoc, append-nil}
-use Rattle.std.specs.Prelude.{ℕ, Bool, true, false, Option, None, Some, List, [], ◌∷◌, ◌++◌, option_and_then, option_map, unwrap_or}
+use Rattle.std.specs.Prelude.{ℕ, Bool, true, false, List, [], ◌∷◌, ◌++◌}
 use Rattle.yaml_base.specs.Settings.{Effective}
-use Rattle.yaml_base.specs.Event.{TagDirective, DocumentStart, Collection, Event, stream_start, stream_end, document_start, document_end, alias, scalar, sequence_start, sequence_end, mapping_start, mapping_end}
+use Rattle.yaml_base.specs.Event.{TagDirective, Event, stream_end, document_start, document_end, sequence_start, sequence_end, mapping_start, mapping_end}
 use Rattle.yaml_base.specs.Tags.{directives_in_force}
 use Rattle.yaml_base.specs.Grammar.{Node, alias_node, scalar_node, sequence_node, mapping_node, Nodes, no_nodes, nodes_and, Pairs, no_pairs, pairs_and, Document, Documents, no_documents, documents_and, Stream, node_events, nodes_events, pairs_events, document_events, documents_events, stream_events}
-use Rattle.yaml_base.specs.Layout.{Piece, Standing, PieceLaid, PiecesLaid, one_piece, then_pieces, Role, as_item, as_key, as_value, Place, is_in_mapping, entries_column, has_no_nodes, has_no_pairs, is_simple, is_simple_at, start_piece, is_written_in_flow, square, curly, end_piece, entry_place, root_place, node_laid, nodes_laid, pairs_laid, document_start_piece, document_end_piece, document_laid, has_no_documents, documents_laid, first_standing, stream_start_piece, stream_end_piece, stream_laid, layout}
-use Rattle.yaml_base.specs.Steps.{Frame, Stage, at_stream, at_document, at_node, at_document_end, at_nothing, next_place, stage_after, step, ends_next, Steps, then_steps, steps}
+use Rattle.yaml_base.specs.Layout.{Piece, Standing, PiecesLaid, one_piece, then_pieces, Role, as_item, as_key, as_value, is_in_mapping, entries_column, has_no_nodes, has_no_pairs, is_simple, is_simple_at, start_piece, is_written_in_flow, square, curly, end_piece, entry_place, root_place, node_laid, nodes_laid, pairs_laid, document_start_piece, document_end_piece, document_laid, has_no_documents, documents_laid, first_standing, stream_start_piece, stream_end_piece, layout}
+use Rattle.yaml_base.specs.Steps.{Frame, at_stream, at_document, at_node, at_nothing, next_place, stage_after, step, ends_next, Steps, then_steps, steps}
 
 -- pieces of a tree, and then steps from where they leave off
 abbrev after_pieces : PiecesLaid → (Standing → Steps) → Steps
@@ -20,7 +20,7 @@ after_pieces-then_pieces a f g =
     let b = f a.standing in
     let c = g b.standing in
     ap (λ (pieces : List Piece). let made : Steps = record { pieces = pieces; standing = c.standing; stage = c.stage } in made)
-        (append_assoc a.pieces b.pieces c.pieces)
+    (append_assoc a.pieces b.pieces c.pieces)
 
 -- Steps that agree where the pieces leave off.
 after_pieces-same : (a : PiecesLaid) (f g : Standing → Steps) → f a.standing ≡ g a.standing → after_pieces a f ≡ after_pieces a g
@@ -44,8 +44,8 @@ pairs_begin : (pairs : Pairs) (rest : List Event) (follows : Bool) → ends_next
 pairs_begin no_pairs rest follows opens = opens
 pairs_begin (pairs_and pairs key value) rest follows opens =
     ap (λ events. ends_next events follows)
-        (append_assoc (pairs_events pairs) (node_events key ++ node_events value) rest
-        ∙ ap (λ after. pairs_events pairs ++ after) (append_assoc (node_events key) (node_events value) rest))
+    (append_assoc (pairs_events pairs) (node_events key ++ node_events value) rest
+    ∙ ap (λ after. pairs_events pairs ++ after) (append_assoc (node_events key) (node_events value) rest))
     ∙ pairs_begin pairs (node_events key ++ (node_events value ++ rest)) follows (node_begins key (node_events value ++ rest) follows)
 
 -- A collection's end follows its start at once exactly where it is empty.
@@ -59,8 +59,8 @@ mapping_ends : (pairs : Pairs) (rest : List Event) (follows : Bool) → ends_nex
 mapping_ends no_pairs rest follows = refl
 mapping_ends (pairs_and pairs key value) rest follows =
     ap (λ events. ends_next events follows)
-        (append_assoc (pairs_events pairs) (node_events key ++ node_events value) (mapping_end ∷ rest)
-        ∙ ap (λ after. pairs_events pairs ++ after) (append_assoc (node_events key) (node_events value) (mapping_end ∷ rest)))
+    (append_assoc (pairs_events pairs) (node_events key ++ node_events value) (mapping_end ∷ rest)
+    ∙ ap (λ after. pairs_events pairs ++ after) (append_assoc (node_events key) (node_events value) (mapping_end ∷ rest)))
     ∙ pairs_begin pairs (node_events key ++ (node_events value ++ mapping_end ∷ rest)) follows (node_begins key (node_events value ++ mapping_end ∷ rest) follows)
 
 abbrev frame_at : (in_flow : Bool) → Role → ℕ → (simple : Bool) → Frame
@@ -85,7 +85,7 @@ mutual
       ∙ ap (λ ends. then_steps (step s (at_node d frames) (sequence_start c) ends standing) (steps s follows (nodes_events items ++ sequence_end ∷ rest))) (sequence_ends items rest follows)
       ∙ after_pieces-same (one_piece start) (steps s follows (nodes_events items ++ sequence_end ∷ rest) (at_node d (frame_at in_flow (as_item true) column simple ∷ frames))) (λ after. after_pieces (entries after) (λ last. after_pieces (end last) next)) (nodes_steps items s follows (sequence_end ∷ rest) d in_flow column simple frames start.standing)
       ∙ sym (after_pieces-then_pieces (then_pieces (one_piece start) entries) end next
-            ∙ after_pieces-then_pieces (one_piece start) entries (λ last. after_pieces (end last) next))
+      ∙ after_pieces-then_pieces (one_piece start) entries (λ last. after_pieces (end last) next))
   node_steps (mapping_node c pairs) s follows rest d frames standing =
       let place = next_place frames in
       let empty = has_no_pairs pairs in
@@ -100,7 +100,7 @@ mutual
       ∙ ap (λ ends. then_steps (step s (at_node d frames) (mapping_start c) ends standing) (steps s follows (pairs_events pairs ++ mapping_end ∷ rest))) (mapping_ends pairs rest follows)
       ∙ after_pieces-same (one_piece start) (steps s follows (pairs_events pairs ++ mapping_end ∷ rest) (at_node d (frame_at in_flow (as_key true) column simple ∷ frames))) (λ after. after_pieces (entries after) (λ last. after_pieces (end last) next)) (pairs_steps pairs s follows (mapping_end ∷ rest) d in_flow column simple frames start.standing)
       ∙ sym (after_pieces-then_pieces (then_pieces (one_piece start) entries) end next
-            ∙ after_pieces-then_pieces (one_piece start) entries (λ last. after_pieces (end last) next))
+      ∙ after_pieces-then_pieces (one_piece start) entries (λ last. after_pieces (end last) next))
 
   pub nodes_steps : (items : Nodes) (s : Effective) (follows : Bool) (rest : List Event) (d : List TagDirective) (in_flow : Bool) (column : ℕ) (simple : Bool) (frames : List Frame) (standing : Standing) → steps s follows (nodes_events items ++ rest) (at_node d (frame_at in_flow (as_item true) column simple ∷ frames)) standing ≡ after_pieces (nodes_laid items s d in_flow column standing) (steps s follows rest (at_node d (frame_at in_flow (as_item (has_no_nodes items)) column simple ∷ frames)))
   nodes_steps no_nodes s follows rest d in_flow column simple frames standing = refl
@@ -125,8 +125,8 @@ mutual
       let at_the_value = frame_at in_flow (as_value key_simple) column simple ∷ frames in
       let next = steps s follows rest (at_node d (frame_at in_flow (as_key false) column simple ∷ frames)) in
       ap (λ events. steps s follows events (at_node d (frame_at in_flow (as_key true) column simple ∷ frames)) standing)
-          (append_assoc (pairs_events pairs) (node_events last_key ++ node_events last_value) rest
-          ∙ ap (λ after. pairs_events pairs ++ after) (append_assoc (node_events last_key) (node_events last_value) rest))
+      (append_assoc (pairs_events pairs) (node_events last_key ++ node_events last_value) rest
+      ∙ ap (λ after. pairs_events pairs ++ after) (append_assoc (node_events last_key) (node_events last_value) rest))
       ∙ pairs_steps pairs s follows (node_events last_key ++ (node_events last_value ++ rest)) d in_flow column simple frames standing
       ∙ after_pieces-same before (steps s follows (node_events last_key ++ (node_events last_value ++ rest)) (at_node d at_the_key)) (λ after. after_pieces (node_laid last_key s d key_place after) (steps s follows (node_events last_value ++ rest) (at_node d at_the_value))) (node_steps last_key s follows (node_events last_value ++ rest) d at_the_key before.standing)
       ∙ sym (after_pieces-then_pieces before (node_laid last_key s d key_place) (steps s follows (node_events last_value ++ rest) (at_node d at_the_value)))
@@ -143,7 +143,7 @@ document_steps x s first follows rest standing =
     ap (λ events. steps s follows (document_start x.start ∷ events) (at_document first) standing) (append_assoc (node_events x.root) (document_end x.end_implicit ∷ []) rest)
     ∙ after_pieces-same (one_piece start) (steps s follows (node_events x.root ++ document_end x.end_implicit ∷ rest) (at_node d [])) (λ after. after_pieces (root after) (λ last. after_pieces (end last) next)) (node_steps x.root s follows (document_end x.end_implicit ∷ rest) d [] start.standing)
     ∙ sym (after_pieces-then_pieces (then_pieces (one_piece start) root) end next
-          ∙ after_pieces-then_pieces (one_piece start) root (λ last. after_pieces (end last) next))
+    ∙ after_pieces-then_pieces (one_piece start) root (λ last. after_pieces (end last) next))
 
 pub documents_steps : (x : Documents) (s : Effective) (follows : Bool) (rest : List Event) (standing : Standing) → steps s follows (documents_events x ++ rest) (at_document true) standing ≡ after_pieces (documents_laid s x standing) (steps s follows rest (at_document (has_no_documents x)))
 documents_steps no_documents s follows rest standing = refl
@@ -164,7 +164,7 @@ stream_steps t s =
     let end : Standing → PiecesLaid = (λ after. one_piece (stream_end_piece after)) in
     let next : Standing → Steps = steps s false [] at_nothing in
     ap (λ (made : Steps). made.pieces)
-        (after_pieces-same (one_piece start) (steps s false (documents_events t.documents ++ stream_end ∷ []) (at_document true)) (λ after. after_pieces (inside after) (λ last. after_pieces (end last) next)) (documents_steps t.documents s false (stream_end ∷ []) start.standing)
-        ∙ sym (after_pieces-then_pieces (then_pieces (one_piece start) inside) end next
-              ∙ after_pieces-then_pieces (one_piece start) inside (λ last. after_pieces (end last) next)))
+    (after_pieces-same (one_piece start) (steps s false (documents_events t.documents ++ stream_end ∷ []) (at_document true)) (λ after. after_pieces (inside after) (λ last. after_pieces (end last) next)) (documents_steps t.documents s false (stream_end ∷ []) start.standing)
+    ∙ sym (after_pieces-then_pieces (then_pieces (one_piece start) inside) end next
+    ∙ after_pieces-then_pieces (one_piece start) inside (λ last. after_pieces (end last) next)))
     ∙ append-nil (layout s t)

@@ -1,10 +1,9 @@
 -- A list of events has at most one tree: pushing a tree's events gives the tree back.
-use Rattle.std.proofs.Common.{◌≡◌, refl, sym, ap, ◌∙◌, append_assoc, append-nil}
-use Rattle.std.specs.Prelude.{Bool, Option, None, Some, List, [], ◌∷◌, ◌++◌, option_and_then}
-use Rattle.yaml_base.specs.Characters.{Text}
+use Rattle.std.proofs.Common.{◌≡◌, refl, sym, ap, ◌∙◌, append_assoc}
+use Rattle.std.specs.Prelude.{Option, Some, List, [], ◌∷◌, ◌++◌, option_and_then}
 use Rattle.yaml_base.specs.Settings.{Encoding}
-use Rattle.yaml_base.specs.Event.{DocumentStart, Scalar, Collection, Event, stream_start, stream_end, document_start, document_end, alias, scalar, sequence_start, sequence_end, mapping_start, mapping_end}
-use Rattle.yaml_base.specs.Grammar.{Node, alias_node, scalar_node, sequence_node, mapping_node, Nodes, no_nodes, nodes_and, Pairs, no_pairs, pairs_and, Document, Documents, no_documents, documents_and, Stream, node_events, nodes_events, pairs_events, document_events, documents_events, stream_events, Level, at_item, at_key, at_value, Partial, before_stream, between_documents, within_document, after_root, after_stream, with_node, push, pushed, partial_of, finished, tree_of}
+use Rattle.yaml_base.specs.Event.{DocumentStart, Collection, Event, stream_end, document_end, sequence_end, mapping_end}
+use Rattle.yaml_base.specs.Grammar.{Node, alias_node, scalar_node, sequence_node, mapping_node, Nodes, no_nodes, nodes_and, Pairs, no_pairs, pairs_and, Document, Documents, no_documents, documents_and, Stream, node_events, nodes_events, pairs_events, document_events, documents_events, stream_events, Level, at_item, at_key, at_value, between_documents, within_document, after_stream, with_node, pushed, partial_of, finished, tree_of}
 
 -- Pushing a node's events appends the node.
 mutual
@@ -29,8 +28,8 @@ mutual
   pairs_pushed no_pairs c e d s levels rest = refl
   pairs_pushed (pairs_and pairs key value) c e d s levels rest =
       ap (pushed (within_document e d s (at_key c no_pairs ∷ levels)))
-          (append_assoc (pairs_events pairs) (node_events key ++ node_events value) rest
-          ∙ ap (λ after. pairs_events pairs ++ after) (append_assoc (node_events key) (node_events value) rest))
+      (append_assoc (pairs_events pairs) (node_events key ++ node_events value) rest
+      ∙ ap (λ after. pairs_events pairs ++ after) (append_assoc (node_events key) (node_events value) rest))
       ∙ pairs_pushed pairs c e d s levels (node_events key ++ (node_events value ++ rest))
       ∙ node_pushed key e d s (at_key c pairs ∷ levels) (node_events value ++ rest)
       ∙ node_pushed value e d s (at_value c pairs key ∷ levels) rest

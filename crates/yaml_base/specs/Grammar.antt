@@ -1,5 +1,5 @@
 -- Trees of events, and their events in order (YAML 1.1, section 3.2.1, and libyaml's event grammar).
-use Rattle.std.specs.Prelude.{◌≡◌, Bool, true, Option, None, Some, List, [], ◌∷◌, ◌++◌, option_and_then}
+use Rattle.std.specs.Prelude.{◌≡◌, Bool, Option, None, Some, List, [], ◌∷◌, ◌++◌, option_and_then}
 use Rattle.yaml_base.specs.Characters.{Text}
 use Rattle.yaml_base.specs.Settings.{Encoding}
 use Rattle.yaml_base.specs.Event.{DocumentStart, Scalar, Collection, Event, stream_start, stream_end, document_start, document_end, alias, scalar, sequence_start, sequence_end, mapping_start, mapping_end}

@@ -5,7 +5,7 @@ use Rattle.std.specs.Ordering.{int_eq}
 use Rattle.yaml_base.specs.Characters.{Text, is_break}
 use Rattle.yaml_base.specs.Settings.{Effective}
 use Rattle.yaml_base.specs.Cursor.{Cursor, Laid, first_cursor, nothing_laid, then_laid, text_laid, new_line, space_if, indicator, name_laid, is_past_width}
-use Rattle.yaml_base.specs.Event.{ScalarStyle, any_style, plain, single_quoted, double_quoted, literal, folded, CollectionStyle, any_layout, block, flow, Version, TagDirective, DocumentStart, Scalar, Collection}
+use Rattle.yaml_base.specs.Event.{ScalarStyle, plain, single_quoted, literal, folded, CollectionStyle, flow, Version, TagDirective, DocumentStart, Scalar, Collection}
 use Rattle.yaml_base.specs.Percent.{percent_escaped}
 use Rattle.yaml_base.specs.Tags.{directives_in_force, Spelling, shorthand, verbatim, spelling}
 use Rattle.yaml_base.specs.Analysis.{is_empty, allowances}
@@ -82,8 +82,8 @@ then_pieces first next =
 abbrev pub lead_alone : ℕ → Laid → PieceLaid
 lead_alone mark laid =
     record {
-        piece = record { lead = laid.text; body = None };
-        standing = record { cursor = laid.cursor; mark = mark };
+      piece = record { lead = laid.text; body = None };
+      standing = record { cursor = laid.cursor; mark = mark };
     }
 
 -- Places and indentation
@@ -289,28 +289,28 @@ abbrev pub scalar_piece : Effective → List TagDirective → Place → (simple 
 scalar_piece s directives place simple content standing =
     let choice = choice_of s place simple content in
     let lead =
-        then_laid
-            (then_laid
-                (place_laid s place simple standing.cursor)
-                (properties_laid directives content.anchor (scalar_tag s.canonical content) choice.bare))
-            (separation_laid choice.style place.in_flow content.value) in
+    then_laid
+    (then_laid
+    (place_laid s place simple standing.cursor)
+    (properties_laid directives content.anchor (scalar_tag s.canonical content) choice.bare))
+    (separation_laid choice.style place.in_flow content.value) in
     let body =
-        body_laid choice.style s (if simple then None else s.width) (deeper s.indent place.column) content.value
-            lead.cursor in
+    body_laid choice.style s (if simple then None else s.width) (deeper s.indent place.column) content.value
+    lead.cursor in
     record {
-        piece =
-            record {
-                lead = lead.text;
-                body =
-                    Some (record {
-                        style = choice.style;
-                        in_flow = place.in_flow;
-                        column = place.column;
-                        value = content.value;
-                        text = body.text;
-                    });
-            };
-        standing = record { cursor = body.cursor; mark = mark_after choice.style content.value standing.mark };
+      piece =
+          record {
+            lead = lead.text;
+            body =
+                Some (record {
+                  style = choice.style;
+                  in_flow = place.in_flow;
+                  column = place.column;
+                  value = content.value;
+                  text = body.text;
+                });
+          };
+      standing = record { cursor = body.cursor; mark = mark_after choice.style content.value standing.mark };
     }
 
 abbrev pub alias_piece : Effective → Place → (simple : Bool) → Text → Standing → PieceLaid
@@ -321,9 +321,9 @@ alias_piece s place simple name standing =
 abbrev pub start_piece : Effective → List TagDirective → Place → (simple : Bool) → Collection → Standing → PieceLaid
 start_piece s directives place simple start standing =
     lead_alone standing.mark
-        (then_laid
-            (place_laid s place simple standing.cursor)
-            (properties_laid directives start.anchor (collection_tag s.canonical start) false))
+    (then_laid
+    (place_laid s place simple standing.cursor)
+    (properties_laid directives start.anchor (collection_tag s.canonical start) false))
 
 abbrev pub asks_flow : CollectionStyle → Bool
 asks_flow flow = true
@@ -372,9 +372,9 @@ abbrev pub collection_laid :
     → PiecesLaid
 collection_laid s brackets in_flow undented empty column start entries =
     then_pieces
-        (then_pieces (one_piece start)
-            (entries (entries_column in_flow undented s.indent column start.standing.cursor)))
-        (λ standing. one_piece (end_piece s brackets in_flow empty column standing))
+    (then_pieces (one_piece start)
+    (entries (entries_column in_flow undented s.indent column start.standing.cursor)))
+    (λ standing. one_piece (end_piece s brackets in_flow empty column standing))
 
 -- a node at its place: its events' pieces, in order
 abbrev mutual
@@ -383,34 +383,34 @@ abbrev mutual
       one_piece (alias_piece s place (is_simple_at place s.canonical directives (alias_node name)) name standing)
   node_laid (scalar_node content) s directives place standing =
       one_piece
-          (scalar_piece s directives place (is_simple_at place s.canonical directives (scalar_node content)) content standing)
+      (scalar_piece s directives place (is_simple_at place s.canonical directives (scalar_node content)) content standing)
   node_laid (sequence_node start items) s directives place standing =
       let in_flow = is_written_in_flow s place start (has_no_nodes items) in
       collection_laid s square in_flow (is_in_mapping place.role) (has_no_nodes items) place.column
-          (start_piece s directives place (is_simple_at place s.canonical directives (sequence_node start items))
-              start standing)
-          (nodes_laid items s directives in_flow)
+      (start_piece s directives place (is_simple_at place s.canonical directives (sequence_node start items))
+      start standing)
+      (nodes_laid items s directives in_flow)
   node_laid (mapping_node start pairs) s directives place standing =
       let in_flow = is_written_in_flow s place start (has_no_pairs pairs) in
       collection_laid s curly in_flow false (has_no_pairs pairs) place.column
-          (start_piece s directives place (is_simple_at place s.canonical directives (mapping_node start pairs))
-              start standing)
-          (pairs_laid pairs s directives in_flow)
+      (start_piece s directives place (is_simple_at place s.canonical directives (mapping_node start pairs))
+      start standing)
+      (pairs_laid pairs s directives in_flow)
 
   pub nodes_laid : Nodes → Effective → List TagDirective → (in_flow : Bool) → ℕ → Standing → PiecesLaid
   nodes_laid no_nodes s directives in_flow column standing = no_pieces standing
   nodes_laid (nodes_and items last) s directives in_flow column standing =
       then_pieces (nodes_laid items s directives in_flow column standing)
-          (node_laid last s directives (entry_place in_flow (as_item (has_no_nodes items)) column))
+      (node_laid last s directives (entry_place in_flow (as_item (has_no_nodes items)) column))
 
   pub pairs_laid : Pairs → Effective → List TagDirective → (in_flow : Bool) → ℕ → Standing → PiecesLaid
   pairs_laid no_pairs s directives in_flow column standing = no_pieces standing
   pairs_laid (pairs_and pairs last_key last_value) s directives in_flow column standing =
       then_pieces
-          (then_pieces (pairs_laid pairs s directives in_flow column standing)
-              (node_laid last_key s directives (entry_place in_flow (as_key (has_no_pairs pairs)) column)))
-          (node_laid last_value s directives
-              (entry_place in_flow (as_value (is_simple s.canonical directives last_key)) column))
+      (then_pieces (pairs_laid pairs s directives in_flow column standing)
+      (node_laid last_key s directives (entry_place in_flow (as_key (has_no_pairs pairs)) column)))
+      (node_laid last_value s directives
+      (entry_place in_flow (as_value (is_simple s.canonical directives last_key)) column))
 
 -- Documents and streams
 
@@ -488,9 +488,9 @@ root_place = record { in_flow = false; role = as_root; column = None }
 abbrev pub document_laid : Effective → (first : Bool) → Document → Standing → PiecesLaid
 document_laid s first document standing =
     then_pieces
-        (then_pieces (one_piece (document_start_piece s.canonical first document.start standing))
-            (node_laid document.root s (directives_in_force document.start.directives) root_place))
-        (λ after. one_piece (document_end_piece document.end_implicit after))
+    (then_pieces (one_piece (document_start_piece s.canonical first document.start standing))
+    (node_laid document.root s (directives_in_force document.start.directives) root_place))
+    (λ after. one_piece (document_end_piece document.end_implicit after))
 
 abbrev pub has_no_documents : Documents → Bool
 has_no_documents no_documents = true
@@ -517,8 +517,8 @@ stream_start_piece standing = lead_alone standing.mark (nothing_laid standing.cu
 abbrev pub stream_laid : Effective → Stream → PiecesLaid
 stream_laid s stream =
     then_pieces
-        (then_pieces (one_piece (stream_start_piece first_standing)) (documents_laid s stream.documents))
-        (λ after. one_piece (stream_end_piece after))
+    (then_pieces (one_piece (stream_start_piece first_standing)) (documents_laid s stream.documents))
+    (λ after. one_piece (stream_end_piece after))
 
 abbrev pub layout : Effective → Stream → List Piece
 layout s stream = (stream_laid s stream).pieces

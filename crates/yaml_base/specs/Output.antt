@@ -1,5 +1,5 @@
 -- What an accepted list comes to under its caller's settings: text and bytes.
-use Rattle.std.specs.Prelude.{ℕ, Option, None, Some, List, [], ◌∷◌}
+use Rattle.std.specs.Prelude.{ℕ, Option, None, Some, List, ◌∷◌}
 use Rattle.yaml_base.specs.Characters.{Text}
 use Rattle.yaml_base.specs.Settings.{Encoding, Settings, Effective, effective}
 use Rattle.yaml_base.specs.LineBreaks.{with_breaks_written}

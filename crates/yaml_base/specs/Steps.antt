@@ -1,10 +1,9 @@
 -- The same pieces, event by event, for contracts of code that writes them so: an event's piece needs the places that
 -- are open and, at a collection's start, whether its end follows at once. A law says that these are the layout's pieces.
-use Rattle.std.specs.Prelude.{Bool, true, false, Option, None, Some, List, [], ◌∷◌, ◌++◌, ◌&&◌, not}
-use Rattle.yaml_base.specs.Characters.{Text}
+use Rattle.std.specs.Prelude.{Bool, true, false, List, [], ◌∷◌, ◌&&◌, not}
 use Rattle.yaml_base.specs.Settings.{Effective}
 use Rattle.yaml_base.specs.Cursor.{nothing_laid}
-use Rattle.yaml_base.specs.Event.{TagDirective, DocumentStart, Scalar, Collection, Event, stream_start, stream_end, document_start, document_end, alias, scalar, sequence_start, sequence_end, mapping_start, mapping_end}
+use Rattle.yaml_base.specs.Event.{TagDirective, Collection, Event, stream_start, stream_end, document_start, document_end, alias, scalar, sequence_start, sequence_end, mapping_start, mapping_end}
 use Rattle.yaml_base.specs.Tags.{directives_in_force}
 use Rattle.yaml_base.specs.Refusal.{ends_collection}
 use Rattle.yaml_base.specs.Layout.{Piece, Standing, PieceLaid, Role, as_root, as_item, as_key, as_value, Place, is_key, is_in_mapping, entries_column, is_simple_alias, is_simple_scalar, is_simple_collection, lead_alone, scalar_piece, alias_piece, start_piece, is_written_in_flow, Brackets, square, curly, end_piece, entry_place, root_place, document_start_piece, document_end_piece, stream_start_piece, stream_end_piece}
@@ -66,8 +65,8 @@ abbrev pub frame_opened :
     Effective → Place → (in_flow undented simple : Bool) → Role → PieceLaid → Frame
 frame_opened s place in_flow undented simple role laid =
     record {
-        place = entry_place in_flow role (entries_column in_flow undented s.indent place.column laid.standing.cursor);
-        simple = simple;
+      place = entry_place in_flow role (entries_column in_flow undented s.indent place.column laid.standing.cursor);
+      simple = simple;
     }
 
 abbrev pub start_step :
@@ -76,19 +75,19 @@ start_step s directives frames undented simple empty role start standing =
     let place = next_place frames in
     let laid = start_piece s directives place simple start standing in
     record {
-        laid = laid;
-        stage =
-            at_node directives
-                (frame_opened s place (is_written_in_flow s place start empty) undented simple role laid ∷ frames);
+      laid = laid;
+      stage =
+          at_node directives
+          (frame_opened s place (is_written_in_flow s place start empty) undented simple role laid ∷ frames);
     }
 
 abbrev pub end_step : Effective → Brackets → List TagDirective → List Frame → Standing → Stepped
 end_step s brackets directives [] standing = stopped standing
 end_step s brackets directives (frame ∷ outer) standing =
     record {
-        laid =
-            end_piece s brackets frame.place.in_flow (is_first frame.place.role) (next_place outer).column standing;
-        stage = stage_after directives outer frame.simple;
+      laid =
+          end_piece s brackets frame.place.in_flow (is_first frame.place.role) (next_place outer).column standing;
+      stage = stage_after directives outer frame.simple;
     }
 
 -- an event within a document; empty: the collection that it starts ends at once
@@ -98,16 +97,16 @@ node_step s directives frames (alias name) empty standing =
     leaf_step directives frames simple (alias_piece s (next_place frames) simple name standing)
 node_step s directives frames (scalar content) empty standing =
     let simple =
-        is_key (next_place frames).role && (not s.canonical && is_simple_scalar s.canonical directives content) in
+    is_key (next_place frames).role && (not s.canonical && is_simple_scalar s.canonical directives content) in
     leaf_step directives frames simple (scalar_piece s directives (next_place frames) simple content standing)
 node_step s directives frames (sequence_start start) empty standing =
     start_step s directives frames (is_in_mapping (next_place frames).role)
-        (is_key (next_place frames).role && (not s.canonical && is_simple_collection s.canonical directives start empty))
-        empty (as_item true) start standing
+    (is_key (next_place frames).role && (not s.canonical && is_simple_collection s.canonical directives start empty))
+    empty (as_item true) start standing
 node_step s directives frames (mapping_start start) empty standing =
     start_step s directives frames false
-        (is_key (next_place frames).role && (not s.canonical && is_simple_collection s.canonical directives start empty))
-        empty (as_key true) start standing
+    (is_key (next_place frames).role && (not s.canonical && is_simple_collection s.canonical directives start empty))
+    empty (as_key true) start standing
 node_step s directives frames sequence_end empty standing = end_step s square directives frames standing
 node_step s directives frames mapping_end empty standing = end_step s curly directives frames standing
 node_step s directives frames _ empty standing = stopped standing
@@ -118,8 +117,8 @@ step s at_stream (stream_start encoding) empty standing =
     record { laid = stream_start_piece standing; stage = at_document true }
 step s (at_document first) (document_start start) empty standing =
     record {
-        laid = document_start_piece s.canonical first start standing;
-        stage = at_node (directives_in_force start.directives) [];
+      laid = document_start_piece s.canonical first start standing;
+      stage = at_node (directives_in_force start.directives) [];
     }
 step s (at_document first) stream_end empty standing = record { laid = stream_end_piece standing; stage = at_nothing }
 step s (at_node directives frames) event empty standing = node_step s directives frames event empty standing

@@ -8,30 +8,25 @@ ghost use Rattle.yaml_base.specs.Refusal.{RefusedExactly};
 /// A list of events is the events of at most one tree.
 pub fn list_has_one_tree()
     ensures { OneTree }
-{
-}
+{}
 
 /// A layout has one piece for each event.
 pub fn layout_has_one_piece_each()
     ensures { OnePieceEach }
-{
-}
+{}
 
 /// The pieces of a beginning are those of every accepted list that goes on from it, but for one that at once closes a
 /// collection which the beginning starts last.
 pub fn pieces_stand()
     ensures { PiecesStand }
-{
-}
+{}
 
 /// An event that is ready stays ready as the list grows.
 pub fn ready_events_stay_ready()
     ensures { ReadyStays }
-{
-}
+{}
 
 /// After events that begin an accepted list, the next event is refused exactly where no accepted list goes on with it.
 pub fn refused_exactly()
     ensures { RefusedExactly }
-{
-}
+{}
