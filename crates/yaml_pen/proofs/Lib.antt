@@ -5,3 +5,4 @@ pub mod Writing
 pub mod Composing
 pub mod Fronts
 pub mod NewLines
+pub mod Columns

@@ -68,11 +68,15 @@ impl<A: Allocator> Outlet<A> {
 
     /// Empties the buffer into the output.
     pub(crate) fn flush(&mut self) -> Result<(), yaml_error_t>
-        ensures { Emptied self.old self.new result }
+        ensures emptied { Emptied self.old self.new result }
+        ensures empty { self.old.error ≡ None → self.old.output ≡ self.old.all → self.new ≡ self.old }
     {
         match self.error {
             Some(error) => return Err(error),
             None => {}
+        }
+        if self.buffer.is_empty() {
+            return Ok(());
         }
         let answer = hand_out(self.buffer.as_slice(), &mut self.output, self.limit);
         match answer {
@@ -126,9 +130,6 @@ fn hand_out<A: Allocator>(
     requires { length output.old.items ≤ limit }
     ensures { HandsOut buffer.now output.old.items output.new.items limit result }
 {
-    if buffer.is_empty() {
-        return Ok(());
-    }
     let room = limit - output.len();
     if buffer.len() <= room {
         output

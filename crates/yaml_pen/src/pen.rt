@@ -99,7 +99,8 @@ impl<A: Allocator> Pen<A> {
     /// Hands out all that is written.
     pub fn flush(&mut self) -> Result<(), yaml_error_t>
         requires { self.old.mark_due ≡ false }
-        ensures { Flushed self.old self.new result }
+        ensures flushed { Flushed self.old self.new result }
+        ensures empty { self.old.error ≡ None → self.old.output ≡ encoded self.old → self.new ≡ self.old }
     {
         self.outlet.flush()
     }
