@@ -1,3 +1,5 @@
 pub mod Given
 pub mod Queue
 pub mod Places
+pub mod Reach
+pub mod Signs

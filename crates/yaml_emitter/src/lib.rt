@@ -4,3 +4,4 @@
 mod place;
 mod queue;
 mod settings;
+mod writing;

@@ -1,0 +1,46 @@
+-- A sign's bytes are its characters, and none of them is a break.
+use Rattle.std.proofs.Common.{◌≡◌, ℕ, ◌<◌, Bool, true, false, List, [], ◌∷◌, ◌||◌, ◌==◌, refl, ap, ◌∙◌, nat_lt, arith}
+use Rattle.std.specs.List.{list_any, list_all, All}
+use Rattle.std.specs.Str.{chars}
+use Rattle.std.proofs.lemmas.Str.{chars-IsAscii}
+use Rattle.std.proofs.lemmas.Str.Ascii.{IsAscii-from_all}
+use Rattle.std.proofs.lemmas.Bool.{and_parts, ltb-true, ne_eqb}
+use Rattle.std.proofs.lemmas.List.Elements.{All-nil, All-cons}
+use Rattle.yaml_base.specs.Characters.{is_break}
+use Rattle.yaml_emitter.specs.Signs.{is_sign}
+
+-- a character of a sign, by its number
+sign_range : (c : ℕ) (rest : List ℕ) → is_sign (c ∷ rest) ≡ true → (0x20 < c) × (c < 0x7F) × (is_sign rest ≡ true)
+sign_range c rest sign =
+    let whole = and_parts _ _ sign in
+    let here = and_parts _ _ whole.0 in
+    (ltb-true 0x20 c here.0, ltb-true c 0x7F here.1, whole.1)
+
+sign-ascii : (bytes : List ℕ) → is_sign bytes ≡ true → All (λ b. b < 128) bytes
+sign-ascii [] sign = All-nil (λ b. b < 128)
+sign-ascii (c ∷ rest) sign =
+    let r = sign_range c rest sign in
+    let low : c < 128 = omega (arith, r.1) in
+    All-cons (λ b. b < 128) c rest low (sign-ascii rest r.2)
+
+pub sign-chars : (bytes : List ℕ) → is_sign bytes ≡ true → chars bytes ≡ bytes
+sign-chars bytes sign = chars-IsAscii bytes (IsAscii-from_all bytes (sign-ascii bytes sign))
+
+in_range-no_break : (c : ℕ) → 0x20 < c → c < 0x7F → is_break c ≡ false
+in_range-no_break c low high =
+    let a : (c == 0xA) ≡ false = ne_eqb c 0xA (λ e. omega arith) in
+    let b : (c == 0xD) ≡ false = ne_eqb c 0xD (λ e. omega arith) in
+    let d : (c == 0x85) ≡ false = ne_eqb c 0x85 (λ e. omega arith) in
+    let e : (c == 0x2028) ≡ false = ne_eqb c 0x2028 (λ e. omega arith) in
+    let f : (c == 0x2029) ≡ false = ne_eqb c 0x2029 (λ e. omega arith) in
+    ap (λ x. x || (c == 0xD) || (c == 0x85) || (c == 0x2028) || (c == 0x2029)) a
+    ∙ ap (λ x. x || (c == 0x85) || (c == 0x2028) || (c == 0x2029)) b
+    ∙ ap (λ x. x || (c == 0x2028) || (c == 0x2029)) d
+    ∙ ap (λ x. x || (c == 0x2029)) e
+    ∙ f
+
+pub sign-no_break : (bytes : List ℕ) → is_sign bytes ≡ true → list_any is_break bytes ≡ false
+sign-no_break [] sign = refl
+sign-no_break (c ∷ rest) sign =
+    let r = sign_range c rest sign in
+    ap (λ x. x || list_any is_break rest) (in_range-no_break c r.0 r.1) ∙ sign-no_break rest r.2

@@ -1,0 +1,13 @@
+use Rattle.yaml_pen.proofs.Composing.{wrote_exit, wrote_failed, wrote_then}
+use Rattle.yaml_base.specs.Cursor.{indicator}
+use Rattle.yaml_base.specs.Layout.{flow_break, key_sign}
+use Rattle.yaml_emitter.specs.Given.{seen_effective}
+use Rattle.std.proofs.Common.{codes, true, false}
+use Rattle.yaml_emitter.proofs.writing.places.write_flow_entry.Goals as goal
+
+pub returns-in_err-write_opening_or_comma : goal.returns-in_err-write_opening_or_comma
+returns-in_err-write_opening_or_comma g c =
+    wrote_exit c.from_residual.ensures (wrote_failed (flow_break (seen_effective c.args.settings.now) c.args.place.now.column) c.in_err-write_opening_or_comma.ensures)
+
+pub returns : goal.returns
+returns g c = wrote_then c.in_ok-write_opening_or_comma.ensures c.write_flow_break.ensures

@@ -1,0 +1,2 @@
+//! What events write, put through the pen piece by piece.
+mod places;
