@@ -1,3 +1,4 @@
+pub mod QueueLaws
 pub mod Accepted
 pub mod OpenCounts
 pub mod ReadyLaws

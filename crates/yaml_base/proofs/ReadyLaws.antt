@@ -7,7 +7,7 @@ use Rattle.std.specs.List.{list_any}
 use Rattle.yaml_base.specs.Event.{Event}
 use Rattle.yaml_base.specs.Ready.{awaited, is_balanced, fronts, is_ready, written, ReadyStays}
 
-any_map : (p : List Event → Bool) (f : List Event → List Event) (xs : List (List Event)) → list_any p (map f xs) ≡ list_any (λ x. p (f x)) xs
+pub any_map : (p : List Event → Bool) (f : List Event → List Event) (xs : List (List Event)) → list_any p (map f xs) ≡ list_any (λ x. p (f x)) xs
 any_map p f [] = refl
 any_map p f (x ∷ xs) = ap (λ b. p (f x) || b) (any_map p f xs)
 
@@ -16,7 +16,7 @@ either true b c more given = refl
 either false b c more given = more given
 
 -- A front of a list is a front of every longer one.
-any_front : (a b : List Event) (p : List Event → Bool) → list_any p (fronts a) ≡ true → list_any p (fronts (a ++ b)) ≡ true
+pub any_front : (a b : List Event) (p : List Event → Bool) → list_any p (fronts a) ≡ true → list_any p (fronts (a ++ b)) ≡ true
 any_front [] b p given = cc
 any_front (x ∷ a) b p given =
     either (p (x ∷ [])) (list_any p (map (λ front. x ∷ front) (fronts a))) (list_any p (map (λ front. x ∷ front) (fronts (a ++ b))))

@@ -1,7 +1,8 @@
 -- Which events of a list are ready to be written (libyaml's own rule).
-use Rattle.std.specs.Prelude.{ℕ, suc, ◌≤◌, Bool, true, false, List, [], ◌∷◌, ◌++◌, ◌==◌, ◌||◌, nat_lt, map, length, count_by, if◌then◌else◌}
+use Rattle.std.specs.Prelude.{◌≡◌, ℕ, suc, ◌≤◌, Bool, true, false, List, [], ◌∷◌, ◌++◌, ◌==◌, ◌||◌, nat_lt, map, length, count_by, if◌then◌else◌}
 use Rattle.std.specs.List.{list_any}
 use Rattle.yaml_base.specs.Event.{Event, stream_start, stream_end, document_start, document_end, sequence_start, sequence_end, mapping_start, mapping_end}
+use Rattle.yaml_base.specs.Grammar.{Stream, stream_events}
 
 abbrev pub is_start : Event → Bool
 is_start (stream_start encoding) = true
@@ -47,3 +48,7 @@ written (event ∷ rest) = if is_ready event rest then suc (written rest) else 0
 -- as a list grows, no event that was ready waits again
 abbrev pub ReadyStays : Type 0
 ReadyStays = (events more : List Event) → written events ≤ written (events ++ more)
+
+-- all events of a whole stream are ready
+abbrev pub WholeStreamIsReady : Type 0
+WholeStreamIsReady = (stream : Stream) → written (stream_events stream) ≡ length (stream_events stream)

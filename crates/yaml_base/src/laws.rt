@@ -2,7 +2,7 @@
 ghost use Rattle.yaml_base.specs.Grammar.{OneTree};
 ghost use Rattle.yaml_base.specs.Layout.{OnePieceEach};
 ghost use Rattle.yaml_base.specs.Pieces.{PiecesStand};
-ghost use Rattle.yaml_base.specs.Ready.{ReadyStays};
+ghost use Rattle.yaml_base.specs.Ready.{ReadyStays, WholeStreamIsReady};
 ghost use Rattle.yaml_base.specs.Refusal.{RefusedExactly};
 
 /// A list of events is the events of at most one tree.
@@ -30,3 +30,9 @@ pub fn ready_events_stay_ready()
 pub fn refused_exactly()
     ensures { RefusedExactly }
 {}
+
+/// All events of a whole stream are ready.
+pub fn whole_stream_is_ready()
+    ensures { WholeStreamIsReady }
+{
+}

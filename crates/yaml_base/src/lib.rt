@@ -27,6 +27,7 @@ pub use events::yaml_event_t::{
 };
 pub use laws::{
     layout_has_one_piece_each, list_has_one_tree, pieces_stand, ready_events_stay_ready, refused_exactly,
+    whole_stream_is_ready,
 };
 pub use nodes::{yaml_node_data_t, yaml_node_pair_t, yaml_node_t};
 pub use styles::yaml_mapping_style_t::{

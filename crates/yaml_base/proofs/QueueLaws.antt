@@ -1,0 +1,195 @@
+-- What is held back: it begins with an event that awaits others, and nothing of a whole stream is held back.
+use Rattle.std.proofs.Common.{◌≡◌, refl, sym, ap, ◌∙◌, arith, append_assoc, append-nil}
+use Rattle.std.proofs.lemmas.Bool.{eq-eqb}
+use Rattle.std.proofs.lemmas.Bool.Decides.{nat_tests}
+use Rattle.std.proofs.lemmas.List.{length-append}
+use Rattle.std.proofs.lemmas.List.Sums.{sum_by-append}
+use Rattle.std.specs.Prelude.{ℕ, suc, ◌+◌, ◌≤◌, Bool, true, false, cond, ◌||◌, ◌&&◌, ◌==◌, nat_lt, List, [], ◌∷◌, ◌++◌, length, take, drop, map, count_by, if◌then◌else◌}
+use Rattle.std.specs.List.{list_any}
+use Rattle.yaml_base.specs.Event.{Event, stream_start, stream_end, document_start, document_end, alias, scalar, sequence_start, sequence_end, mapping_start, mapping_end}
+use Rattle.yaml_base.specs.Grammar.{Node, alias_node, scalar_node, sequence_node, mapping_node, Nodes, no_nodes, nodes_and, Pairs, no_pairs, pairs_and, Document, Documents, no_documents, documents_and, Stream, node_events, nodes_events, pairs_events, document_events, documents_events, stream_events}
+use Rattle.yaml_base.specs.Refusal.{begins_collection, ends_collection}
+use Rattle.yaml_base.specs.Ready.{is_start, is_end, awaited, is_balanced, fronts, is_ready, written}
+use Rattle.yaml_base.specs.Pieces.{begins_last, ends_first, closes_at_once}
+use Rattle.yaml_base.proofs.ReadyLaws.{any_map, any_front}
+
+-- No more events are ready than there are.
+written_if : (b : Bool) (m n : ℕ) → m ≤ n → (if b then suc m else 0) ≤ suc n
+written_if true m n h = omega arith
+written_if false m n h = omega arith
+
+pub written_within : (events : List Event) → written events ≤ length events
+written_within [] = omega arith
+written_within (event ∷ rest) = written_if (is_ready event rest) (written rest) (length rest) (written_within rest)
+
+-- what stands first among the held events isn't ready
+abbrev HeldWaits : List Event → ℕ → Type 0
+HeldWaits events k = (event : Event) (rest : List Event) → drop k events ≡ event ∷ rest → is_ready event rest ≡ false
+
+held_if : (first : Event) (others : List Event) (b : Bool) → is_ready first others ≡ b → HeldWaits others (written others) → HeldWaits (first ∷ others) (if b then suc (written others) else 0)
+held_if first others true is h event rest given = h event rest given
+held_if first others false is h event rest given =
+    let same : first ≡ event = cc in
+    let tail : others ≡ rest = cc in
+    sym (ap (λ e. is_ready e rest) same) ∙ sym (ap (λ r. is_ready first r) tail) ∙ is
+
+pub held_waits : (events : List Event) → HeldWaits events (written events)
+held_waits [] = λ event rest given. cc
+held_waits (first ∷ others) = held_if first others (is_ready first others) refl (held_waits others)
+
+middle_false : (a b c : Bool) → (a || b) || c ≡ false → b ≡ false
+middle_false false b c h = left_false b c h
+  where
+    left_false : (b c : Bool) → b || c ≡ false → b ≡ false
+    left_false false c h = refl
+    left_false true c h = h
+middle_false true b c h = cc
+
+-- So an event that is held first awaits at least as many as stand from it on.
+pub held_is_short : (event : Event) (rest : List Event) → is_ready event rest ≡ false → length (event ∷ rest) ≤ awaited event
+held_is_short event rest waits =
+    let short : nat_lt (awaited event) (length (event ∷ rest)) ≡ false =
+        middle_false (awaited event == 0) (nat_lt (awaited event) (length (event ∷ rest))) (list_any is_balanced (fronts (event ∷ rest))) waits in
+    grind (arith, nat_tests)
+
+-- A collection that the ready events begin last isn't closed by what is held, nor by what may come.
+no_end_held : (event : Event) (rest : List Event) → is_ready event rest ≡ false → ends_collection event ≡ false
+no_end_held sequence_end rest waits = cc
+no_end_held mapping_end rest waits = cc
+no_end_held event rest waits = refl
+
+no_start_alone : (event : Event) → is_ready event [] ≡ true → begins_collection event ≡ false
+no_start_alone (sequence_start c) ready = cc
+no_start_alone (mapping_start c) ready = cc
+no_start_alone event ready = refl
+
+abbrev OpenAt : List Event → List Event → ℕ → Type 0
+OpenAt events more k = closes_at_once (take k events) (drop k events ++ more) ≡ false
+
+and_false : (a b : Bool) → b ≡ false → a && b ≡ false
+and_false true b h = h
+and_false false b h = refl
+
+open_next : (first next : Event) (rest more : List Event) (b : Bool) → is_ready next rest ≡ b → OpenAt (next ∷ rest) more (if b then suc (written rest) else 0) → OpenAt (first ∷ next ∷ rest) more (suc (if b then suc (written rest) else 0))
+open_next first next rest more true is others = others
+open_next first next rest more false is others = and_false (begins_collection first) (ends_collection next) (no_end_held next rest is)
+
+open_first : (first : Event) (rest more : List Event) (b : Bool) → is_ready first rest ≡ b → OpenAt rest more (written rest) → OpenAt (first ∷ rest) more (if b then suc (written rest) else 0)
+open_first first rest more false is others = refl
+open_first first [] more true is others = ap (λ a. a && ends_first more) (no_start_alone first is)
+open_first first (next ∷ rest) more true is others = open_next first next rest more (is_ready next rest) refl others
+
+pub open_at_written : (events more : List Event) → OpenAt events more (written events)
+open_at_written [] more = refl
+open_at_written (first ∷ rest) more = open_first first rest more (is_ready first rest) refl (open_at_written rest more)
+
+-- as many starts as ends
+record Balanced (events : List Event) : Type 0 where
+  counts : count_by is_start events ≡ count_by is_end events
+
+balanced_both : (a b : List Event) → Balanced a → Balanced b → Balanced (a ++ b)
+balanced_both a b h k =
+    record { counts = omega (arith, sum_by-append (λ x. cond (is_start x) 1 0) a b, sum_by-append (λ x. cond (is_end x) 1 0) a b, h.counts, k.counts) }
+
+balanced_around : (start end : Event) (inside : List Event) → count_by is_start (start ∷ []) ≡ 1 → count_by is_end (start ∷ []) ≡ 0 → count_by is_start (end ∷ []) ≡ 0 → count_by is_end (end ∷ []) ≡ 1 → Balanced inside → Balanced (start ∷ (inside ++ end ∷ []))
+balanced_around start end inside a b c d h =
+    let tail = inside ++ end ∷ [] in
+    record {
+      counts =
+          omega
+          (arith,
+           sum_by-append (λ x. cond (is_start x) 1 0) (start ∷ []) (inside ++ end ∷ []),
+           sum_by-append (λ x. cond (is_end x) 1 0) (start ∷ []) (inside ++ end ∷ []),
+           sum_by-append (λ x. cond (is_start x) 1 0) inside (end ∷ []),
+           sum_by-append (λ x. cond (is_end x) 1 0) inside (end ∷ []),
+           h.counts);
+    }
+
+mutual
+  node_balanced : (n : Node) → Balanced (node_events n)
+  node_balanced (alias_node name) = record { counts = refl }
+  node_balanced (scalar_node content) = record { counts = refl }
+  node_balanced (sequence_node c items) = balanced_around (sequence_start c) sequence_end (nodes_events items) refl refl refl refl (nodes_balanced items)
+  node_balanced (mapping_node c pairs) = balanced_around (mapping_start c) mapping_end (pairs_events pairs) refl refl refl refl (pairs_balanced pairs)
+
+  nodes_balanced : (items : Nodes) → Balanced (nodes_events items)
+  nodes_balanced no_nodes = record { counts = refl }
+  nodes_balanced (nodes_and items last) = balanced_both (nodes_events items) (node_events last) (nodes_balanced items) (node_balanced last)
+
+  pairs_balanced : (pairs : Pairs) → Balanced (pairs_events pairs)
+  pairs_balanced no_pairs = record { counts = refl }
+  pairs_balanced (pairs_and pairs key value) =
+      balanced_both (pairs_events pairs) (node_events key ++ node_events value) (pairs_balanced pairs) (balanced_both (node_events key) (node_events value) (node_balanced key) (node_balanced value))
+
+document_balanced : (x : Document) → Balanced (document_events x)
+document_balanced x = balanced_around (document_start x.start) (document_end x.end_implicit) (node_events x.root) refl refl refl refl (node_balanced x.root)
+
+-- A list is a front of itself.
+whole_front : (first : Event) (rest : List Event) (p : List Event → Bool) → p (first ∷ rest) ≡ true → list_any p (fronts (first ∷ rest)) ≡ true
+whole_front first [] p h = ap (λ b. b || false) h
+whole_front first (next ∷ rest) p h =
+    or_right (p (first ∷ [])) (list_any p (map (λ front. first ∷ front) (fronts (next ∷ rest))))
+        (any_map p (λ front. first ∷ front) (fronts (next ∷ rest)) ∙ whole_front next rest (λ front. p (first ∷ front)) h)
+  where
+    or_right : (a b : Bool) → b ≡ true → a || b ≡ true
+    or_right true b h = refl
+    or_right false b h = h
+
+or_last : (a b : Bool) → b ≡ true → a || b ≡ true
+or_last true b h = refl
+or_last false b h = h
+
+-- A start is ready where its end is there.
+balanced_ready : (start : Event) (inside rest : List Event) → Balanced (start ∷ inside) → is_ready start (inside ++ rest) ≡ true
+balanced_ready start inside rest h =
+    or_last (awaited start == 0 || nat_lt (awaited start) (length (start ∷ (inside ++ rest)))) (list_any is_balanced (fronts (start ∷ (inside ++ rest))))
+        (any_front (start ∷ inside) rest is_balanced
+            (whole_front start inside is_balanced (eq-eqb (count_by is_start (start ∷ inside)) (count_by is_end (start ∷ inside)) h.counts)))
+
+-- all of a list is ready before any other
+abbrev AllReady : List Event → List Event → Type 0
+AllReady events rest = written (events ++ rest) ≡ length events + written rest
+
+pub record Whole (events : List Event) (rest : List Event) : Type 0 where
+  pub count : AllReady events rest
+
+whole_both : (a b rest : List Event) → Whole a (b ++ rest) → Whole b rest → Whole (a ++ b) rest
+whole_both a b rest h k =
+    record { count = ap written (append_assoc a b rest) ∙ omega (arith, length-append a b, h.count, k.count) }
+
+whole_around : (start : Event) (end : Event) (inside rest : List Event) → is_ready end rest ≡ true → Balanced (start ∷ (inside ++ end ∷ [])) → Whole inside (end ∷ rest) → Whole (start ∷ (inside ++ end ∷ [])) rest
+whole_around start end inside rest ends balanced h =
+    let first : written (start ∷ ((inside ++ end ∷ []) ++ rest)) ≡ suc (written ((inside ++ end ∷ []) ++ rest)) = ap (λ b. if b then suc (written ((inside ++ end ∷ []) ++ rest)) else 0) (balanced_ready start (inside ++ end ∷ []) rest balanced) in
+    let others : written ((inside ++ end ∷ []) ++ rest) ≡ written (inside ++ end ∷ rest) = ap written (append_assoc inside (end ∷ []) rest) in
+    let last : written (end ∷ rest) ≡ suc (written rest) = ap (λ b. if b then suc (written rest) else 0) ends in
+    record { count = omega (arith, length-append inside (end ∷ []), h.count) }
+
+mutual
+  node_whole : (n : Node) (rest : List Event) → Whole (node_events n) rest
+  node_whole (alias_node name) rest = record { count = omega arith }
+  node_whole (scalar_node content) rest = record { count = omega arith }
+  node_whole (sequence_node c items) rest = whole_around (sequence_start c) sequence_end (nodes_events items) rest refl (node_balanced (sequence_node c items)) (nodes_whole items (sequence_end ∷ rest))
+  node_whole (mapping_node c pairs) rest = whole_around (mapping_start c) mapping_end (pairs_events pairs) rest refl (node_balanced (mapping_node c pairs)) (pairs_whole pairs (mapping_end ∷ rest))
+
+  nodes_whole : (items : Nodes) (rest : List Event) → Whole (nodes_events items) rest
+  nodes_whole no_nodes rest = record { count = omega arith }
+  nodes_whole (nodes_and items last) rest = whole_both (nodes_events items) (node_events last) rest (nodes_whole items (node_events last ++ rest)) (node_whole last rest)
+
+  pairs_whole : (pairs : Pairs) (rest : List Event) → Whole (pairs_events pairs) rest
+  pairs_whole no_pairs rest = record { count = omega arith }
+  pairs_whole (pairs_and pairs key value) rest =
+      whole_both (pairs_events pairs) (node_events key ++ node_events value) rest (pairs_whole pairs ((node_events key ++ node_events value) ++ rest))
+          (whole_both (node_events key) (node_events value) rest (node_whole key (node_events value ++ rest)) (node_whole value rest))
+
+document_whole : (x : Document) (rest : List Event) → Whole (document_events x) rest
+document_whole x rest = whole_around (document_start x.start) (document_end x.end_implicit) (node_events x.root) rest refl (document_balanced x) (node_whole x.root (document_end x.end_implicit ∷ rest))
+
+documents_whole : (d : Documents) (rest : List Event) → Whole (documents_events d) rest
+documents_whole no_documents rest = record { count = omega arith }
+documents_whole (documents_and d x) rest = whole_both (documents_events d) (document_events x) rest (documents_whole d (document_events x ++ rest)) (document_whole x rest)
+
+-- Nothing of a whole stream is held back.
+pub stream_written : (t : Stream) → written (stream_events t) ≡ length (stream_events t)
+stream_written t =
+    let inside = documents_whole t.documents (stream_end ∷ []) in
+    omega (arith, length-append (documents_events t.documents) (stream_end ∷ []), inside.count)
