@@ -1,3 +1,4 @@
 pub mod HandleFacts
 pub mod DirectiveFacts
 pub mod TagFacts
+pub mod EscapingFacts
