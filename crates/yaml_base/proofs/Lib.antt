@@ -1,3 +1,4 @@
+pub mod Progress
 pub mod QueueLaws
 pub mod Accepted
 pub mod OpenCounts

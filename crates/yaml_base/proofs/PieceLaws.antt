@@ -7,7 +7,7 @@ use Rattle.yaml_base.specs.Event.{Event, stream_start, stream_end, document_star
 use Rattle.yaml_base.specs.Grammar.{Stream, stream_events, at_item, at_key, no_nodes, no_pairs, Partial, before_stream, within_document, after_stream, push, pushed, partial_of, finished}
 use Rattle.yaml_base.specs.Refusal.{begins_collection, ends_collection}
 use Rattle.yaml_base.specs.Layout.{Standing, first_standing, layout, OnePieceEach}
-use Rattle.yaml_base.specs.Steps.{Stage, at_stream, at_document, at_node, at_document_end, step, ends_next, Steps, then_steps, steps}
+use Rattle.yaml_base.specs.Steps.{Stage, at_stream, at_document, at_node, at_document_end, step, ends_next, Steps, then_steps, steps, joined_steps}
 use Rattle.yaml_base.specs.Pieces.{missing, missing_after, completion, list_layout, begins_last, ends_first, closes_at_once, PiecesStand}
 use Rattle.yaml_base.proofs.Trees.{stream_pushed}
 use Rattle.yaml_base.proofs.StepLaws.{stream_steps}
@@ -24,12 +24,6 @@ steps_count (event ∷ rest) s follows stage standing =
 pub one_piece_each : OnePieceEach
 one_piece_each s t =
     ap length (sym (stream_steps t s)) ∙ steps_count (stream_events t) s false at_stream first_standing
-
--- steps, and then steps from where they leave off
-abbrev pub joined_steps : Steps → (Stage → Standing → Steps) → Steps
-joined_steps first next =
-    let after = next first.stage first.standing in
-    record { pieces = first.pieces ++ after.pieces; standing = after.standing; stage = after.stage }
 
 ends_next-append : (a b : List Event) (follows : Bool) → ends_next (a ++ b) follows ≡ ends_next a (ends_next b follows)
 ends_next-append [] b follows = refl

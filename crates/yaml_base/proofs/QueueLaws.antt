@@ -53,7 +53,7 @@ held_is_short event rest waits =
     grind (arith, nat_tests)
 
 -- A collection that the ready events begin last isn't closed by what is held, nor by what may come.
-no_end_held : (event : Event) (rest : List Event) → is_ready event rest ≡ false → ends_collection event ≡ false
+pub no_end_held : (event : Event) (rest : List Event) → is_ready event rest ≡ false → ends_collection event ≡ false
 no_end_held sequence_end rest waits = cc
 no_end_held mapping_end rest waits = cc
 no_end_held event rest waits = refl

@@ -31,7 +31,7 @@ either_of true b c d first second given = ap (λ x. x || d) (first refl)
 either_of false b true d first second given = refl
 either_of false b false d first second given = second given
 
-ready_stays : (event : Event) (rest more : List Event) → is_ready event rest ≡ true → is_ready event (rest ++ more) ≡ true
+pub ready_stays : (event : Event) (rest more : List Event) → is_ready event rest ≡ true → is_ready event (rest ++ more) ≡ true
 ready_stays event rest more given =
     either_of
     (awaited event == 0 || nat_lt (awaited event) (length (event ∷ rest)))

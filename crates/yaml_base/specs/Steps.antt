@@ -1,12 +1,14 @@
 -- The same pieces, event by event, for contracts of code that writes them so: an event's piece needs the places that
 -- are open and, at a collection's start, whether its end follows at once. A law says that these are the layout's pieces.
-use Rattle.std.specs.Prelude.{Bool, true, false, List, [], ◌∷◌, ◌&&◌, not}
+use Rattle.std.specs.Prelude.{ℕ, Bool, true, false, Option, List, [], ◌∷◌, ◌++◌, ◌&&◌, not, nat_lt, length, take, drop}
+use Rattle.std.specs.Option.{option_or}
 use Rattle.yaml_base.specs.Settings.{Effective}
 use Rattle.yaml_base.specs.Cursor.{nothing_laid}
 use Rattle.yaml_base.specs.Event.{TagDirective, Collection, Event, stream_start, stream_end, document_start, document_end, alias, scalar, sequence_start, sequence_end, mapping_start, mapping_end}
 use Rattle.yaml_base.specs.Tags.{directives_in_force}
-use Rattle.yaml_base.specs.Refusal.{ends_collection}
-use Rattle.yaml_base.specs.Layout.{Piece, Standing, PieceLaid, Role, as_root, as_item, as_key, as_value, Place, is_key, is_in_mapping, entries_column, is_simple_alias, is_simple_scalar, is_simple_collection, lead_alone, scalar_piece, alias_piece, start_piece, is_written_in_flow, Brackets, square, curly, end_piece, entry_place, root_place, document_start_piece, document_end_piece, stream_start_piece, stream_end_piece}
+use Rattle.yaml_base.specs.Refusal.{fault_if, expected_stream_start, expected_document_start, expected_document_end, expected_node, expected_nothing, too_deep, name_or_tag_fault, content_fault, most_open, begins_collection, ends_collection}
+use Rattle.yaml_base.specs.Ready.{written}
+use Rattle.yaml_base.specs.Layout.{Piece, Standing, PieceLaid, Role, as_root, as_item, as_key, as_value, Place, is_key, is_in_mapping, entries_column, is_simple_alias, is_simple_scalar, is_simple_collection, lead_alone, scalar_piece, alias_piece, start_piece, is_written_in_flow, Brackets, square, curly, end_piece, entry_place, root_place, document_start_piece, document_end_piece, first_standing, stream_start_piece, stream_end_piece}
 
 -- an open collection: where its next entry stands, and whether it is itself a simple key
 pub record Frame : Type 0 where
@@ -147,3 +149,66 @@ abbrev pub steps : Effective → (follows : Bool) → List Event → Stage → S
 steps s follows [] stage standing = record { pieces = []; standing = standing; stage = stage }
 steps s follows (event ∷ rest) stage standing =
     then_steps (step s stage event (ends_next rest follows) standing) (steps s follows rest)
+
+-- What is refused at a stage
+
+abbrev pub is_item : Role → Bool
+is_item (as_item first) = true
+is_item _ = false
+
+-- within a document a node may stand, or the end of the innermost collection
+abbrev pub node_allowed : List Frame → Event → Bool
+node_allowed frames (alias name) = true
+node_allowed frames (scalar content) = true
+node_allowed frames (sequence_start start) = true
+node_allowed frames (mapping_start start) = true
+node_allowed (frame ∷ outer) sequence_end = is_item frame.place.role
+node_allowed (frame ∷ outer) mapping_end = is_key frame.place.role
+node_allowed _ _ = false
+
+abbrev pub stage_allows : Stage → Event → Bool
+stage_allows at_stream (stream_start encoding) = true
+stage_allows (at_document first) (document_start start) = true
+stage_allows (at_document first) stream_end = true
+stage_allows (at_node directives frames) event = node_allowed frames event
+stage_allows at_document_end (document_end implicit) = true
+stage_allows _ event = false
+
+abbrev pub stage_expected : Stage → ℕ
+stage_expected at_stream = expected_stream_start
+stage_expected (at_document first) = expected_document_start
+stage_expected (at_node directives frames) = expected_node
+stage_expected at_document_end = expected_document_end
+stage_expected at_nothing = expected_nothing
+
+abbrev pub open_frames : Stage → ℕ
+open_frames (at_node directives frames) = length frames
+open_frames _ = 0
+
+-- the refusal of an event at a stage
+abbrev pub stage_refusal : Bool → Stage → Event → Option ℕ
+stage_refusal canonical stage event =
+    option_or (name_or_tag_fault canonical event)
+    (option_or (fault_if (not (stage_allows stage event)) (stage_expected stage))
+    (option_or (content_fault canonical event)
+    (fault_if (begins_collection event && not (nat_lt (open_frames stage) most_open)) too_deep)))
+
+-- Lists with events that wait
+
+-- the events that are held back
+abbrev pub held_back : List Event → List Event
+held_back events = drop (written events) events
+
+-- the steps of the events that are ready
+abbrev pub ready_steps : Effective → List Event → Stage → Standing → Steps
+ready_steps s events stage standing = steps s false (take (written events) events) stage standing
+
+-- those of a stream, from its start
+abbrev pub progress : Effective → List Event → Steps
+progress s events = ready_steps s events at_stream first_standing
+
+-- steps, and then steps from where they leave off
+abbrev pub joined_steps : Steps → (Stage → Standing → Steps) → Steps
+joined_steps first next =
+    let after = next first.stage first.standing in
+    record { pieces = first.pieces ++ after.pieces; standing = after.standing; stage = after.stage }
