@@ -6,3 +6,6 @@ mod outlet;
 mod pen;
 
 pub use pen::Pen;
+
+#[cfg(test)]
+mod tests;
