@@ -3,3 +3,4 @@ pub mod Queue
 pub mod Places
 pub mod Reach
 pub mod Signs
+pub mod Stages

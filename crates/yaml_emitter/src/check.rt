@@ -1,0 +1,91 @@
+//! What is refused in an event's own content: names, tags, flags, directives.
+
+ghost use Rattle.std.specs.Prelude.{◌≡◌, None, chars, option_map, option_and_then, if◌then◌else◌};
+ghost use Rattle.yaml_base.specs.Errors.{refused};
+ghost use Rattle.yaml_base.specs.Refusal.{name_or_tag_fault, properties_fault};
+ghost use Rattle.yaml_base.specs.Seen.{seen_event, seen_text};
+ghost use Rattle.yaml_base.specs.Tags.{anchor_fault, tag_fault};
+
+use std::alloc::Allocator;
+use yaml_base::{
+    YAML_ALIAS_EVENT, YAML_MAPPING_START_EVENT, YAML_SCALAR_EVENT, YAML_SEQUENCE_START_EVENT,
+    yaml_error_t, yaml_event_t,
+};
+use yaml_mark::analyze_anchor;
+
+/// Refuses a faulty anchor or alias, and an empty tag where the tag is written.
+pub(crate) fn check_names<A: Allocator>(
+    canonical: bool,
+    event: &yaml_event_t<A>,
+) -> Result<(), yaml_error_t>
+    ensures { refused result ≡ name_or_tag_fault canonical (seen_event event.now) }
+{
+    match event {
+        YAML_ALIAS_EVENT { anchor } => analyze_anchor(anchor.as_str(), true),
+        YAML_SCALAR_EVENT {
+            anchor,
+            tag,
+            plain_implicit,
+            quoted_implicit,
+            ..
+        } => {
+            let written = canonical || (!*plain_implicit && !*quoted_implicit);
+            check_properties(anchor, tag, written)
+        }
+        YAML_SEQUENCE_START_EVENT {
+            anchor,
+            tag,
+            implicit,
+            ..
+        }
+        | YAML_MAPPING_START_EVENT {
+            anchor,
+            tag,
+            implicit,
+            ..
+        } => check_properties(anchor, tag, canonical || !*implicit),
+        _ => Ok(()),
+    }
+}
+
+fn check_properties<A: Allocator>(
+    anchor: &Option<String<A>>,
+    tag: &Option<String<A>>,
+    tag_written: bool,
+) -> Result<(), yaml_error_t>
+    ensures {
+        refused result
+        ≡ properties_fault (option_map seen_text anchor.now) (if tag_written then option_map seen_text tag.now else None)
+    }
+{
+    check_anchor(anchor)?;
+    if tag_written { check_tag(tag) } else { Ok(()) }
+}
+
+fn check_anchor<A: Allocator>(anchor: &Option<String<A>>) -> Result<(), yaml_error_t>
+    ensures { refused result ≡ option_and_then anchor_fault (option_map seen_text anchor.now) }
+{
+    match anchor {
+        Some(name) => analyze_anchor(name.as_str(), false),
+        None => Ok(()),
+    }
+}
+
+fn check_tag<A: Allocator>(tag: &Option<String<A>>) -> Result<(), yaml_error_t>
+    ensures { refused result ≡ option_and_then tag_fault (option_map seen_text tag.now) }
+{
+    match tag {
+        Some(tag) => check_tag_text(tag.as_str()),
+        None => Ok(()),
+    }
+}
+
+fn check_tag_text(tag: &str) -> Result<(), yaml_error_t>
+    ensures { refused result ≡ tag_fault (chars tag.now) }
+{
+    if tag.is_empty() {
+        Err(yaml_error_t::TagEmpty)
+    } else {
+        Ok(())
+    }
+}
