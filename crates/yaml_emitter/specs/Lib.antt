@@ -4,3 +4,4 @@ pub mod Places
 pub mod Reach
 pub mod Signs
 pub mod Stages
+pub mod InForce

@@ -2,6 +2,7 @@
 #![tactic(auto)]
 
 mod check;
+mod directives;
 mod place;
 mod queue;
 mod settings;

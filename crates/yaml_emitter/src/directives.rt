@@ -1,0 +1,68 @@
+//! The directives of a document, as it begins.
+
+ghost use Rattle.std.specs.Prelude.{◌≡◌, ◌≢◌, [], ◌∷◌, ◌++◌, chars, map, Err, IfErr, OnOk};
+ghost use Rattle.yaml_base.specs.Errors.{refused};
+ghost use Rattle.yaml_base.specs.Seen.{seen_directive};
+ghost use Rattle.yaml_emitter.specs.InForce.{with_default};
+ghost use Rattle.yaml_base.specs.Tags.{directives_fault, directives_in_force, next_directive_fault};
+
+use std::alloc::Allocator;
+use yaml_base::{yaml_error_t, yaml_tag_directive_t};
+use yaml_mark::{Directives, analyze_tag_directive};
+
+/// Copies a document's own directives, each checked in its turn. `Memory` may come at any of them.
+pub(crate) fn read_directives<A: Allocator + Copy>(
+    own: &[yaml_tag_directive_t<A>],
+    directives: &mut Directives<A>,
+) -> Result<(), yaml_error_t>
+    requires { directives.old ≡ [] }
+    ensures refusal { result ≢ Err yaml_error_t.Memory → refused result ≡ directives_fault (map seen_directive own.now) }
+    ensures read { OnOk result (directives.new ≡ map seen_directive own.now) }
+{
+    for directive in own {
+        read_directive(directive, directives)?;
+    }
+    Ok(())
+}
+
+fn read_directive<A: Allocator + Copy>(
+    directive: &yaml_tag_directive_t<A>,
+    directives: &mut Directives<A>,
+) -> Result<(), yaml_error_t>
+    ensures refusal {
+        result ≢ Err yaml_error_t.Memory
+        → refused result ≡ next_directive_fault directives.old (seen_directive directive.now)
+    }
+    ensures read { OnOk result (directives.new ≡ directives.old ++ seen_directive directive.now ∷ []) }
+{
+    analyze_tag_directive(directive)?;
+    directives.append(directive, false)
+}
+
+/// Adds the defaults whose handles a document didn't give.
+pub(crate) fn add_defaults<A: Allocator + Copy>(
+    alloc: A,
+    directives: &mut Directives<A>,
+) -> Result<(), yaml_error_t>
+    ensures added { OnOk result (directives.new ≡ directives_in_force directives.old) }
+    ensures memory { IfErr result (λ e. e ≡ yaml_error_t.Memory) }
+{
+    add_default(alloc, directives, "!", "!")?;
+    add_default(alloc, directives, "!!", "tag:yaml.org,2002:")
+}
+
+fn add_default<A: Allocator + Copy>(
+    alloc: A,
+    directives: &mut Directives<A>,
+    handle: &str,
+    prefix: &str,
+) -> Result<(), yaml_error_t>
+    ensures added { OnOk result (directives.new ≡ with_default directives.old (record { handle = chars handle.now; prefix = chars prefix.now })) }
+    ensures memory { IfErr result (λ e. e ≡ yaml_error_t.Memory) }
+{
+    let directive = yaml_tag_directive_t {
+        handle: String::from_str(alloc, handle).map_err(|_| yaml_error_t::Memory)?,
+        prefix: String::from_str(alloc, prefix).map_err(|_| yaml_error_t::Memory)?,
+    };
+    directives.append(&directive, true)
+}
