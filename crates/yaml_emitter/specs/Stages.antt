@@ -60,5 +60,5 @@ room_fault count event = fault_if (begins_collection event && not (nat_lt count 
 abbrev pub refusal_here : Bool → Stage → Event → Option ℕ
 refusal_here canonical stage event =
     option_or (name_or_tag_fault canonical event)
-        (option_or (stage_fault stage event)
-            (option_or (content_fault canonical event) (room_fault (length (frames_of stage)) event)))
+    (option_or (stage_fault stage event)
+    (option_or (content_fault canonical event) (room_fault (length (frames_of stage)) event)))

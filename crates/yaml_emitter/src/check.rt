@@ -53,10 +53,8 @@ fn check_properties<A: Allocator>(
     tag: &Option<String<A>>,
     tag_written: bool,
 ) -> Result<(), yaml_error_t>
-    ensures {
-        refused result
-        ≡ properties_fault (option_map seen_text anchor.now) (if tag_written then option_map seen_text tag.now else None)
-    }
+    ensures { refused result
+        ≡ properties_fault (option_map seen_text anchor.now) (if tag_written then option_map seen_text tag.now else None) }
 {
     check_anchor(anchor)?;
     if tag_written { check_tag(tag) } else { Ok(()) }

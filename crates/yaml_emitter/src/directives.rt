@@ -29,10 +29,8 @@ fn read_directive<A: Allocator + Copy>(
     directive: &yaml_tag_directive_t<A>,
     directives: &mut Directives<A>,
 ) -> Result<(), yaml_error_t>
-    ensures refusal {
-        result ≢ Err yaml_error_t.Memory
-        → refused result ≡ next_directive_fault directives.old (seen_directive directive.now)
-    }
+    ensures refusal { result ≢ Err yaml_error_t.Memory
+        → refused result ≡ next_directive_fault directives.old (seen_directive directive.now) }
     ensures read { OnOk result (directives.new ≡ directives.old ++ seen_directive directive.now ∷ []) }
 {
     analyze_tag_directive(directive)?;

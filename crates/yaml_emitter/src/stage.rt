@@ -13,8 +13,9 @@ use crate::place::Role;
 use std::alloc::Allocator;
 use yaml_base::{
     YAML_ALIAS_EVENT, YAML_DOCUMENT_END_EVENT, YAML_DOCUMENT_START_EVENT, YAML_MAPPING_END_EVENT,
-    YAML_MAPPING_START_EVENT, YAML_SCALAR_EVENT, YAML_SEQUENCE_END_EVENT, YAML_SEQUENCE_START_EVENT,
-    YAML_STREAM_END_EVENT, YAML_STREAM_START_EVENT, yaml_error_t, yaml_event_t,
+    YAML_MAPPING_START_EVENT, YAML_SCALAR_EVENT, YAML_SEQUENCE_END_EVENT,
+    YAML_SEQUENCE_START_EVENT, YAML_STREAM_END_EVENT, YAML_STREAM_START_EVENT, yaml_error_t,
+    yaml_event_t,
 };
 
 /// What comes next.
@@ -37,12 +38,10 @@ pub(crate) fn check_stage<A: Allocator>(
     role: Role,
     event: &yaml_event_t<A>,
 ) -> Result<(), yaml_error_t>
-    ensures {
-        (directives : List TagDirective) (frames : List Frame)
+    ensures { (directives : List TagDirective) (frames : List Frame)
         → refused result
         ≡ fault_if (not (stage_accepts (seen_stage stage directives frames) (seen_role role) (seen_event event.now)))
-        (expected_at (seen_stage stage directives frames))
-    }
+        (expected_at (seen_stage stage directives frames)) }
 {
     match stage {
         Stage::Stream => match event {
