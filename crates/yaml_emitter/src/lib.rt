@@ -6,5 +6,5 @@ mod directives;
 mod place;
 mod queue;
 mod settings;
-mod writing;
 mod stage;
+mod writing;

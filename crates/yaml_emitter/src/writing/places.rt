@@ -217,10 +217,7 @@ fn write_key_sign<A: Allocator>(
 }
 
 /// A new line at the column of the entries around a place.
-pub(crate) fn write_line<A: Allocator>(
-    pen: &mut Pen<A>,
-    place: &Place,
-) -> Result<(), yaml_error_t>
+pub(crate) fn write_line<A: Allocator>(pen: &mut Pen<A>, place: &Place) -> Result<(), yaml_error_t>
     requires ready { IsReady pen.old }
     requires reach { IsWithinReach place.now.column }
     ensures { Wrote (new_line (line_column place.now.column)) pen.old pen.new result }
