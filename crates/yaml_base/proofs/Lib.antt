@@ -1,3 +1,4 @@
+pub mod Stages
 pub mod Progress
 pub mod QueueLaws
 pub mod Accepted

@@ -1,0 +1,208 @@
+-- A stage allows and refuses what the partial tree does that it stands for.
+use Rattle.std.proofs.Common.{◌≡◌, refl, sym, ap, subst, ◌∙◌}
+use Rattle.std.specs.Option.{option_or}
+use Rattle.std.specs.Prelude.{ℕ, suc, Bool, true, false, not, ◌&&◌, nat_lt, Option, None, Some, List, [], ◌∷◌, ◌++◌, length, is_none, option_and_then}
+use Rattle.yaml_base.specs.Settings.{Encoding, Effective}
+use Rattle.yaml_base.specs.Event.{TagDirective, DocumentStart, Event, stream_start, stream_end, document_start, document_end, alias, scalar, sequence_start, sequence_end, mapping_start, mapping_end}
+use Rattle.yaml_base.specs.Grammar.{Node, alias_node, scalar_node, sequence_node, mapping_node, no_nodes, nodes_and, no_pairs, pairs_and, Documents, no_documents, documents_and, Document, Stream, Level, at_item, at_key, at_value, Partial, before_stream, between_documents, within_document, after_root, after_stream, with_node, closed, push_within, push, pushed, partial_of}
+use Rattle.yaml_base.specs.Refusal.{fault_if, too_deep, name_or_tag_fault, content_fault, expected, begins_collection, ends_collection, open_levels, most_open, refusal_at, refusal}
+use Rattle.yaml_base.specs.Layout.{Standing, Role, as_root, as_item, as_key, as_value, is_key, first_standing}
+use Rattle.yaml_base.specs.Steps.{Frame, Stage, at_stream, at_document, at_node, at_document_end, at_nothing, role_after, stage_after, step, ends_next, Steps, steps, is_item, node_allowed, stage_allows, stage_expected, open_frames, stage_refusal}
+
+-- a frame awaits what a level does
+abbrev Awaits : Level → Role → Type 0
+Awaits (at_item c items) (as_item first) = Unit {0}
+Awaits (at_key c pairs) (as_key first) = Unit {0}
+Awaits (at_value c pairs key) (as_value simple) = Unit {0}
+Awaits level role = ⊥
+
+abbrev AllAwait : List Level → List Frame → Type 0
+AllAwait [] [] = Unit {0}
+AllAwait (level ∷ levels) (frame ∷ frames) = Awaits level frame.place.role × AllAwait levels frames
+AllAwait levels frames = ⊥
+
+-- a stage stands for a partial tree
+abbrev pub StandsFor : Partial → Stage → Type 0
+StandsFor before_stream at_stream = Unit {0}
+StandsFor (between_documents e d) (at_document first) = Unit {0}
+StandsFor (within_document e d s levels) (at_node t frames) = AllAwait levels frames
+StandsFor (after_root e d s root) at_document_end = Unit {0}
+StandsFor (after_stream t) at_nothing = Unit {0}
+StandsFor p stage = ⊥
+
+-- A node more on both sides.
+abbrev level_next : Level → Node → Level
+level_next (at_item c items) n = at_item c (nodes_and items n)
+level_next (at_key c pairs) n = at_value c pairs n
+level_next (at_value c pairs key) n = at_key c (pairs_and pairs key n)
+
+awaits_next : (level : Level) (role : Role) (n : Node) (simple : Bool) → Awaits level role → Awaits (level_next level n) (role_after role simple)
+awaits_next (at_item c items) (as_item first) n simple h = tt
+awaits_next (at_key c pairs) (as_key first) n simple h = tt
+awaits_next (at_value c pairs key) (as_value was) n simple h = tt
+awaits_next level role n simple h = absurd h
+
+node_stands : (e : Option Encoding) (d : Documents) (s : DocumentStart) (levels : List Level) (n : Node) (t : List TagDirective) (frames : List Frame) (simple : Bool) → AllAwait levels frames → StandsFor (with_node e d s levels n) (stage_after t frames simple)
+node_stands e d s [] n t [] simple h = tt
+node_stands e d s (at_item c items ∷ levels) n t (frame ∷ frames) simple h = (awaits_next (at_item c items) frame.place.role n simple h.0, h.1)
+node_stands e d s (at_key c pairs ∷ levels) n t (frame ∷ frames) simple h = (awaits_next (at_key c pairs) frame.place.role n simple h.0, h.1)
+node_stands e d s (at_value c pairs key ∷ levels) n t (frame ∷ frames) simple h = (awaits_next (at_value c pairs key) frame.place.role n simple h.0, h.1)
+node_stands e d s levels n t frames simple h = absurd h
+
+-- the stage after an event stands for the tree after it
+abbrev Follows : Partial → Stage → Event → Type 0
+Follows p stage event = (q : Partial) (s : Effective) (empty : Bool) (standing : Standing) → push p event ≡ Some q → StandsFor q (step s stage event empty standing).stage
+
+stands_as : (p q : Partial) (stage : Stage) → Some p ≡ Some q → StandsFor p stage → StandsFor q stage
+stands_as p q stage given h = let same : p ≡ q = cc in subst (λ r. StandsFor r stage) same h
+
+end_follows : (e : Option Encoding) (d : Documents) (s : DocumentStart) (level : Level) (levels : List Level) (t : List TagDirective) (frame : Frame) (frames : List Frame) (event : Event) (q : Partial) (made : Option Node) → AllAwait levels frames → option_and_then (λ node. Some (with_node e d s levels node)) made ≡ Some q → StandsFor q (stage_after t frames frame.simple)
+end_follows e d s level levels t frame frames event q None h given = cc
+end_follows e d s level levels t frame frames event q (Some n) h given =
+    stands_as (with_node e d s levels n) q (stage_after t frames frame.simple) given (node_stands e d s levels n t frames frame.simple h)
+
+closed_none : (level : Level) (event : Event) → ends_collection event ≡ false → closed level event ≡ None
+closed_none (at_item c items) sequence_end h = cc
+closed_none (at_key c pairs) mapping_end h = cc
+closed_none level event h = refl
+
+within_follows : (e : Option Encoding) (d : Documents) (s : DocumentStart) (levels : List Level) (t : List TagDirective) (frames : List Frame) (event : Event) → AllAwait levels frames → Follows (within_document e d s levels) (at_node t frames) event
+within_follows e d s levels t frames (alias name) h q eff empty standing given =
+    let after = (step eff (at_node t frames) (alias name) empty standing).stage in
+    stands_as (with_node e d s levels (alias_node name)) q after given (node_stands e d s levels (alias_node name) t frames _ h)
+within_follows e d s levels t frames (scalar content) h q eff empty standing given =
+    let after = (step eff (at_node t frames) (scalar content) empty standing).stage in
+    stands_as (with_node e d s levels (scalar_node content)) q after given (node_stands e d s levels (scalar_node content) t frames _ h)
+within_follows e d s levels t frames (sequence_start c) h q eff empty standing given =
+    let after = (step eff (at_node t frames) (sequence_start c) empty standing).stage in
+    stands_as (within_document e d s (at_item c no_nodes ∷ levels)) q after given (tt, h)
+within_follows e d s levels t frames (mapping_start c) h q eff empty standing given =
+    let after = (step eff (at_node t frames) (mapping_start c) empty standing).stage in
+    stands_as (within_document e d s (at_key c no_pairs ∷ levels)) q after given (tt, h)
+within_follows e d s (level ∷ levels) t (frame ∷ frames) sequence_end h q eff empty standing given =
+    end_follows e d s level levels t frame frames sequence_end q (closed level sequence_end) h.1 given
+within_follows e d s (level ∷ levels) t (frame ∷ frames) mapping_end h q eff empty standing given =
+    end_follows e d s level levels t frame frames mapping_end q (closed level mapping_end) h.1 given
+within_follows e d s (level ∷ levels) t [] event h q eff empty standing given = absurd h
+within_follows e d s [] t frames event h q eff empty standing given = cc
+within_follows e d s (level ∷ levels) t (frame ∷ frames) (stream_start x) h q eff empty standing given =
+    let none = closed_none level (stream_start x) refl in cc
+within_follows e d s (level ∷ levels) t (frame ∷ frames) stream_end h q eff empty standing given =
+    let none = closed_none level stream_end refl in cc
+within_follows e d s (level ∷ levels) t (frame ∷ frames) (document_start x) h q eff empty standing given =
+    let none = closed_none level (document_start x) refl in cc
+within_follows e d s (level ∷ levels) t (frame ∷ frames) (document_end x) h q eff empty standing given =
+    let none = closed_none level (document_end x) refl in cc
+
+pub step_stands : (p : Partial) (stage : Stage) (event : Event) → StandsFor p stage → Follows p stage event
+step_stands before_stream at_stream (stream_start encoding) h q s empty standing given =
+    stands_as (between_documents encoding no_documents) q (at_document true) given tt
+step_stands (between_documents e d) (at_document first) (document_start start) h q s empty standing given =
+    stands_as (within_document e d start []) q (step s (at_document first) (document_start start) empty standing).stage given tt
+step_stands (between_documents e d) (at_document first) stream_end h q s empty standing given =
+    stands_as (after_stream (record { encoding = e; documents = d })) q at_nothing given tt
+step_stands (within_document e d start levels) (at_node t frames) event h q s empty standing given =
+    within_follows e d start levels t frames event h q s empty standing given
+step_stands (after_root e d start root) at_document_end (document_end implicit) h q s empty standing given =
+    stands_as (between_documents e (documents_and d (record { start = start; root = root; end_implicit = implicit }))) q (at_document false) given tt
+step_stands before_stream at_stream event h q s empty standing given = cc
+step_stands (between_documents e d) (at_document first) event h q s empty standing given = cc
+step_stands (after_root e d start root) at_document_end event h q s empty standing given = cc
+step_stands (after_stream t) at_nothing event h q s empty standing given = cc
+step_stands p stage event h q s empty standing given = absurd h
+
+-- The stage after a list stands for its partial tree.
+abbrev ListStands : List Event → Type 0
+ListStands events = (p q : Partial) (stage : Stage) (s : Effective) (follows : Bool) (standing : Standing) → StandsFor p stage → pushed p events ≡ Some q → StandsFor q (steps s follows events stage standing).stage
+
+next_stands : (event : Event) (rest : List Event) → ListStands rest → (p q : Partial) (stage : Stage) (s : Effective) (follows : Bool) (standing : Standing) → StandsFor p stage → (made : Option Partial) → push p event ≡ made → option_and_then (λ r. pushed r rest) made ≡ Some q → StandsFor q (steps s follows (event ∷ rest) stage standing).stage
+next_stands event rest others p q stage s follows standing h None is given = cc
+next_stands event rest others p q stage s follows standing h (Some r) is given =
+    let stepped = step s stage event (ends_next rest follows) standing in
+    others r q stepped.stage s follows stepped.laid.standing (step_stands p stage event h r s (ends_next rest follows) standing is) given
+
+list_stands : (events : List Event) → ListStands events
+list_stands [] = λ p q stage s follows standing h given. stands_as p q stage given h
+list_stands (event ∷ rest) = λ p q stage s follows standing h given.
+    next_stands event rest (list_stands rest) p q stage s follows standing h (push p event) refl given
+
+pub stage_stands : (events : List Event) (p : Partial) (s : Effective) (follows : Bool) → partial_of events ≡ Some p → StandsFor p (steps s follows events at_stream first_standing).stage
+stage_stands events p s follows given = list_stands events before_stream p at_stream s follows first_standing tt given
+
+-- A stage allows what may be pushed.
+item_allowed : (level : Level) (role : Role) (f : Node → Partial) → Awaits level role → not (is_item role) ≡ is_none (option_and_then (λ node. Some (f node)) (closed level sequence_end))
+item_allowed (at_item c items) (as_item first) f h = refl
+item_allowed (at_key c pairs) (as_key first) f h = refl
+item_allowed (at_value c pairs key) (as_value simple) f h = refl
+item_allowed level role f h = absurd h
+
+key_allowed : (level : Level) (role : Role) (f : Node → Partial) → Awaits level role → not (is_key role) ≡ is_none (option_and_then (λ node. Some (f node)) (closed level mapping_end))
+key_allowed (at_item c items) (as_item first) f h = refl
+key_allowed (at_key c pairs) (as_key first) f h = refl
+key_allowed (at_value c pairs key) (as_value simple) f h = refl
+key_allowed level role f h = absurd h
+
+none_allowed : (level : Level) (event : Event) (f : Node → Partial) → ends_collection event ≡ false → true ≡ is_none (option_and_then (λ node. Some (f node)) (closed level event))
+none_allowed level event f h = ap (λ o. is_none (option_and_then (λ node. Some (f node)) o)) (sym (closed_none level event h))
+
+within_allowed : (e : Option Encoding) (d : Documents) (s : DocumentStart) (levels : List Level) (t : List TagDirective) (frames : List Frame) (event : Event) → AllAwait levels frames → not (node_allowed frames event) ≡ is_none (push_within e d s levels event)
+within_allowed e d s levels t frames (alias name) h = refl
+within_allowed e d s levels t frames (scalar content) h = refl
+within_allowed e d s levels t frames (sequence_start c) h = refl
+within_allowed e d s levels t frames (mapping_start c) h = refl
+within_allowed e d s (level ∷ levels) t (frame ∷ frames) sequence_end h = item_allowed level frame.place.role (with_node e d s levels) h.0
+within_allowed e d s (level ∷ levels) t (frame ∷ frames) mapping_end h = key_allowed level frame.place.role (with_node e d s levels) h.0
+within_allowed e d s (level ∷ levels) t (frame ∷ frames) (stream_start x) h = none_allowed level (stream_start x) (with_node e d s levels) refl
+within_allowed e d s (level ∷ levels) t (frame ∷ frames) stream_end h = none_allowed level stream_end (with_node e d s levels) refl
+within_allowed e d s (level ∷ levels) t (frame ∷ frames) (document_start x) h = none_allowed level (document_start x) (with_node e d s levels) refl
+within_allowed e d s (level ∷ levels) t (frame ∷ frames) (document_end x) h = none_allowed level (document_end x) (with_node e d s levels) refl
+within_allowed e d s [] t [] event h = refl
+within_allowed e d s levels t frames event h = absurd h
+
+pub stage_allowed : (p : Partial) (stage : Stage) (event : Event) → StandsFor p stage → not (stage_allows stage event) ≡ is_none (push p event)
+stage_allowed before_stream at_stream (stream_start encoding) h = refl
+stage_allowed before_stream at_stream event h = refl
+stage_allowed (between_documents e d) (at_document first) (document_start start) h = refl
+stage_allowed (between_documents e d) (at_document first) stream_end h = refl
+stage_allowed (between_documents e d) (at_document first) event h = refl
+stage_allowed (within_document e d s levels) (at_node t frames) event h = within_allowed e d s levels t frames event h
+stage_allowed (after_root e d s root) at_document_end (document_end implicit) h = refl
+stage_allowed (after_root e d s root) at_document_end event h = refl
+stage_allowed (after_stream t) at_nothing event h = refl
+stage_allowed p stage event h = absurd h
+
+stage_expects : (p : Partial) (stage : Stage) → StandsFor p stage → stage_expected stage ≡ expected p
+stage_expects before_stream at_stream h = refl
+stage_expects (between_documents e d) (at_document first) h = refl
+stage_expects (within_document e d s levels) (at_node t frames) h = refl
+stage_expects (after_root e d s root) at_document_end h = refl
+stage_expects (after_stream t) at_nothing h = refl
+stage_expects p stage h = absurd h
+
+frames_count : (levels : List Level) (frames : List Frame) → AllAwait levels frames → length frames ≡ length levels
+frames_count [] [] h = refl
+frames_count (level ∷ levels) (frame ∷ frames) h = ap suc (frames_count levels frames h.1)
+frames_count levels frames h = absurd h
+
+frames_open : (p : Partial) (stage : Stage) → StandsFor p stage → open_frames stage ≡ length (open_levels p)
+frames_open before_stream at_stream h = refl
+frames_open (between_documents e d) (at_document first) h = refl
+frames_open (within_document e d s levels) (at_node t frames) h = frames_count levels frames h
+frames_open (after_root e d s root) at_document_end h = refl
+frames_open (after_stream t) at_nothing h = refl
+frames_open p stage h = absurd h
+
+-- The refusal at a stage is the refusal after the list.
+pub stage_refuses : (canonical : Bool) (p : Partial) (stage : Stage) (event : Event) → StandsFor p stage → stage_refusal canonical stage event ≡ refusal_at canonical p event
+stage_refuses canonical p stage event h =
+    let names = name_or_tag_fault canonical event in
+    let content = content_fault canonical event in
+    let full = (λ (n : ℕ). fault_if (begins_collection event && not (nat_lt n most_open)) too_deep) in
+    ap (λ b. option_or names (option_or (fault_if b (stage_expected stage)) (option_or content (full (open_frames stage))))) (stage_allowed p stage event h)
+    ∙ ap (λ x. option_or names (option_or (fault_if (is_none (push p event)) x) (option_or content (full (open_frames stage))))) (stage_expects p stage h)
+    ∙ ap (λ n. option_or names (option_or (fault_if (is_none (push p event)) (expected p)) (option_or content (full n)))) (frames_open p stage h)
+
+pub stage_refusal_after : (canonical : Bool) (events : List Event) (event : Event) (p : Partial) (s : Effective) (follows : Bool) → partial_of events ≡ Some p → stage_refusal canonical (steps s follows events at_stream first_standing).stage event ≡ refusal canonical events event
+stage_refusal_after canonical events event p s follows given =
+    stage_refuses canonical p (steps s follows events at_stream first_standing).stage event (stage_stands events p s follows given)
+    ∙ sym (ap (λ o. option_and_then (λ q. refusal_at canonical q event) o) given)
