@@ -1,14 +1,14 @@
 -- As a list grows, its steps go on from where they left off, over what was held back and what came.
 use Rattle.std.proofs.Common.{◌≡◌, refl, sym, ap, ◌∙◌, arith}
-use Rattle.std.specs.Prelude.{ℕ, zero, suc, ◌+◌, ◌≤◌, Bool, true, false, ◌&&◌, Option, Some, List, [], ◌∷◌, ◌++◌, length, take, drop, if◌then◌else◌}
+use Rattle.std.specs.Prelude.{ℕ, zero, suc, ◌+◌, ◌≤◌, Bool, true, false, ◌&&◌, Some, List, [], ◌∷◌, ◌++◌, length, take, drop, if◌then◌else◌}
 use Rattle.yaml_base.specs.Settings.{Effective}
-use Rattle.yaml_base.specs.Event.{Event, sequence_end, mapping_end}
+use Rattle.yaml_base.specs.Event.{Event}
 use Rattle.yaml_base.specs.Grammar.{Partial, partial_of}
 use Rattle.yaml_base.specs.Refusal.{ends_collection}
 use Rattle.yaml_base.specs.Ready.{is_ready, written}
-use Rattle.yaml_base.specs.Layout.{Piece, Standing, first_standing}
-use Rattle.yaml_base.specs.Steps.{Stage, at_stream, Stepped, step, ends_next, Steps, then_steps, steps, joined_steps, held_back, ready_steps, progress}
-use Rattle.yaml_base.specs.Pieces.{begins_last, ends_first, closes_at_once, list_layout, completion, pieces}
+use Rattle.yaml_base.specs.Layout.{Standing}
+use Rattle.yaml_base.specs.Steps.{Stage, step, ends_next, then_steps, steps, joined_steps, held_back, ready_steps, progress}
+use Rattle.yaml_base.specs.Pieces.{begins_last, ends_first, list_layout, completion, pieces}
 use Rattle.yaml_base.proofs.ReadyLaws.{ready_stays}
 use Rattle.yaml_base.proofs.QueueLaws.{written_within, open_at_written, no_end_held}
 use Rattle.yaml_base.proofs.PieceLaws.{steps-append, steps_same, begun_pieces}

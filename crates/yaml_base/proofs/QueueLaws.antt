@@ -1,16 +1,16 @@
 -- What is held back: it begins with an event that awaits others, and nothing of a whole stream is held back.
-use Rattle.std.proofs.Common.{◌≡◌, refl, sym, ap, ◌∙◌, arith, append_assoc, append-nil}
+use Rattle.std.proofs.Common.{◌≡◌, refl, sym, ap, ◌∙◌, arith, append_assoc}
 use Rattle.std.proofs.lemmas.Bool.{eq-eqb}
 use Rattle.std.proofs.lemmas.Bool.Decides.{nat_tests}
 use Rattle.std.proofs.lemmas.List.{length-append}
 use Rattle.std.proofs.lemmas.List.Sums.{sum_by-append}
 use Rattle.std.specs.Prelude.{ℕ, suc, ◌+◌, ◌≤◌, Bool, true, false, cond, ◌||◌, ◌&&◌, ◌==◌, nat_lt, List, [], ◌∷◌, ◌++◌, length, take, drop, map, count_by, if◌then◌else◌}
 use Rattle.std.specs.List.{list_any}
-use Rattle.yaml_base.specs.Event.{Event, stream_start, stream_end, document_start, document_end, alias, scalar, sequence_start, sequence_end, mapping_start, mapping_end}
+use Rattle.yaml_base.specs.Event.{Event, stream_end, document_start, document_end, sequence_start, sequence_end, mapping_start, mapping_end}
 use Rattle.yaml_base.specs.Grammar.{Node, alias_node, scalar_node, sequence_node, mapping_node, Nodes, no_nodes, nodes_and, Pairs, no_pairs, pairs_and, Document, Documents, no_documents, documents_and, Stream, node_events, nodes_events, pairs_events, document_events, documents_events, stream_events}
 use Rattle.yaml_base.specs.Refusal.{begins_collection, ends_collection}
 use Rattle.yaml_base.specs.Ready.{is_start, is_end, awaited, is_balanced, fronts, is_ready, written}
-use Rattle.yaml_base.specs.Pieces.{begins_last, ends_first, closes_at_once}
+use Rattle.yaml_base.specs.Pieces.{ends_first, closes_at_once}
 use Rattle.yaml_base.proofs.ReadyLaws.{any_map, any_front}
 
 -- No more events are ready than there are.
@@ -49,7 +49,7 @@ middle_false true b c h = cc
 pub held_is_short : (event : Event) (rest : List Event) → is_ready event rest ≡ false → length (event ∷ rest) ≤ awaited event
 held_is_short event rest waits =
     let short : nat_lt (awaited event) (length (event ∷ rest)) ≡ false =
-        middle_false (awaited event == 0) (nat_lt (awaited event) (length (event ∷ rest))) (list_any is_balanced (fronts (event ∷ rest))) waits in
+    middle_false (awaited event == 0) (nat_lt (awaited event) (length (event ∷ rest))) (list_any is_balanced (fronts (event ∷ rest))) waits in
     grind (arith, nat_tests)
 
 -- A collection that the ready events begin last isn't closed by what is held, nor by what may come.
@@ -96,13 +96,14 @@ balanced_around start end inside a b c d h =
     let tail = inside ++ end ∷ [] in
     record {
       counts =
-          omega
-          (arith,
-           sum_by-append (λ x. cond (is_start x) 1 0) (start ∷ []) (inside ++ end ∷ []),
-           sum_by-append (λ x. cond (is_end x) 1 0) (start ∷ []) (inside ++ end ∷ []),
-           sum_by-append (λ x. cond (is_start x) 1 0) inside (end ∷ []),
-           sum_by-append (λ x. cond (is_end x) 1 0) inside (end ∷ []),
-           h.counts);
+          omega (
+            arith,
+            sum_by-append (λ x. cond (is_start x) 1 0) (start ∷ []) (inside ++ end ∷ []),
+            sum_by-append (λ x. cond (is_end x) 1 0) (start ∷ []) (inside ++ end ∷ []),
+            sum_by-append (λ x. cond (is_start x) 1 0) inside (end ∷ []),
+            sum_by-append (λ x. cond (is_end x) 1 0) inside (end ∷ []),
+            h.counts,
+          );
     }
 
 mutual
@@ -129,7 +130,7 @@ whole_front : (first : Event) (rest : List Event) (p : List Event → Bool) → 
 whole_front first [] p h = ap (λ b. b || false) h
 whole_front first (next ∷ rest) p h =
     or_right (p (first ∷ [])) (list_any p (map (λ front. first ∷ front) (fronts (next ∷ rest))))
-        (any_map p (λ front. first ∷ front) (fronts (next ∷ rest)) ∙ whole_front next rest (λ front. p (first ∷ front)) h)
+    (any_map p (λ front. first ∷ front) (fronts (next ∷ rest)) ∙ whole_front next rest (λ front. p (first ∷ front)) h)
   where
     or_right : (a b : Bool) → b ≡ true → a || b ≡ true
     or_right true b h = refl
@@ -143,8 +144,8 @@ or_last false b h = h
 balanced_ready : (start : Event) (inside rest : List Event) → Balanced (start ∷ inside) → is_ready start (inside ++ rest) ≡ true
 balanced_ready start inside rest h =
     or_last (awaited start == 0 || nat_lt (awaited start) (length (start ∷ (inside ++ rest)))) (list_any is_balanced (fronts (start ∷ (inside ++ rest))))
-        (any_front (start ∷ inside) rest is_balanced
-            (whole_front start inside is_balanced (eq-eqb (count_by is_start (start ∷ inside)) (count_by is_end (start ∷ inside)) h.counts)))
+    (any_front (start ∷ inside) rest is_balanced
+    (whole_front start inside is_balanced (eq-eqb (count_by is_start (start ∷ inside)) (count_by is_end (start ∷ inside)) h.counts)))
 
 -- all of a list is ready before any other
 abbrev AllReady : List Event → List Event → Type 0
@@ -179,7 +180,7 @@ mutual
   pairs_whole no_pairs rest = record { count = omega arith }
   pairs_whole (pairs_and pairs key value) rest =
       whole_both (pairs_events pairs) (node_events key ++ node_events value) rest (pairs_whole pairs ((node_events key ++ node_events value) ++ rest))
-          (whole_both (node_events key) (node_events value) rest (node_whole key (node_events value ++ rest)) (node_whole value rest))
+      (whole_both (node_events key) (node_events value) rest (node_whole key (node_events value ++ rest)) (node_whole value rest))
 
 document_whole : (x : Document) (rest : List Event) → Whole (document_events x) rest
 document_whole x rest = whole_around (document_start x.start) (document_end x.end_implicit) (node_events x.root) rest refl (document_balanced x) (node_whole x.root (document_end x.end_implicit ∷ rest))

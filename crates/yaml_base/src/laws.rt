@@ -34,5 +34,4 @@ pub fn refused_exactly()
 /// All events of a whole stream are ready.
 pub fn whole_stream_is_ready()
     ensures { WholeStreamIsReady }
-{
-}
+{}
