@@ -16,3 +16,4 @@ pub mod Somewhere
 pub mod FirstCharacters
 pub mod PlainStarts
 pub mod PlainReads
+pub mod QuotingWritten

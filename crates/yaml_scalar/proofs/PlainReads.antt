@@ -12,7 +12,8 @@ use Rattle.yaml_base.specs.Plain.{plain_body, spaces}
 use Rattle.yaml_base.specs.ReadFolding.{unit_of, folding_read}
 use Rattle.yaml_base.specs.ReadPlain.{begins_no_plain, holds_no_plain, read_plain}
 use Rattle.yaml_base.proofs.BreakLaws.{breaks-round, indented-written}
-use Rattle.yaml_scalar.proofs.QuotingSteps.{WritesEach, steps_laid, runs_by_steps}
+use Rattle.yaml_scalar.specs.LineSteps.{steps_laid}
+use Rattle.yaml_scalar.proofs.QuotingSteps.{WritesEach, runs_by_steps}
 use Rattle.yaml_scalar.proofs.QuotingText.{bare_steps, bare_written, any_bare}
 use Rattle.yaml_scalar.proofs.QuotingFolds.{folding_reads, is_return, no_returns, laid_without_returns}
 use Rattle.yaml_scalar.proofs.QuotingIndents.{lines_indented}

@@ -8,7 +8,7 @@ use Rattle.yaml_base.specs.Cursor.{Cursor, text_laid, is_past_width}
 use Rattle.yaml_base.specs.Analysis.{Charset, bars_plain, begins_like_mark, begins_unlike_plain, begins_with, ends_word, is_empty, is_gap, somewhere}
 use Rattle.yaml_base.specs.Plain.{Kind, spaces, breaks, others, kind_of, is_same_kind, indentation}
 use Rattle.yaml_base.specs.ReadPlain.{begins_no_plain, begins_with_three, begins_white, begins_with_hash, holds_no_plain, is_read_white}
-use Rattle.yaml_scalar.proofs.QuotingSteps.{begins_kind, step_text}
+use Rattle.yaml_scalar.specs.LineSteps.{begins_kind, step_text}
 use Rattle.yaml_scalar.proofs.QuotingText.{bare_steps}
 use Rattle.yaml_scalar.proofs.QuotingFolds.{spaces_only, breaks_only}
 

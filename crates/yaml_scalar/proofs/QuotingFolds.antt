@@ -10,7 +10,7 @@ use Rattle.yaml_base.specs.Cursor.{Cursor, Laid, text_laid, is_past_width}
 use Rattle.yaml_base.specs.Analysis.{Charset, is_empty, is_special, begins_with, somewhere, bars_single_quoted, is_trailing_space}
 use Rattle.yaml_base.specs.Plain.{Kind, spaces, breaks, others, kind_of, is_same_kind, indentation}
 use Rattle.yaml_base.specs.ReadFolding.{FoldUnit, literal_blank, literal_break, itself, unit_of, Front, run_read, front_read, front_of, unit_before, folding_read}
-use Rattle.yaml_scalar.proofs.QuotingSteps.{begins_kind, step_text}
+use Rattle.yaml_scalar.specs.LineSteps.{begins_kind, step_text}
 use Rattle.yaml_scalar.proofs.QuotingText.{bare_steps}
 
 abbrev pub unit_of_kind : Kind → ℕ → FoldUnit

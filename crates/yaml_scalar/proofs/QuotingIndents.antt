@@ -10,7 +10,8 @@ use Rattle.yaml_base.specs.LineBreaks.{begins_indented, is_indented_text}
 use Rattle.yaml_base.specs.Plain.{Kind, spaces, breaks, others, kind_of, is_same_kind, indentation}
 use Rattle.yaml_base.proofs.BreakLaws.{break-begins}
 use Rattle.yaml_scalar.proofs.Unbroken.{is_unbroken, unbroken-indented, unbroken-replicate}
-use Rattle.yaml_scalar.proofs.QuotingSteps.{WritesEach, begins_kind, step_text, steps_laid}
+use Rattle.yaml_scalar.specs.LineSteps.{begins_kind, step_text, steps_laid}
+use Rattle.yaml_scalar.proofs.QuotingSteps.{WritesEach}
 use Rattle.yaml_scalar.proofs.QuotingFolds.{spaces_only, breaks_only}
 
 indentation-begins : (indent : ℕ) → 2 ≤ indent → (text : Text) → begins_indented (indentation indent ++ text) ≡ true
@@ -18,7 +19,7 @@ indentation-begins zero wide text = absurd (omega arith)
 indentation-begins (suc zero) wide text = absurd (omega arith)
 indentation-begins (suc (suc n)) wide text = refl
 
-others_only : (s b : Bool) → (if s then spaces else if b then breaks else others) ≡ others → b ≡ false
+pub others_only : (s b : Bool) → (if s then spaces else if b then breaks else others) ≡ others → b ≡ false
 others_only true b e = cc
 others_only false true e = cc
 others_only false false e = refl

@@ -5,34 +5,9 @@ use Rattle.std.proofs.Math.Bool.{and-false, and-true, or-false}
 use Rattle.yaml_base.specs.Characters.{Text, is_break, line_feed}
 use Rattle.yaml_base.specs.Cursor.{Cursor, Laid, nothing_laid, then_laid, text_laid, column_after, is_past_width}
 use Rattle.yaml_base.specs.Analysis.{is_empty}
+use Rattle.yaml_scalar.specs.LineSteps.{begins_kind, step_text, step_laid, steps_laid}
 use Rattle.yaml_scalar.proofs.Unbroken.{is_unbroken}
 use Rattle.yaml_base.specs.Plain.{Kind, spaces, breaks, others, kind_of, is_same_kind, Run, joined_to, runs, indentation, run_text, is_last, runs_laid}
-
--- the first character, where there is one, is of this kind
-abbrev pub begins_kind : Kind → Text → Bool
-begins_kind kind [] = false
-begins_kind kind (c ∷ rest) = is_same_kind kind (kind_of c)
-
--- a character's text, by its kind, the kind of the character before and what follows
-abbrev pub step_text :
-    (written : Text → Text) (folds : Bool) (indent : ℕ) (before kind : Kind) (c : ℕ) (rest : Text) → Text
-step_text written folds indent before spaces c rest =
-    if folds && not (is_same_kind before spaces || (is_empty rest || begins_kind spaces rest))
-    then line_feed ∷ indentation indent
-    else c ∷ []
-step_text written folds indent before breaks c rest =
-    (if c == line_feed && not (is_same_kind before breaks) then line_feed ∷ [] else [])
-    ++ (c ∷ (if begins_kind breaks rest then [] else indentation indent))
-step_text written folds indent before others c rest = written (c ∷ [])
-
--- a value from some character on; its start counts as if a space stood before it
-abbrev pub steps_laid :
-    (written : Text → Text) (limit : Option ℕ) (indent : ℕ) (before : Kind) → Text → Cursor → Laid
-steps_laid written limit indent before [] cursor = nothing_laid cursor
-steps_laid written limit indent before (c ∷ rest) cursor =
-    then_laid
-    (text_laid (step_text written (is_past_width limit cursor) indent before (kind_of c) c rest) cursor)
-    (steps_laid written limit indent (kind_of c) rest)
 
 -- texts are written character by character, and each but `'` stands for itself
 pub record WritesEach (written : Text → Text) : Type 0 where

@@ -8,7 +8,8 @@ use Rattle.yaml_base.specs.Characters.{Text, is_break, is_space, line_feed, spac
 use Rattle.yaml_base.specs.Cursor.{Cursor, Laid, text_laid, is_past_width}
 use Rattle.yaml_base.specs.Analysis.{is_empty}
 use Rattle.yaml_base.specs.Plain.{Kind, spaces, breaks, others, kind_of, is_same_kind, indentation}
-use Rattle.yaml_scalar.proofs.QuotingSteps.{WritesEach, begins_kind, step_text, steps_laid}
+use Rattle.yaml_scalar.specs.LineSteps.{begins_kind, step_text, steps_laid}
+use Rattle.yaml_scalar.proofs.QuotingSteps.{WritesEach}
 
 -- the lines with each character as it is; the cursor is that of the text as it is written
 abbrev pub bare_steps : (written : Text → Text) (limit : Option ℕ) (indent : ℕ) (before : Kind) → Text → Cursor → Text

@@ -15,7 +15,8 @@ use Rattle.yaml_base.specs.ReadFolding.{unit_of, folding_read}
 use Rattle.yaml_base.specs.ReadSingle.{unquoted, read_single}
 use Rattle.yaml_base.proofs.BreakLaws.{breaks-round, indented-written, laid-append}
 use Rattle.yaml_scalar.proofs.Unbroken.{is_unbroken}
-use Rattle.yaml_scalar.proofs.QuotingSteps.{WritesEach, steps_laid, runs_by_steps}
+use Rattle.yaml_scalar.specs.LineSteps.{steps_laid}
+use Rattle.yaml_scalar.proofs.QuotingSteps.{WritesEach, runs_by_steps}
 use Rattle.yaml_scalar.proofs.QuotingText.{bare_steps, bare_written, any_bare, any_cond}
 use Rattle.yaml_scalar.proofs.QuotingFolds.{folding_reads, is_return, no_returns, laid_without_returns}
 use Rattle.yaml_scalar.proofs.QuotingIndents.{lines_indented}

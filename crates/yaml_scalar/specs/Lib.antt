@@ -1,3 +1,4 @@
 pub mod ScalarData
 pub mod Width
 pub mod ReadsBack
+pub mod LineSteps

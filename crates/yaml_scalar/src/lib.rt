@@ -3,8 +3,8 @@
 
 mod analysis;
 mod steps;
+mod lines;
 mod style;
 mod width;
-
 pub use analysis::{analyze_scalar, scalar_data_t};
 pub use style::select_scalar_style;

@@ -1,0 +1,142 @@
+-- What the parts of a step write is the step's text, and steps one after another are the lines.
+use Rattle.std.proofs.Common.{◌≡◌, refl, sym, ap, ◌∙◌, subst, ℕ, List, [], ◌∷◌, ◌++◌, Bool, true, false, Ok, Err, Result}
+use Rattle.std.specs.Prelude.{Option, ◌==◌, ◌||◌, ◌&&◌, not, if◌then◌else◌}
+use Rattle.std.proofs.lemmas.Bool.{eqb-true}
+use Rattle.yaml_base.specs.Analysis.{is_empty}
+use Rattle.yaml_base.specs.Characters.{Text, is_break, is_space, line_feed, space}
+use Rattle.yaml_base.specs.Cursor.{Cursor, Laid, is_past_width, nothing_laid, text_laid, then_laid}
+use Rattle.yaml_base.specs.Plain.{Kind, spaces, breaks, others, kind_of, indentation, is_same_kind, runs, runs_laid}
+use Rattle.yaml_base.specs.declared.errors.yaml_error_t.{yaml_error_t}
+use Rattle.yaml_pen.specs.Page.{Page}
+use Rattle.yaml_pen.specs.Wrote.{Wrote}
+use Rattle.yaml_pen.proofs.Composing.{wrote_as, wrote_failed, wrote_no_error, wrote_nothing, wrote_then}
+use Rattle.yaml_scalar.specs.LineSteps.{begins_kind, step_laid, step_text, steps_laid, written_as}
+use Rattle.yaml_scalar.proofs.QuotingSteps.{WritesEach, runs_by_steps}
+use Rattle.yaml_scalar.proofs.QuotingFolds.{spaces_only, breaks_only}
+use Rattle.yaml_scalar.proofs.QuotingIndents.{others_only}
+use Rattle.yaml_scalar.proofs.SingleReads.{doubled_writes}
+use Rattle.yaml_scalar.proofs.PlainReads.{itself_writes}
+
+quote_text_by :
+    (c : ℕ) (quote : Bool) → (c == 39) ≡ quote →
+    (if quote then 39 ∷ [] else []) ++ (c ∷ []) ≡ (if quote then 39 ∷ 39 ∷ [] else c ∷ []) ++ []
+quote_text_by c true e = rw (eqb-true c 39 e)
+quote_text_by c false e = refl
+
+-- between quotes `'` stands behind another
+pub quote_text :
+    (quoted : Bool) (c : ℕ) (extra : Bool) → extra ≡ (quoted && c == 39) →
+    (if extra then 39 ∷ [] else []) ++ (c ∷ []) ≡ written_as quoted (c ∷ [])
+quote_text true c extra e = rw e (quote_text_by c (c == 39) refl)
+quote_text false c extra e = rw e refl
+
+-- the characters of a kind
+
+pub is_space_kind : (c : ℕ) → spaces ≡ kind_of c → c ≡ 32
+is_space_kind c k = eqb-true c 32 (spaces_only (is_space c) (is_break c) (sym k))
+
+pub is_break_kind : (c : ℕ) → breaks ≡ kind_of c → is_break c ≡ true
+is_break_kind c k = breaks_only (is_space c) (is_break c) (sym k)
+
+pub is_other_kind : (c : ℕ) → others ≡ kind_of c → is_break c ≡ false
+is_other_kind c k = others_only (is_space c) (is_break c) (sym k)
+
+-- a step by its kind
+abbrev StepText : (written : Text → Text) (past : Bool) (indent : ℕ) (before : Kind) (c : ℕ) (rest text : Text) → Type 0
+StepText written past indent before c rest text = text ≡ step_text written past indent before (kind_of c) c rest
+
+pub space_text :
+    (written : Text → Text) (past : Bool) (indent : ℕ) (before : Kind) (c : ℕ) (rest : Text) (folds : Bool) →
+    spaces ≡ kind_of c →
+    folds ≡ (past && not (is_same_kind before spaces || (is_empty rest || begins_kind spaces rest))) →
+    StepText written past indent before c rest (if folds then line_feed ∷ indentation indent else space ∷ [])
+space_text written past indent before c rest folds k e =
+    subst (λ (kind : Kind). (if folds then line_feed ∷ indentation indent else space ∷ []) ≡ step_text written past indent before kind c rest)
+    k (rw (e, is_space_kind c k) refl)
+
+pub break_step_text :
+    (written : Text → Text) (past : Bool) (indent : ℕ) (before : Kind) (c : ℕ) (rest : Text) (doubled goes_on : Bool) →
+    breaks ≡ kind_of c →
+    doubled ≡ (c == line_feed && not (is_same_kind before breaks)) →
+    goes_on ≡ begins_kind breaks rest →
+    StepText written past indent before c rest
+      ((if doubled then line_feed ∷ [] else []) ++ (c ∷ (if goes_on then [] else indentation indent)))
+break_step_text written past indent before c rest doubled goes_on k e f =
+    subst (λ (kind : Kind). (if doubled then line_feed ∷ [] else []) ++ (c ∷ (if goes_on then [] else indentation indent)) ≡ step_text written past indent before kind c rest)
+    k (rw (e, f) refl)
+
+pub other_text :
+    (written : Text → Text) (past : Bool) (indent : ℕ) (before : Kind) (c : ℕ) (rest : Text) →
+    others ≡ kind_of c →
+    StepText written past indent before c rest (written (c ∷ []))
+other_text written past indent before c rest k =
+    subst (λ (kind : Kind). written (c ∷ []) ≡ step_text written past indent before kind c rest) k refl
+
+-- what a call writes is the step
+pub wrote_step :
+    (written : Text → Text) (limit : Option ℕ) (indent : ℕ) (kind : Kind) (c : ℕ) (rest : Text)
+    {text : Text} {before after : Page} {answer : Result (Unit {0}) yaml_error_t} →
+    StepText written (is_past_width limit before.cursor) indent kind c rest text →
+    Wrote (text_laid text) before after answer →
+    Wrote (step_laid written limit indent kind c rest) before after answer
+wrote_step written limit indent kind c rest {text} {before} {after} {answer} is wrote =
+    wrote_as (step_laid written limit indent kind c rest) (ap (λ (t : Text). text_laid t before.cursor) is) wrote
+
+-- some lines are written, and whatever writes those that are left writes all
+pub record LinesBegun (written : Text → Text) (limit : Option ℕ) (indent : ℕ) (value left : Text) (kind : Kind) (before now : Page) : Type 0 where
+  pub fine : Wrote nothing_laid now now (Ok tt)
+  pub goes_on :
+      (after : Page) (answer : Result (Unit {0}) yaml_error_t) →
+      Wrote (steps_laid written limit indent kind left) now after answer →
+      Wrote (steps_laid written limit indent spaces value) before after answer
+
+pub lines_first :
+    (written : Text → Text) (limit : Option ℕ) (indent : ℕ) (value : Text) {before : Page} →
+    Wrote nothing_laid before before (Ok tt) →
+    LinesBegun written limit indent value value spaces before before
+lines_first written limit indent value fine = record { fine = fine; goes_on = λ after answer wrote. wrote }
+
+pub lines_more :
+    {written : Text → Text} {limit : Option ℕ} {indent : ℕ} {value left : Text} {kind : Kind} {before now next : Page} (c : ℕ) (rest : Text) →
+    LinesBegun written limit indent value left kind before now →
+    left ≡ c ∷ rest →
+    Wrote (step_laid written limit indent kind c rest) now next (Ok tt) →
+    LinesBegun written limit indent value rest (kind_of c) before next
+lines_more {written} {limit} {indent} {value} {left} {kind} {before} {now} {next} c rest begun is step = record {
+  fine = wrote_nothing step.ready (wrote_no_error step) step.handed;
+  goes_on = λ after answer more. begun.goes_on after answer
+      (subst (λ (t : Text). Wrote (steps_laid written limit indent kind t) now after answer) (sym is) (wrote_then step more));
+}
+
+pub lines_failed :
+    {written : Text → Text} {limit : Option ℕ} {indent : ℕ} {value left : Text} {kind : Kind} {before now next : Page} {error : yaml_error_t} (c : ℕ) (rest : Text) →
+    LinesBegun written limit indent value left kind before now →
+    left ≡ c ∷ rest →
+    Wrote (step_laid written limit indent kind c rest) now next (Err error) →
+    Wrote (steps_laid written limit indent spaces value) before next (Err error)
+lines_failed {written} {limit} {indent} {value} {left} {kind} {before} {now} {next} {error} c rest begun is step =
+    begun.goes_on next (Err error)
+    (subst (λ (t : Text). Wrote (steps_laid written limit indent kind t) now next (Err error)) (sym is)
+      (wrote_failed (steps_laid written limit indent (kind_of c) rest) step))
+
+pub lines_whole :
+    {written : Text → Text} {limit : Option ℕ} {indent : ℕ} {value left : Text} {kind : Kind} {before now : Page} →
+    LinesBegun written limit indent value left kind before now →
+    left ≡ [] →
+    Wrote (steps_laid written limit indent spaces value) before now (Ok tt)
+lines_whole {written} {limit} {indent} {value} {left} {kind} {before} {now} begun none =
+    begun.goes_on now (Ok tt)
+    (subst (λ (t : Text). Wrote (steps_laid written limit indent kind t) now now (Ok tt)) (sym none) begun.fine)
+
+pub written_each : (quoted : Bool) → WritesEach (written_as quoted)
+written_each true = doubled_writes
+written_each false = itself_writes
+
+-- lines by characters are those by runs
+pub wrote_runs :
+    (quoted : Bool) (limit : Option ℕ) (indent : ℕ) (value : Text) {before after : Page} {answer : Result (Unit {0}) yaml_error_t} →
+    Wrote (steps_laid (written_as quoted) limit indent spaces value) before after answer →
+    Wrote (runs_laid (written_as quoted) limit indent true (runs value)) before after answer
+wrote_runs quoted limit indent value {before} {after} {answer} wrote =
+    wrote_as (runs_laid (written_as quoted) limit indent true (runs value))
+    (sym (runs_by_steps (written_as quoted) (written_each quoted) limit indent value before.cursor)) wrote

@@ -1,0 +1,48 @@
+-- The lines of plain and single-quoted scalars character by character, as they are written.
+use Rattle.std.specs.Prelude.{ℕ, Bool, true, false, Option, List, [], ◌∷◌, ◌++◌, ◌==◌, ◌||◌, ◌&&◌, not, if◌then◌else◌}
+use Rattle.yaml_base.specs.Analysis.{is_empty}
+use Rattle.yaml_base.specs.Characters.{Text, line_feed}
+use Rattle.yaml_base.specs.Cursor.{Cursor, Laid, is_past_width, nothing_laid, text_laid, then_laid}
+use Rattle.yaml_base.specs.Plain.{Kind, spaces, breaks, others, indentation, is_same_kind, kind_of}
+use Rattle.yaml_base.specs.SingleQuoted.{quotes_doubled}
+use Rattle.yaml_scalar.specs.declared.lines.CharacterKind.{CharacterKind}
+use Rattle.yaml_scalar.specs.declared.lines.CharacterKind.TheVariants.{Space, Break, Other}
+
+abbrev pub seen_kind : CharacterKind → Kind
+seen_kind Space = spaces
+seen_kind Break = breaks
+seen_kind Other = others
+
+-- how characters are written between quotes, or without them
+abbrev pub written_as : (quoted : Bool) → Text → Text
+written_as true text = quotes_doubled text
+written_as false text = text
+
+-- the first character, where there is one, is of this kind
+abbrev pub begins_kind : Kind → Text → Bool
+begins_kind kind [] = false
+begins_kind kind (c ∷ rest) = is_same_kind kind (kind_of c)
+
+-- a character's text, by its kind, the kind of the character before and what follows
+abbrev pub step_text :
+    (written : Text → Text) (folds : Bool) (indent : ℕ) (before kind : Kind) (c : ℕ) (rest : Text) → Text
+step_text written folds indent before spaces c rest =
+    if folds && not (is_same_kind before spaces || (is_empty rest || begins_kind spaces rest))
+    then line_feed ∷ indentation indent
+    else c ∷ []
+step_text written folds indent before breaks c rest =
+    (if c == line_feed && not (is_same_kind before breaks) then line_feed ∷ [] else [])
+    ++ (c ∷ (if begins_kind breaks rest then [] else indentation indent))
+step_text written folds indent before others c rest = written (c ∷ [])
+
+abbrev pub step_laid :
+    (written : Text → Text) (limit : Option ℕ) (indent : ℕ) (before : Kind) (c : ℕ) (rest : Text) → Cursor → Laid
+step_laid written limit indent before c rest cursor =
+    text_laid (step_text written (is_past_width limit cursor) indent before (kind_of c) c rest) cursor
+
+-- a value from some character on; its start counts as if a space stood before it
+abbrev pub steps_laid :
+    (written : Text → Text) (limit : Option ℕ) (indent : ℕ) (before : Kind) → Text → Cursor → Laid
+steps_laid written limit indent before [] cursor = nothing_laid cursor
+steps_laid written limit indent before (c ∷ rest) cursor =
+    then_laid (step_laid written limit indent before c rest cursor) (steps_laid written limit indent (kind_of c) rest)

@@ -1,0 +1,237 @@
+//! The lines that plain and single-quoted scalars share: runs of spaces, of breaks and of other characters.
+ghost use Rattle.std.specs.Prelude.{◌≡◌, ◌==◌, ◌&&◌, ◌||◌, not, ◌++◌, [], ◌∷◌, true, false, if◌then◌else◌};
+ghost use Rattle.std.specs.Str.{chars};
+ghost use Rattle.yaml_base.specs.Analysis as analysis;
+ghost use Rattle.yaml_base.specs.Characters as class;
+ghost use Rattle.yaml_base.specs.Cursor as cursor;
+ghost use Rattle.yaml_base.specs.Cursor.{nothing_laid, text_laid, space_if};
+ghost use Rattle.yaml_base.specs.Plain as layout;
+ghost use Rattle.yaml_pen.specs.Page.{IsReady};
+ghost use Rattle.yaml_pen.specs.Wrote.{Wrote};
+ghost use Rattle.yaml_scalar.specs.LineSteps as steps;
+ghost use Rattle.yaml_scalar.specs.Width.{limit_where};
+
+use crate::width::is_past_width;
+use std::alloc::Allocator;
+use yaml_base::{is_break, is_space, yaml_error_t};
+use yaml_pen::Pen;
+
+/// What a run is made of.
+#[derive(Clone, Copy)]
+pub(crate) enum CharacterKind {
+    Space,
+    Break,
+    Other,
+}
+
+/// How lines are laid: between quotes each `'` is written twice; a fold may stand where breaks are allowed
+/// and the column is past the width; later lines are indented.
+#[derive(Clone, Copy)]
+pub(crate) struct Lines {
+    pub(crate) quoted: bool,
+    pub(crate) allow_breaks: bool,
+    pub(crate) indent: u32,
+    pub(crate) width: i32,
+}
+
+fn kind_of(character: char) -> CharacterKind
+    ensures { steps.seen_kind result ≡ layout.kind_of character }
+{
+    if is_space(character) {
+        CharacterKind::Space
+    } else if is_break(character) {
+        CharacterKind::Break
+    } else {
+        CharacterKind::Other
+    }
+}
+
+fn is_same_kind(one: CharacterKind, other: CharacterKind) -> bool
+    ensures { result ≡ layout.is_same_kind (steps.seen_kind one) (steps.seen_kind other) }
+{
+    matches!(
+        (one, other),
+        (CharacterKind::Space, CharacterKind::Space)
+            | (CharacterKind::Break, CharacterKind::Break)
+            | (CharacterKind::Other, CharacterKind::Other)
+    )
+}
+
+fn begins_kind(kind: CharacterKind, rest: &str) -> bool
+    ensures { result ≡ steps.begins_kind (steps.seen_kind kind) (chars rest.now) }
+{
+    match rest.chars().next() {
+        Some(c) => is_same_kind(kind, kind_of(c)),
+        None => false,
+    }
+}
+
+fn is_at_end(rest: &str) -> bool
+    ensures { result ≡ analysis.is_empty (chars rest.now) }
+{
+    match rest.chars().next() {
+        Some(_) => false,
+        None => true,
+    }
+}
+
+// Nothing is written, and the error of a pen that failed is told.
+fn go_on<A: Allocator>(pen: &Pen<A>) -> Result<(), yaml_error_t>
+    requires { IsReady pen.now }
+    ensures { Wrote nothing_laid pen.now pen.now result }
+{
+    match pen.error() {
+        Some(error) => Err(error),
+        None => Ok(()),
+    }
+}
+
+/// Writes a space, where one is needed and none stands there.
+pub(crate) fn separate<A: Allocator>(pen: &mut Pen<A>, need: bool) -> Result<(), yaml_error_t>
+    requires { IsReady pen.old }
+    ensures { Wrote (λ cursor. text_laid (space_if need cursor) cursor) pen.old pen.new result }
+{
+    if need && !pen.whitespace() { pen.put(b' ') } else { go_on(pen) }
+}
+
+fn write_indentation<A: Allocator>(pen: &mut Pen<A>, indent: u32) -> Result<(), yaml_error_t>
+    requires { IsReady pen.old }
+    ensures { Wrote (text_laid (layout.indentation indent)) pen.old pen.new result }
+{
+    go_on(pen)?;
+    for written in 0..indent {
+        pen.put(b' ')?;
+    }
+    Ok(())
+}
+
+fn write_fold<A: Allocator>(pen: &mut Pen<A>, indent: u32) -> Result<(), yaml_error_t>
+    requires { IsReady pen.old }
+    ensures { Wrote (text_laid (class.line_feed ∷ layout.indentation indent)) pen.old pen.new result }
+{
+    pen.put_break()?;
+    write_indentation(pen, indent)
+}
+
+fn write_space<A: Allocator>(pen: &mut Pen<A>, folds: bool, indent: u32) -> Result<(), yaml_error_t>
+    requires { IsReady pen.old }
+    ensures { Wrote (text_laid (if folds then class.line_feed ∷ layout.indentation indent else class.space ∷ [])) pen.old pen.new result }
+{
+    if folds { write_fold(pen, indent) } else { pen.put(b' ') }
+}
+
+fn write_extra_break<A: Allocator>(pen: &mut Pen<A>, needed: bool) -> Result<(), yaml_error_t>
+    requires { IsReady pen.old }
+    ensures { Wrote (text_laid (if needed then class.line_feed ∷ [] else [])) pen.old pen.new result }
+{
+    if needed { pen.put_break() } else { go_on(pen) }
+}
+
+fn write_line_start<A: Allocator>(pen: &mut Pen<A>, goes_on: bool, indent: u32) -> Result<(), yaml_error_t>
+    requires { IsReady pen.old }
+    ensures { Wrote (text_laid (if goes_on then [] else layout.indentation indent)) pen.old pen.new result }
+{
+    if goes_on { go_on(pen) } else { write_indentation(pen, indent) }
+}
+
+// A break of a run, LF before it where it is to be written twice, and behind the run's last one the
+// indentation.
+fn write_line_break<A: Allocator>(
+    pen: &mut Pen<A>,
+    character: char,
+    doubled: bool,
+    goes_on: bool,
+    indent: u32,
+) -> Result<(), yaml_error_t>
+    requires ready { IsReady pen.old }
+    requires a_break { class.is_break character ≡ true }
+    ensures { Wrote (text_laid ((if doubled then class.line_feed ∷ [] else []) ++ (character ∷ (if goes_on then [] else layout.indentation indent)))) pen.old pen.new result }
+{
+    write_extra_break(pen, doubled)?;
+    pen.write_break(character)?;
+    write_line_start(pen, goes_on, indent)
+}
+
+fn is_doubled_quote(character: char, quoted: bool) -> bool
+    ensures { result ≡ quoted && character == 39 }
+{
+    quoted && character == '\''
+}
+
+fn write_extra_quote<A: Allocator>(pen: &mut Pen<A>, needed: bool) -> Result<(), yaml_error_t>
+    requires { IsReady pen.old }
+    ensures { Wrote (text_laid (if needed then 39 ∷ [] else [])) pen.old pen.new result }
+{
+    if needed { pen.put(b'\'') } else { go_on(pen) }
+}
+
+fn write_other<A: Allocator>(pen: &mut Pen<A>, character: char, quoted: bool) -> Result<(), yaml_error_t>
+    requires ready { IsReady pen.old }
+    requires no_break { class.is_break character ≡ false }
+    ensures { Wrote (text_laid (steps.written_as quoted (character ∷ []))) pen.old pen.new result }
+{
+    let doubled = is_doubled_quote(character, quoted);
+    write_extra_quote(pen, doubled)?;
+    pen.write_char(character)
+}
+
+// LF that begins a run.
+fn is_doubled_break(character: char, before: CharacterKind) -> bool
+    ensures { result ≡ character == class.line_feed && not (layout.is_same_kind (steps.seen_kind before) layout.breaks) }
+{
+    character == '\n' && !is_same_kind(before, CharacterKind::Break)
+}
+
+// A run that is one space, neither first nor last, past the width.
+fn is_fold<A: Allocator>(pen: &Pen<A>, lines: Lines, before: CharacterKind, rest: &str) -> bool
+    ensures { result ≡ cursor.is_past_width (limit_where lines.allow_breaks lines.width) pen.now.cursor && not (layout.is_same_kind (steps.seen_kind before) layout.spaces || (analysis.is_empty (chars rest.now) || steps.begins_kind layout.spaces (chars rest.now))) }
+{
+    lines.allow_breaks
+        && is_past_width(pen, lines.width)
+        && !is_same_kind(before, CharacterKind::Space)
+        && !is_at_end(rest)
+        && !begins_kind(CharacterKind::Space, rest)
+}
+
+fn write_step<A: Allocator>(
+    pen: &mut Pen<A>,
+    lines: Lines,
+    before: CharacterKind,
+    character: char,
+    rest: &str,
+) -> Result<(), yaml_error_t>
+    requires { IsReady pen.old }
+    ensures { Wrote (steps.step_laid (steps.written_as lines.quoted) (limit_where lines.allow_breaks lines.width) lines.indent (steps.seen_kind before) character (chars rest.now)) pen.old pen.new result }
+{
+    match kind_of(character) {
+        CharacterKind::Space => {
+            let folds = is_fold(pen, lines, before, rest);
+            write_space(pen, folds, lines.indent)
+        }
+        CharacterKind::Break => {
+            let doubled = is_doubled_break(character, before);
+            let goes_on = begins_kind(CharacterKind::Break, rest);
+            write_line_break(pen, character, doubled, goes_on, lines.indent)
+        }
+        CharacterKind::Other => write_other(pen, character, lines.quoted),
+    }
+}
+
+/// Writes the lines of a value, the flags of the cursor left as they are.
+pub(crate) fn write_lines<A: Allocator>(
+    pen: &mut Pen<A>,
+    value: &str,
+    lines: Lines,
+) -> Result<(), yaml_error_t>
+    requires { IsReady pen.old }
+    ensures { Wrote (layout.runs_laid (steps.written_as lines.quoted) (limit_where lines.allow_breaks lines.width) lines.indent true (layout.runs (chars value.now))) pen.old pen.new result }
+{
+    go_on(pen)?;
+    let mut before = CharacterKind::Space;
+    let mut characters = value.chars();
+    while let Some(character) = characters.next() {
+        write_step(pen, lines, before, character, characters.as_str())?;
+        before = kind_of(character);
+    }
+    Ok(())
+}
