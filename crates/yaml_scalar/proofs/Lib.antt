@@ -17,3 +17,4 @@ pub mod FirstCharacters
 pub mod PlainStarts
 pub mod PlainReads
 pub mod QuotingWritten
+pub mod QuotingBack

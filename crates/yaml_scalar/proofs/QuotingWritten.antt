@@ -1,11 +1,13 @@
 -- What the parts of a step write is the step's text, and steps one after another are the lines.
-use Rattle.std.proofs.Common.{◌≡◌, refl, sym, ap, ◌∙◌, subst, ℕ, List, [], ◌∷◌, ◌++◌, Bool, true, false, Ok, Err, Result}
+use Rattle.std.proofs.Common.{◌≡◌, refl, sym, ap, ◌∙◌, subst, ℕ, List, [], ◌∷◌, ◌++◌, Bool, true, false, Ok, Err, Result, chars, rules}
 use Rattle.std.specs.Prelude.{Option, ◌==◌, ◌||◌, ◌&&◌, not, if◌then◌else◌}
 use Rattle.std.proofs.lemmas.Bool.{eqb-true}
+use Rattle.std.proofs.lemmas.Str.{chars-IsAscii}
 use Rattle.yaml_base.specs.Analysis.{is_empty}
 use Rattle.yaml_base.specs.Characters.{Text, is_break, is_space, line_feed, space}
-use Rattle.yaml_base.specs.Cursor.{Cursor, Laid, is_past_width, nothing_laid, text_laid, then_laid}
+use Rattle.yaml_base.specs.Cursor.{Cursor, Laid, indicator, is_past_width, nothing_laid, space_if, text_laid, then_laid}
 use Rattle.yaml_base.specs.Plain.{Kind, spaces, breaks, others, kind_of, indentation, is_same_kind, runs, runs_laid}
+use Rattle.yaml_base.specs.SingleQuoted.{quotes_doubled, single_quote, single_quoted_laid}
 use Rattle.yaml_base.specs.declared.errors.yaml_error_t.{yaml_error_t}
 use Rattle.yaml_pen.specs.Page.{Page}
 use Rattle.yaml_pen.specs.Wrote.{Wrote}
@@ -60,7 +62,7 @@ pub break_step_text :
     doubled ≡ (c == line_feed && not (is_same_kind before breaks)) →
     goes_on ≡ begins_kind breaks rest →
     StepText written past indent before c rest
-      ((if doubled then line_feed ∷ [] else []) ++ (c ∷ (if goes_on then [] else indentation indent)))
+    ((if doubled then line_feed ∷ [] else []) ++ (c ∷ (if goes_on then [] else indentation indent)))
 break_step_text written past indent before c rest doubled goes_on k e f =
     subst (λ (kind : Kind). (if doubled then line_feed ∷ [] else []) ++ (c ∷ (if goes_on then [] else indentation indent)) ≡ step_text written past indent before kind c rest)
     k (rw (e, f) refl)
@@ -117,7 +119,7 @@ pub lines_failed :
 lines_failed {written} {limit} {indent} {value} {left} {kind} {before} {now} {next} {error} c rest begun is step =
     begun.goes_on next (Err error)
     (subst (λ (t : Text). Wrote (steps_laid written limit indent kind t) now next (Err error)) (sym is)
-      (wrote_failed (steps_laid written limit indent (kind_of c) rest) step))
+    (wrote_failed (steps_laid written limit indent (kind_of c) rest) step))
 
 pub lines_whole :
     {written : Text → Text} {limit : Option ℕ} {indent : ℕ} {value left : Text} {kind : Kind} {before now : Page} →
@@ -140,3 +142,45 @@ pub wrote_runs :
 wrote_runs quoted limit indent value {before} {after} {answer} wrote =
     wrote_as (runs_laid (written_as quoted) limit indent true (runs value))
     (sym (runs_by_steps (written_as quoted) (written_each quoted) limit indent value before.cursor)) wrote
+
+-- without quotes, lines are those of plain text
+pub wrote_unquoted :
+    (quoted : Bool) (limit : Option ℕ) (indent : ℕ) (value : Text) {before after : Page} {answer : Result (Unit {0}) yaml_error_t} →
+    quoted ≡ false →
+    Wrote (runs_laid (written_as quoted) limit indent true (runs value)) before after answer →
+    Wrote (runs_laid (λ text. text) limit indent true (runs value)) before after answer
+wrote_unquoted quoted limit indent value {before} {after} {answer} e wrote =
+    subst (λ (q : Bool). Wrote (runs_laid (written_as q) limit indent true (runs value)) before after answer) e wrote
+
+-- between quotes, lines have each `'` doubled
+pub wrote_quoted :
+    (quoted : Bool) (limit : Option ℕ) (indent : ℕ) (value : Text) {before after : Page} {answer : Result (Unit {0}) yaml_error_t} →
+    quoted ≡ true →
+    Wrote (runs_laid (written_as quoted) limit indent true (runs value)) before after answer →
+    Wrote (runs_laid quotes_doubled limit indent true (runs value)) before after answer
+wrote_quoted quoted limit indent value {before} {after} {answer} e wrote =
+    subst (λ (q : Bool). Wrote (runs_laid (written_as q) limit indent true (runs value)) before after answer) e wrote
+
+pub quote_chars : chars (39 ∷ []) ≡ 39 ∷ []
+quote_chars = chars-IsAscii (39 ∷ []) (search rules)
+
+-- an opening quote behind the space that it needs
+opened : (column : ℕ) (whitespace indention : Bool) (next : Cursor → Laid) →
+    let cursor : Cursor = record { column = column; whitespace = whitespace; indention = indention } in
+    then_laid (indicator (39 ∷ []) true false false cursor) next ≡
+    then_laid (text_laid (space_if true cursor) cursor) (λ after. then_laid (single_quote after) next)
+opened column true indention next = refl
+opened column false indention next = refl
+
+-- the lines and the closing quote
+abbrev pub after_quote : (limit : Option ℕ) (indent : ℕ) (value : Text) → Cursor → Laid
+after_quote limit indent value cursor =
+    then_laid (runs_laid quotes_doubled limit indent true (runs value) cursor) single_quote
+
+pub wrote_single :
+    (limit : Option ℕ) (indent : ℕ) (value : Text) {before after : Page} {answer : Result (Unit {0}) yaml_error_t} →
+    Wrote (λ cursor. then_laid (indicator (39 ∷ []) true false false cursor) (after_quote limit indent value)) before after answer →
+    Wrote (single_quoted_laid limit indent value) before after answer
+wrote_single limit indent value {before} {after} {answer} wrote =
+    wrote_as (single_quoted_laid limit indent value)
+    (opened before.cursor.column before.cursor.whitespace before.cursor.indention (after_quote limit indent value)) wrote

@@ -2,9 +2,14 @@
 #![tactic(auto)]
 
 mod analysis;
-mod steps;
 mod lines;
+mod plain;
+mod single_quoted;
+mod steps;
 mod style;
 mod width;
+
 pub use analysis::{analyze_scalar, scalar_data_t};
+pub use plain::write_plain_scalar;
+pub use single_quoted::write_single_quoted_scalar;
 pub use style::select_scalar_style;

@@ -4,14 +4,14 @@ ghost use Rattle.std.specs.Str.{chars};
 ghost use Rattle.yaml_base.specs.Analysis as analysis;
 ghost use Rattle.yaml_base.specs.Characters as class;
 ghost use Rattle.yaml_base.specs.Cursor as cursor;
-ghost use Rattle.yaml_base.specs.Cursor.{nothing_laid, text_laid, space_if};
+ghost use Rattle.yaml_base.specs.Cursor.{text_laid, space_if};
 ghost use Rattle.yaml_base.specs.Plain as layout;
 ghost use Rattle.yaml_pen.specs.Page.{IsReady};
 ghost use Rattle.yaml_pen.specs.Wrote.{Wrote};
 ghost use Rattle.yaml_scalar.specs.LineSteps as steps;
 ghost use Rattle.yaml_scalar.specs.Width.{limit_where};
 
-use crate::width::is_past_width;
+use crate::steps::{go_on, may_fold_here};
 use std::alloc::Allocator;
 use yaml_base::{is_break, is_space, yaml_error_t};
 use yaml_pen::Pen;
@@ -66,7 +66,7 @@ fn begins_kind(kind: CharacterKind, rest: &str) -> bool
     }
 }
 
-fn is_at_end(rest: &str) -> bool
+pub(crate) fn is_at_end(rest: &str) -> bool
     ensures { result ≡ analysis.is_empty (chars rest.now) }
 {
     match rest.chars().next() {
@@ -75,23 +75,16 @@ fn is_at_end(rest: &str) -> bool
     }
 }
 
-// Nothing is written, and the error of a pen that failed is told.
-fn go_on<A: Allocator>(pen: &Pen<A>) -> Result<(), yaml_error_t>
-    requires { IsReady pen.now }
-    ensures { Wrote nothing_laid pen.now pen.now result }
-{
-    match pen.error() {
-        Some(error) => Err(error),
-        None => Ok(()),
-    }
-}
-
 /// Writes a space, where one is needed and none stands there.
 pub(crate) fn separate<A: Allocator>(pen: &mut Pen<A>, need: bool) -> Result<(), yaml_error_t>
     requires { IsReady pen.old }
     ensures { Wrote (λ cursor. text_laid (space_if need cursor) cursor) pen.old pen.new result }
 {
-    if need && !pen.whitespace() { pen.put(b' ') } else { go_on(pen) }
+    if need && !pen.whitespace() {
+        pen.put(b' ')
+    } else {
+        go_on(pen)
+    }
 }
 
 fn write_indentation<A: Allocator>(pen: &mut Pen<A>, indent: u32) -> Result<(), yaml_error_t>
@@ -117,7 +110,11 @@ fn write_space<A: Allocator>(pen: &mut Pen<A>, folds: bool, indent: u32) -> Resu
     requires { IsReady pen.old }
     ensures { Wrote (text_laid (if folds then class.line_feed ∷ layout.indentation indent else class.space ∷ [])) pen.old pen.new result }
 {
-    if folds { write_fold(pen, indent) } else { pen.put(b' ') }
+    if folds {
+        write_fold(pen, indent)
+    } else {
+        pen.put(b' ')
+    }
 }
 
 fn write_extra_break<A: Allocator>(pen: &mut Pen<A>, needed: bool) -> Result<(), yaml_error_t>
@@ -127,11 +124,19 @@ fn write_extra_break<A: Allocator>(pen: &mut Pen<A>, needed: bool) -> Result<(),
     if needed { pen.put_break() } else { go_on(pen) }
 }
 
-fn write_line_start<A: Allocator>(pen: &mut Pen<A>, goes_on: bool, indent: u32) -> Result<(), yaml_error_t>
+fn write_line_start<A: Allocator>(
+    pen: &mut Pen<A>,
+    goes_on: bool,
+    indent: u32,
+) -> Result<(), yaml_error_t>
     requires { IsReady pen.old }
     ensures { Wrote (text_laid (if goes_on then [] else layout.indentation indent)) pen.old pen.new result }
 {
-    if goes_on { go_on(pen) } else { write_indentation(pen, indent) }
+    if goes_on {
+        go_on(pen)
+    } else {
+        write_indentation(pen, indent)
+    }
 }
 
 // A break of a run, LF before it where it is to be written twice, and behind the run's last one the
@@ -165,7 +170,11 @@ fn write_extra_quote<A: Allocator>(pen: &mut Pen<A>, needed: bool) -> Result<(),
     if needed { pen.put(b'\'') } else { go_on(pen) }
 }
 
-fn write_other<A: Allocator>(pen: &mut Pen<A>, character: char, quoted: bool) -> Result<(), yaml_error_t>
+fn write_other<A: Allocator>(
+    pen: &mut Pen<A>,
+    character: char,
+    quoted: bool,
+) -> Result<(), yaml_error_t>
     requires ready { IsReady pen.old }
     requires no_break { class.is_break character ≡ false }
     ensures { Wrote (text_laid (steps.written_as quoted (character ∷ []))) pen.old pen.new result }
@@ -186,8 +195,7 @@ fn is_doubled_break(character: char, before: CharacterKind) -> bool
 fn is_fold<A: Allocator>(pen: &Pen<A>, lines: Lines, before: CharacterKind, rest: &str) -> bool
     ensures { result ≡ cursor.is_past_width (limit_where lines.allow_breaks lines.width) pen.now.cursor && not (layout.is_same_kind (steps.seen_kind before) layout.spaces || (analysis.is_empty (chars rest.now) || steps.begins_kind layout.spaces (chars rest.now))) }
 {
-    lines.allow_breaks
-        && is_past_width(pen, lines.width)
+    may_fold_here(pen, lines.allow_breaks, lines.width)
         && !is_same_kind(before, CharacterKind::Space)
         && !is_at_end(rest)
         && !begins_kind(CharacterKind::Space, rest)

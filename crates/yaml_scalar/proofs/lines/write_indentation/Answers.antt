@@ -11,14 +11,14 @@ pub returns-in_err-put : goal.returns-in_err-put
 returns-in_err-put g c =
     let written = c.loop-written.written in
     let more : indentation c.args.indent ≡ (indentation written ++ space ∷ []) ++ indentation (c.args.indent - (written + 1)) =
-          sym (ap (λ l. l ++ indentation (c.args.indent - (written + 1))) (replicate_more written space)
-            ∙ replicate-append-replicate (written + 1) (c.args.indent - (written + 1)) space
-            ∙ ap (λ n. indentation n) (omega arith)) in
+    sym (ap (λ l. l ++ indentation (c.args.indent - (written + 1))) (replicate_more written space)
+    ∙ replicate-append-replicate (written + 1) (c.args.indent - (written + 1)) space
+    ∙ ap (λ n. indentation n) (omega arith)) in
     wrote_exit c.from_residual-in_err-put.ensures
-      (wrote_cut (text_laid (indentation c.args.indent)) (indentation (c.args.indent - (written + 1))) more
-        (wrote_text_then c.loop-written.invariant c.in_err-put.ensures.written))
+    (wrote_cut (text_laid (indentation c.args.indent)) (indentation (c.args.indent - (written + 1))) more
+    (wrote_text_then c.loop-written.invariant c.in_err-put.ensures.written))
 
 pub loop-written-preserved : goal.loop-written-preserved
 loop-written-preserved g c =
     subst (λ (l : List ℕ). Wrote (text_laid l) c.args.pen.now c.put.new.self (Ok tt)) (replicate_more c.loop-written.written space)
-      (wrote_text_then c.loop-written.invariant c.in_ok-put.ensures.written)
+    (wrote_text_then c.loop-written.invariant c.in_ok-put.ensures.written)

@@ -11,15 +11,15 @@ use Rattle.yaml_scalar.proofs.QuotingWritten.{LinesBegun, lines_more, lines_fail
 use Rattle.yaml_scalar.proofs.lines.write_lines.Goals as goal
 
 pub returns-in_err-write_step : goal.returns-in_err-write_step
-returns-in_err-write_step g c = 
+returns-in_err-write_step g c =
     let rest = chars (chars_rest c.next.new.self) in
     let limit = limit_where c.args.lines.allow_breaks c.args.lines.width in
     let left = chars_past_char _ (chars_rest c.next.new.self) c.in-Some.character c.loop-character.invariant.is_text c.in-Some.ensures.steps.0 in
     let step = subst (λ (t : List ℕ). Wrote (step_laid (written_as c.args.lines.quoted) limit c.args.lines.indent (seen_kind c.loop-character.before) c.in-Some.character (chars t)) c.loop-character.pen c.write_step.new.pen (Err c.in_err-write_step.field-0.0))
-      c.as_str.ensures c.in_err-write_step.ensures in
+    c.as_str.ensures c.in_err-write_step.ensures in
     wrote_exit c.from_residual-in_err-write_step.ensures
-      (wrote_runs c.args.lines.quoted limit c.args.lines.indent (chars c.args.value.now)
-        (lines_failed c.in-Some.character rest c.loop-character.invariant.begun left step))
+    (wrote_runs c.args.lines.quoted limit c.args.lines.indent (chars c.args.value.now)
+    (lines_failed c.in-Some.character rest c.loop-character.invariant.begun left step))
 
 pub loop-character-preserved : goal.loop-character-preserved
 loop-character-preserved g c =
@@ -27,7 +27,7 @@ loop-character-preserved g c =
     let limit = limit_where c.args.lines.allow_breaks c.args.lines.width in
     let left = chars_past_char _ (chars_rest c.next.new.self) c.in-Some.character c.loop-character.invariant.is_text c.in-Some.ensures.steps.0 in
     let step = subst (λ (t : List ℕ). Wrote (step_laid (written_as c.args.lines.quoted) limit c.args.lines.indent (seen_kind c.loop-character.before) c.in-Some.character (chars t)) c.loop-character.pen c.write_step.new.pen (Ok tt))
-      c.as_str.ensures c.in_ok-write_step.ensures in
+    c.as_str.ensures c.in_ok-write_step.ensures in
     record {
       is_text = IsUtf8-past_char _ _ c.in-Some.character c.loop-character.invariant.is_text c.in-Some.ensures.steps.0;
       begun = subst (λ (kind : Kind). LinesBegun (written_as c.args.lines.quoted) limit c.args.lines.indent (chars c.args.value.now) rest kind c.args.pen.now c.write_step.new.pen)
@@ -38,4 +38,4 @@ loop-character-preserved g c =
 pub returns : goal.returns
 returns g c =
     wrote_runs c.args.lines.quoted (limit_where c.args.lines.allow_breaks c.args.lines.width) c.args.lines.indent (chars c.args.value.now)
-      (lines_whole c.loop-character.invariant.begun (ap chars (nil_from_length _ c.in_default.ensures.steps.0.0) ∙ chars-nil))
+    (lines_whole c.loop-character.invariant.begun (ap chars (nil_from_length _ c.in_default.ensures.steps.0.0) ∙ chars-nil))

@@ -10,7 +10,7 @@ invariant-loop-character g l =
     record {
       is_text : IsUtf8 (chars_rest l.characters);
       begun : LinesBegun (written_as l.lines.quoted) (limit_where l.lines.allow_breaks l.lines.width) l.lines.indent
-        (chars l.fn.value) (chars (chars_rest l.characters)) (seen_kind l.before) l.initial.pen l.pen;
+          (chars l.fn.value) (chars (chars_rest l.characters)) (seen_kind l.before) l.initial.pen l.pen;
     }
 
 abbrev pub decreases-loop-character : goal.decreases-loop-character

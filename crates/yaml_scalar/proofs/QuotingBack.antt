@@ -1,0 +1,78 @@
+-- What a writer of plain or single-quoted scalars wrote reads back.
+use Rattle.std.proofs.lemmas.Int.{ints}
+use Rattle.std.proofs.Common.{◌≡◌, refl, sym, ap, ◌∙◌, subst, ℕ, ◌≤◌, List, [], ◌∷◌, ◌++◌, Bool, true, false, Ok, Err, Result, IfOk, arith, pos, negsuc, ℤ, ◌≤ℤ◌}
+use Rattle.std.specs.Prelude.{Option, Some, ◌&&◌, not, if◌then◌else◌}
+use Rattle.std.specs.List.{list_all}
+use Rattle.yaml_base.specs.Analysis.{Charset, allows_plain, allows_single_quoted}
+use Rattle.yaml_base.specs.Characters.{Text, is_space, space}
+use Rattle.yaml_base.specs.Cursor.{Cursor, Laid, indicator, space_if, text_laid, then_laid, with_flags}
+use Rattle.yaml_base.specs.LineBreaks.{is_indented_text, with_breaks_written, with_line_breaks_read}
+use Rattle.yaml_base.specs.Plain.{plain_body, plain_laid, runs, runs_laid}
+use Rattle.yaml_base.specs.ReadPlain.{read_plain}
+use Rattle.yaml_base.specs.ReadSingle.{read_single}
+use Rattle.yaml_base.specs.Settings.{LineBreak}
+use Rattle.yaml_base.specs.SingleQuoted.{quotes_doubled, single_quote, single_quoted_body, single_quoted_laid}
+use Rattle.yaml_base.specs.declared.errors.yaml_error_t.{yaml_error_t}
+use Rattle.yaml_pen.specs.Page.{Page, natural}
+use Rattle.yaml_pen.specs.Wrote.{Wrote}
+use Rattle.yaml_pen.proofs.Composing.{with_breaks_written-append, wrote_all, wrote_as}
+use Rattle.yaml_scalar.specs.LineSteps.{written_as}
+use Rattle.yaml_scalar.specs.ReadsBack.{ReadsBack}
+use Rattle.yaml_scalar.proofs.PlainReads.{plain-indented, plain-reads}
+use Rattle.yaml_scalar.proofs.SingleReads.{single-indented, single-reads}
+
+pub two_or_more : (n : ℤ) → pos 2 ≤ℤ n → 2 ≤ natural n
+two_or_more (pos n) h = omega (arith, ints)
+two_or_more (negsuc n) h = omega (arith, ints)
+
+lead_spaces : (setting : LineBreak) (space_stands : Bool) (cursor : Cursor) → list_all is_space (with_breaks_written setting (space_if space_stands cursor)) ≡ true
+lead_spaces setting need cursor = by (need && not cursor.whitespace)
+  where
+    by : (b : Bool) → list_all is_space (with_breaks_written setting (if b then space ∷ [] else [])) ≡ true
+    by true = refl
+    by false = refl
+
+-- a lead of at most one space, and a body that reads as a value
+pub body_back :
+    (read : Text → Option Text) (value : Text) (need : Bool) (body : Cursor → Laid) {before after : Page} →
+    ((cursor : Cursor) (setting : LineBreak) → read (with_line_breaks_read (with_breaks_written setting (body cursor).text)) ≡ Some value) →
+    ((cursor : Cursor) (setting : LineBreak) → is_indented_text (with_breaks_written setting (body cursor).text) ≡ true) →
+    Wrote (λ cursor. then_laid (text_laid (space_if need cursor) cursor) body) before after (Ok tt) →
+    ReadsBack read value before.text after.text
+body_back read value need body {before} {after} reads indented wrote =
+    let lead = space_if need before.cursor in
+    let start = (text_laid lead before.cursor).cursor in
+    record {
+      lead = with_breaks_written before.line_break lead;
+      body = with_breaks_written before.line_break (body start).text;
+      grown = (wrote_all wrote).text ∙ ap (λ (t : Text). before.text ++ t) (with_breaks_written-append before.line_break lead (body start).text);
+      spaces = lead_spaces before.line_break need before.cursor;
+      reads = reads start before.line_break;
+      indented = indented start before.line_break;
+    }
+
+pub plain_back :
+    (charset : Charset) (flow : Bool) (limit : Option ℕ) (indent : ℕ) (value : Text) {before after : Page} (answer : Result (Unit {0}) yaml_error_t) →
+    2 ≤ indent →
+    allows_plain charset flow value ≡ true →
+    Wrote (plain_laid flow limit indent value) before after answer →
+    IfOk answer (λ _. ReadsBack (read_plain charset.breaks12 flow) value before.text after.text)
+plain_back charset flow limit indent value {before} {after} (Ok done) wide allowed wrote =
+    body_back (read_plain charset.breaks12 flow) value _ (plain_body limit indent value)
+    (λ cursor setting. plain-reads charset flow limit indent value cursor setting allowed)
+    (λ cursor setting. plain-indented limit indent value cursor setting wide)
+    wrote
+plain_back charset flow limit indent value {before} {after} (Err error) wide allowed wrote = tt
+
+pub single_back :
+    (charset : Charset) (limit : Option ℕ) (indent : ℕ) (value : Text) {before after : Page} (answer : Result (Unit {0}) yaml_error_t) →
+    2 ≤ indent →
+    allows_single_quoted charset value ≡ true →
+    Wrote (single_quoted_laid limit indent value) before after answer →
+    IfOk answer (λ _. ReadsBack (read_single charset.breaks12) value before.text after.text)
+single_back charset limit indent value {before} {after} (Ok done) wide allowed wrote =
+    body_back (read_single charset.breaks12) value true (single_quoted_body limit indent value)
+    (λ cursor setting. single-reads charset limit indent value cursor setting allowed)
+    (λ cursor setting. single-indented limit indent value cursor setting wide)
+    wrote
+single_back charset limit indent value {before} {after} (Err error) wide allowed wrote = tt

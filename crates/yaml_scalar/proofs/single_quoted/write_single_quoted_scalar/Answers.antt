@@ -1,0 +1,14 @@
+use Rattle.std.proofs.Common.{rules, chars}
+use Rattle.yaml_base.specs.SingleQuoted.{single_quoted_laid}
+use Rattle.yaml_pen.specs.Page.{natural}
+use Rattle.yaml_pen.specs.Wrote.{Wrote}
+use Rattle.yaml_scalar.specs.Width.{limit_where}
+use Rattle.yaml_scalar.proofs.QuotingBack.{single_back, two_or_more}
+use Rattle.yaml_scalar.proofs.single_quoted.write_single_quoted_scalar.Goals as goal
+
+pub returns-clause-reads : goal.returns-clause-reads
+returns-clause-reads g c charset allowed =
+    let limit = limit_where c.args.allow_breaks c.args.width in
+    let wrote : Wrote (single_quoted_laid limit (natural c.args.indent) (chars c.args.value.now)) c.args.pen.now c.write_laid.new.pen c.write_laid.result = search rules in
+    single_back charset limit (natural c.args.indent) (chars c.args.value.now) c.write_laid.result
+    (two_or_more c.args.indent c.requires.indented) allowed wrote

@@ -1,0 +1,79 @@
+//! Plain scalars.
+ghost use Rattle.std.specs.Prelude.{◌≡◌, pos, ◌≤ℤ◌, ◌||◌, not, true, false, IfOk};
+ghost use Rattle.std.specs.Str.{chars};
+ghost use Rattle.yaml_base.specs.Analysis.{Charset, allows_plain, is_empty};
+ghost use Rattle.yaml_base.specs.Plain.{plain_body, plain_laid};
+ghost use Rattle.yaml_base.specs.ReadPlain.{read_plain};
+ghost use Rattle.yaml_pen.specs.Page.{IsReady, natural};
+ghost use Rattle.yaml_pen.specs.Wrote.{Wrote};
+ghost use Rattle.yaml_scalar.specs.ReadsBack.{ReadsBack};
+ghost use Rattle.yaml_scalar.specs.Width.{limit_where};
+
+use crate::lines::{Lines, is_at_end, separate, write_lines};
+use std::alloc::Allocator;
+use yaml_base::yaml_error_t;
+use yaml_pen::Pen;
+
+/// Writes a plain scalar (YAML 1.1, section 9.1.3), a space before it where one is needed: an empty value
+/// needs one only in a flow collection. Where breaks are allowed a lone space past the width, a column
+/// counted in characters, becomes a break and the indentation; `i32::MAX` is no width.
+///
+/// Answers `WriteError` where the output's limit is passed, `Memory` where the output finds no room, and
+/// the pen's error where it failed before.
+pub fn write_plain_scalar<A: Allocator>(
+    pen: &mut Pen<A>,
+    value: &str,
+    allow_breaks: bool,
+    flow: bool,
+    indent: i32,
+    width: i32,
+) -> Result<(), yaml_error_t>
+    requires ready { IsReady pen.old }
+    requires indented { pos 2 ≤ℤ indent }
+    ensures written { Wrote (plain_laid flow (limit_where allow_breaks width) (natural indent) (chars value.now)) pen.old pen.new result }
+    ensures reads { (charset : Charset) → allows_plain charset flow (chars value.now) ≡ true → IfOk result (λ _. ReadsBack (read_plain charset.breaks12 flow) (chars value.now) pen.old.text pen.new.text) }
+{
+    write_laid(
+        pen,
+        value,
+        flow,
+        Lines {
+            quoted: false,
+            allow_breaks,
+            indent: indent as u32,
+            width,
+        },
+    )
+}
+
+fn write_laid<A: Allocator>(
+    pen: &mut Pen<A>,
+    value: &str,
+    flow: bool,
+    lines: Lines,
+) -> Result<(), yaml_error_t>
+    requires ready { IsReady pen.old }
+    requires plain { lines.quoted ≡ false }
+    ensures { Wrote (plain_laid flow (limit_where lines.allow_breaks lines.width) lines.indent (chars value.now)) pen.old pen.new result }
+{
+    separate(pen, needs_space(flow, value))?;
+    write_body(pen, value, lines)
+}
+
+// The empty value needs none in a block collection or as a root.
+fn needs_space(flow: bool, value: &str) -> bool
+    ensures { result ≡ flow || not (is_empty (chars value.now)) }
+{
+    flow || !is_at_end(value)
+}
+
+fn write_body<A: Allocator>(pen: &mut Pen<A>, value: &str, lines: Lines) -> Result<(), yaml_error_t>
+    requires ready { IsReady pen.old }
+    requires plain { lines.quoted ≡ false }
+    ensures { Wrote (plain_body (limit_where lines.allow_breaks lines.width) lines.indent (chars value.now)) pen.old pen.new result }
+{
+    write_lines(pen, value, lines)?;
+    pen.set_whitespace(false);
+    pen.set_indention(false);
+    Ok(())
+}

@@ -1,0 +1,64 @@
+//! Single-quoted scalars.
+ghost use Rattle.std.specs.Prelude.{◌≡◌, pos, ◌≤ℤ◌, true, false, IfOk, codes};
+ghost use Rattle.std.specs.Str.{chars};
+ghost use Rattle.yaml_base.specs.Analysis.{Charset, allows_single_quoted};
+ghost use Rattle.yaml_base.specs.Cursor.{indicator};
+ghost use Rattle.yaml_base.specs.SingleQuoted.{single_quoted_laid};
+ghost use Rattle.yaml_base.specs.ReadSingle.{read_single};
+ghost use Rattle.yaml_pen.specs.Page.{IsReady, natural};
+ghost use Rattle.yaml_pen.specs.Wrote.{Wrote};
+ghost use Rattle.yaml_scalar.specs.ReadsBack.{ReadsBack};
+ghost use Rattle.yaml_scalar.specs.Width.{limit_where};
+
+use crate::lines::{Lines, write_lines};
+use std::alloc::Allocator;
+use yaml_base::yaml_error_t;
+use yaml_pen::Pen;
+
+/// Writes a scalar between single quotes (YAML 1.1, section 9.1.2), a space before it where one is needed.
+/// Each `'` is doubled, and so is LF that begins a run of breaks; behind a run stands the indentation.
+/// Where breaks are allowed a lone space past the width, a column counted in characters, becomes a break
+/// and the indentation, unless it is the value's first or last character; `i32::MAX` is no width.
+///
+/// Answers `WriteError` where the output's limit is passed, `Memory` where the output finds no room, and
+/// the pen's error where it failed before.
+pub fn write_single_quoted_scalar<A: Allocator>(
+    pen: &mut Pen<A>,
+    value: &str,
+    allow_breaks: bool,
+    indent: i32,
+    width: i32,
+) -> Result<(), yaml_error_t>
+    requires ready { IsReady pen.old }
+    requires indented { pos 2 ≤ℤ indent }
+    ensures written { Wrote (single_quoted_laid (limit_where allow_breaks width) (natural indent) (chars value.now)) pen.old pen.new result }
+    ensures reads { (charset : Charset) → allows_single_quoted charset (chars value.now) ≡ true → IfOk result (λ _. ReadsBack (read_single charset.breaks12) (chars value.now) pen.old.text pen.new.text) }
+{
+    write_laid(
+        pen,
+        value,
+        Lines {
+            quoted: true,
+            allow_breaks,
+            indent: indent as u32,
+            width,
+        },
+    )
+}
+
+fn write_laid<A: Allocator>(pen: &mut Pen<A>, value: &str, lines: Lines) -> Result<(), yaml_error_t>
+    requires ready { IsReady pen.old }
+    requires quoted { lines.quoted ≡ true }
+    ensures { Wrote (single_quoted_laid (limit_where lines.allow_breaks lines.width) lines.indent (chars value.now)) pen.old pen.new result }
+{
+    write_quote(pen, true)?;
+    write_lines(pen, value, lines)?;
+    write_quote(pen, false)
+}
+
+fn write_quote<A: Allocator>(pen: &mut Pen<A>, need_whitespace: bool) -> Result<(), yaml_error_t>
+    requires { IsReady pen.old }
+    ensures { Wrote (indicator (codes "'") need_whitespace false false) pen.old pen.new result }
+{
+    pen.write_indicator("'", need_whitespace, false, false)
+}
