@@ -27,3 +27,4 @@ pub mod RowsScript
 pub mod RowsMeetings
 pub mod RowsCanonical
 pub mod RowsUnfolding
+pub mod Literals

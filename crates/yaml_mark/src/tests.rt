@@ -1,8 +1,17 @@
+ghost use Rattle.std.specs.Prelude.{◌≡◌, IfOk, chars};
+ghost use Rattle.std.specs.List.{list_any};
+ghost use Rattle.yaml_base.specs.Characters as class;
+ghost use Rattle.yaml_pen.specs.Page.{IsReady};
+
 use super::*;
 use linked_list_allocator::LocalHeap;
 use std::alloc::{AllocError, Allocator, Global};
 use std::test::Fail;
-use yaml_base::{yaml_error_t, yaml_tag_directive_t, yaml_version_directive_t};
+use yaml_base::{
+    YAML_LN_BREAK, YAML_UTF8_ENCODING, is_break, yaml_error_t, yaml_tag_directive_t,
+    yaml_version_directive_t,
+};
+use yaml_pen::Pen;
 
 fn directive<A: Allocator + Copy>(
     alloc: A,
@@ -221,5 +230,151 @@ fn refused_growths_change_nothing(rt: HostRuntime) -> Result<(), Fail> {
     }
     assert!(rt; refused >= 3);
     assert!(rt; added >= 1);
+    Ok(())
+}
+
+fn begun<A: Allocator + Copy>(alloc: A) -> Result<Pen<A>, yaml_error_t>
+    ensures { IfOk result (λ pen. IsReady pen) }
+{
+    let mut pen = Pen::new(alloc)?;
+    pen.begin(YAML_UTF8_ENCODING, YAML_LN_BREAK);
+    Ok(pen)
+}
+
+// What `write_tag_content` writes of a text.
+fn content<A: Allocator + Copy>(alloc: A, text: &str) -> Result<Vec<u8, A>, yaml_error_t> {
+    let mut pen = begun(alloc)?;
+    write_tag_content(&mut pen, text, false)?;
+    pen.flush()?;
+    Vec::from_slice(alloc, pen.output()).map_err(|_| yaml_error_t::Memory)
+}
+
+fn has_break(text: &str) -> bool
+    ensures { result ≡ list_any class.is_break (chars text.now) }
+{
+    text.chars().any(|c| is_break(c))
+}
+
+// The tag as it is written, `&a` before it.
+#[tactic(auto, using(yaml_base::proofs::Literals::literal_unbroken))]
+fn spelled<A: Allocator + Copy>(
+    alloc: A,
+    tag: &str,
+    directives: &Directives<A>,
+) -> Result<Vec<u8, A>, yaml_error_t> {
+    let mut pen = begun(alloc)?;
+    pen.write_indicator("&", true, false, false)?;
+    write_anchor(&mut pen, "a")?;
+    let cut = analyze_tag(tag, directives)?;
+    match cut.directive {
+        Some(number) => {
+            let Some(directive) = directives.get(number) else {
+                return Err(yaml_error_t::TagEmpty);
+            };
+            let handle = directive.handle.as_str();
+            if has_break(handle) {
+                return Err(yaml_error_t::TagHandleAlphabet);
+            }
+            write_tag_handle(&mut pen, handle)?;
+            write_tag_content(&mut pen, &tag[cut.prefix_length..], false)?;
+        }
+        None => {
+            pen.write_indicator("!<", true, false, false)?;
+            write_tag_content(&mut pen, tag, false)?;
+            pen.write_indicator(">", false, false, false)?;
+        }
+    }
+    pen.flush()?;
+    Vec::from_slice(alloc, pen.output()).map_err(|_| yaml_error_t::Memory)
+}
+
+#[test]
+fn tags_are_written_by_their_spelling(rt: HostRuntime) -> Result<(), Fail> {
+    let none: [(&str, &str); 0] = [];
+    let defaults = in_force(rt.alloc(), &none)?;
+    let own = in_force(rt.alloc(), &[("!e!", "!x"), ("!!", "tag:e.com,2000:")])?;
+    let replaced = in_force(rt.alloc(), &[("!", "tag:e.com,2000:")])?;
+    for (tag, written) in [
+        ("!", "&a !<%21>"),
+        ("!foo", "&a !foo"),
+        ("!a!b", "&a !a%21b"),
+        ("tag:yaml.org,2002:int", "&a !!int"),
+        ("tag:yaml.org,2002:", "&a !<tag:yaml.org,2002:>"),
+        ("!a\0", "&a !a%00"),
+        ("!\u{E9}", "&a !%C3%A9"),
+        ("!a,[b]", "&a !a,[b]"),
+        ("!50%", "&a !50%25"),
+        ("a b<c>", "&a !<a%20b%3Cc%3E>"),
+    ] {
+        assert!(rt;
+            spelled(rt.alloc(), tag, &defaults)?.as_slice() == written.as_bytes(),
+            "{tag}"
+        );
+    }
+    for (tag, written) in [
+        ("!xy", "&a !e!y"),
+        ("!x", "&a !x"),
+        ("tag:e.com,2000:t", "&a !!t"),
+        ("tag:yaml.org,2002:str", "&a !<tag:yaml.org,2002:str>"),
+    ] {
+        assert!(rt;
+            spelled(rt.alloc(), tag, &own)?.as_slice() == written.as_bytes(),
+            "{tag}"
+        );
+    }
+    for (tag, written) in [
+        ("tag:e.com,2000:t", "&a !t"),
+        ("!t", "&a !<%21t>"),
+        ("tag:yaml.org,2002:str", "&a !!str"),
+    ] {
+        assert!(rt;
+            spelled(rt.alloc(), tag, &replaced)?.as_slice() == written.as_bytes(),
+            "{tag}"
+        );
+    }
+    Ok(())
+}
+
+// Each byte that stands in UTF-8, and each character up to U+00FF.
+#[test]
+fn every_byte_is_kept_or_escaped(rt: HostRuntime) -> Result<(), Fail> {
+    let alloc = rt.alloc();
+    let kept = "0123456789ABCDEFGHIJKLMNOPQRSTUVWXYZabcdefghijklmnopqrstuvwxyz_-;/?:@&=+$,.~*'()[]";
+    for c in ('\0'..='\u{FF}').chain([
+        '\u{7FF}',
+        '\u{800}',
+        '\u{FFFF}',
+        '\u{10000}',
+        '\u{10FFFF}',
+    ]) {
+        let mut text = String::new(alloc);
+        text.push(c)?;
+        let mut wanted = String::new(alloc);
+        if kept.contains(c) {
+            wanted.push(c)?;
+        } else {
+            for byte in text.as_bytes() {
+                wanted.push_str(format!(in alloc; "%{:02X}", *byte)?.as_str())?;
+            }
+        }
+        assert!(rt;
+            content(alloc, text.as_str())?.as_slice() == wanted.as_bytes(),
+            "{c}"
+        );
+    }
+    Ok(())
+}
+
+#[test]
+#[tactic(auto, using(yaml_base::proofs::Literals::literal_unbroken))]
+fn a_directive_line_is_separated(rt: HostRuntime) -> Result<(), Fail> {
+    let mut pen = begun(rt.alloc())?;
+    assert!(rt; pen.write_indicator("%TAG", true, false, false) == Ok(()));
+    assert!(rt; write_tag_handle(&mut pen, "!e!") == Ok(()));
+    assert!(rt; write_tag_content(&mut pen, "!x", true) == Ok(()));
+    assert!(rt; !pen.whitespace());
+    assert!(rt; !pen.indention());
+    assert!(rt; pen.flush() == Ok(()));
+    assert!(rt; pen.output() == b"%TAG !e! %21x".as_slice());
     Ok(())
 }

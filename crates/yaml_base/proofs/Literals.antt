@@ -1,0 +1,31 @@
+-- Texts that are written out: ASCII without a break.
+use Rattle.std.proofs.Common.{◌≡◌, ℕ, zero, suc, ◌<◌, Bool, true, false, ◌&&◌, not, List, [], ◌∷◌, refl, ◌∙◌, ap, get_or, arith}
+use Rattle.std.proofs.lemmas.Bool.{and_parts, not-true, or_from, ltb-true}
+use Rattle.std.proofs.lemmas.Str.{chars-IsAscii}
+use Rattle.std.specs.Prelude.{nat_lt, IsAscii}
+use Rattle.std.specs.List.{list_all, list_any}
+use Rattle.std.specs.Str.{chars}
+use Rattle.yaml_base.specs.Characters.{is_break}
+
+-- characters of ASCII that are no breaks; computes at a literal
+abbrev pub are_plain : List ℕ → Bool
+are_plain bytes = list_all (λ b. nat_lt b 128 && not (is_break b)) bytes
+
+plain_ascii : (bytes : List ℕ) → are_plain bytes ≡ true → IsAscii bytes
+plain_ascii [] h i = omega arith
+plain_ascii (b ∷ bytes) h zero = ltb-true b 128 (and_parts (nat_lt b 128) (not (is_break b)) (and_parts (nat_lt b 128 && not (is_break b)) (are_plain bytes) h).0).0
+plain_ascii (b ∷ bytes) h (suc i) = plain_ascii bytes (and_parts (nat_lt b 128 && not (is_break b)) (are_plain bytes) h).1 i
+
+plain_unbroken : (bytes : List ℕ) → are_plain bytes ≡ true → list_any is_break bytes ≡ false
+plain_unbroken [] h = refl
+plain_unbroken (b ∷ bytes) h =
+    let both = and_parts (nat_lt b 128 && not (is_break b)) (are_plain bytes) h in
+    or_from _ _ (not-true _ (and_parts (nat_lt b 128) (not (is_break b)) both.0).1) (plain_unbroken bytes both.1)
+
+-- the characters of a literal are its bytes
+pub chars-literal : (bytes : List ℕ) → are_plain bytes ≡ true → chars bytes ≡ bytes
+chars-literal bytes h = chars-IsAscii bytes (plain_ascii bytes h)
+
+-- a literal holds no break
+pub literal_unbroken : (bytes : List ℕ) → are_plain bytes ≡ true → list_any is_break (chars bytes) ≡ false
+literal_unbroken bytes h = ap (list_any is_break) (chars-literal bytes h) ∙ plain_unbroken bytes h
