@@ -18,3 +18,6 @@ pub mod PlainStarts
 pub mod PlainReads
 pub mod QuotingWritten
 pub mod QuotingBack
+pub mod Escapes
+pub mod StillToWrite
+pub mod InsideSteps

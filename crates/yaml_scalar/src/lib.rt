@@ -5,6 +5,7 @@ mod analysis;
 mod lines;
 mod plain;
 mod single_quoted;
+mod double_quoted;
 mod steps;
 mod style;
 mod width;

@@ -1,0 +1,28 @@
+-- A loop that writes: what is still to be written after what has been.
+use Rattle.std.specs.Prelude.{Result, Ok, Err}
+use Rattle.yaml_base.specs.Cursor.{Cursor, Laid, then_laid}
+use Rattle.yaml_base.specs.declared.errors.yaml_error_t.{yaml_error_t}
+use Rattle.yaml_pen.proofs.Composing.{wrote_failed, wrote_then}
+use Rattle.yaml_pen.specs.Page.{Page, IsReady}
+use Rattle.yaml_pen.specs.Wrote.{Wrote}
+
+-- whatever writes the rest from here has written the whole from the start
+pub record StillToWrite (rest whole : Cursor → Laid) (start here : Page) : Type 0 where
+  pub ready : IsReady here
+  pub writes : (after : Page) (answer : Result (Unit {0}) yaml_error_t) → Wrote rest here after answer → Wrote whole start after answer
+
+-- at the start all is still to be written
+pub still_all : {whole : Cursor → Laid} {start : Page} → IsReady start → StillToWrite whole whole start start
+still_all ready = record { ready = ready; writes = λ after answer wrote. wrote }
+
+-- a step that answered Ok leaves the rest
+pub still_rest : {first next whole : Cursor → Laid} {start here after : Page}
+    → StillToWrite (λ cursor. then_laid (first cursor) next) whole start here → Wrote first here after (Ok tt)
+    → StillToWrite next whole start after
+still_rest still step = record { ready = step.ready; writes = λ after answer wrote. still.writes after answer (wrote_then step wrote) }
+
+-- a step that failed ends it
+pub still_failed : {first whole : Cursor → Laid} {start here after : Page} {error : yaml_error_t} (next : Cursor → Laid)
+    → StillToWrite (λ cursor. then_laid (first cursor) next) whole start here → Wrote first here after (Err error)
+    → Wrote whole start after (Err error)
+still_failed {first} {whole} {start} {here} {after} {error} next still step = still.writes after (Err error) (wrote_failed next step)

@@ -1,0 +1,236 @@
+//! Scalars between double quotes.
+ghost use Rattle.std.specs.Prelude.{◌≡◌, pos, ◌≤ℤ◌, ◌≤◌, ◌<◌, ◌==◌, ◌||◌, ◌&&◌, ◌∷◌, [], true, false, not, Option, None, Some, Bool};
+ghost use Rattle.std.specs.Str.{chars};
+ghost use Rattle.yaml_base.specs.Characters.{hex_digit, hex_digits, is_break, is_space};
+ghost use Rattle.yaml_base.specs.Cursor.{is_past_width, text_laid};
+ghost use Rattle.yaml_base.specs.DoubleQuoted as spec;
+ghost use Rattle.yaml_base.specs.ReadDouble.{read_double};
+ghost use Rattle.yaml_pen.specs.Page.{IsReady, natural};
+ghost use Rattle.yaml_pen.specs.Wrote.{Wrote};
+ghost use Rattle.yaml_scalar.specs.ReadsBack.{ReadsBack};
+ghost use Rattle.yaml_scalar.specs.Width.{limit_where};
+
+use crate::steps::{go_on, may_fold_here};
+use std::alloc::Allocator;
+use yaml_base::{is_ascii, is_break, is_printable, is_space, yaml_error_t};
+use yaml_pen::Pen;
+
+/// How a double-quoted scalar is laid out.
+#[derive(Clone, Copy)]
+struct quoting_t {
+    allow_breaks: bool,
+    unicode: bool,
+    indent: i32,
+    width: i32,
+}
+
+/// Unprintable, past ASCII where that isn't kept, a break, the quote or the backslash.
+fn needs_escape(c: char, unicode: bool) -> bool
+    ensures { result ≡ spec.needs_escape unicode c }
+{
+    !is_printable(c) || (!unicode && !is_ascii(c)) || is_break(c) || c == '"' || c == '\\'
+}
+
+/// The letter of a character that has an escape of one letter (YAML 1.1, section 5.7).
+fn short_letter(c: char) -> Option<u8>
+    ensures { result ≡ spec.letter_among spec.short_escapes c }
+{
+    let letter = match c {
+        '\0' => b'0',
+        '\u{7}' => b'a',
+        '\u{8}' => b'b',
+        '\t' => b't',
+        '\n' => b'n',
+        '\u{B}' => b'v',
+        '\u{C}' => b'f',
+        '\r' => b'r',
+        '\u{1B}' => b'e',
+        '"' => b'"',
+        '\\' => b'\\',
+        '\u{85}' => b'N',
+        '\u{A0}' => b'_',
+        '\u{2028}' => b'L',
+        '\u{2029}' => b'P',
+        _ => return None,
+    };
+    Some(letter)
+}
+
+/// An upper-case hexadecimal digit.
+fn hex_digit(digit: u32) -> u8
+    requires { digit ≤ 15 }
+    ensures { result ≡ hex_digit digit }
+{
+    if digit < 10 { b'0' + digit as u8 } else { b'A' + (digit - 10) as u8 }
+}
+
+/// The last so many hexadecimal digits of a number.
+fn write_digits<A: Allocator>(pen: &mut Pen<A>, count: u32, n: u32) -> Result<(), yaml_error_t>
+    requires { IsReady pen.old }
+    ensures { Wrote (text_laid (hex_digits count n)) pen.old pen.new result }
+{
+    if count == 0 {
+        return go_on(pen);
+    }
+    write_digits(pen, count - 1, n / 16)?;
+    pen.put(hex_digit(n % 16))
+}
+
+/// What follows the backslash of an escape by number: `x`, `u` or `U`, and two, four or eight digits.
+fn write_number<A: Allocator>(pen: &mut Pen<A>, c: char) -> Result<(), yaml_error_t>
+    requires { IsReady pen.old }
+    ensures { Wrote (text_laid (spec.escape_after_backslash None c)) pen.old pen.new result }
+{
+    if c <= '\u{FF}' {
+        write_lettered(pen, b'x', 2, c)
+    } else if c <= '\u{FFFF}' {
+        write_lettered(pen, b'u', 4, c)
+    } else {
+        write_lettered(pen, b'U', 8, c)
+    }
+}
+
+/// A letter and so many digits.
+fn write_lettered<A: Allocator>(
+    pen: &mut Pen<A>,
+    letter: u8,
+    count: u32,
+    c: char,
+) -> Result<(), yaml_error_t>
+    requires ready { IsReady pen.old }
+    requires ascii { letter < 128 }
+    requires no_break { is_break letter ≡ false }
+    ensures { Wrote (text_laid (letter ∷ hex_digits count c)) pen.old pen.new result }
+{
+    pen.put(letter)?;
+    write_digits(pen, count, c as u32)
+}
+
+/// A letter where there is one, else the character's number.
+fn write_after_backslash<A: Allocator>(pen: &mut Pen<A>, c: char) -> Result<(), yaml_error_t>
+    requires { IsReady pen.old }
+    ensures { Wrote (text_laid (spec.escape_after_backslash (spec.letter_among spec.short_escapes c) c)) pen.old pen.new result }
+{
+    match short_letter(c) {
+        Some(letter) => pen.put(letter),
+        None => write_number(pen, c),
+    }
+}
+
+/// A character as its escape.
+fn write_escape<A: Allocator>(pen: &mut Pen<A>, c: char) -> Result<(), yaml_error_t>
+    requires { IsReady pen.old }
+    ensures { Wrote (text_laid (spec.escape_text c)) pen.old pen.new result }
+{
+    pen.put(b'\\')?;
+    write_after_backslash(pen, c)
+}
+
+/// A character as an escape, or as itself.
+fn write_character<A: Allocator>(
+    pen: &mut Pen<A>,
+    c: char,
+    unicode: bool,
+) -> Result<(), yaml_error_t>
+    requires { IsReady pen.old }
+    ensures { Wrote (text_laid (spec.character_text unicode c)) pen.old pen.new result }
+{
+    if needs_escape(c, unicode) { write_escape(pen, c) } else { pen.write_char(c) }
+}
+
+/// A space may be a fold where it is the first of a run and neither the value's first character nor
+/// its last.
+fn may_fold(before: Option<char>, rest: &str) -> bool
+    ensures { result ≡ spec.may_fold before (chars rest.now) }
+{
+    match rest.chars().next() {
+        Some(_) => is_other(before),
+        None => false,
+    }
+}
+
+/// A character that is no space.
+fn is_other(before: Option<char>) -> bool
+    ensures { result ≡ spec.is_other before }
+{
+    match before {
+        Some(c) => !is_space(c),
+        None => false,
+    }
+}
+
+/// A character is to become a fold.
+fn folds<A: Allocator>(
+    pen: &Pen<A>,
+    before: Option<char>,
+    c: char,
+    rest: &str,
+    quoting: quoting_t,
+) -> bool
+    ensures { result ≡ (is_space c && spec.may_fold before (chars rest.now) && is_past_width (limit_where quoting.allow_breaks quoting.width) pen.now.cursor) }
+{
+    is_space(c) && may_fold(before, rest) && may_fold_here(pen, quoting.allow_breaks, quoting.width)
+}
+
+/// Where a space follows a fold, a backslash keeps it.
+fn write_kept<A: Allocator>(pen: &mut Pen<A>, rest: &str) -> Result<(), yaml_error_t>
+    requires { IsReady pen.old }
+    ensures { Wrote (text_laid (spec.space_kept (chars rest.now))) pen.old pen.new result }
+{
+    match rest.chars().next() {
+        Some(c) if is_space(c) => pen.put(b'\\'),
+        _ => go_on(pen),
+    }
+}
+
+/// A new line in place of a space.
+fn write_fold<A: Allocator>(
+    pen: &mut Pen<A>,
+    rest: &str,
+    indent: i32,
+) -> Result<(), yaml_error_t>
+    requires ready { IsReady pen.old }
+    requires not_negative { pos 0 ≤ℤ indent }
+    ensures { Wrote (spec.double_fold (natural indent) (chars rest.now)) pen.old pen.new result }
+{
+    pen.write_indent(indent)?;
+    write_kept(pen, rest)
+}
+
+/// One character of the value, after another or at its start, before the rest.
+fn write_next<A: Allocator>(
+    pen: &mut Pen<A>,
+    before: Option<char>,
+    c: char,
+    rest: &str,
+    quoting: quoting_t,
+) -> Result<(), yaml_error_t>
+    requires ready { IsReady pen.old }
+    requires not_negative { pos 0 ≤ℤ quoting.indent }
+    ensures { Wrote (spec.double_character quoting.unicode (limit_where quoting.allow_breaks quoting.width) (natural quoting.indent) before c (chars rest.now)) pen.old pen.new result }
+{
+    if folds(pen, before, c, rest, quoting) {
+        write_fold(pen, rest, quoting.indent)
+    } else {
+        write_character(pen, c, quoting.unicode)
+    }
+}
+
+/// What stands between the quotes.
+fn write_inside<A: Allocator>(
+    pen: &mut Pen<A>,
+    value: &str,
+    quoting: quoting_t,
+) -> Result<(), yaml_error_t>
+    requires ready { IsReady pen.old }
+    requires not_negative { pos 0 ≤ℤ quoting.indent }
+    ensures { Wrote (spec.double_inside quoting.unicode (limit_where quoting.allow_breaks quoting.width) (natural quoting.indent) None (chars value.now)) pen.old pen.new result }
+{
+    let mut before = None;
+    let mut chars = value.chars();
+    while let Some(c) = chars.next() {
+        write_next(pen, before, c, chars.as_str(), quoting)?;
+        before = Some(c);
+    }
+    go_on(pen)
+}
