@@ -1,6 +1,6 @@
 -- The steps in which an escape is written.
-use Rattle.std.proofs.Common.{◌≡◌, ◌≢◌, refl, sym, ◌∙◌, ap, arith, subst}
-use Rattle.std.specs.Prelude.{ℕ, zero, suc, List, [], ◌∷◌, ◌++◌, ◌-◌, ◌/◌, ◌%◌}
+use Rattle.std.proofs.Common.{◌≡◌, ◌≢◌, refl, arith, subst}
+use Rattle.std.specs.Prelude.{ℕ, zero, suc, [], ◌∷◌, ◌++◌, ◌-◌, ◌/◌, ◌%◌}
 use Rattle.std.specs.Prelude.{Result, Ok, Err}
 use Rattle.yaml_base.specs.Characters.{Text, hex_digit, hex_digits}
 use Rattle.yaml_base.specs.Cursor.{text_laid}

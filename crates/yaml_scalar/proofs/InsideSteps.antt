@@ -1,11 +1,11 @@
 -- What stands between double quotes is written one character after another.
-use Rattle.std.proofs.Common.{◌≡◌, ap, subst, sym, ◌∙◌, chars, IsUtf8}
+use Rattle.std.proofs.Common.{◌≡◌, ap, subst, ◌∙◌, chars, IsUtf8}
 use Rattle.std.proofs.lemmas.List.{nil_from_length}
 use Rattle.std.proofs.lemmas.Str.{chars-nil, chars_past_char}
 use Rattle.std.specs.Char.{encode_utf8}
-use Rattle.std.specs.Prelude.{ℕ, Bool, Option, None, Some, Result, Ok, Err, List, [], ◌∷◌, ◌++◌, length}
+use Rattle.std.specs.Prelude.{ℕ, Bool, Option, None, Some, Result, Ok, Err, List, ◌∷◌, ◌++◌, length}
 use Rattle.yaml_base.specs.Characters.{Text}
-use Rattle.yaml_base.specs.Cursor.{Cursor, Laid, nothing_laid}
+use Rattle.yaml_base.specs.Cursor.{nothing_laid}
 use Rattle.yaml_base.specs.DoubleQuoted.{double_character, double_inside}
 use Rattle.yaml_base.specs.declared.errors.yaml_error_t.{yaml_error_t}
 use Rattle.yaml_pen.specs.Page.{Page}
@@ -22,9 +22,9 @@ first_still : (unicode : Bool) (limit : Option ℕ) (indent : ℕ) (value : Text
     → StillToWrite (double_inside unicode limit indent before (c ∷ chars new)) (double_inside unicode limit indent None value) start here
 first_still unicode limit indent value before c old new start here is_text e still =
     subst
-        (λ (t : Text). StillToWrite (double_inside unicode limit indent before t) (double_inside unicode limit indent None value) start here)
-        (chars_past_char old new c is_text e)
-        still
+    (λ (t : Text). StillToWrite (double_inside unicode limit indent before t) (double_inside unicode limit indent None value) start here)
+    (chars_past_char old new c is_text e)
+    still
 
 -- a character that was written leaves the rest
 pub inside_more : (unicode : Bool) (limit : Option ℕ) (indent : ℕ) (value : Text) (before : Option ℕ) (c : ℕ) (old new rest : List ℕ) (start here after : Page)
@@ -33,8 +33,8 @@ pub inside_more : (unicode : Bool) (limit : Option ℕ) (indent : ℕ) (value : 
     → StillInside unicode limit indent value (Some c) new start after
 inside_more unicode limit indent value before c old new rest start here after is_text e same still wrote =
     still_rest
-        (first_still unicode limit indent value before c old new start here is_text e still)
-        (subst (λ (bytes : List ℕ). Wrote (double_character unicode limit indent before c (chars bytes)) here after (Ok tt)) same wrote)
+    (first_still unicode limit indent value before c old new start here is_text e still)
+    (subst (λ (bytes : List ℕ). Wrote (double_character unicode limit indent before c (chars bytes)) here after (Ok tt)) same wrote)
 
 -- a character that failed ends it
 pub inside_failed : (unicode : Bool) (limit : Option ℕ) (indent : ℕ) (value : Text) (before : Option ℕ) (c : ℕ) (old new rest : List ℕ) (start here after : Page) (error : yaml_error_t)
@@ -43,9 +43,9 @@ pub inside_failed : (unicode : Bool) (limit : Option ℕ) (indent : ℕ) (value 
     → Wrote (double_inside unicode limit indent None value) start after (Err error)
 inside_failed unicode limit indent value before c old new rest start here after error is_text e same still wrote =
     still_failed
-        (double_inside unicode limit indent (Some c) (chars new))
-        (first_still unicode limit indent value before c old new start here is_text e still)
-        (subst (λ (bytes : List ℕ). Wrote (double_character unicode limit indent before c (chars bytes)) here after (Err error)) same wrote)
+    (double_inside unicode limit indent (Some c) (chars new))
+    (first_still unicode limit indent value before c old new start here is_text e still)
+    (subst (λ (bytes : List ℕ). Wrote (double_character unicode limit indent before c (chars bytes)) here after (Err error)) same wrote)
 
 -- at the end all is written
 pub inside_whole : (unicode : Bool) (limit : Option ℕ) (indent : ℕ) (value : Text) (before : Option ℕ) (old : List ℕ) (start here after : Page) (answer : Result (Unit {0}) yaml_error_t)
@@ -54,8 +54,8 @@ pub inside_whole : (unicode : Bool) (limit : Option ℕ) (indent : ℕ) (value :
     → Wrote (double_inside unicode limit indent None value) start after answer
 inside_whole unicode limit indent value before old start here after answer e still wrote =
     let ended =
-        subst
-            (λ (t : Text). StillToWrite (double_inside unicode limit indent before t) (double_inside unicode limit indent None value) start here)
-            (ap chars (nil_from_length old e) ∙ chars-nil)
-            still in
+    subst
+    (λ (t : Text). StillToWrite (double_inside unicode limit indent before t) (double_inside unicode limit indent None value) start here)
+    (ap chars (nil_from_length old e) ∙ chars-nil)
+    still in
     ended.writes after answer wrote

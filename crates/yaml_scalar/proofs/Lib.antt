@@ -21,3 +21,5 @@ pub mod QuotingBack
 pub mod Escapes
 pub mod StillToWrite
 pub mod InsideSteps
+pub mod MeaningKept
+pub mod QuotedSteps

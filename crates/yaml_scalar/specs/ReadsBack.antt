@@ -1,5 +1,5 @@
 -- What a scalar's text means to a reader.
-use Rattle.std.specs.Prelude.{◌≡◌, Bool, true, Option, None, Some, ◌++◌}
+use Rattle.std.specs.Prelude.{◌≡◌, true, Option, Some, ◌++◌}
 use Rattle.std.specs.List.{list_all}
 use Rattle.yaml_base.specs.Characters.{Text, is_space}
 use Rattle.yaml_base.specs.LineBreaks.{is_indented_text, with_line_breaks_read}

@@ -24,6 +24,57 @@ struct quoting_t {
     width: i32,
 }
 
+/// Writes a scalar between double quotes (YAML 1.1, section 9.1.1), after a space where none stands there.
+///
+/// Escaped are unprintable characters, breaks, the quote and the backslash, and where `unicode` is off all
+/// past ASCII. Where `allow_breaks` is on and the column is past `width` (in characters, `i32::MAX` for
+/// none), the first space of a run becomes a line break and `indent` spaces, unless it is the value's first
+/// character or its last.
+///
+/// # Errors
+/// `WriteError` where the output passes its limit, `Memory` where a growth was refused, else the pen's first
+/// error.
+pub fn write_double_quoted_scalar<A: Allocator>(
+    pen: &mut Pen<A>,
+    value: &str,
+    allow_breaks: bool,
+    unicode: bool,
+    indent: i32,
+    width: i32,
+) -> Result<(), yaml_error_t>
+    requires ready { IsReady pen.old }
+    requires indent_low { pos 2 ≤ℤ indent }
+    requires indent_high { indent ≤ℤ pos 9000009 }
+    ensures written { Wrote (spec.double_quoted_laid unicode (limit_where allow_breaks width) (natural indent) (chars value.now)) pen.old pen.new result }
+    ensures reads_back { (breaks12 : Bool) → pen.new.error ≡ None → ReadsBack (read_double breaks12) (chars value.now) pen.old.text pen.new.text }
+{
+    write_quoted(
+        pen,
+        value,
+        quoting_t {
+            allow_breaks,
+            unicode,
+            indent,
+            width,
+        },
+    )
+}
+
+/// A quote, the value's characters, and a quote.
+fn write_quoted<A: Allocator>(
+    pen: &mut Pen<A>,
+    value: &str,
+    quoting: quoting_t,
+) -> Result<(), yaml_error_t>
+    requires ready { IsReady pen.old }
+    requires not_negative { pos 0 ≤ℤ quoting.indent }
+    ensures { Wrote (spec.double_quoted_laid quoting.unicode (limit_where quoting.allow_breaks quoting.width) (natural quoting.indent) (chars value.now)) pen.old pen.new result }
+{
+    pen.write_indicator("\"", true, false, false)?;
+    write_inside(pen, value, quoting)?;
+    pen.write_indicator("\"", false, false, false)
+}
+
 /// Unprintable, past ASCII where that isn't kept, a break, the quote or the backslash.
 fn needs_escape(c: char, unicode: bool) -> bool
     ensures { result ≡ spec.needs_escape unicode c }
@@ -61,7 +112,11 @@ fn hex_digit(digit: u32) -> u8
     requires { digit ≤ 15 }
     ensures { result ≡ hex_digit digit }
 {
-    if digit < 10 { b'0' + digit as u8 } else { b'A' + (digit - 10) as u8 }
+    if digit < 10 {
+        b'0' + digit as u8
+    } else {
+        b'A' + (digit - 10) as u8
+    }
 }
 
 /// The last so many hexadecimal digits of a number.
@@ -135,7 +190,11 @@ fn write_character<A: Allocator>(
     requires { IsReady pen.old }
     ensures { Wrote (text_laid (spec.character_text unicode c)) pen.old pen.new result }
 {
-    if needs_escape(c, unicode) { write_escape(pen, c) } else { pen.write_char(c) }
+    if needs_escape(c, unicode) {
+        write_escape(pen, c)
+    } else {
+        pen.write_char(c)
+    }
 }
 
 /// A space may be a fold where it is the first of a run and neither the value's first character nor
@@ -184,11 +243,7 @@ fn write_kept<A: Allocator>(pen: &mut Pen<A>, rest: &str) -> Result<(), yaml_err
 }
 
 /// A new line in place of a space.
-fn write_fold<A: Allocator>(
-    pen: &mut Pen<A>,
-    rest: &str,
-    indent: i32,
-) -> Result<(), yaml_error_t>
+fn write_fold<A: Allocator>(pen: &mut Pen<A>, rest: &str, indent: i32) -> Result<(), yaml_error_t>
     requires ready { IsReady pen.old }
     requires not_negative { pos 0 ≤ℤ indent }
     ensures { Wrote (spec.double_fold (natural indent) (chars rest.now)) pen.old pen.new result }

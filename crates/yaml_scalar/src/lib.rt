@@ -13,4 +13,5 @@ mod width;
 pub use analysis::{analyze_scalar, scalar_data_t};
 pub use plain::write_plain_scalar;
 pub use single_quoted::write_single_quoted_scalar;
+pub use double_quoted::write_double_quoted_scalar;
 pub use style::select_scalar_style;

@@ -11,6 +11,6 @@ invariant-loop-c g l =
     record {
       is_text : IsUtf8 (chars_rest l.chars);
       still :
-        StillInside quoting.unicode (limit_where quoting.allow_breaks quoting.width) (natural quoting.indent)
+          StillInside quoting.unicode (limit_where quoting.allow_breaks quoting.width) (natural quoting.indent)
           (chars l.fn.value) l.before (chars_rest l.chars) l.initial.pen l.pen;
     }
