@@ -2,16 +2,16 @@
 #![tactic(auto)]
 
 mod analysis;
+mod double_quoted;
 mod lines;
 mod plain;
 mod single_quoted;
-mod double_quoted;
 mod steps;
 mod style;
 mod width;
 
 pub use analysis::{analyze_scalar, scalar_data_t};
+pub use double_quoted::write_double_quoted_scalar;
 pub use plain::write_plain_scalar;
 pub use single_quoted::write_single_quoted_scalar;
-pub use double_quoted::write_double_quoted_scalar;
 pub use style::select_scalar_style;
