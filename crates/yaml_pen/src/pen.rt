@@ -1,5 +1,5 @@
 //! A pen writes text: it keeps the cursor, encodes, and hands its bytes out within a limit.
-ghost use Rattle.std.specs.Prelude.{◌≡◌, ℕ, ◌==◌, ◌&&◌, pos, ◌≤ℤ◌, ◌<◌, ◌++◌, [], ◌∷◌, false, true, min, not, Option, IsOk, IsSome, IfOk, Some, None, codes, unwrap_or, replicate};
+ghost use Rattle.std.specs.Prelude.{◌≡◌, ℕ, ◌==◌, ◌&&◌, pos, ◌≤ℤ◌, ◌<◌, ◌++◌, [], ◌∷◌, false, true, min, not, Option, IsOk, IsSome, IfOk, IfErr, Some, None, codes, unwrap_or, replicate};
 ghost use Rattle.std.specs.Str.{chars};
 ghost use Rattle.std.specs.List.{list_any};
 ghost use Rattle.yaml_base.specs.Characters.{is_break, line_feed, space};
@@ -46,7 +46,8 @@ impl<A: Allocator> Pen<A> {
     pub fn new(alloc: A) -> Result<Pen<A>, yaml_error_t>
     where
         A: Copy,
-        ensures { IfOk result (λ pen. pen ≡ new_page usize.MAX) }
+        ensures made { IfOk result (λ pen. pen ≡ new_page usize.MAX) }
+        ensures refused { IfErr result (λ error. error ≡ yaml_error_t.Memory) }
     {
         let outlet = Outlet::new(alloc).map_err(|_| yaml_error_t::Memory)?;
         Ok(Pen {
@@ -186,16 +187,16 @@ impl<A: Allocator> Pen<A> {
     }
 
     /// Writes a character that is a break: LF as the setting says, any other as itself.
-    pub fn write_break(&mut self, character: char) -> Result<(), yaml_error_t>
+    pub fn write_break(&mut self, line_break: char) -> Result<(), yaml_error_t>
         requires ready { IsReady self.old }
-        requires a_break { is_break character ≡ true }
-        ensures written { Wrote (text_laid (character ∷ [])) self.old self.new result }
+        requires a_break { is_break line_break ≡ true }
+        ensures written { Wrote (text_laid (line_break ∷ [])) self.old self.new result }
         ensures stays { IsSome self.old.error → self.new ≡ self.old }
     {
-        if character == '\n' {
+        if line_break == '\n' {
             self.put_break()
         } else {
-            self.write_character(character)
+            self.write_character(line_break)
         }
     }
 
@@ -239,8 +240,8 @@ impl<A: Allocator> Pen<A> {
           };
         } }
     {
-        self.whitespace = whitespace;
-        self.indention = self.indention && indention;
+        self.set_whitespace(whitespace);
+        self.set_indention(self.indention() && indention);
     }
 
     fn begin_line(&mut self, at: u32) -> Result<(), yaml_error_t>
