@@ -5,3 +5,4 @@ pub mod Reach
 pub mod Signs
 pub mod Stages
 pub mod InForce
+pub mod Nesting

@@ -3,6 +3,7 @@
 
 mod check;
 mod directives;
+mod frames;
 mod place;
 mod queue;
 mod settings;

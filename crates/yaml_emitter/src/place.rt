@@ -2,7 +2,7 @@
 
 ghost use Rattle.std.specs.Prelude.{◌≡◌, ◌+◌, ◌≤◌, ◌^◌, ◌<◌};
 ghost use Rattle.yaml_base.specs.Layout.{deeper, is_in_mapping, is_key, line_column, root_place};
-ghost use Rattle.yaml_base.specs.Steps.{is_first, role_after};
+ghost use Rattle.yaml_base.specs.Steps.{is_first, place_after, role_after};
 ghost use Rattle.yaml_emitter.specs.Places.{seen_role, seen_place, seen_frame};
 
 /// What a node is. The first item or key of a flow collection writes its bracket; a value knows
@@ -91,5 +91,21 @@ impl Place {
         ensures { result ≡ deeper indent (seen_place self.now).column }
     {
         self.line_column() + indent
+    }
+}
+
+impl Frame {
+    /// After a node of the collection, which may have been a simple key.
+    pub(crate) fn after(self, simple: bool) -> Frame
+        ensures { seen_frame result ≡ record (seen_frame self) { place = place_after (seen_frame self).place simple } }
+    {
+        Frame {
+            place: Place {
+                in_flow: self.place.in_flow,
+                role: self.place.role.after(simple),
+                column: self.place.column,
+            },
+            simple: self.simple,
+        }
     }
 }
