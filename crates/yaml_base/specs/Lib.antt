@@ -25,6 +25,8 @@ pub mod ReadBlock
 pub mod Grammar
 pub mod Refusal
 pub mod Ready
+pub mod Places
+pub mod NodeLayout
 pub mod Layout
 pub mod Steps
 pub mod Pieces

@@ -1,0 +1,146 @@
+-- Where a node stands, which keys are simple, and what a place puts before its node (libyaml's own rules; YAML 1.1,
+-- chapters 7 to 9, for the signs).
+use Rattle.std.specs.Prelude.{ℕ, Bool, true, false, Option, None, Some, List, ◌||◌, ◌&&◌, ◌+◌, not, nat_le, length, codes, unwrap_or, encode_utf8_all, if◌then◌else◌}
+use Rattle.std.specs.List.{list_any}
+use Rattle.yaml_base.specs.Characters.{Text, is_break}
+use Rattle.yaml_base.specs.Settings.{Effective}
+use Rattle.yaml_base.specs.Cursor.{Cursor, Laid, nothing_laid, then_laid, new_line, indicator, is_past_width}
+use Rattle.yaml_base.specs.Event.{TagDirective, Scalar, Collection}
+use Rattle.yaml_base.specs.Tags.{Spelling, shorthand, verbatim, spelling}
+use Rattle.yaml_base.specs.Grammar.{Node, alias_node, scalar_node, sequence_node, mapping_node, Nodes, no_nodes, nodes_and, Pairs, no_pairs, pairs_and}
+use Rattle.yaml_base.specs.Refusal.{scalar_tag, collection_tag}
+
+-- what a node is: the first item or key of a flow collection writes its bracket; a value knows whether its key is simple
+pub data Role : Type 0 where
+  as_root : Role
+  as_item : (first : Bool) → Role
+  as_key : (first : Bool) → Role
+  as_value : (simple : Bool) → Role
+
+-- where a node stands: in flow or in block, as what, and the column of the entries around it (none: the root)
+pub record Place : Type 0 where
+  pub in_flow : Bool
+  pub role : Role
+  pub column : Option ℕ
+
+abbrev pub is_key : Role → Bool
+is_key (as_key first) = true
+is_key _ = false
+
+abbrev pub is_in_mapping : Role → Bool
+is_in_mapping (as_key first) = true
+is_in_mapping (as_value simple) = true
+is_in_mapping _ = false
+
+-- a new line begins at the column in force, or at 0 at the root
+abbrev pub line_column : Option ℕ → ℕ
+line_column column = unwrap_or column 0
+
+-- one indent further in than the column in force
+abbrev pub deeper : ℕ → Option ℕ → ℕ
+deeper indent column = line_column column + indent
+
+-- where the entries of a collection stand: a flow collection's one indent further in; a block collection's at 0 at the
+-- root, at the column in force for a sequence that begins on the line of its key or value's sign, else further in
+abbrev pub entries_column : (in_flow undented : Bool) → ℕ → Option ℕ → Cursor → ℕ
+entries_column true undented indent column cursor = deeper indent column
+entries_column false undented indent None cursor = 0
+entries_column false undented indent (Some column) cursor =
+    if undented && not cursor.indention then column else column + indent
+
+-- Simple keys
+
+abbrev pub byte_count : Text → ℕ
+byte_count text = length (encode_utf8_all text)
+
+abbrev pub name_count : Option Text → ℕ
+name_count None = 0
+name_count (Some name) = byte_count name
+
+abbrev pub spelling_count : Spelling → ℕ
+spelling_count (shorthand handle suffix) = byte_count handle + byte_count suffix
+spelling_count (verbatim tag) = byte_count tag
+
+abbrev pub tag_count : List TagDirective → Option Text → ℕ
+tag_count directives None = 0
+tag_count directives (Some tag) = spelling_count (spelling directives tag)
+
+-- a simple key has at most so many bytes (YAML 1.1, section 7.3.3, allows 1024; this is libyaml's)
+abbrev pub is_short : ℕ → Bool
+is_short count = nat_le count 128
+
+-- an alias, a scalar without a break or an empty collection, whose names, tag and value are short
+abbrev pub is_simple_alias : Text → Bool
+is_simple_alias name = is_short (byte_count name)
+
+abbrev pub is_simple_scalar : Bool → List TagDirective → Scalar → Bool
+is_simple_scalar canonical directives content =
+    not (list_any is_break content.value)
+    && is_short
+    (byte_count content.value + name_count content.anchor + tag_count directives (scalar_tag canonical content))
+
+abbrev pub is_simple_collection : Bool → List TagDirective → Collection → (empty : Bool) → Bool
+is_simple_collection canonical directives start empty =
+    empty && is_short (name_count start.anchor + tag_count directives (collection_tag canonical start))
+
+abbrev pub has_no_nodes : Nodes → Bool
+has_no_nodes no_nodes = true
+has_no_nodes (nodes_and items item) = false
+
+abbrev pub has_no_pairs : Pairs → Bool
+has_no_pairs no_pairs = true
+has_no_pairs (pairs_and pairs key value) = false
+
+-- no key is simple in canonical mode
+abbrev pub is_simple : Bool → List TagDirective → Node → Bool
+is_simple canonical directives (alias_node name) = not canonical && is_simple_alias name
+is_simple canonical directives (scalar_node content) = not canonical && is_simple_scalar canonical directives content
+is_simple canonical directives (sequence_node start items) =
+    not canonical && is_simple_collection canonical directives start (has_no_nodes items)
+is_simple canonical directives (mapping_node start pairs) =
+    not canonical && is_simple_collection canonical directives start (has_no_pairs pairs)
+
+-- a node that is a key, and a simple one
+abbrev pub is_simple_at : Place → Bool → List TagDirective → Node → Bool
+is_simple_at place canonical directives node = is_key place.role && is_simple canonical directives node
+
+-- What a place puts before its node
+
+-- in flow a new line stands where the line is too long, and always in canonical mode
+abbrev pub flow_break : Effective → Option ℕ → Cursor → Laid
+flow_break s column cursor =
+    if s.canonical || is_past_width s.width cursor then new_line (line_column column) cursor else nothing_laid cursor
+
+abbrev pub opening_or_comma : Text → Bool → Cursor → Laid
+opening_or_comma bracket true cursor = indicator bracket true true false cursor
+opening_or_comma bracket false cursor = indicator (codes ",") false false false cursor
+
+-- the sign of a key that isn't simple
+abbrev pub key_sign : (simple ind : Bool) → Cursor → Laid
+key_sign true ind cursor = nothing_laid cursor
+key_sign false ind cursor = indicator (codes "?") true false ind cursor
+
+abbrev pub flow_place_laid : Effective → Role → (simple : Bool) → Option ℕ → Cursor → Laid
+flow_place_laid s as_root simple column cursor = nothing_laid cursor
+flow_place_laid s (as_item first) simple column cursor =
+    then_laid (opening_or_comma (codes "[") first cursor) (flow_break s column)
+flow_place_laid s (as_key first) simple column cursor =
+    then_laid (then_laid (opening_or_comma (codes "{") first cursor) (flow_break s column)) (key_sign simple false)
+flow_place_laid s (as_value true) simple column cursor = indicator (codes ":") false false false cursor
+flow_place_laid s (as_value false) simple column cursor =
+    then_laid (flow_break s column cursor) (indicator (codes ":") true false false)
+
+abbrev pub block_place_laid : Role → (simple : Bool) → Option ℕ → Cursor → Laid
+block_place_laid as_root simple column cursor = nothing_laid cursor
+block_place_laid (as_item first) simple column cursor =
+    then_laid (new_line (line_column column) cursor) (indicator (codes "-") true false true)
+block_place_laid (as_key first) simple column cursor =
+    then_laid (new_line (line_column column) cursor) (key_sign simple true)
+block_place_laid (as_value true) simple column cursor = indicator (codes ":") false false false cursor
+block_place_laid (as_value false) simple column cursor =
+    then_laid (new_line (line_column column) cursor) (indicator (codes ":") true false true)
+
+abbrev pub place_laid : Effective → Place → (simple : Bool) → Cursor → Laid
+place_laid s place simple cursor =
+    if place.in_flow then flow_place_laid s place.role simple place.column cursor
+    else block_place_laid place.role simple place.column cursor
