@@ -8,63 +8,10 @@ use Rattle.yaml_base.specs.Cursor.{Cursor, Laid, first_cursor, nothing_laid, the
 use Rattle.yaml_base.specs.Lines.{Part, line, line_break, begun, part_before, parts}
 use Rattle.yaml_base.specs.BlockHeader.{without_break, one_break, more_breaks, ending, ends_in_break, lines_laid}
 use Rattle.yaml_base.specs.Literal.{indented}
+use Rattle.yaml_scalar.specs.declared.block_lines.Place.{Place}
+use Rattle.yaml_scalar.specs.declared.block_lines.Place.TheVariants.{LineStart, Folding, Fixed}
+use Rattle.yaml_scalar.specs.BlockSteps.{entered, within, place_after, content_laid, broken_laid, folded_laid, inner_laid, is_doubled, end_laid, step_laid, lines_from}
 use Rattle.yaml_base.specs.Folded.{is_past, folds, cut_from, next_even, folded_parts}
-
--- where a character stands: where a line begins, or in a line that may be folded, or in one that may not
-pub data Place : Type 0 where
-  line_start : Place
-  folding : Place
-  fixed : Place
-
--- the line that begins with a character
-abbrev pub entered : Bool → ℕ → Place
-entered folded c = if folded && not (is_space c) then folding else fixed
-
-abbrev pub within : Bool → Place → ℕ → Place
-within folded line_start c = entered folded c
-within folded folding c = folding
-within folded fixed c = fixed
-
--- where the next character stands
-abbrev pub place_after : Bool → Place → ℕ → Place
-place_after folded place c = if is_break c then line_start else within folded place c
-
--- a character that stays on its line
-abbrev pub content_laid : ℕ → Cursor → Laid
-content_laid c cursor = with_flags cursor.whitespace false (text_laid (c ∷ []) cursor)
-
--- a break
-abbrev pub broken_laid : ℕ → Cursor → Laid
-broken_laid c cursor = with_flags cursor.whitespace true (text_laid (c ∷ []) cursor)
-
--- a space, or the fold in its place
-abbrev pub folded_laid : Bool → ℕ → ℕ → Cursor → Laid
-folded_laid fold indent c cursor = if fold then with_flags cursor.whitespace false (new_line indent cursor) else content_laid c cursor
-
-abbrev pub inner_laid : (limit : Option ℕ) (indent : ℕ) → Place → ℕ → Text → Cursor → Laid
-inner_laid limit indent line_start c rest cursor = then_laid (new_line indent cursor) (content_laid c)
-inner_laid limit indent folding c rest cursor = folded_laid (folds limit cursor.column c rest) indent c cursor
-inner_laid limit indent fixed c rest cursor = content_laid c cursor
-
--- a break is doubled where it would be folded
-abbrev pub is_doubled : Place → ℕ → Text → Bool
-is_doubled line_start c rest = false
-is_doubled folding c rest = c == line_feed && next_even (parts rest)
-is_doubled fixed c rest = false
-
-abbrev pub end_laid : Bool → ℕ → Cursor → Laid
-end_laid twice c cursor = if twice then then_laid (text_laid (c ∷ []) cursor) (broken_laid c) else broken_laid c cursor
-
--- one character
-abbrev pub step_laid : (limit : Option ℕ) (indent : ℕ) → Place → ℕ → Text → Cursor → Laid
-step_laid limit indent place c rest cursor =
-    if is_break c then end_laid (is_doubled place c rest) c cursor else inner_laid limit indent place c rest cursor
-
--- a text, from a place on
-abbrev pub lines_from : (folded : Bool) (limit : Option ℕ) (indent : ℕ) → Place → Text → Cursor → Laid
-lines_from folded limit indent place [] cursor = nothing_laid cursor
-lines_from folded limit indent place (c ∷ rest) cursor =
-    then_laid (step_laid limit indent place c rest cursor) (lines_from folded limit indent (place_after folded place c) rest)
 
 abbrev first_line : ℕ → Text → Laid
 first_line indent text = record { text = text; cursor = record { column = indent; whitespace = true; indention = true } }
@@ -119,11 +66,11 @@ step-cursor limit indent place c rest column indention = by (is_break c) refl
     fold-cursor false = refl
 
     inner : (at : Place) → (inner_laid limit indent at c rest (spot column indention)).cursor ≡ after_text (inner_laid limit indent at c rest (spot column indention)).text false column
-    inner line_start = ap (λ n. spot n false)
+    inner LineStart = ap (λ n. spot n false)
         (ap (next_column c) (sym (column-new-line indent (spot column indention)))
         ∙ sym (column-after-append (new_line indent (spot column indention)).text (c ∷ []) column))
-    inner folding = fold-cursor (folds limit column c rest)
-    inner fixed = refl
+    inner Folding = fold-cursor (folds limit column c rest)
+    inner Fixed = refl
 
     outer : (twice : Bool) → (end_laid twice c (spot column indention)).cursor ≡ after_text (end_laid twice c (spot column indention)).text true column
     outer true = refl
@@ -170,7 +117,7 @@ ending-last c (d ∷ e ∷ rest) = ending-last d (e ∷ rest)
 
 -- what a line's first character leads to
 start-step : (limit : Option ℕ) (indent c : ℕ) (rest : Text) → is_break c ≡ false
-    → step_laid limit indent line_start c rest first_cursor ≡ record { text = replicate indent space ++ c ∷ []; cursor = spot (indent + 1) false }
+    → step_laid limit indent LineStart c rest first_cursor ≡ record { text = replicate indent space ++ c ∷ []; cursor = spot (indent + 1) false }
 start-step limit indent c rest e =
     rw e (ap (λ t. record { text = t ++ c ∷ []; cursor = spot (indent + 1) false }) (ap (λ (l : Laid). l.text) (new-line-first indent)))
 
@@ -191,7 +138,7 @@ break-step limit indent place c rest column indention false e f = rw (e, f) refl
 
 -- a character that stays on its line
 content-step : (limit : Option ℕ) (indent : ℕ) (c : ℕ) (rest : Text) (column : ℕ) → is_break c ≡ false
-    → step_laid limit indent fixed c rest (spot column false) ≡ record { text = c ∷ []; cursor = spot (column + 1) false }
+    → step_laid limit indent Fixed c rest (spot column false) ≡ record { text = c ∷ []; cursor = spot (column + 1) false }
 content-step limit indent c rest column e = rw e refl
 
 -- parts that go on in a line
@@ -213,22 +160,22 @@ continued-begun indent c (line_break b ∷ rest) = refl
 
 -- literal lines, from each place
 record LiteralFrom (limit : Option ℕ) (indent : ℕ) (text : Text) : Type 0 where
-  start : (lines_from false limit indent line_start text first_cursor).text ≡ indented indent (parts text)
-  inner : (column : ℕ) → (lines_from false limit indent fixed text (spot column false)).text ≡ continued indent (parts text)
+  start : (lines_from false limit indent LineStart text first_cursor).text ≡ indented indent (parts text)
+  inner : (column : ℕ) → (lines_from false limit indent Fixed text (spot column false)).text ≡ continued indent (parts text)
 
 literal-more : (limit : Option ℕ) (indent c : ℕ) (rest : Text) → LiteralFrom limit indent rest → LiteralFrom limit indent (c ∷ rest)
 literal-more limit indent c rest more =
     elim (cases_Bool (is_break c)) [
       | inl e ↦ record {
-        start = from-step false limit indent line_start line_start c rest first_cursor _ (break-step limit indent line_start c rest 0 true false e refl) (rw e refl)
+        start = from-step false limit indent LineStart LineStart c rest first_cursor _ (break-step limit indent LineStart c rest 0 true false e refl) (rw e refl)
             ∙ rw e (ap (λ t. c ∷ t) more.start);
-        inner = λ column. from-step false limit indent fixed line_start c rest (spot column false) _ (break-step limit indent fixed c rest column false false e refl) (rw e refl)
+        inner = λ column. from-step false limit indent Fixed LineStart c rest (spot column false) _ (break-step limit indent Fixed c rest column false false e refl) (rw e refl)
             ∙ rw e (ap (λ t. c ∷ t) more.start);
       }
       | inr e ↦ record {
-        start = from-step false limit indent line_start fixed c rest first_cursor _ (start-step limit indent c rest e) (rw e refl)
+        start = from-step false limit indent LineStart Fixed c rest first_cursor _ (start-step limit indent c rest e) (rw e refl)
             ∙ rw e (ap (λ t. (replicate indent space ++ c ∷ []) ++ t) (more.inner (indent + 1)) ∙ sym (indented-begun indent c (parts rest)));
-        inner = λ column. from-step false limit indent fixed fixed c rest (spot column false) _ (content-step limit indent c rest column e) (rw e refl)
+        inner = λ column. from-step false limit indent Fixed Fixed c rest (spot column false) _ (content-step limit indent c rest column e) (rw e refl)
             ∙ rw e (ap (λ t. c ∷ t) (more.inner (column + 1)) ∙ sym (continued-begun indent c (parts rest)));
       }
     ]
@@ -243,12 +190,12 @@ laid-by text lines a e f = λ i. record { text = e i; cursor = (f ∙ ap (λ t. 
 
 -- a literal scalar's lines, character by character
 pub literal-lines-from : (limit : Option ℕ) (indent c : ℕ) (rest : Text)
-    → lines_from false limit indent line_start (c ∷ rest) first_cursor ≡ lines_laid (c ∷ rest) (indented indent (parts (c ∷ rest))) first_cursor
+    → lines_from false limit indent LineStart (c ∷ rest) first_cursor ≡ lines_laid (c ∷ rest) (indented indent (parts (c ∷ rest))) first_cursor
 literal-lines-from limit indent c rest =
-    laid-by (c ∷ rest) (indented indent (parts (c ∷ rest))) (lines_from false limit indent line_start (c ∷ rest) first_cursor)
+    laid-by (c ∷ rest) (indented indent (parts (c ∷ rest))) (lines_from false limit indent LineStart (c ∷ rest) first_cursor)
     (literal-from limit indent (c ∷ rest)).start
-    (lines-cursor false limit indent line_start (c ∷ rest) 0 true
-    ∙ ap (λ b. after_text (lines_from false limit indent line_start (c ∷ rest) first_cursor).text b 0) (sym (ending-last c rest)))
+    (lines-cursor false limit indent LineStart (c ∷ rest) 0 true
+    ∙ ap (λ b. after_text (lines_from false limit indent LineStart (c ∷ rest) first_cursor).text b 0) (sym (ending-last c rest)))
 
 -- a line of folded parts goes on, where it is never folded
 abbrev fixed_text : Option ℕ → ℕ → List Part → Text
@@ -293,7 +240,7 @@ continued-first indent c (line_break b ∷ others) rest h = absurd h
 
 -- a fold
 fold-step : (limit : Option ℕ) (indent c : ℕ) (rest : Text) (column : ℕ) (fold : Bool) → is_break c ≡ false → folds limit column c rest ≡ fold
-    → step_laid limit indent folding c rest (spot column false)
+    → step_laid limit indent Folding c rest (spot column false)
     ≡ record { text = if fold then line_feed ∷ replicate indent space else c ∷ []; cursor = spot (if fold then indent else column + 1) false }
 fold-step limit indent c rest column true e f = rw (e, f) refl
 fold-step limit indent c rest column false e f = rw (e, f) refl
@@ -373,9 +320,9 @@ folding-begun limit indent c (line_break b ∷ rest) e = rw e
 
 -- folded lines, from each place
 record FoldedFrom (limit : Option ℕ) (indent : ℕ) (text : Text) : Type 0 where
-  start : (lines_from true limit indent line_start text first_cursor).text ≡ indented indent (folded_parts limit indent false (parts text))
-  inner : (column : ℕ) → (lines_from true limit indent fixed text (spot column false)).text ≡ fixed_text limit indent (parts text)
-  bent : (column : ℕ) → (lines_from true limit indent folding text (spot column false)).text ≡ folding_text limit indent column (parts text)
+  start : (lines_from true limit indent LineStart text first_cursor).text ≡ indented indent (folded_parts limit indent false (parts text))
+  inner : (column : ℕ) → (lines_from true limit indent Fixed text (spot column false)).text ≡ fixed_text limit indent (parts text)
+  bent : (column : ℕ) → (lines_from true limit indent Folding text (spot column false)).text ≡ folding_text limit indent column (parts text)
 
 twice-text : (indent c : ℕ) (twice : Bool) (ps : List Part)
     → (if twice then c ∷ c ∷ [] else c ∷ []) ++ indented indent ps ≡ indented indent ((if twice then line_break c ∷ line_break c ∷ [] else line_break c ∷ []) ++ ps)
@@ -386,21 +333,21 @@ folded-broken : (limit : Option ℕ) (indent c : ℕ) (rest : Text) → is_break
 folded-broken limit indent c rest e more =
     let twice : Bool = c == line_feed && next_even (parts rest) in
     record {
-      start = from-step true limit indent line_start line_start c rest first_cursor _ (break-step limit indent line_start c rest 0 true false e refl) (rw e refl)
+      start = from-step true limit indent LineStart LineStart c rest first_cursor _ (break-step limit indent LineStart c rest 0 true false e refl) (rw e refl)
           ∙ rw e (ap (λ t. c ∷ t) more.start);
-      inner = λ column. from-step true limit indent fixed line_start c rest (spot column false) _ (break-step limit indent fixed c rest column false false e refl) (rw e refl)
+      inner = λ column. from-step true limit indent Fixed LineStart c rest (spot column false) _ (break-step limit indent Fixed c rest column false false e refl) (rw e refl)
           ∙ rw e (ap (λ t. c ∷ t) more.start);
-      bent = λ column. from-step true limit indent folding line_start c rest (spot column false) _ (break-step limit indent folding c rest column false twice e refl) (rw e refl)
+      bent = λ column. from-step true limit indent Folding LineStart c rest (spot column false) _ (break-step limit indent Folding c rest column false twice e refl) (rw e refl)
           ∙ rw e (ap (λ t. (if twice then c ∷ c ∷ [] else c ∷ []) ++ t) more.start ∙ twice-text indent c twice (folded_parts limit indent false (parts rest)));
     }
 
 folded-first : (limit : Option ℕ) (indent c : ℕ) (rest : Text) → is_break c ≡ false → FoldedFrom limit indent rest
-    → (lines_from true limit indent line_start (c ∷ rest) first_cursor).text ≡ indented indent (folded_parts limit indent false (begun c (parts rest)))
+    → (lines_from true limit indent LineStart (c ∷ rest) first_cursor).text ≡ indented indent (folded_parts limit indent false (begun c (parts rest)))
 folded-first limit indent c rest e more =
     elim (cases_Bool (is_space c)) [
-      | inl spaced ↦ from-step true limit indent line_start fixed c rest first_cursor _ (start-step limit indent c rest e) (rw (e, spaced) refl)
+      | inl spaced ↦ from-step true limit indent LineStart Fixed c rest first_cursor _ (start-step limit indent c rest e) (rw (e, spaced) refl)
           ∙ ap (λ t. (replicate indent space ++ c ∷ []) ++ t) (more.inner (indent + 1)) ∙ sym (fixed-begun limit indent c (parts rest) spaced)
-      | inr even ↦ from-step true limit indent line_start folding c rest first_cursor _ (start-step limit indent c rest e) (rw (e, even) refl)
+      | inr even ↦ from-step true limit indent LineStart Folding c rest first_cursor _ (start-step limit indent c rest e) (rw (e, even) refl)
           ∙ ap (λ t. (replicate indent space ++ c ∷ []) ++ t) (more.bent (indent + 1)) ∙ sym (folding-begun limit indent c (parts rest) even)
     ]
 
@@ -411,11 +358,11 @@ folded-more : (limit : Option ℕ) (indent c : ℕ) (rest : Text) → is_break c
 folded-more limit indent c rest e more =
     record {
       start = folded-first limit indent c rest e more ∙ ap (λ ps. indented indent (folded_parts limit indent false ps)) (part-begun c (parts rest) e);
-      inner = λ column. from-step true limit indent fixed fixed c rest (spot column false) _ (content-step limit indent c rest column e) (rw e refl)
+      inner = λ column. from-step true limit indent Fixed Fixed c rest (spot column false) _ (content-step limit indent c rest column e) (rw e refl)
           ∙ rw e (ap (λ t. c ∷ t) (more.inner (column + 1)) ∙ sym (fixed-inner limit indent c (parts rest)));
       bent = λ column.
           let fold : Bool = folds limit column c rest in
-          from-step true limit indent folding folding c rest (spot column false) _ (fold-step limit indent c rest column fold e refl) (rw e refl)
+          from-step true limit indent Folding Folding c rest (spot column false) _ (fold-step limit indent c rest column fold e refl) (rw e refl)
           ∙ rw e (ap (λ t. (if fold then line_feed ∷ replicate indent space else c ∷ []) ++ t) (more.bent (if fold then indent else column + 1))
           ∙ sym (folding-inner limit indent column c (parts rest) fold (folds-head limit column c rest)));
     }
@@ -431,10 +378,10 @@ folded-from limit indent (c ∷ rest) =
 
 -- a folded scalar's lines, character by character
 pub folded-lines-from : (limit : Option ℕ) (indent c : ℕ) (rest : Text)
-    → lines_from true limit indent line_start (c ∷ rest) first_cursor
+    → lines_from true limit indent LineStart (c ∷ rest) first_cursor
     ≡ lines_laid (c ∷ rest) (indented indent (folded_parts limit indent false (parts (c ∷ rest)))) first_cursor
 folded-lines-from limit indent c rest =
-    laid-by (c ∷ rest) (indented indent (folded_parts limit indent false (parts (c ∷ rest)))) (lines_from true limit indent line_start (c ∷ rest) first_cursor)
+    laid-by (c ∷ rest) (indented indent (folded_parts limit indent false (parts (c ∷ rest)))) (lines_from true limit indent LineStart (c ∷ rest) first_cursor)
     (folded-from limit indent (c ∷ rest)).start
-    (lines-cursor true limit indent line_start (c ∷ rest) 0 true
-    ∙ ap (λ b. after_text (lines_from true limit indent line_start (c ∷ rest) first_cursor).text b 0) (sym (ending-last c rest)))
+    (lines-cursor true limit indent LineStart (c ∷ rest) 0 true
+    ∙ ap (λ b. after_text (lines_from true limit indent LineStart (c ∷ rest) first_cursor).text b 0) (sym (ending-last c rest)))

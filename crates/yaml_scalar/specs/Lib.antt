@@ -2,3 +2,5 @@ pub mod ScalarData
 pub mod Width
 pub mod ReadsBack
 pub mod LineSteps
+pub mod BlockCode
+pub mod BlockSteps

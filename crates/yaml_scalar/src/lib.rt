@@ -7,6 +7,8 @@ mod lines;
 mod plain;
 mod single_quoted;
 mod steps;
+mod block_header;
+mod block_lines;
 mod style;
 mod width;
 

@@ -1,0 +1,58 @@
+-- The lines of a block scalar one character after another: the layout as its writer goes through it.
+use Rattle.std.specs.Prelude.{ℕ, Bool, true, false, List, [], ◌∷◌, ◌==◌, ◌&&◌, not, Option, if◌then◌else◌}
+use Rattle.yaml_base.specs.Characters.{Text, is_break, is_space, line_feed}
+use Rattle.yaml_base.specs.Cursor.{Cursor, Laid, nothing_laid, then_laid, text_laid, with_flags, new_line}
+use Rattle.yaml_base.specs.Lines.{parts}
+use Rattle.yaml_base.specs.Folded.{folds, next_even}
+use Rattle.yaml_scalar.specs.declared.block_lines.Place.{Place}
+use Rattle.yaml_scalar.specs.declared.block_lines.Place.TheVariants.{LineStart, Folding, Fixed}
+
+-- the line that begins with a character
+abbrev pub entered : Bool → ℕ → Place
+entered folded c = if folded && not (is_space c) then Folding else Fixed
+
+abbrev pub within : Bool → Place → ℕ → Place
+within folded LineStart c = entered folded c
+within folded Folding c = Folding
+within folded Fixed c = Fixed
+
+-- where the next character stands
+abbrev pub place_after : Bool → Place → ℕ → Place
+place_after folded place c = if is_break c then LineStart else within folded place c
+
+-- a character that stays on its line
+abbrev pub content_laid : ℕ → Cursor → Laid
+content_laid c cursor = with_flags cursor.whitespace false (text_laid (c ∷ []) cursor)
+
+-- a break
+abbrev pub broken_laid : ℕ → Cursor → Laid
+broken_laid c cursor = with_flags cursor.whitespace true (text_laid (c ∷ []) cursor)
+
+-- a space, or the fold in its place
+abbrev pub folded_laid : Bool → ℕ → ℕ → Cursor → Laid
+folded_laid fold indent c cursor = if fold then with_flags cursor.whitespace false (new_line indent cursor) else content_laid c cursor
+
+abbrev pub inner_laid : (limit : Option ℕ) (indent : ℕ) → Place → ℕ → Text → Cursor → Laid
+inner_laid limit indent LineStart c rest cursor = then_laid (new_line indent cursor) (content_laid c)
+inner_laid limit indent Folding c rest cursor = folded_laid (folds limit cursor.column c rest) indent c cursor
+inner_laid limit indent Fixed c rest cursor = content_laid c cursor
+
+-- a break is doubled where it would be folded
+abbrev pub is_doubled : Place → ℕ → Text → Bool
+is_doubled LineStart c rest = false
+is_doubled Folding c rest = c == line_feed && next_even (parts rest)
+is_doubled Fixed c rest = false
+
+abbrev pub end_laid : Bool → ℕ → Cursor → Laid
+end_laid twice c cursor = if twice then then_laid (text_laid (c ∷ []) cursor) (broken_laid c) else broken_laid c cursor
+
+-- one character
+abbrev pub step_laid : (limit : Option ℕ) (indent : ℕ) → Place → ℕ → Text → Cursor → Laid
+step_laid limit indent place c rest cursor =
+    if is_break c then end_laid (is_doubled place c rest) c cursor else inner_laid limit indent place c rest cursor
+
+-- a text, from a place on
+abbrev pub lines_from : (folded : Bool) (limit : Option ℕ) (indent : ℕ) → Place → Text → Cursor → Laid
+lines_from folded limit indent place [] cursor = nothing_laid cursor
+lines_from folded limit indent place (c ∷ rest) cursor =
+    then_laid (step_laid limit indent place c rest cursor) (lines_from folded limit indent (place_after folded place c) rest)

@@ -1,0 +1,125 @@
+//! The lines of literal and folded scalars (YAML 1.1, section 9.3), one character after another.
+ghost use Rattle.std.specs.Prelude.{◌≡◌, ◌≤ℤ◌, pos, true, false};
+ghost use Rattle.std.specs.Str.{chars};
+ghost use Rattle.yaml_base.specs.Analysis as analysis;
+ghost use Rattle.yaml_base.specs.Characters as class;
+ghost use Rattle.yaml_base.specs.Cursor.{new_line, with_flags};
+ghost use Rattle.yaml_base.specs.Folded as layout;
+ghost use Rattle.yaml_base.specs.Lines.{parts};
+ghost use Rattle.yaml_pen.specs.Page.{IsReady, natural};
+ghost use Rattle.yaml_pen.specs.Wrote.{Wrote};
+ghost use Rattle.yaml_scalar.specs.BlockSteps as step;
+ghost use Rattle.yaml_scalar.specs.Width.{limit_of};
+
+use crate::width::is_past_width;
+use std::alloc::Allocator;
+use yaml_base::{is_break, is_space, yaml_error_t};
+use yaml_pen::Pen;
+
+/// Where a character stands: where a line begins, in a line that may be folded, or in one that may not.
+#[derive(Clone, Copy, PartialEq, Eq)]
+pub(crate) enum Place {
+    LineStart,
+    Folding,
+    Fixed,
+}
+
+/// Where the next character stands.
+fn place_after(folded: bool, place: Place, character: char) -> Place
+    ensures { result ≡ step.place_after folded place character }
+{
+    if is_break(character) { Place::LineStart } else { within(folded, place, character) }
+}
+
+fn within(folded: bool, place: Place, character: char) -> Place
+    ensures { result ≡ step.within folded place character }
+{
+    match place {
+        Place::LineStart => entered(folded, character),
+        Place::Folding => Place::Folding,
+        Place::Fixed => Place::Fixed,
+    }
+}
+
+/// A line that begins with a space is never folded.
+fn entered(folded: bool, first: char) -> Place
+    ensures { result ≡ step.entered folded first }
+{
+    if folded && !is_space(first) { Place::Folding } else { Place::Fixed }
+}
+
+fn begins_with_space(rest: &str) -> bool
+    ensures { result ≡ analysis.begins_with class.is_space (chars rest.now) }
+{
+    match rest.chars().next() {
+        Some(c) => is_space(c),
+        None => false,
+    }
+}
+
+/// The last space of a run, past the width.
+fn folds<A: Allocator>(pen: &Pen<A>, width: i32, character: char, rest: &str) -> bool
+    ensures { result ≡ layout.folds (limit_of width) pen.now.cursor.column character (chars rest.now) }
+{
+    is_space(character) && !begins_with_space(rest) && is_past_width(pen, width)
+}
+
+/// The next line, past the breaks that come first, doesn't begin with a space.
+fn next_even(rest: &str) -> bool
+    ensures { result ≡ layout.next_even (parts (chars rest.now)) }
+{
+    for character in rest.chars() {
+        if !is_break(character) {
+            return !is_space(character);
+        }
+    }
+    false
+}
+
+/// A LF that would be folded.
+fn is_doubled(place: Place, character: char, rest: &str) -> bool
+    ensures { result ≡ step.is_doubled place character (chars rest.now) }
+{
+    match place {
+        Place::Folding => character == '\n' && next_even(rest),
+        _ => false,
+    }
+}
+
+/// A character that stays on its line.
+fn write_content<A: Allocator>(pen: &mut Pen<A>, character: char) -> Result<(), yaml_error_t>
+    requires ready { IsReady pen.old }
+    requires no_break { class.is_break character ≡ false }
+    ensures { Wrote (step.content_laid character) pen.old pen.new result }
+{
+    pen.write_char(character)?;
+    pen.set_indention(false);
+    Ok(())
+}
+
+fn write_broken<A: Allocator>(pen: &mut Pen<A>, character: char) -> Result<(), yaml_error_t>
+    requires ready { IsReady pen.old }
+    requires a_break { class.is_break character ≡ true }
+    ensures { Wrote (step.broken_laid character) pen.old pen.new result }
+{
+    pen.write_break(character)?;
+    pen.set_indention(true);
+    Ok(())
+}
+
+fn write_twice<A: Allocator>(pen: &mut Pen<A>, character: char) -> Result<(), yaml_error_t>
+    requires ready { IsReady pen.old }
+    requires a_break { class.is_break character ≡ true }
+    ensures { Wrote (step.end_laid true character) pen.old pen.new result }
+{
+    pen.write_break(character)?;
+    write_broken(pen, character)
+}
+
+fn write_end<A: Allocator>(pen: &mut Pen<A>, twice: bool, character: char) -> Result<(), yaml_error_t>
+    requires ready { IsReady pen.old }
+    requires a_break { class.is_break character ≡ true }
+    ensures { Wrote (step.end_laid twice character) pen.old pen.new result }
+{
+    if twice { write_twice(pen, character) } else { write_broken(pen, character) }
+}
