@@ -23,3 +23,6 @@ pub mod StillToWrite
 pub mod InsideSteps
 pub mod MeaningKept
 pub mod QuotedSteps
+pub mod LastCharacters
+pub mod NextEven
+pub mod BlockWrites

@@ -1,5 +1,5 @@
 -- What contracts see of the block scalars' own types.
-use Rattle.std.specs.Prelude.{ℕ, ℤ, Option, None, Some, Result, Ok, Err, [], ◌∷◌}
+use Rattle.std.specs.Prelude.{ℤ, Result, Ok, Err}
 use Rattle.yaml_base.specs.BlockHeader as layout
 use Rattle.yaml_base.specs.declared.errors.yaml_error_t.{yaml_error_t}
 use Rattle.yaml_scalar.specs.declared.block_header.Ending.{Ending}
@@ -9,11 +9,6 @@ abbrev pub seen_ending : Ending → layout.Ending
 seen_ending WithoutBreak = layout.without_break
 seen_ending OneBreak = layout.one_break
 seen_ending MoreBreaks = layout.more_breaks
-
--- how a text ends whose last characters are these
-abbrev pub ending_of : Option ℕ → ℕ → layout.Ending
-ending_of None last = layout.ending (last ∷ [])
-ending_of (Some before) last = layout.ending (before ∷ last ∷ [])
 
 -- an answer without the open mark
 abbrev pub without_mark : Result ℤ yaml_error_t → Result (Unit {0}) yaml_error_t

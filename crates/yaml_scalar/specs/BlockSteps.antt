@@ -1,7 +1,8 @@
 -- The lines of a block scalar one character after another: the layout as its writer goes through it.
-use Rattle.std.specs.Prelude.{ℕ, Bool, true, false, List, [], ◌∷◌, ◌==◌, ◌&&◌, not, Option, if◌then◌else◌}
+use Rattle.std.specs.Prelude.{ℕ, Bool, true, false, [], ◌∷◌, ◌==◌, ◌&&◌, not, Option, if◌then◌else◌}
 use Rattle.yaml_base.specs.Characters.{Text, is_break, is_space, line_feed}
-use Rattle.yaml_base.specs.Cursor.{Cursor, Laid, nothing_laid, then_laid, text_laid, with_flags, new_line}
+use Rattle.yaml_base.specs.BlockHeader.{header_laid}
+use Rattle.yaml_base.specs.Cursor.{Cursor, Laid, nothing_laid, then_laid, text_laid, with_flags, space_if, new_line}
 use Rattle.yaml_base.specs.Lines.{parts}
 use Rattle.yaml_base.specs.Folded.{folds, next_even}
 use Rattle.yaml_scalar.specs.declared.block_lines.Place.{Place}
@@ -28,12 +29,20 @@ content_laid c cursor = with_flags cursor.whitespace false (text_laid (c ∷ [])
 abbrev pub broken_laid : ℕ → Cursor → Laid
 broken_laid c cursor = with_flags cursor.whitespace true (text_laid (c ∷ []) cursor)
 
--- a space, or the fold in its place
+-- a fold: the next character goes on in its line
+abbrev pub fold_laid : ℕ → Cursor → Laid
+fold_laid indent cursor = with_flags true false (new_line indent cursor)
+
+-- a fold in place of a space, or another character
 abbrev pub folded_laid : Bool → ℕ → ℕ → Cursor → Laid
-folded_laid fold indent c cursor = if fold then with_flags cursor.whitespace false (new_line indent cursor) else content_laid c cursor
+folded_laid fold indent c cursor = if fold then fold_laid indent cursor else content_laid c cursor
+
+-- a line's first character
+abbrev pub first_laid : ℕ → ℕ → Cursor → Laid
+first_laid indent c cursor = then_laid (new_line indent cursor) (content_laid c)
 
 abbrev pub inner_laid : (limit : Option ℕ) (indent : ℕ) → Place → ℕ → Text → Cursor → Laid
-inner_laid limit indent LineStart c rest cursor = then_laid (new_line indent cursor) (content_laid c)
+inner_laid limit indent LineStart c rest cursor = first_laid indent c cursor
 inner_laid limit indent Folding c rest cursor = folded_laid (folds limit cursor.column c rest) indent c cursor
 inner_laid limit indent Fixed c rest cursor = content_laid c cursor
 
@@ -56,3 +65,21 @@ abbrev pub lines_from : (folded : Bool) (limit : Option ℕ) (indent : ℕ) → 
 lines_from folded limit indent place [] cursor = nothing_laid cursor
 lines_from folded limit indent place (c ∷ rest) cursor =
     then_laid (step_laid limit indent place c rest cursor) (lines_from folded limit indent (place_after folded place c) rest)
+
+-- `>` for folded, `|` for literal
+abbrev pub sign_of : Bool → ℕ
+sign_of folded = if folded then 62 else 124
+
+-- a header after a separating space where one is needed
+abbrev pub separated_header : (folded : Bool) (best_indent : ℕ) (value : Text) → Cursor → Laid
+separated_header folded best_indent value cursor =
+    then_laid (text_laid (space_if true cursor) cursor) (header_laid (sign_of folded) best_indent value)
+
+-- its end: a break, after which a line begins
+abbrev pub header_end : Cursor → Laid
+header_end cursor = with_flags true true (text_laid (line_feed ∷ []) cursor)
+
+-- and all of a block scalar
+abbrev pub block_laid : (folded : Bool) (limit : Option ℕ) (indent best_indent : ℕ) (value : Text) → Cursor → Laid
+block_laid folded limit indent best_indent value cursor =
+    then_laid (separated_header folded best_indent value cursor) (lines_from folded limit indent LineStart value)

@@ -1,10 +1,13 @@
 //! The header of literal and folded scalars (YAML 1.1, section 9.2).
-ghost use Rattle.std.specs.Prelude.{◌≡◌, ◌≤ℤ◌, ◌+◌, ◌∷◌, [], pos, IfOk};
+ghost use Rattle.std.specs.Prelude.{◌≡◌, ◌≤ℤ◌, ◌<◌, ◌∷◌, ◌++◌, [], false, true, pos, IfOk, encode_utf8};
 ghost use Rattle.std.specs.Str.{chars};
 ghost use Rattle.yaml_base.specs.BlockHeader as layout;
+ghost use Rattle.yaml_base.specs.Characters as class;
+ghost use Rattle.yaml_base.specs.Cursor.{nothing_laid};
 ghost use Rattle.yaml_pen.specs.Page.{IsReady, natural};
 ghost use Rattle.yaml_pen.specs.Wrote.{Wrote};
-ghost use Rattle.yaml_scalar.specs.BlockCode.{seen_ending, ending_of, without_mark};
+ghost use Rattle.yaml_scalar.specs.BlockCode.{seen_ending, without_mark};
+ghost use Rattle.yaml_scalar.specs.BlockSteps as step;
 
 use std::alloc::Allocator;
 use yaml_base::{is_break, is_space, yaml_error_t};
@@ -12,38 +15,129 @@ use yaml_pen::Pen;
 
 /// How a value ends.
 #[derive(Clone, Copy, PartialEq, Eq)]
-pub(crate) enum Ending {
+enum Ending {
     WithoutBreak,
     OneBreak,
     MoreBreaks,
 }
 
-/// Not in a break, in exactly one break after another character, or otherwise.
-pub(crate) fn value_ending(value: &str) -> Ending
-    ensures { seen_ending result ≡ layout.ending (chars value.now) }
+/// Writes the hints of a block scalar's header: the digit of the indent, 2 to 9, where the value begins
+/// with a space or a break; `-` where the value doesn't end in a break, nothing where it ends in exactly
+/// one after another character, else `+`. Answers the open mark: 2 after `+`, else 0.
+pub fn write_block_scalar_hints<A: Allocator>(
+    pen: &mut Pen<A>,
+    value: &str,
+    best_indent: i32,
+) -> Result<i32, yaml_error_t>
+    requires ready { IsReady pen.old }
+    requires least { pos 2 ≤ℤ best_indent }
+    requires most { best_indent ≤ℤ pos 9 }
+    ensures written { Wrote (layout.hints_laid (natural best_indent) (chars value.now)) pen.old pen.new (without_mark result) }
+    ensures mark { IfOk result (λ mark. mark ≡ pos (layout.header_mark (chars value.now))) }
 {
-    let mut characters = value.chars();
-    match characters.next_back() {
-        Some(last) => last_ending(characters.next_back(), last),
-        None => Ending::WithoutBreak,
+    write_hints(pen, value, best_indent)?;
+    Ok(open_mark(value))
+}
+
+/// Writes a header: a separating space where one is needed, the style's sign, the hints and a break.
+pub(crate) fn write_header<A: Allocator>(
+    pen: &mut Pen<A>,
+    value: &str,
+    best_indent: i32,
+    folded: bool,
+) -> Result<(), yaml_error_t>
+    requires ready { IsReady pen.old }
+    requires least { pos 2 ≤ℤ best_indent }
+    requires most { best_indent ≤ℤ pos 9 }
+    ensures { Wrote (step.separated_header folded (natural best_indent) (chars value.now)) pen.old pen.new result }
+{
+    pen.write_indicator(sign(folded), true, false, false)?;
+    write_hints(pen, value, best_indent)?;
+    end_header(pen)
+}
+
+/// The open mark that a value's header leaves.
+pub(crate) fn open_mark(value: &str) -> i32
+    ensures { result ≡ pos (layout.header_mark (chars value.now)) }
+{
+    mark_of(value_ending(value))
+}
+
+#[tactic(auto, unfolding(std::specs::Str::chars))]
+fn sign(folded: bool) -> &'static str
+    ensures { chars result.now ≡ step.sign_of folded ∷ [] }
+{
+    if folded { ">" } else { "|" }
+}
+
+fn end_header<A: Allocator>(pen: &mut Pen<A>) -> Result<(), yaml_error_t>
+    requires { IsReady pen.old }
+    ensures { Wrote step.header_end pen.old pen.new result }
+{
+    pen.put_break()?;
+    pen.set_whitespace(true);
+    pen.set_indention(true);
+    Ok(())
+}
+
+fn write_hints<A: Allocator>(pen: &mut Pen<A>, value: &str, best_indent: i32) -> Result<(), yaml_error_t>
+    requires ready { IsReady pen.old }
+    requires least { pos 2 ≤ℤ best_indent }
+    requires most { best_indent ≤ℤ pos 9 }
+    ensures { Wrote (layout.hints_laid (natural best_indent) (chars value.now)) pen.old pen.new result }
+{
+    write_indentation_hint(pen, value, best_indent)?;
+    write_ending_hint(pen, value_ending(value))
+}
+
+fn write_indentation_hint<A: Allocator>(
+    pen: &mut Pen<A>,
+    value: &str,
+    best_indent: i32,
+) -> Result<(), yaml_error_t>
+    requires ready { IsReady pen.old }
+    requires least { pos 2 ≤ℤ best_indent }
+    requires most { best_indent ≤ℤ pos 9 }
+    ensures { Wrote (layout.hint_laid (layout.indentation_hint (natural best_indent) (chars value.now))) pen.old pen.new result }
+{
+    if begins_blank(value) {
+        write_hint(pen, b'0' + best_indent as u8)
+    } else {
+        go_on(pen)
     }
 }
 
-fn last_ending(before: Option<char>, last: char) -> Ending
-    ensures { seen_ending result ≡ ending_of before last }
+fn write_ending_hint<A: Allocator>(pen: &mut Pen<A>, ending: Ending) -> Result<(), yaml_error_t>
+    requires { IsReady pen.old }
+    ensures { Wrote (layout.hint_laid (layout.ending_hint (seen_ending ending))) pen.old pen.new result }
 {
-    if !is_break(last) {
-        return Ending::WithoutBreak;
+    match ending {
+        Ending::WithoutBreak => write_hint(pen, b'-'),
+        Ending::OneBreak => go_on(pen),
+        Ending::MoreBreaks => write_hint(pen, b'+'),
     }
-    match before {
-        Some(c) => {
-            if is_break(c) {
-                Ending::MoreBreaks
-            } else {
-                Ending::OneBreak
-            }
-        }
-        None => Ending::MoreBreaks,
+}
+
+fn write_hint<A: Allocator>(pen: &mut Pen<A>, hint: u8) -> Result<(), yaml_error_t>
+    requires ready { IsReady pen.old }
+    requires ascii { hint < 128 }
+    requires no_break { class.is_break hint ≡ false }
+    ensures { Wrote (layout.hint_laid (hint ∷ [])) pen.old pen.new result }
+{
+    pen.put(hint)?;
+    pen.set_whitespace(false);
+    pen.set_indention(false);
+    Ok(())
+}
+
+/// Nothing is written, and the error of a pen that failed is told.
+pub(crate) fn go_on<A: Allocator>(pen: &Pen<A>) -> Result<(), yaml_error_t>
+    requires { IsReady pen.now }
+    ensures { Wrote nothing_laid pen.now pen.now result }
+{
+    match pen.error() {
+        Some(error) => Err(error),
+        None => Ok(()),
     }
 }
 
@@ -57,47 +151,42 @@ fn begins_blank(value: &str) -> bool
     }
 }
 
-/// An indent of 2 to 9 as a digit.
-fn digit(indent: i32) -> &'static str
-    requires least { pos 2 ≤ℤ indent }
-    requires most { indent ≤ℤ pos 9 }
-    ensures { chars result.now ≡ (48 + natural indent) ∷ [] }
-{
-    match indent {
-        2 => "2",
-        3 => "3",
-        4 => "4",
-        5 => "5",
-        6 => "6",
-        7 => "7",
-        8 => "8",
-        _ => "9",
-    }
-}
-
-fn indentation_hint(value: &str, best_indent: i32) -> &'static str
-    requires least { pos 2 ≤ℤ best_indent }
-    requires most { best_indent ≤ℤ pos 9 }
-    ensures { chars result.now ≡ layout.indentation_hint (natural best_indent) (chars value.now) }
-{
-    if begins_blank(value) { digit(best_indent) } else { "" }
-}
-
-fn ending_hint(ending: Ending) -> &'static str
-    ensures { chars result.now ≡ layout.ending_hint (seen_ending ending) }
-{
-    match ending {
-        Ending::WithoutBreak => "-",
-        Ending::OneBreak => "",
-        Ending::MoreBreaks => "+",
-    }
-}
-
-fn open_mark(ending: Ending) -> i32
+fn mark_of(ending: Ending) -> i32
     ensures { result ≡ pos (layout.ending_mark (seen_ending ending)) }
 {
     match ending {
         Ending::MoreBreaks => 2,
         _ => 0,
     }
+}
+
+/// Not in a break, in exactly one break after another character, or otherwise.
+fn value_ending(value: &str) -> Ending
+    ensures { seen_ending result ≡ layout.ending (chars value.now) }
+{
+    let mut characters = value.chars();
+    match characters.next_back() {
+        Some(last) => last_ending(characters.as_str(), last),
+        None => Ending::WithoutBreak,
+    }
+}
+
+fn last_ending(front: &str, last: char) -> Ending
+    ensures { seen_ending result ≡ layout.ending (chars (front.now ++ encode_utf8 last)) }
+{
+    if !is_break(last) {
+        return Ending::WithoutBreak;
+    }
+    let mut characters = front.chars();
+    match characters.next_back() {
+        Some(before) => break_ending(characters.as_str(), before, last),
+        None => Ending::MoreBreaks,
+    }
+}
+
+fn break_ending(front: &str, before: char, last: char) -> Ending
+    requires { class.is_break last ≡ true }
+    ensures { seen_ending result ≡ layout.ending (chars (front.now ++ encode_utf8 before ++ encode_utf8 last)) }
+{
+    if is_break(before) { Ending::MoreBreaks } else { Ending::OneBreak }
 }

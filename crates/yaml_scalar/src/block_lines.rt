@@ -9,8 +9,10 @@ ghost use Rattle.yaml_base.specs.Lines.{parts};
 ghost use Rattle.yaml_pen.specs.Page.{IsReady, natural};
 ghost use Rattle.yaml_pen.specs.Wrote.{Wrote};
 ghost use Rattle.yaml_scalar.specs.BlockSteps as step;
+ghost use Rattle.yaml_scalar.specs.declared.block_lines.Place.TheVariants.{LineStart};
 ghost use Rattle.yaml_scalar.specs.Width.{limit_of};
 
+use crate::block_header::go_on;
 use crate::width::is_past_width;
 use std::alloc::Allocator;
 use yaml_base::{is_break, is_space, yaml_error_t};
@@ -22,6 +24,107 @@ pub(crate) enum Place {
     LineStart,
     Folding,
     Fixed,
+}
+
+/// Writes the lines of a value, from the start of a line on: each line after so many spaces; where they
+/// are folded, past the width, except a line that begins with a space.
+pub(crate) fn write_lines<A: Allocator>(
+    pen: &mut Pen<A>,
+    value: &str,
+    indent: i32,
+    folded: bool,
+    width: i32,
+) -> Result<(), yaml_error_t>
+    requires ready { IsReady pen.old }
+    requires not_negative { pos 0 ≤ℤ indent }
+    ensures { Wrote (step.lines_from folded (limit_of width) (natural indent) LineStart (chars value.now)) pen.old pen.new result }
+{
+    go_on(pen)?;
+    let mut place = Place::LineStart;
+    let mut characters = value.chars();
+    while let Some(character) = characters.next() {
+        write_step(pen, place, character, characters.as_str(), indent, width)?;
+        place = place_after(folded, place, character);
+    }
+    Ok(())
+}
+
+fn write_step<A: Allocator>(
+    pen: &mut Pen<A>,
+    place: Place,
+    character: char,
+    rest: &str,
+    indent: i32,
+    width: i32,
+) -> Result<(), yaml_error_t>
+    requires ready { IsReady pen.old }
+    requires not_negative { pos 0 ≤ℤ indent }
+    ensures { Wrote (step.step_laid (limit_of width) (natural indent) place character (chars rest.now)) pen.old pen.new result }
+{
+    if is_break(character) {
+        write_end(pen, is_doubled(place, character, rest), character)
+    } else {
+        write_inner(pen, place, character, rest, indent, width)
+    }
+}
+
+/// A character of a line.
+fn write_inner<A: Allocator>(
+    pen: &mut Pen<A>,
+    place: Place,
+    character: char,
+    rest: &str,
+    indent: i32,
+    width: i32,
+) -> Result<(), yaml_error_t>
+    requires ready { IsReady pen.old }
+    requires not_negative { pos 0 ≤ℤ indent }
+    requires no_break { class.is_break character ≡ false }
+    ensures { Wrote (step.inner_laid (limit_of width) (natural indent) place character (chars rest.now)) pen.old pen.new result }
+{
+    match place {
+        Place::LineStart => write_first(pen, character, indent),
+        Place::Folding => {
+            let fold = folds(pen, width, character, rest);
+            write_folding(pen, fold, character, indent)
+        }
+        Place::Fixed => write_content(pen, character),
+    }
+}
+
+/// The first character of a line.
+fn write_first<A: Allocator>(pen: &mut Pen<A>, character: char, indent: i32) -> Result<(), yaml_error_t>
+    requires ready { IsReady pen.old }
+    requires not_negative { pos 0 ≤ℤ indent }
+    requires no_break { class.is_break character ≡ false }
+    ensures { Wrote (step.first_laid (natural indent) character) pen.old pen.new result }
+{
+    pen.write_indent(indent)?;
+    write_content(pen, character)
+}
+
+fn write_folding<A: Allocator>(
+    pen: &mut Pen<A>,
+    fold: bool,
+    character: char,
+    indent: i32,
+) -> Result<(), yaml_error_t>
+    requires ready { IsReady pen.old }
+    requires not_negative { pos 0 ≤ℤ indent }
+    requires no_break { class.is_break character ≡ false }
+    ensures { Wrote (step.folded_laid fold (natural indent) character) pen.old pen.new result }
+{
+    if fold { write_fold(pen, indent) } else { write_content(pen, character) }
+}
+
+fn write_fold<A: Allocator>(pen: &mut Pen<A>, indent: i32) -> Result<(), yaml_error_t>
+    requires ready { IsReady pen.old }
+    requires not_negative { pos 0 ≤ℤ indent }
+    ensures { Wrote (step.fold_laid (natural indent)) pen.old pen.new result }
+{
+    pen.write_indent(indent)?;
+    pen.set_indention(false);
+    Ok(())
 }
 
 /// Where the next character stands.
@@ -68,7 +171,8 @@ fn folds<A: Allocator>(pen: &Pen<A>, width: i32, character: char, rest: &str) ->
 fn next_even(rest: &str) -> bool
     ensures { result ≡ layout.next_even (parts (chars rest.now)) }
 {
-    for character in rest.chars() {
+    let mut characters = rest.chars();
+    while let Some(character) = characters.next() {
         if !is_break(character) {
             return !is_space(character);
         }

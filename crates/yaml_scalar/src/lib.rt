@@ -16,4 +16,5 @@ pub use analysis::{analyze_scalar, scalar_data_t};
 pub use double_quoted::write_double_quoted_scalar;
 pub use plain::write_plain_scalar;
 pub use single_quoted::write_single_quoted_scalar;
+pub use block_header::write_block_scalar_hints;
 pub use style::select_scalar_style;

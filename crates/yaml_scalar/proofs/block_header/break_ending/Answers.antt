@@ -1,0 +1,19 @@
+use Rattle.std.proofs.Common.{sym, ap, ◌∙◌, encode_utf8, if◌then◌else◌}
+use Rattle.std.proofs.lemmas.Str.{IsUtf8-append, IsUtf8-encode}
+use Rattle.yaml_base.specs.BlockHeader.{more_breaks, one_break}
+use Rattle.yaml_scalar.proofs.LastCharacters.{two-end}
+use Rattle.yaml_scalar.proofs.block_header.break_ending.Goals as goal
+
+pub returns-then-is_break : goal.returns-then-is_break
+returns-then-is_break c =
+    let front = c.args.front.now in
+    let text = IsUtf8-append front (encode_utf8 c.args.before) c.utf8.front (IsUtf8-encode c.args.before c.ranges.before.0) in
+    ap (λ b. if b then more_breaks else one_break) c.if-is_break.ensures
+    ∙ sym (two-end front c.args.before c.args.last c.utf8.front text c.ranges.before.0 c.ranges.last.0 c.requires)
+
+pub returns-else-is_break : goal.returns-else-is_break
+returns-else-is_break c =
+    let front = c.args.front.now in
+    let text = IsUtf8-append front (encode_utf8 c.args.before) c.utf8.front (IsUtf8-encode c.args.before c.ranges.before.0) in
+    ap (λ b. if b then more_breaks else one_break) c.if-is_break.ensures
+    ∙ sym (two-end front c.args.before c.args.last c.utf8.front text c.ranges.before.0 c.ranges.last.0 c.requires)
