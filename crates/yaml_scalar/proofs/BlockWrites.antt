@@ -1,6 +1,8 @@
 -- The calls of a block scalar's writer make up its layout.
 use Rattle.std.proofs.Common.{◌≡◌, refl, sym, ap, ◌∙◌, append_assoc, append-nil}
 use Rattle.std.specs.Prelude.{ℕ, Bool, true, false, [], ◌∷◌, ◌++◌, Option, Ok, Err}
+use Rattle.std.proofs.lemmas.Bool.{false≢true}
+use Rattle.yaml_base.specs.Analysis.{is_empty}
 use Rattle.yaml_base.specs.Characters.{Text}
 use Rattle.yaml_base.specs.Cursor.{Cursor, Laid, nothing_laid, then_laid, text_laid, space_if, indicator}
 use Rattle.yaml_base.specs.BlockHeader.{hints_laid, header_laid}
@@ -111,3 +113,13 @@ block-folded limit indent best_indent c rest cursor =
     let lead : Laid = text_laid (space_if true cursor) cursor in
     then-assoc lead (header_laid 62 best_indent (c ∷ rest)) (lines_from true limit indent LineStart (c ∷ rest))
     ∙ ap (λ (l : Laid). then_laid lead (header_then 62 best_indent (c ∷ rest) l)) (folded-lines-from limit indent c rest)
+
+pub some-literal : (limit : Option ℕ) (indent best_indent : ℕ) (value : Text) (cursor : Cursor) → is_empty value ≡ false
+    → block_laid false limit indent best_indent value cursor ≡ literal_laid indent best_indent value cursor
+some-literal limit indent best_indent [] cursor e = absurd (false≢true (sym e))
+some-literal limit indent best_indent (c ∷ rest) cursor e = block-literal limit indent best_indent c rest cursor
+
+pub some-folded : (limit : Option ℕ) (indent best_indent : ℕ) (value : Text) (cursor : Cursor) → is_empty value ≡ false
+    → block_laid true limit indent best_indent value cursor ≡ folded_laid limit indent best_indent value cursor
+some-folded limit indent best_indent [] cursor e = absurd (false≢true (sym e))
+some-folded limit indent best_indent (c ∷ rest) cursor e = block-folded limit indent best_indent c rest cursor

@@ -1,0 +1,39 @@
+use Rattle.std.proofs.Common.{pos, false, rules}
+use Rattle.std.proofs.lemmas.Int.{to_z-of_z}
+use Rattle.std.specs.Str.{chars}
+use mir.Val.{SFits}
+use mir.Syntax.{w32}
+use Rattle.yaml_base.specs.Literal.{literal_laid}
+use Rattle.yaml_pen.specs.Page.{natural}
+use Rattle.yaml_pen.proofs.Composing.{wrote_exit, wrote_as, wrote_failed, wrote_then}
+use Rattle.yaml_scalar.specs.Width.{limit_of}
+use Rattle.yaml_scalar.specs.BlockSteps.{lines_from}
+use Rattle.yaml_scalar.specs.declared.block_lines.Place.TheVariants.{LineStart}
+use Rattle.yaml_scalar.proofs.BlockWrites.{some-literal}
+use Rattle.yaml_scalar.proofs.literal.write_literal.Goals as goal
+
+pub returns-in_err-write_header : goal.returns-in_err-write_header
+returns-in_err-write_header g c =
+    let fits : SFits w32 c.args.best_indent = c.ranges.best_indent in
+    let n = natural c.args.indent in
+    let best = natural c.args.best_indent in
+    let value = chars c.args.value.now in
+    let limit = limit_of (pos 2147483647) in
+    let header = simp to_z-of_z at c.in_err-write_header.ensures in
+    wrote_exit c.from_residual.ensures
+    (wrote_as (literal_laid n best value) (some-literal limit n best value c.args.pen.now.cursor c.requires.some)
+    (wrote_failed (lines_from false limit n LineStart value) header))
+
+pub returns : goal.returns
+returns g c =
+    let fits : SFits w32 c.args.best_indent = c.ranges.best_indent in
+    let deep : SFits w32 c.args.indent = c.ranges.indent in
+    let wide : SFits w32 (pos 2147483647) = search rules in
+    let n = natural c.args.indent in
+    let best = natural c.args.best_indent in
+    let value = chars c.args.value.now in
+    let limit = limit_of (pos 2147483647) in
+    let header = simp to_z-of_z at c.in_ok-write_header.ensures in
+    let lines = simp to_z-of_z at c.write_lines.ensures in
+    wrote_as (literal_laid n best value) (some-literal limit n best value c.args.pen.now.cursor c.requires.some)
+    (wrote_then header lines)
