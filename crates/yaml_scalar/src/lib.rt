@@ -10,7 +10,11 @@ mod steps;
 mod block_header;
 mod block_lines;
 mod folded;
+mod lines;
 mod literal;
+mod plain;
+mod single_quoted;
+mod steps;
 mod style;
 mod width;
 
@@ -21,4 +25,6 @@ pub use single_quoted::write_single_quoted_scalar;
 pub use block_header::write_block_scalar_hints;
 pub use folded::write_folded_scalar;
 pub use literal::write_literal_scalar;
+pub use plain::write_plain_scalar;
+pub use single_quoted::write_single_quoted_scalar;
 pub use style::select_scalar_style;
