@@ -2,13 +2,9 @@
 #![tactic(auto)]
 
 mod analysis;
-mod double_quoted;
-mod lines;
-mod plain;
-mod single_quoted;
-mod steps;
 mod block_header;
 mod block_lines;
+mod double_quoted;
 mod folded;
 mod lines;
 mod literal;
@@ -19,10 +15,8 @@ mod style;
 mod width;
 
 pub use analysis::{analyze_scalar, scalar_data_t};
-pub use double_quoted::write_double_quoted_scalar;
-pub use plain::write_plain_scalar;
-pub use single_quoted::write_single_quoted_scalar;
 pub use block_header::write_block_scalar_hints;
+pub use double_quoted::write_double_quoted_scalar;
 pub use folded::write_folded_scalar;
 pub use literal::write_literal_scalar;
 pub use plain::write_plain_scalar;
