@@ -1,6 +1,6 @@
 -- A plain body reads as its value, and its later lines are indented.
-use Rattle.std.proofs.Common.{◌≡◌, refl, ap, ◌∙◌, ℕ, ◌≤◌, [], ◌∷◌, ◌++◌, Bool, true, false, append-nil}
-use Rattle.std.specs.Prelude.{Option, Some, ◌&&◌, map}
+use Rattle.std.proofs.Common.{◌≡◌, refl, sym, ap, ◌∙◌, ℕ, ◌≤◌, List, [], ◌∷◌, ◌++◌, Bool, true, false, append-nil}
+use Rattle.std.specs.Prelude.{Option, None, Some, ◌==◌, ◌||◌, ◌&&◌, not, if◌then◌else◌, map}
 use Rattle.std.proofs.lemmas.Bool.{and_parts, or_parts, or_from, not-true}
 use Rattle.std.proofs.Math.Bool.{and-false}
 use Rattle.yaml_base.specs.Characters.{Text, is_break, is_space}

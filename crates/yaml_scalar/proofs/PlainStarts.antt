@@ -1,9 +1,9 @@
 -- Where plain lines begin as the value does, and hold no sign that plain text may not hold.
-use Rattle.std.proofs.Common.{◌≡◌, refl, sym, ap, ◌∙◌, subst, ℕ, suc, zero, [], ◌∷◌, ◌++◌, Bool, true, false, true≢false}
+use Rattle.std.proofs.Common.{◌≡◌, refl, sym, ap, ◌∙◌, subst, ℕ, suc, zero, List, [], ◌∷◌, ◌++◌, Bool, true, false, append_assoc, true≢false}
 use Rattle.std.specs.Prelude.{Option, ◌==◌, ◌||◌, ◌&&◌, not, if◌then◌else◌, codes}
 use Rattle.std.proofs.lemmas.Bool.{eqb-true, or_parts, or_from}
 use Rattle.std.proofs.Math.Bool.{and-false, and-true, and_assoc}
-use Rattle.yaml_base.specs.Characters.{Text, is_among, is_blank, is_break, is_space, line_feed, space}
+use Rattle.yaml_base.specs.Characters.{Text, is_among, is_blank, is_break, is_space, line_feed, line_separator, paragraph_separator, space}
 use Rattle.yaml_base.specs.Cursor.{Cursor, text_laid, is_past_width}
 use Rattle.yaml_base.specs.Analysis.{Charset, bars_plain, begins_like_mark, begins_unlike_plain, begins_with, ends_word, is_empty, is_gap, somewhere}
 use Rattle.yaml_base.specs.Plain.{Kind, spaces, breaks, others, kind_of, is_same_kind, indentation}

@@ -1,13 +1,13 @@
 -- Folding reads the lines of plain and single-quoted text as the value.
-use Rattle.std.proofs.Common.{◌≡◌, refl, sym, ap, ◌∙◌, subst, ℕ, suc, zero, [], ◌∷◌, ◌++◌, Bool, true, false}
-use Rattle.std.specs.Prelude.{Option, ◌==◌, ◌||◌, ◌&&◌, not, if◌then◌else◌, map}
+use Rattle.std.proofs.Common.{◌≡◌, refl, sym, ap, ◌∙◌, subst, ℕ, suc, zero, List, [], ◌∷◌, ◌++◌, Bool, true, false, append_assoc}
+use Rattle.std.specs.Prelude.{Option, ◌==◌, ◌||◌, ◌&&◌, not, if◌then◌else◌, replicate, map}
 use Rattle.std.proofs.lemmas.Bool.{eqb-true, or_parts, and_from, and_parts, not-true, not-false, not_from_false}
 use Rattle.std.specs.List.{list_any}
 use Rattle.yaml_base.specs.LineBreaks.{is_laid_text}
 use Rattle.std.proofs.Math.Bool.{and-false}
 use Rattle.yaml_base.specs.Characters.{Text, carriage_return, next_line, is_break, is_space, is_printable, line_feed, space}
-use Rattle.yaml_base.specs.Cursor.{Cursor, is_past_width}
-use Rattle.yaml_base.specs.Analysis.{Charset, is_empty, is_special, begins_with, somewhere, bars_single_quoted}
+use Rattle.yaml_base.specs.Cursor.{Cursor, Laid, text_laid, is_past_width}
+use Rattle.yaml_base.specs.Analysis.{Charset, is_empty, is_special, begins_with, somewhere, bars_single_quoted, is_trailing_space}
 use Rattle.yaml_base.specs.Plain.{Kind, spaces, breaks, others, kind_of, is_same_kind, indentation}
 use Rattle.yaml_base.specs.ReadFolding.{FoldUnit, literal_blank, literal_break, itself, unit_of, Front, run_read, front_read, front_of, unit_before, folding_read}
 use Rattle.yaml_scalar.specs.LineSteps.{begins_kind, step_text}

@@ -1,10 +1,10 @@
 -- Each nonempty line of plain and single-quoted text after the first begins with two spaces.
-use Rattle.std.proofs.Common.{◌≡◌, refl, ℕ, suc, zero, ◌≤◌, [], ◌∷◌, ◌++◌, Bool, true, false, append_assoc, arith}
-use Rattle.std.specs.Prelude.{Option, ◌==◌, ◌||◌, ◌&&◌, not, if◌then◌else◌}
-use Rattle.std.proofs.lemmas.Bool.{and_from, or_right, eqb-true}
+use Rattle.std.proofs.Common.{◌≡◌, refl, sym, ap, ◌∙◌, subst, ℕ, suc, zero, ◌≤◌, List, [], ◌∷◌, ◌++◌, Bool, true, false, append_assoc, arith}
+use Rattle.std.specs.Prelude.{Option, ◌==◌, ◌||◌, ◌&&◌, not, if◌then◌else◌, replicate}
+use Rattle.std.proofs.lemmas.Bool.{and_from, or_right, eqb-true, not_from_false}
 use Rattle.std.proofs.Math.Bool.{and-false}
 use Rattle.yaml_base.specs.Characters.{Text, is_break, is_space, line_feed, space}
-use Rattle.yaml_base.specs.Cursor.{Cursor, text_laid, is_past_width}
+use Rattle.yaml_base.specs.Cursor.{Cursor, Laid, text_laid, is_past_width}
 use Rattle.yaml_base.specs.Analysis.{is_empty}
 use Rattle.yaml_base.specs.LineBreaks.{begins_indented, is_indented_text}
 use Rattle.yaml_base.specs.Plain.{Kind, spaces, breaks, others, kind_of, is_same_kind, indentation}
@@ -12,8 +12,6 @@ use Rattle.yaml_base.proofs.BreakLaws.{break-begins}
 use Rattle.yaml_scalar.proofs.Unbroken.{is_unbroken, unbroken-indented, unbroken-replicate}
 use Rattle.yaml_scalar.specs.LineSteps.{begins_kind, step_text, steps_laid}
 use Rattle.yaml_scalar.proofs.QuotingSteps.{WritesEach}
-use Rattle.yaml_scalar.proofs.Unbroken.{unbroken-indented, unbroken-replicate}
-use Rattle.yaml_scalar.proofs.QuotingSteps.{WritesEach, begins_kind, step_text, steps_laid}
 use Rattle.yaml_scalar.proofs.QuotingFolds.{spaces_only, breaks_only}
 
 indentation-begins : (indent : ℕ) → 2 ≤ indent → (text : Text) → begins_indented (indentation indent ++ text) ≡ true

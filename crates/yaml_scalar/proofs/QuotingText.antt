@@ -1,15 +1,15 @@
 -- The text of plain and single-quoted lines before quotes are doubled: each character is the value's, or of a break or indentation.
-use Rattle.std.proofs.Common.{◌≡◌, refl, sym, ap, ◌∙◌, subst, ℕ, suc, zero, [], ◌∷◌, ◌++◌, Bool, true, false}
-use Rattle.std.specs.Prelude.{Option, ◌==◌, ◌&&◌, not, if◌then◌else◌}
+use Rattle.std.proofs.Common.{◌≡◌, refl, sym, ap, ◌∙◌, subst, ℕ, suc, zero, List, [], ◌∷◌, ◌++◌, Bool, true, false, append_assoc}
+use Rattle.std.specs.Prelude.{Option, ◌==◌, ◌||◌, ◌&&◌, not, if◌then◌else◌, replicate}
 use Rattle.std.specs.List.{list_any}
 use Rattle.std.proofs.lemmas.Bool.{eqb-true, or_parts}
 use Rattle.std.proofs.lemmas.List.Folds.{list_any-append}
-use Rattle.yaml_base.specs.Characters.{Text, line_feed, space}
-use Rattle.yaml_base.specs.Cursor.{Cursor, text_laid, is_past_width}
+use Rattle.yaml_base.specs.Characters.{Text, is_break, is_space, line_feed, space}
+use Rattle.yaml_base.specs.Cursor.{Cursor, Laid, text_laid, is_past_width}
+use Rattle.yaml_base.specs.Analysis.{is_empty}
 use Rattle.yaml_base.specs.Plain.{Kind, spaces, breaks, others, kind_of, is_same_kind, indentation}
 use Rattle.yaml_scalar.specs.LineSteps.{begins_kind, step_text, steps_laid}
 use Rattle.yaml_scalar.proofs.QuotingSteps.{WritesEach}
-use Rattle.yaml_scalar.proofs.QuotingSteps.{WritesEach, step_text, steps_laid}
 
 -- the lines with each character as it is; the cursor is that of the text as it is written
 abbrev pub bare_steps : (written : Text → Text) (limit : Option ℕ) (indent : ℕ) (before : Kind) → Text → Cursor → Text

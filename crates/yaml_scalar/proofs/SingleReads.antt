@@ -1,14 +1,14 @@
 -- A single-quoted body reads as its value, and its later lines are indented.
-use Rattle.std.proofs.Common.{◌≡◌, refl, sym, ap, ◌∙◌, ℕ, ◌≤◌, [], ◌∷◌, ◌++◌, Bool, true, false, append_assoc}
-use Rattle.std.specs.Prelude.{Option, Some, ◌==◌, if◌then◌else◌, map, option_map}
+use Rattle.std.proofs.Common.{◌≡◌, refl, sym, ap, ◌∙◌, subst, ℕ, ◌≤◌, List, [], ◌∷◌, ◌++◌, Bool, true, false, append_assoc, append-nil}
+use Rattle.std.specs.Prelude.{Option, None, Some, ◌==◌, ◌||◌, ◌&&◌, not, if◌then◌else◌, map, option_map}
 use Rattle.std.specs.List.{list_any}
 use Rattle.std.proofs.lemmas.Bool.{eqb-true, not-true, or_parts}
 use Rattle.std.proofs.lemmas.List.Folds.{list_any-append}
-use Rattle.yaml_base.specs.Characters.{Text, is_break}
+use Rattle.yaml_base.specs.Characters.{Text, is_break, carriage_return, next_line, is_printable}
 use Rattle.yaml_base.specs.Cursor.{Cursor}
 use Rattle.yaml_base.specs.Settings.{LineBreak}
 use Rattle.yaml_base.specs.LineBreaks.{is_indented_text, is_laid_text, with_breaks_written, with_line_breaks_read}
-use Rattle.yaml_base.specs.Analysis.{Charset, allows_single_quoted}
+use Rattle.yaml_base.specs.Analysis.{Charset, allows_single_quoted, bars_single_quoted, somewhere}
 use Rattle.yaml_base.specs.Plain.{spaces}
 use Rattle.yaml_base.specs.SingleQuoted.{quotes_doubled, single_quote, single_quoted_body}
 use Rattle.yaml_base.specs.ReadFolding.{unit_of, folding_read}
