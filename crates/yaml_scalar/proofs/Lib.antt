@@ -21,7 +21,6 @@ pub mod QuotingBack
 pub mod Escapes
 pub mod StillToWrite
 pub mod InsideSteps
-pub mod MeaningKept
 pub mod QuotedSteps
 pub mod LastCharacters
 pub mod NextEven

@@ -1,10 +1,10 @@
 -- A double-quoted scalar is written quote, inside, quote; and what that means.
-use Rattle.std.proofs.Common.{◌≡◌, refl}
+use Rattle.std.proofs.Common.{◌≡◌, refl, IfOk, Ok, Err}
 use Rattle.std.specs.Str.{chars}
 use Rattle.std.specs.Prelude.{ℕ, ◌≤◌, Bool, true, false, Option, None, Result, [], ◌∷◌}
 use Rattle.std.specs.Str.{all_scalars}
 use Rattle.yaml_base.specs.Characters.{Text}
-use Rattle.yaml_base.specs.Cursor.{Cursor, Laid, indicator, space_if, text_laid, then_laid}
+use Rattle.yaml_base.specs.Cursor.{Cursor, Laid, indicator, then_laid}
 use Rattle.yaml_base.specs.DoubleQuoted.{double_inside, double_quoted_body, double_quoted_laid, quote, quote_laid}
 use Rattle.yaml_base.specs.ReadDouble.{read_double}
 use Rattle.yaml_base.specs.declared.errors.yaml_error_t.{yaml_error_t}
@@ -12,7 +12,7 @@ use Rattle.yaml_pen.specs.Page.{Page}
 use Rattle.yaml_pen.specs.Wrote.{Wrote}
 use Rattle.yaml_scalar.specs.ReadsBack.{ReadsBack}
 use Rattle.yaml_scalar.proofs.DoubleReads.{double-indented, double-reads}
-use Rattle.yaml_scalar.proofs.MeaningKept.{lead-spaces, means}
+use Rattle.yaml_scalar.proofs.QuotingBack.{body_back}
 
 -- the quote as a text
 pub quote-text : chars (quote ∷ []) ≡ quote ∷ []
@@ -35,15 +35,13 @@ pub double-steps : (unicode : Bool) (limit : Option ℕ) (indent : ℕ) (value :
 double-steps unicode limit indent value cursor = steps-at unicode limit indent value cursor.column cursor.whitespace cursor.indention
 
 -- what was written reads back, and its later lines are indented
-pub double-means : (breaks12 unicode : Bool) (limit : Option ℕ) (indent : ℕ) (value : Text) {before after : Page} {answer : Result (Unit {0}) yaml_error_t}
+pub double_back : (breaks12 unicode : Bool) (limit : Option ℕ) (indent : ℕ) (value : Text) {before after : Page} (answer : Result (Unit {0}) yaml_error_t)
     → 2 ≤ indent → all_scalars value ≡ true
     → Wrote (double_quoted_laid unicode limit indent value) before after answer
-    → after.error ≡ None → ReadsBack (read_double breaks12) value before.text after.text
-double-means breaks12 unicode limit indent value {before} {after} {answer} wide scalars wrote none =
-    let lead = space_if true before.cursor in
-    let inner : Cursor = (text_laid lead before.cursor).cursor in
-    means (read_double breaks12) value lead (double_quoted_body unicode limit indent value inner).text wrote refl
-    (lead-spaces true before.cursor)
-    (double-reads breaks12 unicode limit indent value inner before.line_break wide scalars)
-    (double-indented unicode limit indent value inner before.line_break wide scalars)
-    none
+    → IfOk answer (λ _. ReadsBack (read_double breaks12) value before.text after.text)
+double_back breaks12 unicode limit indent value {before} {after} (Ok done) wide scalars wrote =
+    body_back (read_double breaks12) value true (double_quoted_body unicode limit indent value)
+    (λ cursor setting. double-reads breaks12 unicode limit indent value cursor setting wide scalars)
+    (λ cursor setting. double-indented unicode limit indent value cursor setting wide scalars)
+    wrote
+double_back breaks12 unicode limit indent value {before} {after} (Err error) wide scalars wrote = tt

@@ -1,5 +1,5 @@
 //! Scalars between double quotes.
-ghost use Rattle.std.specs.Prelude.{◌≡◌, pos, ◌≤ℤ◌, ◌≤◌, ◌<◌, ◌==◌, ◌||◌, ◌&&◌, ◌∷◌, [], true, false, not, Option, None, Some, Bool};
+ghost use Rattle.std.specs.Prelude.{◌≡◌, pos, ◌≤ℤ◌, ◌≤◌, ◌<◌, ◌==◌, ◌||◌, ◌&&◌, ◌∷◌, [], true, false, not, Option, None, Some, Bool, IfOk};
 ghost use Rattle.std.specs.Str.{chars};
 ghost use Rattle.yaml_base.specs.Characters.{hex_digit, hex_digits, is_break, is_space};
 ghost use Rattle.yaml_base.specs.Cursor.{is_past_width, text_laid};
@@ -43,10 +43,9 @@ pub fn write_double_quoted_scalar<A: Allocator>(
     width: i32,
 ) -> Result<(), yaml_error_t>
     requires ready { IsReady pen.old }
-    requires indent_low { pos 2 ≤ℤ indent }
-    requires indent_high { indent ≤ℤ pos 9000009 }
+    requires indented { pos 2 ≤ℤ indent }
     ensures written { Wrote (spec.double_quoted_laid unicode (limit_where allow_breaks width) (natural indent) (chars value.now)) pen.old pen.new result }
-    ensures reads_back { (breaks12 : Bool) → pen.new.error ≡ None → ReadsBack (read_double breaks12) (chars value.now) pen.old.text pen.new.text }
+    ensures reads { (breaks12 : Bool) → IfOk result (λ _. ReadsBack (read_double breaks12) (chars value.now) pen.old.text pen.new.text) }
 {
     write_quoted(
         pen,
