@@ -2,3 +2,4 @@ pub mod Fronts
 pub mod Signs
 pub mod Defaults
 pub mod Fits
+pub mod WritingPieces

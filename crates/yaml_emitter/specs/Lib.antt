@@ -6,3 +6,4 @@ pub mod Signs
 pub mod Stages
 pub mod InForce
 pub mod Nesting
+pub mod WrittenPieces

@@ -1,2 +1,4 @@
 //! What events write, put through the pen piece by piece.
+mod documents;
+mod marks;
 mod places;

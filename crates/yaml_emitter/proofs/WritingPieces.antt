@@ -1,0 +1,31 @@
+-- A piece without a body is its lead; the pieces of documents as their parts.
+use Rattle.std.proofs.Common.{◌≡◌, ℕ, Bool, true, false, not, Result, List, [], ◌++◌, refl, sym, ap, append-nil}
+use Rattle.yaml_base.specs.Characters.{Text}
+use Rattle.yaml_base.specs.Cursor.{Cursor, Laid, then_laid, new_line}
+use Rattle.yaml_base.specs.Layout.{lead_alone, laid_if, closing_mark_laid, document_end_piece, stream_end_piece}
+use Rattle.yaml_base.specs.declared.errors.yaml_error_t.{yaml_error_t}
+use Rattle.yaml_pen.specs.Page.{Page}
+use Rattle.yaml_pen.specs.Wrote.{Wrote}
+use Rattle.yaml_pen.proofs.Composing.{wrote_as}
+use Rattle.yaml_emitter.specs.WrittenPieces.{laid_of, piece_at}
+
+-- a lead by itself is what is laid
+pub lead-laid : (mark : ℕ) (laid : Laid) → laid ≡ laid_of (lead_alone mark laid)
+lead-laid mark laid = ap (λ (text : Text). let l : Laid = record { text = text; cursor = laid.cursor } in l) (sym (append-nil laid.text))
+
+-- what was laid is written as a piece
+pub wrote_lead : (lay : Cursor → Laid) (mark : ℕ) {before after : Page} {answer : Result (Unit {0}) yaml_error_t}
+    → Wrote lay before after answer → Wrote (λ cursor. laid_of (lead_alone mark (lay cursor))) before after answer
+wrote_lead lay mark {before} wrote = wrote_as (λ cursor. laid_of (lead_alone mark (lay cursor))) (lead-laid mark (lay before.cursor)) wrote
+
+document_end-laid : (implicit : Bool) (mark : ℕ) (cursor : Cursor)
+    → then_laid (new_line 0 cursor) (laid_if (not implicit) closing_mark_laid) ≡ piece_at (document_end_piece implicit) mark cursor
+document_end-laid true mark cursor = refl
+document_end-laid false mark cursor = lead-laid 0 (then_laid (new_line 0 cursor) closing_mark_laid)
+
+-- a document's end: a line's end, and the mark where it is explicit
+pub wrote_document_end : (implicit : Bool) (mark : ℕ) {before after : Page} {answer : Result (Unit {0}) yaml_error_t}
+    → Wrote (λ cursor. then_laid (new_line 0 cursor) (laid_if (not implicit) closing_mark_laid)) before after answer
+    → Wrote (piece_at (document_end_piece implicit) mark) before after answer
+wrote_document_end implicit mark {before} wrote =
+    wrote_as (piece_at (document_end_piece implicit) mark) (document_end-laid implicit mark before.cursor) wrote

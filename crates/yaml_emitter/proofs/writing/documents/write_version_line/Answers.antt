@@ -1,0 +1,15 @@
+use Rattle.yaml_base.specs.Cursor.{new_line}
+use Rattle.yaml_base.specs.Layout.{sign_laid}
+use Rattle.yaml_pen.proofs.Composing.{wrote_exit, wrote_failed, wrote_then}
+use Rattle.yaml_emitter.proofs.writing.documents.write_version_line.Goals as goal
+
+pub returns-in_err-write_word : goal.returns-in_err-write_word
+returns-in_err-write_word g c =
+    wrote_exit c.from_residual.ensures (wrote_failed (new_line 0) (wrote_failed (sign_laid c.args.version.now) c.in_err-write_word.ensures))
+
+pub returns-in_err-write_word-2 : goal.returns-in_err-write_word-2
+returns-in_err-write_word-2 g c =
+    wrote_exit c.from_residual-in_err-write_word-2.ensures (wrote_failed (new_line 0) (wrote_then c.in_ok-write_word.ensures c.in_err-write_word-2.ensures))
+
+pub returns : goal.returns
+returns g c = wrote_then (wrote_then c.in_ok-write_word.ensures c.in_ok-write_word-2.ensures) c.write_line_end.ensures

@@ -1,0 +1,19 @@
+-- A piece as what is laid at a cursor, and the open mark.
+use Rattle.std.specs.Prelude.{ℕ}
+use Rattle.yaml_base.specs.Cursor.{Cursor, Laid}
+use Rattle.yaml_base.specs.Layout.{PieceLaid, Standing, piece_text}
+use Rattle.yaml_emitter.specs.declared.writing.marks.OpenMark.{OpenMark}
+use Rattle.yaml_emitter.specs.declared.writing.marks.OpenMark.TheVariants.{Closed, ImplicitEnd, KeptBreaks}
+
+-- a piece's whole text, and the cursor after it
+abbrev pub laid_of : PieceLaid → Laid
+laid_of laid = record { text = piece_text laid.piece; cursor = laid.standing.cursor }
+
+-- the same by the cursor before it, where the open mark is known
+abbrev pub piece_at : (Standing → PieceLaid) → (mark : ℕ) → Cursor → Laid
+piece_at piece mark cursor = laid_of (piece (record { cursor = cursor; mark = mark }))
+
+abbrev pub seen_mark : OpenMark → ℕ
+seen_mark Closed = 0
+seen_mark ImplicitEnd = 1
+seen_mark KeptBreaks = 2
