@@ -3,3 +3,4 @@ pub mod Signs
 pub mod Defaults
 pub mod Fits
 pub mod WritingPieces
+pub mod WritingDirectives

@@ -1,7 +1,8 @@
 -- A piece as what is laid at a cursor, and the open mark.
-use Rattle.std.specs.Prelude.{ℕ}
-use Rattle.yaml_base.specs.Cursor.{Cursor, Laid}
-use Rattle.yaml_base.specs.Layout.{PieceLaid, Standing, piece_text}
+use Rattle.std.specs.Prelude.{ℕ, Bool, Option, List}
+use Rattle.yaml_base.specs.Cursor.{Cursor, Laid, then_laid}
+use Rattle.yaml_base.specs.Event.{Version, TagDirective}
+use Rattle.yaml_base.specs.Layout.{PieceLaid, Standing, piece_text, laid_if, closing_mark_laid, version_laid, tag_directives_laid, document_mark_laid}
 use Rattle.yaml_emitter.specs.declared.writing.marks.OpenMark.{OpenMark}
 use Rattle.yaml_emitter.specs.declared.writing.marks.OpenMark.TheVariants.{Closed, ImplicitEnd, KeptBreaks}
 
@@ -17,3 +18,10 @@ abbrev pub seen_mark : OpenMark → ℕ
 seen_mark Closed = 0
 seen_mark ImplicitEnd = 1
 seen_mark KeptBreaks = 2
+
+-- what stands before a document's root, by whether `...` closes the document before and whether `---` is written
+abbrev pub document_head_laid : (canonical closes : Bool) → Option Version → List TagDirective → (explicit : Bool) → Cursor → Laid
+document_head_laid canonical closes version directives explicit cursor =
+    then_laid
+    (then_laid (then_laid (laid_if closes closing_mark_laid cursor) (version_laid version)) (tag_directives_laid directives))
+    (laid_if explicit (document_mark_laid canonical))

@@ -41,7 +41,7 @@ pub(crate) fn write_stream_end<A: Allocator>(
 }
 
 /// `...` on a line of its own, where it is asked for.
-fn write_closing_mark<A: Allocator>(pen: &mut Pen<A>, asked: bool) -> Result<(), yaml_error_t>
+pub(crate) fn write_closing_mark<A: Allocator>(pen: &mut Pen<A>, asked: bool) -> Result<(), yaml_error_t>
     requires { IsReady pen.old }
     ensures { Wrote (laid_if asked closing_mark_laid) pen.old pen.new result }
 {

@@ -1,0 +1,75 @@
+-- Directives' lines, one after another.
+use Rattle.std.proofs.Common.{◌≡◌, ℕ, ◌+◌, ◌<◌, Bool, true, false, Result, Ok, Err, List, [], ◌∷◌, ◌++◌, length, take, drop, get_or, map, refl, sym, ap, ◌∙◌, subst, append_assoc, append-nil, add-one, drop-cons}
+use Rattle.std.specs.List.{list_any}
+use Rattle.std.proofs.lemmas.Bool.{false_from_ne_true, false≢true}
+use Rattle.std.proofs.lemmas.List.{take_more, map-append, take-append-drop, get_or-map, length-map}
+use Rattle.std.proofs.lemmas.List.Folds.{list_any_at}
+use Rattle.yaml_base.specs.Characters.{Text, is_break}
+use Rattle.yaml_base.specs.Cursor.{Cursor, Laid, then_laid}
+use Rattle.yaml_base.specs.Event.{TagDirective}
+use Rattle.yaml_base.specs.Layout.{tag_directive_laid, tag_directives_laid}
+use Rattle.yaml_base.specs.declared.errors.yaml_error_t.{yaml_error_t}
+use Rattle.yaml_pen.specs.Page.{Page}
+use Rattle.yaml_pen.specs.Wrote.{Wrote}
+use Rattle.yaml_pen.proofs.Composing.{wrote_as, wrote_then, wrote_failed}
+use Rattle.yaml_emitter.specs.Signs.{some_handle_breaks}
+
+tag_directives-append : (xs ys : List TagDirective) (cursor : Cursor)
+    → then_laid (tag_directives_laid xs cursor) (tag_directives_laid ys) ≡ tag_directives_laid (xs ++ ys) cursor
+tag_directives-append [] ys cursor = refl
+tag_directives-append (x ∷ xs) ys cursor =
+    let one = tag_directive_laid x cursor in
+    let rest = tag_directives_laid xs one.cursor in
+    let last = tag_directives_laid ys rest.cursor in
+    ap (λ (text : Text). let l : Laid = record { text = text; cursor = last.cursor } in l) (append_assoc one.text rest.text last.text)
+    ∙ ap (then_laid one) (ap (λ (l : Laid). λ (c : Cursor). l) (tag_directives-append xs ys one.cursor))
+
+-- the lines of some, and then those of others
+wrote_directives_then : (xs ys : List TagDirective) {before between after : Page} {answer : Result (Unit {0}) yaml_error_t}
+    → Wrote (tag_directives_laid xs) before between (Ok tt) → Wrote (tag_directives_laid ys) between after answer
+    → Wrote (tag_directives_laid (xs ++ ys)) before after answer
+wrote_directives_then xs ys {before} one two = wrote_as (tag_directives_laid (xs ++ ys)) (tag_directives-append xs ys before.cursor) (wrote_then one two)
+
+last_alone : (d : TagDirective) (cursor : Cursor) → tag_directive_laid d cursor ≡ tag_directives_laid (d ∷ []) cursor
+last_alone d cursor =
+    let one = tag_directive_laid d cursor in
+    ap (λ (text : Text). let l : Laid = record { text = text; cursor = one.cursor } in l) (sym (append-nil one.text))
+
+module _ {E : Type 0} (seen : E → TagDirective) (items : List E) (i : ℕ) (item : E) (within : i < length items) (at : item ≡ get_or items i item) where
+  front_more : map seen (take i items) ++ seen item ∷ [] ≡ map seen (take (i + 1) items)
+  front_more =
+      ap (λ x. map seen (take i items) ++ seen x ∷ []) at
+      ∙ sym (map-append seen (take i items) (get_or items i item ∷ []))
+      ∙ ap (map seen) (sym (take_more items i item within))
+
+  whole : map seen (take i items) ++ seen item ∷ map seen (drop (i + 1) items) ≡ map seen items
+  whole =
+      let rest : drop i items ≡ get_or items i item ∷ drop (i + 1) items = rw add-one (drop-cons items i item within) in
+      ap (λ x. map seen (take i items) ++ seen x ∷ map seen (drop (i + 1) items)) at
+      ∙ ap (λ r. map seen (take i items) ++ map seen r) (sym rest)
+      ∙ sym (map-append seen (take i items) (drop i items))
+      ∙ ap (map seen) (take-append-drop i items)
+
+  -- one more line
+  pub wrote_next_directive : {before between after : Page}
+      → Wrote (tag_directives_laid (map seen (take i items))) before between (Ok tt) → Wrote (tag_directive_laid (seen item)) between after (Ok tt)
+      → Wrote (tag_directives_laid (map seen (take (i + 1) items))) before after (Ok tt)
+  wrote_next_directive {before} {between} {after} one two =
+      let alone = wrote_as (tag_directives_laid (seen item ∷ [])) (last_alone (seen item) between.cursor) two in
+      subst (λ (ds : List TagDirective). Wrote (tag_directives_laid ds) before after (Ok tt)) front_more
+      (wrote_directives_then (map seen (take i items)) (seen item ∷ []) one alone)
+
+  -- a line that failed
+  pub failed_next_directive : {before between after : Page} {error : yaml_error_t}
+      → Wrote (tag_directives_laid (map seen (take i items))) before between (Ok tt) → Wrote (tag_directive_laid (seen item)) between after (Err error)
+      → Wrote (tag_directives_laid (map seen items)) before after (Err error)
+  failed_next_directive {before} {between} {after} {error} one two =
+      subst (λ (ds : List TagDirective). Wrote (tag_directives_laid ds) before after (Err error)) whole
+      (wrote_directives_then (map seen (take i items)) (seen item ∷ map seen (drop (i + 1) items)) one
+      (wrote_failed (tag_directives_laid (map seen (drop (i + 1) items))) two))
+
+  pub next_handle : some_handle_breaks (map seen items) ≡ false → list_any is_break (seen item).handle ≡ false
+  next_handle none =
+      false_from_ne_true (list_any is_break (seen item).handle)
+      (λ breaks. false≢true (sym none ∙ list_any_at (λ (d : TagDirective). list_any is_break d.handle) (map seen items) i (seen item) (rw (length-map) within)
+      (ap (λ (d : TagDirective). list_any is_break d.handle) (get_or-map seen items i item (seen item) within ∙ ap seen (sym at)) ∙ breaks)))
