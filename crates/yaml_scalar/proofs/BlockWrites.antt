@@ -28,7 +28,7 @@ then-nothing a = ap (λ t. let l : Laid = record { text = t; cursor = a.cursor }
 -- an indicator's separating space is text before it
 indicator-lead : (sign column : ℕ) (whitespace indention : Bool)
     → (let cursor : Cursor = record { column = column; whitespace = whitespace; indention = indention } in
-      indicator (sign ∷ []) true false false cursor ≡ then_laid (text_laid (space_if true cursor) cursor) (indicator (sign ∷ []) false false false))
+    indicator (sign ∷ []) true false false cursor ≡ then_laid (text_laid (space_if true cursor) cursor) (indicator (sign ∷ []) false false false))
 indicator-lead sign column true indention = refl
 indicator-lead sign column false indention = refl
 
@@ -79,9 +79,9 @@ pub lines_failed : {folded : Bool} {limit : Option ℕ} {indent : ℕ} {all left
     → Wrote (lines_from folded limit indent LineStart all) before after (Err error)
 lines_failed {folded} {limit} {indent} {all} {left} {place} c rest {before} front is failed =
     wrote_as (lines_from folded limit indent LineStart all)
-        (sym (lines_on folded limit indent all place c rest front.first before.cursor
-            (front.whole ∙ ap (λ (t : Text). then_laid (front.first before.cursor) (lines_from folded limit indent place t)) is)))
-        (wrote_failed (lines_from folded limit indent (place_after folded place c) rest) (wrote_then front.wrote failed))
+    (sym (lines_on folded limit indent all place c rest front.first before.cursor
+    (front.whole ∙ ap (λ (t : Text). then_laid (front.first before.cursor) (lines_from folded limit indent place t)) is)))
+    (wrote_failed (lines_from folded limit indent (place_after folded place c) rest) (wrote_then front.wrote failed))
 
 -- nothing is left
 pub lines_whole : {folded : Bool} {limit : Option ℕ} {indent : ℕ} {all left : Text} {place : Place} {before after : Page}
@@ -89,8 +89,8 @@ pub lines_whole : {folded : Bool} {limit : Option ℕ} {indent : ℕ} {all left 
     → Wrote (lines_from folded limit indent LineStart all) before after (Ok tt)
 lines_whole {folded} {limit} {indent} {all} {left} {place} {before} front none =
     wrote_as (lines_from folded limit indent LineStart all)
-        (sym (front.whole ∙ ap (λ (t : Text). then_laid (front.first before.cursor) (lines_from folded limit indent place t)) none ∙ then-nothing (front.first before.cursor)))
-        front.wrote
+    (sym (front.whole ∙ ap (λ (t : Text). then_laid (front.first before.cursor) (lines_from folded limit indent place t)) none ∙ then-nothing (front.first before.cursor)))
+    front.wrote
 
 -- after a header a line begins
 header_then : (sign best_indent : ℕ) (value : Text) → Laid → Cursor → Laid

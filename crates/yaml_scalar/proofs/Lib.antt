@@ -25,3 +25,4 @@ pub mod QuotedSteps
 pub mod LastCharacters
 pub mod NextEven
 pub mod BlockWrites
+pub mod BlockBack

@@ -24,6 +24,9 @@ enum Ending {
 /// Writes the hints of a block scalar's header: the digit of the indent, 2 to 9, where the value begins
 /// with a space or a break; `-` where the value doesn't end in a break, nothing where it ends in exactly
 /// one after another character, else `+`. Answers the open mark: 2 after `+`, else 0.
+///
+/// Answers `WriteError` where the output's limit is passed, `Memory` where the output finds no room, and
+/// the pen's error where it failed before.
 pub fn write_block_scalar_hints<A: Allocator>(
     pen: &mut Pen<A>,
     value: &str,
@@ -80,7 +83,11 @@ fn end_header<A: Allocator>(pen: &mut Pen<A>) -> Result<(), yaml_error_t>
     Ok(())
 }
 
-fn write_hints<A: Allocator>(pen: &mut Pen<A>, value: &str, best_indent: i32) -> Result<(), yaml_error_t>
+fn write_hints<A: Allocator>(
+    pen: &mut Pen<A>,
+    value: &str,
+    best_indent: i32,
+) -> Result<(), yaml_error_t>
     requires ready { IsReady pen.old }
     requires least { pos 2 ≤ℤ best_indent }
     requires most { best_indent ≤ℤ pos 9 }
@@ -188,5 +195,9 @@ fn break_ending(front: &str, before: char, last: char) -> Ending
     requires { class.is_break last ≡ true }
     ensures { seen_ending result ≡ layout.ending (chars (front.now ++ encode_utf8 before ++ encode_utf8 last)) }
 {
-    if is_break(before) { Ending::MoreBreaks } else { Ending::OneBreak }
+    if is_break(before) {
+        Ending::MoreBreaks
+    } else {
+        Ending::OneBreak
+    }
 }

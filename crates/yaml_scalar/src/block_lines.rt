@@ -93,7 +93,11 @@ fn write_inner<A: Allocator>(
 }
 
 /// The first character of a line.
-fn write_first<A: Allocator>(pen: &mut Pen<A>, character: char, indent: i32) -> Result<(), yaml_error_t>
+fn write_first<A: Allocator>(
+    pen: &mut Pen<A>,
+    character: char,
+    indent: i32,
+) -> Result<(), yaml_error_t>
     requires ready { IsReady pen.old }
     requires not_negative { pos 0 ≤ℤ indent }
     requires no_break { class.is_break character ≡ false }
@@ -114,7 +118,11 @@ fn write_folding<A: Allocator>(
     requires no_break { class.is_break character ≡ false }
     ensures { Wrote (step.folded_laid fold (natural indent) character) pen.old pen.new result }
 {
-    if fold { write_fold(pen, indent) } else { write_content(pen, character) }
+    if fold {
+        write_fold(pen, indent)
+    } else {
+        write_content(pen, character)
+    }
 }
 
 fn write_fold<A: Allocator>(pen: &mut Pen<A>, indent: i32) -> Result<(), yaml_error_t>
@@ -131,7 +139,11 @@ fn write_fold<A: Allocator>(pen: &mut Pen<A>, indent: i32) -> Result<(), yaml_er
 fn place_after(folded: bool, place: Place, character: char) -> Place
     ensures { result ≡ step.place_after folded place character }
 {
-    if is_break(character) { Place::LineStart } else { within(folded, place, character) }
+    if is_break(character) {
+        Place::LineStart
+    } else {
+        within(folded, place, character)
+    }
 }
 
 fn within(folded: bool, place: Place, character: char) -> Place
@@ -148,7 +160,11 @@ fn within(folded: bool, place: Place, character: char) -> Place
 fn entered(folded: bool, first: char) -> Place
     ensures { result ≡ step.entered folded first }
 {
-    if folded && !is_space(first) { Place::Folding } else { Place::Fixed }
+    if folded && !is_space(first) {
+        Place::Folding
+    } else {
+        Place::Fixed
+    }
 }
 
 fn begins_with_space(rest: &str) -> bool
@@ -220,10 +236,18 @@ fn write_twice<A: Allocator>(pen: &mut Pen<A>, character: char) -> Result<(), ya
     write_broken(pen, character)
 }
 
-fn write_end<A: Allocator>(pen: &mut Pen<A>, twice: bool, character: char) -> Result<(), yaml_error_t>
+fn write_end<A: Allocator>(
+    pen: &mut Pen<A>,
+    twice: bool,
+    character: char,
+) -> Result<(), yaml_error_t>
     requires ready { IsReady pen.old }
     requires a_break { class.is_break character ≡ true }
     ensures { Wrote (step.end_laid twice character) pen.old pen.new result }
 {
-    if twice { write_twice(pen, character) } else { write_broken(pen, character) }
+    if twice {
+        write_twice(pen, character)
+    } else {
+        write_broken(pen, character)
+    }
 }

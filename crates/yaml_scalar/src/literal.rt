@@ -1,12 +1,14 @@
 //! Literal scalars (YAML 1.1, section 9.3.1).
-ghost use Rattle.std.specs.Prelude.{◌≡◌, ◌≤ℤ◌, pos, false, IfOk};
+ghost use Rattle.std.specs.Prelude.{◌≡◌, ◌≤ℤ◌, ℕ, pos, false, true, Option, IfOk};
 ghost use Rattle.std.specs.Str.{chars};
-ghost use Rattle.yaml_base.specs.Analysis.{is_empty};
-ghost use Rattle.yaml_base.specs.BlockHeader.{header_mark};
+ghost use Rattle.yaml_base.specs.Analysis.{Charset, allows_block, is_empty};
+ghost use Rattle.yaml_base.specs.BlockHeader.{Encloses, header_mark};
 ghost use Rattle.yaml_base.specs.Literal.{literal_laid};
+ghost use Rattle.yaml_base.specs.ReadBlock.{read_block};
 ghost use Rattle.yaml_pen.specs.Page.{IsReady, natural};
 ghost use Rattle.yaml_pen.specs.Wrote.{Wrote};
 ghost use Rattle.yaml_scalar.specs.BlockCode.{without_mark};
+ghost use Rattle.yaml_scalar.specs.ReadsBack.{ReadsBack};
 
 use crate::block_header::{open_mark, write_header};
 use crate::block_lines::write_lines;
@@ -14,8 +16,12 @@ use std::alloc::Allocator;
 use yaml_base::yaml_error_t;
 use yaml_pen::Pen;
 
-/// Writes a value in literal style: a header, then each nonempty line after `indent` spaces. Answers the
-/// open mark: 2 where the header keeps all final breaks, else 0.
+/// Writes a literal scalar (YAML 1.1, section 9.3.1), a space before it where one is needed: the header, then
+/// each nonempty line after `indent` spaces. `best_indent` is what the header's digit says. Answers the open
+/// mark: 2 where the header keeps all final breaks, else 0.
+///
+/// Answers `WriteError` where the output's limit is passed, `Memory` where the output finds no room, and
+/// the pen's error where it failed before.
 pub fn write_literal_scalar<A: Allocator>(
     pen: &mut Pen<A>,
     value: &str,
@@ -29,6 +35,9 @@ pub fn write_literal_scalar<A: Allocator>(
     requires within { best_indent ≤ℤ indent }
     ensures written { Wrote (literal_laid (natural indent) (natural best_indent) (chars value.now)) pen.old pen.new (without_mark result) }
     ensures mark { IfOk result (λ mark. mark ≡ pos (header_mark (chars value.now))) }
+    ensures reads { (charset : Charset) → allows_block charset (chars value.now) ≡ true
+        → (column : Option ℕ) → Encloses (natural indent) (natural best_indent) column
+        → IfOk result (λ _. ReadsBack (read_block charset.breaks12 column) (chars value.now) pen.old.text pen.new.text) }
 {
     write_literal(pen, value, indent, best_indent)?;
     Ok(open_mark(value))

@@ -20,7 +20,7 @@ pub loop-character-preserved : goal.loop-character-preserved
 loop-character-preserved c =
     let step = chars_past_char _ (chars_rest c.next.new.self) c.in-Some.character c.loop-character.invariant.1 c.in-Some.ensures.steps.0 in (
       sym (even-break c.in-Some.character (chars (chars_rest c.next.new.self)) (sym c.if-not-is_break.ensures))
-      ∙ ap (λ (t : Text). next_even (parts t)) (sym step) ∙ c.loop-character.invariant.0,
+          ∙ ap (λ (t : Text). next_even (parts t)) (sym step) ∙ c.loop-character.invariant.0,
       IsUtf8-past_char _ _ c.in-Some.character c.loop-character.invariant.1 c.in-Some.ensures.steps.0,
     )
 

@@ -1,0 +1,53 @@
+-- What a writer of literal or folded scalars wrote reads back.
+use Rattle.std.proofs.lemmas.Int.{ints}
+use Rattle.std.proofs.Common.{◌≡◌, ◌≤◌, ℕ, true, Ok, arith, pos, negsuc, ℤ, ◌≤ℤ◌}
+use Rattle.std.specs.Prelude.{Option}
+use Rattle.yaml_base.specs.Analysis.{Charset, allows_block}
+use Rattle.yaml_base.specs.BlockHeader.{Encloses}
+use Rattle.yaml_base.specs.Characters.{Text}
+use Rattle.yaml_base.specs.Literal.{literal_body, literal_laid}
+use Rattle.yaml_base.specs.Folded.{folded_body, folded_laid}
+use Rattle.yaml_base.specs.ReadBlock.{read_block}
+use Rattle.yaml_pen.specs.Page.{Page, natural}
+use Rattle.yaml_pen.specs.Wrote.{Wrote}
+use Rattle.yaml_scalar.specs.ReadsBack.{ReadsBack}
+use Rattle.yaml_scalar.proofs.BlockLines.{literal-kept, folded-kept}
+use Rattle.yaml_scalar.proofs.QuotingBack.{body_back, two_or_more}
+
+-- the conditions on the two indents, as whole numbers
+pub record Indents (indent best_indent : ℕ) : Type 0 where
+  pub least : 2 ≤ best_indent
+  pub most : best_indent ≤ 9
+  pub within : best_indent ≤ indent
+
+at-most : (n : ℤ) → n ≤ℤ pos 9 → natural n ≤ 9
+at-most (pos n) h = omega (arith, ints)
+at-most (negsuc n) h = omega arith
+
+below : (m n : ℤ) → pos 2 ≤ℤ m → m ≤ℤ n → natural m ≤ natural n
+below (pos m) (pos n) h k = omega (arith, ints)
+below (pos m) (negsuc n) h k = omega (arith, ints)
+below (negsuc m) n h k = omega (arith, ints)
+
+pub indents : (indent best_indent : ℤ) → pos 2 ≤ℤ best_indent → best_indent ≤ℤ pos 9 → best_indent ≤ℤ indent → Indents (natural indent) (natural best_indent)
+indents indent best_indent least most within = record {
+  least = two_or_more best_indent least;
+  most = at-most best_indent most;
+  within = below best_indent indent least within;
+}
+
+module _ (charset : Charset) (value : Text) (allowed : allows_block charset value ≡ true) (indent best_indent : ℕ) (are : Indents indent best_indent)
+    (column : Option ℕ) (enclosing : Encloses indent best_indent column) where
+  pub literal_back : {before after : Page} → Wrote (literal_laid indent best_indent value) before after (Ok tt)
+      → ReadsBack (read_block charset.breaks12 column) value before.text after.text
+  literal_back wrote =
+      body_back (read_block charset.breaks12 column) value true (literal_body indent best_indent value)
+      (λ cursor setting. (literal-kept charset value allowed indent best_indent are.least are.most are.within cursor column enclosing setting).reads)
+      (λ cursor setting. (literal-kept charset value allowed indent best_indent are.least are.most are.within cursor column enclosing setting).indented) wrote
+
+  pub folded_back : (limit : Option ℕ) {before after : Page} → Wrote (folded_laid limit indent best_indent value) before after (Ok tt)
+      → ReadsBack (read_block charset.breaks12 column) value before.text after.text
+  folded_back limit wrote =
+      body_back (read_block charset.breaks12 column) value true (folded_body limit indent best_indent value)
+      (λ cursor setting. (folded-kept charset value allowed indent best_indent are.least are.most are.within cursor limit column enclosing setting).reads)
+      (λ cursor setting. (folded-kept charset value allowed indent best_indent are.least are.most are.within cursor limit column enclosing setting).indented) wrote

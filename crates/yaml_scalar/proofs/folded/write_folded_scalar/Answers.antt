@@ -1,0 +1,24 @@
+use Rattle.std.proofs.Common.{Ok, IfOk, rules}
+use Rattle.std.proofs.lemmas.Result.{IfOk-from_err}
+use Rattle.std.specs.Str.{chars}
+use Rattle.yaml_base.specs.Folded.{folded_laid}
+use Rattle.yaml_base.specs.ReadBlock.{read_block}
+use Rattle.yaml_pen.specs.Page.{natural}
+use Rattle.yaml_pen.specs.Wrote.{Wrote}
+use Rattle.yaml_scalar.specs.ReadsBack.{ReadsBack}
+use Rattle.yaml_scalar.specs.Width.{limit_of}
+use Rattle.yaml_scalar.proofs.BlockBack.{folded_back, indents}
+use Rattle.yaml_scalar.proofs.folded.write_folded_scalar.Goals as goal
+
+pub returns-in_err-write_folded-clause-reads : goal.returns-in_err-write_folded-clause-reads
+returns-in_err-write_folded-clause-reads g c charset allowed column enclosing =
+    IfOk-from_err c.from_residual.result
+    (λ _. ReadsBack (read_block charset.breaks12 column) (chars c.args.value.now) c.args.pen.now.text c.write_folded.new.pen.text) c.from_residual.ensures.0
+
+pub returns-clause-reads : goal.returns-clause-reads
+returns-clause-reads g c charset allowed column enclosing =
+    let n = natural c.args.indent in
+    let best = natural c.args.best_indent in
+    let value = chars c.args.value.now in
+    let wrote : Wrote (folded_laid (limit_of c.args.width) n best value) c.args.pen.now c.write_folded.new.pen (Ok tt) = search rules in
+    folded_back charset value allowed n best (indents c.args.indent c.args.best_indent c.requires.least c.requires.most c.requires.within) column enclosing (limit_of c.args.width) wrote
