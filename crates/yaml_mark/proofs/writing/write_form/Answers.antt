@@ -1,4 +1,4 @@
-use Rattle.std.proofs.Common.{refl, sym, subst, [], ◌∷◌, ◌%◌}
+use Rattle.std.proofs.Common.{Ok, refl, sym, subst, [], ◌∷◌, ◌%◌}
 use Rattle.yaml_base.specs.Characters.{hex_digit, hex_digits, Text}
 use Rattle.yaml_base.specs.Cursor.{text_laid}
 use Rattle.yaml_base.specs.Percent.{byte_escaped}
@@ -23,4 +23,4 @@ pub returns : goal.returns
 returns g c =
     let is = form_is c.args.byte c.hex_digit.result c.hex_digit-2.result c.ranges.byte.fits c.hex_digit.ensures.value c.hex_digit-2.ensures.value in
     subst (λ (text : Text). Wrote (text_laid text) c.args.pen.now c.put-3.new.self c.put-3.result) is
-    (wrote_text_then {answer = c.put-3.result} (wrote_text_then c.in_ok-put.ensures.written c.in_ok-put-2.ensures.written) c.put-3.ensures.written)
+    (wrote_text_then {answer = c.put-3.result} (wrote_text_then {answer = Ok tt} c.in_ok-put.ensures.written c.in_ok-put-2.ensures.written) c.put-3.ensures.written)
