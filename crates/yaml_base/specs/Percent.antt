@@ -1,5 +1,5 @@
 -- Percent forms: how a tag or a prefix is written in characters that may stand in it, and, by itself, how such a text
--- is read (YAML 1.1, section 6.8.2, after RFC 2396, section 2.4, over the bytes of UTF-8).
+-- is read (YAML 1.1, section 5.5, after RFC 2396, section 2.4, over the bytes of UTF-8).
 use Rattle.std.specs.Prelude.{ℕ, zero, suc, Bool, Option, None, Some, List, [], ◌∷◌, ◌++◌, ◌==◌, ◌||◌, ◌&&◌, ◌+◌, ◌-◌, ◌*◌, codes, chars, encode_utf8, if◌then◌else◌}
 use Rattle.std.specs.List.{flat_map}
 use Rattle.std.specs.Str.{is_utf8}
@@ -8,7 +8,7 @@ use Rattle.yaml_base.specs.Characters.{Text, is_alpha, is_among, is_between, hex
 abbrev pub percent_sign : ℕ
 percent_sign = 0x25
 
--- may stand as itself in a written tag: the anchor alphabet and some signs, neither `!` nor `%`
+-- may stand as itself in a written tag: the anchor alphabet and some signs, neither `!` nor `%` (libyaml's own choice)
 abbrev pub is_tag_character : ℕ → Bool
 is_tag_character c = is_alpha c || is_among (codes ";/?:@&=+$,.~*'()[]") c
 

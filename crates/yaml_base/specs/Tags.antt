@@ -1,6 +1,6 @@
 -- Names, versions, tag directives and tags: what is refused in them, how a tag is spelled by the directives in force,
--- and, by itself, how a written tag is read (YAML 1.1, sections 6.8 and 6.9, and libyaml's own rules).
-use Rattle.std.specs.Prelude.{ℕ, ℤ, pos, negsuc, Bool, true, false, Option, None, Some, List, [], ◌∷◌, ◌++◌, ◌==◌, ◌||◌, ◌&&◌, not, codes, bytes_eq, filter, option_map, option_and_then, if◌then◌else◌}
+-- and, by itself, how a written tag is read (YAML 1.1, sections 7.1 and 8.1, and libyaml's own rules).
+use Rattle.std.specs.Prelude.{ℕ, ℤ, pos, negsuc, Bool, true, false, Option, None, Some, List, [], ◌∷◌, ◌++◌, ◌==◌, ◌||◌, ◌&&◌, not, codes, bytes_eq, filter, option_map, if◌then◌else◌}
 use Rattle.std.specs.List.{list_any, list_all}
 use Rattle.std.specs.Option.{option_or}
 use Rattle.yaml_base.specs.Characters.{Text, is_alpha}
@@ -44,7 +44,8 @@ alias_alphabet = 16
 abbrev pub tag_empty : ℕ
 tag_empty = 17
 
--- the refusal of a name: it has at least one character, and all of them are of the anchor alphabet
+-- the refusal of a name: it has at least one character, and all of them are of the anchor alphabet (section 8.1.2;
+-- the alphabet is libyaml's)
 abbrev pub name_fault : ℕ → ℕ → Text → Option ℕ
 name_fault if_empty if_other [] = Some if_empty
 name_fault if_empty if_other (c ∷ rest) = if list_all is_alpha (c ∷ rest) then None else Some if_other
@@ -64,13 +65,13 @@ abbrev pub is_the_number : ℕ → ℤ → Bool
 is_the_number n (pos m) = n == m
 is_the_number n (negsuc _) = false
 
--- the refusal of a version: it is 1.1 or 1.2
+-- the refusal of a version: it is 1.1 or 1.2 (section 7.1.1)
 abbrev pub version_fault : Version → Option ℕ
 version_fault version =
     if is_the_number 1 version.major && (is_the_number 1 version.minor || is_the_number 2 version.minor) then None
     else Some incompatible_version
 
--- the sign that begins a tag and stands at both ends of a handle
+-- the sign that begins a tag and stands at both ends of a handle (section 7.1.2.2)
 abbrev pub tag_mark : ℕ
 tag_mark = 0x21
 
@@ -85,7 +86,7 @@ without_last [] = []
 without_last (c ∷ []) = []
 without_last (c ∷ next ∷ rest) = c ∷ without_last (next ∷ rest)
 
--- the refusal of a handle: it is `!`, or any number of characters of the anchor alphabet between two `!`
+-- the refusal of a handle: it is `!`, or any number of characters of the anchor alphabet between two `!` (section 7.1.2.2)
 abbrev pub handle_fault : Text → Option ℕ
 handle_fault [] = Some tag_handle_empty
 handle_fault (c ∷ rest) =
@@ -104,7 +105,7 @@ directive_fault directive = option_or (handle_fault directive.handle) (prefix_fa
 abbrev pub gives_handle : Text → List TagDirective → Bool
 gives_handle handle directives = list_any (λ directive. bytes_eq directive.handle handle) directives
 
--- the refusal of a directive after those before it: each handle is given once
+-- the refusal of a directive after those before it: each handle is given once (section 7.1.2)
 abbrev pub next_directive_fault : List TagDirective → TagDirective → Option ℕ
 next_directive_fault before directive =
     option_or (directive_fault directive)
@@ -120,7 +121,7 @@ directives_fault_after before (directive ∷ rest) =
 abbrev pub directives_fault : List TagDirective → Option ℕ
 directives_fault directives = directives_fault_after [] directives
 
--- `!` stands for itself and `!!` for YAML's own types, where a document doesn't say otherwise
+-- `!` stands for itself and `!!` for YAML's own types, where a document doesn't say otherwise (section 7.1.2.2)
 abbrev pub default_directives : List TagDirective
 default_directives =
     record { handle = codes "!"; prefix = codes "!" }
@@ -137,7 +138,7 @@ behind [] (c ∷ rest) = Some (c ∷ rest)
 behind (p ∷ prefix) [] = None
 behind (p ∷ prefix) (c ∷ rest) = if p == c then behind prefix rest else None
 
--- a tag as a handle and what stands behind the handle's prefix, or as it is
+-- a tag as a handle and what stands behind the handle's prefix, or as it is (section 8.1.1)
 pub data Spelling : Type 0 where
   shorthand : Text → Text → Spelling
   verbatim : Text → Spelling
@@ -151,7 +152,7 @@ abbrev pub spelling : List TagDirective → Text → Spelling
 spelling [] tag = verbatim tag
 spelling (directive ∷ rest) tag = spelling_by directive.handle (behind directive.prefix tag) (spelling rest tag)
 
--- the text of a spelling
+-- the text of a spelling (section 8.1.1)
 abbrev pub spelled : Spelling → Text
 spelled (shorthand handle suffix) = handle ++ percent_escaped suffix
 spelled (verbatim tag) = codes "!<" ++ percent_escaped tag ++ codes ">"
@@ -196,7 +197,7 @@ verbatim_read [] = None
 verbatim_read (c ∷ rest) =
     if last_from c rest == 0x3E then option_map named_tag (percent_decoded (without_last (c ∷ rest))) else None
 
--- a written tag, read with a document's own directives and the defaults
+-- a written tag, read with a document's own directives and the defaults (section 8.1.1)
 abbrev pub tag_read : List TagDirective → Text → Option TagRead
 tag_read own [] = None
 tag_read own (c ∷ []) = if c == tag_mark then Some bare_tag else None

@@ -1,4 +1,4 @@
-//! Anchors and tags as text (YAML 1.1, sections 6.8.2 and 6.9).
+//! Anchors and tags as text (YAML 1.1, section 8.1).
 ghost use Rattle.std.specs.Prelude.{◌≡◌, ◌<◌, ◌++◌, false, chars};
 ghost use Rattle.std.specs.List.{list_any};
 ghost use Rattle.yaml_base.specs.Characters.{is_break};
