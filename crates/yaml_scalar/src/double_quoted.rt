@@ -288,3 +288,6 @@ fn write_inside<A: Allocator>(
     }
     go_on(pen)
 }
+
+#[cfg(test)]
+mod tests;
