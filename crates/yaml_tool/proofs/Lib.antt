@@ -1,3 +1,5 @@
 pub mod WordLemmas
 pub mod NumberLemmas
 pub mod TextLemmas
+pub mod FieldLemmas
+pub mod EventLemmas

@@ -1,3 +1,5 @@
 pub mod Cuts
+pub mod Fields
 pub mod Numbers
+pub mod Settings
 pub mod Texts

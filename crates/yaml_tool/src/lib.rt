@@ -1,6 +1,9 @@
 //! Scripts of YAML events: how they are read.
 #![tactic(auto)]
 
+mod events;
+mod fields;
 mod numbers;
+mod settings;
 mod texts;
 mod words;

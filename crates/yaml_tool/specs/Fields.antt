@@ -1,0 +1,34 @@
+-- What contracts see of fields, and how a line is cut at its first separator.
+use Rattle.std.specs.Prelude.{◌≡◌, ◌<◌, Option, None, Some, List, [], ◌∷◌, String, length, option_map}
+use Rattle.std.specs.Borrow.{Bor}
+use Rattle.yaml_base.specs.Characters.{Text}
+use Rattle.yaml_base.specs.Script as notation
+use Rattle.yaml_base.specs.Script.{bare, quoted, outside, inside, escaped, cut_from}
+use Rattle.yaml_base.specs.Seen.{seen_text}
+use Rattle.yaml_tool.specs.declared.fields.Field.{Field}
+use Rattle.yaml_tool.specs.declared.fields.Field.TheVariants as field
+use Rattle.yaml_tool.specs.declared.fields.Standing.{Standing}
+use Rattle.yaml_tool.specs.declared.fields.Standing.TheVariants.{Outside, Inside, Escaped}
+
+abbrev pub seen_standing : Standing → notation.Standing
+seen_standing Outside = outside
+seen_standing Inside = inside
+seen_standing Escaped = escaped
+
+abbrev pub seen_field : {A : Type 0} → Field A → notation.Field
+seen_field (field.Word word) = bare word.now
+seen_field (field.Text text) = quoted (seen_text text)
+
+-- a text, or none, where it was read
+abbrev pub seen_choice : {A : Type 0} → Option (Option (String A)) → Option (Option Text)
+seen_choice choice = option_map (λ text. option_map seen_text text) choice
+
+-- a text, where nothing stands behind it
+abbrev pub last_text : List notation.Field → Option Text
+last_text (quoted text ∷ []) = Some text
+last_text _ = None
+
+-- the line's pieces are the first and those of what stands behind its separator, which is shorter
+abbrev pub CutsFirst : Text → Text → Option (Bor Text) → Type 0
+CutsFirst line first None = cut_from outside line ≡ first ∷ []
+CutsFirst line first (Some others) = (cut_from outside line ≡ first ∷ cut_from outside others.now) × (length others.now < length line)

@@ -1,0 +1,31 @@
+-- What contracts see of a script's settings.
+use Rattle.std.specs.Prelude.{Option, None, Some}
+use Rattle.yaml_base.specs.Script as notation
+use Rattle.yaml_base.specs.Script.{limit_set, encoding_set, canonical_set, unicode_set, indent_set, width_set, break_set, breaks12_set}
+use Rattle.yaml_base.specs.Settings as given
+use Rattle.yaml_base.specs.Seen.{seen_encoding, seen_break}
+use Rattle.yaml_tool.specs.declared.settings.Setting.{Setting}
+use Rattle.yaml_tool.specs.declared.settings.Setting.TheVariants.{Limit, Encoding, Canonical, Unicode, Indent, Width, LineBreak, Breaks12}
+use Rattle.yaml_tool.specs.declared.settings.Settings.{Settings}
+
+abbrev pub seen_setting : Setting → notation.Setting
+seen_setting (Limit bytes) = limit_set bytes
+seen_setting (Encoding encoding) = encoding_set (seen_encoding encoding)
+seen_setting (Canonical on) = canonical_set on
+seen_setting (Unicode on) = unicode_set on
+seen_setting (Indent indent) = indent_set indent
+seen_setting (Width width) = width_set width
+seen_setting (LineBreak line_break) = break_set (seen_break line_break)
+seen_setting (Breaks12 on) = breaks12_set on
+
+abbrev pub seen_settings : Settings → given.Settings
+seen_settings settings = record {
+  encoding = seen_encoding settings.encoding;
+  canonical = settings.canonical;
+  unicode = settings.unicode;
+  indent = settings.indent;
+  width = settings.width;
+  line_break = seen_break settings.line_break;
+  breaks12 = settings.breaks12;
+  limit = settings.limit;
+}

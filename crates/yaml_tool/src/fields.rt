@@ -1,0 +1,100 @@
+//! The fields of a script's line.
+ghost use Rattle.std.specs.Prelude.{◌≡◌, IfOk, map, option_map};
+ghost use Rattle.yaml_base.specs.Script as notation;
+ghost use Rattle.yaml_tool.specs.Fields.{seen_standing, seen_field, CutsFirst};
+
+use crate::texts::text_behind;
+use std::alloc::{AllocError, Allocator};
+
+/// A field of a line.
+#[derive(Drop)]
+#[derive_where(Debug)]
+pub enum Field<'a, A: Allocator> {
+    /// A word as it stands.
+    Word(&'a [char]),
+    /// What a text between quotation marks stands for.
+    Text(String<A>),
+}
+
+/// Where a character of a line stands.
+#[derive(Clone, Copy)]
+enum Standing {
+    /// Outside texts.
+    Outside,
+    /// In a text.
+    Inside,
+    /// In a text, behind a backslash.
+    Escaped,
+}
+
+impl Standing {
+    /// Whether a character that stands there separates two fields.
+    fn separates(self, character: char) -> bool
+        ensures { result ≡ notation.separates (seen_standing self) character }
+    {
+        matches!(self, Standing::Outside) && character == ' '
+    }
+
+    /// Where the next character stands.
+    fn after(self, character: char) -> Standing
+        ensures { seen_standing result ≡ notation.standing_after (seen_standing self) character }
+    {
+        match (self, character) {
+            (Standing::Outside, '"') => Standing::Inside,
+            (Standing::Outside, _) => Standing::Outside,
+            (Standing::Inside, '"') => Standing::Outside,
+            (Standing::Inside, '\\') => Standing::Escaped,
+            (Standing::Inside | Standing::Escaped, _) => Standing::Inside,
+        }
+    }
+}
+
+/// A line's first piece, and what stands behind its separator; none where there is no separator.
+fn first_piece(line: &[char]) -> (&[char], Option<&[char]>)
+    ensures { CutsFirst line.now result.0.now result.1 }
+{
+    let mut standing = Standing::Outside;
+    for (index, character) in line.iter().enumerate() {
+        if standing.separates(*character) {
+            return (&line[..index], Some(&line[index + 1..]));
+        }
+        standing = standing.after(*character);
+    }
+    (line, None)
+}
+
+/// What a piece is; none where it is no field.
+fn field_read<'a, A: Allocator>(
+    alloc: A,
+    piece: &'a [char],
+) -> Result<Option<Field<'a, A>>, AllocError>
+    ensures { IfOk result (λ field. option_map seen_field field ≡ notation.field_read piece.now) }
+{
+    match piece.split_first() {
+        Some(('"', behind)) => Ok(text_behind(alloc, behind)?.map(|text| Field::Text(text))),
+        Some(_) => Ok(Some(Field::Word(piece))),
+        None => Ok(None),
+    }
+}
+
+/// The fields of a line, with one space between two; none where a piece is no field.
+pub fn fields_read<'a, A: Allocator + Copy>(
+    alloc: A,
+    line: &'a [char],
+) -> Result<Option<Vec<Field<'a, A>, A>>, AllocError>
+    ensures { IfOk result (λ fields. option_map (λ all. map seen_field all.items) fields ≡ notation.fields_read line.now) }
+{
+    let mut fields = Vec::new(alloc);
+    let mut rest = line;
+    loop {
+        let (piece, others) = first_piece(rest);
+        match field_read(alloc, piece)? {
+            Some(field) => fields.push(field)?,
+            None => return Ok(None),
+        }
+        match others {
+            Some(others) => rest = others,
+            None => return Ok(Some(fields)),
+        }
+    }
+}

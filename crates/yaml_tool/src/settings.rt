@@ -1,0 +1,140 @@
+//! What a script sets before its first event.
+ghost use Rattle.std.specs.Prelude.{◌≡◌, map, option_map};
+ghost use Rattle.yaml_base.specs.Script as notation;
+ghost use Rattle.yaml_tool.specs.Settings.{seen_setting, seen_settings};
+
+use crate::numbers::{number_up_to, signed_number};
+use crate::words::{break_named, encoding_named, is_word, switch_named};
+use yaml_base::{yaml_break_t, yaml_encoding_t};
+
+/// A setting's line.
+#[derive(Clone, Copy, PartialEq, Eq, Debug)]
+pub enum Setting {
+    /// `limit`: at most so many bytes are put out.
+    Limit(u32),
+    /// `encoding`.
+    Encoding(yaml_encoding_t),
+    /// `canonical`.
+    Canonical(bool),
+    /// `unicode`.
+    Unicode(bool),
+    /// `indent`.
+    Indent(i32),
+    /// `width`.
+    Width(i32),
+    /// `break`.
+    LineBreak(yaml_break_t),
+    /// `breaks12`: the line breaks of YAML 1.2.
+    Breaks12(bool),
+}
+
+impl Setting {
+    /// The word that begins its line.
+    pub fn name(self) -> &'static str
+        ensures { result.now ≡ notation.setting_name (seen_setting self) }
+    {
+        match self {
+            Setting::Limit(_) => "limit",
+            Setting::Encoding(_) => "encoding",
+            Setting::Canonical(_) => "canonical",
+            Setting::Unicode(_) => "unicode",
+            Setting::Indent(_) => "indent",
+            Setting::Width(_) => "width",
+            Setting::LineBreak(_) => "break",
+            Setting::Breaks12(_) => "breaks12",
+        }
+    }
+}
+
+/// What a setting's line says, by its name; none where the value isn't one of its values.
+pub fn setting_of(name: &[char], value: &[char]) -> Option<Setting>
+    ensures { option_map seen_setting result ≡ notation.setting_of name.now value.now }
+{
+    if is_word(name, b"limit") {
+        number_up_to(4_294_967_295, value).map(|bytes| Setting::Limit(bytes))
+    } else if is_word(name, b"encoding") {
+        encoding_named(value).map(|encoding| Setting::Encoding(encoding))
+    } else if is_word(name, b"canonical") {
+        switch_named(value).map(|on| Setting::Canonical(on))
+    } else if is_word(name, b"unicode") {
+        switch_named(value).map(|on| Setting::Unicode(on))
+    } else if is_word(name, b"indent") {
+        signed_number(value).map(|indent| Setting::Indent(indent))
+    } else if is_word(name, b"width") {
+        signed_number(value).map(|width| Setting::Width(width))
+    } else if is_word(name, b"break") {
+        break_named(value).map(|line_break| Setting::LineBreak(line_break))
+    } else if is_word(name, b"breaks12") {
+        switch_named(value).map(|on| Setting::Breaks12(on))
+    } else {
+        None
+    }
+}
+
+/// What all settings come to.
+#[derive(Clone, Copy, PartialEq, Eq, Debug)]
+pub struct Settings {
+    /// At most so many bytes are put out.
+    pub limit: u32,
+    /// The emitter's encoding.
+    pub encoding: yaml_encoding_t,
+    /// One form for each content.
+    pub canonical: bool,
+    /// Characters past U+007F may stand as themselves.
+    pub unicode: bool,
+    /// Columns a level, if it was set.
+    pub indent: Option<i32>,
+    /// The column past which lines may be folded, if it was set.
+    pub width: Option<i32>,
+    /// How lines are ended.
+    pub line_break: yaml_break_t,
+    /// U+2028 and U+2029 are no line breaks.
+    pub breaks12: bool,
+}
+
+/// What holds where no line sets anything.
+pub const UNSET: Settings = Settings {
+    limit: 1_000_000_000,
+    encoding: yaml_encoding_t::YAML_ANY_ENCODING,
+    canonical: false,
+    unicode: false,
+    indent: None,
+    width: None,
+    line_break: yaml_break_t::YAML_ANY_BREAK,
+    breaks12: false,
+};
+
+impl Settings {
+    /// The settings after one more.
+    fn with(self, setting: Setting) -> Settings
+        ensures { seen_settings result ≡ notation.with_setting (seen_settings self) (seen_setting setting) }
+    {
+        match setting {
+            Setting::Limit(limit) => Settings { limit, ..self },
+            Setting::Encoding(encoding) => Settings { encoding, ..self },
+            Setting::Canonical(canonical) => Settings { canonical, ..self },
+            Setting::Unicode(unicode) => Settings { unicode, ..self },
+            Setting::Indent(indent) => Settings {
+                indent: Some(indent),
+                ..self
+            },
+            Setting::Width(width) => Settings {
+                width: Some(width),
+                ..self
+            },
+            Setting::LineBreak(line_break) => Settings { line_break, ..self },
+            Setting::Breaks12(breaks12) => Settings { breaks12, ..self },
+        }
+    }
+}
+
+/// What several lines set together.
+pub fn settings_of(lines: &[Setting]) -> Settings
+    ensures { seen_settings result ≡ notation.settings_of notation.unset (map seen_setting lines.now) }
+{
+    let mut settings = UNSET;
+    for line in lines {
+        settings = settings.with(*line);
+    }
+    settings
+}
