@@ -1,4 +1,5 @@
 pub mod Cuts
+pub mod Events
 pub mod Fields
 pub mod Numbers
 pub mod Settings
