@@ -3,3 +3,4 @@ pub mod NumberLemmas
 pub mod TextLemmas
 pub mod FieldLemmas
 pub mod EventLemmas
+pub mod CutLemmas

@@ -1,6 +1,6 @@
--- A text cut at the first of a character.
+-- A text cut at the first of a character, and at each of them.
 use Rattle.std.specs.Prelude.{◌≡◌, ℕ, false, ◌==◌, List, ◌∷◌, ◌++◌}
-use Rattle.std.specs.List.{list_any}
+use Rattle.std.specs.List.{list_any, slice_split}
 
 -- the character stands nowhere in the text
 abbrev pub IsFree : ℕ → List ℕ → Type 0
@@ -9,3 +9,7 @@ IsFree sign text = list_any (λ character. character == sign) text ≡ false
 -- the text is the front, the character and the back, and the character doesn't stand in the front
 abbrev pub IsCut : ℕ → List ℕ → List ℕ → List ℕ → Type 0
 IsCut sign text front back = (text ≡ front ++ (sign ∷ back)) × IsFree sign front
+
+-- the pieces of the text between the characters
+abbrev pub cut_at : ℕ → List ℕ → List (List ℕ)
+cut_at sign text = slice_split (λ character. character == sign) text

@@ -1,6 +1,7 @@
 //! Scripts of YAML events: how they are read.
 #![tactic(auto)]
 
+mod directives;
 mod events;
 mod fields;
 mod numbers;

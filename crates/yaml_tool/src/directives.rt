@@ -1,0 +1,78 @@
+//! The versions and directives of a script's document starts.
+ghost use Rattle.std.specs.Prelude.{◌≡◌, ◌∷◌, [], map, option_map, pos, IfOk, MatchOption};
+ghost use Rattle.std.specs.Vec.Iter.{into_iter_items};
+ghost use Rattle.yaml_base.specs.Script as notation;
+ghost use Rattle.yaml_base.specs.Seen.{seen_version, seen_directive};
+ghost use Rattle.yaml_tool.specs.Cuts.{cut_at};
+ghost use Rattle.yaml_tool.specs.Fields.{seen_field};
+
+use crate::fields::Field;
+use crate::numbers::number_up_to;
+use crate::words::{cut_once, is_word};
+use std::alloc::{AllocError, Allocator};
+use std::vec::IntoIter;
+use yaml_base::{yaml_tag_directive_t, yaml_version_directive_t};
+
+/// A number of a version.
+fn version_number(word: &[char]) -> Option<i32>
+    ensures { result ≡ option_map pos (notation.number_up_to 2147483647 word.now) }
+{
+    number_up_to(2_147_483_647, word).map(|number| number as i32)
+}
+
+/// What stands before and behind the only point; none where there is another number of points.
+fn two_parts(word: &[char]) -> Option<(&[char], &[char])>
+    ensures { MatchOption result (notation.version_of (cut_at 0x2E word.now) ≡ None) (λ parts. cut_at 0x2E word.now ≡ parts.0.now ∷ parts.1.now ∷ []) }
+{
+    match cut_once('.', word) {
+        Some((front, back)) => match cut_once('.', back) {
+            None => Some((front, back)),
+            Some(_) => None,
+        },
+        None => None,
+    }
+}
+
+/// `major.minor`.
+fn version_of(word: &[char]) -> Option<yaml_version_directive_t>
+    ensures { option_map seen_version result ≡ notation.version_of (cut_at 0x2E word.now) }
+{
+    let (major, minor) = two_parts(word)?;
+    Some(yaml_version_directive_t {
+        major: version_number(major)?,
+        minor: version_number(minor)?,
+    })
+}
+
+/// A version, or `-` for none.
+pub fn version_or_none(word: &[char]) -> Option<Option<yaml_version_directive_t>>
+    ensures { option_map (λ version. option_map seen_version version) result ≡ notation.version_or_none word.now }
+{
+    if is_word(word, b"-") {
+        Some(None)
+    } else {
+        version_of(word).map(|version| Some(version))
+    }
+}
+
+/// Pairs of texts, each a handle and its prefix; none where a field is no text, or a handle has no prefix.
+pub fn directives_of<A: Allocator + Copy>(
+    alloc: A,
+    mut fields: IntoIter<Field<'_, A>, A>,
+) -> Result<Option<Vec<yaml_tag_directive_t<A>, A>>, AllocError>
+    ensures { IfOk result (λ directives. option_map (λ all. map seen_directive all.items) directives ≡ notation.directives_of (map seen_field (into_iter_items fields.entry))) }
+{
+    let mut directives = Vec::new(alloc);
+    loop {
+        match fields.next() {
+            None => return Ok(Some(directives)),
+            Some(Field::Word(_)) => return Ok(None),
+            Some(Field::Text(handle)) => {
+                let Some(Field::Text(prefix)) = fields.next() else {
+                    return Ok(None);
+                };
+                directives.push(yaml_tag_directive_t { handle, prefix })?;
+            }
+        }
+    }
+}
