@@ -4,3 +4,5 @@ pub mod TextLemmas
 pub mod FieldLemmas
 pub mod EventLemmas
 pub mod CutLemmas
+pub mod LineLemmas
+pub mod ScriptLemmas

@@ -28,6 +28,11 @@ abbrev pub last_text : List notation.Field → Option Text
 last_text (quoted text ∷ []) = Some text
 last_text _ = None
 
+-- a word, where nothing stands behind it
+abbrev pub last_word : List notation.Field → Option Text
+last_word (bare word ∷ []) = Some word
+last_word _ = None
+
 -- the line's pieces are the first and those of what stands behind its separator, which is shorter
 abbrev pub CutsFirst : Text → Text → Option (Bor Text) → Type 0
 CutsFirst line first None = cut_from outside line ≡ first ∷ []

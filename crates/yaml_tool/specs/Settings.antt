@@ -1,5 +1,5 @@
 -- What contracts see of a script's settings.
-use Rattle.std.specs.Prelude.{Option, None, Some}
+use Rattle.std.specs.Prelude.{Bool, Option, None, Some}
 use Rattle.yaml_base.specs.Script as notation
 use Rattle.yaml_base.specs.Script.{limit_set, encoding_set, canonical_set, unicode_set, indent_set, width_set, break_set, breaks12_set}
 use Rattle.yaml_base.specs.Settings as given
@@ -29,3 +29,7 @@ seen_settings settings = record {
   breaks12 = settings.breaks12;
   limit = settings.limit;
 }
+
+-- two settings have one name
+abbrev pub sets_same : notation.Setting → notation.Setting → Bool
+sets_same setting other = notation.is_word (notation.setting_name setting) (notation.setting_name other)

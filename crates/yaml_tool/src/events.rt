@@ -1,12 +1,13 @@
 //! The events of a script's lines.
-ghost use Rattle.std.specs.Prelude.{◌≡◌, map, option_map, MatchOption};
+ghost use Rattle.std.specs.Prelude.{◌≡◌, map, option_map, MatchOption, IfOk};
 ghost use Rattle.std.specs.Vec.Iter.{into_iter_items};
 ghost use Rattle.yaml_base.specs.Event.{sequence_start, mapping_start};
 ghost use Rattle.yaml_base.specs.Script as notation;
 ghost use Rattle.yaml_base.specs.Seen.{seen_event, seen_text, seen_scalar_style, seen_sequence_style, seen_mapping_style};
-ghost use Rattle.yaml_tool.specs.Fields.{seen_field, seen_choice, last_text};
-ghost use Rattle.yaml_tool.specs.Events.{four_fields};
+ghost use Rattle.yaml_tool.specs.Fields.{seen_field, seen_choice, last_text, last_word};
+ghost use Rattle.yaml_tool.specs.Events.{four_fields, seen_versions, seen_directives};
 
+use crate::directives::{directives_of, version_or_none};
 use crate::fields::Field;
 use crate::words::{
     encoding_named, flag_named, is_word, mapping_style_named, scalar_style_named,
@@ -14,7 +15,10 @@ use crate::words::{
 };
 use std::alloc::{AllocError, Allocator};
 use std::vec::IntoIter;
-use yaml_base::{yaml_event_t, yaml_mapping_style_t, yaml_scalar_style_t, yaml_sequence_style_t};
+use yaml_base::{
+    yaml_event_t, yaml_mapping_style_t, yaml_scalar_style_t, yaml_sequence_style_t,
+    yaml_tag_directive_t, yaml_version_directive_t,
+};
 
 /// A text, or `-` for none.
 fn text_or_none<A: Allocator>(field: Field<'_, A>) -> Option<Option<String<A>>>
@@ -43,6 +47,80 @@ fn last_text<A: Allocator>(mut fields: IntoIter<Field<'_, A>, A>) -> Option<Stri
         return None;
     }
     Some(text)
+}
+
+/// A word, where nothing stands behind it.
+fn last_word<'a, A: Allocator>(mut fields: IntoIter<Field<'a, A>, A>) -> Option<&'a [char]>
+    ensures { option_map (λ word. word.now) result ≡ last_word (map seen_field (into_iter_items fields.entry)) }
+{
+    let Some(Field::Word(word)) = fields.next() else {
+        return None;
+    };
+    if fields.next().is_some() {
+        return None;
+    }
+    Some(word)
+}
+
+/// An event without any field.
+fn alone<A: Allocator>(
+    event: yaml_event_t<A>,
+    mut fields: IntoIter<Field<'_, A>, A>,
+) -> Option<yaml_event_t<A>>
+    ensures { option_map seen_event result ≡ notation.alone (seen_event event) (map seen_field (into_iter_items fields.entry)) }
+{
+    match fields.next() {
+        None => Some(event),
+        Some(_) => None,
+    }
+}
+
+/// `+STR`: an encoding.
+fn stream_start_of<A: Allocator>(fields: IntoIter<Field<'_, A>, A>) -> Option<yaml_event_t<A>>
+    ensures { option_map seen_event result ≡ notation.stream_start_of (map seen_field (into_iter_items fields.entry)) }
+{
+    let encoding = encoding_named(last_word(fields)?)?;
+    Some(yaml_event_t::YAML_STREAM_START_EVENT { encoding })
+}
+
+/// A document's start, where each of its parts has a reading.
+fn document_start_with<A: Allocator>(
+    implicit: Option<bool>,
+    version_directive: Option<Option<yaml_version_directive_t>>,
+    tag_directives: Option<Vec<yaml_tag_directive_t<A>, A>>,
+) -> Option<yaml_event_t<A>>
+    ensures { option_map seen_event result ≡ notation.document_start_with implicit (seen_versions version_directive) (seen_directives tag_directives) }
+{
+    Some(yaml_event_t::YAML_DOCUMENT_START_EVENT {
+        implicit: implicit?,
+        version_directive: version_directive?,
+        tag_directives: tag_directives?,
+    })
+}
+
+/// `+DOC`: whether it is implicit, a version, directives.
+fn document_start_of<A: Allocator + Copy>(
+    alloc: A,
+    mut fields: IntoIter<Field<'_, A>, A>,
+) -> Result<Option<yaml_event_t<A>>, AllocError>
+    ensures { IfOk result (λ event. option_map seen_event event ≡ notation.document_start_of (map seen_field (into_iter_items fields.entry))) }
+{
+    let Some(Field::Word(implicit)) = fields.next() else {
+        return Ok(None);
+    };
+    let Some(Field::Word(version)) = fields.next() else {
+        return Ok(None);
+    };
+    let directives = directives_of(alloc, fields)?;
+    Ok(document_start_with(flag_named(implicit), version_or_none(version), directives))
+}
+
+/// `-DOC`: whether it is implicit.
+fn document_end_of<A: Allocator>(fields: IntoIter<Field<'_, A>, A>) -> Option<yaml_event_t<A>>
+    ensures { option_map seen_event result ≡ notation.document_end_of (map seen_field (into_iter_items fields.entry)) }
+{
+    let implicit = flag_named(last_word(fields)?)?;
+    Some(yaml_event_t::YAML_DOCUMENT_END_EVENT { implicit })
 }
 
 /// `=ALI`: a name.
@@ -196,4 +274,37 @@ fn mapping_start_of<A: Allocator>(fields: IntoIter<Field<'_, A>, A>) -> Option<y
         text_or_none(fields.anchor),
         text_or_none(fields.tag),
     )
+}
+
+/// The event that a name and its fields give; none where they give none.
+pub fn event_of<A: Allocator + Copy>(
+    alloc: A,
+    name: &[char],
+    fields: IntoIter<Field<'_, A>, A>,
+) -> Result<Option<yaml_event_t<A>>, AllocError>
+    ensures { IfOk result (λ event. option_map seen_event event ≡ notation.event_of name.now (map seen_field (into_iter_items fields.entry))) }
+{
+    if is_word(name, b"+STR") {
+        Ok(stream_start_of(fields))
+    } else if is_word(name, b"-STR") {
+        Ok(alone(yaml_event_t::YAML_STREAM_END_EVENT, fields))
+    } else if is_word(name, b"+DOC") {
+        document_start_of(alloc, fields)
+    } else if is_word(name, b"-DOC") {
+        Ok(document_end_of(fields))
+    } else if is_word(name, b"=ALI") {
+        Ok(alias_of(fields))
+    } else if is_word(name, b"=VAL") {
+        Ok(scalar_of(fields))
+    } else if is_word(name, b"+SEQ") {
+        Ok(sequence_start_of(fields))
+    } else if is_word(name, b"-SEQ") {
+        Ok(alone(yaml_event_t::YAML_SEQUENCE_END_EVENT, fields))
+    } else if is_word(name, b"+MAP") {
+        Ok(mapping_start_of(fields))
+    } else if is_word(name, b"-MAP") {
+        Ok(alone(yaml_event_t::YAML_MAPPING_END_EVENT, fields))
+    } else {
+        Ok(None)
+    }
 }

@@ -4,7 +4,9 @@
 mod directives;
 mod events;
 mod fields;
+mod lines;
 mod numbers;
+mod scripts;
 mod settings;
 mod texts;
 mod words;

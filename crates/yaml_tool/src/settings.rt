@@ -1,7 +1,8 @@
 //! What a script sets before its first event.
 ghost use Rattle.std.specs.Prelude.{◌≡◌, map, option_map};
+ghost use Rattle.std.specs.List.{list_any};
 ghost use Rattle.yaml_base.specs.Script as notation;
-ghost use Rattle.yaml_tool.specs.Settings.{seen_setting, seen_settings};
+ghost use Rattle.yaml_tool.specs.Settings.{seen_setting, seen_settings, sets_same};
 
 use crate::numbers::{number_up_to, signed_number};
 use crate::words::{break_named, encoding_named, is_word, switch_named};
@@ -44,6 +45,18 @@ impl Setting {
             Setting::Breaks12(_) => "breaks12",
         }
     }
+}
+
+/// Whether one of these lines sets the same.
+pub fn is_set(setting: Setting, lines: &[Setting]) -> bool
+    ensures { result ≡ list_any (sets_same (seen_setting setting)) (map seen_setting lines.now) }
+{
+    for line in lines {
+        if setting.name() == line.name() {
+            return true;
+        }
+    }
+    false
 }
 
 /// What a setting's line says, by its name; none where the value isn't one of its values.

@@ -11,7 +11,7 @@ pub loop-directives-preserved : goal.loop-directives-preserved
 loop-directives-preserved g c =
     let more = map seen_field (into_iter_items c.next-in-Some-Text.new.self) in
     let fields : map seen_field (into_iter_items c.loop-directives.fields) ≡ quoted (seen_text c.in-Some-Text.handle) ∷ quoted (seen_text c.in-Some-Text-next.prefix) ∷ more =
-      text_before c.in-Some-Text.ensures.items c.in-Some-Text.field-0-is (text_before c.in-Some-Text-next.ensures.items c.in-Some-Text-next.field-0-is refl) in
+    text_before c.in-Some-Text.ensures.items c.in-Some-Text.field-0-is (text_before c.in-Some-Text-next.ensures.items c.in-Some-Text-next.field-0-is refl) in
     let start = map seen_directive c.loop-directives.directives.items in
     c.loop-directives.invariant
     ∙ ap (λ all. option_map (λ others. start ++ others) (notation.directives_of all)) fields

@@ -14,6 +14,6 @@ returns-in-None-cut_once c =
 pub returns-in-Some-cut_once : goal.returns-in-Some-cut_once
 returns-in-Some-cut_once c =
     ap version_of
-      (cut_cut 46 c.args.word.now c.in-Some.front.now c.in-Some.back.now c.in-Some.ensures
-      ∙ ap (λ pieces. c.in-Some.front.now ∷ pieces) (cut_cut 46 c.in-Some.back.now c.in-Some-cut_once.field-0.0.now c.in-Some-cut_once.field-0.1.now c.in-Some-cut_once.ensures))
+    (cut_cut 46 c.args.word.now c.in-Some.front.now c.in-Some.back.now c.in-Some.ensures
+    ∙ ap (λ pieces. c.in-Some.front.now ∷ pieces) (cut_cut 46 c.in-Some.back.now c.in-Some-cut_once.field-0.0.now c.in-Some-cut_once.field-0.1.now c.in-Some-cut_once.ensures))
     ∙ no_version 46 c.in-Some.front.now c.in-Some-cut_once.field-0.0.now c.in-Some-cut_once.field-0.1.now

@@ -1,0 +1,140 @@
+//! Whole scripts.
+ghost use Rattle.std.specs.Prelude.{◌≡◌, map, Some, None, IfOk, IfErr, if◌then◌else◌};
+ghost use Rattle.yaml_base.specs.Script as notation;
+ghost use Rattle.yaml_tool.specs.Settings.{seen_setting, seen_settings};
+ghost use Rattle.yaml_tool.specs.Lines.{seen_line};
+ghost use Rattle.yaml_tool.specs.Scripts.{seen_progress, seen_numbered, after_line, CutsLine, IsFaultOf};
+
+use crate::lines::{Line, line_understood};
+use crate::settings::{Setting, Settings, is_set, settings_of};
+use std::alloc::{AllocError, Allocator};
+use yaml_base::yaml_event_t;
+
+/// An event and the number of its line.
+#[derive(Drop)]
+#[derive_where(PartialEq, Eq, Debug)]
+pub struct NumberedEvent<A: Allocator> {
+    /// The line, counted from 1.
+    pub line: u64,
+    /// The event.
+    pub event: yaml_event_t<A>,
+}
+
+/// What a script says.
+#[derive(Drop)]
+#[derive_where(PartialEq, Eq, Debug)]
+pub struct Script<A: Allocator> {
+    /// What it sets.
+    pub settings: Settings,
+    /// Its events, in order.
+    pub events: Vec<NumberedEvent<A>, A>,
+}
+
+/// Why a script isn't understood.
+#[derive(Clone, Copy, PartialEq, Eq, Debug)]
+pub enum ScriptError {
+    /// Its first bad line, counted from 1.
+    BadLine(u64),
+    /// A growth was refused.
+    OutOfMemory,
+}
+
+/// What the lines so far said.
+#[derive(Drop)]
+struct Progress<A: Allocator> {
+    settings: Vec<Setting, A>,
+    events: Vec<NumberedEvent<A>, A>,
+}
+
+impl<A: Allocator> Progress<A> {
+    /// Whether a setting may stand there: before the events, and not after one of its name.
+    fn may_set(&self, setting: Setting) -> bool
+        ensures { result ≡ notation.may_be_set (seen_setting setting) (seen_progress self.now) }
+    {
+        self.events.is_empty() && !is_set(setting, self.settings.as_slice())
+    }
+
+    /// Takes a line, and answers whether it may stand there.
+    fn take_line(&mut self, number: u64, line: Line<A>) -> Result<bool, AllocError>
+        ensures { IfOk result (λ taken. notation.with_line number (seen_progress self.old) (seen_line line) ≡ (if taken then Some (seen_progress self.new) else None)) }
+    {
+        match line {
+            Line::Nothing => Ok(true),
+            Line::Sets(setting) => {
+                if !self.may_set(setting) {
+                    return Ok(false);
+                }
+                self.settings.push(setting)?;
+                Ok(true)
+            }
+            Line::Gives(event) => {
+                self.events.push(NumberedEvent {
+                    line: number,
+                    event,
+                })?;
+                Ok(true)
+            }
+        }
+    }
+}
+
+/// The first line, and what follows its LF; none where there is no LF.
+fn first_line(bytes: &[u8]) -> (&[u8], Option<&[u8]>)
+    ensures { CutsLine bytes.now result.0.now result.1 }
+{
+    for (index, byte) in bytes.iter().enumerate() {
+        if *byte == b'\n' {
+            return (&bytes[..index], Some(&bytes[index + 1..]));
+        }
+    }
+    (bytes, None)
+}
+
+/// Understands a script, or tells its first bad line.
+pub fn read_script<A: Allocator + Copy>(alloc: A, bytes: &[u8]) -> Result<Script<A>, ScriptError>
+    ensures understood { IfOk result (λ script. notation.script_of bytes.now ≡ notation.understood (seen_settings script.settings) (map seen_numbered script.events.items)) }
+    ensures fault { IfErr result (λ error. IsFaultOf error (notation.script_of bytes.now)) }
+{
+    let mut progress = Progress {
+        settings: Vec::new(alloc),
+        events: Vec::new(alloc),
+    };
+    let mut number = 1;
+    let mut rest = bytes;
+    'lines: loop {
+        let (line, others) = first_line(rest);
+        let Ok(is_good) = line_taken(alloc, &mut progress, number, line) else {
+            return Err(ScriptError::OutOfMemory);
+        };
+        if !is_good {
+            return Err(ScriptError::BadLine(number));
+        }
+        match others {
+            Some(others) => {
+                rest = others;
+                number += 1;
+            }
+            None => {
+                return Ok(Script {
+                    settings: settings_of(progress.settings.as_slice()),
+                    events: progress.events,
+                });
+            }
+        }
+    }
+}
+
+/// Understands a line and takes it; answers whether it is good.
+fn line_taken<A: Allocator + Copy>(
+    alloc: A,
+    progress: &mut Progress<A>,
+    number: u64,
+    line: &[u8],
+) -> Result<bool, AllocError>
+    ensures { IfOk result (λ taken. after_line number (seen_progress progress.old) line.now ≡ (if taken then Some (seen_progress progress.new) else None)) }
+{
+    match line_understood(alloc, line)? {
+        Some(line) => progress.take_line(number, line),
+        None => Ok(false),
+    }
+}
