@@ -3,8 +3,8 @@ use Rattle.std.proofs.Common.{◌≡◌, ◌++◌, append_assoc, Bool, Option, N
 use Rattle.yaml_base.specs.Characters.{Text}
 use Rattle.std.specs.Prelude.{String}
 use Rattle.std.proofs.lemmas.List.{map-append}
-use Rattle.yaml_base.specs.Event.{Event, TagDirective, ScalarStyle, CollectionStyle, Collection}
-use Rattle.yaml_base.specs.Script.{Field, bare, quoted, named, flags, scalar_styles, collection_styles, text_or_none, scalar_of, scalar_with, collection_of, collection_with}
+use Rattle.yaml_base.specs.Event.{Event, TagDirective, ScalarStyle}
+use Rattle.yaml_base.specs.Script.{Field, bare, quoted, named, flags, scalar_styles, text_or_none, scalar_of, scalar_with}
 use Rattle.std.specs.Borrow.{Bor}
 use Rattle.yaml_tool.specs.declared.fields.Field as declared
 use Rattle.yaml_tool.specs.declared.fields.Field.TheVariants.{Word, Text as declaredText}

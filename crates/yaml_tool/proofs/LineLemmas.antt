@@ -1,8 +1,7 @@
 -- What lines say, by the number of their fields and by their bytes.
-use Rattle.std.proofs.Common.{◌≡◌, ℕ, ◌<◌, ◌≤◌, Bool, true, false, Option, None, Some, List, [], ◌∷◌, map, length, refl, ap, arith, if◌then◌else◌}
+use Rattle.std.proofs.Common.{◌≡◌, ℕ, ◌<◌, ◌≤◌, Bool, true, false, None, List, [], ◌∷◌, map, length, refl, ap, arith, if◌then◌else◌}
 use Rattle.std.specs.Str.{chars, IsUtf8, is_utf8}
 use Rattle.std.proofs.lemmas.Str.{is_utf8-from_IsUtf8, IsUtf8-from_is_utf8}
-use Rattle.yaml_base.specs.Script as notation
 use Rattle.yaml_base.specs.Script.{line_read, line_understood}
 use Rattle.yaml_tool.specs.declared.fields.Field as declared
 use Rattle.yaml_tool.specs.declared.fields.Field.TheVariants as field

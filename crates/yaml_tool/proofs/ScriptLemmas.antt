@@ -1,10 +1,9 @@
 -- A script is understood line by line.
-use Rattle.std.proofs.Common.{◌≡◌, ℕ, suc, ◌+◌, ◌<◌, add-one, Option, None, Some, List, [], ◌∷◌, ◌++◌, length, length-append, refl, ap, sym, subst, ◌∙◌, arith}
+use Rattle.std.proofs.Common.{◌≡◌, ℕ, suc, ◌+◌, ◌<◌, add-one, Option, None, Some, List, [], ◌∷◌, length, length-append, refl, ap, sym, subst, ◌∙◌, arith}
 use Rattle.std.specs.Borrow.{Bor}
 use Rattle.yaml_base.specs.Characters.{line_feed}
-use Rattle.yaml_base.specs.Script as notation
 use Rattle.yaml_base.specs.Script.{Script, Sofar, bad_line, script_from}
-use Rattle.yaml_tool.specs.Cuts.{cut_at, IsFree, IsCut}
+use Rattle.yaml_tool.specs.Cuts.{cut_at}
 use Rattle.yaml_tool.specs.Scripts.{after_line, CutsLine}
 use Rattle.yaml_tool.proofs.CutLemmas.{cut_free, cut_cut}
 

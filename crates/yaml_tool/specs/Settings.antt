@@ -1,5 +1,5 @@
 -- What contracts see of a script's settings.
-use Rattle.std.specs.Prelude.{Bool, Option, None, Some}
+use Rattle.std.specs.Prelude.{Bool}
 use Rattle.yaml_base.specs.Script as notation
 use Rattle.yaml_base.specs.Script.{limit_set, encoding_set, canonical_set, unicode_set, indent_set, width_set, break_set, breaks12_set}
 use Rattle.yaml_base.specs.Settings as given

@@ -10,3 +10,9 @@ mod scripts;
 mod settings;
 mod texts;
 mod words;
+
+pub use scripts::{NumberedEvent, Script, ScriptError, read_script};
+pub use settings::Settings;
+
+#[cfg(test)]
+mod tests;

@@ -1,7 +1,6 @@
-use Rattle.std.proofs.Common.{◌≡◌, ◌∷◌, ◌+◌, Bool, true, false, List, [], take, drop, length, get_or, arith, rules, sym, ap, subst, ◌∙◌}
+use Rattle.std.proofs.Common.{◌≡◌, ◌+◌, true, false, take, drop, get_or, arith, sym, ap, ◌∙◌}
 use Rattle.std.proofs.lemmas.List.{get_or_read, take_rest, take_all, drop_all, length-drop}
-use Rattle.std.proofs.lemmas.Grind.{common_steps}
-use Rattle.yaml_base.specs.Script.{outside, cut_from, separates, standing_after}
+use Rattle.yaml_base.specs.Script.{cut_from, separates, standing_after}
 use Rattle.yaml_tool.specs.Fields.{seen_standing}
 use Rattle.yaml_tool.proofs.FieldLemmas.{attached, stops_at, goes_past, whole_line}
 use Rattle.yaml_tool.proofs.fields.first_piece.Goals as goal

@@ -1,4 +1,4 @@
-use Rattle.std.proofs.Common.{◌≡◌, Bool, Some, None, if◌then◌else◌, map, ap, sym, ◌∙◌, arith}
+use Rattle.std.proofs.Common.{Bool, Some, None, if◌then◌else◌, map, ap, sym, ◌∙◌, arith}
 use Rattle.yaml_base.specs.Script as notation
 use Rattle.yaml_tool.specs.Scripts.{seen_progress, seen_numbered}
 use Rattle.yaml_tool.specs.Settings.{seen_setting}
