@@ -17,6 +17,7 @@ pub mod RowsReadFolding
 pub mod RowsAnalysis
 pub mod RowsTags
 pub mod RowsEncoding
+pub mod Decoding
 pub mod RowsBlock
 pub mod RowsDouble
 pub mod RowsPlain

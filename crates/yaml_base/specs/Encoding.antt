@@ -1,5 +1,6 @@
 -- Texts as bytes: UTF-8 (RFC 3629) and UTF-16 (RFC 2781), and what a limit leaves of them.
-use Rattle.std.specs.Prelude.{ℕ, Option, None, Some, List, [], ◌∷◌, ◌++◌, ◌+◌, ◌-◌, ◌/◌, ◌%◌, nat_lt, take, encode_utf8, if◌then◌else◌}
+use Rattle.std.specs.Prelude.{◌≡◌, ℕ, true, Option, None, Some, List, [], ◌∷◌, ◌++◌, ◌+◌, ◌-◌, ◌/◌, ◌%◌, nat_lt, take, encode_utf8, if◌then◌else◌}
+use Rattle.std.specs.Str.{all_scalars}
 use Rattle.yaml_base.specs.Characters.{Text, byte_order_mark}
 use Rattle.yaml_base.specs.Settings.{Encoding, utf8, utf16_little, utf16_big}
 
@@ -43,3 +44,9 @@ encode (Some encoding) text = text_bytes encoding (mark encoding ++ text)
 -- the first so many bytes, or all where they are fewer
 abbrev pub cut : ℕ → List ℕ → List ℕ
 cut limit bytes = take limit bytes
+
+-- in one encoding two texts of Unicode scalar values never have the same bytes
+abbrev pub OneText : Type 0
+OneText =
+    (encoding : Encoding) (t u : Text) → all_scalars t ≡ true → all_scalars u ≡ true
+    → encode (Some encoding) t ≡ encode (Some encoding) u → t ≡ u

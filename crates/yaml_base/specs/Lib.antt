@@ -6,6 +6,7 @@ pub mod Event
 pub mod Errors
 pub mod Seen
 pub mod Encoding
+pub mod Decode
 pub mod Percent
 pub mod Tags
 pub mod Analysis

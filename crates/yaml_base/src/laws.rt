@@ -1,4 +1,5 @@
 //! Laws of the definitions, each the contract of a function that does nothing: what they promise together.
+ghost use Rattle.yaml_base.specs.Encoding.{OneText};
 ghost use Rattle.yaml_base.specs.Grammar.{OneTree};
 ghost use Rattle.yaml_base.specs.Layout.{OnePieceEach};
 ghost use Rattle.yaml_base.specs.Pieces.{PiecesStand};
@@ -8,6 +9,11 @@ ghost use Rattle.yaml_base.specs.Refusal.{RefusedExactly};
 /// A list of events is the events of at most one tree.
 pub fn list_has_one_tree()
     ensures { OneTree }
+{}
+
+/// Bytes are the encoding of at most one text of Unicode scalar values.
+pub fn bytes_have_one_text()
+    ensures { OneText }
 {}
 
 /// A layout has one piece for each event.

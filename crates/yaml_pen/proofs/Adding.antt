@@ -5,8 +5,8 @@ use Rattle.std.proofs.lemmas.Bool.{and_parts, and_from}
 use Rattle.yaml_base.specs.Characters.{Text}
 use Rattle.yaml_base.specs.Settings.{Encoding}
 use Rattle.yaml_base.specs.Encoding.{character_bytes, text_bytes, encode, mark}
-use Rattle.yaml_pen.specs.Decode.{decode}
-use Rattle.yaml_pen.proofs.Decoding.{decode-encode}
+use Rattle.yaml_base.specs.Decode.{decode}
+use Rattle.yaml_base.proofs.Decoding.{decode-encode}
 
 pub text_bytes-append : (e : Encoding) (xs ys : Text) → text_bytes e (xs ++ ys) ≡ text_bytes e xs ++ text_bytes e ys
 text_bytes-append e [] ys = refl

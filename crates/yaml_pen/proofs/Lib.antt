@@ -1,4 +1,3 @@
-pub mod Decoding
 pub mod Adding
 pub mod Starting
 pub mod Writing

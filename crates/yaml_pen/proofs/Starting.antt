@@ -13,7 +13,7 @@ use Rattle.yaml_base.specs.declared.encodings.yaml_break_t.{yaml_break_t}
 use Rattle.yaml_pen.specs.Page.{Page, IsHandedOut, has_mark}
 use Rattle.yaml_pen.specs.Outlet.{Bytes, IsSound}
 use Rattle.yaml_pen.specs.Pen.{page_of, IsPen}
-use Rattle.yaml_pen.specs.Decode.{decode}
+use Rattle.yaml_base.specs.Decode.{decode}
 
 pub decode-nil : (encoding : Option Encoding) → decode encoding [] ≡ []
 unfolding decode

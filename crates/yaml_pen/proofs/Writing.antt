@@ -16,7 +16,7 @@ use Rattle.yaml_pen.specs.Page.{Page, IsReady, IsHandedOut, told}
 use Rattle.yaml_pen.specs.Wrote.{Wrote, named_text}
 use Rattle.yaml_pen.specs.Outlet.{Bytes, IsSound, Appended}
 use Rattle.yaml_pen.specs.Pen.{page_of, IsPen}
-use Rattle.yaml_pen.specs.Decode.{decode}
+use Rattle.yaml_base.specs.Decode.{decode}
 use Rattle.yaml_pen.proofs.Adding.{AreText, AreText-grown, decode-grown}
 
 pub column_after-append : (xs ys : Text) (column : ℕ) → column_after (xs ++ ys) column ≡ column_after ys (column_after xs column)

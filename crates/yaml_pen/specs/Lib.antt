@@ -2,6 +2,5 @@ pub mod Page
 pub mod Wrote
 pub mod Outlet
 pub mod Encoded
-pub mod Decode
 pub mod Pen
 pub mod Lines

@@ -8,7 +8,7 @@ use Rattle.yaml_base.specs.declared.encodings.yaml_encoding_t.{yaml_encoding_t}
 use Rattle.yaml_base.specs.declared.encodings.yaml_break_t.{yaml_break_t}
 use Rattle.yaml_pen.specs.Page.{Page, IsHandedOut, written_bytes, has_mark}
 use Rattle.yaml_pen.specs.Outlet.{Bytes}
-use Rattle.yaml_pen.specs.Decode.{decode}
+use Rattle.yaml_base.specs.Decode.{decode}
 
 -- the page of a pen's fields: the text is that of the bytes, and the column is that of the text
 abbrev pub page_of : yaml_encoding_t → Bool → yaml_break_t → Bytes → Bool → Bool → Page

@@ -42,7 +42,7 @@ impl<A: Allocator> Model for Pen<A> {
 impl<A: Allocator> Pen<A> {
     /// A pen at the start of a text; no limit below `usize::MAX`. Answers `Memory` where its buffer
     /// finds no room.
-    #[tactic(auto, unfolding(crate::specs::Decode::decode))]
+    #[tactic(auto, unfolding(yaml_base::specs::Decode::decode))]
     pub fn new(alloc: A) -> Result<Pen<A>, yaml_error_t>
     where
         A: Copy,

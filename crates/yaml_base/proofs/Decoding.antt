@@ -7,8 +7,8 @@ use Rattle.std.proofs.lemmas.Bool.{lt-leb, cases_lt, and_parts}
 use lib.Utf8.{scalar_cases}
 use Rattle.yaml_base.specs.Characters.{Text}
 use Rattle.yaml_base.specs.Settings.{Encoding, utf8, utf16_little, utf16_big}
-use Rattle.yaml_base.specs.Encoding.{utf16_units, upper_first, lower_first, text_bytes, encode}
-use Rattle.yaml_pen.specs.Decode.{units_upper_first, units_lower_first, text_of_units, decode}
+use Rattle.yaml_base.specs.Encoding.{utf16_units, upper_first, lower_first, text_bytes, encode, OneText}
+use Rattle.yaml_base.specs.Decode.{units_upper_first, units_lower_first, text_of_units, decode}
 
 -- a text's code units
 abbrev units_of : Text → List ℕ
@@ -92,3 +92,8 @@ unfolding decode
 decode-encode utf8 text s = ap chars (text_bytes-utf8 text) ∙ chars-encodes text s
 decode-encode utf16_little text s = ap text_of_units (ap units_lower_first (text_bytes-little text) ∙ units_lower_first-lower_first (units_of text)) ∙ text_of_units-units_of text s
 decode-encode utf16_big text s = ap text_of_units (ap units_upper_first (text_bytes-big text) ∙ units_upper_first-upper_first (units_of text)) ∙ text_of_units-units_of text s
+
+-- So texts with the same bytes are the same.
+pub one_text : OneText
+one_text encoding t u t_scalars u_scalars same =
+    sym (decode-encode encoding t t_scalars) ∙ ap (decode (Some encoding)) same ∙ decode-encode encoding u u_scalars

@@ -1,4 +1,4 @@
--- The text of bytes that a pen wrote: what a pen holds is bytes alone.
+-- The text of bytes that were written, for those who hold bytes alone (RFC 3629; RFC 2781, section 2.2).
 use Rattle.std.specs.Prelude.{ℕ, Option, None, Some, List, [], ◌∷◌, ◌+◌, ◌-◌, ◌*◌, nat_le, nat_lt, ◌&&◌, drop, if◌then◌else◌}
 use Rattle.std.specs.Str.{chars}
 use Rattle.yaml_base.specs.Characters.{Text}
