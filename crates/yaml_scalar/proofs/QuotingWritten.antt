@@ -1,8 +1,7 @@
 -- What the parts of a step write is the step's text, and steps one after another are the lines.
-use Rattle.std.proofs.Common.{◌≡◌, refl, sym, ap, ◌∙◌, subst, ℕ, List, [], ◌∷◌, ◌++◌, Bool, true, false, Ok, Err, Result, chars, rules}
+use Rattle.std.proofs.Common.{◌≡◌, refl, sym, ap, ◌∙◌, subst, ℕ, List, [], ◌∷◌, ◌++◌, Bool, true, false, Ok, Err, Result}
 use Rattle.std.specs.Prelude.{Option, ◌==◌, ◌||◌, ◌&&◌, not, if◌then◌else◌}
 use Rattle.std.proofs.lemmas.Bool.{eqb-true}
-use Rattle.std.proofs.lemmas.Str.{chars-IsAscii}
 use Rattle.yaml_base.specs.Analysis.{is_empty}
 use Rattle.yaml_base.specs.Characters.{Text, is_break, is_space, line_feed, space}
 use Rattle.yaml_base.specs.Cursor.{Cursor, Laid, indicator, is_past_width, nothing_laid, space_if, text_laid, then_laid}
@@ -160,9 +159,6 @@ pub wrote_quoted :
     Wrote (runs_laid quotes_doubled limit indent true (runs value)) before after answer
 wrote_quoted quoted limit indent value {before} {after} {answer} e wrote =
     subst (λ (q : Bool). Wrote (runs_laid (written_as q) limit indent true (runs value)) before after answer) e wrote
-
-pub quote_chars : chars (39 ∷ []) ≡ 39 ∷ []
-quote_chars = chars-IsAscii (39 ∷ []) (search rules)
 
 -- an opening quote behind the space that it needs
 opened : (column : ℕ) (whitespace indention : Bool) (next : Cursor → Laid) →

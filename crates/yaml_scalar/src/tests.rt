@@ -1,0 +1,43 @@
+//! Scalars written from outside: worked texts, limits and failed pens.
+ghost use Rattle.std.specs.Prelude.{IfOk};
+ghost use Rattle.yaml_pen.specs.Page.{IsReady};
+
+mod plain;
+mod single_quoted;
+
+use std::alloc::Allocator;
+use yaml_base::{YAML_CR_BREAK, YAML_CRLN_BREAK, YAML_LN_BREAK, YAML_UTF8_ENCODING, yaml_error_t};
+use yaml_pen::Pen;
+
+/// A pen at the start of a text in UTF-8 whose lines end in LF.
+fn begun<A: Allocator + Copy>(alloc: A) -> Result<Pen<A>, yaml_error_t>
+    ensures { IfOk result (λ pen. IsReady pen) }
+{
+    begun_within(alloc, usize::MAX)
+}
+
+/// The same, with a limit on the output's bytes.
+fn begun_within<A: Allocator + Copy>(alloc: A, limit: usize) -> Result<Pen<A>, yaml_error_t>
+    ensures { IfOk result (λ pen. IsReady pen) }
+{
+    let mut pen = Pen::new(alloc)?;
+    pen.set_limit(limit);
+    pen.begin(YAML_UTF8_ENCODING, YAML_LN_BREAK);
+    Ok(pen)
+}
+
+/// The same, with lines that end in CR, or in CR LF.
+fn begun_with_returns<A: Allocator + Copy>(
+    alloc: A,
+    line_feed_too: bool,
+) -> Result<Pen<A>, yaml_error_t>
+    ensures { IfOk result (λ pen. IsReady pen) }
+{
+    let mut pen = Pen::new(alloc)?;
+    if line_feed_too {
+        pen.begin(YAML_UTF8_ENCODING, YAML_CRLN_BREAK);
+    } else {
+        pen.begin(YAML_UTF8_ENCODING, YAML_CR_BREAK);
+    }
+    Ok(pen)
+}
