@@ -17,6 +17,9 @@ use std::alloc::Allocator;
 use std::marker::Model;
 use yaml_base::{is_break, yaml_break_t, yaml_encoding_t, yaml_error_t};
 
+/// Writes characters in an encoding through a buffer of 16,384 bytes to an output that it owns, and
+/// keeps the cursor. A call that writes, or a flush, answers `WriteError` where the encoded text passes
+/// the limit, `Memory` where a growth is refused, and the first of these from then on.
 #[derive(Drop)]
 pub struct Pen<A: Allocator> {
     outlet: Outlet<A>,
@@ -61,7 +64,7 @@ impl<A: Allocator> Pen<A> {
         })
     }
 
-    /// Sets how many bytes the output may have.
+    /// Sets how many bytes the output may have; before anything is written.
     pub fn set_limit(&mut self, size: usize)
         requires { IsUntouched self.old }
         ensures { self.new ≡ record self.old { limit = size } }
@@ -69,7 +72,7 @@ impl<A: Allocator> Pen<A> {
         self.outlet.set_limit(size);
     }
 
-    /// Sets the encoding and the line break of the text; neither may be ANY.
+    /// Sets the encoding and the line break of the text; neither may be ANY, and nothing may be written.
     pub fn begin(&mut self, encoding: yaml_encoding_t, line_break: yaml_break_t)
         requires untouched { IsUntouched self.old }
         requires encoding { IsSome (seen_encoding encoding) }
@@ -85,7 +88,8 @@ impl<A: Allocator> Pen<A> {
         self.line_break = line_break;
     }
 
-    /// Writes the byte order mark, which UTF-16 begins with (RFC 2781, section 3.2).
+    /// Writes the byte order mark, which UTF-16 begins with (RFC 2781, section 3.2); right after `begin`,
+    /// and in UTF-16 alone. Always answers `Ok`.
     pub fn write_bom(&mut self) -> Result<(), yaml_error_t>
         requires { self.old.mark_due ≡ true }
         ensures ok { IsOk result }
@@ -97,7 +101,8 @@ impl<A: Allocator> Pen<A> {
         Ok(())
     }
 
-    /// Hands out all that is written.
+    /// Hands out all that is written. Where it passes the limit, the output is filled up to the limit; where
+    /// memory is refused, the output is as before. Takes no memory where all is handed out.
     pub fn flush(&mut self) -> Result<(), yaml_error_t>
         requires { self.old.mark_due ≡ false }
         ensures flushed { Flushed self.old self.new result }
@@ -122,24 +127,28 @@ impl<A: Allocator> Pen<A> {
         self.outlet.error()
     }
 
+    /// Says whether white space stands before the cursor.
     pub fn set_whitespace(&mut self, whitespace: bool)
         ensures { self.new ≡ record self.old { cursor = record self.old.cursor { whitespace = whitespace } } }
     {
         self.whitespace = whitespace;
     }
 
+    /// Says whether nothing but indentation, and indicators that may stand in it, stands before the cursor.
     pub fn set_indention(&mut self, indention: bool)
         ensures { self.new ≡ record self.old { cursor = record self.old.cursor { indention = indention } } }
     {
         self.indention = indention;
     }
 
+    /// Whether white space stands before the cursor.
     pub fn whitespace(&self) -> bool
         ensures { result ≡ self.now.cursor.whitespace }
     {
         self.whitespace
     }
 
+    /// Whether nothing but indentation, and indicators that may stand in it, stands before the cursor.
     pub fn indention(&self) -> bool
         ensures { result ≡ self.now.cursor.indention }
     {
