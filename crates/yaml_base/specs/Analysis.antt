@@ -28,6 +28,7 @@ abbrev pub begins_with : (ℕ → Bool) → Text → Bool
 begins_with test [] = false
 begins_with test (c ∷ rest) = test c
 
+-- the text holds no character
 abbrev pub is_empty : Text → Bool
 is_empty [] = true
 is_empty (c ∷ rest) = false
@@ -98,6 +99,7 @@ abbrev pub allows_plain : Charset → Bool → Text → Bool
 allows_plain charset flow value =
     not (is_empty value && flow) && not (begins_unlike_plain value || somewhere (bars_plain charset flow) value)
 
+-- single quotes; the empty value too
 abbrev pub allows_single_quoted : Charset → Text → Bool
 allows_single_quoted charset value = not (somewhere (bars_single_quoted charset) value)
 

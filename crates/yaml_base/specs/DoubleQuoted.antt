@@ -3,9 +3,11 @@ use Rattle.std.specs.Prelude.{ℕ, Bool, true, false, Option, None, Some, List, 
 use Rattle.yaml_base.specs.Characters.{Text, hex_digits, is_ascii, is_break, is_printable, is_space, space}
 use Rattle.yaml_base.specs.Cursor.{Cursor, Laid, indicator, is_past_width, new_line, nothing_laid, space_if, text_laid, then_laid}
 
+-- U+0022
 abbrev pub quote : ℕ
 quote = 0x22
 
+-- U+005C
 abbrev pub backslash : ℕ
 backslash = 0x5C
 
@@ -14,6 +16,7 @@ pub record ShortEscape : Type 0 where
   pub character : ℕ
   pub letter : ℕ
 
+-- an entry of the table below
 abbrev pub short : (character letter : ℕ) → ShortEscape
 short character letter = record { character = character; letter = letter }
 
@@ -25,6 +28,7 @@ short_escapes =
     ∷ short 0xD 114 ∷ short 0x1B 101 ∷ short 0x22 0x22 ∷ short 0x5C 0x5C ∷ short 0x85 78 ∷ short 0xA0 95
     ∷ short 0x2028 76 ∷ short 0x2029 80 ∷ []
 
+-- the letter of a character that the table holds
 abbrev pub letter_among : List ShortEscape → ℕ → Option ℕ
 letter_among [] c = None
 letter_among (entry ∷ more) c = if c == entry.character then Some entry.letter else letter_among more c
@@ -35,6 +39,7 @@ escape_after_backslash (Some letter) c = letter ∷ []
 escape_after_backslash None c =
     if nat_le c 0xFF then 120 ∷ hex_digits 2 c else (if nat_le c 0xFFFF then 117 ∷ hex_digits 4 c else 85 ∷ hex_digits 8 c)
 
+-- a backslash and what follows it
 abbrev pub escape_text : ℕ → Text
 escape_text c = backslash ∷ escape_after_backslash (letter_among short_escapes c) c
 

@@ -17,7 +17,7 @@ pub data QuoteStep : Type 0 where
   ends_quotes : QuoteStep
   has_no_reading : QuoteStep
 
--- the place in the second list where the first holds the character
+-- of two lists side by side: what the second holds where the first holds this character
 abbrev pub meaning_among : (letters meanings : Text) → ℕ → Option ℕ
 meaning_among (letter ∷ letters) (meaning ∷ meanings) c =
     if c == letter then Some meaning else meaning_among letters meanings c
@@ -48,16 +48,19 @@ is_scalar_number n = nat_lt n 0xD800 || is_between 0xE000 0x10FFFF n
 abbrev pub number_step : ℕ → QuoteStep
 number_step n = if is_scalar_number n then gives (itself n) else has_no_reading
 
+-- one digit more: the number grows, and is complete where no digit follows
 abbrev pub digit_step : (more number : ℕ) → Option ℕ → QuoteStep
 digit_step more number None = has_no_reading
 digit_step zero number (Some digit) = number_step (number * 16 + digit)
 digit_step (suc more) number (Some digit) = goes_on (within_digits more (number * 16 + digit))
 
+-- after a backslash: a letter's meaning, or the digits that its letter asks for
 abbrev pub escape_step : (meaning digits : Option ℕ) → QuoteStep
 escape_step (Some meaning) digits = gives (itself meaning)
 escape_step None (Some more) = goes_on (within_digits more 0)
 escape_step None None = has_no_reading
 
+-- at each place one character decides
 abbrev pub quote_step : Bool → QuotePlace → ℕ → QuoteStep
 quote_step breaks12 between c =
     if c == 0x22 then ends_quotes else (if c == 0x5C then goes_on after_backslash else gives (unit_of breaks12 c))
@@ -74,6 +77,7 @@ pub record QuotedReading : Type 0 where
   pub value : Text
   pub rest : Text
 
+-- a unit before what was read
 abbrev pub with_unit : FoldUnit → Option Quoted → Option Quoted
 with_unit unit None = None
 with_unit unit (Some quoted) = Some (record { units = unit ∷ quoted.units; rest = quoted.rest })
@@ -91,6 +95,7 @@ quoted_from breaks12 place [] = None
 quoted_from breaks12 place (c ∷ rest) =
     after_step (quote_step breaks12 place c) (λ next. quoted_from breaks12 next rest) rest
 
+-- the units fold to a value
 abbrev pub quoted_reading : Option Quoted → Option QuotedReading
 quoted_reading None = None
 quoted_reading (Some quoted) = Some (record { value = folding_read quoted.units; rest = quoted.rest })
@@ -101,10 +106,12 @@ double_quoted_front breaks12 [] = None
 double_quoted_front breaks12 (c ∷ rest) =
     if c == 0x22 then quoted_reading (quoted_from breaks12 between rest) else None
 
+-- a value counts where nothing follows it
 abbrev pub value_before : (rest value : Text) → Option Text
 value_before [] value = Some value
 value_before (c ∷ rest) value = None
 
+-- a reading that leaves nothing
 abbrev pub value_alone : Option QuotedReading → Option Text
 value_alone None = None
 value_alone (Some reading) = value_before reading.rest reading.value

@@ -13,6 +13,7 @@ abbrev pub lacks_tag_and_flags : (tag_written plain_implicit quoted_implicit : B
 lacks_tag_and_flags tag_written plain_implicit quoted_implicit =
     not tag_written && not plain_implicit && not quoted_implicit
 
+-- the style is plain
 abbrev pub is_plain : ScalarStyle → Bool
 is_plain plain = true
 is_plain _ = false
