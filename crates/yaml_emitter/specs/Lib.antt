@@ -7,3 +7,5 @@ pub mod Stages
 pub mod InForce
 pub mod Nesting
 pub mod WrittenPieces
+pub mod State
+pub mod Inside

@@ -1,9 +1,10 @@
 //! What the caller sets, and what it comes to at the stream's start.
 
-ghost use Rattle.std.specs.Prelude.{◌≡◌, ◌≤◌, Some, unwrap_or};
+ghost use Rattle.std.specs.Prelude.{◌≡◌, ◌≤◌, pos, ◌≤ℤ◌, IsSome, Some, unwrap_or};
 ghost use Rattle.yaml_base.specs.Settings.{effective, effective_encoding, effective_indent, effective_width, line_feed_break};
 ghost use Rattle.yaml_base.specs.Seen.{seen_encoding, seen_break};
 ghost use Rattle.yaml_emitter.specs.Given.{nothing_given, seen_width, seen_given, seen_effective};
+ghost use Rattle.yaml_emitter.specs.Reach.{IsInForce};
 
 use yaml_base::{
     YAML_ANY_BREAK, YAML_ANY_ENCODING, YAML_LN_BREAK, YAML_UTF8_ENCODING, yaml_break_t,
@@ -53,7 +54,8 @@ fn indent_of(given: Option<i32>) -> u32
 /// A negative width is no limit; up to twice the indent it becomes 80.
 fn width_of(given: Option<i32>, indent: u32) -> i32
     requires { indent ≤ 9 }
-    ensures { seen_width result ≡ effective_width given indent }
+    ensures gives { seen_width result ≡ effective_width given indent }
+    ensures counts { pos 0 ≤ℤ result }
 {
     let least = 2 * indent as i32;
     match given {
@@ -106,7 +108,10 @@ impl GivenSettings {
 
     /// What the settings come to for a stream that begins with this encoding.
     pub(crate) fn effective(&self, of_stream: yaml_encoding_t) -> EffectiveSettings
-        ensures { seen_effective result ≡ effective (seen_given self.now) (seen_encoding of_stream) }
+        ensures gives { seen_effective result ≡ effective (seen_given self.now) (seen_encoding of_stream) }
+        ensures in_force { IsInForce result }
+        ensures encoding { IsSome (seen_encoding result.encoding) }
+        ensures line_break { IsSome (seen_break result.line_break) }
     {
         let indent = indent_of(self.indent);
         EffectiveSettings {

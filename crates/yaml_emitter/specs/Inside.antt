@@ -1,0 +1,34 @@
+-- What an emitter holds, and what contracts see of it.
+use Rattle.std.specs.Prelude.{◌≡◌, ◌≤◌, false, vec_len, vec_capacity}
+use Rattle.yaml_base.specs.Seen.{seen_events}
+use Rattle.yaml_pen.specs.Page.{IsUntouched}
+use Rattle.yaml_emitter.specs.Given.{seen_given, seen_effective}
+use Rattle.yaml_emitter.specs.Reach.{IsInForce}
+use Rattle.yaml_emitter.specs.Stages.{seen_stage}
+use Rattle.yaml_emitter.specs.State.{State, AreHandles}
+use Rattle.yaml_emitter.specs.declared.emitter.yaml_emitter_t.TheInside.{Inside}
+
+abbrev pub state_of : {A : Type 0} → Inside A → State
+state_of e =
+    record {
+      given = seen_given e.given;
+      settings = seen_effective e.settings;
+      started = e.started;
+      has_output = e.has_output;
+      opened = e.opened;
+      closed = e.closed;
+      held = seen_events e.queue.items;
+      stage = seen_stage e.stage e.directives e.frames;
+      mark = e.mark;
+      page = e.pen;
+      error = e.error;
+    }
+
+-- the settings in force are in range, no more than three events wait where four find room, nothing is written
+-- before an output is set, and the handles in force are in order
+pub record IsEmitter {A : Type 0} (e : Inside A) : Type 0 where
+  pub in_force : IsInForce e.settings
+  pub few_wait : vec_len e.queue ≤ 3
+  pub room : 4 ≤ vec_capacity e.queue
+  pub untouched : e.has_output ≡ false → IsUntouched e.pen
+  pub handles : AreHandles e.directives

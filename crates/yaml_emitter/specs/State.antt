@@ -1,0 +1,60 @@
+-- What contracts see of an emitter.
+use Rattle.std.specs.Prelude.{◌≡◌, ℕ, ◌≤◌, Bool, true, false, not, ◌||◌, is_some, Option, None, List, [], length}
+use Rattle.std.specs.List.{list_all}
+use Rattle.std.specs.Prelude.{is_none}
+use Rattle.yaml_base.specs.Settings.{Settings, Effective, effective}
+use Rattle.yaml_base.specs.Event.{TagDirective, Event}
+use Rattle.yaml_base.specs.Tags.{handle_fault}
+use Rattle.yaml_base.specs.Layout.{Standing}
+use Rattle.yaml_base.specs.Steps.{Stage, at_stream}
+use Rattle.yaml_base.specs.declared.errors.yaml_error_t.{yaml_error_t}
+use Rattle.yaml_pen.specs.Page.{Page, new_page}
+use Rattle.yaml_emitter.specs.Given.{nothing_given}
+
+-- what was set, and what it came to at the stream's start; whether an event was given, an output set, the stream
+-- opened and closed; the events that wait; what may come next; the open mark; the text so far, its cursor and the
+-- bytes handed out; the first error
+pub record State : Type 0 where
+  pub given : Settings
+  pub settings : Effective
+  pub started : Bool
+  pub has_output : Bool
+  pub opened : Bool
+  pub closed : Bool
+  pub held : List Event
+  pub stage : Stage
+  pub mark : ℕ
+  pub page : Page
+  pub error : Option yaml_error_t
+
+abbrev pub new_state : State
+new_state =
+    record {
+      given = nothing_given;
+      settings = effective nothing_given None;
+      started = false;
+      has_output = false;
+      opened = false;
+      closed = false;
+      held = [];
+      stage = at_stream;
+      mark = 0;
+      page = new_page 18446744073709551615;
+      error = None;
+    }
+
+-- where writing stands
+abbrev pub standing_of : State → Standing
+standing_of state = record { cursor = state.page.cursor; mark = state.mark }
+
+-- handles in force are in order
+abbrev pub AreHandles : List TagDirective → Type 0
+AreHandles directives = list_all (λ directive. is_none (handle_fault directive.handle)) directives ≡ true
+
+abbrev pub is_at_stream : Stage → Bool
+is_at_stream at_stream = true
+is_at_stream _ = false
+
+-- the encoding is known once it was set, or the stream has begun
+abbrev pub knows_encoding : State → Bool
+knows_encoding state = is_some state.given.encoding || not (is_at_stream state.stage)

@@ -1,0 +1,134 @@
+//! What the caller sets before the stream, and what it may ask.
+
+ghost use Rattle.std.specs.Prelude.{◌≡◌, ◌↔◌, IsTrue, Some, None, false, true, length};
+ghost use Rattle.yaml_base.specs.Seen.{seen_break, seen_encoding};
+ghost use Rattle.yaml_emitter.specs.State.{knows_encoding};
+
+use crate::emitter::yaml_emitter_t;
+use crate::stage::Stage;
+use std::alloc::Allocator;
+use yaml_base::{YAML_ANY_ENCODING, yaml_break_t, yaml_encoding_t, yaml_error_t};
+
+/// Consumes the emitter and its output.
+pub fn yaml_emitter_delete<A: Allocator>(emitter: yaml_emitter_t<A>) {
+    drop(emitter);
+}
+
+/// Sets an output of at most so many bytes.
+pub fn yaml_emitter_set_output_string<A: Allocator>(emitter: &mut yaml_emitter_t<A>, size: usize)
+    requires { emitter.old.has_output ≡ false }
+    ensures {
+        emitter.new
+        ≡ record emitter.old {
+            has_output = true;
+            given = record emitter.old.given { limit = size };
+            page = record emitter.old.page { limit = size };
+        }
+    }
+{
+    emitter.pen.set_limit(size);
+    emitter.given.limit = size;
+    emitter.has_output = true;
+}
+
+/// Sets the encoding; ANY leaves it to the stream's start, and then to UTF-8.
+pub fn yaml_emitter_set_encoding<A: Allocator>(
+    emitter: &mut yaml_emitter_t<A>,
+    encoding: yaml_encoding_t,
+)
+    requires not_started { emitter.old.started ≡ false }
+    requires unset { emitter.old.given.encoding ≡ None }
+    ensures { emitter.new ≡ record emitter.old { given = record emitter.old.given { encoding = seen_encoding encoding } } }
+{
+    emitter.given.encoding = encoding;
+}
+
+/// Sets whether the output is canonical: in flow, double-quoted, every tag written.
+pub fn yaml_emitter_set_canonical<A: Allocator>(emitter: &mut yaml_emitter_t<A>, canonical: bool)
+    requires { emitter.old.started ≡ false }
+    ensures { emitter.new ≡ record emitter.old { given = record emitter.old.given { canonical = canonical } } }
+{
+    emitter.given.canonical = canonical;
+}
+
+/// Sets the indent in columns; 2 to 9 is kept, any other becomes 2.
+pub fn yaml_emitter_set_indent<A: Allocator>(emitter: &mut yaml_emitter_t<A>, indent: i32)
+    requires { emitter.old.started ≡ false }
+    ensures { emitter.new ≡ record emitter.old { given = record emitter.old.given { indent = Some indent } } }
+{
+    emitter.given.indent = Some(indent);
+}
+
+/// Sets the column, in characters, past which lines are folded; a negative one is no limit.
+pub fn yaml_emitter_set_width<A: Allocator>(emitter: &mut yaml_emitter_t<A>, width: i32)
+    requires { emitter.old.started ≡ false }
+    ensures { emitter.new ≡ record emitter.old { given = record emitter.old.given { width = Some width } } }
+{
+    emitter.given.width = Some(width);
+}
+
+/// Sets whether printable characters past ASCII stand as themselves.
+pub fn yaml_emitter_set_unicode<A: Allocator>(emitter: &mut yaml_emitter_t<A>, unicode: bool)
+    requires { emitter.old.started ≡ false }
+    ensures { emitter.new ≡ record emitter.old { given = record emitter.old.given { unicode = unicode } } }
+{
+    emitter.given.unicode = unicode;
+}
+
+/// Sets the line break; ANY is LF.
+pub fn yaml_emitter_set_break<A: Allocator>(
+    emitter: &mut yaml_emitter_t<A>,
+    line_break: yaml_break_t,
+)
+    requires { emitter.old.started ≡ false }
+    ensures { emitter.new ≡ record emitter.old { given = record emitter.old.given { line_break = seen_break line_break } } }
+{
+    emitter.given.line_break = line_break;
+}
+
+impl<A: Allocator> yaml_emitter_t<A> {
+    /// Whether an event was given.
+    pub fn is_started(&self) -> bool
+        ensures { result ≡ self.now.started }
+    {
+        self.started
+    }
+
+    /// Whether an output was set.
+    pub fn has_output(&self) -> bool
+        ensures { result ≡ self.now.has_output }
+    {
+        self.has_output
+    }
+
+    /// Whether the encoding was set, or the stream has begun.
+    pub fn encoding_known(&self) -> bool
+        ensures { result ≡ knows_encoding self.now }
+    {
+        match self.stage {
+            Stage::Stream => self.given.encoding != YAML_ANY_ENCODING,
+            _ => true,
+        }
+    }
+
+    /// The bytes that were handed out; empty where no output is set.
+    pub fn output(&self) -> &[u8]
+        ensures { result.now ≡ self.now.page.output }
+    {
+        self.pen.output()
+    }
+
+    /// The first error.
+    pub fn error(&self) -> Option<yaml_error_t>
+        ensures { result ≡ self.now.error }
+    {
+        self.error
+    }
+
+    /// The number of events that wait.
+    pub fn held(&self) -> usize
+        ensures { result ≡ length self.now.held }
+    {
+        self.queue.len()
+    }
+}
