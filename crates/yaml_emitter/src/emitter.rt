@@ -1,6 +1,6 @@
 //! The emitter: what it holds, and what its caller sets.
 
-ghost use Rattle.std.specs.Prelude.{◌≡◌, ◌↔◌, IsOk, IsTrue, IfOk, IfErr, Some, None, length};
+ghost use Rattle.std.specs.Prelude.{◌≡◌, ◌↔◌, IsOk, IsTrue, IfOk, IfErr, Some, None, [], ◌≤◌, vec_len, vec_capacity};
 ghost use Rattle.yaml_base.specs.Seen.{seen_break, seen_encoding};
 ghost use Rattle.yaml_emitter.specs.State.{State, new_state};
 
@@ -55,8 +55,7 @@ pub fn yaml_emitter_initialize<A: Allocator + Copy>(
 {
     let given = GivenSettings::new();
     let pen = Pen::new(alloc)?;
-    let mut queue = Vec::new(alloc);
-    queue.reserve(4).map_err(|_| yaml_error_t::Memory)?;
+    let queue = room_for_four(alloc)?;
     Ok(yaml_emitter_t {
         alloc,
         given,
@@ -73,4 +72,14 @@ pub fn yaml_emitter_initialize<A: Allocator + Copy>(
         pen,
         error: None,
     })
+}
+
+fn room_for_four<A: Allocator + Copy>(alloc: A) -> Result<Vec<yaml_event_t<A>, A>, yaml_error_t>
+    ensures empty { IfOk result (λ queue. queue.items ≡ []) }
+    ensures room { IfOk result (λ queue. (vec_len queue ≡ 0) × (4 ≤ vec_capacity queue)) }
+    ensures memory { IfErr result (λ error. error ≡ yaml_error_t.Memory) }
+{
+    let mut queue = Vec::new(alloc);
+    queue.reserve(4).map_err(|_| yaml_error_t::Memory)?;
+    Ok(queue)
 }

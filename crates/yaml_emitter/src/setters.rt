@@ -17,14 +17,12 @@ pub fn yaml_emitter_delete<A: Allocator>(emitter: yaml_emitter_t<A>) {
 /// Sets an output of at most so many bytes.
 pub fn yaml_emitter_set_output_string<A: Allocator>(emitter: &mut yaml_emitter_t<A>, size: usize)
     requires { emitter.old.has_output ≡ false }
-    ensures {
-        emitter.new
+    ensures { emitter.new
         ≡ record emitter.old {
-            has_output = true;
-            given = record emitter.old.given { limit = size };
-            page = record emitter.old.page { limit = size };
-        }
-    }
+          has_output = true;
+          given = record emitter.old.given { limit = size };
+          page = record emitter.old.page { limit = size };
+        } }
 {
     emitter.pen.set_limit(size);
     emitter.given.limit = size;

@@ -33,9 +33,7 @@ pub(crate) fn write_document_start<A: Allocator>(
 ) -> Result<(), yaml_error_t>
     requires ready { IsReady pen.old }
     requires handles { some_handle_breaks (map seen_directive directives.now) ≡ false }
-    ensures {
-        Wrote (piece_at (document_start_piece canonical first record { version = option_map seen_version version; directives = map seen_directive directives.now; implicit = implicit }) (seen_mark mark)) pen.old pen.new result
-    }
+    ensures { Wrote (piece_at (document_start_piece canonical first record { version = option_map seen_version version; directives = map seen_directive directives.now; implicit = implicit }) (seen_mark mark)) pen.old pen.new result }
 {
     let directed = has_directives(version, directives);
     let explicit = is_explicit(canonical, first, implicit, directed);

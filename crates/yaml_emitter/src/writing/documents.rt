@@ -41,7 +41,10 @@ pub(crate) fn write_stream_end<A: Allocator>(
 }
 
 /// `...` on a line of its own, where it is asked for.
-pub(crate) fn write_closing_mark<A: Allocator>(pen: &mut Pen<A>, asked: bool) -> Result<(), yaml_error_t>
+pub(crate) fn write_closing_mark<A: Allocator>(
+    pen: &mut Pen<A>,
+    asked: bool,
+) -> Result<(), yaml_error_t>
     requires { IsReady pen.old }
     ensures { Wrote (laid_if asked closing_mark_laid) pen.old pen.new result }
 {
@@ -77,10 +80,7 @@ pub(crate) fn write_document_mark<A: Allocator>(
     }
 }
 
-fn write_new_document<A: Allocator>(
-    pen: &mut Pen<A>,
-    canonical: bool,
-) -> Result<(), yaml_error_t>
+fn write_new_document<A: Allocator>(pen: &mut Pen<A>, canonical: bool) -> Result<(), yaml_error_t>
     requires { IsReady pen.old }
     ensures { Wrote (document_mark_laid canonical) pen.old pen.new result }
 {

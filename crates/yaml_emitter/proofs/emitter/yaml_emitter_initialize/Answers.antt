@@ -1,0 +1,16 @@
+use Rattle.std.proofs.Common.{rules, refl, subst, sym, arith}
+use Rattle.yaml_pen.specs.Page.{Page, IsUntouched, new_page}
+use Rattle.yaml_emitter.proofs.emitter.yaml_emitter_initialize.Goals as goal
+
+untouched_new : IsUntouched (new_page 18446744073709551615)
+untouched_new = record { no_bytes = refl; no_error = refl }
+
+pub invariant_of-result : goal.invariant_of-result
+invariant_of-result g c =
+    record {
+      in_force = search rules;
+      few_wait = omega (arith, c.in_ok-queue.ensures.room.0);
+      room = c.in_ok-queue.ensures.room.1;
+      untouched = λ _. subst (λ (p : Page). IsUntouched p) (sym c.in_ok-pen.ensures.made) untouched_new;
+      handles = search rules;
+    }
