@@ -1,6 +1,6 @@
 -- A plain body reads as its value, and its later lines are indented.
-use Rattle.std.proofs.Common.{◌≡◌, refl, sym, ap, ◌∙◌, ℕ, ◌≤◌, List, [], ◌∷◌, ◌++◌, Bool, true, false, append-nil}
-use Rattle.std.specs.Prelude.{Option, None, Some, ◌==◌, ◌||◌, ◌&&◌, not, if◌then◌else◌, map}
+use Rattle.std.proofs.Common.{◌≡◌, refl, ap, ◌∙◌, ℕ, ◌≤◌, [], ◌∷◌, ◌++◌, Bool, true, false, append-nil}
+use Rattle.std.specs.Prelude.{Option, Some, ◌&&◌, map}
 use Rattle.std.proofs.lemmas.Bool.{and_parts, or_parts, or_from, not-true}
 use Rattle.std.proofs.Math.Bool.{and-false}
 use Rattle.yaml_base.specs.Characters.{Text, is_break, is_space}
@@ -13,12 +13,13 @@ use Rattle.yaml_base.specs.ReadFolding.{unit_of, folding_read}
 use Rattle.yaml_base.specs.ReadPlain.{begins_no_plain, holds_no_plain, read_plain}
 use Rattle.yaml_base.proofs.BreakLaws.{breaks-round, indented-written}
 use Rattle.yaml_scalar.specs.LineSteps.{steps_laid}
-use Rattle.yaml_scalar.proofs.QuotingSteps.{WritesEach, runs_by_steps}
-use Rattle.yaml_scalar.proofs.QuotingText.{bare_steps, bare_written, any_bare}
-use Rattle.yaml_scalar.proofs.QuotingFolds.{folding_reads, is_return, no_returns, laid_without_returns}
-use Rattle.yaml_scalar.proofs.QuotingIndents.{lines_indented}
+use Rattle.yaml_scalar.proofs.LineRuns.{WritesEach, runs_by_steps}
+use Rattle.yaml_scalar.proofs.LineTexts.{bare_steps, bare_written, any_bare}
+use Rattle.yaml_scalar.proofs.LineFolds.{folding_reads, is_return, no_returns, laid_without_returns}
+use Rattle.yaml_scalar.proofs.LineIndents.{lines_indented}
 use Rattle.yaml_scalar.proofs.PlainStarts.{lines_begin, lines_full, lines_hold}
 
+-- plain characters are written one by one
 pub itself_writes : WritesEach (λ text. text)
 itself_writes = record {
   nothing = refl;
@@ -31,6 +32,7 @@ itself_writes = record {
 abbrev lines : (limit : Option ℕ) (indent : ℕ) (value : Text) → Cursor → Text
 lines limit indent value cursor = bare_steps (λ text. text) limit indent spaces value cursor
 
+-- a body is its lines
 body-lines :
     (limit : Option ℕ) (indent : ℕ) (value : Text) (cursor : Cursor) →
     (plain_body limit indent value cursor).text ≡ lines limit indent value cursor
@@ -40,6 +42,7 @@ body-lines limit indent value cursor =
       bare_written (λ text. text) itself_writes limit indent spaces value cursor,
     )
 
+-- a value that allows plain text begins with no break
 no_break_begins :
     (charset : Charset) (flow : Bool) (value : Text) →
     somewhere (bars_plain charset flow) value ≡ false →
@@ -65,12 +68,14 @@ plain_is_single charset flow (c ∷ rest) clean =
     (or_from _ _ (or_from _ _ to_break.0 trailing) leading)
     (plain_is_single charset flow rest parts.1)
 
+-- it holds nothing that bars plain text
 plain_bars :
     (charset : Charset) (flow : Bool) (value : Text) →
     allows_plain charset flow value ≡ true →
     somewhere (bars_plain charset flow) value ≡ false
 plain_bars charset flow value allowed = (or_parts _ _ (not-true _ (and_parts _ _ allowed).1)).1
 
+-- it begins with nothing that bars plain text
 plain_begins :
     (charset : Charset) (flow : Bool) (value : Text) →
     allows_plain charset flow value ≡ true →
@@ -98,6 +103,7 @@ unbarred_read :
 unbarred_read breaks12 flow [] full begins holds = simp full
 unbarred_read breaks12 flow (c ∷ rest) full begins holds = simp (begins, holds)
 
+-- the lines of such a value are read by folding
 value_reads :
     (charset : Charset) (flow : Bool) (limit : Option ℕ) (indent : ℕ) (value : Text) (cursor : Cursor) →
     allows_plain charset flow value ≡ true →

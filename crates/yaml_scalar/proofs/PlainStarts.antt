@@ -1,16 +1,16 @@
 -- Where plain lines begin as the value does, and hold no sign that plain text may not hold.
-use Rattle.std.proofs.Common.{◌≡◌, refl, sym, ap, ◌∙◌, subst, ℕ, suc, zero, List, [], ◌∷◌, ◌++◌, Bool, true, false, append_assoc, true≢false}
+use Rattle.std.proofs.Common.{◌≡◌, refl, sym, ap, ◌∙◌, subst, ℕ, suc, zero, [], ◌∷◌, ◌++◌, Bool, true, false, true≢false}
 use Rattle.std.specs.Prelude.{Option, ◌==◌, ◌||◌, ◌&&◌, not, if◌then◌else◌, codes}
 use Rattle.std.proofs.lemmas.Bool.{eqb-true, or_parts, or_from}
 use Rattle.std.proofs.Math.Bool.{and-false, and-true, and_assoc}
-use Rattle.yaml_base.specs.Characters.{Text, is_among, is_blank, is_break, is_space, line_feed, line_separator, paragraph_separator, space}
+use Rattle.yaml_base.specs.Characters.{Text, is_among, is_blank, is_break, is_space, line_feed, space}
 use Rattle.yaml_base.specs.Cursor.{Cursor, text_laid, is_past_width}
 use Rattle.yaml_base.specs.Analysis.{Charset, bars_plain, begins_like_mark, begins_unlike_plain, begins_with, ends_word, is_empty, is_gap, somewhere}
 use Rattle.yaml_base.specs.Plain.{Kind, spaces, breaks, others, kind_of, is_same_kind, indentation}
 use Rattle.yaml_base.specs.ReadPlain.{begins_no_plain, begins_with_three, begins_white, begins_with_hash, holds_no_plain, is_read_white}
 use Rattle.yaml_scalar.specs.LineSteps.{begins_kind, step_text}
-use Rattle.yaml_scalar.proofs.QuotingText.{bare_steps}
-use Rattle.yaml_scalar.proofs.QuotingFolds.{spaces_only, breaks_only}
+use Rattle.yaml_scalar.proofs.LineTexts.{bare_steps}
+use Rattle.yaml_scalar.proofs.LineFolds.{spaces_only, breaks_only}
 
 -- what a reader takes for white space is a gap to a writer
 gap_by :
@@ -28,10 +28,12 @@ gap_by false false false false true false true zero_sign breaks12 e = cc
 gap_by false false false false false true ps zero_sign breaks12 e = cc
 gap_by false false false false false false true zero_sign breaks12 e = cc
 
+-- what is no gap is no white space to a reader
 pub white_is_gap : (breaks12 : Bool) (c : ℕ) → is_gap c ≡ false → is_read_white breaks12 c ≡ false
 white_is_gap breaks12 c e =
     gap_by (c == 32) (c == 9) (c == 10) (c == 13) (c == 0x85) (c == 0x2028) (c == 0x2029) (c == 0) breaks12 e
 
+-- a break is a gap
 break_is_gap : (c : ℕ) → is_break c ≡ true → is_gap c ≡ false → false ≡ true
 break_is_gap c b e =
     let parts = or_parts (is_blank c) (is_break c) (or_parts (is_blank c || is_break c) (c == 0) e).0 in
@@ -49,6 +51,7 @@ step_white breaks12 folds indent before breaks c rest text k e =
     absurd (true≢false (sym (break_is_gap c (breaks_only (is_space c) (is_break c) k) e)))
 step_white breaks12 folds indent before others c rest text k e = white_is_gap breaks12 c e
 
+-- lines begin white only where the value begins with a gap
 pub lines_white :
     (breaks12 : Bool) (written : Text → Text) (limit : Option ℕ) (indent : ℕ) (before : Kind) (rest : Text) (cursor : Cursor) →
     ends_word rest ≡ false →
@@ -64,6 +67,7 @@ hash_of_fold :
 hash_of_fold true indent text = refl
 hash_of_fold false indent text = refl
 
+-- a break begins with no `#`
 hash_of_break :
     (doubled : Bool) (c : ℕ) (more text : Text) →
     (c == 35) ≡ false →
@@ -71,6 +75,7 @@ hash_of_break :
 hash_of_break true c more text e = refl
 hash_of_break false c more text e = e
 
+-- a step begins with `#` only where its character is it
 step_hash :
     (folds : Bool) (indent : ℕ) (before kind : Kind) (c : ℕ) (rest text : Text) →
     kind_of c ≡ kind →
@@ -83,6 +88,7 @@ step_hash folds indent before breaks c rest text k e =
     hash_of_break (c == line_feed && not (is_same_kind before breaks)) c _ text e
 step_hash folds indent before others c rest text k e = e
 
+-- lines begin with `#` only where the value does
 pub lines_hash :
     (written : Text → Text) (limit : Option ℕ) (indent : ℕ) (before : Kind) (rest : Text) (cursor : Cursor) →
     begins_with (λ c. c == 35) rest ≡ false →
@@ -114,6 +120,7 @@ kept_holds breaks12 flow c rest text signs in_flow white hash later =
     (white_is_gap breaks12 c) hash parts.1 in
     or_from _ _ (or_from _ _ (or_from _ _ key comment) in_flow) later
 
+-- indentation brings no `#` to the front
 indented_hash :
     (indent : ℕ) (text : Text) → begins_with_hash text ≡ false → begins_with_hash (indentation indent ++ text) ≡ false
 indented_hash zero text hash = hash
@@ -138,6 +145,7 @@ folded_holds :
 folded_holds breaks12 flow indent text hash later =
     simp (indented_hash indent text hash, and-false) (indented_holds breaks12 flow indent text hash later)
 
+-- nor does a space
 spaced_holds :
     (breaks12 flow folds : Bool) (indent : ℕ) (rest text : Text) →
     begins_with (λ d. d == 35) rest ≡ false →
@@ -150,6 +158,7 @@ spaced_holds breaks12 flow true indent rest text own white hash later =
 spaced_holds breaks12 flow false indent rest text own white hash later =
     kept_holds breaks12 flow space rest text own (and-false flow) white hash later
 
+-- nor does a step
 step_holds :
     (breaks12 flow folds : Bool) (indent : ℕ) (before kind : Kind) (c : ℕ) (rest text : Text) →
     kind_of c ≡ kind →
@@ -197,6 +206,7 @@ begins_times zero mark text = true
 begins_times (suc n) mark [] = false
 begins_times (suc n) mark (c ∷ rest) = c == mark && begins_times n mark rest
 
+-- three of a character, counted
 three_times : (mark : ℕ) (text : Text) → begins_with_three mark text ≡ begins_times 3 mark text
 three_times mark [] = refl
 three_times mark (a ∷ []) = sym (and-false (a == mark))
@@ -209,16 +219,19 @@ record IsSign (mark : ℕ) : Type 0 where
   no_feed : (line_feed == mark) ≡ false
   no_break : is_break mark ≡ false
 
+-- a break is no sign
 other_break : (mark c : ℕ) (same : Bool) → (c == mark) ≡ same → is_break mark ≡ false → is_break c ≡ true → same ≡ false
 other_break mark c false e m b = refl
 other_break mark c true e m b = sym b ∙ (ap is_break (eqb-true c mark e) ∙ m)
 
+-- no sign stands first in a space or fold
 fold_times :
     (mark : ℕ) → IsSign mark → (n : ℕ) (folds : Bool) (indent : ℕ) (text : Text) →
     begins_times (suc n) mark ((if folds then line_feed ∷ indentation indent else space ∷ []) ++ text) ≡ false
 fold_times mark sign n true indent text = simp sign.no_feed
 fold_times mark sign n false indent text = simp sign.no_space
 
+-- nor in a break
 break_times :
     (mark : ℕ) → IsSign mark → (n : ℕ) (doubled : Bool) (c : ℕ) (more text : Text) →
     (c == mark) ≡ false →
@@ -226,6 +239,7 @@ break_times :
 break_times mark sign n true c more text e = simp sign.no_feed
 break_times mark sign n false c more text e = simp e
 
+-- a step begins with a sign as its character does
 step_times :
     (mark : ℕ) → IsSign mark → (n : ℕ) (folds : Bool) (indent : ℕ) (before kind : Kind) (c : ℕ) (rest text : Text) →
     kind_of c ≡ kind →
@@ -250,10 +264,12 @@ times_kept mark sign (suc n) written limit indent before (c ∷ rest) cursor =
     step_times mark sign n (is_past_width limit cursor) indent before (kind_of c) c rest _ refl
     (times_kept mark sign n written limit indent (kind_of c) rest _)
 
+-- three dashes are a mark
 no_dashes : (a b c : ℕ) (is : Bool) → (a == 45) ≡ is → ((is || a == 46) && b == a && c == a) ≡ false → (is && b == 45 && c == 45) ≡ false
 no_dashes a b c false d e = refl
 no_dashes a b c true d e = subst (λ (n : ℕ). (b == n && c == n) ≡ false) (eqb-true a 45 d) e
 
+-- three dots are a mark
 no_dots : (a b c : ℕ) (is : Bool) → (a == 46) ≡ is → ((a == 45 || is) && b == a && c == a) ≡ false → (is && b == 46 && c == 46) ≡ false
 no_dots a b c false d e = refl
 no_dots a b c true d e =
@@ -266,12 +282,14 @@ dashes (a ∷ []) e = refl
 dashes (a ∷ b ∷ []) e = refl
 dashes (a ∷ b ∷ c ∷ rest) e = no_dashes a b c (a == 45) refl e
 
+-- nor with three dots
 dots : (value : Text) → begins_like_mark value ≡ false → begins_with_three 46 value ≡ false
 dots [] e = refl
 dots (a ∷ []) e = refl
 dots (a ∷ b ∷ []) e = refl
 dots (a ∷ b ∷ c ∷ rest) e = no_dots a b c (a == 46) refl e
 
+-- lines begin with three signs only where the value does
 lines_three :
     (mark : ℕ) → IsSign mark → (written : Text → Text) (limit : Option ℕ) (indent : ℕ) (before : Kind) (value : Text) (cursor : Cursor) →
     begins_with_three mark value ≡ false →
@@ -280,6 +298,7 @@ lines_three mark sign written limit indent before value cursor e =
     three_times mark (bare_steps written limit indent before value cursor)
     ∙ (times_kept mark sign 3 written limit indent before value cursor ∙ (sym (three_times mark value) ∙ e))
 
+-- what is neither a space nor a break is another character
 kind_of_sign : (s b : Bool) → s ≡ false → b ≡ false → (if s then spaces else if b then breaks else others) ≡ others
 kind_of_sign s b e f = rw (e, f)
 
@@ -292,6 +311,7 @@ first_kept :
 first_kept folds indent before c rest e f =
     ap (λ (kind : Kind). step_text (λ t. t) folds indent before kind c rest) (kind_of_sign (is_space c) (is_break c) e f)
 
+-- the lines of a value that isn't empty are not empty
 pub lines_full :
     (written : Text → Text) (limit : Option ℕ) (indent : ℕ) (before : Kind) (c : ℕ) (rest : Text) (cursor : Cursor) →
     begins_unlike_plain (c ∷ rest) ≡ false →

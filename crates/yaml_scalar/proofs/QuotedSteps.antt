@@ -12,7 +12,7 @@ use Rattle.yaml_pen.specs.Page.{Page}
 use Rattle.yaml_pen.specs.Wrote.{Wrote}
 use Rattle.yaml_scalar.specs.ReadsBack.{ReadsBack}
 use Rattle.yaml_scalar.proofs.DoubleReads.{double-indented, double-reads}
-use Rattle.yaml_scalar.proofs.QuotingBack.{body_back}
+use Rattle.yaml_scalar.proofs.LinesReadBack.{body_back}
 
 -- the quote as a text
 pub quote-text : chars (quote ∷ []) ≡ quote ∷ []

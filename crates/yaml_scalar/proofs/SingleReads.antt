@@ -1,36 +1,38 @@
 -- A single-quoted body reads as its value, and its later lines are indented.
-use Rattle.std.proofs.Common.{◌≡◌, refl, sym, ap, ◌∙◌, subst, ℕ, ◌≤◌, List, [], ◌∷◌, ◌++◌, Bool, true, false, append_assoc, append-nil}
-use Rattle.std.specs.Prelude.{Option, None, Some, ◌==◌, ◌||◌, ◌&&◌, not, if◌then◌else◌, map, option_map}
+use Rattle.std.proofs.Common.{◌≡◌, refl, sym, ap, ◌∙◌, ℕ, ◌≤◌, [], ◌∷◌, ◌++◌, Bool, true, false, append_assoc}
+use Rattle.std.specs.Prelude.{Option, Some, ◌==◌, if◌then◌else◌, map, option_map}
 use Rattle.std.specs.List.{list_any}
 use Rattle.std.proofs.lemmas.Bool.{eqb-true, not-true, or_parts}
 use Rattle.std.proofs.lemmas.List.Folds.{list_any-append}
-use Rattle.yaml_base.specs.Characters.{Text, is_break, carriage_return, next_line, is_printable}
+use Rattle.yaml_base.specs.Characters.{Text, is_break}
 use Rattle.yaml_base.specs.Cursor.{Cursor}
 use Rattle.yaml_base.specs.Settings.{LineBreak}
 use Rattle.yaml_base.specs.LineBreaks.{is_indented_text, is_laid_text, with_breaks_written, with_line_breaks_read}
-use Rattle.yaml_base.specs.Analysis.{Charset, allows_single_quoted, bars_single_quoted, somewhere}
+use Rattle.yaml_base.specs.Analysis.{Charset, allows_single_quoted}
 use Rattle.yaml_base.specs.Plain.{spaces}
 use Rattle.yaml_base.specs.SingleQuoted.{quotes_doubled, single_quote, single_quoted_body}
 use Rattle.yaml_base.specs.ReadFolding.{unit_of, folding_read}
 use Rattle.yaml_base.specs.ReadSingle.{unquoted, read_single}
 use Rattle.yaml_base.proofs.BreakLaws.{breaks-round, indented-written, laid-append}
 use Rattle.yaml_scalar.proofs.Unbroken.{is_unbroken}
-use Rattle.yaml_scalar.specs.LineSteps.{steps_laid}
-use Rattle.yaml_scalar.proofs.QuotingSteps.{WritesEach, runs_by_steps}
-use Rattle.yaml_scalar.proofs.QuotingText.{bare_steps, bare_written, any_bare, any_cond}
-use Rattle.yaml_scalar.proofs.QuotingFolds.{folding_reads, is_return, no_returns, laid_without_returns}
-use Rattle.yaml_scalar.proofs.QuotingIndents.{lines_indented}
+use Rattle.yaml_scalar.proofs.LineRuns.{WritesEach, runs_by_steps}
+use Rattle.yaml_scalar.proofs.LineTexts.{bare_steps, bare_written, any_bare, any_cond}
+use Rattle.yaml_scalar.proofs.LineFolds.{folding_reads, is_return, no_returns, laid_without_returns}
+use Rattle.yaml_scalar.proofs.LineIndents.{lines_indented}
 
+-- quotes are doubled part by part
 doubled-joined : (front rest : Text) → quotes_doubled (front ++ rest) ≡ quotes_doubled front ++ quotes_doubled rest
 doubled-joined [] rest = refl
 doubled-joined (c ∷ front) rest =
     ap (λ (t : Text). (if c == 39 then 39 ∷ 39 ∷ [] else c ∷ []) ++ t) (doubled-joined front rest)
     ∙ sym (append_assoc (if c == 39 then 39 ∷ 39 ∷ [] else c ∷ []) (quotes_doubled front) (quotes_doubled rest))
 
+-- and no break comes from it
 doubled-unbroken : (c : ℕ) (quote : Bool) → is_break c ≡ false → is_unbroken ((if quote then 39 ∷ 39 ∷ [] else c ∷ []) ++ []) ≡ true
 doubled-unbroken c true e = refl
 doubled-unbroken c false e = simp e
 
+-- quoted characters are written one by one
 pub doubled_writes : WritesEach quotes_doubled
 doubled_writes = record {
   nothing = refl;
@@ -39,10 +41,12 @@ doubled_writes = record {
   joined = doubled-joined;
 }
 
+-- another character than `'` stands for itself
 unquoted-other : (c : ℕ) (rest : Text) → (c == 39) ≡ false → unquoted (c ∷ rest) ≡ option_map (λ t. c ∷ t) (unquoted rest)
 unquoted-other c [] e = simp e
 unquoted-other c (d ∷ rest) e = simp e
 
+-- one character, doubled or not, before what is unquoted
 unquoted-step :
     (c : ℕ) (text after : Text) (quote : Bool) → (c == 39) ≡ quote → unquoted after ≡ Some text →
     unquoted ((if quote then 39 ∷ 39 ∷ [] else c ∷ []) ++ after) ≡ Some (c ∷ text)
@@ -60,6 +64,7 @@ unquoted-doubled (c ∷ rest) =
 abbrev inside : (limit : Option ℕ) (indent : ℕ) (value : Text) → Cursor → Text
 inside limit indent value cursor = bare_steps quotes_doubled limit indent spaces value (single_quote cursor).cursor
 
+-- a body is its lines between two quotes
 body-inside :
     (limit : Option ℕ) (indent : ℕ) (value : Text) (cursor : Cursor) →
     (single_quoted_body limit indent value cursor).text ≡ 39 ∷ (quotes_doubled (inside limit indent value cursor) ++ 39 ∷ [])
@@ -69,6 +74,7 @@ body-inside limit indent value cursor =
       bare_written quotes_doubled doubled_writes limit indent spaces value (single_quote cursor).cursor,
     )
 
+-- a test that holds nowhere in a text holds nowhere in it with quotes doubled
 any_doubled : (test : ℕ → Bool) → test 39 ≡ false → (text : Text) → list_any test text ≡ false → list_any test (quotes_doubled text) ≡ false
 any_doubled test quote [] clean = refl
 any_doubled test quote (c ∷ rest) clean =

@@ -4,7 +4,7 @@ use Rattle.std.proofs.lemmas.Str.{scalars-chars}
 use Rattle.std.specs.Str.{chars}
 use Rattle.yaml_pen.specs.Page.{natural}
 use Rattle.yaml_scalar.specs.Width.{limit_where}
-use Rattle.yaml_scalar.proofs.QuotingBack.{two_or_more}
+use Rattle.yaml_scalar.proofs.LinesReadBack.{two_or_more}
 use Rattle.yaml_scalar.proofs.QuotedSteps.{double_back}
 use Rattle.yaml_scalar.proofs.double_quoted.write_double_quoted_scalar.Goals as goal
 

@@ -1,4 +1,4 @@
-use Rattle.std.proofs.Common.{◌≡◌, ◌∙◌, ap, sym, ◌++◌, ◌+◌, ◌-◌, ◌∷◌, [], replicate, arith, subst, List, ℕ, Ok}
+use Rattle.std.proofs.Common.{◌≡◌, ◌∙◌, ap, sym, ◌++◌, ◌+◌, ◌-◌, ◌∷◌, [], arith, subst, List, ℕ, Ok}
 use Rattle.std.proofs.lemmas.List.{replicate_more, replicate-append-replicate}
 use Rattle.yaml_base.specs.Characters.{space}
 use Rattle.yaml_base.specs.Cursor.{text_laid}

@@ -1,4 +1,4 @@
-use Rattle.std.proofs.Common.{◌++◌, ◌∷◌, []}
+use Rattle.std.proofs.Common.{◌∷◌, []}
 use Rattle.std.specs.Prelude.{if◌then◌else◌}
 use Rattle.yaml_base.specs.Plain.{indentation}
 use Rattle.yaml_pen.proofs.Composing.{wrote_exit, wrote_text_then, wrote_text_failed}

@@ -1,4 +1,4 @@
-use Rattle.std.proofs.Common.{◌≡◌, ◌∙◌, ap, sym, subst, chars, List, ℕ, Ok, Err}
+use Rattle.std.proofs.Common.{◌∙◌, ap, sym, subst, chars, List, ℕ, Ok, Err}
 use Rattle.std.specs.Str.Iter.{chars_rest}
 use Rattle.std.proofs.lemmas.Str.{chars_past_char, IsUtf8-past_char, chars-nil}
 use Rattle.std.proofs.lemmas.List.{nil_from_length}
@@ -7,7 +7,7 @@ use Rattle.yaml_pen.specs.Wrote.{Wrote}
 use Rattle.yaml_pen.proofs.Composing.{wrote_exit}
 use Rattle.yaml_scalar.specs.LineSteps.{seen_kind, step_laid, written_as}
 use Rattle.yaml_scalar.specs.Width.{limit_where}
-use Rattle.yaml_scalar.proofs.QuotingWritten.{LinesBegun, lines_more, lines_failed, lines_whole, wrote_runs}
+use Rattle.yaml_scalar.proofs.LinesWritten.{LinesBegun, lines_more, lines_failed, lines_whole, wrote_runs}
 use Rattle.yaml_scalar.proofs.lines.write_lines.Goals as goal
 
 pub returns-in_err-write_step : goal.returns-in_err-write_step

@@ -2,7 +2,7 @@ use Rattle.std.proofs.Common.{IsUtf8, chars, length}
 use Rattle.std.specs.Str.Iter.{chars_rest}
 use Rattle.yaml_scalar.specs.LineSteps.{seen_kind, written_as}
 use Rattle.yaml_scalar.specs.Width.{limit_where}
-use Rattle.yaml_scalar.proofs.QuotingWritten.{LinesBegun}
+use Rattle.yaml_scalar.proofs.LinesWritten.{LinesBegun}
 use Rattle.yaml_scalar.proofs.lines.write_lines.Given as goal
 
 abbrev pub invariant-loop-character : goal.invariant-loop-character

@@ -2,7 +2,7 @@ use Rattle.std.proofs.Common.{ℕ, List, ◌∷◌, [], subst}
 use Rattle.yaml_base.specs.Cursor.{text_laid}
 use Rattle.yaml_pen.specs.Wrote.{Wrote}
 use Rattle.yaml_pen.proofs.Composing.{wrote_exit, wrote_text_then, wrote_text_failed}
-use Rattle.yaml_scalar.proofs.QuotingWritten.{quote_text}
+use Rattle.yaml_scalar.proofs.LinesWritten.{quote_text}
 use Rattle.yaml_scalar.proofs.lines.write_other.Goals as goal
 
 pub returns-in_err-write_extra_quote : goal.returns-in_err-write_extra_quote

@@ -1,9 +1,9 @@
-use Rattle.std.proofs.Common.{refl, false, Ok, Err, chars}
+use Rattle.std.proofs.Common.{refl, false, chars}
 use Rattle.yaml_base.specs.Cursor.{Cursor}
 use Rattle.yaml_base.specs.Plain.{plain_body}
 use Rattle.yaml_pen.proofs.Composing.{wrote_changing, wrote_exit, wrote_failed_as}
 use Rattle.yaml_scalar.specs.Width.{limit_where}
-use Rattle.yaml_scalar.proofs.QuotingWritten.{wrote_unquoted}
+use Rattle.yaml_scalar.proofs.LinesWritten.{wrote_unquoted}
 use Rattle.yaml_scalar.proofs.plain.write_body.Goals as goal
 
 pub returns-in_err-write_lines : goal.returns-in_err-write_lines

@@ -3,7 +3,7 @@ use Rattle.yaml_base.specs.Plain.{plain_laid}
 use Rattle.yaml_pen.specs.Page.{natural}
 use Rattle.yaml_pen.specs.Wrote.{Wrote}
 use Rattle.yaml_scalar.specs.Width.{limit_where}
-use Rattle.yaml_scalar.proofs.QuotingBack.{plain_back, two_or_more}
+use Rattle.yaml_scalar.proofs.LinesReadBack.{plain_back, two_or_more}
 use Rattle.yaml_scalar.proofs.plain.write_plain_scalar.Goals as goal
 
 pub returns-clause-reads : goal.returns-clause-reads

@@ -2,7 +2,7 @@ use Rattle.std.proofs.Common.{chars}
 use Rattle.yaml_base.specs.SingleQuoted.{single_quote}
 use Rattle.yaml_pen.proofs.Composing.{wrote_exit, wrote_failed, wrote_then}
 use Rattle.yaml_scalar.specs.Width.{limit_where}
-use Rattle.yaml_scalar.proofs.QuotingWritten.{after_quote, wrote_quoted, wrote_single}
+use Rattle.yaml_scalar.proofs.LinesWritten.{after_quote, wrote_quoted, wrote_single}
 use Rattle.yaml_scalar.proofs.single_quoted.write_laid.Goals as goal
 
 pub returns-in_err-write_quote : goal.returns-in_err-write_quote

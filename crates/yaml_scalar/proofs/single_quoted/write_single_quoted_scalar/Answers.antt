@@ -3,7 +3,7 @@ use Rattle.yaml_base.specs.SingleQuoted.{single_quoted_laid}
 use Rattle.yaml_pen.specs.Page.{natural}
 use Rattle.yaml_pen.specs.Wrote.{Wrote}
 use Rattle.yaml_scalar.specs.Width.{limit_where}
-use Rattle.yaml_scalar.proofs.QuotingBack.{single_back, two_or_more}
+use Rattle.yaml_scalar.proofs.LinesReadBack.{single_back, two_or_more}
 use Rattle.yaml_scalar.proofs.single_quoted.write_single_quoted_scalar.Goals as goal
 
 pub returns-clause-reads : goal.returns-clause-reads

@@ -1,15 +1,14 @@
 -- The text of plain and single-quoted lines before quotes are doubled: each character is the value's, or of a break or indentation.
-use Rattle.std.proofs.Common.{◌≡◌, refl, sym, ap, ◌∙◌, subst, ℕ, suc, zero, List, [], ◌∷◌, ◌++◌, Bool, true, false, append_assoc}
-use Rattle.std.specs.Prelude.{Option, ◌==◌, ◌||◌, ◌&&◌, not, if◌then◌else◌, replicate}
+use Rattle.std.proofs.Common.{◌≡◌, refl, sym, ap, ◌∙◌, subst, ℕ, suc, zero, [], ◌∷◌, ◌++◌, Bool, true, false}
+use Rattle.std.specs.Prelude.{Option, ◌==◌, ◌&&◌, not, if◌then◌else◌}
 use Rattle.std.specs.List.{list_any}
 use Rattle.std.proofs.lemmas.Bool.{eqb-true, or_parts}
 use Rattle.std.proofs.lemmas.List.Folds.{list_any-append}
-use Rattle.yaml_base.specs.Characters.{Text, is_break, is_space, line_feed, space}
-use Rattle.yaml_base.specs.Cursor.{Cursor, Laid, text_laid, is_past_width}
-use Rattle.yaml_base.specs.Analysis.{is_empty}
+use Rattle.yaml_base.specs.Characters.{Text, line_feed, space}
+use Rattle.yaml_base.specs.Cursor.{Cursor, text_laid, is_past_width}
 use Rattle.yaml_base.specs.Plain.{Kind, spaces, breaks, others, kind_of, is_same_kind, indentation}
-use Rattle.yaml_scalar.specs.LineSteps.{begins_kind, step_text, steps_laid}
-use Rattle.yaml_scalar.proofs.QuotingSteps.{WritesEach}
+use Rattle.yaml_scalar.specs.LineSteps.{step_text, steps_laid}
+use Rattle.yaml_scalar.proofs.LineRuns.{WritesEach}
 
 -- the lines with each character as it is; the cursor is that of the text as it is written
 abbrev pub bare_steps : (written : Text → Text) (limit : Option ℕ) (indent : ℕ) (before : Kind) → Text → Cursor → Text
@@ -20,6 +19,7 @@ bare_steps written limit indent before (c ∷ rest) cursor =
     step_text (λ t. t) folds indent before (kind_of c) c rest
     ++ bare_steps written limit indent (kind_of c) rest after.cursor
 
+-- a test that holds nowhere in two texts holds in neither case
 pub any_cond :
     (test : ℕ → Bool) (b : Bool) (x y : Text) →
     list_any test x ≡ false →
@@ -28,13 +28,16 @@ pub any_cond :
 any_cond test true x y a b = a
 any_cond test false x y a b = b
 
+-- nor in both together
 any_both :
     (test : ℕ → Bool) (x y : Text) → list_any test x ≡ false → list_any test y ≡ false → list_any test (x ++ y) ≡ false
 any_both test x y a b = list_any-append test x y ∙ simp (a, b)
 
+-- nor in one character and such a text
 any_one : (test : ℕ → Bool) (c : ℕ) (rest : Text) → test c ≡ false → list_any test rest ≡ false → list_any test (c ∷ rest) ≡ false
 any_one test c rest a b = simp (a, b)
 
+-- nor in indentation, where it doesn't hold of a space
 pub any_indentation : (test : ℕ → Bool) (indent : ℕ) → test space ≡ false → list_any test (indentation indent) ≡ false
 any_indentation test zero a = refl
 any_indentation test (suc n) a = any_one test space (indentation n) a (any_indentation test n a)
@@ -69,9 +72,11 @@ any_bare test feed blank written limit indent before (c ∷ rest) cursor own =
     (any_step test (is_past_width limit cursor) indent before (kind_of c) c rest feed blank parts.0)
     (any_bare test feed blank written limit indent (kind_of c) rest _ parts.1)
 
+-- the single quote
 abbrev is_quote : ℕ → Bool
 is_quote c = c == 39
 
+-- a quote is no space and no break
 not_quote_by :
     (c : ℕ) (kind : Kind) (quote : Bool) → is_quote c ≡ quote → kind_of c ≡ kind → is_same_kind kind others ≡ false → quote ≡ false
 not_quote_by c kind false q k e = refl
@@ -80,6 +85,7 @@ not_quote_by c kind true q k e =
     let other : true ≡ false = subst (λ (x : Kind). is_same_kind x others ≡ false) (sym same) e in
     other
 
+-- a space or a break is no quote
 not_quote : (c : ℕ) (kind : Kind) → kind_of c ≡ kind → is_same_kind kind others ≡ false → is_quote c ≡ false
 not_quote c kind k e = not_quote_by c kind _ refl k e
 
@@ -92,6 +98,7 @@ written_kept written w (c ∷ rest) clean =
     ∙ (ap (λ (t : Text). t ++ written rest) (w.kept c parts.0)
     ∙ ap (λ (t : Text). c ∷ t) (written_kept written w rest parts.1))
 
+-- a step of bare text, written, is the step
 step_written :
     (written : Text → Text) → WritesEach written →
     (folds : Bool) (indent : ℕ) (before kind : Kind) (c : ℕ) (rest : Text) →

@@ -1,5 +1,5 @@
 -- What the parts of a step write is the step's text, and steps one after another are the lines.
-use Rattle.std.proofs.Common.{◌≡◌, refl, sym, ap, ◌∙◌, subst, ℕ, List, [], ◌∷◌, ◌++◌, Bool, true, false, Ok, Err, Result}
+use Rattle.std.proofs.Common.{◌≡◌, refl, sym, ap, subst, ℕ, [], ◌∷◌, ◌++◌, Bool, true, false, Ok, Err, Result}
 use Rattle.std.specs.Prelude.{Option, ◌==◌, ◌||◌, ◌&&◌, not, if◌then◌else◌}
 use Rattle.std.proofs.lemmas.Bool.{eqb-true}
 use Rattle.yaml_base.specs.Analysis.{is_empty}
@@ -12,12 +12,13 @@ use Rattle.yaml_pen.specs.Page.{Page}
 use Rattle.yaml_pen.specs.Wrote.{Wrote}
 use Rattle.yaml_pen.proofs.Composing.{wrote_as, wrote_failed, wrote_no_error, wrote_nothing, wrote_then}
 use Rattle.yaml_scalar.specs.LineSteps.{begins_kind, step_laid, step_text, steps_laid, written_as}
-use Rattle.yaml_scalar.proofs.QuotingSteps.{WritesEach, runs_by_steps}
-use Rattle.yaml_scalar.proofs.QuotingFolds.{spaces_only, breaks_only}
-use Rattle.yaml_scalar.proofs.QuotingIndents.{others_only}
+use Rattle.yaml_scalar.proofs.LineRuns.{WritesEach, runs_by_steps}
+use Rattle.yaml_scalar.proofs.LineFolds.{spaces_only, breaks_only}
+use Rattle.yaml_scalar.proofs.LineIndents.{others_only}
 use Rattle.yaml_scalar.proofs.SingleReads.{doubled_writes}
 use Rattle.yaml_scalar.proofs.PlainReads.{itself_writes}
 
+-- `'` is written twice
 quote_text_by :
     (c : ℕ) (quote : Bool) → (c == 39) ≡ quote →
     (if quote then 39 ∷ [] else []) ++ (c ∷ []) ≡ (if quote then 39 ∷ 39 ∷ [] else c ∷ []) ++ []
@@ -46,6 +47,7 @@ is_other_kind c k = others_only (is_space c) (is_break c) (sym k)
 abbrev StepText : (written : Text → Text) (past : Bool) (indent : ℕ) (before : Kind) (c : ℕ) (rest text : Text) → Type 0
 StepText written past indent before c rest text = text ≡ step_text written past indent before (kind_of c) c rest
 
+-- a space or a fold is the step of a space
 pub space_text :
     (written : Text → Text) (past : Bool) (indent : ℕ) (before : Kind) (c : ℕ) (rest : Text) (folds : Bool) →
     spaces ≡ kind_of c →
@@ -55,6 +57,7 @@ space_text written past indent before c rest folds k e =
     subst (λ (kind : Kind). (if folds then line_feed ∷ indentation indent else space ∷ []) ≡ step_text written past indent before kind c rest)
     k (rw (e, is_space_kind c k) refl)
 
+-- a break is the step of a break
 pub break_step_text :
     (written : Text → Text) (past : Bool) (indent : ℕ) (before : Kind) (c : ℕ) (rest : Text) (doubled goes_on : Bool) →
     breaks ≡ kind_of c →
@@ -66,6 +69,7 @@ break_step_text written past indent before c rest doubled goes_on k e f =
     subst (λ (kind : Kind). (if doubled then line_feed ∷ [] else []) ++ (c ∷ (if goes_on then [] else indentation indent)) ≡ step_text written past indent before kind c rest)
     k (rw (e, f) refl)
 
+-- another character is the step of it
 pub other_text :
     (written : Text → Text) (past : Bool) (indent : ℕ) (before : Kind) (c : ℕ) (rest : Text) →
     others ≡ kind_of c →
@@ -91,12 +95,14 @@ pub record LinesBegun (written : Text → Text) (limit : Option ℕ) (indent : �
       Wrote (steps_laid written limit indent kind left) now after answer →
       Wrote (steps_laid written limit indent spaces value) before after answer
 
+-- no lines are written yet
 pub lines_first :
     (written : Text → Text) (limit : Option ℕ) (indent : ℕ) (value : Text) {before : Page} →
     Wrote nothing_laid before before (Ok tt) →
     LinesBegun written limit indent value value spaces before before
 lines_first written limit indent value fine = record { fine = fine; goes_on = λ after answer wrote. wrote }
 
+-- one more step is written
 pub lines_more :
     {written : Text → Text} {limit : Option ℕ} {indent : ℕ} {value left : Text} {kind : Kind} {before now next : Page} (c : ℕ) (rest : Text) →
     LinesBegun written limit indent value left kind before now →
@@ -109,6 +115,7 @@ lines_more {written} {limit} {indent} {value} {left} {kind} {before} {now} {next
       (subst (λ (t : Text). Wrote (steps_laid written limit indent kind t) now after answer) (sym is) (wrote_then step more));
 }
 
+-- a step failed
 pub lines_failed :
     {written : Text → Text} {limit : Option ℕ} {indent : ℕ} {value left : Text} {kind : Kind} {before now next : Page} {error : yaml_error_t} (c : ℕ) (rest : Text) →
     LinesBegun written limit indent value left kind before now →
@@ -120,6 +127,7 @@ lines_failed {written} {limit} {indent} {value} {left} {kind} {before} {now} {ne
     (subst (λ (t : Text). Wrote (steps_laid written limit indent kind t) now next (Err error)) (sym is)
     (wrote_failed (steps_laid written limit indent (kind_of c) rest) step))
 
+-- no characters are left
 pub lines_whole :
     {written : Text → Text} {limit : Option ℕ} {indent : ℕ} {value left : Text} {kind : Kind} {before now : Page} →
     LinesBegun written limit indent value left kind before now →
@@ -129,6 +137,7 @@ lines_whole {written} {limit} {indent} {value} {left} {kind} {before} {now} begu
     begun.goes_on now (Ok tt)
     (subst (λ (t : Text). Wrote (steps_laid written limit indent kind t) now now (Ok tt)) (sym none) begun.fine)
 
+-- both ways of writing go character by character
 pub written_each : (quoted : Bool) → WritesEach (written_as quoted)
 written_each true = doubled_writes
 written_each false = itself_writes
@@ -173,6 +182,7 @@ abbrev pub after_quote : (limit : Option ℕ) (indent : ℕ) (value : Text) → 
 after_quote limit indent value cursor =
     then_laid (runs_laid quotes_doubled limit indent true (runs value) cursor) single_quote
 
+-- quotes and lines are the single-quoted layout
 pub wrote_single :
     (limit : Option ℕ) (indent : ℕ) (value : Text) {before after : Page} {answer : Result (Unit {0}) yaml_error_t} →
     Wrote (λ cursor. then_laid (indicator (39 ∷ []) true false false cursor) (after_quote limit indent value)) before after answer →

@@ -1,24 +1,26 @@
 -- Each nonempty line of plain and single-quoted text after the first begins with two spaces.
-use Rattle.std.proofs.Common.{◌≡◌, refl, sym, ap, ◌∙◌, subst, ℕ, suc, zero, ◌≤◌, List, [], ◌∷◌, ◌++◌, Bool, true, false, append_assoc, arith}
-use Rattle.std.specs.Prelude.{Option, ◌==◌, ◌||◌, ◌&&◌, not, if◌then◌else◌, replicate}
-use Rattle.std.proofs.lemmas.Bool.{and_from, or_right, eqb-true, not_from_false}
+use Rattle.std.proofs.Common.{◌≡◌, refl, ℕ, suc, zero, ◌≤◌, [], ◌∷◌, ◌++◌, Bool, true, false, append_assoc, arith}
+use Rattle.std.specs.Prelude.{Option, ◌==◌, ◌||◌, ◌&&◌, not, if◌then◌else◌}
+use Rattle.std.proofs.lemmas.Bool.{and_from, or_right, eqb-true}
 use Rattle.std.proofs.Math.Bool.{and-false}
 use Rattle.yaml_base.specs.Characters.{Text, is_break, is_space, line_feed, space}
-use Rattle.yaml_base.specs.Cursor.{Cursor, Laid, text_laid, is_past_width}
+use Rattle.yaml_base.specs.Cursor.{Cursor, text_laid, is_past_width}
 use Rattle.yaml_base.specs.Analysis.{is_empty}
 use Rattle.yaml_base.specs.LineBreaks.{begins_indented, is_indented_text}
 use Rattle.yaml_base.specs.Plain.{Kind, spaces, breaks, others, kind_of, is_same_kind, indentation}
 use Rattle.yaml_base.proofs.BreakLaws.{break-begins}
-use Rattle.yaml_scalar.proofs.Unbroken.{is_unbroken, unbroken-indented, unbroken-replicate}
+use Rattle.yaml_scalar.proofs.Unbroken.{unbroken-indented, unbroken-replicate}
 use Rattle.yaml_scalar.specs.LineSteps.{begins_kind, step_text, steps_laid}
-use Rattle.yaml_scalar.proofs.QuotingSteps.{WritesEach}
-use Rattle.yaml_scalar.proofs.QuotingFolds.{spaces_only, breaks_only}
+use Rattle.yaml_scalar.proofs.LineRuns.{WritesEach}
+use Rattle.yaml_scalar.proofs.LineFolds.{spaces_only, breaks_only}
 
+-- indentation begins a line
 indentation-begins : (indent : ℕ) → 2 ≤ indent → (text : Text) → begins_indented (indentation indent ++ text) ≡ true
 indentation-begins zero wide text = absurd (omega arith)
 indentation-begins (suc zero) wide text = absurd (omega arith)
 indentation-begins (suc (suc n)) wide text = refl
 
+-- a kind is others only at a character that is no break
 pub others_only : (s b : Bool) → (if s then spaces else if b then breaks else others) ≡ others → b ≡ false
 others_only true b e = cc
 others_only false true e = cc
@@ -28,17 +30,20 @@ others_only false false e = refl
 after_break : (c : ℕ) (text : Text) → begins_indented text ≡ true → is_indented_text text ≡ true → is_indented_text (c ∷ text) ≡ true
 after_break c text begins lines = and_from _ _ (or_right (not (is_break c)) _ begins) lines
 
+-- indentation behind a break
 indented_line : (indent : ℕ) → 2 ≤ indent → (c : ℕ) (text : Text) → is_indented_text text ≡ true → is_indented_text (c ∷ (indentation indent ++ text)) ≡ true
 indented_line indent wide c text lines =
     after_break c (indentation indent ++ text) (indentation-begins indent wide text)
     (unbroken-indented (indentation indent) text (unbroken-replicate indent) lines)
 
+-- a space or a fold
 folded_line :
     (folds : Bool) (indent : ℕ) → 2 ≤ indent → (text : Text) → is_indented_text text ≡ true →
     is_indented_text ((if folds then line_feed ∷ indentation indent else space ∷ []) ++ text) ≡ true
 folded_line true indent wide text lines = indented_line indent wide line_feed text lines
 folded_line false indent wide text lines = lines
 
+-- a break that goes on, or is followed by the indentation
 broken_line :
     (goes_on : Bool) (indent : ℕ) → 2 ≤ indent → (c : ℕ) (text : Text) →
     is_indented_text text ≡ true →
@@ -47,12 +52,14 @@ broken_line :
 broken_line true indent wide c text lines begins = after_break c text (begins refl) lines
 broken_line false indent wide c text lines begins = indented_line indent wide c text lines
 
+-- LF before a break
 doubled_line :
     (doubled : Bool) (c : ℕ) (text : Text) → is_break c ≡ true → is_indented_text (c ∷ text) ≡ true →
     is_indented_text ((if doubled then line_feed ∷ [] else []) ++ (c ∷ text)) ≡ true
 doubled_line true c text b lines = after_break line_feed (c ∷ text) (break-begins c text b) lines
 doubled_line false c text b lines = lines
 
+-- one character's text before lines that are indented
 step_indented :
     (written : Text → Text) → WritesEach written →
     (folds : Bool) (indent : ℕ) → 2 ≤ indent →
@@ -85,6 +92,7 @@ run_begins written limit indent before breaks c rest text folds k same here =
     simp (same, and-false) (break-begins c _ (breaks_only (is_space c) (is_break c) k))
 run_begins written limit indent before others c rest text folds k same here = cc
 
+-- a run that goes on begins its line with a break
 text_begins :
     (written : Text → Text) (limit : Option ℕ) (indent : ℕ) (before : Kind) (value after : Text) (cursor : Cursor) →
     is_same_kind before breaks ≡ true →

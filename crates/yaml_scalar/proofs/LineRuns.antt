@@ -1,11 +1,11 @@
 -- Plain and single-quoted lines laid out character by character, and that this is their layout by runs.
 use Rattle.std.proofs.Common.{◌≡◌, refl, sym, ap, ◌∙◌, subst, ℕ, List, [], ◌∷◌, ◌++◌, Bool, true, false, append_assoc}
-use Rattle.std.specs.Prelude.{Option, ◌==◌, ◌||◌, ◌&&◌, not, if◌then◌else◌}
+use Rattle.std.specs.Prelude.{Option, ◌==◌, ◌||◌, ◌&&◌, not}
 use Rattle.std.proofs.Math.Bool.{and-false, and-true, or-false}
-use Rattle.yaml_base.specs.Characters.{Text, is_break, line_feed}
+use Rattle.yaml_base.specs.Characters.{Text, is_break}
 use Rattle.yaml_base.specs.Cursor.{Cursor, Laid, nothing_laid, then_laid, text_laid, column_after, is_past_width}
 use Rattle.yaml_base.specs.Analysis.{is_empty}
-use Rattle.yaml_scalar.specs.LineSteps.{begins_kind, step_text, step_laid, steps_laid}
+use Rattle.yaml_scalar.specs.LineSteps.{begins_kind, step_text, steps_laid}
 use Rattle.yaml_scalar.proofs.Unbroken.{is_unbroken}
 use Rattle.yaml_base.specs.Plain.{Kind, spaces, breaks, others, kind_of, is_same_kind, Run, joined_to, runs, indentation, run_text, is_last, runs_laid}
 
@@ -22,6 +22,7 @@ tail_text written indent spaces text = text
 tail_text written indent breaks text = text ++ indentation indent
 tail_text written indent others text = written text
 
+-- a run, or what is left of it
 abbrev first_text : (written : Text → Text) (folds : Bool) (indent : ℕ) (same : Bool) → Kind → Text → Text
 first_text written folds indent true kind text = tail_text written indent kind text
 first_text written folds indent false kind text = run_text written folds indent kind text
@@ -37,6 +38,7 @@ continued written limit indent before (run ∷ more) cursor =
     cursor)
     (runs_laid written limit indent false more)
 
+-- columns count on
 column_after-append : (a b : Text) (column : ℕ) → column_after (a ++ b) column ≡ column_after b (column_after a column)
 column_after-append [] b column = refl
 column_after-append (c ∷ a) b column = column_after-append a b _
@@ -81,6 +83,7 @@ joined_text written w folds other indent spaces others c d rest run e = sym (w.j
 joined_text written w folds other indent breaks others c d rest run e = sym (w.joined (c ∷ []) (d ∷ run))
 joined_text written w folds other indent others others c d rest run e = sym (w.joined (c ∷ []) (d ∷ run))
 
+-- the same for a kind that is equal
 joined_kinds :
     (written : Text → Text) → WritesEach written →
     (folds other : Bool) (indent : ℕ) (before kind next : Kind) (c d : ℕ) (rest run : Text) →
@@ -103,6 +106,7 @@ edge_text written folds indent spaces text last = simp and-false
 edge_text written folds indent breaks text last = refl
 edge_text written folds indent others text last = refl
 
+-- kinds that compare as the same are equal
 pub same_kind : (a b : Kind) → is_same_kind a b ≡ true → a ≡ b
 same_kind spaces spaces e = refl
 same_kind breaks breaks e = refl
@@ -120,6 +124,7 @@ record Shape (d : ℕ) (after : List Run) : Type 0 where
   more : List Run
   is : joined_to d after ≡ record { kind = kind_of d; text = d ∷ text } ∷ more
 
+-- runs that begin with this character, by the kind of the next run
 shape_by : (d : ℕ) (first : Run) (more : List Run) (same : Bool) → is_same_kind (kind_of d) first.kind ≡ same → Shape d (first ∷ more)
 shape_by d first more true e = record {
   text = first.text;
@@ -128,10 +133,12 @@ shape_by d first more true e = record {
 }
 shape_by d first more false e = record { text = []; more = first ∷ more; is = simp e }
 
+-- each value has runs of such a shape
 shape_of : (d : ℕ) (after : List Run) → Shape d after
 shape_of d [] = record { text = []; more = []; is = refl }
 shape_of d (first ∷ more) = shape_by d first more _ refl
 
+-- a step and the runs behind it are the runs with its character
 abbrev Agrees : (written : Text → Text) (limit : Option ℕ) (indent : ℕ) (before : Kind) (c : ℕ) (rest : Text) (after : List Run) (cursor : Cursor) → Type 0
 Agrees written limit indent before c rest after cursor =
     then_laid
@@ -139,6 +146,7 @@ Agrees written limit indent before c rest after cursor =
     (continued written limit indent (kind_of c) after) ≡
     continued written limit indent before (joined_to c after) cursor
 
+-- they agree before a character, by whether the run goes on
 agrees_by :
     (written : Text → Text) → WritesEach written →
     (limit : Option ℕ) (indent : ℕ) (before : Kind) (c d : ℕ) (rest text : Text) (more : List Run) (cursor : Cursor) →
@@ -157,6 +165,7 @@ agrees_by written w limit indent before c d rest text more cursor false e =
     (runs_laid written limit indent false (record { kind = kind_of d; text = d ∷ text } ∷ more)))
     (lone_text written (is_past_width limit cursor) indent before (kind_of c) c (d ∷ rest) false refl e))
 
+-- they agree
 agrees :
     (written : Text → Text) → WritesEach written →
     (limit : Option ℕ) (indent : ℕ) (before : Kind) (c : ℕ) (rest : Text) (cursor : Cursor) →
@@ -169,6 +178,7 @@ agrees written w limit indent before c (d ∷ rest) cursor =
     subst (λ (after : List Run). Agrees written limit indent before c (d ∷ rest) after cursor) (sym shape.is)
     (agrees_by written w limit indent before c d rest shape.text shape.more cursor _ refl)
 
+-- steps are runs that go on
 steps_continue :
     (written : Text → Text) → WritesEach written →
     (limit : Option ℕ) (indent : ℕ) (before : Kind) (value : Text) (cursor : Cursor) →

@@ -1,18 +1,19 @@
 -- Folding reads the lines of plain and single-quoted text as the value.
-use Rattle.std.proofs.Common.{◌≡◌, refl, sym, ap, ◌∙◌, subst, ℕ, suc, zero, List, [], ◌∷◌, ◌++◌, Bool, true, false, append_assoc}
-use Rattle.std.specs.Prelude.{Option, ◌==◌, ◌||◌, ◌&&◌, not, if◌then◌else◌, replicate, map}
+use Rattle.std.proofs.Common.{◌≡◌, refl, sym, ap, ◌∙◌, subst, ℕ, suc, zero, [], ◌∷◌, ◌++◌, Bool, true, false}
+use Rattle.std.specs.Prelude.{Option, ◌==◌, ◌||◌, ◌&&◌, not, if◌then◌else◌, map}
 use Rattle.std.proofs.lemmas.Bool.{eqb-true, or_parts, and_from, and_parts, not-true, not-false, not_from_false}
 use Rattle.std.specs.List.{list_any}
 use Rattle.yaml_base.specs.LineBreaks.{is_laid_text}
 use Rattle.std.proofs.Math.Bool.{and-false}
 use Rattle.yaml_base.specs.Characters.{Text, carriage_return, next_line, is_break, is_space, is_printable, line_feed, space}
-use Rattle.yaml_base.specs.Cursor.{Cursor, Laid, text_laid, is_past_width}
-use Rattle.yaml_base.specs.Analysis.{Charset, is_empty, is_special, begins_with, somewhere, bars_single_quoted, is_trailing_space}
+use Rattle.yaml_base.specs.Cursor.{Cursor, is_past_width}
+use Rattle.yaml_base.specs.Analysis.{Charset, is_empty, is_special, begins_with, somewhere, bars_single_quoted}
 use Rattle.yaml_base.specs.Plain.{Kind, spaces, breaks, others, kind_of, is_same_kind, indentation}
 use Rattle.yaml_base.specs.ReadFolding.{FoldUnit, literal_blank, literal_break, itself, unit_of, Front, run_read, front_read, front_of, unit_before, folding_read}
 use Rattle.yaml_scalar.specs.LineSteps.{begins_kind, step_text}
-use Rattle.yaml_scalar.proofs.QuotingText.{bare_steps}
+use Rattle.yaml_scalar.proofs.LineTexts.{bare_steps}
 
+-- what a reader takes a character of a kind for
 abbrev pub unit_of_kind : Kind → ℕ → FoldUnit
 unit_of_kind spaces c = literal_blank c
 unit_of_kind breaks c = literal_break c
@@ -23,6 +24,7 @@ unlike_by : (c d : ℕ) (same : Bool) → (c == d) ≡ same → is_printable c �
 unlike_by c d false e p q = refl
 unlike_by c d true e p q = sym p ∙ (ap is_printable (eqb-true c d e) ∙ q)
 
+-- a printable character is none that is not
 pub unlike : (c d : ℕ) → is_printable c ≡ true → is_printable d ≡ false → (c == d) ≡ false
 unlike c d p q = unlike_by c d _ refl p q
 
@@ -49,6 +51,7 @@ unit_by_kind charset c clean =
     same_unit c (c == 32) (c == 9) (c == 10) (c == 13) (c == 0x85) (c == 0x2028) (c == 0x2029) charset.breaks12
     (unlike c 9 printable refl) (unlike c 13 printable refl) (unlike c 0x85 printable refl) parts.1
 
+-- the front of a text
 abbrev pub front_at : Bool → Text → Front
 front_at breaks12 text = front_of (map (unit_of breaks12) text)
 
@@ -59,6 +62,7 @@ indentation-breaks :
 indentation-breaks breaks12 zero text = refl
 indentation-breaks breaks12 (suc n) text = indentation-breaks breaks12 n text
 
+-- and not the rest
 indentation-rest :
     (breaks12 : Bool) (indent : ℕ) (text : Text) →
     (front_at breaks12 (indentation indent ++ text)).rest ≡ (front_at breaks12 text).rest
@@ -81,6 +85,7 @@ pub record AfterBreak (value : Text) (front : Front) : Type 0 where
   pub no_blanks : front.blanks ≡ []
   pub whole : front.breaks ++ front.rest ≡ value
 
+-- of a front, by the kind of the character before
 abbrev pub ReadsAfter : Kind → Text → Front → Type 0
 ReadsAfter spaces value front = AfterSpace value front
 ReadsAfter breaks value front = begins_with is_space value ≡ false → AfterBreak value front
@@ -105,6 +110,7 @@ clear_read :
 clear_read value front clear read =
     subst (λ (run : Text). front.blanks ++ (run_read run ++ front.rest) ≡ value) clear read
 
+-- a space before such a front is read
 space_read :
     (value : Text) (front : Front) → front.breaks ≡ [] → front_read front ≡ value →
     front_read (unit_before (literal_blank space) front) ≡ space ∷ value
@@ -124,10 +130,12 @@ space_step spaces rest front after clear = record {
 space_step breaks rest front after clear = λ e. cc
 space_step others rest front after clear = space_read rest front (after.no_breaks clear) after.whole
 
+-- where no blank stands first either, its rest is
 bare_read : (value : Text) (front : Front) → front.breaks ≡ [] → front.blanks ≡ [] → front_read front ≡ value → front.rest ≡ value
 bare_read value front clear none read =
     subst (λ (blanks : Text). blanks ++ front.rest ≡ value) none (clear_read value front clear read)
 
+-- a fold before such a front is read as a space
 fold_read :
     (value : Text) (front : Front) → front.breaks ≡ [] → front.blanks ≡ [] → front_read front ≡ value →
     run_read (line_feed ∷ front.breaks) ++ front.rest ≡ space ∷ value
@@ -156,6 +164,7 @@ abbrev broken : Bool → ℕ → Text → Text → Front
 broken doubled c more rest =
     record { blanks = []; breaks = (if doubled then line_feed ∷ [] else []) ++ (c ∷ more); rest = rest }
 
+-- such a run is read as the breaks of the value
 broken_read :
     (c : ℕ) (value more rest : Text) (feed : Bool) → (c == line_feed) ≡ feed → more ++ rest ≡ value →
     front_read (broken (feed && true) c more rest) ≡ c ∷ value
@@ -189,21 +198,25 @@ broken_front breaks12 false true indent c text u = rw u
 broken_front breaks12 true false indent c text u = rw u (simp (indentation-breaks, indentation-rest))
 broken_front breaks12 false false indent c text u = rw u (simp (indentation-breaks, indentation-rest))
 
+-- a kind is spaces only at a space
 pub spaces_only : (s b : Bool) → (if s then spaces else if b then breaks else others) ≡ spaces → s ≡ true
 spaces_only true b e = refl
 spaces_only false true e = cc
 spaces_only false false e = cc
 
+-- and breaks only at a break
 pub breaks_only : (s b : Bool) → (if s then spaces else if b then breaks else others) ≡ breaks → b ≡ true
 breaks_only true b e = cc
 breaks_only false true e = refl
 breaks_only false false e = cc
 
+-- a kind is spaces exactly at a space
 same_as_space : (s b : Bool) → is_same_kind spaces (if s then spaces else if b then breaks else others) ≡ s
 same_as_space true b = refl
 same_as_space false true = refl
 same_as_space false false = refl
 
+-- a text begins with a character of that kind where it begins with a space
 begins_space : (rest : Text) → begins_kind spaces rest ≡ begins_with is_space rest
 begins_space [] = refl
 begins_space (c ∷ rest) = same_as_space (is_space c) (is_break c)
@@ -213,6 +226,7 @@ record Folds (before : Kind) (rest : Text) : Type 0 where
   other : is_same_kind before spaces ≡ false
   own : begins_with is_space rest ≡ false
 
+-- a fold stands only there
 folds_where :
     (folds : Bool) (before : Kind) (rest : Text) →
     (folds && not (is_same_kind before spaces || (is_empty rest || begins_kind spaces rest))) ≡ true →
@@ -222,6 +236,7 @@ folds_where folds before rest e =
     let later = or_parts (is_empty rest) (begins_kind spaces rest) parts.1 in
     record { other = parts.0; own = sym (begins_space rest) ∙ later.1 }
 
+-- a space or a fold before what reads as the rest
 spaced :
     (breaks12 folds : Bool) (indent : ℕ) (before : Kind) (rest text : Text) →
     begins_with is_break rest ≡ false →
@@ -272,6 +287,7 @@ clear_after charset c rest breaks k clean =
     sym (ap (λ (b : Bool). b && begins_with is_space rest) (breaks_only (is_space c) (is_break c) k)) ∙ (or_parts _ _ clean).1
 clear_after charset c rest others k clean = refl
 
+-- a value that quotes may hold, from some character on
 pub lines_read :
     (charset : Charset) (written : Text → Text) (limit : Option ℕ) (indent : ℕ) (before : Kind) (value : Text) (cursor : Cursor) →
     somewhere (bars_single_quoted charset) value ≡ false →
@@ -311,6 +327,7 @@ no_returns charset (c ∷ rest) clean =
     let printable : is_printable c ≡ true = not-false _ (or_parts _ _ (or_parts _ _ ordinary).0).0 in
     simp (unlike c carriage_return printable refl, unlike c next_line printable refl) (no_returns charset rest parts.1)
 
+-- a text that has none is laid with LF
 pub laid_without_returns : (text : Text) → list_any is_return text ≡ false → is_laid_text text ≡ true
 laid_without_returns [] clean = refl
 laid_without_returns (c ∷ rest) clean =

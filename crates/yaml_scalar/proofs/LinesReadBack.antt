@@ -1,30 +1,31 @@
 -- What a writer of plain or single-quoted scalars wrote reads back.
 use Rattle.std.proofs.lemmas.Int.{ints}
-use Rattle.std.proofs.Common.{◌≡◌, refl, sym, ap, ◌∙◌, subst, ℕ, ◌≤◌, List, [], ◌∷◌, ◌++◌, Bool, true, false, Ok, Err, Result, IfOk, arith, pos, negsuc, ℤ, ◌≤ℤ◌}
+use Rattle.std.proofs.Common.{◌≡◌, refl, ap, ◌∙◌, ℕ, ◌≤◌, [], ◌∷◌, ◌++◌, Bool, true, false, Ok, Err, Result, IfOk, arith, pos, negsuc, ℤ, ◌≤ℤ◌}
 use Rattle.std.specs.Prelude.{Option, Some, ◌&&◌, not, if◌then◌else◌}
 use Rattle.std.specs.List.{list_all}
 use Rattle.yaml_base.specs.Analysis.{Charset, allows_plain, allows_single_quoted}
 use Rattle.yaml_base.specs.Characters.{Text, is_space, space}
-use Rattle.yaml_base.specs.Cursor.{Cursor, Laid, indicator, space_if, text_laid, then_laid, with_flags}
+use Rattle.yaml_base.specs.Cursor.{Cursor, Laid, space_if, text_laid, then_laid}
 use Rattle.yaml_base.specs.LineBreaks.{is_indented_text, with_breaks_written, with_line_breaks_read}
-use Rattle.yaml_base.specs.Plain.{plain_body, plain_laid, runs, runs_laid}
+use Rattle.yaml_base.specs.Plain.{plain_body, plain_laid}
 use Rattle.yaml_base.specs.ReadPlain.{read_plain}
 use Rattle.yaml_base.specs.ReadSingle.{read_single}
 use Rattle.yaml_base.specs.Settings.{LineBreak}
-use Rattle.yaml_base.specs.SingleQuoted.{quotes_doubled, single_quote, single_quoted_body, single_quoted_laid}
+use Rattle.yaml_base.specs.SingleQuoted.{single_quoted_body, single_quoted_laid}
 use Rattle.yaml_base.specs.declared.errors.yaml_error_t.{yaml_error_t}
 use Rattle.yaml_pen.specs.Page.{Page, natural}
 use Rattle.yaml_pen.specs.Wrote.{Wrote}
-use Rattle.yaml_pen.proofs.Composing.{with_breaks_written-append, wrote_all, wrote_as}
-use Rattle.yaml_scalar.specs.LineSteps.{written_as}
+use Rattle.yaml_pen.proofs.Composing.{with_breaks_written-append, wrote_all}
 use Rattle.yaml_scalar.specs.ReadsBack.{ReadsBack}
 use Rattle.yaml_scalar.proofs.PlainReads.{plain-indented, plain-reads}
 use Rattle.yaml_scalar.proofs.SingleReads.{single-indented, single-reads}
 
+-- an `i32` of two or more
 pub two_or_more : (n : ℤ) → pos 2 ≤ℤ n → 2 ≤ natural n
 two_or_more (pos n) h = omega (arith, ints)
 two_or_more (negsuc n) h = omega (arith, ints)
 
+-- a lead is spaces alone
 lead_spaces : (setting : LineBreak) (space_stands : Bool) (cursor : Cursor) → list_all is_space (with_breaks_written setting (space_if space_stands cursor)) ≡ true
 lead_spaces setting need cursor = by (need && not cursor.whitespace)
   where
@@ -51,6 +52,7 @@ body_back read value need body {before} {after} reads indented wrote =
       indented = indented start before.line_break;
     }
 
+-- after Ok a plain body reads back
 pub plain_back :
     (charset : Charset) (flow : Bool) (limit : Option ℕ) (indent : ℕ) (value : Text) {before after : Page} (answer : Result (Unit {0}) yaml_error_t) →
     2 ≤ indent →
@@ -64,6 +66,7 @@ plain_back charset flow limit indent value {before} {after} (Ok done) wide allow
     wrote
 plain_back charset flow limit indent value {before} {after} (Err error) wide allowed wrote = tt
 
+-- after Ok a single-quoted body reads back
 pub single_back :
     (charset : Charset) (limit : Option ℕ) (indent : ℕ) (value : Text) {before after : Page} (answer : Result (Unit {0}) yaml_error_t) →
     2 ≤ indent →
