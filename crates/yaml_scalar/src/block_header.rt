@@ -66,7 +66,6 @@ pub(crate) fn open_mark(value: &str) -> i32
     mark_of(value_ending(value))
 }
 
-#[tactic(auto, unfolding(std::specs::Str::chars))]
 fn sign(folded: bool) -> &'static str
     ensures { chars result.now ≡ step.sign_of folded ∷ [] }
 {
