@@ -2,7 +2,9 @@
 ghost use Rattle.std.specs.Prelude.{IfOk};
 ghost use Rattle.yaml_pen.specs.Page.{IsReady};
 
+mod block;
 mod plain;
+mod short_values;
 mod single_quoted;
 
 use std::alloc::Allocator;

@@ -5,9 +5,7 @@ ghost use Rattle.yaml_base.specs.Analysis.{is_empty};
 
 use super::short_values::{self, Row};
 use super::{begun, begun_with_returns, begun_within};
-use crate::{
-    analyze_scalar, write_block_scalar_hints, write_folded_scalar, write_literal_scalar,
-};
+use crate::{analyze_scalar, write_block_scalar_hints, write_folded_scalar, write_literal_scalar};
 use std::alloc::Allocator;
 use std::test::Fail;
 use yaml_base::yaml_error_t;
@@ -28,7 +26,10 @@ fn literal<A: Allocator + Copy>(alloc: A, value: &str) -> Result<(Vec<u8, A>, i3
         -1
     };
     pen.flush()?;
-    Ok((Vec::from_slice(alloc, pen.output()).map_err(|_| yaml_error_t::Memory)?, mark))
+    Ok((
+        Vec::from_slice(alloc, pen.output()).map_err(|_| yaml_error_t::Memory)?,
+        mark,
+    ))
 }
 
 // The text of a folded root, and the open mark.
@@ -44,7 +45,10 @@ fn folded<A: Allocator + Copy>(
         -1
     };
     pen.flush()?;
-    Ok((Vec::from_slice(alloc, pen.output()).map_err(|_| yaml_error_t::Memory)?, mark))
+    Ok((
+        Vec::from_slice(alloc, pen.output()).map_err(|_| yaml_error_t::Memory)?,
+        mark,
+    ))
 }
 
 // Each value of a table, in both styles, at the width of 5 and at none.
@@ -118,7 +122,10 @@ fn long_lines_are_folded_past_the_width(rt: HostRuntime) -> Result<(), Fail> {
         ("a\u{2028}b", 80, ">-\n  a\u{2028}  b"),
     ] {
         assert!(rt; is_allowed(value), "{value}");
-        assert!(rt; folded(rt.alloc(), value, width)?.0.as_slice() == text.as_bytes(), "{value}");
+        assert!(rt;
+            folded(rt.alloc(), value, width)?.0.as_slice() == text.as_bytes(),
+            "{value}"
+        );
     }
     Ok(())
 }
@@ -149,7 +156,11 @@ fn hints_stand_alone(rt: HostRuntime) -> Result<(), Fail> {
         ("\u{2028}", 3, "3+", 2),
     ] {
         let mut pen = begun(rt.alloc())?;
-        assert_eq!(rt; write_block_scalar_hints(&mut pen, value, best_indent), Ok(mark), "{value}");
+        assert_eq!(rt;
+            write_block_scalar_hints(&mut pen, value, best_indent),
+            Ok(mark),
+            "{value}"
+        );
         pen.flush()?;
         assert!(rt; pen.output() == hints.as_bytes(), "{value}");
     }
