@@ -4,3 +4,4 @@ pub mod Defaults
 pub mod Fits
 pub mod WritingPieces
 pub mod WritingDirectives
+pub mod WritingTags

@@ -1,3 +1,4 @@
+pub mod BorrowedTexts
 pub mod Given
 pub mod Queue
 pub mod Places

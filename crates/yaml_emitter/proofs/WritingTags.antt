@@ -1,0 +1,49 @@
+-- How tags are spelled: an empty one, and the handles that stand in spellings. And which counts are short.
+use Rattle.std.proofs.Common.{◌≡◌, ℕ, ◌+◌, Bool, true, false, ◌||◌, ◌&&◌, Option, None, Some, List, [], ◌∷◌, refl, sym, ap, ◌∙◌, zero-add}
+use Rattle.std.specs.List.{list_any}
+use Rattle.std.proofs.lemmas.Bool.{or_parts}
+use Rattle.yaml_base.specs.Characters.{Text, is_break}
+use Rattle.yaml_base.specs.Event.{TagDirective}
+use Rattle.yaml_base.specs.Layout.{is_short}
+use Rattle.yaml_base.specs.Tags.{Spelling, shorthand, verbatim, spelling, spelling_by, behind, tag_fault}
+use Rattle.yaml_emitter.specs.Signs.{some_handle_breaks}
+
+nothing_behind : (prefix : Text) → behind prefix [] ≡ None
+nothing_behind [] = refl
+nothing_behind (c ∷ rest) = refl
+
+empty_spelled : (directives : List TagDirective) → verbatim [] ≡ spelling directives []
+empty_spelled [] = refl
+empty_spelled (directive ∷ rest) =
+    empty_spelled rest
+    ∙ ap (λ (suffix : Option Text). spelling_by directive.handle suffix (spelling rest [])) (sym (nothing_behind directive.prefix))
+
+-- a tag that is refused is empty, and would be spelled as it is
+pub refused_spelled : (directives : List TagDirective) (tag : Text) (fault : ℕ) → Some fault ≡ tag_fault tag → verbatim tag ≡ spelling directives tag
+refused_spelled directives [] fault is = empty_spelled directives
+refused_spelled directives (c ∷ rest) fault is = cc
+
+-- the handle of a spelling, where it has one, holds no break
+abbrev spelled_breaks : Spelling → Bool
+spelled_breaks (shorthand handle suffix) = list_any is_break handle
+spelled_breaks (verbatim tag) = false
+
+by_breaks : (handle : Text) (suffix : Option Text) (otherwise : Spelling)
+    → list_any is_break handle ≡ false → spelled_breaks otherwise ≡ false → spelled_breaks (spelling_by handle suffix otherwise) ≡ false
+by_breaks handle None otherwise here there = there
+by_breaks handle (Some suffix) otherwise here there = here
+
+spelling_breaks : (directives : List TagDirective) (tag : Text) → some_handle_breaks directives ≡ false → spelled_breaks (spelling directives tag) ≡ false
+spelling_breaks [] tag none = refl
+spelling_breaks (directive ∷ rest) tag none =
+    let parts = or_parts (list_any is_break directive.handle) (some_handle_breaks rest) none in
+    by_breaks directive.handle (behind directive.prefix tag) (spelling rest tag) parts.0 (spelling_breaks rest tag parts.1)
+
+pub spelled_handle : (directives : List TagDirective) (tag handle suffix : Text)
+    → shorthand handle suffix ≡ spelling directives tag → some_handle_breaks directives ≡ false → list_any is_break handle ≡ false
+spelled_handle directives tag handle suffix is none = ap spelled_breaks is ∙ spelling_breaks directives tag none
+
+-- without a value nothing is added
+pub short_collection : {empty : Bool} (name tag : ℕ) → empty ≡ true → is_short (0 + name + tag) ≡ (empty && is_short (name + tag))
+short_collection {empty} name tag is =
+    ap (λ n. is_short (n + tag)) (zero-add name) ∙ ap (λ e. e && is_short (name + tag)) (sym is)

@@ -1,0 +1,17 @@
+use Rattle.std.specs.Str.{chars}
+use Rattle.yaml_base.specs.Cursor.{Cursor, then_laid}
+use Rattle.yaml_base.specs.Layout.{place_laid, alias_laid}
+use Rattle.yaml_emitter.specs.Given.{seen_effective}
+use Rattle.yaml_emitter.specs.Places.{seen_place}
+use Rattle.yaml_emitter.proofs.WritingPieces.{wrote_lead}
+use Rattle.yaml_pen.proofs.Composing.{wrote_exit, wrote_failed, wrote_then}
+use Rattle.yaml_emitter.proofs.writing.nodes.write_alias.Goals as goal
+
+pub returns-in_err-write_place : goal.returns-in_err-write_place
+returns-in_err-write_place g c =
+    λ mark. wrote_lead (λ (cursor : Cursor). then_laid (place_laid (seen_effective c.args.settings.now) (seen_place c.args.place.now) c.args.simple cursor) (alias_laid (chars c.args.name.now) c.args.simple)) mark
+    (wrote_exit c.from_residual.ensures (wrote_failed (alias_laid (chars c.args.name.now) c.args.simple) c.in_err-write_place.ensures))
+
+pub returns : goal.returns
+returns g c = λ mark. wrote_lead (λ (cursor : Cursor). then_laid (place_laid (seen_effective c.args.settings.now) (seen_place c.args.place.now) c.args.simple cursor) (alias_laid (chars c.args.name.now) c.args.simple)) mark
+    (wrote_then c.in_ok-write_place.ensures c.write_alias_name.ensures)

@@ -1,0 +1,35 @@
+-- Borrowed texts, as the definitions see them.
+use Rattle.std.specs.Prelude.{ℕ, Option, List, option_map, option_copied, chars}
+use Rattle.std.specs.Borrow.{Bor}
+use Rattle.yaml_base.specs.Characters.{Text}
+use Rattle.yaml_base.specs.Tags.{Spelling, shorthand, verbatim}
+use Rattle.yaml_base.specs.Event.{Scalar, Collection, CollectionStyle}
+use Rattle.yaml_base.specs.Seen.{seen_scalar_style}
+use Rattle.yaml_emitter.specs.declared.writing.contents.ScalarContent.{ScalarContent}
+use Rattle.yaml_emitter.specs.declared.writing.contents.CollectionContent.{CollectionContent}
+use Rattle.yaml_emitter.specs.declared.writing.spelling.SpelledTag.{SpelledTag}
+use Rattle.yaml_emitter.specs.declared.writing.spelling.SpelledTag.TheVariants.{Shorthand, Verbatim}
+
+-- a borrowed text, where there is one
+abbrev pub seen_name : Option (Bor (List ℕ)) → Option Text
+seen_name name = option_map chars (option_copied name)
+
+abbrev pub seen_spelling : SpelledTag → Spelling
+seen_spelling (Shorthand handle suffix) = shorthand (chars handle.now) (chars suffix.now)
+seen_spelling (Verbatim tag) = verbatim (chars tag.now)
+
+abbrev pub seen_scalar : ScalarContent → Scalar
+seen_scalar content =
+    record {
+      anchor = seen_name content.anchor;
+      tag = seen_name content.tag;
+      value = chars content.value.now;
+      plain_implicit = content.plain_implicit;
+      quoted_implicit = content.quoted_implicit;
+      style = seen_scalar_style content.style;
+    }
+
+-- a collection's start, of a style
+abbrev pub seen_collection : CollectionContent → CollectionStyle → Collection
+seen_collection content style =
+    record { anchor = seen_name content.anchor; tag = seen_name content.tag; implicit = content.implicit; style = style }
