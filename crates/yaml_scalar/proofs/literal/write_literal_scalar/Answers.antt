@@ -1,4 +1,4 @@
-use Rattle.std.proofs.Common.{Ok, IfOk, rules}
+use Rattle.std.proofs.Common.{Ok, rules}
 use Rattle.std.proofs.lemmas.Result.{IfOk-from_err}
 use Rattle.std.specs.Str.{chars}
 use Rattle.yaml_base.specs.Literal.{literal_laid}
