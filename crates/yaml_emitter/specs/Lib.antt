@@ -10,3 +10,5 @@ pub mod Nesting
 pub mod WrittenPieces
 pub mod State
 pub mod Inside
+pub mod Processing
+pub mod StandsAfter

@@ -1,0 +1,86 @@
+-- What one event does to an emitter.
+use Rattle.std.specs.Prelude.{◌≡◌, ◌⊎◌, ℕ, Bool, true, false, not, ◌&&◌, Option, None, Some, Result, Ok, Err, List, [], ◌∷◌}
+use Rattle.yaml_base.specs.Errors.{refusal_number}
+use Rattle.yaml_base.specs.Settings.{effective}
+use Rattle.yaml_base.specs.Cursor.{Cursor, Laid}
+use Rattle.yaml_base.specs.Event.{Event, stream_start, stream_end, document_end, sequence_start, sequence_end, mapping_start, mapping_end}
+use Rattle.yaml_base.specs.Steps.{Stepped, step, stage_refusal}
+use Rattle.yaml_base.specs.declared.errors.yaml_error_t.{yaml_error_t}
+use Rattle.yaml_base.specs.declared.errors.yaml_error_t.TheVariants.{WriteError, Memory}
+use Rattle.yaml_pen.specs.Page.{encoded}
+use Rattle.yaml_pen.specs.Wrote.{Wrote}
+use Rattle.yaml_emitter.specs.State.{State, standing_of}
+use Rattle.yaml_emitter.specs.WrittenPieces.{piece_at}
+
+-- an event that starts a collection is followed at once by that collection's end
+abbrev pub closes_at_once : Event → List Event → Bool
+closes_at_once (sequence_start start) (sequence_end ∷ rest) = true
+closes_at_once (mapping_start start) (mapping_end ∷ rest) = true
+closes_at_once event rest = false
+
+-- an event's piece and what comes next; empty: the collection that it starts ends at once
+abbrev pub event_stepped : State → Event → (empty : Bool) → Stepped
+event_stepped before event empty = step before.settings before.stage event empty (standing_of before)
+
+-- the same piece by the cursor before it
+abbrev pub event_laid : State → Event → (empty : Bool) → Cursor → Laid
+event_laid before event empty =
+    piece_at (λ standing. (step before.settings before.stage event empty standing).laid) before.mark
+
+-- the refusal of an event where it stands
+abbrev pub refusal_now : State → Event → Option ℕ
+refusal_now state event = stage_refusal state.given.canonical state.stage event
+
+-- an event changes what is written and what comes next, and nothing that the caller set
+abbrev pub Keeps : State → State → Type 0
+Keeps before after =
+    after
+    ≡ record before { settings = after.settings; stage = after.stage; mark = after.mark; page = after.page }
+
+-- the stream's start settles what it is written by; any other event writes its piece
+abbrev pub WritesPage : Event → (empty : Bool) → State → State → Type 0
+WritesPage (stream_start encoding) empty before after =
+    let settings = effective before.given encoding in
+    (after.settings ≡ settings)
+    × (after.page ≡ record before.page { encoding = Some settings.encoding; line_break = settings.line_break; mark_due = false })
+WritesPage event empty before after =
+    (after.settings ≡ before.settings) × Wrote (event_laid before event empty) before.page after.page (Ok tt)
+
+-- the ends of documents and of the stream hand out all that is written
+abbrev pub hands_out : Event → Bool
+hands_out (document_end implicit) = true
+hands_out stream_end = true
+hands_out event = false
+
+-- an event that is written
+pub record Written (event : Event) (empty : Bool) (before after : State) : Type 0 where
+  pub kept : Keeps before after
+  pub accepted : refusal_now before event ≡ None
+  pub stage : after.stage ≡ (event_stepped before event empty).stage
+  pub mark : after.mark ≡ (event_stepped before event empty).laid.standing.mark
+  pub page : WritesPage event empty before after
+  pub handed_out : hands_out event ≡ true → after.page.output ≡ encoded after.page
+
+-- an event in whose work the output's limit or memory gave out: nothing of it is written, or a front of its piece
+pub record CutShort (error : yaml_error_t) (event : Event) (empty : Bool) (before after : State) : Type 0 where
+  pub kept : Keeps before after
+  pub settings : after.settings ≡ before.settings
+  pub page :
+      ((error ≡ Memory) × (after.page ≡ before.page))
+      ⊎ ((refusal_now before event ≡ None)
+      × (after.page.error ≡ Some WriteError → error ≡ WriteError)
+      × (error ≡ WriteError → after.page.error ≡ Some WriteError)
+      × ((answer : Result (Unit {0}) yaml_error_t) × Wrote (event_laid before event empty) before.page after.page answer))
+
+-- an event that is refused writes nothing
+pub record Refused (error : yaml_error_t) (event : Event) (before after : State) : Type 0 where
+  pub kept : Keeps before after
+  pub refusal : refusal_now before event ≡ Some (refusal_number error)
+  pub settings : after.settings ≡ before.settings
+  pub page : after.page ≡ before.page
+
+abbrev pub Processed : Event → (empty : Bool) → State → State → Result (Unit {0}) yaml_error_t → Type 0
+Processed event empty before after (Ok _) = Written event empty before after
+Processed event empty before after (Err WriteError) = CutShort WriteError event empty before after
+Processed event empty before after (Err Memory) = CutShort Memory event empty before after
+Processed event empty before after (Err error) = Refused error event before after

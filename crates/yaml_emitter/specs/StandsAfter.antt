@@ -1,0 +1,116 @@
+-- An emitter stands after the events that it was given.
+use Rattle.std.specs.Prelude.{◌≡◌, ◌⊎◌, ℕ, ◌+◌, ◌<◌, Bool, true, false, Option, None, Some, List, [], ◌∷◌, ◌++◌, length, take}
+use Rattle.yaml_base.specs.Errors.{refusal_number}
+use Rattle.yaml_base.specs.Settings.{Settings, Effective}
+use Rattle.yaml_base.specs.Characters.{Text}
+use Rattle.yaml_base.specs.Event.{Event}
+use Rattle.yaml_base.specs.Refusal.{BeginsAccepted, refusal}
+use Rattle.yaml_base.specs.Ready.{written}
+use Rattle.yaml_base.specs.Layout.{Piece, first_standing}
+use Rattle.yaml_base.specs.Steps.{at_stream, Steps, steps, step, progress, held_back}
+use Rattle.yaml_base.specs.Output.{settings_for, text_written}
+use Rattle.yaml_base.specs.declared.errors.yaml_error_t.{yaml_error_t}
+use Rattle.yaml_base.specs.declared.errors.yaml_error_t.TheVariants.{WriteError, Memory}
+use Rattle.yaml_pen.specs.Page.{Page, new_page, encoded, IsHandedOut}
+use Rattle.yaml_emitter.specs.State.{State, standing_of}
+use Rattle.yaml_emitter.specs.Processing.{closes_at_once}
+
+-- a page of a stream that was begun, with its settings, and this text
+pub record IsPage (s : Effective) (page : Page) : Type 0 where
+  pub encoding : page.encoding ≡ Some s.encoding
+  pub marked : page.mark_due ≡ false
+  pub line_break : page.line_break ≡ s.line_break
+  pub limit : page.limit ≡ s.limit
+  pub handed : IsHandedOut (encoded page) page.output page.limit page.error
+
+-- before the stream's start a page is new; after it, it holds the text of the pieces
+abbrev pub HoldsPieces : Effective → List Event → List Piece → Page → Type 0
+HoldsPieces s [] pieces page = page ≡ new_page s.limit
+HoldsPieces s (event ∷ events) pieces page =
+    IsPage s page × (page.text ≡ text_written s pieces) × (page.error ≡ None)
+
+abbrev pub IsSettled : Effective → List Event → State → Type 0
+IsSettled s [] state = Unit {0}
+IsSettled s (event ∷ events) state = state.settings ≡ s
+
+-- the state after some steps over a front of the events
+pub record HasTaken (given : Settings) (all front : List Event) (taken : Steps) (state : State) : Type 0 where
+  pub given_kept : state.given ≡ given
+  pub settled : IsSettled (settings_for given all) front state
+  pub stands : BeginsAccepted given.canonical front
+  pub stage : state.stage ≡ taken.stage
+  pub standing : standing_of state ≡ taken.standing
+  pub page : HoldsPieces (settings_for given all) front taken.pieces state.page
+
+-- without an error: the ready events are written, the others held
+pub record StandsWell (given : Settings) (all : List Event) (state : State) : Type 0 where
+  pub taken : HasTaken given all (take (written all) all) (progress (settings_for given all) all) state
+  pub held : state.held ≡ held_back all
+
+-- all events up to one that became ready, and those given after it
+pub record FailedAt (all front : List Event) (event : Event) (later : List Event) : Type 0 where
+  pub parts : front ++ event ∷ later ≡ all
+  pub became_ready : length front < written all
+
+-- the last of some events starts a collection that the event after them ends
+abbrev pub closes_last : List Event → List Event → Bool
+closes_last [] rest = false
+closes_last (event ∷ []) rest = closes_at_once event rest
+closes_last (event ∷ next ∷ more) rest = closes_last (next ∷ more) rest
+
+-- an event was refused: it added no text
+pub record StandsRefused (given : Settings) (all : List Event) (error : yaml_error_t) (state : State) : Type 0 where
+  pub front : List Event
+  pub event : Event
+  pub later : List Event
+  pub failed : FailedAt all front event later
+  pub taken : HasTaken given all front (steps (settings_for given all) false front at_stream first_standing) state
+  pub refusal : refusal given.canonical front event ≡ Some (refusal_number error)
+
+-- a text is a front of another
+pub record IsFront (front whole : Text) : Type 0 where
+  pub rest : Text
+  pub parts : front ++ rest ≡ whole
+
+-- the output's limit or memory gave out at an event: what was written is what was before, or that with a front of
+-- the event's own piece
+pub record StandsCut (given : Settings) (all : List Event) (error : yaml_error_t) (state : State) : Type 0 where
+  pub front : List Event
+  pub event : Event
+  pub later : List Event
+  pub failed : FailedAt all front event later
+  pub given_kept : state.given ≡ given
+  pub stands : BeginsAccepted given.canonical front
+  pub page :
+      ((error ≡ Memory) × HoldsPieces (settings_for given all) front (steps (settings_for given all) (closes_last front (event ∷ later)) front at_stream first_standing).pieces state.page)
+      ⊎ (BeginsAccepted given.canonical (front ++ event ∷ [])
+      × IsPage (settings_for given all) state.page
+      × (error ≡ WriteError → state.page.error ≡ Some WriteError)
+      × IsFront state.page.text
+      (text_written (settings_for given all) (steps (settings_for given all) (closes_at_once event later) (front ++ event ∷ []) at_stream first_standing).pieces))
+
+abbrev pub StandsFailed : Settings → List Event → yaml_error_t → State → Type 0
+StandsFailed given all WriteError state = StandsCut given all WriteError state
+StandsFailed given all Memory state = StandsCut given all Memory state
+StandsFailed given all error state = StandsRefused given all error state
+
+-- an emitter without an error stands well; after an error nothing is held
+abbrev pub StandsBy : Settings → List Event → Option yaml_error_t → State → Type 0
+StandsBy given all None state = StandsWell given all state
+StandsBy given all (Some error) state = (state.held ≡ []) × StandsFailed given all error state
+
+-- the emitter stands after these events, under these settings
+abbrev pub StandsAfter : Settings → List Event → State → Type 0
+StandsAfter given all state = StandsBy given all state.error state
+
+-- on the way: a front of the events is written, the others wait
+pub record Reached (given : Settings) (all front rest : List Event) (state : State) : Type 0 where
+  pub parts : front ++ rest ≡ all
+  pub held : state.held ≡ rest
+  pub no_error : state.error ≡ None
+  pub ready : written all ≡ length front + written rest
+  pub taken : HasTaken given all front (steps (settings_for given all) (closes_last front rest) front at_stream first_standing) state
+
+-- after an error the events that waited are dropped
+abbrev pub failed_by : yaml_error_t → State → State
+failed_by error state = record state { held = []; error = Some error }
