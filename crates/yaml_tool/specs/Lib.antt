@@ -1,3 +1,4 @@
+pub mod Answers
 pub mod Cuts
 pub mod Events
 pub mod Fields

@@ -1,6 +1,7 @@
 //! Scripts of YAML events: how they are read.
 #![tactic(auto)]
 
+mod answers;
 mod directives;
 mod events;
 mod fields;
@@ -11,6 +12,7 @@ mod settings;
 mod texts;
 mod words;
 
+pub use answers::{run_answer_t, status, write_line};
 pub use scripts::{NumberedEvent, Script, ScriptError, read_script};
 pub use settings::Settings;
 

@@ -5,7 +5,8 @@ use yaml_base::{
     YAML_ANY_BREAK, YAML_ANY_ENCODING, YAML_ANY_SCALAR_STYLE, YAML_DOCUMENT_END_EVENT,
     YAML_DOCUMENT_START_EVENT, YAML_FLOW_SEQUENCE_STYLE, YAML_FOLDED_SCALAR_STYLE,
     YAML_SCALAR_EVENT, YAML_SEQUENCE_START_EVENT, YAML_STREAM_END_EVENT, YAML_STREAM_START_EVENT,
-    YAML_UTF16BE_ENCODING, yaml_event_t, yaml_tag_directive_t, yaml_version_directive_t,
+    YAML_UTF16BE_ENCODING, yaml_error_t, yaml_event_t, yaml_tag_directive_t,
+    yaml_version_directive_t,
 };
 
 fn text(alloc: Global, s: &str) -> Result<String, AllocError> {
@@ -146,4 +147,36 @@ fn the_first_bad_line_is_told(rt: HostRuntime) {
         _ => 0,
     };
     assert_eq!(rt; told, 2);
+}
+
+#[test]
+fn each_answer_has_its_status_and_its_line(rt: HostRuntime) -> Result<(), Fail> {
+    let alloc = rt.alloc();
+    for (answer, code, line) in [
+        (run_answer_t::Done, 0, ""),
+        (
+            run_answer_t::Refused(2, yaml_error_t::ExpectedStreamStart),
+            1,
+            "yamlemit: line 2: expected STREAM-START\n",
+        ),
+        (
+            run_answer_t::Refused(7, yaml_error_t::Memory),
+            1,
+            "yamlemit: line 7: out of memory\n",
+        ),
+        (
+            run_answer_t::BadLine(1),
+            2,
+            "yamlemit: line 1: cannot be read\n",
+        ),
+        (run_answer_t::ReadFailed, 3, "yamlemit: cannot read\n"),
+        (run_answer_t::WriteFailed, 3, "yamlemit: cannot write\n"),
+        (run_answer_t::NoMemory, 3, "yamlemit: out of memory\n"),
+    ] {
+        assert_eq!(rt; status(&answer), code);
+        let mut written: Vec<u8> = Vec::new(alloc);
+        write_line(&answer, &mut written)?;
+        assert_eq!(rt; written.as_slice(), line.as_bytes());
+    }
+    Ok(())
 }
