@@ -10,6 +10,7 @@ pub mod Pushes
 pub mod StepLaws
 pub mod Trees
 pub mod RowsPieces
+pub mod RowsMeaning
 pub mod RowEvents
 pub mod RowsLayout
 pub mod RowsGrammar

@@ -32,6 +32,7 @@ pub mod Layout
 pub mod Steps
 pub mod Pieces
 pub mod Output
+pub mod Meaning
 pub mod Content
 pub mod CanonicalReader
 pub mod Meetings

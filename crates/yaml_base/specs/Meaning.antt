@@ -1,0 +1,59 @@
+-- What the texts of scalars mean: each scalar's body in a layout, read by the rules of its style where it stands, is
+-- its value (YAML 1.1, chapter 9).
+use Rattle.std.specs.Prelude.{◌≡◌, ℕ, Bool, true, Option, None, Some, List}
+use Rattle.std.specs.List.{All, list_all}
+use Rattle.std.specs.Str.{all_scalars}
+use Rattle.yaml_base.specs.Characters.{Text}
+use Rattle.yaml_base.specs.Settings.{Encoding, Settings, Effective, effective}
+use Rattle.yaml_base.specs.LineBreaks.{is_indented_text, with_breaks_written, with_line_breaks_read}
+use Rattle.yaml_base.specs.Event.{ScalarStyle, any_style, plain, single_quoted, double_quoted, literal, folded, Event, scalar}
+use Rattle.yaml_base.specs.ReadPlain.{read_plain}
+use Rattle.yaml_base.specs.ReadSingle.{read_single}
+use Rattle.yaml_base.specs.ReadDouble.{read_double}
+use Rattle.yaml_base.specs.ReadBlock.{read_block}
+use Rattle.yaml_base.specs.Refusal.{IsAccepted}
+use Rattle.yaml_base.specs.NodeLayout.{Body, bodies_of}
+use Rattle.yaml_base.specs.Pieces.{list_layout}
+
+-- the rules of a style: plain text is read in flow or in block, a block scalar in a block whose entries stand at a
+-- column; `any` is no style of a text
+abbrev pub read_in_style : ScalarStyle → (breaks12 flow : Bool) → (column : Option ℕ) → Text → Option Text
+read_in_style any_style breaks12 flow column text = None
+read_in_style plain breaks12 flow column text = read_plain breaks12 flow text
+read_in_style single_quoted breaks12 flow column text = read_single breaks12 text
+read_in_style double_quoted breaks12 flow column text = read_double breaks12 text
+read_in_style literal breaks12 flow column text = read_block breaks12 column text
+read_in_style folded breaks12 flow column text = read_block breaks12 column text
+
+-- a body as it is written, with the line breaks of the settings
+abbrev pub body_written : Effective → Body → Text
+body_written s body = with_breaks_written s.line_break body.text
+
+-- what a written body reads as, once its line breaks are read
+abbrev pub body_read : Effective → Body → Option Text
+body_read s body =
+    read_in_style body.style s.breaks12 body.in_flow body.column (with_line_breaks_read (body_written s body))
+
+-- a body reads as exactly its value
+abbrev pub BodyReads : Effective → Body → Type 0
+BodyReads s body = body_read s body ≡ Some body.value
+
+-- each nonempty line of a body after its first begins with at least two spaces, so none is a document's mark
+abbrev pub BodyIsIndented : Effective → Body → Type 0
+BodyIsIndented s body = is_indented_text (body_written s body) ≡ true
+
+pub record BodyMeans (s : Effective) (body : Body) : Type 0 where
+  pub reads : BodyReads s body
+  pub indented : BodyIsIndented s body
+
+-- a scalar's value consists of Unicode scalar values, as every `String` does
+abbrev pub has_scalar_values : Event → Bool
+has_scalar_values (scalar content) = all_scalars content.value
+has_scalar_values _ = true
+
+-- under all settings each body in the layout of an accepted list reads as its value
+abbrev pub MeaningIsKept : Type 0
+MeaningIsKept =
+    (given : Settings) (encoding : Option Encoding) (events : List Event) → IsAccepted given.canonical events
+    → list_all has_scalar_values events ≡ true
+    → All (BodyMeans (effective given encoding)) (bodies_of (list_layout (effective given encoding) events))
