@@ -5,3 +5,6 @@ pub mod Fits
 pub mod WritingPieces
 pub mod WritingDirectives
 pub mod WritingTags
+pub mod MeaningStyles
+pub mod MeaningBodies
+pub mod Meaning

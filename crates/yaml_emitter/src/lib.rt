@@ -5,9 +5,12 @@ mod check;
 mod directives;
 mod emitter;
 mod frames;
+mod laws;
 mod place;
 mod queue;
 mod setters;
 mod settings;
 mod stage;
 mod writing;
+
+pub use laws::meaning_is_kept;
