@@ -205,7 +205,7 @@ fn begins_with_hash(rest: &str) -> bool
 }
 
 /// A space stands here.
-fn begins_with_space(rest: &str) -> bool
+pub(crate) fn begins_with_space(rest: &str) -> bool
     ensures { result ≡ spec.begins_with class.is_space (chars rest.now) }
 {
     match rest.chars().next() {

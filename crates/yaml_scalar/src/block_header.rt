@@ -3,12 +3,12 @@ ghost use Rattle.std.specs.Prelude.{◌≡◌, ◌≤ℤ◌, ◌<◌, ◌∷◌,
 ghost use Rattle.std.specs.Str.{chars};
 ghost use Rattle.yaml_base.specs.BlockHeader as layout;
 ghost use Rattle.yaml_base.specs.Characters as class;
-ghost use Rattle.yaml_base.specs.Cursor.{nothing_laid};
 ghost use Rattle.yaml_pen.specs.Page.{IsReady, natural};
 ghost use Rattle.yaml_pen.specs.Wrote.{Wrote};
 ghost use Rattle.yaml_scalar.specs.BlockCode.{seen_ending, without_mark};
 ghost use Rattle.yaml_scalar.specs.BlockSteps as step;
 
+use crate::steps::go_on;
 use std::alloc::Allocator;
 use yaml_base::{is_break, is_space, yaml_error_t};
 use yaml_pen::Pen;
@@ -134,17 +134,6 @@ fn write_hint<A: Allocator>(pen: &mut Pen<A>, hint: u8) -> Result<(), yaml_error
     pen.set_whitespace(false);
     pen.set_indention(false);
     Ok(())
-}
-
-/// Nothing is written, and the error of a pen that failed is told.
-pub(crate) fn go_on<A: Allocator>(pen: &Pen<A>) -> Result<(), yaml_error_t>
-    requires { IsReady pen.now }
-    ensures { Wrote nothing_laid pen.now pen.now result }
-{
-    match pen.error() {
-        Some(error) => Err(error),
-        None => Ok(()),
-    }
 }
 
 /// The first line would not show the indentation.

@@ -12,7 +12,8 @@ ghost use Rattle.yaml_scalar.specs.BlockSteps as step;
 ghost use Rattle.yaml_scalar.specs.declared.block_lines.Place.TheVariants.{LineStart};
 ghost use Rattle.yaml_scalar.specs.Width.{limit_of};
 
-use crate::block_header::go_on;
+use crate::analysis::begins_with_space;
+use crate::steps::go_on;
 use crate::width::is_past_width;
 use std::alloc::Allocator;
 use yaml_base::{is_break, is_space, yaml_error_t};
@@ -164,15 +165,6 @@ fn entered(folded: bool, first: char) -> Place
         Place::Folding
     } else {
         Place::Fixed
-    }
-}
-
-fn begins_with_space(rest: &str) -> bool
-    ensures { result ≡ analysis.begins_with class.is_space (chars rest.now) }
-{
-    match rest.chars().next() {
-        Some(c) => is_space(c),
-        None => false,
     }
 }
 
