@@ -4,6 +4,8 @@ ghost use Rattle.yaml_pen.specs.Page.{IsReady};
 
 mod block;
 mod plain;
+mod quoted;
+mod short_quoted;
 mod short_values;
 mod single_quoted;
 
