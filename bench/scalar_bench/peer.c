@@ -6,10 +6,10 @@
 #include <time.h>
 #include <yaml.h>
 
-static const char *prose = "It was a bright cold day in April, and the clocks were striking thirteen; nobody in the "
-    "street looked up, for it's known that clocks will strike what they like in a spring as late as this one. ";
-static const char *lines = "It was a bright cold day in April, and the clocks were striking thirteen; nobody in the "
-    "street looked up, for it's known that clocks will strike what they like in a spring as late as this one.\n"
+static const char *prose = "On a slow warm evening in July all the boats had come home before supper; nobody on the "
+    "harbour wall looked up, for it's known that boats will sail as they like in a summer as dry as this one. ";
+static const char *lines = "On a slow warm evening in July all the boats had come home before supper; nobody on the "
+    "harbour wall looked up, for it's known that boats will sail as they like in a summer as dry as this one.\n"
     "She said \"so be it\", shut the window and went on reading where she had left off the evening before.\n\n";
 static unsigned char *out; static size_t out_n, out_cap;
 

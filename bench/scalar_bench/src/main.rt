@@ -20,12 +20,12 @@ use yaml_scalar::{
 };
 
 const PROSE: &str =
-    "It was a bright cold day in April, and the clocks were striking thirteen; nobody in the \
-    street looked up, for it's known that clocks will strike what they like in a spring as late as this one. ";
+    "On a slow warm evening in July all the boats had come home before supper; nobody on the \
+    harbour wall looked up, for it's known that boats will sail as they like in a summer as dry as this one. ";
 
 const LINES: &str =
-    "It was a bright cold day in April, and the clocks were striking thirteen; nobody in the \
-    street looked up, for it's known that clocks will strike what they like in a spring as late as this one.\n\
+    "On a slow warm evening in July all the boats had come home before supper; nobody on the \
+    harbour wall looked up, for it's known that boats will sail as they like in a summer as dry as this one.\n\
     She said \"so be it\", shut the window and went on reading where she had left off the evening before.\n\n";
 
 fn begun<A: Allocator + Copy>(alloc: A) -> Result<Pen<A>, yaml_error_t>
