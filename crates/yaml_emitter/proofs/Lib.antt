@@ -1,3 +1,4 @@
+pub mod WritingScalars
 pub mod Fronts
 pub mod Signs
 pub mod Defaults

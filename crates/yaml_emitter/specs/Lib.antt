@@ -1,3 +1,4 @@
+pub mod ScalarTexts
 pub mod BorrowedTexts
 pub mod Given
 pub mod Queue

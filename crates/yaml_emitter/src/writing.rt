@@ -7,4 +7,6 @@ mod marks;
 mod nodes;
 mod places;
 mod properties;
+mod scalars;
 mod spelling;
+mod styles;

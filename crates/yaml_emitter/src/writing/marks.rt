@@ -1,6 +1,7 @@
 //! Whether a document's end is still open behind what is written.
 
-ghost use Rattle.std.specs.Prelude.{◌≡◌, ◌==◌, not, if◌then◌else◌};
+ghost use Rattle.std.specs.Prelude.{◌≡◌, ◌==◌, pos, not, if◌then◌else◌};
+ghost use Rattle.yaml_base.specs.BlockHeader.{Ending, ending_mark};
 ghost use Rattle.yaml_emitter.specs.WrittenPieces.{seen_mark};
 
 /// What an explicit `...` would have to close.
@@ -31,6 +32,17 @@ impl OpenMark {
         match self {
             OpenMark::KeptBreaks => true,
             _ => false,
+        }
+    }
+
+    /// After the header of a block scalar, whose own mark is 0 or 2.
+    pub(crate) fn after_header(mark: i32) -> OpenMark
+        ensures { (ending : Ending) → mark ≡ pos (ending_mark ending) → seen_mark result ≡ ending_mark ending }
+    {
+        if mark == 2 {
+            OpenMark::KeptBreaks
+        } else {
+            OpenMark::Closed
         }
     }
 

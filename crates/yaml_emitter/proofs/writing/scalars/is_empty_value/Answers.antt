@@ -1,0 +1,6 @@
+use Rattle.std.proofs.Common.{◌∙◌}
+use Rattle.yaml_emitter.proofs.WritingScalars.{empty_value}
+use Rattle.yaml_emitter.proofs.writing.scalars.is_empty_value.Goals as goal
+
+pub returns : goal.returns
+returns c = c.is_empty.ensures ∙ empty_value c.args.value.now c.utf8.value

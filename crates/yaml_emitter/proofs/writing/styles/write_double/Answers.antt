@@ -1,0 +1,23 @@
+use Rattle.std.proofs.Common.{rules, ◌∙◌, w32}
+use Rattle.std.specs.Str.{chars}
+use Rattle.std.proofs.lemmas.Int.{to_z-of_z}
+use mir.Val.{SFits}
+use Rattle.yaml_emitter.proofs.WritingScalars.{wrote_exit_from, wrote_double}
+use Rattle.yaml_emitter.proofs.writing.styles.write_double.Goals as goal
+
+pub returns-in_err-write_double_quoted_scalar-clause-written : goal.returns-in_err-write_double_quoted_scalar-clause-written
+returns-in_err-write_double_quoted_scalar-clause-written g c =
+    let fits : SFits w32 c.args.settings.now.width = search rules in
+    let indent_fits : SFits w32 c.line_indent-indent.result = search rules in
+    wrote_exit_from c.from_residual.result c.from_residual.ensures
+    (wrote_double c.args.settings.now c.args.place.now.in_flow c.args.simple (chars c.args.value.now)
+    (to_z-of_z w32 c.line_indent-indent.result indent_fits ∙ c.line_indent-indent.ensures.value) (to_z-of_z w32 c.args.settings.now.width fits) c.requires.settings.width
+    c.in_err-write_double_quoted_scalar.ensures.written)
+
+pub returns-clause-written : goal.returns-clause-written
+returns-clause-written g c =
+    let fits : SFits w32 c.args.settings.now.width = search rules in
+    let indent_fits : SFits w32 c.line_indent-indent.result = search rules in
+    wrote_double c.args.settings.now c.args.place.now.in_flow c.args.simple (chars c.args.value.now)
+    (to_z-of_z w32 c.line_indent-indent.result indent_fits ∙ c.line_indent-indent.ensures.value) (to_z-of_z w32 c.args.settings.now.width fits) c.requires.settings.width
+    c.in_ok-write_double_quoted_scalar.ensures.written

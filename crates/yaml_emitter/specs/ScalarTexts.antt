@@ -1,0 +1,26 @@
+-- A scalar's text after its lead.
+use Rattle.std.specs.Prelude.{ℕ, Bool, true, ◌&&◌, not, Result, Ok, Err, Option, None, if◌then◌else◌}
+use Rattle.yaml_base.specs.Analysis.{is_empty}
+use Rattle.yaml_base.specs.Characters.{Text}
+use Rattle.yaml_base.specs.Cursor.{Cursor, Laid, then_laid}
+use Rattle.yaml_base.specs.Event.{ScalarStyle, literal, folded}
+use Rattle.yaml_base.specs.Layout.{body_laid, separation_laid}
+use Rattle.yaml_base.specs.Settings.{Effective}
+use Rattle.yaml_base.specs.declared.errors.yaml_error_t.{yaml_error_t}
+
+-- the separating space and the body; a simple key has no fold
+abbrev pub scalar_text_laid : ScalarStyle → Effective → (in_flow simple : Bool) → (indent : ℕ) → Text → Cursor → Laid
+scalar_text_laid style s in_flow simple indent value cursor =
+    then_laid (separation_laid style in_flow value cursor)
+    (body_laid style s (if simple then None else s.width) indent value)
+
+-- block styles are for values that aren't empty, and not for simple keys
+abbrev pub style_fits : ScalarStyle → Text → (simple : Bool) → Bool
+style_fits literal value simple = not (is_empty value) && not simple
+style_fits folded value simple = not (is_empty value) && not simple
+style_fits _ value simple = true
+
+-- whether a call failed, and how
+abbrev pub without_answer : {T : Type 0} → Result T yaml_error_t → Result (Unit {0}) yaml_error_t
+without_answer (Ok _) = Ok tt
+without_answer (Err error) = Err error
