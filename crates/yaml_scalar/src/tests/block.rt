@@ -181,3 +181,35 @@ fn line_breaks_are_those_of_the_setting(rt: HostRuntime) -> Result<(), Fail> {
     }
     Ok(())
 }
+
+#[test]
+fn a_limit_cuts_and_stops(rt: HostRuntime) -> Result<(), Fail> {
+    let whole = b">2-\n\n  a\n  b";
+    let value = "\na b";
+    assert!(rt; is_allowed(value));
+    for limit in 0..=whole.len() {
+        let mut pen = begun_within(rt.alloc(), limit)?;
+        if is_allowed(value) {
+            assert_eq!(rt; write_folded_scalar(&mut pen, value, 2, 2, 2), Ok(0));
+            if limit < whole.len() {
+                assert_eq!(rt; pen.flush(), Err(yaml_error_t::WriteError));
+                assert_eq!(rt;
+                    write_folded_scalar(&mut pen, value, 2, 2, 2),
+                    Err(yaml_error_t::WriteError)
+                );
+                assert_eq!(rt;
+                    write_literal_scalar(&mut pen, value, 2, 2),
+                    Err(yaml_error_t::WriteError)
+                );
+                assert_eq!(rt;
+                    write_block_scalar_hints(&mut pen, "a\n", 2),
+                    Err(yaml_error_t::WriteError)
+                );
+            } else {
+                assert_eq!(rt; pen.flush(), Ok(()));
+            }
+        }
+        assert!(rt; pen.output() == &whole[..limit]);
+    }
+    Ok(())
+}
