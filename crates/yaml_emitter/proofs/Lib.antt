@@ -1,3 +1,4 @@
+pub mod WritingNames
 pub mod WritingScalars
 pub mod Fronts
 pub mod Signs

@@ -1,6 +1,6 @@
 -- A sign's bytes are its characters, and none of them is a break.
-use Rattle.std.proofs.Common.{◌≡◌, ℕ, ◌<◌, Bool, true, false, List, [], ◌∷◌, ◌||◌, ◌==◌, refl, ap, ◌∙◌, nat_lt, arith}
-use Rattle.std.specs.List.{list_any, list_all, All}
+use Rattle.std.proofs.Common.{◌≡◌, ℕ, ◌<◌, true, false, List, [], ◌∷◌, ◌||◌, ◌==◌, refl, ap, ◌∙◌, arith}
+use Rattle.std.specs.List.{list_any, All}
 use Rattle.std.specs.Str.{chars}
 use Rattle.std.proofs.lemmas.Str.{chars-IsAscii}
 use Rattle.std.proofs.lemmas.Str.Ascii.{IsAscii-from_all}

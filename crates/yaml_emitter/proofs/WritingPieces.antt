@@ -1,9 +1,9 @@
 -- A piece without a body is its lead; the pieces of documents as their parts.
-use Rattle.std.proofs.Common.{◌≡◌, ℕ, Bool, true, false, not, ◌&&◌, ◌==◌, ◌∙◌, Result, List, [], ◌++◌, refl, sym, ap, append-nil}
+use Rattle.std.proofs.Common.{◌≡◌, ℕ, Bool, true, false, not, ◌&&◌, ◌==◌, ◌∙◌, Result, refl, sym, ap, append-nil}
 use Rattle.yaml_base.specs.Characters.{Text}
 use Rattle.yaml_base.specs.Cursor.{Cursor, Laid, then_laid, new_line}
 use Rattle.yaml_base.specs.Event.{DocumentStart}
-use Rattle.yaml_base.specs.Layout.{has_directives, is_explicit, document_start_laid, document_start_piece, lead_alone, laid_if, closing_mark_laid, document_end_piece, stream_end_piece}
+use Rattle.yaml_base.specs.Layout.{has_directives, is_explicit, document_start_laid, document_start_piece, lead_alone, laid_if, closing_mark_laid, document_end_piece}
 use Rattle.yaml_base.specs.declared.errors.yaml_error_t.{yaml_error_t}
 use Rattle.yaml_pen.specs.Page.{Page}
 use Rattle.yaml_pen.specs.Wrote.{Wrote}

@@ -1,6 +1,6 @@
 -- Scalars: what the writers of the styles write is the text that the layout puts there, and with what stands before it
 -- the scalar's piece.
-use Rattle.std.proofs.Common.{◌≡◌, ℕ, ℤ, pos, negsuc, ◌≤ℤ◌, Bool, true, false, ◌||◌, ◌&&◌, not, ◌==◌, inl, inr, length, Option, None, Result, Ok, Err, IsErr, IsErrAnd, List, ◌++◌, refl, sym, ap, ◌∙◌, subst, append_assoc, if◌then◌else◌, arith}
+use Rattle.std.proofs.Common.{◌≡◌, ℕ, ℤ, pos, negsuc, ◌≤ℤ◌, Bool, true, false, ◌||◌, ◌&&◌, not, ◌==◌, inl, inr, length, Option, None, Result, Ok, Err, IsErr, IsErrAnd, List, refl, sym, ap, ◌∙◌, subst, append_assoc, if◌then◌else◌, arith}
 use Rattle.std.proofs.lemmas.Int.{ints}
 use Rattle.std.specs.Str.{chars, IsUtf8}
 use Rattle.std.specs.Result.{IfOk, MatchResult}
@@ -17,7 +17,7 @@ use Rattle.yaml_base.specs.Plain.{plain_laid}
 use Rattle.yaml_base.specs.Refusal.{scalar_tag}
 use Rattle.yaml_base.specs.Settings.{Effective}
 use Rattle.yaml_base.specs.SingleQuoted.{single_quoted_laid}
-use Rattle.yaml_base.specs.Style.{Choice, style_fitting, style_asked, style_quoted}
+use Rattle.yaml_base.specs.Style.{Choice, style_fitting, style_quoted}
 use Rattle.yaml_base.specs.declared.errors.yaml_error_t.{yaml_error_t}
 use Rattle.yaml_pen.specs.Page.{Page, natural}
 use Rattle.yaml_pen.specs.Wrote.{Wrote}
@@ -167,6 +167,6 @@ if_ok_from P P' Q (Err e) holds h = tt
 pub empty_value : (bytes : List ℕ) → IsUtf8 bytes → (length bytes == 0) ≡ is_empty (chars bytes)
 empty_value bytes text =
     elim (cases_Bool (length bytes == 0)) as (λ _. (length bytes == 0) ≡ is_empty (chars bytes)) [
-      inl none ↦ none ∙ ap is_empty (sym (no_characters bytes none))
-    | inr some ↦ let first = characters_begin bytes text some in some ∙ ap is_empty (sym first.2)
+      | inl none ↦ none ∙ ap is_empty (sym (no_characters bytes none))
+      | inr some ↦ let first = characters_begin bytes text some in some ∙ ap is_empty (sym first.2)
     ]

@@ -1,5 +1,5 @@
 -- How far in a document goes, and what its settings come to: the emitter's own bounds.
-use Rattle.std.specs.Prelude.{ℕ, ℤ, pos, ◌≤◌, ◌≤ℤ◌, Option}
+use Rattle.std.specs.Prelude.{ℕ, pos, ◌≤◌, ◌≤ℤ◌, Option}
 use Rattle.yaml_base.specs.Layout.{line_column}
 use Rattle.yaml_emitter.specs.declared.settings.EffectiveSettings.{EffectiveSettings}
 

@@ -1,5 +1,5 @@
 -- Signs and names, which stand on one line.
-use Rattle.std.specs.Prelude.{◌≡◌, ℕ, Bool, true, false, Option, None, Some, List, ◌&&◌, nat_lt}
+use Rattle.std.specs.Prelude.{ℕ, Bool, false, Option, None, Some, List, ◌&&◌, nat_lt}
 use Rattle.std.specs.List.{list_any, list_all}
 use Rattle.yaml_base.specs.Characters.{Text, is_break}
 use Rattle.yaml_base.specs.Event.{TagDirective}

@@ -10,3 +10,14 @@ mod properties;
 mod scalars;
 mod spelling;
 mod styles;
+
+pub(crate) use contents::{CollectionContent, ScalarContent, borrowed_text};
+pub(crate) use counts::{is_simple_alias, is_simple_collection, is_simple_scalar};
+pub(crate) use directives::write_document_start;
+pub(crate) use documents::{write_document_end, write_stream_end};
+pub(crate) use marks::OpenMark;
+pub(crate) use nodes::{
+    entries_column, is_written_in_flow, write_alias, write_collection_start, write_mapping_end,
+    write_sequence_end,
+};
+pub(crate) use scalars::write_scalar;

@@ -1,11 +1,10 @@
 //! Simple keys: nodes without a break, whose names, tag and value are short.
 
-ghost use Rattle.std.specs.Prelude.{◌≡◌, ℕ, ◌+◌, ◌&&◌, not, min, chars};
+ghost use Rattle.std.specs.Prelude.{◌≡◌, ℕ, ◌+◌, ◌&&◌, min, chars};
 ghost use Rattle.std.specs.List.{list_any};
 ghost use Rattle.yaml_base.specs.Characters as class;
 ghost use Rattle.yaml_base.specs.Event.{CollectionStyle};
 ghost use Rattle.yaml_base.specs.Layout as layout;
-ghost use Rattle.yaml_base.specs.Tags.{Spelling};
 ghost use Rattle.yaml_emitter.specs.BorrowedTexts.{seen_name, seen_collection, seen_scalar, seen_spelling};
 
 use crate::writing::contents::{
@@ -34,7 +33,11 @@ pub(crate) fn is_simple_scalar<A: Allocator>(
 {
     let tag = written_scalar_tag(content, canonical);
     !holds_break(content.value)
-        && is_short(byte_count(content.value), name_count(content.anchor), tag_count(directives, tag))
+        && is_short(
+            byte_count(content.value),
+            name_count(content.anchor),
+            tag_count(directives, tag),
+        )
 }
 
 pub(crate) fn is_simple_collection<A: Allocator>(

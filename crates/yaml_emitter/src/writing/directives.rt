@@ -3,8 +3,7 @@
 ghost use Rattle.std.specs.Prelude.{◌≡◌, ◌==◌, ◌||◌, ◌&&◌, option_map, is_some, map, length, chars, not, false};
 ghost use Rattle.std.specs.List.{list_any};
 ghost use Rattle.yaml_base.specs.Characters.{is_break};
-ghost use Rattle.yaml_base.specs.Layout as layout;
-ghost use Rattle.yaml_base.specs.Layout.{document_start_piece, document_start_laid, tag_directive_laid, tag_directives_laid};
+ghost use Rattle.yaml_base.specs.Layout.{document_start_piece, tag_directive_laid, tag_directives_laid};
 ghost use Rattle.yaml_base.specs.Seen.{seen_directive, seen_version, seen_text};
 ghost use Rattle.yaml_pen.specs.Page.{IsReady};
 ghost use Rattle.yaml_pen.specs.Wrote.{Wrote};

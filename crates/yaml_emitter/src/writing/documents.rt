@@ -1,8 +1,7 @@
 //! What the starts and ends of documents write (YAML 1.1, chapter 9).
 
-ghost use Rattle.std.specs.Prelude.{◌≡◌, ◌==◌, ℕ, Option, is_some, option_map, map, length, true, false, not, ◌||◌, codes};
-ghost use Rattle.yaml_base.specs.Cursor.{nothing_laid, then_laid, new_line};
-ghost use Rattle.yaml_base.specs.Event.{DocumentStart};
+ghost use Rattle.std.specs.Prelude.{◌≡◌, ◌==◌, ℕ, Option, option_map, true, false, codes};
+ghost use Rattle.yaml_base.specs.Cursor.{then_laid, new_line};
 ghost use Rattle.yaml_base.specs.Layout.{sign_laid, closing_mark_laid, laid_if, document_mark_laid, document_end_piece, stream_end_piece};
 ghost use Rattle.yaml_base.specs.Layout as layout;
 ghost use Rattle.yaml_base.specs.Seen.{seen_version};

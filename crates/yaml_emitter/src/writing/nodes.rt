@@ -85,7 +85,16 @@ pub(crate) fn write_collection_start<A: Allocator>(
     ensures { (style : CollectionStyle) (mark : ℕ) → Wrote (piece_at (start_piece (seen_effective settings.now) directives.now (seen_place place.now) simple (seen_collection content.now style)) mark) pen.old pen.new result }
 {
     let tag = written_collection_tag(content, settings.canonical);
-    write_node_lead(pen, settings, directives, place, simple, content.anchor, tag, false)
+    write_node_lead(
+        pen,
+        settings,
+        directives,
+        place,
+        simple,
+        content.anchor,
+        tag,
+        false,
+    )
 }
 
 /// What stands before a node, its anchor and its tag.

@@ -3,7 +3,7 @@
 ghost use Rattle.std.specs.Prelude.{◌≡◌, ◌≤ℤ◌, pos, false, true, codes, ◌||◌};
 ghost use Rattle.yaml_base.specs.Cursor as layout;
 ghost use Rattle.yaml_base.specs.Cursor.{nothing_laid, then_laid, new_line, indicator};
-ghost use Rattle.yaml_base.specs.Layout.{as_item, as_key, flow_break, opening_or_comma, key_sign, flow_place_laid, block_place_laid, place_laid, line_column};
+ghost use Rattle.yaml_base.specs.Layout.{as_key, flow_break, opening_or_comma, key_sign, flow_place_laid, block_place_laid, place_laid, line_column};
 ghost use Rattle.yaml_pen.specs.Page.{IsReady};
 ghost use Rattle.yaml_pen.specs.Wrote.{Wrote};
 ghost use Rattle.yaml_emitter.specs.Given.{seen_effective, seen_width};

@@ -1,10 +1,10 @@
 //! Anchors, aliases and tags (YAML 1.1, section 6.9).
 
-ghost use Rattle.std.specs.Prelude.{◌≡◌, Some, chars, codes, true, false};
+ghost use Rattle.std.specs.Prelude.{◌≡◌, Some, chars, true, false};
 ghost use Rattle.std.specs.List.{list_any};
 ghost use Rattle.yaml_base.specs.Characters.{is_break};
 ghost use Rattle.yaml_base.specs.Cursor.{then_laid, indicator, name_laid};
-ghost use Rattle.yaml_base.specs.Layout.{anchor_laid, handle_laid, spelling_laid, tag_laid, properties_laid};
+ghost use Rattle.yaml_base.specs.Layout.{anchor_laid, spelling_laid, tag_laid, properties_laid};
 ghost use Rattle.yaml_base.specs.Tags.{shorthand, verbatim, spelling};
 ghost use Rattle.yaml_pen.specs.Page.{IsReady};
 ghost use Rattle.yaml_pen.specs.Wrote.{Wrote};

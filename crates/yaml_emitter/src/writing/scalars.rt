@@ -1,13 +1,10 @@
 //! Scalars: their style, what stands before them, and their text (YAML 1.1, chapter 9).
 
-ghost use Rattle.std.specs.Prelude.{◌≡◌, ℕ, ◌≤ℤ◌, pos, true, false, not, IfOk, IsOk, chars, is_some};
+ghost use Rattle.std.specs.Prelude.{◌≡◌, false, IfOk, IsOk, chars, is_some};
 ghost use Rattle.yaml_base.specs.Analysis.{is_empty};
-ghost use Rattle.yaml_base.specs.Cursor.{Cursor, then_laid};
-ghost use Rattle.yaml_base.specs.Event.{ScalarStyle};
-ghost use Rattle.yaml_base.specs.Layout as layout;
-ghost use Rattle.yaml_base.specs.Layout.{choice_of, deeper, mark_after, scalar_piece};
+ghost use Rattle.yaml_base.specs.Cursor.{Cursor};
+ghost use Rattle.yaml_base.specs.Layout.{choice_of, scalar_piece};
 ghost use Rattle.yaml_base.specs.Refusal.{scalar_tag};
-ghost use Rattle.yaml_base.specs.Seen.{seen_scalar_style};
 ghost use Rattle.yaml_base.specs.Style.{lacks_tag_and_flags};
 ghost use Rattle.yaml_pen.specs.Page.{IsReady};
 ghost use Rattle.yaml_pen.specs.Wrote.{Wrote};
@@ -16,7 +13,7 @@ ghost use Rattle.yaml_emitter.specs.BorrowedTexts.{seen_name, seen_scalar};
 ghost use Rattle.yaml_emitter.specs.Given.{seen_effective};
 ghost use Rattle.yaml_emitter.specs.Places.{seen_place};
 ghost use Rattle.yaml_emitter.specs.Reach.{IsInForce, IsWithinReach};
-ghost use Rattle.yaml_emitter.specs.ScalarTexts.{scalar_text_laid, style_fits, without_answer};
+ghost use Rattle.yaml_emitter.specs.ScalarTexts.{without_answer};
 ghost use Rattle.yaml_emitter.specs.Signs.{name_breaks, some_handle_breaks};
 ghost use Rattle.yaml_emitter.specs.WrittenPieces.{piece_at, seen_mark};
 
@@ -53,7 +50,16 @@ pub(crate) fn write_scalar<A: Allocator>(
 {
     let tag = written_scalar_tag(content, settings.canonical);
     let (style, bare) = choose(settings, place, simple, content, tag.is_some())?;
-    write_node_lead(pen, settings, directives, place, simple, content.anchor, tag, bare)?;
+    write_node_lead(
+        pen,
+        settings,
+        directives,
+        place,
+        simple,
+        content.anchor,
+        tag,
+        bare,
+    )?;
     write_text(pen, settings, place, simple, style, content.value, mark)
 }
 

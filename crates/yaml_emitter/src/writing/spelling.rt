@@ -16,10 +16,7 @@ pub(crate) enum SpelledTag<'a> {
 }
 
 /// Spells a tag by the first directive whose prefix it begins with and goes on from.
-pub(crate) fn spell<'a, A: Allocator>(
-    tag: &'a str,
-    directives: &'a Directives<A>,
-) -> SpelledTag<'a>
+pub(crate) fn spell<'a, A: Allocator>(tag: &'a str, directives: &'a Directives<A>) -> SpelledTag<'a>
     ensures { seen_spelling result ≡ spelling directives.now (chars tag.now) }
 {
     match analyze_tag(tag, directives) {

@@ -1,6 +1,6 @@
 //! A scalar's text in its style (YAML 1.1, sections 9.1 and 9.2).
 
-ghost use Rattle.std.specs.Prelude.{◌≡◌, ◌≤ℤ◌, pos, true, false, not, IfOk, chars, if◌then◌else◌, None};
+ghost use Rattle.std.specs.Prelude.{◌≡◌, ◌≤ℤ◌, pos, true, false, IfOk, chars};
 ghost use Rattle.yaml_base.specs.BlockHeader.{header_mark};
 ghost use Rattle.yaml_base.specs.Analysis as analysis;
 ghost use Rattle.yaml_base.specs.Event.{plain, single_quoted, double_quoted, literal, folded};
@@ -106,7 +106,14 @@ fn write_double<A: Allocator>(
     ensures mark { IfOk result (λ after. after ≡ mark) }
 {
     let indent = line_indent(settings, place);
-    write_double_quoted_scalar(pen, value, !simple, settings.unicode, indent, settings.width)?;
+    write_double_quoted_scalar(
+        pen,
+        value,
+        !simple,
+        settings.unicode,
+        indent,
+        settings.width,
+    )?;
     Ok(mark)
 }
 

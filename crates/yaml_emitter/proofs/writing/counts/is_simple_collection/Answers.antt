@@ -1,4 +1,4 @@
-use Rattle.std.proofs.Common.{ap, ◌∙◌, ◌+◌, ℕ, Option}
+use Rattle.std.proofs.Common.{ap, ◌∙◌, ◌+◌, Option}
 use Rattle.yaml_base.specs.Characters.{Text}
 use Rattle.yaml_base.specs.Layout.{is_short, name_count, tag_count}
 use Rattle.yaml_base.specs.Refusal.{collection_tag}

@@ -1,4 +1,4 @@
-use Rattle.std.proofs.Common.{ap, subst, Bool, ◌==◌}
+use Rattle.std.proofs.Common.{subst, Bool, ◌==◌}
 use Rattle.yaml_base.specs.Layout.{laid_if, closing_mark_laid}
 use Rattle.yaml_pen.specs.Wrote.{Wrote}
 use Rattle.yaml_emitter.specs.WrittenPieces.{seen_mark}

@@ -13,8 +13,8 @@ use Rattle.yaml_emitter.proofs.writing.nodes.write_collection_start.Goals as goa
 pub returns : goal.returns
 returns g c = λ style mark.
     let lead : Option Text → Cursor → Laid = λ tag cursor.
-          then_laid (place_laid (seen_effective c.args.settings.now) (seen_place c.args.place.now) c.args.simple cursor)
-          (properties_laid c.args.directives.now (seen_name c.args.content.now.anchor) tag false) in
+    then_laid (place_laid (seen_effective c.args.settings.now) (seen_place c.args.place.now) c.args.simple cursor)
+    (properties_laid c.args.directives.now (seen_name c.args.content.now.anchor) tag false) in
     wrote_lead (lead (collection_tag c.args.settings.now.canonical (seen_collection c.args.content.now style))) mark
     (subst (λ (tag : Option Text). Wrote (lead tag) c.args.pen.now c.write_node_lead.new.pen c.write_node_lead.result)
     (c.written_collection_tag-tag.ensures style) c.write_node_lead.ensures)

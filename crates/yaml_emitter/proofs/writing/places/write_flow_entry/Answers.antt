@@ -1,8 +1,6 @@
 use Rattle.yaml_pen.proofs.Composing.{wrote_exit, wrote_failed, wrote_then}
-use Rattle.yaml_base.specs.Cursor.{indicator}
-use Rattle.yaml_base.specs.Layout.{flow_break, key_sign}
+use Rattle.yaml_base.specs.Layout.{flow_break}
 use Rattle.yaml_emitter.specs.Given.{seen_effective}
-use Rattle.std.proofs.Common.{codes, true, false}
 use Rattle.yaml_emitter.proofs.writing.places.write_flow_entry.Goals as goal
 
 pub returns-in_err-write_opening_or_comma : goal.returns-in_err-write_opening_or_comma

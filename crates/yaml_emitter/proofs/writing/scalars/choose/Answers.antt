@@ -1,7 +1,5 @@
-use Rattle.std.proofs.Common.{ap, ◌∙◌, Bool, Result, is_some}
+use Rattle.std.proofs.Common.{ap, ◌∙◌, Bool}
 use Rattle.yaml_base.specs.Analysis.{Allowances, allowances, is_empty}
-use Rattle.yaml_base.specs.Refusal.{scalar_tag}
-use Rattle.yaml_base.specs.Seen.{seen_scalar_style}
 use Rattle.yaml_base.specs.Style.{chosen}
 use Rattle.yaml_emitter.specs.BorrowedTexts.{seen_scalar}
 use Rattle.yaml_emitter.proofs.WritingScalars.{if_ok_from}
