@@ -54,20 +54,22 @@ ending_mark without_break = 0
 ending_mark one_break = 0
 ending_mark more_breaks = 2
 
+-- the open mark after a value's header
 abbrev pub header_mark : Text → ℕ
 header_mark value = ending_mark (ending value)
 
--- a block scalar's text: its header, and then its lines, after which the cursor stands in
--- white space, and in indentation where the value ends in a break
+-- the value's last character is a break
 abbrev pub ends_in_break : Ending → Bool
 ends_in_break without_break = false
 ends_in_break one_break = true
 ends_in_break more_breaks = true
 
--- lines as they are laid out under a value's header
+-- lines as they are laid out under a value's header: after them the cursor stands in white space, and in
+-- indentation where the value ends in a break
 abbrev pub lines_laid : (value lines : Text) → Cursor → Laid
 lines_laid value lines cursor = with_flags true (ends_in_break (ending value)) (text_laid lines cursor)
 
+-- a block scalar's text: its header, and then its lines (section 9.3)
 abbrev pub block_body : (sign best_indent : ℕ) (value lines : Text) → Cursor → Laid
 block_body sign best_indent value lines cursor =
     then_laid (header_laid sign best_indent value cursor) (lines_laid value lines)

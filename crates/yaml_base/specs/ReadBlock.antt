@@ -15,6 +15,7 @@ extended c [] = content (c ∷ []) ∷ []
 extended c (content text ∷ rest) = content (c ∷ text) ∷ rest
 extended c (line_end b ∷ rest) = content (c ∷ []) ∷ line_end b ∷ rest
 
+-- a break or another character, before elements
 abbrev pub element_before : Bool → ℕ → List Element → List Element
 element_before breaks12 c elements = if is_read_break breaks12 c then line_end c ∷ elements else extended c elements
 
@@ -47,6 +48,7 @@ unindented zero text = Some text
 unindented (suc n) [] = None
 unindented (suc n) (c ∷ rest) = if is_space c then unindented n rest else None
 
+-- a content without so many leading spaces, or a line's end as it is
 abbrev pub element_unindented : ℕ → Element → Option Element
 element_unindented n (content text) = option_map content (unindented n text)
 element_unindented n (line_end b) = Some (line_end b)
@@ -57,6 +59,7 @@ all_unindented n [] = Some []
 all_unindented n (element ∷ rest) =
     option_and_then (λ first. option_map (λ others. first ∷ others) (all_unindented n rest)) (element_unindented n element)
 
+-- some content is there
 abbrev pub has_content : List Element → Bool
 has_content [] = false
 has_content (content text ∷ rest) = true
@@ -116,6 +119,8 @@ chomped strip content_before ends = []
 chomped clip content_before ends = if content_before then take 1 ends else []
 chomped keep content_before ends = ends
 
+-- what lines without their indentation read as: all up to the last content, joined or folded, and what is
+-- kept of the final breaks
 abbrev pub lines_read : (folded : Bool) → Chomping → List Element → Text
 lines_read folded chomping lines =
     (if folded then unfolded false (kept_lines lines) else joined (kept_lines lines))
@@ -126,6 +131,7 @@ abbrev pub digit_first : Text → Option ℕ
 digit_first [] = None
 digit_first (c ∷ rest) = if is_between 49 57 c then Some (c - 48) else None
 
+-- what follows the digit, or all where there is none
 abbrev pub after_digit : Text → Text
 after_digit [] = []
 after_digit (c ∷ rest) = if is_between 49 57 c then rest else c ∷ rest
@@ -135,6 +141,7 @@ abbrev pub chomping_first : Text → Chomping
 chomping_first [] = clip
 chomping_first (c ∷ rest) = if c == 45 then strip else (if c == 43 then keep else clip)
 
+-- what follows the chomping sign, or all where there is none
 abbrev pub after_chomping : Text → Text
 after_chomping [] = []
 after_chomping (c ∷ rest) = if c == 45 || c == 43 then rest else c ∷ rest

@@ -5,6 +5,7 @@ use Rattle.yaml_base.specs.declared.errors.yaml_error_t.{yaml_error_t}
 use Rattle.yaml_scalar.specs.declared.block_header.Ending.{Ending}
 use Rattle.yaml_scalar.specs.declared.block_header.Ending.TheVariants.{WithoutBreak, OneBreak, MoreBreaks}
 
+-- how a value ends, as the definitions say it
 abbrev pub seen_ending : Ending → layout.Ending
 seen_ending WithoutBreak = layout.without_break
 seen_ending OneBreak = layout.one_break

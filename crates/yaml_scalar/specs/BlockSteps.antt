@@ -12,6 +12,7 @@ use Rattle.yaml_scalar.specs.declared.block_lines.Place.TheVariants.{LineStart, 
 abbrev pub entered : Bool → ℕ → Place
 entered folded c = if folded && not (is_space c) then Folding else Fixed
 
+-- the line that a character that isn't a break belongs to
 abbrev pub within : Bool → Place → ℕ → Place
 within folded LineStart c = entered folded c
 within folded Folding c = Folding
@@ -41,6 +42,7 @@ folded_laid fold indent c cursor = if fold then fold_laid indent cursor else con
 abbrev pub first_laid : ℕ → ℕ → Cursor → Laid
 first_laid indent c cursor = then_laid (new_line indent cursor) (content_laid c)
 
+-- a character that isn't a break, where it stands
 abbrev pub inner_laid : (limit : Option ℕ) (indent : ℕ) → Place → ℕ → Text → Cursor → Laid
 inner_laid limit indent LineStart c rest cursor = first_laid indent c cursor
 inner_laid limit indent Folding c rest cursor = folded_laid (folds limit cursor.column c rest) indent c cursor
@@ -52,10 +54,11 @@ is_doubled LineStart c rest = false
 is_doubled Folding c rest = c == line_feed && next_even (parts rest)
 is_doubled Fixed c rest = false
 
+-- a break, once or twice
 abbrev pub end_laid : Bool → ℕ → Cursor → Laid
 end_laid twice c cursor = if twice then then_laid (text_laid (c ∷ []) cursor) (broken_laid c) else broken_laid c cursor
 
--- one character
+-- one character, seen with what follows it
 abbrev pub step_laid : (limit : Option ℕ) (indent : ℕ) → Place → ℕ → Text → Cursor → Laid
 step_laid limit indent place c rest cursor =
     if is_break c then end_laid (is_doubled place c rest) c cursor else inner_laid limit indent place c rest cursor
@@ -79,7 +82,7 @@ separated_header folded best_indent value cursor =
 abbrev pub header_end : Cursor → Laid
 header_end cursor = with_flags true true (text_laid (line_feed ∷ []) cursor)
 
--- and all of a block scalar
+-- a block scalar from its separating space on
 abbrev pub block_laid : (folded : Bool) (limit : Option ℕ) (indent best_indent : ℕ) (value : Text) → Cursor → Laid
 block_laid folded limit indent best_indent value cursor =
     then_laid (separated_header folded best_indent value cursor) (lines_from folded limit indent LineStart value)
