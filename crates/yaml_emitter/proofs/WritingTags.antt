@@ -1,5 +1,5 @@
 -- How tags are spelled: an empty one, and the handles that stand in spellings. And which counts are short.
-use Rattle.std.proofs.Common.{◌≡◌, ℕ, ◌+◌, Bool, true, false, ◌&&◌, Option, None, Some, List, [], ◌∷◌, refl, sym, ap, ◌∙◌, zero-add}
+use Rattle.std.proofs.Common.{◌≡◌, ℕ, ◌+◌, Bool, true, false, ◌&&◌, not, Option, None, Some, List, [], ◌∷◌, refl, sym, ap, ◌∙◌, zero-add}
 use Rattle.std.specs.List.{list_any}
 use Rattle.std.proofs.lemmas.Bool.{or_parts}
 use Rattle.yaml_base.specs.Characters.{Text, is_break}
@@ -47,3 +47,8 @@ spelled_handle directives tag handle suffix is none = ap spelled_breaks is ∙ s
 pub short_collection : {empty : Bool} (name tag : ℕ) → empty ≡ true → is_short (0 + name + tag) ≡ (empty && is_short (name + tag))
 short_collection {empty} name tag is =
     ap (λ n. is_short (n + tag)) (zero-add name) ∙ ap (λ e. e && is_short (name + tag)) (sym is)
+
+-- a key outside canonical mode is simple as its node says
+pub simple_where : (key canonical : Bool) {simple : Bool} → key ≡ true → canonical ≡ false → simple ≡ (key && (not canonical && simple))
+simple_where key canonical {simple} is_key plain =
+    sym (ap (λ k. k && (not canonical && simple)) is_key ∙ ap (λ c. not c && simple) plain)

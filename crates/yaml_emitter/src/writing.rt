@@ -12,7 +12,7 @@ mod spelling;
 mod styles;
 
 pub(crate) use contents::{CollectionContent, ScalarContent, borrowed_text};
-pub(crate) use counts::{is_simple_alias, is_simple_collection, is_simple_scalar};
+pub(crate) use counts::{is_simple_alias_key, is_simple_collection_key, is_simple_scalar_key};
 pub(crate) use directives::write_document_start;
 pub(crate) use documents::{write_document_end, write_stream_end};
 pub(crate) use marks::OpenMark;

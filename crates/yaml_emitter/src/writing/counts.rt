@@ -1,12 +1,16 @@
 //! Simple keys: nodes without a break, whose names, tag and value are short.
 
-ghost use Rattle.std.specs.Prelude.{◌≡◌, ℕ, ◌+◌, ◌&&◌, min, chars};
+ghost use Rattle.std.specs.Prelude.{◌≡◌, ℕ, ◌+◌, ◌&&◌, not, min, chars};
 ghost use Rattle.std.specs.List.{list_any};
 ghost use Rattle.yaml_base.specs.Characters as class;
 ghost use Rattle.yaml_base.specs.Event.{CollectionStyle};
 ghost use Rattle.yaml_base.specs.Layout as layout;
+ghost use Rattle.yaml_base.specs.Layout.{is_key};
+ghost use Rattle.yaml_emitter.specs.Places.{seen_place};
 ghost use Rattle.yaml_emitter.specs.BorrowedTexts.{seen_name, seen_collection, seen_scalar, seen_spelling};
 
+use crate::place::Place;
+use crate::settings::EffectiveSettings;
 use crate::writing::contents::{
     CollectionContent, ScalarContent, written_collection_tag, written_scalar_tag,
 };
@@ -18,13 +22,48 @@ use yaml_mark::Directives;
 /// A simple key has at most so many bytes.
 const MOST_BYTES: usize = 128;
 
-pub(crate) fn is_simple_alias(name: &str) -> bool
+/// Whether an alias at a place is a simple key.
+pub(crate) fn is_simple_alias_key(settings: &EffectiveSettings, place: &Place, name: &str) -> bool
+    ensures { result ≡ (is_key (seen_place place.now).role && (not settings.now.canonical && layout.is_simple_alias (chars name.now))) }
+{
+    place.role.is_key() && (!settings.canonical && is_simple_alias(name))
+}
+
+/// Whether a scalar at a place is a simple key.
+pub(crate) fn is_simple_scalar_key<A: Allocator>(
+    settings: &EffectiveSettings,
+    directives: &Directives<A>,
+    place: &Place,
+    content: &ScalarContent,
+) -> bool
+    ensures { result ≡ (is_key (seen_place place.now).role && (not settings.now.canonical && layout.is_simple_scalar settings.now.canonical directives.now (seen_scalar content.now))) }
+{
+    let canonical = settings.canonical;
+    place.role.is_key() && (!canonical && is_simple_scalar(canonical, directives, content))
+}
+
+/// Whether a collection at a place, which may be empty, is a simple key.
+pub(crate) fn is_simple_collection_key<A: Allocator>(
+    settings: &EffectiveSettings,
+    directives: &Directives<A>,
+    place: &Place,
+    content: &CollectionContent,
+    empty: bool,
+) -> bool
+    ensures { (style : CollectionStyle) → result ≡ (is_key (seen_place place.now).role && (not settings.now.canonical && layout.is_simple_collection settings.now.canonical directives.now (seen_collection content.now style) empty)) }
+{
+    let canonical = settings.canonical;
+    place.role.is_key()
+        && (!canonical && is_simple_collection(canonical, directives, content, empty))
+}
+
+fn is_simple_alias(name: &str) -> bool
     ensures { result ≡ layout.is_simple_alias (chars name.now) }
 {
     byte_count(name) <= MOST_BYTES
 }
 
-pub(crate) fn is_simple_scalar<A: Allocator>(
+fn is_simple_scalar<A: Allocator>(
     canonical: bool,
     directives: &Directives<A>,
     content: &ScalarContent,
@@ -40,7 +79,7 @@ pub(crate) fn is_simple_scalar<A: Allocator>(
         )
 }
 
-pub(crate) fn is_simple_collection<A: Allocator>(
+fn is_simple_collection<A: Allocator>(
     canonical: bool,
     directives: &Directives<A>,
     content: &CollectionContent,
