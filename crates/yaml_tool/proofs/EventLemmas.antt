@@ -1,5 +1,6 @@
 -- A line's fields, taken one after another, are those that the notation asks for.
-use Rattle.std.proofs.Common.{◌≡◌, ◌++◌, append_assoc, Bool, Option, None, Some, option_map, List, [], ◌∷◌, map, refl, sym, ap, ◌∙◌}
+use Rattle.std.proofs.Common.{ℕ, ◌≡◌, ◌++◌, append_assoc, Bool, Option, None, Some, option_map, List, [], ◌∷◌, map, refl, sym, ap, ◌∙◌}
+use Rattle.std.specs.Str.{chars}
 use Rattle.yaml_base.specs.Characters.{Text}
 use Rattle.std.specs.Prelude.{String}
 use Rattle.std.proofs.lemmas.List.{map-append}
@@ -17,7 +18,7 @@ pub field_before : {A : Type 0} {fields more : List (declared.Field A)} {field :
 field_before {A} {fields} {more} {field} {tail} e t = ap (map seen_field) e ∙ ap (λ r. seen_field field ∷ r) t
 
 -- the same of a word
-pub word_before : {A : Type 0} {fields more : List (declared.Field A)} {field : declared.Field A} {tail : List Field} {word : Bor Text} → fields ≡ field ∷ more → field ≡ Word word → map seen_field more ≡ tail → map seen_field fields ≡ bare word.now ∷ tail
+pub word_before : {A : Type 0} {fields more : List (declared.Field A)} {field : declared.Field A} {tail : List Field} {word : Bor (List ℕ)} → fields ≡ field ∷ more → field ≡ Word word → map seen_field more ≡ tail → map seen_field fields ≡ bare (chars word.now) ∷ tail
 word_before {A} {fields} {more} {field} {tail} {word} e w t = field_before e t ∙ ap (λ f. seen_field f ∷ tail) w
 
 scalar_parts : (style plain quoted' value : Text) (anchor tag : Field) (rest : List Field) → Some value ≡ last_text rest

@@ -1,8 +1,7 @@
 -- A line is cut at its first separator, character by character.
-use Rattle.std.proofs.Common.{◌≡◌, ℕ, suc, ◌+◌, ◌<◌, Bool, true, false, List, [], ◌∷◌, ◌++◌, length, get_or, take, drop, add-one, drop-cons, refl, sym, subst, ap, ◌∙◌, arith}
+use Rattle.std.proofs.Common.{◌≡◌, ℕ, Bool, true, false, List, [], ◌∷◌, ◌++◌, refl, sym, subst, ap, ◌∙◌, arith}
 use Rattle.std.proofs.lemmas.Bool.Decides.{nat_tests}
 use Rattle.std.specs.List.{onto_first}
-use Rattle.std.proofs.lemmas.List.{take_more}
 use Rattle.yaml_base.specs.Characters.{Text}
 use Rattle.yaml_base.specs.Script as notation
 use Rattle.yaml_base.specs.Script.{outside, inside, escaped, separates, standing_after, cut_before, cut_from}
@@ -31,26 +30,20 @@ behind_separator outside c h =
 behind_separator inside c h = cc
 behind_separator escaped c h = cc
 
--- a separator at this place ends the first piece
-pub stops_at : (standing : notation.Standing) (line : Text) (i : ℕ) → i < length line → separates standing (get_or line i 0) ≡ true
-    → attached (take i line) (cut_from standing (drop i line)) ≡ take i line ∷ cut_from outside (drop (i + 1) line)
-stops_at standing line i within is =
-    let c = get_or line i 0 in
-    let rest = drop (suc i) line in
-    let opened : cut_from standing (drop i line) ≡ cut_before (separates standing c) c (cut_from (standing_after standing c) rest) = ap (cut_from standing) (drop-cons line i 0 within) in
+-- a separator ends the first piece
+pub stops_first : (standing : notation.Standing) (c : ℕ) (front text rest : Text) → text ≡ c ∷ rest → separates standing c ≡ true
+    → attached front (cut_from standing text) ≡ front ∷ cut_from outside rest
+stops_first standing c front text rest begins is =
+    let opened : cut_from standing text ≡ cut_before (separates standing c) c (cut_from (standing_after standing c) rest) = ap (cut_from standing) begins in
     let cut : cut_before (separates standing c) c (cut_from (standing_after standing c) rest) ≡ [] ∷ cut_from outside rest =
     subst (λ (b : Bool). cut_before b c (cut_from (standing_after standing c) rest) ≡ [] ∷ cut_from outside rest) (sym is) (ap (λ (s : notation.Standing). [] ∷ cut_from s rest) (behind_separator standing c is)) in
-    rw add-one (ap (attached (take i line)) (opened ∙ cut) ∙ attached_empty (take i line) (cut_from outside rest))
+    ap (attached front) (opened ∙ cut) ∙ attached_empty front (cut_from outside rest)
 
 -- any other character belongs to the first piece
-pub goes_past : (standing : notation.Standing) (line : Text) (i : ℕ) → i < length line → separates standing (get_or line i 0) ≡ false
-    → attached (take i line) (cut_from standing (drop i line)) ≡ attached (take (i + 1) line) (cut_from (standing_after standing (get_or line i 0)) (drop (i + 1) line))
-goes_past standing line i within is_not =
-    let c = get_or line i 0 in
-    let rest = drop (suc i) line in
+pub goes_first : (standing : notation.Standing) (c : ℕ) (front grown text rest : Text) → text ≡ c ∷ rest → separates standing c ≡ false → grown ≡ front ++ c ∷ []
+    → attached front (cut_from standing text) ≡ attached grown (cut_from (standing_after standing c) rest)
+goes_first standing c front grown text rest begins is_not grows =
     let pieces = cut_from (standing_after standing c) rest in
-    let opened : cut_from standing (drop i line) ≡ cut_before (separates standing c) c pieces = ap (cut_from standing) (drop-cons line i 0 within) in
+    let opened : cut_from standing text ≡ cut_before (separates standing c) c pieces = ap (cut_from standing) begins in
     let kept : cut_before (separates standing c) c pieces ≡ onto_first c pieces = ap (λ (b : Bool). cut_before b c pieces) is_not in
-    ap (attached (take i line)) (opened ∙ kept) ∙ sym (attached_one (take i line) c pieces)
-    ∙ ap (λ (front : Text). attached front pieces) (sym (take_more line i 0 within))
-    ∙ ap (λ (n : ℕ). attached (take (i + 1) line) (cut_from (standing_after standing c) (drop n line))) (sym (add-one i))
+    ap (attached front) (opened ∙ kept) ∙ sym (attached_one front c pieces) ∙ ap (λ (all : Text). attached all pieces) (sym grows)

@@ -6,3 +6,4 @@ pub mod EventLemmas
 pub mod CutLemmas
 pub mod LineLemmas
 pub mod ScriptLemmas
+pub mod CharacterLemmas

@@ -1,5 +1,5 @@
 -- A number is read digit by digit, and no further than its greatest value.
-use Rattle.std.proofs.Common.{◌≡◌, ℕ, suc, add-one, drop, drop-cons, get_or, length, ◌+◌, ◌*◌, ◌<◌, ◌≤◌, Bool, true, false, ◌&&◌, nat_le, nat_lt, Option, None, Some, List, [], ◌∷◌, refl, sym, subst, arith, if◌then◌else◌}
+use Rattle.std.proofs.Common.{◌≡◌, ℕ, length, ◌+◌, ◌*◌, ◌<◌, ◌≤◌, Bool, true, false, ◌&&◌, nat_le, nat_lt, Option, None, Some, List, [], ◌∷◌, refl, sym, subst, arith, if◌then◌else◌}
 use Rattle.std.proofs.Math.Nat.{mul-le-mul_left}
 use Rattle.std.proofs.lemmas.Bool.Decides.{nat_tests}
 use Rattle.std.specs.List.{list_all}
@@ -58,23 +58,22 @@ no_digit radix most number c rest is_not =
     let whole = digits_value_after radix (number * radix + digit_value c) rest in
     refused (is_digit c radix) (list_all (λ digit. is_digit digit radix) rest) (nat_le whole most) (Some whole) (lt_false (digit_value c) radix is_not)
 
--- the same at a place of a word
-pub digit_at : (radix most number base d i : ℕ) (word : List ℕ) → base ≡ radix → i < length word → d ≡ digit_value (get_or word i 0) → d < radix → number_after radix most number (drop i word) ≡ number_after radix most (number * base + d) (drop (i + 1) word)
-digit_at radix most number base d i word is_base inside is small =
-    let step = next_digit radix most number (get_or word i 0) (drop (suc i) word) (subst (λ n. n < radix) is small) in
-    let opened = drop-cons word i 0 inside in
-    rw (add-one, is_base, is, opened) step
+-- the same of a text that begins with it
+pub digit_first : (radix most number base d c : ℕ) (text rest : List ℕ) → base ≡ radix → text ≡ c ∷ rest → d ≡ digit_value c → d < radix → number_after radix most number text ≡ number_after radix most (number * base + d) rest
+digit_first radix most number base d c text rest is_base begins is small =
+    rw (begins, is_base, is) (next_digit radix most number c rest (subst (λ n. n < radix) is small))
 
-pub no_digit_at : (radix most number i : ℕ) (word : List ℕ) → i < length word → radix ≤ digit_value (get_or word i 0) → number_after radix most number (drop i word) ≡ None
-no_digit_at radix most number i word inside is_not =
-    rw (drop-cons word i 0 inside) (no_digit radix most number (get_or word i 0) (drop (suc i) word) is_not)
+pub no_digit_first : (radix most number c : ℕ) (text rest : List ℕ) → text ≡ c ∷ rest → radix ≤ digit_value c → number_after radix most number text ≡ None
+no_digit_first radix most number c text rest begins is_not = rw begins (no_digit radix most number c rest is_not)
 
 -- a word that isn't empty is a number where its digits come to one
-pub number_of_some : (most : ℕ) (word : List ℕ) → 0 < length word → notation.number_up_to most word ≡ number_after 10 most 0 word
-number_of_some most [] some = absurd (omega arith)
-number_of_some most (c ∷ rest) some =
+number_of_more : (most c : ℕ) (rest : List ℕ) → notation.number_up_to most (c ∷ rest) ≡ number_after 10 most 0 (c ∷ rest)
+number_of_more most c rest =
     let whole = digits_value_after 10 0 (c ∷ rest) in
-    taken (nat_le 1 (length (c ∷ rest))) (list_all (λ digit. is_digit digit 10) (c ∷ rest)) (nat_le whole most) (Some whole) (le_true 1 (length (c ∷ rest)) some)
+    taken (nat_le 1 (length (c ∷ rest))) (list_all (λ digit. is_digit digit 10) (c ∷ rest)) (nat_le whole most) (Some whole) (le_true 1 (length (c ∷ rest)) (omega arith))
+
+pub number_of_some : (most c : ℕ) (word rest : List ℕ) → word ≡ c ∷ rest → notation.number_up_to most word ≡ number_after 10 most 0 word
+number_of_some most c word rest is = subst (λ (text : List ℕ). notation.number_up_to most text ≡ number_after 10 most 0 text) (sym is) (number_of_more most c rest)
 
 -- the character that a number is, or that there is none
 abbrev pub character_turn : Option ℕ → notation.Turn

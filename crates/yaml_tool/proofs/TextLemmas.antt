@@ -1,5 +1,5 @@
 -- A text is read turn by turn: `\u{..}` is cut at its closing brace.
-use Rattle.std.proofs.Common.{◌≡◌, ℕ, ◌<◌, Bool, true, false, ◌||◌, ◌==◌, Option, None, Some, option_map, List, [], ◌∷◌, ◌++◌, length, length-append, append_assoc, append-nil, refl, sym, subst, ap, ◌∙◌, arith, if◌then◌else◌}
+use Rattle.std.proofs.Common.{◌≡◌, ℕ, Bool, false, ◌==◌, Option, None, Some, option_map, List, [], ◌∷◌, ◌++◌, length, append_assoc, append-nil, refl, sym, subst, ap, ◌∙◌, if◌then◌else◌}
 use Rattle.std.specs.Prelude.{String}
 use Rattle.std.specs.String.{string_bytes}
 use Rattle.std.specs.Char.{encode_utf8}
@@ -10,6 +10,7 @@ use Rattle.yaml_base.specs.Characters.{Text}
 use Rattle.yaml_base.specs.Script as notation
 use Rattle.yaml_base.specs.Script.{goes_on, stands_for, ends, fails, at_character, at_digits, at_brace, text_from, numbered_turn, turn}
 use Rattle.yaml_tool.specs.Cuts.{IsFree, IsCut}
+use Rattle.yaml_tool.proofs.CutLemmas.{neither}
 
 -- what a turn and the characters behind it are read as
 abbrev pub read_turn : notation.Turn → Text → Option Text
@@ -31,10 +32,6 @@ one_turn fails rest = refl
 
 first_turn : (within : notation.Within) (c : ℕ) (rest : Text) → text_from within (c ∷ rest) ≡ read_turn (turn within c) rest
 first_turn within c rest = one_turn (turn within c) rest
-
-neither : (a b : Bool) → (a || b) ≡ false → (a ≡ false) × (b ≡ false)
-neither false b h = (refl, h)
-neither true b h = cc
 
 digit_goes_on : (digits : Text) (c : ℕ) → (c == 0x7D) ≡ false → turn (at_digits digits) c ≡ goes_on (at_digits (digits ++ c ∷ []))
 digit_goes_on digits c h = subst (λ (b : Bool). (if b then numbered_turn digits else goes_on (at_digits (digits ++ c ∷ []))) ≡ goes_on (at_digits (digits ++ c ∷ []))) (sym h) refl
@@ -81,7 +78,3 @@ one_more text grown c (Some more) grows =
 pub nothing_before : {A : Type 0} (text : String A) (read : Option Text) → string_bytes text ≡ [] → read ≡ option_map (λ more. seen_text text ++ more) read
 nothing_before text None empty = refl
 nothing_before text (Some more) empty = ap (λ (front : List ℕ). Some (front ++ more)) (sym (ap chars empty ∙ chars-nil))
-
--- what stands behind a cut is shorter
-pub shorter : (behind digits front back : Text) → behind ≡ 0x7B ∷ digits → IsCut 0x7D digits front back → length back < length behind
-shorter behind digits front back opened cut = rw (opened, cut.0) (omega (arith, length-append front (0x7D ∷ back)))

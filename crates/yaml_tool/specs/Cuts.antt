@@ -1,5 +1,5 @@
 -- A text cut at the first of a character, and at each of them.
-use Rattle.std.specs.Prelude.{◌≡◌, ℕ, false, ◌==◌, List, ◌∷◌, ◌++◌}
+use Rattle.std.specs.Prelude.{◌≡◌, ℕ, ◌-◌, ◌≤◌, false, ◌==◌, List, ◌∷◌, ◌++◌, length, take, drop}
 use Rattle.std.specs.List.{list_any, slice_split}
 
 -- the character stands nowhere in the text
@@ -13,3 +13,12 @@ IsCut sign text front back = (text ≡ front ++ (sign ∷ back)) × IsFree sign 
 -- the pieces of the text between the characters
 abbrev pub cut_at : ℕ → List ℕ → List (List ℕ)
 cut_at sign text = slice_split (λ character. character == sign) text
+
+-- the text ends in these bytes
+pub record EndsIn (text end : List ℕ) : Type 0 where
+  pub within : length end ≤ length text
+  pub same : drop (length text - length end) text ≡ end
+
+-- the bytes before an end of so many
+abbrev pub front_of : List ℕ → List ℕ → List ℕ
+front_of text end = take (length text - length end) text

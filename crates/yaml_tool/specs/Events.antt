@@ -5,12 +5,13 @@ use Rattle.yaml_base.specs.Seen.{seen_version, seen_directive}
 use Rattle.yaml_base.specs.declared.directives.yaml_version_directive_t.{yaml_version_directive_t}
 use Rattle.yaml_base.specs.declared.directives.yaml_tag_directive_t.{yaml_tag_directive_t}
 use Rattle.yaml_base.specs.Script.{Field, bare}
+use Rattle.std.specs.Str.{chars}
 use Rattle.yaml_tool.specs.Fields.{seen_field}
 use Rattle.yaml_tool.specs.declared.events.CollectionFields.{CollectionFields}
 
 -- the fields of a collection's start, in order
 abbrev pub four_fields : {A : Type 0} → CollectionFields A → List Field
-four_fields fields = bare fields.style.now ∷ bare fields.implicit.now ∷ seen_field fields.anchor ∷ seen_field fields.tag ∷ []
+four_fields fields = bare (chars fields.style.now) ∷ bare (chars fields.implicit.now) ∷ seen_field fields.anchor ∷ seen_field fields.tag ∷ []
 
 -- a version, or none, where it was read
 abbrev pub seen_versions : Option (Option yaml_version_directive_t) → Option (Option Version)

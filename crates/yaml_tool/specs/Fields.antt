@@ -1,6 +1,7 @@
 -- What contracts see of fields, and how a line is cut at its first separator.
-use Rattle.std.specs.Prelude.{◌≡◌, ◌<◌, Option, None, Some, List, [], ◌∷◌, String, length, option_map}
+use Rattle.std.specs.Prelude.{ℕ, ◌≡◌, Option, None, Some, List, [], ◌∷◌, String, option_map}
 use Rattle.std.specs.Borrow.{Bor}
+use Rattle.std.specs.Str.{chars}
 use Rattle.yaml_base.specs.Characters.{Text}
 use Rattle.yaml_base.specs.Script as notation
 use Rattle.yaml_base.specs.Script.{bare, quoted, outside, inside, escaped, cut_from}
@@ -16,7 +17,7 @@ seen_standing Inside = inside
 seen_standing Escaped = escaped
 
 abbrev pub seen_field : {A : Type 0} → Field A → notation.Field
-seen_field (field.Word word) = bare word.now
+seen_field (field.Word word) = bare (chars word.now)
 seen_field (field.Text text) = quoted (seen_text text)
 
 -- a text, or none, where it was read
@@ -33,7 +34,7 @@ abbrev pub last_word : List notation.Field → Option Text
 last_word (bare word ∷ []) = Some word
 last_word _ = None
 
--- the line's pieces are the first and those of what stands behind its separator, which is shorter
-abbrev pub CutsFirst : Text → Text → Option (Bor Text) → Type 0
+-- the line's pieces are the first and those of what stands behind its separator
+abbrev pub CutsFirst : Text → Text → Option (Bor (List ℕ)) → Type 0
 CutsFirst line first None = cut_from outside line ≡ first ∷ []
-CutsFirst line first (Some others) = (cut_from outside line ≡ first ∷ cut_from outside others.now) × (length others.now < length line)
+CutsFirst line first (Some others) = cut_from outside line ≡ first ∷ cut_from outside (chars others.now)

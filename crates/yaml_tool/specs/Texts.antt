@@ -1,5 +1,6 @@
 -- What a turn of the reading of a text says of the reading of the whole.
-use Rattle.std.specs.Prelude.{◌≡◌, ℕ, ◌<◌, Option, None, Some, [], ◌∷◌, length, option_map}
+use Rattle.std.specs.Prelude.{List, ◌≡◌, ℕ, ◌<◌, Option, None, Some, [], ◌∷◌, length, option_map}
+use Rattle.std.specs.Str.{chars, IsUtf8}
 use Rattle.yaml_base.specs.Characters.{Text}
 use Rattle.yaml_base.specs.Script as notation
 use Rattle.yaml_base.specs.Script.{stands_for, fails}
@@ -12,8 +13,8 @@ turn_of None = fails
 turn_of (Some character) = stands_for character
 
 -- what is read: an end reads as nothing more, a character stands before what the shorter rest reads as, a fault has no reading
-abbrev pub TurnsTo : Turn → Option Text → Text → Type 0
+abbrev pub TurnsTo : Turn → Option Text → List ℕ → Type 0
 TurnsTo Ends read behind = read ≡ Some []
 TurnsTo (StandsFor character rest) read behind =
-    (read ≡ option_map (λ others. character ∷ others) (notation.text_from notation.at_character rest.now)) × (length rest.now < length behind)
+    (read ≡ option_map (λ others. character ∷ others) (notation.text_from notation.at_character (chars rest.now))) × (length rest.now < length behind) × IsUtf8 rest.now
 TurnsTo Fails read behind = read ≡ None

@@ -1,28 +1,30 @@
 //! The versions and directives of a script's document starts.
 ghost use Rattle.std.specs.Prelude.{◌≡◌, ◌∷◌, [], map, option_map, pos, IfOk, MatchOption};
 ghost use Rattle.std.specs.Vec.Iter.{into_iter_items};
+ghost use Rattle.std.specs.Str.{chars};
 ghost use Rattle.yaml_base.specs.Script as notation;
 ghost use Rattle.yaml_base.specs.Seen.{seen_version, seen_directive};
 ghost use Rattle.yaml_tool.specs.Cuts.{cut_at};
 ghost use Rattle.yaml_tool.specs.Fields.{seen_field};
 
+use crate::characters::cut_once;
 use crate::fields::Field;
 use crate::numbers::number_up_to;
-use crate::words::{cut_once, is_word};
+use crate::words::is_word;
 use std::alloc::{AllocError, Allocator};
 use std::vec::IntoIter;
 use yaml_base::{yaml_tag_directive_t, yaml_version_directive_t};
 
 /// A number of a version.
-fn version_number(word: &[char]) -> Option<i32>
-    ensures { result ≡ option_map pos (notation.number_up_to 2147483647 word.now) }
+fn version_number(word: &str) -> Option<i32>
+    ensures { result ≡ option_map pos (notation.number_up_to 2147483647 (chars word.now)) }
 {
     number_up_to(2_147_483_647, word).map(|number| number as i32)
 }
 
 /// What stands before and behind the only point; none where there is another number of points.
-fn two_parts(word: &[char]) -> Option<(&[char], &[char])>
-    ensures { MatchOption result (notation.version_of (cut_at 0x2E word.now) ≡ None) (λ parts. cut_at 0x2E word.now ≡ parts.0.now ∷ parts.1.now ∷ []) }
+fn two_parts(word: &str) -> Option<(&str, &str)>
+    ensures { MatchOption result (notation.version_of (cut_at 0x2E (chars word.now)) ≡ None) (λ parts. cut_at 0x2E (chars word.now) ≡ chars parts.0.now ∷ chars parts.1.now ∷ []) }
 {
     match cut_once('.', word) {
         Some((front, back)) => match cut_once('.', back) {
@@ -34,8 +36,8 @@ fn two_parts(word: &[char]) -> Option<(&[char], &[char])>
 }
 
 /// `major.minor`.
-fn version_of(word: &[char]) -> Option<yaml_version_directive_t>
-    ensures { option_map seen_version result ≡ notation.version_of (cut_at 0x2E word.now) }
+fn version_of(word: &str) -> Option<yaml_version_directive_t>
+    ensures { option_map seen_version result ≡ notation.version_of (cut_at 0x2E (chars word.now)) }
 {
     let (major, minor) = two_parts(word)?;
     Some(yaml_version_directive_t {
@@ -45,10 +47,10 @@ fn version_of(word: &[char]) -> Option<yaml_version_directive_t>
 }
 
 /// A version, or `-` for none.
-pub fn version_or_none(word: &[char]) -> Option<Option<yaml_version_directive_t>>
-    ensures { option_map (λ version. option_map seen_version version) result ≡ notation.version_or_none word.now }
+pub fn version_or_none(word: &str) -> Option<Option<yaml_version_directive_t>>
+    ensures { option_map (λ version. option_map seen_version version) result ≡ notation.version_or_none (chars word.now) }
 {
-    if is_word(word, b"-") {
+    if is_word(word, "-") {
         Some(None)
     } else {
         version_of(word).map(|version| Some(version))

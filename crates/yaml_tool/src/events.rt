@@ -2,6 +2,7 @@
 ghost use Rattle.std.specs.Prelude.{◌≡◌, map, option_map, MatchOption, IfOk};
 ghost use Rattle.std.specs.Vec.Iter.{into_iter_items};
 ghost use Rattle.yaml_base.specs.Event.{sequence_start, mapping_start};
+ghost use Rattle.std.specs.Str.{chars};
 ghost use Rattle.yaml_base.specs.Script as notation;
 ghost use Rattle.yaml_base.specs.Seen.{seen_event, seen_text, seen_scalar_style, seen_sequence_style, seen_mapping_style};
 ghost use Rattle.yaml_tool.specs.Fields.{seen_field, seen_choice, last_text, last_word};
@@ -26,13 +27,7 @@ fn text_or_none<A: Allocator>(field: Field<'_, A>) -> Option<Option<String<A>>>
 {
     match field {
         Field::Text(text) => Some(Some(text)),
-        Field::Word(word) => {
-            if is_word(word, b"-") {
-                Some(None)
-            } else {
-                None
-            }
-        }
+        Field::Word(word) => { if is_word(word, "-") { Some(None) } else { None } }
     }
 }
 
@@ -50,8 +45,8 @@ fn last_text<A: Allocator>(mut fields: IntoIter<Field<'_, A>, A>) -> Option<Stri
 }
 
 /// A word, where nothing stands behind it.
-fn last_word<'a, A: Allocator>(mut fields: IntoIter<Field<'a, A>, A>) -> Option<&'a [char]>
-    ensures { option_map (λ word. word.now) result ≡ last_word (map seen_field (into_iter_items fields.entry)) }
+fn last_word<'a, A: Allocator>(mut fields: IntoIter<Field<'a, A>, A>) -> Option<&'a str>
+    ensures { option_map (λ word. chars word.now) result ≡ last_word (map seen_field (into_iter_items fields.entry)) }
 {
     let Some(Field::Word(word)) = fields.next() else {
         return None;
@@ -185,8 +180,8 @@ fn scalar_of<A: Allocator>(mut fields: IntoIter<Field<'_, A>, A>) -> Option<yaml
 /// The fields of a collection's start, not yet read.
 #[derive(Drop)]
 struct CollectionFields<'a, A: Allocator> {
-    style: &'a [char],
-    implicit: &'a [char],
+    style: &'a str,
+    implicit: &'a str,
     anchor: Field<'a, A>,
     tag: Field<'a, A>,
 }
@@ -279,30 +274,30 @@ fn mapping_start_of<A: Allocator>(fields: IntoIter<Field<'_, A>, A>) -> Option<y
 /// The event that a name and its fields give; none where they give none.
 pub fn event_of<A: Allocator + Copy>(
     alloc: A,
-    name: &[char],
+    name: &str,
     fields: IntoIter<Field<'_, A>, A>,
 ) -> Result<Option<yaml_event_t<A>>, AllocError>
-    ensures { IfOk result (λ event. option_map seen_event event ≡ notation.event_of name.now (map seen_field (into_iter_items fields.entry))) }
+    ensures { IfOk result (λ event. option_map seen_event event ≡ notation.event_of (chars name.now) (map seen_field (into_iter_items fields.entry))) }
 {
-    if is_word(name, b"+STR") {
+    if is_word(name, "+STR") {
         Ok(stream_start_of(fields))
-    } else if is_word(name, b"-STR") {
+    } else if is_word(name, "-STR") {
         Ok(alone(yaml_event_t::YAML_STREAM_END_EVENT, fields))
-    } else if is_word(name, b"+DOC") {
+    } else if is_word(name, "+DOC") {
         document_start_of(alloc, fields)
-    } else if is_word(name, b"-DOC") {
+    } else if is_word(name, "-DOC") {
         Ok(document_end_of(fields))
-    } else if is_word(name, b"=ALI") {
+    } else if is_word(name, "=ALI") {
         Ok(alias_of(fields))
-    } else if is_word(name, b"=VAL") {
+    } else if is_word(name, "=VAL") {
         Ok(scalar_of(fields))
-    } else if is_word(name, b"+SEQ") {
+    } else if is_word(name, "+SEQ") {
         Ok(sequence_start_of(fields))
-    } else if is_word(name, b"-SEQ") {
+    } else if is_word(name, "-SEQ") {
         Ok(alone(yaml_event_t::YAML_SEQUENCE_END_EVENT, fields))
-    } else if is_word(name, b"+MAP") {
+    } else if is_word(name, "+MAP") {
         Ok(mapping_start_of(fields))
-    } else if is_word(name, b"-MAP") {
+    } else if is_word(name, "-MAP") {
         Ok(alone(yaml_event_t::YAML_MAPPING_END_EVENT, fields))
     } else {
         Ok(None)

@@ -1,8 +1,10 @@
 //! The fields of a script's line.
-ghost use Rattle.std.specs.Prelude.{◌≡◌, IfOk, map, option_map};
+ghost use Rattle.std.specs.Prelude.{◌≡◌, ◌<◌, IfOk, IfSome, length, map, option_map};
+ghost use Rattle.std.specs.Str.{chars, IsUtf8};
 ghost use Rattle.yaml_base.specs.Script as notation;
 ghost use Rattle.yaml_tool.specs.Fields.{seen_standing, seen_field, CutsFirst};
 
+use crate::characters::{first_character, front_before};
 use crate::texts::text_behind;
 use std::alloc::{AllocError, Allocator};
 
@@ -11,7 +13,7 @@ use std::alloc::{AllocError, Allocator};
 #[derive_where(Debug)]
 pub enum Field<'a, A: Allocator> {
     /// A word as it stands.
-    Word(&'a [char]),
+    Word(&'a str),
     /// What a text between quotation marks stands for.
     Text(String<A>),
 }
@@ -50,15 +52,19 @@ impl Standing {
 }
 
 /// A line's first piece, and what stands behind its separator; none where there is no separator.
-fn first_piece(line: &[char]) -> (&[char], Option<&[char]>)
-    ensures { CutsFirst line.now result.0.now result.1 }
+fn first_piece(line: &str) -> (&str, Option<&str>)
+    ensures cut { CutsFirst (chars line.now) (chars result.0.now) result.1 }
+    ensures shorter { IfSome result.1 (λ others. length others.now < length line.now) }
+    ensures utf8 { IfSome result.1 (λ others. IsUtf8 others.now) }
 {
     let mut standing = Standing::Outside;
-    for (index, character) in line.iter().enumerate() {
-        if standing.separates(*character) {
-            return (&line[..index], Some(&line[index + 1..]));
+    let mut rest = line;
+    while let Some((character, behind)) = first_character(rest) {
+        if standing.separates(character) {
+            return (front_before(line, rest), Some(behind));
         }
-        standing = standing.after(*character);
+        standing = standing.after(character);
+        rest = behind;
     }
     (line, None)
 }
@@ -66,11 +72,11 @@ fn first_piece(line: &[char]) -> (&[char], Option<&[char]>)
 /// What a piece is; none where it is no field.
 fn field_read<'a, A: Allocator>(
     alloc: A,
-    piece: &'a [char],
+    piece: &'a str,
 ) -> Result<Option<Field<'a, A>>, AllocError>
-    ensures { IfOk result (λ field. option_map seen_field field ≡ notation.field_read piece.now) }
+    ensures { IfOk result (λ field. option_map seen_field field ≡ notation.field_read (chars piece.now)) }
 {
-    match piece.split_first() {
+    match first_character(piece) {
         Some(('"', behind)) => Ok(text_behind(alloc, behind)?.map(|text| Field::Text(text))),
         Some(_) => Ok(Some(Field::Word(piece))),
         None => Ok(None),
@@ -80,9 +86,9 @@ fn field_read<'a, A: Allocator>(
 /// The fields of a line, with one space between two; none where a piece is no field.
 pub fn fields_read<'a, A: Allocator + Copy>(
     alloc: A,
-    line: &'a [char],
+    line: &'a str,
 ) -> Result<Option<Vec<Field<'a, A>, A>>, AllocError>
-    ensures { IfOk result (λ fields. option_map (λ all. map seen_field all.items) fields ≡ notation.fields_read line.now) }
+    ensures { IfOk result (λ fields. option_map (λ all. map seen_field all.items) fields ≡ notation.fields_read (chars line.now)) }
 {
     let mut fields = Vec::new(alloc);
     let mut rest = line;

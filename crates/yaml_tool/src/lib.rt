@@ -2,6 +2,7 @@
 #![tactic(auto)]
 
 mod answers;
+mod characters;
 mod directives;
 mod events;
 mod fields;

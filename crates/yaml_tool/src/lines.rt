@@ -6,6 +6,7 @@ ghost use Rattle.yaml_tool.specs.Fields.{seen_field};
 ghost use Rattle.yaml_tool.specs.Settings.{seen_setting};
 ghost use Rattle.yaml_tool.specs.Lines.{seen_line, setting_in, event_in};
 
+use crate::characters::{cut_once, first_character};
 use crate::events::event_of;
 use crate::fields::{Field, fields_read};
 use crate::settings::{Setting, setting_of};
@@ -69,30 +70,22 @@ fn event_line<A: Allocator + Copy>(
 }
 
 /// What a line says; none where it is bad.
-fn line_read<A: Allocator + Copy>(alloc: A, line: &[char]) -> Result<Option<Line<A>>, AllocError>
-    ensures { IfOk result (λ read. option_map seen_line read ≡ notation.line_read line.now) }
+fn line_read<A: Allocator + Copy>(alloc: A, line: &str) -> Result<Option<Line<A>>, AllocError>
+    ensures { IfOk result (λ read. option_map seen_line read ≡ notation.line_read (chars line.now)) }
 {
-    let Some((first, rest)) = line.split_first() else {
+    let Some((first, rest)) = first_character(line) else {
         return Ok(Some(Line::Nothing));
     };
-    if *first != '#' {
+    if first != '#' {
         return match fields_read(alloc, line)? {
             Some(fields) => line_of(alloc, fields),
             None => Ok(None),
         };
     }
-    if rest.contains(&'\r') {
-        Ok(None)
-    } else {
-        Ok(Some(Line::Nothing))
+    match cut_once('\r', rest) {
+        None => Ok(Some(Line::Nothing)),
+        Some(_) => Ok(None),
     }
-}
-
-/// The characters of a text.
-fn characters_of<A: Allocator>(alloc: A, text: &str) -> Result<Vec<char, A>, AllocError>
-    ensures { IfOk result (λ characters. characters.items ≡ chars text.now) }
-{
-    text.chars().collect(alloc)
 }
 
 /// What a line's bytes say: they have to be UTF-8.
@@ -103,10 +96,7 @@ pub fn line_understood<A: Allocator + Copy>(
     ensures { IfOk result (λ line. option_map seen_line line ≡ notation.line_understood bytes.now) }
 {
     match str::from_utf8(bytes) {
-        Ok(text) => {
-            let characters = characters_of(alloc, text)?;
-            line_read(alloc, &characters)
-        }
+        Ok(text) => { line_read(alloc, text) }
         Err(_) => Ok(None),
     }
 }

@@ -1,35 +1,39 @@
 //! Decimal numbers of a script's lines. Leading zeros are accepted.
 ghost use Rattle.std.specs.Prelude.{◌≡◌, ◌≤◌, pos, neg_ℤ};
+ghost use Rattle.std.specs.Str.{chars};
 ghost use Rattle.yaml_base.specs.Script as notation;
 ghost use Rattle.yaml_tool.specs.Numbers.{number_after};
 
+use crate::characters::first_character;
+
 /// What digits of this radix come to, where that is at most so much; no digits come to 0.
-pub fn number_in(radix: u32, most: u32, digits: &[char]) -> Option<u32>
+pub fn number_in(radix: u32, most: u32, digits: &str) -> Option<u32>
     requires least { 2 ≤ radix }
     requires greatest { radix ≤ 36 }
-    ensures { result ≡ number_after radix most 0 digits.now }
+    ensures { result ≡ number_after radix most 0 (chars digits.now) }
 {
     let base = u64::from(radix);
     let limit = u64::from(most);
     let mut number: u64 = 0;
-    for digit in digits {
+    let mut rest = digits;
+    while let Some((digit, behind)) = first_character(rest) {
         let value = u64::from(digit.to_digit(radix)?);
         number = number * base + value;
         if number > limit {
             return None;
         }
+        rest = behind;
     }
     u32::try_from(number).ok()
 }
 
 /// A number of at most so much: one or more decimal digits.
-pub fn number_up_to(most: u32, word: &[char]) -> Option<u32>
-    ensures { result ≡ notation.number_up_to most word.now }
+pub fn number_up_to(most: u32, word: &str) -> Option<u32>
+    ensures { result ≡ notation.number_up_to most (chars word.now) }
 {
-    if word.is_empty() {
-        None
-    } else {
-        number_in(10, most, word)
+    match first_character(word) {
+        None => None,
+        Some(_) => number_in(10, most, word),
     }
 }
 
@@ -41,12 +45,12 @@ fn negative(number: u32) -> i32
 }
 
 /// A number of 32 bits with a sign: `-` stands before a negative one.
-pub fn signed_number(word: &[char]) -> Option<i32>
-    ensures { result ≡ notation.signed_number word.now }
+pub fn signed_number(word: &str) -> Option<i32>
+    ensures { result ≡ notation.signed_number (chars word.now) }
 {
-    match word {
-        [] => None,
-        ['-', rest @ ..] => number_up_to(2_147_483_648, rest).map(negative),
-        _ => number_up_to(2_147_483_647, word).map(|number| number as i32),
+    match first_character(word) {
+        None => None,
+        Some(('-', rest)) => number_up_to(2_147_483_648, rest).map(negative),
+        Some(_) => number_up_to(2_147_483_647, word).map(|number| number as i32),
     }
 }

@@ -1,6 +1,7 @@
 //! What a script sets before its first event.
 ghost use Rattle.std.specs.Prelude.{◌≡◌, map, option_map};
 ghost use Rattle.std.specs.List.{list_any};
+ghost use Rattle.std.specs.Str.{chars};
 ghost use Rattle.yaml_base.specs.Script as notation;
 ghost use Rattle.yaml_tool.specs.Settings.{seen_setting, seen_settings, sets_same};
 
@@ -60,24 +61,24 @@ pub fn is_set(setting: Setting, lines: &[Setting]) -> bool
 }
 
 /// What a setting's line says, by its name; none where the value isn't one of its values.
-pub fn setting_of(name: &[char], value: &[char]) -> Option<Setting>
-    ensures { option_map seen_setting result ≡ notation.setting_of name.now value.now }
+pub fn setting_of(name: &str, value: &str) -> Option<Setting>
+    ensures { option_map seen_setting result ≡ notation.setting_of (chars name.now) (chars value.now) }
 {
-    if is_word(name, b"limit") {
+    if is_word(name, "limit") {
         number_up_to(4_294_967_295, value).map(|bytes| Setting::Limit(bytes))
-    } else if is_word(name, b"encoding") {
+    } else if is_word(name, "encoding") {
         encoding_named(value).map(|encoding| Setting::Encoding(encoding))
-    } else if is_word(name, b"canonical") {
+    } else if is_word(name, "canonical") {
         switch_named(value).map(|on| Setting::Canonical(on))
-    } else if is_word(name, b"unicode") {
+    } else if is_word(name, "unicode") {
         switch_named(value).map(|on| Setting::Unicode(on))
-    } else if is_word(name, b"indent") {
+    } else if is_word(name, "indent") {
         signed_number(value).map(|indent| Setting::Indent(indent))
-    } else if is_word(name, b"width") {
+    } else if is_word(name, "width") {
         signed_number(value).map(|width| Setting::Width(width))
-    } else if is_word(name, b"break") {
+    } else if is_word(name, "break") {
         break_named(value).map(|line_break| Setting::LineBreak(line_break))
-    } else if is_word(name, b"breaks12") {
+    } else if is_word(name, "breaks12") {
         switch_named(value).map(|on| Setting::Breaks12(on))
     } else {
         None

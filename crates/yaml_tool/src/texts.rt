@@ -1,11 +1,12 @@
 //! Texts of a script's lines, between `"` and `"`.
-ghost use Rattle.std.specs.Prelude.{◌≡◌, IfOk, option_map};
+ghost use Rattle.std.specs.Prelude.{◌≡◌, length, IfOk, option_map};
+ghost use Rattle.std.specs.Str.{chars};
 ghost use Rattle.yaml_base.specs.Script as notation;
 ghost use Rattle.yaml_base.specs.Seen.{seen_text};
 ghost use Rattle.yaml_tool.specs.Texts.{turn_of, TurnsTo};
 
+use crate::characters::{cut_once, first_character};
 use crate::numbers::number_in;
-use crate::words::cut_once;
 use std::alloc::{AllocError, Allocator};
 
 /// What the next character or escape of a text does.
@@ -14,26 +15,34 @@ pub enum Turn<'a> {
     /// The text ends, and nothing follows.
     Ends,
     /// It stands for a character, and these follow.
-    StandsFor(char, &'a [char]),
+    StandsFor(char, &'a str),
     /// The text is wrong there.
     Fails,
 }
 
-/// The character of `\u{..}`: one to six hexadecimal digits of a Unicode scalar value.
-fn numbered_character(digits: &[char]) -> Option<char>
-    ensures { turn_of result ≡ notation.numbered_turn digits.now }
+/// How many characters a text has.
+fn count_of(text: &str) -> usize
+    ensures { result ≡ length (chars text.now) }
 {
-    if digits.is_empty() || digits.len() > 6 {
+    text.chars().count()
+}
+
+/// The character of `\u{..}`: one to six hexadecimal digits of a Unicode scalar value.
+fn numbered_character(digits: &str) -> Option<char>
+    ensures { turn_of result ≡ notation.numbered_turn (chars digits.now) }
+{
+    let count = count_of(digits);
+    if count < 1 || 6 < count {
         return None;
     }
     number_in(16, 0x10FFFF, digits).and_then(char::from_u32)
 }
 
 /// What follows `\u`.
-fn numbered_turn(behind: &[char]) -> Turn<'_>
-    ensures { TurnsTo result (notation.text_from notation.at_brace behind.now) behind.now }
+fn numbered_turn(behind: &str) -> Turn<'_>
+    ensures { TurnsTo result (notation.text_from notation.at_brace (chars behind.now)) behind.now }
 {
-    let Some(('{', digits)) = behind.split_first() else {
+    let Some(('{', digits)) = first_character(behind) else {
         return Turn::Fails;
     };
     match cut_once('}', digits) {
@@ -46,10 +55,10 @@ fn numbered_turn(behind: &[char]) -> Turn<'_>
 }
 
 /// What follows a backslash.
-fn escaped_turn(behind: &[char]) -> Turn<'_>
-    ensures { TurnsTo result (notation.text_from notation.at_escape behind.now) behind.now }
+fn escaped_turn(behind: &str) -> Turn<'_>
+    ensures { TurnsTo result (notation.text_from notation.at_escape (chars behind.now)) behind.now }
 {
-    match behind.split_first() {
+    match first_character(behind) {
         Some(('u', rest)) => numbered_turn(rest),
         Some(('n', rest)) => Turn::StandsFor('\n', rest),
         Some(('\\', rest)) => Turn::StandsFor('\\', rest),
@@ -59,23 +68,25 @@ fn escaped_turn(behind: &[char]) -> Turn<'_>
 }
 
 /// What the next character or escape does.
-fn next_turn(behind: &[char]) -> Turn<'_>
-    ensures { TurnsTo result (notation.text_from notation.at_character behind.now) behind.now }
+fn next_turn(behind: &str) -> Turn<'_>
+    ensures { TurnsTo result (notation.text_from notation.at_character (chars behind.now)) behind.now }
 {
-    match behind.split_first() {
+    match first_character(behind) {
         Some(('\\', rest)) => escaped_turn(rest),
-        Some(('"', [])) => Turn::Ends,
-        Some(('"', _)) => Turn::Fails,
-        Some((character, rest)) => Turn::StandsFor(*character, rest),
+        Some(('"', rest)) => match first_character(rest) {
+            None => Turn::Ends,
+            Some(_) => Turn::Fails,
+        },
+        Some((character, rest)) => Turn::StandsFor(character, rest),
         None => Turn::Fails,
     }
 }
 
 /// What the characters behind an opening `"` stand for; none where they are no text.
-pub fn text_behind<A: Allocator>(alloc: A, behind: &[char]) -> Result<Option<String<A>>, AllocError>
-    ensures { IfOk result (λ text. option_map seen_text text ≡ notation.text_from notation.at_character behind.now) }
+pub fn text_behind<A: Allocator>(alloc: A, behind: &str) -> Result<Option<String<A>>, AllocError>
+    ensures { IfOk result (λ text. option_map seen_text text ≡ notation.text_from notation.at_character (chars behind.now)) }
 {
-    let mut text = String::new(alloc);
+    let mut text = String::with_capacity(alloc, behind.len())?;
     let mut rest = behind;
     loop {
         match next_turn(rest) {

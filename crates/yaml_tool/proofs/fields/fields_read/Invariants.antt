@@ -1,11 +1,14 @@
 use Rattle.std.proofs.Common.{◌≡◌, ◌++◌, map, option_map, length}
+use Rattle.std.specs.Str.{chars, IsUtf8}
 use Rattle.yaml_base.specs.Script as notation
 use Rattle.yaml_tool.specs.Fields.{seen_field}
 use Rattle.yaml_tool.proofs.fields.fields_read.Given as goal
 
 abbrev pub invariant-loop-fields : goal.invariant-loop-fields
-invariant-loop-fields g l =
-    notation.fields_read l.line ≡ option_map (λ more. map seen_field l.fields.items ++ more) (notation.fields_read l.rest)
+invariant-loop-fields g l = record {
+  utf8 : IsUtf8 l.rest;
+  read : notation.fields_read (chars l.line) ≡ option_map (λ more. map seen_field l.fields.items ++ more) (notation.fields_read (chars l.rest));
+}
 
 abbrev pub decreases-loop-fields : goal.decreases-loop-fields
 decreases-loop-fields g l = length l.rest

@@ -1,34 +1,50 @@
-use Rattle.std.proofs.Common.{◌≡◌, ◌+◌, true, false, take, drop, get_or, arith, sym, ap, ◌∙◌}
-use Rattle.std.proofs.lemmas.List.{get_or_read, take_rest, take_all, drop_all, length-drop}
-use Rattle.yaml_base.specs.Script.{cut_from, separates, standing_after}
+use Rattle.std.proofs.Common.{◌≡◌, ℕ, List, [], ◌∷◌, true, false, ap, sym, ◌∙◌, arith}
+use Rattle.std.specs.Str.{chars}
+use Rattle.yaml_base.specs.Script.{outside, cut_from, separates}
+use Rattle.yaml_tool.specs.Cuts.{front_of}
 use Rattle.yaml_tool.specs.Fields.{seen_standing}
-use Rattle.yaml_tool.proofs.FieldLemmas.{attached, stops_at, goes_past, whole_line}
+use Rattle.yaml_tool.proofs.CharacterLemmas.{nothing_passed, empty_front, one_passed, front_passed, all_passed}
+use Rattle.yaml_tool.proofs.FieldLemmas.{attached, stops_first, goes_first, whole_line}
 use Rattle.yaml_tool.proofs.fields.first_piece.Goals as goal
 
-pub returns-then-separates : goal.returns-then-separates
-returns-then-separates c =
-    let line = c.args.line.now in
-    let i = c.loop-index.index in
-    let read = get_or_read line i c.index-line-index.result (omega arith) c.index-line-index.is 0 in
-    let is : separates (seen_standing c.loop-index.standing) (get_or line i 0) ≡ true = ap (separates (seen_standing c.loop-index.standing)) (sym read) ∙ sym c.separates.ensures ∙ c.if-separates.true in
-    rw (take_rest line (i + 1)) (c.loop-index.invariant ∙ stops_at (seen_standing c.loop-index.standing) line i (omega arith) is, omega (arith, length-drop (i + 1) line))
+pub loop-character-init : goal.loop-character-init
+loop-character-init c = record {
+  passed = nothing_passed c.args.line.now c.utf8.line;
+  cut = ap (λ front. attached front (cut_from outside (chars c.args.line.now))) (sym (empty_front c.args.line.now));
+  within = omega arith;
+}
 
-pub loop-index-preserved : goal.loop-index-preserved
-loop-index-preserved c =
-    let line = c.args.line.now in
-    let i = c.loop-index.index in
-    let read = get_or_read line i c.index-line-index.result (omega arith) c.index-line-index.is 0 in
-    let is_not : separates (seen_standing c.loop-index.standing) (get_or line i 0) ≡ false = ap (separates (seen_standing c.loop-index.standing)) (sym read) ∙ sym c.separates.ensures ∙ c.if-separates.false in
-    let after : standing_after (seen_standing c.loop-index.standing) (get_or line i 0) ≡ seen_standing c.after-standing.result = ap (standing_after (seen_standing c.loop-index.standing)) (sym read) ∙ sym c.after-standing.ensures in
-    c.loop-index.invariant
-    ∙ goes_past (seen_standing c.loop-index.standing) line i (omega arith) is_not
-    ∙ ap (λ standing. attached (take (i + 1) line) (cut_from standing (drop (i + 1) line))) after
+pub returns-then-separates-clause-cut : goal.returns-then-separates-clause-cut
+returns-then-separates-clause-cut c =
+    let standing = seen_standing c.loop-character.standing in
+    let front = chars (front_of c.args.line.now c.loop-character.rest.now) in
+    let is : separates standing c.in-Some.character ≡ true = sym c.separates.ensures ∙ c.if-separates.true in
+    c.loop-character.invariant.cut
+    ∙ stops_first standing c.in-Some.character front (chars c.loop-character.rest.now) (chars c.in-Some.behind.now) c.in-Some.ensures.characters is
+    ∙ ap (λ (text : List ℕ). chars text ∷ cut_from outside (chars c.in-Some.behind.now)) (sym c.front_before.ensures)
 
-pub returns : goal.returns
-returns c =
+pub loop-character-preserved : goal.loop-character-preserved
+loop-character-preserved c =
+    let before = c.loop-character.invariant in
     let line = c.args.line.now in
-    let i = c.loop-index.index in
-    c.loop-index.invariant
-    ∙ ap (λ front. attached front (cut_from (seen_standing c.loop-index.standing) (drop i line))) (take_all i line (omega arith))
-    ∙ ap (λ rest. attached line (cut_from (seen_standing c.loop-index.standing) rest)) (drop_all i line (omega arith))
-    ∙ whole_line line
+    let rest = c.loop-character.rest.now in
+    let behind = c.in-Some.behind.now in
+    let standing = seen_standing c.loop-character.standing in
+    let is_not : separates standing c.in-Some.character ≡ false = sym c.separates.ensures ∙ c.if-separates.false in record {
+      passed = one_passed line rest behind c.in-Some.character before.passed c.in-Some.ensures.bytes;
+      cut =
+          before.cut
+          ∙ goes_first standing c.in-Some.character (chars (front_of line rest)) (chars (front_of line behind)) (chars rest) (chars behind) c.in-Some.ensures.characters is_not (front_passed line rest behind c.in-Some.character before.passed c.in-Some.ensures.bytes)
+          ∙ ap (λ s. attached (chars (front_of line behind)) (cut_from s (chars behind))) (sym c.after-standing.ensures);
+      within = omega (arith, c.in-Some.ensures.shorter);
+    }
+
+pub returns-clause-cut : goal.returns-clause-cut
+returns-clause-cut c =
+    let line = c.args.line.now in
+    let rest = c.loop-character.rest.now in
+    let standing = seen_standing c.loop-character.standing in
+    c.loop-character.invariant.cut
+    ∙ ap (λ text. attached (chars (front_of line rest)) (cut_from standing text)) c.in_default.ensures.characters
+    ∙ whole_line (chars (front_of line rest))
+    ∙ ap (λ (text : List ℕ). text ∷ []) (sym (all_passed line rest c.loop-character.invariant.passed c.in_default.ensures.characters))

@@ -1,8 +1,18 @@
-use Rattle.std.proofs.Common.{◌≡◌, take, drop}
+use Rattle.std.proofs.Common.{◌≡◌, ◌≤◌, length}
+use Rattle.std.specs.Str.{chars}
 use Rattle.yaml_base.specs.Script.{outside, cut_from}
+use Rattle.yaml_tool.specs.Cuts.{front_of}
 use Rattle.yaml_tool.specs.Fields.{seen_standing}
+use Rattle.yaml_tool.proofs.CharacterLemmas.{Passed}
 use Rattle.yaml_tool.proofs.FieldLemmas.{attached}
 use Rattle.yaml_tool.proofs.fields.first_piece.Given as goal
 
-abbrev pub invariant-loop-index : goal.invariant-loop-index
-invariant-loop-index l = cut_from outside l.line ≡ attached (take l.index l.line) (cut_from (seen_standing l.standing) (drop l.index l.line))
+abbrev pub invariant-loop-character : goal.invariant-loop-character
+invariant-loop-character l = record {
+  passed : Passed l.line l.rest;
+  cut : cut_from outside (chars l.line) ≡ attached (chars (front_of l.line l.rest)) (cut_from (seen_standing l.standing) (chars l.rest));
+  within : length l.rest ≤ length l.line;
+}
+
+abbrev pub decreases-loop-character : goal.decreases-loop-character
+decreases-loop-character l = length l.rest

@@ -6,11 +6,10 @@ use Rattle.yaml_tool.specs.Lines.{seen_line}
 use Rattle.yaml_tool.proofs.LineLemmas.{characters_said, bytes_said_nothing}
 use Rattle.yaml_tool.proofs.lines.line_understood.Goals as goal
 
-pub returns-in_ok-characters-in-Ok : goal.returns-in_ok-characters-in-Ok
-returns-in_ok-characters-in-Ok g c =
-    let characters = c.deref.ensures.value ∙ c.in_ok-characters-in-Ok.ensures ∙ ap chars c.in-Ok.ensures.cases.0 in
+pub returns-in-Ok : goal.returns-in-Ok
+returns-in-Ok g c =
     subst (λ said. IfOk c.line_read.result (λ line. option_map seen_line line ≡ said))
-    (ap line_read characters ∙ sym (characters_said c.args.bytes.now c.in-Ok.ensures.cases.1))
+    (ap (λ bytes. line_read (chars bytes)) c.in-Ok.ensures.cases.0 ∙ sym (characters_said c.args.bytes.now c.in-Ok.ensures.cases.1))
     c.line_read.ensures
 
 pub returns-in-Err : goal.returns-in-Err

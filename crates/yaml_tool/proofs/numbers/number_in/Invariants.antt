@@ -1,6 +1,10 @@
-use Rattle.std.proofs.Common.{◌≡◌, ◌≤◌, drop}
+use Rattle.std.proofs.Common.{◌≡◌, ◌≤◌, length}
+use Rattle.std.specs.Str.{chars, IsUtf8}
 use Rattle.yaml_tool.specs.Numbers.{number_after}
 use Rattle.yaml_tool.proofs.numbers.number_in.Given as goal
 
 abbrev pub invariant-loop-digit : goal.invariant-loop-digit
-invariant-loop-digit l = (l.number ≤ l.most) × (number_after l.radix l.most 0 l.digits ≡ number_after l.radix l.most l.number (drop l.digit-index l.digits))
+invariant-loop-digit l = (l.number ≤ l.most) × IsUtf8 l.rest × (number_after l.radix l.most 0 (chars l.digits) ≡ number_after l.radix l.most l.number (chars l.rest))
+
+abbrev pub decreases-loop-digit : goal.decreases-loop-digit
+decreases-loop-digit l = length l.rest
