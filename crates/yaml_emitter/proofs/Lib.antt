@@ -4,6 +4,7 @@ pub mod Fronts
 pub mod Signs
 pub mod Defaults
 pub mod Fits
+pub mod Standing
 pub mod WritingPieces
 pub mod WritingDirectives
 pub mod WritingTags
