@@ -5,7 +5,9 @@ use Rattle.yaml_pen.specs.Page.{IsUntouched}
 use Rattle.yaml_emitter.specs.Given.{seen_given, seen_effective}
 use Rattle.yaml_emitter.specs.Reach.{IsInForce}
 use Rattle.yaml_emitter.specs.Stages.{seen_stage}
-use Rattle.yaml_emitter.specs.State.{State, AreHandles}
+use Rattle.yaml_emitter.specs.Signs.{some_handle_breaks}
+use Rattle.yaml_emitter.specs.State.{State, FitsPage}
+use Rattle.yaml_emitter.specs.WrittenPieces.{seen_mark}
 use Rattle.yaml_emitter.specs.declared.emitter.yaml_emitter_t.TheInside.{Inside}
 
 abbrev pub state_of : {A : Type 0} → Inside A → State
@@ -19,16 +21,18 @@ state_of e =
       closed = e.closed;
       held = seen_events e.queue.items;
       stage = seen_stage e.stage e.directives e.frames;
-      mark = e.mark;
+      mark = seen_mark e.mark;
       page = e.pen;
       error = e.error;
     }
 
 -- the settings in force are in range, no more than three events wait where four find room, nothing is written
--- before an output is set, and the handles in force are in order
+-- before an output is set, no handle in force holds a break, and the page was begun with the stream
 pub record IsEmitter {A : Type 0} (e : Inside A) : Type 0 where
   pub in_force : IsInForce e.settings
   pub few_wait : vec_len e.queue ≤ 3
   pub room : 4 ≤ vec_capacity e.queue
   pub untouched : e.has_output ≡ false → IsUntouched e.pen
-  pub handles : AreHandles e.directives
+  pub handles : some_handle_breaks e.directives ≡ false
+  pub canonical : e.settings.canonical ≡ e.given.canonical
+  pub page : FitsPage (seen_stage e.stage e.directives e.frames) e.pen

@@ -1,14 +1,11 @@
 -- What contracts see of an emitter.
 use Rattle.std.specs.Prelude.{◌≡◌, ℕ, ◌≤◌, Bool, true, false, not, ◌||◌, is_some, Option, None, List, [], length}
-use Rattle.std.specs.List.{list_all}
-use Rattle.std.specs.Prelude.{is_none}
 use Rattle.yaml_base.specs.Settings.{Settings, Effective, effective}
-use Rattle.yaml_base.specs.Event.{TagDirective, Event}
-use Rattle.yaml_base.specs.Tags.{handle_fault}
+use Rattle.yaml_base.specs.Event.{Event}
 use Rattle.yaml_base.specs.Layout.{Standing}
 use Rattle.yaml_base.specs.Steps.{Stage, at_stream}
 use Rattle.yaml_base.specs.declared.errors.yaml_error_t.{yaml_error_t}
-use Rattle.yaml_pen.specs.Page.{Page, new_page}
+use Rattle.yaml_pen.specs.Page.{Page, new_page, IsUntouched, IsReady}
 use Rattle.yaml_emitter.specs.Given.{nothing_given}
 
 -- what was set, and what it came to at the stream's start; whether an event was given, an output set, the stream
@@ -47,9 +44,10 @@ new_state =
 abbrev pub standing_of : State → Standing
 standing_of state = record { cursor = state.page.cursor; mark = state.mark }
 
--- handles in force are in order
-abbrev pub AreHandles : List TagDirective → Type 0
-AreHandles directives = list_all (λ directive. is_none (handle_fault directive.handle)) directives ≡ true
+-- a page is begun at the stream's start
+abbrev pub FitsPage : Stage → Page → Type 0
+FitsPage at_stream page = IsUntouched page × (page.mark_due ≡ false)
+FitsPage _ page = IsReady page
 
 abbrev pub is_at_stream : Stage → Bool
 is_at_stream at_stream = true

@@ -7,6 +7,7 @@ ghost use Rattle.yaml_emitter.specs.State.{State, new_state};
 use crate::frames::Frames;
 use crate::settings::{EffectiveSettings, GivenSettings};
 use crate::stage::Stage;
+use crate::writing::OpenMark;
 use std::alloc::Allocator;
 use std::marker::Model;
 use yaml_base::{YAML_ANY_ENCODING, yaml_break_t, yaml_encoding_t, yaml_error_t, yaml_event_t};
@@ -28,7 +29,7 @@ pub struct yaml_emitter_t<A: Allocator> {
     pub(crate) stage: Stage,
     pub(crate) directives: Directives<A>,
     pub(crate) frames: Frames<A>,
-    pub(crate) mark: u8,
+    pub(crate) mark: OpenMark,
     pub(crate) pen: Pen<A>,
     pub(crate) error: Option<yaml_error_t>,
 }
@@ -68,7 +69,7 @@ pub fn yaml_emitter_initialize<A: Allocator + Copy>(
         stage: Stage::Stream,
         directives: Directives::new(alloc),
         frames: Frames::new(alloc),
-        mark: 0,
+        mark: OpenMark::Closed,
         pen,
         error: None,
     })

@@ -44,9 +44,14 @@ pub fn yaml_emitter_set_encoding<A: Allocator>(
 /// Sets whether the output is canonical: in flow, double-quoted, every tag written.
 pub fn yaml_emitter_set_canonical<A: Allocator>(emitter: &mut yaml_emitter_t<A>, canonical: bool)
     requires { emitter.old.started ≡ false }
-    ensures { emitter.new ≡ record emitter.old { given = record emitter.old.given { canonical = canonical } } }
+    ensures { emitter.new
+        ≡ record emitter.old {
+          given = record emitter.old.given { canonical = canonical };
+          settings = record emitter.old.settings { canonical = canonical };
+        } }
 {
     emitter.given.canonical = canonical;
+    emitter.settings.canonical = canonical;
 }
 
 /// Sets the indent in columns; 2 to 9 is kept, any other becomes 2.

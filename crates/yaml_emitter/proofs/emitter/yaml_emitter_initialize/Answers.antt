@@ -1,5 +1,8 @@
-use Rattle.std.proofs.Common.{rules, refl, subst, sym, arith}
+use Rattle.std.proofs.Common.{rules, refl, ap, subst, sym, arith}
+use Rattle.yaml_base.specs.Settings.{Effective}
+use Rattle.yaml_base.specs.Steps.{at_stream}
 use Rattle.yaml_pen.specs.Page.{Page, IsUntouched, new_page}
+use Rattle.yaml_emitter.specs.State.{FitsPage}
 use Rattle.yaml_emitter.proofs.emitter.yaml_emitter_initialize.Goals as goal
 
 untouched_new : IsUntouched (new_page 18446744073709551615)
@@ -13,4 +16,6 @@ invariant_of-result g c =
       room = c.in_ok-queue.ensures.room.1;
       untouched = λ _. subst (λ (p : Page). IsUntouched p) (sym c.in_ok-pen.ensures.made) untouched_new;
       handles = search rules;
+      canonical = ap (λ (s : Effective). s.canonical) c.effective.ensures.gives;
+      page = subst (λ (p : Page). FitsPage at_stream p) (sym c.in_ok-pen.ensures.made) (untouched_new, refl);
     }
