@@ -11,3 +11,7 @@ pub mod WritingTags
 pub mod MeaningStyles
 pub mod MeaningBodies
 pub mod Meaning
+pub mod HandingOut
+pub mod ProcessedBy
+pub mod KeptInside
+pub mod EventsDone

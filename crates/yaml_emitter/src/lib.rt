@@ -7,6 +7,7 @@ mod emitter;
 mod frames;
 mod laws;
 mod place;
+mod process;
 mod queue;
 mod setters;
 mod settings;

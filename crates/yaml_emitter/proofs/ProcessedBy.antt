@@ -1,0 +1,152 @@
+-- What an event did, from what the calls in its work did.
+use Rattle.std.proofs.Common.{◌≡◌, ℕ, Bool, true, false, Option, None, Some, Result, Ok, Err, refl, sym, ap, subst, ◌∙◌, inl, inr}
+use Rattle.std.specs.Prelude.{◌⊎◌, IsErr, IsErrAnd}
+use Rattle.std.proofs.lemmas.Result.{err_from_is_err_and}
+use Rattle.std.specs.Option.{option_or}
+use Rattle.yaml_base.specs.Errors.{refusal_number}
+use Rattle.yaml_base.specs.Event.{Event, stream_start}
+use Rattle.yaml_base.specs.Steps.{Stage, stage_refusal, step}
+use Rattle.yaml_base.specs.declared.errors.yaml_error_t.{yaml_error_t}
+use Rattle.yaml_base.specs.declared.errors.yaml_error_t.TheVariants.{ExpectedStreamStart, ExpectedDocumentStart, ExpectedDocumentEnd, ExpectedNode, ExpectedNothing, IncompatibleVersion, TagHandleEmpty, TagHandleStart, TagHandleEnd, TagHandleAlphabet, TagPrefixEmpty, DuplicateDirective, AnchorEmpty, AnchorAlphabet, AliasEmpty, AliasAlphabet, TagEmpty, NoTagNorImplicit, TooDeep, WriteError, Memory}
+use Rattle.yaml_pen.specs.Page.{Page, told, encoded}
+use Rattle.yaml_pen.specs.Wrote.{Wrote}
+use Rattle.yaml_emitter.specs.State.{State, standing_of}
+use Rattle.yaml_emitter.specs.Processing.{Processed, Written, CutShort, Refused, Keeps, WritesPage, refusal_now, event_laid, event_stepped, hands_out}
+use Rattle.yaml_emitter.specs.WrittenPieces.{piece_at}
+
+-- a refusal's error: neither the output's limit nor memory
+abbrev pub IsRefusal : yaml_error_t → Type 0
+IsRefusal WriteError = ⊥
+IsRefusal Memory = ⊥
+IsRefusal _ = Unit {0}
+
+-- a refused event changes nothing
+pub processed_refused : (event : Event) (empty : Bool) (state : State) (error : yaml_error_t) → IsRefusal error
+    → refusal_now state event ≡ Some (refusal_number error) → Processed event empty state state (Err error)
+processed_refused event empty state WriteError is refusal = absurd is
+processed_refused event empty state Memory is refusal = absurd is
+processed_refused event empty state error is refusal = record { kept = refl; refusal = refusal; settings = refl; page = refl }
+
+-- the event isn't the stream's start
+abbrev pub IsInStream : Event → Type 0
+IsInStream (stream_start encoding) = ⊥
+IsInStream _ = Unit {0}
+
+writes_page : (event : Event) (empty : Bool) (before after : State) → IsInStream event → after.settings ≡ before.settings
+    → Wrote (event_laid before event empty) before.page after.page (Ok tt) → WritesPage event empty before after
+writes_page (stream_start encoding) empty before after is settings wrote = absurd is
+writes_page event empty before after is settings wrote = (settings, wrote)
+
+-- an event whose piece is written
+pub processed_written : (event : Event) (empty : Bool) (before after : State) → IsInStream event → Keeps before after
+    → refusal_now before event ≡ None → after.settings ≡ before.settings
+    → after.stage ≡ (event_stepped before event empty).stage
+    → after.mark ≡ (event_stepped before event empty).laid.standing.mark
+    → Wrote (event_laid before event empty) before.page after.page (Ok tt)
+    → (hands_out event ≡ true → after.page.output ≡ encoded after.page)
+    → Processed event empty before after (Ok tt)
+processed_written event empty before after is kept accepted settings stage mark wrote handed_out =
+    record {
+      kept = kept;
+      accepted = accepted;
+      stage = stage;
+      mark = mark;
+      page = writes_page event empty before after is settings wrote;
+      handed_out = handed_out;
+    }
+
+some_same : {e f : yaml_error_t} → Some e ≡ Some f → e ≡ f
+some_same same = cc
+
+-- an event whose piece is cut short
+cut : (error : yaml_error_t) (event : Event) (empty : Bool) (before after : State) → Keeps before after → after.settings ≡ before.settings
+    → refusal_now before event ≡ None → Wrote (event_laid before event empty) before.page after.page (Err error)
+    → after.page.error ≡ Some error → CutShort error event empty before after
+cut error event empty before after kept settings accepted wrote failed =
+    record {
+      kept = kept;
+      settings = settings;
+      page = inr (accepted, (λ is. some_same (sym failed ∙ is)), (λ is. failed ∙ ap (λ (e : yaml_error_t). Some e) is), (Err error, wrote));
+    }
+
+told_failed : (given : Option yaml_error_t) (error : yaml_error_t) → Err error ≡ told given → given ≡ Some error
+told_failed None error is = cc
+told_failed (Some other) error is = cc
+
+-- the pen fails by the limit or by memory alone
+pen_error : (error : yaml_error_t) → (Some error ≡ None) ⊎ (Some error ≡ Some WriteError) ⊎ (Some error ≡ Some Memory) → (error ≡ WriteError) ⊎ (error ≡ Memory)
+pen_error error named = elim named [ inl none ↦ cc | inr other ↦ elim other [ inl full ↦ inl (some_same full) | inr memory ↦ inr (some_same memory) ] ]
+
+failed_as : (event : Event) (empty : Bool) (before after : State) (error named : yaml_error_t) → error ≡ named
+    → Processed event empty before after (Err named) → Processed event empty before after (Err error)
+failed_as event empty before after error named same processed =
+    subst (λ (e : yaml_error_t). let r : Result (Unit {0}) yaml_error_t = Err e in Processed event empty before after r) (sym same) processed
+
+wrote_as_error : (event : Event) (empty : Bool) (before after : State) (error named : yaml_error_t) → error ≡ named
+    → Wrote (event_laid before event empty) before.page after.page (Err error) → Wrote (event_laid before event empty) before.page after.page (Err named)
+wrote_as_error event empty before after error named same wrote =
+    subst (λ (e : yaml_error_t). let r : Result (Unit {0}) yaml_error_t = Err e in Wrote (event_laid before event empty) before.page after.page r) same wrote
+
+pub processed_cut : (event : Event) (empty : Bool) (before after : State) (error : yaml_error_t) → Keeps before after → after.settings ≡ before.settings
+    → refusal_now before event ≡ None → Wrote (event_laid before event empty) before.page after.page (Err error)
+    → Processed event empty before after (Err error)
+processed_cut event empty before after error kept settings accepted wrote =
+    let failed = told_failed after.page.error error wrote.answered in
+    let named : (Some error ≡ None) ⊎ (Some error ≡ Some WriteError) ⊎ (Some error ≡ Some Memory) =
+    subst (λ (o : Option yaml_error_t). (o ≡ None) ⊎ (o ≡ Some WriteError) ⊎ (o ≡ Some Memory)) failed wrote.handed.named in
+    elim (pen_error error named) [
+      | inl full ↦
+          failed_as event empty before after error WriteError full
+          (cut WriteError event empty before after kept settings accepted (wrote_as_error event empty before after error WriteError full wrote) (failed ∙ ap (λ (e : yaml_error_t). Some e) full))
+      | inr memory ↦
+          failed_as event empty before after error Memory memory
+          (cut Memory event empty before after kept settings accepted (wrote_as_error event empty before after error Memory memory wrote) (failed ∙ ap (λ (e : yaml_error_t). Some e) memory))
+    ]
+
+-- want of memory before anything of the event is written
+pub processed_unwritten : (event : Event) (empty : Bool) (before after : State) → Keeps before after → after.settings ≡ before.settings
+    → after.page ≡ before.page → Processed event empty before after (Err Memory)
+processed_unwritten event empty before after kept settings page =
+    record { kept = kept; settings = settings; page = inl (refl, page) }
+
+-- The same where the stage is known by an equation.
+laid_at : (before after : State) (event : Event) (empty : Bool) (stage : Stage) (answer : Result (Unit {0}) yaml_error_t) → before.stage ≡ stage
+    → Wrote (piece_at (λ standing. (step before.settings stage event empty standing).laid) before.mark) before.page after.page answer
+    → Wrote (event_laid before event empty) before.page after.page answer
+laid_at before after event empty stage answer is wrote =
+    subst (λ st. Wrote (piece_at (λ standing. (step before.settings st event empty standing).laid) before.mark) before.page after.page answer) (sym is) wrote
+
+pub processed_refused_at : (event : Event) (empty : Bool) (state : State) (stage : Stage) (error : yaml_error_t) → state.stage ≡ stage → IsRefusal error
+    → stage_refusal state.given.canonical stage event ≡ Some (refusal_number error) → Processed event empty state state (Err error)
+processed_refused_at event empty state stage error at is refusal =
+    processed_refused event empty state error is (ap (λ st. stage_refusal state.given.canonical st event) at ∙ refusal)
+
+pub processed_written_at : (event : Event) (empty : Bool) (before after : State) (stage : Stage) → before.stage ≡ stage → IsInStream event → Keeps before after
+    → stage_refusal before.given.canonical stage event ≡ None → after.settings ≡ before.settings
+    → after.stage ≡ (step before.settings stage event empty (standing_of before)).stage
+    → after.mark ≡ (step before.settings stage event empty (standing_of before)).laid.standing.mark
+    → Wrote (piece_at (λ standing. (step before.settings stage event empty standing).laid) before.mark) before.page after.page (Ok tt)
+    → (hands_out event ≡ true → after.page.output ≡ encoded after.page)
+    → Processed event empty before after (Ok tt)
+processed_written_at event empty before after stage at is kept accepted settings stage_is mark_is wrote handed_out =
+    let stepped = λ (st : Stage). step before.settings st event empty (standing_of before) in
+    processed_written event empty before after is kept
+    (ap (λ st. stage_refusal before.given.canonical st event) at ∙ accepted) settings
+    (stage_is ∙ sym (ap (λ st. (stepped st).stage) at)) (mark_is ∙ sym (ap (λ st. (stepped st).laid.standing.mark) at))
+    (laid_at before after event empty stage (Ok tt) at wrote) handed_out
+
+pub processed_cut_at : (event : Event) (empty : Bool) (before after : State) (stage : Stage) (error : yaml_error_t) → before.stage ≡ stage → Keeps before after
+    → after.settings ≡ before.settings → stage_refusal before.given.canonical stage event ≡ None
+    → Wrote (piece_at (λ standing. (step before.settings stage event empty standing).laid) before.mark) before.page after.page (Err error)
+    → Processed event empty before after (Err error)
+processed_cut_at event empty before after stage error at kept settings accepted wrote =
+    processed_cut event empty before after error kept settings
+    (ap (λ st. stage_refusal before.given.canonical st event) at ∙ accepted) (laid_at before after event empty stage (Err error) at wrote)
+
+-- at an exit by `?` the answer is the call's error
+pub processed_exit : (event : Event) (empty : Bool) (before after : State) (error : yaml_error_t) (answer : Result (Unit {0}) yaml_error_t)
+    → IsErr answer × IsErrAnd answer (λ given. given ≡ error) → Processed event empty before after (Err error) → Processed event empty before after answer
+processed_exit event empty before after error answer is processed =
+    let p = err_from_is_err_and answer is.1 in
+    let same : answer ≡ Err error = p.1 ∙ ap (λ (e : yaml_error_t). let r : Result (Unit {0}) yaml_error_t = Err e in r) p.2 in
+    subst (λ (r : Result (Unit {0}) yaml_error_t). Processed event empty before after r) (sym same) processed

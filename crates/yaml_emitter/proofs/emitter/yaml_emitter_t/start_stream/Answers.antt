@@ -1,0 +1,31 @@
+use Rattle.std.proofs.Common.{◌≡◌, Option, true, false, refl, ap, sym, subst, ◌∙◌}
+use Rattle.yaml_base.specs.Seen.{seen_encoding, seen_break}
+use Rattle.yaml_base.specs.Settings.{Effective, Encoding, LineBreak, utf8, line_feed_break}
+use Rattle.yaml_pen.specs.Page.{Page, IsReady}
+use Rattle.yaml_emitter.specs.Inside.{state_of}
+use Rattle.yaml_emitter.specs.Given.{seen_effective}
+use Rattle.yaml_emitter.proofs.KeptInside.{has_output_inside, stage_inside}
+use Rattle.yaml_emitter.proofs.EventsDone.{stream_started, given_is_there}
+use Rattle.yaml_emitter.proofs.emitter.yaml_emitter_t.start_stream.Goals as goal
+
+pub invariant_of-self : goal.invariant_of-self
+invariant_of-self g c =
+    let output = has_output_inside c.self.inside c.self.view_is c.requires.output in
+    record {
+      in_force = c.effective-self-inside.ensures.in_force;
+      few_wait = c.self.invariant.few_wait;
+      room = c.self.invariant.room;
+      untouched = λ none. cc;
+      handles = c.self.invariant.handles;
+      canonical = ap (λ (s : Effective). s.canonical) c.effective-self-inside.ensures.gives;
+      page = subst (λ (p : Page). IsReady p) (sym c.begin_page.ensures) (record { begun = c.effective-self-inside.ensures.encoding; marked = refl });
+    }
+
+pub returns : goal.returns
+returns g c =
+    let s = seen_effective c.effective-self-inside.result in
+    rw (← c.self.view_is)
+    (stream_started (state_of c.self.inside) (seen_encoding c.args.encoding) s c.begin_page.new.pen (stage_inside c.self.inside c.self.view_is c.requires.stage)
+    c.effective-self-inside.ensures.gives
+    (c.begin_page.ensures
+    ∙ ap (λ (e : Option Encoding). let p : Page = record c.self.inside.pen { encoding = e; line_break = s.line_break; mark_due = false } in p) (given_is_there (seen_encoding c.effective-self-inside.result.encoding) utf8 c.effective-self-inside.ensures.encoding)))

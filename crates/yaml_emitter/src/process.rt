@@ -1,0 +1,139 @@
+//! One event: what refuses it, what it writes, and what may come next. One function a place.
+
+ghost use Rattle.std.specs.Prelude.{◌≡◌, ◌<◌, ◌≤◌, ◌+◌, ◌*◌, ◌∷◌, ℕ, None, Some, false, true, List, length, IsOk, IsSome, OnOk, unwrap_or};
+ghost use Rattle.yaml_base.specs.Event.{TagDirective, stream_start, stream_end, document_end};
+ghost use Rattle.yaml_base.specs.Layout.{document_end_piece, stream_end_piece};
+ghost use Rattle.yaml_base.specs.Refusal.{name_or_tag_fault};
+ghost use Rattle.yaml_base.specs.Seen.{seen_break, seen_encoding, seen_event};
+ghost use Rattle.yaml_base.specs.Settings.{line_feed_break};
+ghost use Rattle.yaml_base.specs.Steps.{Frame, at_stream, at_document, at_node, at_document_end, at_nothing, stage_after};
+ghost use Rattle.yaml_pen.specs.Page.{IsReady, IsUntouched, encoded};
+ghost use Rattle.yaml_pen.specs.Wrote.{Wrote};
+ghost use Rattle.yaml_emitter.specs.Processing.{Processed};
+ghost use Rattle.yaml_emitter.specs.WrittenPieces.{piece_at, seen_mark};
+
+use crate::emitter::yaml_emitter_t;
+use crate::stage::Stage;
+use crate::writing::{OpenMark, write_document_end, write_stream_end};
+use std::alloc::Allocator;
+use yaml_base::{
+    YAML_DOCUMENT_END_EVENT, YAML_STREAM_START_EVENT, yaml_break_t, yaml_encoding_t, yaml_error_t,
+    yaml_event_t,
+};
+use yaml_pen::Pen;
+
+impl<A: Allocator + Copy> yaml_emitter_t<A> {
+    /// Where the stream must start.
+    fn expect_stream_start(&mut self, event: &yaml_event_t<A>) -> Result<(), yaml_error_t>
+        requires output { self.old.has_output ≡ true }
+        requires stage { self.old.stage ≡ at_stream }
+        requires names { name_or_tag_fault self.old.given.canonical (seen_event event.now) ≡ None }
+        ensures { Processed (seen_event event.now) false self.old self.new result }
+    {
+        match event {
+            YAML_STREAM_START_EVENT { encoding } => self.start_stream(*encoding),
+            _ => Err(yaml_error_t::ExpectedStreamStart),
+        }
+    }
+
+    /// Where a document must end.
+    fn expect_document_end(&mut self, event: &yaml_event_t<A>) -> Result<(), yaml_error_t>
+        requires output { self.old.has_output ≡ true }
+        requires stage { self.old.stage ≡ at_document_end }
+        requires names { name_or_tag_fault self.old.given.canonical (seen_event event.now) ≡ None }
+        ensures { Processed (seen_event event.now) false self.old self.new result }
+    {
+        match event {
+            YAML_DOCUMENT_END_EVENT { implicit } => self.end_document(*implicit),
+            _ => Err(yaml_error_t::ExpectedDocumentEnd),
+        }
+    }
+
+    /// Behind the stream's end.
+    fn expect_nothing(&mut self, event: &yaml_event_t<A>) -> Result<(), yaml_error_t>
+        requires output { self.old.has_output ≡ true }
+        requires stage { self.old.stage ≡ at_nothing }
+        requires names { name_or_tag_fault self.old.given.canonical (seen_event event.now) ≡ None }
+        ensures { Processed (seen_event event.now) false self.old self.new result }
+    {
+        Err(yaml_error_t::ExpectedNothing)
+    }
+
+    /// The stream's start settles what it is written by.
+    fn start_stream(&mut self, encoding: yaml_encoding_t) -> Result<(), yaml_error_t>
+        requires output { self.old.has_output ≡ true }
+        requires stage { self.old.stage ≡ at_stream }
+        ensures { Processed (stream_start (seen_encoding encoding)) false self.old self.new result }
+    {
+        self.settings = self.given.effective(encoding);
+        begin_page(
+            &mut self.pen,
+            self.settings.encoding,
+            self.settings.line_break,
+        );
+        self.stage = Stage::Document { first: true };
+        Ok(())
+    }
+
+    /// A document's end, with `...` where it isn't implicit.
+    fn end_document(&mut self, implicit: bool) -> Result<(), yaml_error_t>
+        requires output { self.old.has_output ≡ true }
+        requires stage { self.old.stage ≡ at_document_end }
+        ensures { Processed (document_end implicit) false self.old self.new result }
+    {
+        hand_out_document_end(&mut self.pen, implicit)?;
+        self.mark = self.mark.after_document(implicit);
+        self.stage = Stage::Document { first: false };
+        Ok(())
+    }
+
+    /// The stream's end.
+    fn end_stream(&mut self, first: bool) -> Result<(), yaml_error_t>
+        requires output { self.old.has_output ≡ true }
+        requires stage { self.old.stage ≡ at_document first }
+        ensures { Processed stream_end false self.old self.new result }
+    {
+        hand_out_stream_end(&mut self.pen, self.mark)?;
+        self.stage = Stage::Nothing;
+        Ok(())
+    }
+}
+
+fn hand_out_document_end<A: Allocator>(pen: &mut Pen<A>, implicit: bool) -> Result<(), yaml_error_t>
+    requires { IsReady pen.old }
+    ensures written { (mark : ℕ) → Wrote (piece_at (document_end_piece implicit) mark) pen.old pen.new result }
+    ensures handed_out { OnOk result (pen.new.output ≡ encoded pen.new) }
+{
+    write_document_end(pen, implicit)?;
+    pen.flush()
+}
+
+fn hand_out_stream_end<A: Allocator>(pen: &mut Pen<A>, mark: OpenMark) -> Result<(), yaml_error_t>
+    requires { IsReady pen.old }
+    ensures written { Wrote (piece_at stream_end_piece (seen_mark mark)) pen.old pen.new result }
+    ensures handed_out { OnOk result (pen.new.output ≡ encoded pen.new) }
+{
+    write_stream_end(pen, mark)?;
+    pen.flush()
+}
+
+/// Begins a page; UTF-16 begins with its mark.
+fn begin_page<A: Allocator>(pen: &mut Pen<A>, encoding: yaml_encoding_t, line_break: yaml_break_t)
+    requires untouched { IsUntouched pen.old }
+    requires encoding { IsSome (seen_encoding encoding) }
+    requires line_break { IsSome (seen_break line_break) }
+    ensures { pen.new
+        ≡ record pen.old {
+          encoding = seen_encoding encoding;
+          line_break = unwrap_or (seen_break line_break) line_feed_break;
+          mark_due = false;
+        } }
+{
+    pen.begin(encoding, line_break);
+    match encoding {
+        yaml_encoding_t::YAML_UTF16LE_ENCODING | yaml_encoding_t::YAML_UTF16BE_ENCODING => {
+            let _ = pen.write_bom();
+        }
+        _ => {}
+    }
+}
