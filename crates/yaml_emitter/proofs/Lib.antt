@@ -5,6 +5,8 @@ pub mod Signs
 pub mod Defaults
 pub mod Fits
 pub mod Standing
+pub mod StandingFailed
+pub mod StandingMore
 pub mod WritingPieces
 pub mod WritingDirectives
 pub mod WritingTags

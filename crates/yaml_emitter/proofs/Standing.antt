@@ -171,7 +171,7 @@ end_next front rest event q s false is h = steps_same front s (ends_collection e
 end_next front rest event q s true is h = ap (λ follows. steps s follows front at_stream first_standing) (sym (own_end front event rest before_stream q h is))
 
 -- steps, and one more
-abbrev one_more : Steps → Stepped → Steps
+abbrev pub one_more : Steps → Stepped → Steps
 one_more before stepped = record { pieces = before.pieces ++ stepped.laid.piece ∷ []; standing = stepped.laid.standing; stage = stepped.stage }
 
 next_steps : (front rest : List Event) (event : Event) (q : Partial) (s : Effective) (empty : Bool) → partial_of (front ++ event ∷ []) ≡ Some q
@@ -181,17 +181,21 @@ next_steps front rest event q s empty h =
     steps-append front (event ∷ []) s empty at_stream first_standing
     ∙ ap (λ (before : Steps). one_more before (step s before.stage event empty before.standing)) (end_next front rest event q s (begins_last front) refl h)
 
+-- The refusal where an emitter stands is that after the front.
+pub refusal_same : (given : Settings) (all front : List Event) (event : Event) (follows : Bool) (s : Effective) (state : State)
+    → HasTaken given all front (steps s follows front at_stream first_standing) state → refusal_now state event ≡ refusal given.canonical front event
+refusal_same given all front event follows s state h =
+    let before = stands_from_begins given.canonical front h.stands in
+    ap (λ (g : Settings). stage_refusal g.canonical state.stage event) h.given_kept
+    ∙ ap (λ stage. stage_refusal given.canonical stage event) h.stage
+    ∙ stage_refusal_after given.canonical front event before.partial s follows before.is_partial
+
 -- An event that isn't refused goes on with an accepted list.
 pub accepted_next : (given : Settings) (all front : List Event) (event : Event) (follows : Bool) (s : Effective) (state : State)
     → HasTaken given all front (steps s follows front at_stream first_standing) state → refusal_now state event ≡ None
     → BeginsAccepted given.canonical (front ++ event ∷ [])
 accepted_next given all front event follows s state h none =
-    let before = stands_from_begins given.canonical front h.stands in
-    (refused_exactly given.canonical front event h.stands).0
-    (sym (stage_refusal_after given.canonical front event before.partial s follows before.is_partial)
-    ∙ ap (λ stage. stage_refusal given.canonical stage event) (sym h.stage)
-    ∙ ap (λ (g : Settings). stage_refusal g.canonical state.stage event) (sym h.given_kept)
-    ∙ none)
+    (refused_exactly given.canonical front event h.stands).0 (sym (refusal_same given all front event follows s state h) ∙ none)
 
 -- The text of pieces.
 pub text_written-append : (s : Effective) (a b : List Piece) → text_written s (a ++ b) ≡ text_written s a ++ text_written s b
@@ -212,17 +216,20 @@ is_page_wrote h wrote =
       handed = wrote.handed;
     }
 
+pub named_more : (s : Effective) (x : Event) (front : List Event) (pieces : List Piece) (piece : Piece) (lay : Cursor → Laid) (before : Page)
+    → HoldsPieces s (x ∷ front) pieces before → piece_text piece ≡ (lay before.cursor).text
+    → before.text ++ named_text lay before ≡ text_written s (pieces ++ piece ∷ [])
+named_more s x front pieces piece lay before h is =
+    ap (λ text. text ++ named_text lay before) h.1
+    ∙ ap (λ b. text_written s pieces ++ with_breaks_written b (lay before.cursor).text) h.0.line_break
+    ∙ ap (λ text. text_written s pieces ++ with_breaks_written s.line_break text) (sym is)
+    ∙ sym (text_written-append s pieces (piece ∷ []) ∙ ap (λ text. text_written s pieces ++ text) (text_written-one s piece))
+
 page_more : (s : Effective) (x : Event) (front : List Event) (pieces : List Piece) (piece : Piece) (lay : Cursor → Laid) (before after : Page)
     → HoldsPieces s (x ∷ front) pieces before → Wrote lay before after (Ok tt) → piece_text piece ≡ (lay before.cursor).text
     → HoldsPieces s (x ∷ front) (pieces ++ piece ∷ []) after
 page_more s x front pieces piece lay before after h wrote is =
-    (is_page_wrote h.0 wrote,
-    (wrote_all wrote).text
-    ∙ ap (λ text. text ++ named_text lay before) h.1
-    ∙ ap (λ b. text_written s pieces ++ with_breaks_written b (lay before.cursor).text) h.0.line_break
-    ∙ ap (λ text. text_written s pieces ++ with_breaks_written s.line_break text) (sym is)
-    ∙ sym (text_written-append s pieces (piece ∷ []) ∙ ap (λ text. text_written s pieces ++ text) (text_written-one s piece)),
-    wrote_no_error wrote)
+    (is_page_wrote h.0 wrote, (wrote_all wrote).text ∙ named_more s x front pieces piece lay before h is, wrote_no_error wrote)
 
 writes_later : (event : Event) (empty : Bool) (before after : State) → IsLater event → WritesPage event empty before after → (after.settings ≡ before.settings) × Wrote (event_laid before event empty) before.page after.page (Ok tt)
 writes_later (stream_start encoding) empty before after later h = absurd later
@@ -270,7 +277,22 @@ taken_first (stream_start encoding) rest given empty before after start h begun 
     }
 taken_first event rest given empty before after start h begun done = absurd start
 
--- Any later event.
+-- Any later event: its piece is the next.
+pub stepped_steps : (given : Settings) (all : List Event) (x : Event) (front rest : List Event) (event : Event) (q : Partial) (before : State)
+    → HasTaken given all (x ∷ front) (steps (settings_for given all) (closes_last (x ∷ front) (event ∷ rest)) (x ∷ front) at_stream first_standing) before
+    → partial_of ((x ∷ front) ++ event ∷ []) ≡ Some q
+    → steps (settings_for given all) (closes_at_once event rest) ((x ∷ front) ++ event ∷ []) at_stream first_standing
+    ≡ one_more (steps (settings_for given all) (closes_last (x ∷ front) (event ∷ rest)) (x ∷ front) at_stream first_standing) (event_stepped before event (closes_at_once event rest))
+stepped_steps given all x front rest event q before h pushes =
+    let s = settings_for given all in
+    let empty = closes_at_once event rest in
+    let taken = steps s (closes_last (x ∷ front) (event ∷ rest)) (x ∷ front) at_stream first_standing in
+    let same : event_stepped before event empty ≡ step s taken.stage event empty taken.standing =
+    ap (λ settings. step settings before.stage event empty (standing_of before)) h.settled
+    ∙ ap (λ stage. step s stage event empty (standing_of before)) h.stage
+    ∙ ap (λ standing. step s taken.stage event empty standing) h.standing in
+    next_steps (x ∷ front) rest event q s empty pushes ∙ ap (one_more taken) (sym same)
+
 taken_later : (given : Settings) (all : List Event) (x : Event) (front rest : List Event) (event : Event) (q : Partial) (before after : State)
     → IsLater event
     → HasTaken given all (x ∷ front) (steps (settings_for given all) (closes_last (x ∷ front) (event ∷ rest)) (x ∷ front) at_stream first_standing) before
@@ -284,12 +306,8 @@ taken_later given all x front rest event q before after later h pushes begun don
     let taken = steps s (closes_last (x ∷ front) (event ∷ rest)) (x ∷ front) at_stream first_standing in
     let stepped = event_stepped before event empty in
     let wrote = writes_later event empty before after later done.page in
-    let same : stepped ≡ step s taken.stage event empty taken.standing =
-    ap (λ settings. step settings before.stage event empty (standing_of before)) h.settled
-    ∙ ap (λ stage. step s stage event empty (standing_of before)) h.stage
-    ∙ ap (λ standing. step s taken.stage event empty standing) h.standing in
     let whole : steps s empty ((x ∷ front) ++ event ∷ []) at_stream first_standing ≡ one_more taken stepped =
-    next_steps (x ∷ front) rest event q s empty pushes ∙ ap (one_more taken) (sym same) in
+    stepped_steps given all x front rest event q before h pushes in
     subst (λ steps. HasTaken given all ((x ∷ front) ++ event ∷ []) steps after) (sym whole)
     (record {
       given_kept = ap (λ (s : State). s.given) done.kept ∙ h.given_kept;

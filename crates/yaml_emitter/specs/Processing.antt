@@ -72,9 +72,9 @@ pub record CutShort (error : yaml_error_t) (event : Event) (empty : Bool) (befor
       × (error ≡ WriteError → after.page.error ≡ Some WriteError)
       × ((answer : Result (Unit {0}) yaml_error_t) × Wrote (event_laid before event empty) before.page after.page answer))
 
--- an event that is refused writes nothing
+-- an event that is refused changes nothing
 pub record Refused (error : yaml_error_t) (event : Event) (before after : State) : Type 0 where
-  pub kept : Keeps before after
+  pub kept : after ≡ before
   pub refusal : refusal_now before event ≡ Some (refusal_number error)
   pub settings : after.settings ≡ before.settings
   pub page : after.page ≡ before.page

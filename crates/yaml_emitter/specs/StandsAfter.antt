@@ -1,5 +1,5 @@
 -- An emitter stands after the events that it was given.
-use Rattle.std.specs.Prelude.{◌≡◌, ◌⊎◌, ℕ, ◌+◌, ◌<◌, Bool, true, false, Option, None, Some, List, [], ◌∷◌, ◌++◌, length, take}
+use Rattle.std.specs.Prelude.{◌≡◌, ◌⊎◌, ℕ, ◌+◌, ◌<◌, ◌≤◌, Bool, true, false, Option, None, Some, List, [], ◌∷◌, ◌++◌, length, take}
 use Rattle.yaml_base.specs.Errors.{refusal_number}
 use Rattle.yaml_base.specs.Settings.{Settings, Effective}
 use Rattle.yaml_base.specs.Characters.{Text}
@@ -23,11 +23,15 @@ pub record IsPage (s : Effective) (page : Page) : Type 0 where
   pub limit : page.limit ≡ s.limit
   pub handed : IsHandedOut (encoded page) page.output page.limit page.error
 
--- before the stream's start a page is new; after it, it holds the text of the pieces
+-- before the stream's start a page is new; after it, it holds the text of the pieces; it has this error
+abbrev pub HoldsPiecesWith : Option yaml_error_t → Effective → List Event → List Piece → Page → Type 0
+HoldsPiecesWith error s [] pieces page = page ≡ record (new_page s.limit) { error = error }
+HoldsPiecesWith error s (event ∷ events) pieces page =
+    IsPage s page × (page.text ≡ text_written s pieces) × (page.error ≡ error)
+
+-- nothing failed
 abbrev pub HoldsPieces : Effective → List Event → List Piece → Page → Type 0
-HoldsPieces s [] pieces page = page ≡ new_page s.limit
-HoldsPieces s (event ∷ events) pieces page =
-    IsPage s page × (page.text ≡ text_written s pieces) × (page.error ≡ None)
+HoldsPieces s events pieces page = HoldsPiecesWith None s events pieces page
 
 abbrev pub IsSettled : Effective → List Event → State → Type 0
 IsSettled s [] state = Unit {0}
@@ -89,9 +93,24 @@ pub record StandsCut (given : Settings) (all : List Event) (error : yaml_error_t
       × IsFront state.page.text
       (text_written (settings_for given all) (steps (settings_for given all) (closes_at_once event later) (front ++ event ∷ []) at_stream first_standing).pieces))
 
+-- the output's limit or memory gave out between events: all that were ready had been written
+pub record StandsUnflushed (given : Settings) (all : List Event) (error : yaml_error_t) (state : State) : Type 0 where
+  pub front : List Event
+  pub later : List Event
+  pub parts : front ++ later ≡ all
+  pub were_ready : length front ≤ written all
+  pub given_kept : state.given ≡ given
+  pub stands : BeginsAccepted given.canonical front
+  pub page : HoldsPiecesWith (Some error) (settings_for given all) front (steps (settings_for given all) false front at_stream first_standing).pieces state.page
+  pub handed : IsHandedOut (encoded state.page) state.page.output state.page.limit state.page.error
+
+-- the output's limit or memory gave out, at an event or between two
+abbrev pub StandsStopped : Settings → List Event → yaml_error_t → State → Type 0
+StandsStopped given all error state = StandsCut given all error state ⊎ StandsUnflushed given all error state
+
 abbrev pub StandsFailed : Settings → List Event → yaml_error_t → State → Type 0
-StandsFailed given all WriteError state = StandsCut given all WriteError state
-StandsFailed given all Memory state = StandsCut given all Memory state
+StandsFailed given all WriteError state = StandsStopped given all WriteError state
+StandsFailed given all Memory state = StandsStopped given all Memory state
 StandsFailed given all error state = StandsRefused given all error state
 
 -- an emitter without an error stands well; after an error nothing is held
