@@ -4,7 +4,7 @@ use Rattle.yaml_base.specs.Analysis.{is_empty}
 use Rattle.yaml_base.specs.Characters.{Text}
 use Rattle.yaml_base.specs.Cursor.{Cursor, Laid, then_laid}
 use Rattle.yaml_base.specs.Event.{ScalarStyle, literal, folded}
-use Rattle.yaml_base.specs.Layout.{body_laid, separation_laid}
+use Rattle.yaml_base.specs.Layout.{Place, body_laid, deeper, separation_laid}
 use Rattle.yaml_base.specs.Settings.{Effective}
 use Rattle.yaml_base.specs.declared.errors.yaml_error_t.{yaml_error_t}
 
@@ -13,6 +13,10 @@ abbrev pub scalar_text_laid : ScalarStyle → Effective → (in_flow simple : Bo
 scalar_text_laid style s in_flow simple indent value cursor =
     then_laid (separation_laid style in_flow value cursor)
     (body_laid style s (if simple then None else s.width) indent value)
+
+-- the same by the scalar's place, where further lines begin one indent further in
+abbrev pub text_at : ScalarStyle → Effective → Place → (simple : Bool) → Text → Cursor → Laid
+text_at style s place simple value = scalar_text_laid style s place.in_flow simple (deeper s.indent place.column) value
 
 -- block styles are for values that aren't empty, and not for simple keys
 abbrev pub style_fits : ScalarStyle → Text → (simple : Bool) → Bool

@@ -24,7 +24,8 @@ const MOST_BYTES: usize = 128;
 
 /// Whether an alias at a place is a simple key.
 pub(crate) fn is_simple_alias_key(settings: &EffectiveSettings, place: &Place, name: &str) -> bool
-    ensures { result ≡ (is_key (seen_place place.now).role && (not settings.now.canonical && layout.is_simple_alias (chars name.now))) }
+    ensures { result
+        ≡ (is_key (seen_place place.now).role && (not settings.now.canonical && layout.is_simple_alias (chars name.now))) }
 {
     place.role.is_key() && (!settings.canonical && is_simple_alias(name))
 }
@@ -36,7 +37,10 @@ pub(crate) fn is_simple_scalar_key<A: Allocator>(
     place: &Place,
     content: &ScalarContent,
 ) -> bool
-    ensures { result ≡ (is_key (seen_place place.now).role && (not settings.now.canonical && layout.is_simple_scalar settings.now.canonical directives.now (seen_scalar content.now))) }
+    ensures { result
+        ≡ (is_key (seen_place place.now).role
+        && (not settings.now.canonical
+        && layout.is_simple_scalar settings.now.canonical directives.now (seen_scalar content.now))) }
 {
     let canonical = settings.canonical;
     place.role.is_key() && (!canonical && is_simple_scalar(canonical, directives, content))
@@ -50,7 +54,12 @@ pub(crate) fn is_simple_collection_key<A: Allocator>(
     content: &CollectionContent,
     empty: bool,
 ) -> bool
-    ensures { (style : CollectionStyle) → result ≡ (is_key (seen_place place.now).role && (not settings.now.canonical && layout.is_simple_collection settings.now.canonical directives.now (seen_collection content.now style) empty)) }
+    ensures { (style : CollectionStyle)
+        → result
+        ≡ (is_key (seen_place place.now).role
+        && (not settings.now.canonical
+        && layout.is_simple_collection settings.now.canonical directives.now
+        (seen_collection content.now style) empty)) }
 {
     let canonical = settings.canonical;
     place.role.is_key()
@@ -85,7 +94,8 @@ fn is_simple_collection<A: Allocator>(
     content: &CollectionContent,
     empty: bool,
 ) -> bool
-    ensures { (style : CollectionStyle) → result ≡ layout.is_simple_collection canonical directives.now (seen_collection content.now style) empty }
+    ensures { (style : CollectionStyle)
+        → result ≡ layout.is_simple_collection canonical directives.now (seen_collection content.now style) empty }
 {
     let tag = written_collection_tag(content, canonical);
     empty && is_short(0, name_count(content.anchor), tag_count(directives, tag))

@@ -32,7 +32,11 @@ pub(crate) fn write_document_start<A: Allocator>(
 ) -> Result<(), yaml_error_t>
     requires ready { IsReady pen.old }
     requires handles { some_handle_breaks (map seen_directive directives.now) ≡ false }
-    ensures { Wrote (piece_at (document_start_piece canonical first record { version = option_map seen_version version; directives = map seen_directive directives.now; implicit = implicit }) (seen_mark mark)) pen.old pen.new result }
+    ensures { Wrote
+        (piece_at
+        (document_start_piece canonical first record { version = option_map seen_version version; directives = map seen_directive directives.now; implicit = implicit })
+        (seen_mark mark))
+        pen.old pen.new result }
 {
     let directed = has_directives(version, directives);
     let explicit = is_explicit(canonical, first, implicit, directed);
@@ -73,7 +77,9 @@ fn write_document_head<A: Allocator>(
 ) -> Result<(), yaml_error_t>
     requires ready { IsReady pen.old }
     requires handles { some_handle_breaks (map seen_directive directives.now) ≡ false }
-    ensures { Wrote (document_head_laid canonical closes (option_map seen_version version) (map seen_directive directives.now) explicit) pen.old pen.new result }
+    ensures { Wrote
+        (document_head_laid canonical closes (option_map seen_version version) (map seen_directive directives.now) explicit)
+        pen.old pen.new result }
 {
     write_closing_mark(pen, closes)?;
     write_version(pen, version)?;
@@ -115,7 +121,9 @@ fn write_tag_line<A: Allocator>(
 ) -> Result<(), yaml_error_t>
     requires ready { IsReady pen.old }
     requires no_break { list_any is_break (chars handle.now) ≡ false }
-    ensures { Wrote (tag_directive_laid (record { handle = chars handle.now; prefix = chars prefix.now })) pen.old pen.new result }
+    ensures { Wrote
+        (tag_directive_laid (record { handle = chars handle.now; prefix = chars prefix.now }))
+        pen.old pen.new result }
 {
     write_word(pen, "%TAG")?;
     write_tag_handle(pen, handle)?;

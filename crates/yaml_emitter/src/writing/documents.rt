@@ -116,7 +116,9 @@ pub(crate) fn write_version<A: Allocator>(
 fn write_version_line<A: Allocator>(pen: &mut Pen<A>, version: &str) -> Result<(), yaml_error_t>
     requires ready { IsReady pen.old }
     requires sign { is_sign version.now ≡ true }
-    ensures { Wrote (λ cursor. then_laid (then_laid (sign_laid (codes "%YAML") cursor) (sign_laid version.now)) (new_line 0)) pen.old pen.new result }
+    ensures { Wrote
+        (λ cursor. then_laid (then_laid (sign_laid (codes "%YAML") cursor) (sign_laid version.now)) (new_line 0))
+        pen.old pen.new result }
 {
     write_word(pen, "%YAML")?;
     write_word(pen, version)?;

@@ -38,7 +38,10 @@ pub(crate) fn write_alias<A: Allocator>(
     requires settings { IsInForce settings.now }
     requires reach { IsWithinReach place.now.column }
     requires name { list_any is_break (chars name.now) ≡ false }
-    ensures { (mark : ℕ) → Wrote (piece_at (alias_piece (seen_effective settings.now) (seen_place place.now) simple (chars name.now)) mark) pen.old pen.new result }
+    ensures { (mark : ℕ)
+        → Wrote
+        (piece_at (alias_piece (seen_effective settings.now) (seen_place place.now) simple (chars name.now)) mark)
+        pen.old pen.new result }
 {
     write_place(pen, settings, place, simple)?;
     write_alias_name(pen, name, simple)
@@ -82,7 +85,12 @@ pub(crate) fn write_collection_start<A: Allocator>(
     requires reach { IsWithinReach place.now.column }
     requires anchor { name_breaks (seen_name content.now.anchor) ≡ false }
     requires handles { some_handle_breaks directives.now ≡ false }
-    ensures { (style : CollectionStyle) (mark : ℕ) → Wrote (piece_at (start_piece (seen_effective settings.now) directives.now (seen_place place.now) simple (seen_collection content.now style)) mark) pen.old pen.new result }
+    ensures { (style : CollectionStyle) (mark : ℕ)
+        → Wrote
+        (piece_at
+        (start_piece (seen_effective settings.now) directives.now (seen_place place.now) simple (seen_collection content.now style))
+        mark)
+        pen.old pen.new result }
 {
     let tag = written_collection_tag(content, settings.canonical);
     write_node_lead(
@@ -113,7 +121,11 @@ pub(crate) fn write_node_lead<A: Allocator>(
     requires reach { IsWithinReach place.now.column }
     requires anchor { name_breaks (seen_name anchor) ≡ false }
     requires handles { some_handle_breaks directives.now ≡ false }
-    ensures { Wrote (λ cursor. then_laid (place_laid (seen_effective settings.now) (seen_place place.now) simple cursor) (properties_laid directives.now (seen_name anchor.entry) (seen_name tag.entry) bare)) pen.old pen.new result }
+    ensures { Wrote
+        (λ cursor. then_laid
+        (place_laid (seen_effective settings.now) (seen_place place.now) simple cursor)
+        (properties_laid directives.now (seen_name anchor.entry) (seen_name tag.entry) bare))
+        pen.old pen.new result }
 {
     write_place(pen, settings, place, simple)?;
     write_properties(pen, directives, anchor, tag, bare)
@@ -126,7 +138,8 @@ pub(crate) fn is_written_in_flow(
     flow_asked: bool,
     empty: bool,
 ) -> bool
-    ensures { (start : Collection) → asks_flow start.style ≡ flow_asked → result ≡ layout.is_written_in_flow (seen_effective settings.now) (seen_place place.now) start empty }
+    ensures { (start : Collection)
+        → asks_flow start.style ≡ flow_asked → result ≡ layout.is_written_in_flow (seen_effective settings.now) (seen_place place.now) start empty }
 {
     place.in_flow || settings.canonical || flow_asked || empty
 }
@@ -160,7 +173,10 @@ pub(crate) fn write_sequence_end<A: Allocator>(
 ) -> Result<(), yaml_error_t>
     requires ready { IsReady pen.old }
     requires reach { IsWithinReach outer.now.column }
-    ensures { (mark : ℕ) → Wrote (piece_at (end_piece (seen_effective settings.now) square in_flow empty outer.now.column) mark) pen.old pen.new result }
+    ensures { (mark : ℕ)
+        → Wrote
+        (piece_at (end_piece (seen_effective settings.now) square in_flow empty outer.now.column) mark)
+        pen.old pen.new result }
 {
     write_end(pen, settings, outer, in_flow, empty, "[", "]")
 }
@@ -175,7 +191,10 @@ pub(crate) fn write_mapping_end<A: Allocator>(
 ) -> Result<(), yaml_error_t>
     requires ready { IsReady pen.old }
     requires reach { IsWithinReach outer.now.column }
-    ensures { (mark : ℕ) → Wrote (piece_at (end_piece (seen_effective settings.now) curly in_flow empty outer.now.column) mark) pen.old pen.new result }
+    ensures { (mark : ℕ)
+        → Wrote
+        (piece_at (end_piece (seen_effective settings.now) curly in_flow empty outer.now.column) mark)
+        pen.old pen.new result }
 {
     write_end(pen, settings, outer, in_flow, empty, "{", "}")
 }
@@ -193,7 +212,9 @@ fn write_end<A: Allocator>(
     requires reach { IsWithinReach outer.now.column }
     requires opening { is_sign opening.now ≡ true }
     requires closing { is_sign closing.now ≡ true }
-    ensures { Wrote (end_laid (seen_effective settings.now) record { opening = opening.now; closing = closing.now } in_flow empty outer.now.column) pen.old pen.new result }
+    ensures { Wrote
+        (end_laid (seen_effective settings.now) record { opening = opening.now; closing = closing.now } in_flow empty outer.now.column)
+        pen.old pen.new result }
 {
     if in_flow {
         write_flow_end(pen, settings, outer, empty, opening, closing)
@@ -214,7 +235,11 @@ fn write_flow_end<A: Allocator>(
     requires reach { IsWithinReach outer.now.column }
     requires opening { is_sign opening.now ≡ true }
     requires closing { is_sign closing.now ≡ true }
-    ensures { Wrote (λ cursor. then_laid (empty_or_comma (seen_effective settings.now) opening.now empty outer.now.column cursor) (indicator closing.now false false false)) pen.old pen.new result }
+    ensures { Wrote
+        (λ cursor. then_laid
+        (empty_or_comma (seen_effective settings.now) opening.now empty outer.now.column cursor)
+        (indicator closing.now false false false))
+        pen.old pen.new result }
 {
     write_empty_or_comma(pen, settings, outer, opening, empty)?;
     write_sign(pen, closing, false, false, false)
@@ -231,7 +256,9 @@ fn write_empty_or_comma<A: Allocator>(
     requires ready { IsReady pen.old }
     requires reach { IsWithinReach outer.now.column }
     requires opening { is_sign opening.now ≡ true }
-    ensures { Wrote (empty_or_comma (seen_effective settings.now) opening.now empty outer.now.column) pen.old pen.new result }
+    ensures { Wrote
+        (empty_or_comma (seen_effective settings.now) opening.now empty outer.now.column)
+        pen.old pen.new result }
 {
     if empty {
         write_sign(pen, opening, true, true, false)
@@ -245,7 +272,11 @@ fn write_empty_or_comma<A: Allocator>(
 fn write_last_comma<A: Allocator>(pen: &mut Pen<A>, outer: &Place) -> Result<(), yaml_error_t>
     requires ready { IsReady pen.old }
     requires reach { IsWithinReach outer.now.column }
-    ensures { Wrote (λ cursor. then_laid (indicator (codes ",") false false false cursor) (new_line (line_column outer.now.column))) pen.old pen.new result }
+    ensures { Wrote
+        (λ cursor. then_laid
+        (indicator (codes ",") false false false cursor)
+        (new_line (line_column outer.now.column)))
+        pen.old pen.new result }
 {
     write_sign(pen, ",", false, false, false)?;
     write_line(pen, outer)

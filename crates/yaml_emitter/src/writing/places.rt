@@ -45,7 +45,9 @@ fn write_flow_place<A: Allocator>(
     requires ready { IsReady pen.old }
     requires settings { IsInForce settings.now }
     requires reach { IsWithinReach place.now.column }
-    ensures { Wrote (flow_place_laid (seen_effective settings.now) (seen_role place.now.role) simple place.now.column) pen.old pen.new result }
+    ensures { Wrote
+        (flow_place_laid (seen_effective settings.now) (seen_role place.now.role) simple place.now.column)
+        pen.old pen.new result }
 {
     match place.role {
         Role::Root => write_nothing(pen),
@@ -86,7 +88,11 @@ fn write_flow_entry<A: Allocator>(
     requires settings { IsInForce settings.now }
     requires reach { IsWithinReach place.now.column }
     requires sign { is_sign opening.now ≡ true }
-    ensures { Wrote (λ cursor. then_laid (opening_or_comma opening.now first cursor) (flow_break (seen_effective settings.now) place.now.column)) pen.old pen.new result }
+    ensures { Wrote
+        (λ cursor. then_laid
+        (opening_or_comma opening.now first cursor)
+        (flow_break (seen_effective settings.now) place.now.column))
+        pen.old pen.new result }
 {
     write_opening_or_comma(pen, opening, first)?;
     write_flow_break(pen, settings, place)
@@ -102,7 +108,9 @@ fn write_flow_key<A: Allocator>(
     requires ready { IsReady pen.old }
     requires settings { IsInForce settings.now }
     requires reach { IsWithinReach place.now.column }
-    ensures { Wrote (flow_place_laid (seen_effective settings.now) (as_key first) simple place.now.column) pen.old pen.new result }
+    ensures { Wrote
+        (flow_place_laid (seen_effective settings.now) (as_key first) simple place.now.column)
+        pen.old pen.new result }
 {
     write_flow_entry(pen, settings, place, "{", first)?;
     write_key_sign(pen, simple, false)
@@ -117,7 +125,11 @@ fn write_flow_value<A: Allocator>(
     requires ready { IsReady pen.old }
     requires settings { IsInForce settings.now }
     requires reach { IsWithinReach place.now.column }
-    ensures { Wrote (λ cursor. then_laid (flow_break (seen_effective settings.now) place.now.column cursor) (indicator (codes ":") true false false)) pen.old pen.new result }
+    ensures { Wrote
+        (λ cursor. then_laid
+        (flow_break (seen_effective settings.now) place.now.column cursor)
+        (indicator (codes ":") true false false))
+        pen.old pen.new result }
 {
     write_flow_break(pen, settings, place)?;
     write_sign(pen, ":", true, false, false)
@@ -179,7 +191,9 @@ fn write_block_key<A: Allocator>(
 ) -> Result<(), yaml_error_t>
     requires ready { IsReady pen.old }
     requires reach { IsWithinReach place.now.column }
-    ensures { Wrote (λ cursor. then_laid (new_line (line_column place.now.column) cursor) (key_sign simple true)) pen.old pen.new result }
+    ensures { Wrote
+        (λ cursor. then_laid (new_line (line_column place.now.column) cursor) (key_sign simple true))
+        pen.old pen.new result }
 {
     write_line(pen, place)?;
     write_key_sign(pen, simple, true)
@@ -194,7 +208,9 @@ fn write_line_sign<A: Allocator>(
     requires ready { IsReady pen.old }
     requires reach { IsWithinReach place.now.column }
     requires sign { is_sign sign.now ≡ true }
-    ensures { Wrote (λ cursor. then_laid (new_line (line_column place.now.column) cursor) (indicator sign.now true false true)) pen.old pen.new result }
+    ensures { Wrote
+        (λ cursor. then_laid (new_line (line_column place.now.column) cursor) (indicator sign.now true false true))
+        pen.old pen.new result }
 {
     write_line(pen, place)?;
     write_sign(pen, sign, true, false, true)

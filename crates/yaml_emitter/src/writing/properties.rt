@@ -29,7 +29,9 @@ pub(crate) fn write_properties<A: Allocator>(
     requires ready { IsReady pen.old }
     requires anchor { name_breaks (seen_name anchor) ≡ false }
     requires handles { some_handle_breaks directives.now ≡ false }
-    ensures { Wrote (properties_laid directives.now (seen_name anchor.entry) (seen_name tag.entry) bare) pen.old pen.new result }
+    ensures { Wrote
+        (properties_laid directives.now (seen_name anchor.entry) (seen_name tag.entry) bare)
+        pen.old pen.new result }
 {
     write_anchor_name(pen, anchor)?;
     write_tag(pen, directives, tag, bare)
@@ -58,7 +60,9 @@ pub(crate) fn write_signed_name<A: Allocator>(
     requires ready { IsReady pen.old }
     requires sign { is_sign sign.now ≡ true }
     requires name { list_any is_break (chars name.now) ≡ false }
-    ensures { Wrote (λ cursor. then_laid (indicator sign.now true false false cursor) (name_laid (chars name.now))) pen.old pen.new result }
+    ensures { Wrote
+        (λ cursor. then_laid (indicator sign.now true false false cursor) (name_laid (chars name.now)))
+        pen.old pen.new result }
 {
     write_sign(pen, sign, true, false, false)?;
     write_anchor(pen, name)

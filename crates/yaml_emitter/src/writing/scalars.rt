@@ -3,7 +3,7 @@
 ghost use Rattle.std.specs.Prelude.{◌≡◌, false, IfOk, IsOk, chars, is_some};
 ghost use Rattle.yaml_base.specs.Analysis.{is_empty};
 ghost use Rattle.yaml_base.specs.Cursor.{Cursor};
-ghost use Rattle.yaml_base.specs.Layout.{choice_of, scalar_piece};
+ghost use Rattle.yaml_base.specs.Layout.{choice_of, mark_after, scalar_piece};
 ghost use Rattle.yaml_base.specs.Refusal.{scalar_tag};
 ghost use Rattle.yaml_base.specs.Style.{lacks_tag_and_flags};
 ghost use Rattle.yaml_pen.specs.Page.{IsReady};
@@ -44,9 +44,18 @@ pub(crate) fn write_scalar<A: Allocator>(
     requires reach { IsWithinReach place.now.column }
     requires anchor { name_breaks (seen_name content.now.anchor) ≡ false }
     requires handles { some_handle_breaks directives.now ≡ false }
-    requires flags { lacks_tag_and_flags (is_some (scalar_tag settings.now.canonical (seen_scalar content.now))) content.now.plain_implicit content.now.quoted_implicit ≡ false }
-    ensures written { Wrote (piece_at (scalar_piece (seen_effective settings.now) directives.now (seen_place place.now) simple (seen_scalar content.now)) (seen_mark mark)) pen.old pen.new (without_answer result) }
-    ensures mark { IfOk result (λ after. (cursor : Cursor) → seen_mark after ≡ (scalar_piece (seen_effective settings.now) directives.now (seen_place place.now) simple (seen_scalar content.now) (record { cursor = cursor; mark = seen_mark mark })).standing.mark) }
+    requires flags { lacks_tag_and_flags (is_some (scalar_tag settings.now.canonical (seen_scalar content.now)))
+        content.now.plain_implicit content.now.quoted_implicit
+        ≡ false }
+    ensures written { Wrote
+        (piece_at
+        (scalar_piece (seen_effective settings.now) directives.now (seen_place place.now) simple (seen_scalar content.now))
+        (seen_mark mark))
+        pen.old pen.new (without_answer result) }
+    ensures mark { IfOk result (λ after.
+        seen_mark after
+        ≡ mark_after (choice_of (seen_effective settings.now) (seen_place place.now) simple (seen_scalar content.now)).style
+        (chars content.now.value.now) (seen_mark mark)) }
 {
     let tag = written_scalar_tag(content, settings.canonical);
     let (style, bare) = choose(settings, place, simple, content, tag.is_some())?;
@@ -74,7 +83,8 @@ fn choose(
     requires tag { tag_written ≡ is_some (scalar_tag settings.now.canonical (seen_scalar content.now)) }
     requires flags { lacks_tag_and_flags tag_written content.now.plain_implicit content.now.quoted_implicit ≡ false }
     ensures ok { IsOk result }
-    ensures choice { IfOk result (λ given. seen_choice given ≡ choice_of (seen_effective settings.now) (seen_place place.now) simple (seen_scalar content.now)) }
+    ensures choice { IfOk result (λ given.
+        seen_choice given ≡ choice_of (seen_effective settings.now) (seen_place place.now) simple (seen_scalar content.now)) }
 {
     let data = analyze_scalar(content.value, settings.unicode, settings.breaks12);
     select_scalar_style(

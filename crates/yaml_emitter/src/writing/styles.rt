@@ -9,8 +9,9 @@ ghost use Rattle.yaml_base.specs.Seen.{seen_scalar_style};
 ghost use Rattle.yaml_pen.specs.Page.{IsReady};
 ghost use Rattle.yaml_pen.specs.Wrote.{Wrote};
 ghost use Rattle.yaml_emitter.specs.Given.{seen_effective};
+ghost use Rattle.yaml_emitter.specs.Places.{seen_place};
 ghost use Rattle.yaml_emitter.specs.Reach.{IsInForce, IsWithinReach};
-ghost use Rattle.yaml_emitter.specs.ScalarTexts.{scalar_text_laid, style_fits, without_answer};
+ghost use Rattle.yaml_emitter.specs.ScalarTexts.{text_at, style_fits, without_answer};
 ghost use Rattle.yaml_emitter.specs.WrittenPieces.{seen_mark};
 
 use crate::place::Place;
@@ -41,7 +42,9 @@ pub(crate) fn write_text<A: Allocator>(
     requires settings { IsInForce settings.now }
     requires reach { IsWithinReach place.now.column }
     requires fits { style_fits (seen_scalar_style style) (chars value.now) simple ≡ true }
-    ensures written { Wrote (scalar_text_laid (seen_scalar_style style) (seen_effective settings.now) place.now.in_flow simple (deeper settings.now.indent place.now.column) (chars value.now)) pen.old pen.new (without_answer result) }
+    ensures written { Wrote
+        (text_at (seen_scalar_style style) (seen_effective settings.now) (seen_place place.now) simple (chars value.now))
+        pen.old pen.new (without_answer result) }
     ensures mark { IfOk result (λ after. seen_mark after ≡ mark_after (seen_scalar_style style) (chars value.now) (seen_mark mark)) }
 {
     match style {
@@ -64,7 +67,9 @@ fn write_plain<A: Allocator>(
     requires ready { IsReady pen.old }
     requires settings { IsInForce settings.now }
     requires reach { IsWithinReach place.now.column }
-    ensures written { Wrote (scalar_text_laid plain (seen_effective settings.now) place.now.in_flow simple (deeper settings.now.indent place.now.column) (chars value.now)) pen.old pen.new (without_answer result) }
+    ensures written { Wrote
+        (text_at plain (seen_effective settings.now) (seen_place place.now) simple (chars value.now))
+        pen.old pen.new (without_answer result) }
     ensures mark { IfOk result (λ after. after ≡ mark) }
 {
     let indent = line_indent(settings, place);
@@ -83,7 +88,9 @@ fn write_single<A: Allocator>(
     requires ready { IsReady pen.old }
     requires settings { IsInForce settings.now }
     requires reach { IsWithinReach place.now.column }
-    ensures written { Wrote (scalar_text_laid single_quoted (seen_effective settings.now) place.now.in_flow simple (deeper settings.now.indent place.now.column) (chars value.now)) pen.old pen.new (without_answer result) }
+    ensures written { Wrote
+        (text_at single_quoted (seen_effective settings.now) (seen_place place.now) simple (chars value.now))
+        pen.old pen.new (without_answer result) }
     ensures mark { IfOk result (λ after. after ≡ mark) }
 {
     let indent = line_indent(settings, place);
@@ -102,7 +109,9 @@ fn write_double<A: Allocator>(
     requires ready { IsReady pen.old }
     requires settings { IsInForce settings.now }
     requires reach { IsWithinReach place.now.column }
-    ensures written { Wrote (scalar_text_laid double_quoted (seen_effective settings.now) place.now.in_flow simple (deeper settings.now.indent place.now.column) (chars value.now)) pen.old pen.new (without_answer result) }
+    ensures written { Wrote
+        (text_at double_quoted (seen_effective settings.now) (seen_place place.now) simple (chars value.now))
+        pen.old pen.new (without_answer result) }
     ensures mark { IfOk result (λ after. after ≡ mark) }
 {
     let indent = line_indent(settings, place);
@@ -127,7 +136,9 @@ fn write_literal<A: Allocator>(
     requires settings { IsInForce settings.now }
     requires reach { IsWithinReach place.now.column }
     requires some { analysis.is_empty (chars value.now) ≡ false }
-    ensures written { Wrote (scalar_text_laid literal (seen_effective settings.now) place.now.in_flow false (deeper settings.now.indent place.now.column) (chars value.now)) pen.old pen.new (without_answer result) }
+    ensures written { Wrote
+        (text_at literal (seen_effective settings.now) (seen_place place.now) false (chars value.now))
+        pen.old pen.new (without_answer result) }
     ensures mark { IfOk result (λ after. seen_mark after ≡ header_mark (chars value.now)) }
 {
     let indent = line_indent(settings, place);
@@ -145,7 +156,9 @@ fn write_folded<A: Allocator>(
     requires settings { IsInForce settings.now }
     requires reach { IsWithinReach place.now.column }
     requires some { analysis.is_empty (chars value.now) ≡ false }
-    ensures written { Wrote (scalar_text_laid folded (seen_effective settings.now) place.now.in_flow false (deeper settings.now.indent place.now.column) (chars value.now)) pen.old pen.new (without_answer result) }
+    ensures written { Wrote
+        (text_at folded (seen_effective settings.now) (seen_place place.now) false (chars value.now))
+        pen.old pen.new (without_answer result) }
     ensures mark { IfOk result (λ after. seen_mark after ≡ header_mark (chars value.now)) }
 {
     let indent = line_indent(settings, place);
