@@ -7,6 +7,7 @@ pub mod Fits
 pub mod Standing
 pub mod StandingFailed
 pub mod StandingMore
+pub mod StandingTexts
 pub mod WritingPieces
 pub mod WritingDirectives
 pub mod WritingTags

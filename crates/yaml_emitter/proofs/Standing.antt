@@ -74,7 +74,7 @@ open_last (event ∷ []) rest h = open_one event rest h
 open_last (event ∷ next ∷ more) rest h = open_last (next ∷ more) rest h
 
 -- What is written hangs on what is set, on the page and on what comes next.
-settled_same : (s : Effective) (front : List Event) (before after : State) → after.settings ≡ before.settings → IsSettled s front before → IsSettled s front after
+pub settled_same : (s : Effective) (front : List Event) (before after : State) → after.settings ≡ before.settings → IsSettled s front before → IsSettled s front after
 settled_same s [] before after same h = tt
 settled_same s (event ∷ front) before after same h = same ∙ h
 
@@ -152,14 +152,14 @@ own_end_one (sequence_start c) next rest p q h begins = refl
 own_end_one (mapping_start c) next rest p q h begins = refl
 own_end_one event next rest p q h begins = cc
 
-abbrev OwnEnd : List Event → Event → List Event → Type 0
+abbrev pub OwnEnd : List Event → Event → List Event → Type 0
 OwnEnd front next rest = (p q : Partial) → pushed p (front ++ next ∷ []) ≡ Some q → begins_last front ≡ true → closes_last front (next ∷ rest) ≡ ends_collection next
 
 own_end_later : (front : List Event) (next : Event) (rest : List Event) → OwnEnd front next rest → (made : Option Partial) (q : Partial) → option_and_then (λ r. pushed r (front ++ next ∷ [])) made ≡ Some q → begins_last front ≡ true → closes_last front (next ∷ rest) ≡ ends_collection next
 own_end_later front next rest others None q h begins = cc
 own_end_later front next rest others (Some r) q h begins = others r q h begins
 
-own_end : (front : List Event) (next : Event) (rest : List Event) → OwnEnd front next rest
+pub own_end : (front : List Event) (next : Event) (rest : List Event) → OwnEnd front next rest
 own_end [] next rest p q h begins = cc
 own_end (event ∷ []) next rest p q h begins = own_end_one event next rest p q h begins
 own_end (event ∷ other ∷ more) next rest p q h begins = own_end_later (other ∷ more) next rest (own_end (other ∷ more) next rest) (push p event) q h begins
@@ -341,7 +341,7 @@ taken_next (x ∷ front) rest given all event q before after parts h pushes begu
     let begins : stands.partial ≡ before_stream → ⊥ = (λ same. not_begun x front (stands.is_partial ∙ ap (λ p. Some p) same)) in
     taken_later given all x front rest event q before after (pushes_later event stands.partial q begins one) h pushes begun done
 
-closes_last-append : (front rest : List Event) (event : Event) → closes_last (front ++ event ∷ []) rest ≡ closes_at_once event rest
+pub closes_last-append : (front rest : List Event) (event : Event) → closes_last (front ++ event ∷ []) rest ≡ closes_at_once event rest
 closes_last-append [] rest event = refl
 closes_last-append (x ∷ []) rest event = refl
 closes_last-append (x ∷ y ∷ more) rest event = closes_last-append (y ∷ more) rest event
@@ -370,7 +370,7 @@ reached_next given all front rest event before after h is done =
     }
 
 -- No more is ready.
-none_ready : (rest : List Event) → is_head_ready rest ≡ false → written rest ≡ 0
+pub none_ready : (rest : List Event) → is_head_ready rest ≡ false → written rest ≡ 0
 none_ready [] h = refl
 none_ready (event ∷ rest) h = ap (λ b. if b then suc (written rest) else 0) h
 

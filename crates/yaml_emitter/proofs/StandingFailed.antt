@@ -30,7 +30,7 @@ failed_at given all front rest event before h is =
     record { parts = h.parts; became_ready = omega (arith, h.ready, count) }
 
 -- A collection's own end isn't refused behind its start.
-abbrev OwnAccepted : List Event → Event → List Event → Type 0
+abbrev pub OwnAccepted : List Event → Event → List Event → Type 0
 OwnAccepted front next rest = (canonical : Bool) (p q : Partial) → pushed p front ≡ Some q → closes_last front (next ∷ rest) ≡ true → refusal_at canonical q next ≡ None
 
 own_one : (event next : Event) (rest : List Event) (canonical : Bool) (p q : Partial) → pushed p (event ∷ []) ≡ Some q → closes_at_once event (next ∷ rest) ≡ true → refusal_at canonical q next ≡ None
@@ -46,7 +46,7 @@ own_later : (front : List Event) (next : Event) (rest : List Event) → OwnAccep
 own_later front next rest others canonical None q h closes = cc
 own_later front next rest others canonical (Some r) q h closes = others canonical r q h closes
 
-own_accepted : (front : List Event) (next : Event) (rest : List Event) → OwnAccepted front next rest
+pub own_accepted : (front : List Event) (next : Event) (rest : List Event) → OwnAccepted front next rest
 own_accepted [] next rest canonical p q h closes = cc
 own_accepted (event ∷ []) next rest canonical p q h closes = own_one event next rest canonical p q h closes
 own_accepted (event ∷ other ∷ more) next rest canonical p q h closes = own_later (other ∷ more) next rest (own_accepted (other ∷ more) next rest) canonical (push p event) q h closes

@@ -13,3 +13,4 @@ pub mod State
 pub mod Inside
 pub mod Processing
 pub mod StandsAfter
+pub mod Promises

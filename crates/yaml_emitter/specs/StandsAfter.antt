@@ -1,5 +1,5 @@
 -- An emitter stands after the events that it was given.
-use Rattle.std.specs.Prelude.{◌≡◌, ◌⊎◌, ℕ, ◌+◌, ◌<◌, ◌≤◌, Bool, true, false, Option, None, Some, List, [], ◌∷◌, ◌++◌, length, take}
+use Rattle.std.specs.Prelude.{◌≡◌, ◌⊎◌, ℕ, ◌+◌, ◌<◌, Bool, true, false, Option, None, Some, List, [], ◌∷◌, ◌++◌, length, take}
 use Rattle.yaml_base.specs.Errors.{refusal_number}
 use Rattle.yaml_base.specs.Settings.{Settings, Effective}
 use Rattle.yaml_base.specs.Characters.{Text}
@@ -93,15 +93,16 @@ pub record StandsCut (given : Settings) (all : List Event) (error : yaml_error_t
       × IsFront state.page.text
       (text_written (settings_for given all) (steps (settings_for given all) (closes_at_once event later) (front ++ event ∷ []) at_stream first_standing).pieces))
 
--- the output's limit or memory gave out between events: all that were ready had been written
+-- the output's limit or memory gave out between events: all that were ready were written, more may have been given since
 pub record StandsUnflushed (given : Settings) (all : List Event) (error : yaml_error_t) (state : State) : Type 0 where
-  pub front : List Event
+  pub before : List Event
   pub later : List Event
-  pub parts : front ++ later ≡ all
-  pub were_ready : length front ≤ written all
+  pub parts : before ++ later ≡ all
   pub given_kept : state.given ≡ given
-  pub stands : BeginsAccepted given.canonical front
-  pub page : HoldsPiecesWith (Some error) (settings_for given all) front (steps (settings_for given all) false front at_stream first_standing).pieces state.page
+  pub stands : BeginsAccepted given.canonical (take (written before) before)
+  pub page :
+      HoldsPiecesWith (Some error) (settings_for given all) (take (written before) before)
+      (progress (settings_for given all) before).pieces state.page
   pub handed : IsHandedOut (encoded state.page) state.page.output state.page.limit state.page.error
 
 -- the output's limit or memory gave out, at an event or between two

@@ -1,0 +1,73 @@
+-- What a caller is promised of an emitter that stands after the events that it was given.
+use Rattle.std.specs.Prelude.{◌≡◌, ◌⊎◌, ℕ, ◌≤◌, Bool, true, false, Option, None, Some, List, [], ◌∷◌, ◌++◌, length, take}
+use Rattle.yaml_base.specs.Errors.{refusal_number}
+use Rattle.yaml_base.specs.Settings.{Settings}
+use Rattle.yaml_base.specs.Encoding.{cut}
+use Rattle.yaml_base.specs.Event.{Event, stream_end, document_start, sequence_start, mapping_start}
+use Rattle.yaml_base.specs.Refusal.{IsAccepted, BeginsAccepted, refusal}
+use Rattle.yaml_base.specs.Ready.{written}
+use Rattle.yaml_base.specs.Steps.{held_back}
+use Rattle.yaml_base.specs.Pieces.{list_layout, pieces}
+use Rattle.yaml_base.specs.Output.{settings_for, text_written, bytes_written, output_of}
+use Rattle.yaml_base.specs.declared.errors.yaml_error_t.{yaml_error_t}
+use Rattle.yaml_base.specs.declared.errors.yaml_error_t.TheVariants.{WriteError, Memory}
+use Rattle.yaml_emitter.specs.State.{State}
+
+-- the text so far is that of the first so many pieces
+abbrev pub HasText : Settings → List Event → ℕ → State → Type 0
+HasText given all count state =
+    state.page.text ≡ text_written (settings_for given all) (pieces (settings_for given all) all count)
+
+-- nothing waits, or the first that waits starts a document or a collection
+abbrev pub begins_with_start : List Event → Bool
+begins_with_start [] = true
+begins_with_start (document_start start ∷ rest) = true
+begins_with_start (sequence_start start ∷ rest) = true
+begins_with_start (mapping_start start ∷ rest) = true
+begins_with_start events = false
+
+-- the events that aren't ready wait: three at most
+pub record HoldsWaiting (all : List Event) (state : State) : Type 0 where
+  pub held : state.held ≡ held_back all
+  pub few : length state.held ≤ 3
+  pub starts : begins_with_start state.held ≡ true
+
+-- an event was refused: those before it begin an accepted list, with it they begin none; the text is that before it
+pub record RefusedAt (given : Settings) (all : List Event) (error : yaml_error_t) (state : State) : Type 0 where
+  pub front : List Event
+  pub event : Event
+  pub later : List Event
+  pub parts : front ++ event ∷ later ≡ all
+  pub refusal : refusal given.canonical front event ≡ Some (refusal_number error)
+  pub begins : BeginsAccepted given.canonical front
+  pub ends : BeginsAccepted given.canonical (front ++ event ∷ []) → ⊥
+  pub text : HasText given all (length front) state
+
+-- an accepted list begins with these events, and its bytes with the output
+pub record BeginsOutput (given : Settings) (all front : List Event) (state : State) : Type 0 where
+  pub later : List Event
+  pub parts : front ++ later ≡ all
+  pub more : List Event
+  pub accepted : IsAccepted given.canonical (front ++ more)
+  pub output :
+      state.page.output
+      ≡ cut (length state.page.output)
+      (bytes_written (settings_for given all) (list_layout (settings_for given all) (front ++ more)))
+
+-- without an error those events are all that are ready
+abbrev pub OutputBegins : Settings → List Event → Option yaml_error_t → State → Type 0
+OutputBegins given all None state = BeginsOutput given all (take (written all) all) state
+OutputBegins given all (Some error) state = (front : List Event) × BeginsOutput given all front state
+
+-- the output is full: it is that of every accepted list that begins with all events
+pub record FillsLimit (given : Settings) (all : List Event) (state : State) : Type 0 where
+  pub full : length state.page.output ≡ given.limit
+  pub output : (more : List Event) → IsAccepted given.canonical (all ++ more) → state.page.output ≡ output_of given (all ++ more)
+
+-- the output's limit or memory gave out
+abbrev pub HasRunOut : Option yaml_error_t → Type 0
+HasRunOut error = (error ≡ Some WriteError) ⊎ (error ≡ Some Memory)
+
+-- a list that ends a stream is accepted, and nothing waits; or something ran out
+abbrev pub IsWhole : Settings → List Event → State → Type 0
+IsWhole given all state = IsAccepted given.canonical all × (state.held ≡ [])
