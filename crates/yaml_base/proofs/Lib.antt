@@ -30,3 +30,4 @@ pub mod RowsMeetings
 pub mod RowsCanonical
 pub mod RowsUnfolding
 pub mod Literals
+pub mod NumbersOutside

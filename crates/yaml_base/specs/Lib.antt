@@ -37,4 +37,6 @@ pub mod Content
 pub mod CanonicalReader
 pub mod Meetings
 pub mod Unfolding
+pub mod SeenNodes
+pub mod Documents
 pub mod Script

@@ -3,6 +3,7 @@
 
 mod characters;
 mod directives;
+mod documents;
 mod encodings;
 mod errors;
 mod events;
@@ -12,6 +13,7 @@ mod styles;
 
 pub use characters::{is_alpha, is_ascii, is_blank, is_bom, is_break, is_printable, is_space};
 pub use directives::{yaml_tag_directive_t, yaml_version_directive_t};
+pub use documents::{NodeNumber, yaml_document_t};
 pub use encodings::yaml_break_t::{YAML_ANY_BREAK, YAML_CR_BREAK, YAML_CRLN_BREAK, YAML_LN_BREAK};
 pub use encodings::yaml_encoding_t::{
     YAML_ANY_ENCODING, YAML_UTF8_ENCODING, YAML_UTF16BE_ENCODING, YAML_UTF16LE_ENCODING,

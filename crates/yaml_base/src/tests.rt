@@ -187,3 +187,70 @@ fn classes_have_their_members(rt: HostRuntime) {
     assert!(rt; is_blank('\t') && !is_blank('\u{A0}'));
     assert!(rt; is_bom('\u{FEFF}') && !is_bom('\u{FFFE}'));
 }
+
+#[test]
+fn a_document_gives_back_what_it_was_handed(rt: HostRuntime) -> Result<(), Fail> {
+    let alloc = rt.alloc();
+    let mut tags = Vec::new(alloc);
+    tags.push(directive(alloc, "!", "!a")?)?;
+    let mut nodes = Vec::new(alloc);
+    nodes.push(sequence_node(alloc, 2)?)?;
+    nodes.push(sequence_node(alloc, 1)?)?;
+    let version = yaml_version_directive_t { major: 1, minor: 1 };
+    let document = yaml_document_t::from_nodes(Some(version), tags, nodes, true, false);
+    let Ok(document) = document else {
+        return Err("a number was refused")?;
+    };
+    assert!(rt; !document.is_empty());
+    assert_eq!(rt; document.node_count(), 2);
+    assert!(rt; document.version_directive() == Some(version));
+    assert_eq!(rt; document.tag_directives().len(), 1);
+    assert!(rt; document.start_implicit() && !document.end_implicit());
+    match document.root() {
+        Some(root) => assert!(rt; *root == sequence_node(alloc, 2)?),
+        None => assert!(rt; false),
+    }
+    match document.get_node(2) {
+        Some(node) => assert!(rt; *node == sequence_node(alloc, 1)?),
+        None => assert!(rt; false),
+    }
+    assert!(rt;
+        document.get_node(0).is_none()
+            && document.get_node(3).is_none()
+            && document.get_node(-1).is_none()
+    );
+    Ok(())
+}
+
+#[test]
+fn the_first_number_outside_is_refused(rt: HostRuntime) -> Result<(), Fail> {
+    let alloc = rt.alloc();
+    for (first, second, told) in [(1, 3, 3), (0, 3, 0), (2, -7, -7)] {
+        let mut nodes = Vec::new(alloc);
+        nodes.push(sequence_node(alloc, first)?)?;
+        let mut pairs = Vec::new(alloc);
+        pairs.push(yaml_node_pair_t {
+            key: 2,
+            value: second,
+        })?;
+        nodes.push(yaml_node_t {
+            tag: text(alloc, "")?,
+            contents: yaml_node_data_t::Mapping {
+                pairs,
+                style: YAML_ANY_MAPPING_STYLE,
+            },
+        })?;
+        let refused = match yaml_document_t::from_nodes(
+            None,
+            Vec::new(alloc),
+            nodes,
+            false,
+            false,
+        ) {
+            Ok(_) => None,
+            Err(NodeNumber(number)) => Some(number),
+        };
+        assert!(rt; refused == Some(told));
+    }
+    Ok(())
+}

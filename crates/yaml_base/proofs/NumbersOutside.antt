@@ -1,0 +1,86 @@
+-- The numbers that name no node are sought node by node.
+use Rattle.std.proofs.Common.{IsTrue, is_none, refl, cond, ◌&&◌, nat_le, pos, negsuc, [], map, Bool, option_map, ◌≡◌, ℕ, suc, ◌+◌, ◌<◌, ℤ, true, false, not, is_some, Option, None, Some, List, ◌∷◌, ◌++◌, length, get_or, drop, drop-cons, add-one, sym, ap, ◌∙◌}
+use Rattle.std.specs.Prelude.{find}
+use Rattle.std.specs.List.{list_all, flat_map}
+use Rattle.std.proofs.lemmas.List.{length-map}
+use Rattle.std.specs.Option.{option_or}
+use Rattle.std.proofs.lemmas.List.Folds.{find-append}
+use Rattle.yaml_base.specs.Meetings.{numbers_held}
+use Rattle.yaml_base.specs.SeenNodes.{seen_number, seen_pair, seen_held, seen_node, seen_document, names_node, numbers_of, numbers_of_pairs, all_numbers, first_outside, is_whole}
+use Rattle.yaml_base.specs.declared.directives.yaml_version_directive_t.{yaml_version_directive_t}
+use Rattle.yaml_base.specs.declared.directives.yaml_tag_directive_t.{yaml_tag_directive_t}
+use Rattle.yaml_base.specs.declared.nodes.yaml_node_pair_t.{yaml_node_pair_t}
+use Rattle.yaml_base.specs.declared.nodes.yaml_node_data_t.{yaml_node_data_t}
+use Rattle.yaml_base.specs.declared.nodes.yaml_node_data_t.TheVariants.{Scalar, Sequence, Mapping}
+use Rattle.yaml_base.specs.declared.nodes.yaml_node_t.{yaml_node_t}
+
+-- at a place of the list: the node's numbers, and then those behind it
+at_place : {A : Type 0} (count i : ℕ) (nodes : List (yaml_node_t A)) (node : yaml_node_t A) → i < length nodes → node ≡ get_or nodes i node
+    → first_outside count (all_numbers (drop i nodes)) ≡ option_or (first_outside count (numbers_of node.contents)) (first_outside count (all_numbers (drop (i + 1) nodes)))
+at_place {A} count i nodes node within is =
+    let opened : drop i nodes ≡ node ∷ drop (suc i) nodes = drop-cons nodes i node within ∙ ap (λ (first : yaml_node_t A). first ∷ drop (suc i) nodes) (sym is) in
+    ap (λ (rest : List (yaml_node_t A)). first_outside count (all_numbers rest)) opened
+    ∙ find-append (λ number. not (names_node count number)) (numbers_of node.contents) (all_numbers (drop (suc i) nodes))
+    ∙ ap (λ (n : ℕ). option_or (first_outside count (numbers_of node.contents)) (first_outside count (all_numbers (drop n nodes)))) (sym (add-one i))
+
+-- a node that holds one gives it
+pub held_outside : {A : Type 0} (count i : ℕ) (nodes : List (yaml_node_t A)) (node : yaml_node_t A) (found : Option ℤ) → i < length nodes → node ≡ get_or nodes i node
+    → found ≡ first_outside count (numbers_of node.contents) → is_some found ≡ true → first_outside count (all_numbers (drop i nodes)) ≡ found
+held_outside count i nodes node None within is gives some = cc
+held_outside count i nodes node (Some number) within is gives some =
+    at_place count i nodes node within is ∙ ap (λ (first : Option ℤ). option_or first (first_outside count (all_numbers (drop (i + 1) nodes)))) (sym gives)
+
+-- a node that holds none leaves it to those behind it
+pub none_held : {A : Type 0} (count i : ℕ) (nodes : List (yaml_node_t A)) (node : yaml_node_t A) (found : Option ℤ) → i < length nodes → node ≡ get_or nodes i node
+    → found ≡ first_outside count (numbers_of node.contents) → is_some found ≡ false → first_outside count (all_numbers (drop i nodes)) ≡ first_outside count (all_numbers (drop (i + 1) nodes))
+none_held count i nodes node (Some number) within is gives none = cc
+none_held count i nodes node None within is gives none =
+    at_place count i nodes node within is ∙ ap (λ (first : Option ℤ). option_or first (first_outside count (all_numbers (drop (i + 1) nodes)))) (sym gives)
+
+-- ---- a graph without such a number is whole
+
+within_count : ℕ → ℕ → Bool
+within_count count number = nat_le 1 number && nat_le number count
+
+all_within : (count : ℕ) (numbers : List ℤ) → first_outside count numbers ≡ None → list_all (within_count count) (map seen_number numbers) ≡ true
+unfolding within_count
+all_within count [] none = refl
+all_within count (negsuc n ∷ rest) none = cc
+all_within count (pos n ∷ rest) none = first_within (within_count count n) (first_outside count rest) (list_all (within_count count) (map seen_number rest)) (pos n) none (all_within count rest)
+  where
+    first_within : (is : Bool) (found : Option ℤ) (others : Bool) (number : ℤ) → cond (not is) (Some number) found ≡ None → (found ≡ None → others ≡ true) → (is && others) ≡ true
+    first_within true found others number none rest = rest none
+    first_within false found others number none rest = cc
+
+held_seen_pairs : (pairs : List yaml_node_pair_t) → flat_map (λ pair. pair.key ∷ pair.value ∷ []) (map seen_pair pairs) ≡ map seen_number (numbers_of_pairs pairs)
+held_seen_pairs [] = refl
+held_seen_pairs (pair ∷ pairs) = ap (λ (rest : List ℕ). seen_number pair.key ∷ seen_number pair.value ∷ rest) (held_seen_pairs pairs)
+
+-- the numbers that are seen are those that are held
+held_seen : {A : Type 0} (contents : yaml_node_data_t A) → numbers_held (seen_held contents) ≡ map seen_number (numbers_of contents)
+held_seen (Scalar value style) = refl
+held_seen (Sequence items style) = refl
+held_seen (Mapping pairs style) = held_seen_pairs pairs.items
+
+both_none : (first second : Option ℤ) → option_or first second ≡ None → (first ≡ None) × (second ≡ None)
+both_none None second none = (refl, none)
+both_none (Some number) second none = cc
+
+nodes_within : {A : Type 0} (count : ℕ) (nodes : List (yaml_node_t A)) → first_outside count (all_numbers nodes) ≡ None
+    → list_all (λ node. list_all (within_count count) (numbers_held node.held)) (map seen_node nodes) ≡ true
+nodes_within count [] none = refl
+nodes_within count (node ∷ nodes) none =
+    let both = both_none (first_outside count (numbers_of node.contents)) (first_outside count (all_numbers nodes)) (sym (find-append (λ number. not (names_node count number)) (numbers_of node.contents) (all_numbers nodes)) ∙ none) in
+    let here : list_all (within_count count) (numbers_held (seen_held node.contents)) ≡ true = ap (list_all (within_count count)) (held_seen node.contents) ∙ all_within count (numbers_of node.contents) both.0 in
+    ap (λ (b : Bool). b && list_all (λ other. list_all (within_count count) (numbers_held other.held)) (map seen_node nodes)) here ∙ nodes_within count nodes both.1
+
+pub whole_graph : {A : Type 0} (version : Option yaml_version_directive_t) (directives : List (yaml_tag_directive_t A)) (nodes : List (yaml_node_t A)) (start_implicit end_implicit : Bool)
+    → first_outside (length nodes) (all_numbers nodes) ≡ None → is_whole (seen_document version directives nodes start_implicit end_implicit) ≡ true
+unfolding within_count
+whole_graph version directives nodes start_implicit end_implicit none =
+    ap (λ (count : ℕ). list_all (λ node. list_all (within_count count) (numbers_held node.held)) (map seen_node nodes)) (length-map nodes seen_node) ∙ nodes_within (length nodes) nodes none
+
+-- what the test of a document's numbers tells
+pub none_of_test : {X : Type 0} (found : Option X) → IsTrue (is_none found) → found ≡ None
+none_of_test None is = refl
+none_of_test (Some x) is = cc

@@ -1,0 +1,185 @@
+//! Documents as graphs of numbered nodes.
+ghost use Rattle.std.specs.Prelude.{true, ◌≡◌, ◌≤◌, None, Some, pos, map, option_map, length, vec_len, slice_get, is_none, IsTrue, MatchResult, IfOk, ◌==◌};
+ghost use Rattle.yaml_base.specs.Meetings.{node_numbered};
+ghost use Rattle.yaml_base.specs.Seen.{seen_version, seen_directive};
+ghost use Rattle.yaml_base.specs.SeenNodes.{seen_number, seen_node, seen_document, names_node as is_named, numbers_of, numbers_of_pairs, all_numbers, first_outside, is_whole};
+
+use crate::directives::{yaml_tag_directive_t, yaml_version_directive_t};
+use crate::nodes::{yaml_node_data_t, yaml_node_pair_t, yaml_node_t};
+use std::alloc::Allocator;
+
+/// A number that a node holds and that names no node of its document.
+#[derive(Clone, Copy, PartialEq, Eq, Debug)]
+pub struct NodeNumber(pub i32);
+
+/// A document: its directives and its nodes, which are numbered from 1. Node 1 is the root.
+#[derive(Drop)]
+#[derive_where(PartialEq, Eq, Debug)]
+pub struct yaml_document_t<A: Allocator> {
+    version_directive: Option<yaml_version_directive_t>,
+    tag_directives: Vec<yaml_tag_directive_t<A>, A>,
+    nodes: Vec<yaml_node_t<A>, A>,
+    start_implicit: bool,
+    end_implicit: bool,
+    ghost countable: { vec_len nodes ≤ 2147483647 },
+    ghost whole: { IsTrue (is_none (first_outside (length nodes.items) (all_numbers nodes.items))) },
+}
+
+/// Whether a number names one of so many nodes.
+fn names_node(count: usize, number: i32) -> bool
+    ensures { result ≡ is_named count number }
+{
+    1 <= number && number as usize <= count
+}
+
+fn outside_items(count: usize, items: &[i32]) -> Option<i32>
+    ensures { result ≡ first_outside count items.now }
+{
+    for item in items {
+        if !names_node(count, *item) {
+            return Some(*item);
+        }
+    }
+    None
+}
+
+fn outside_pairs(count: usize, pairs: &[yaml_node_pair_t]) -> Option<i32>
+    ensures { result ≡ first_outside count (numbers_of_pairs pairs.now) }
+{
+    for pair in pairs {
+        if !names_node(count, pair.key) {
+            return Some(pair.key);
+        }
+        if !names_node(count, pair.value) {
+            return Some(pair.value);
+        }
+    }
+    None
+}
+
+/// The first number that a node holds and that names none of so many nodes.
+fn outside_node<A: Allocator>(count: usize, contents: &yaml_node_data_t<A>) -> Option<i32>
+    ensures { result ≡ first_outside count (numbers_of contents.now) }
+{
+    match contents {
+        yaml_node_data_t::Scalar { .. } => None,
+        yaml_node_data_t::Sequence { items, .. } => outside_items(count, items.as_slice()),
+        yaml_node_data_t::Mapping { pairs, .. } => outside_pairs(count, pairs.as_slice()),
+    }
+}
+
+fn outside_nodes<A: Allocator>(count: usize, nodes: &[yaml_node_t<A>]) -> Option<i32>
+    ensures { result ≡ first_outside count (all_numbers nodes.now) }
+{
+    for node in nodes {
+        let outside = outside_node(count, &node.contents);
+        if outside.is_some() {
+            return outside;
+        }
+    }
+    None
+}
+
+impl<A: Allocator> yaml_document_t<A> {
+    ghost use Rattle.yaml_base.specs.Documents.{graph_of};
+
+    /// A document of these nodes, or the first number that names none of them, in the order of
+    /// nodes, items, and keys before values. What was handed in is then dropped.
+    pub fn from_nodes(
+        version: Option<yaml_version_directive_t>,
+        tags: Vec<yaml_tag_directive_t<A>, A>,
+        nodes: Vec<yaml_node_t<A>, A>,
+        start_implicit: bool,
+        end_implicit: bool,
+    ) -> Result<yaml_document_t<A>, NodeNumber>
+        requires { vec_len nodes ≤ 2147483647 }
+        ensures whole { MatchResult result
+            (λ document. first_outside (length nodes.items) (all_numbers nodes.items) ≡ None)
+            (λ number. first_outside (length nodes.items) (all_numbers nodes.items) ≡ Some number.0) }
+        ensures made { IfOk result
+            (λ document. graph_of document ≡ seen_document version tags.items nodes.items start_implicit end_implicit) }
+    {
+        match outside_nodes(nodes.len(), nodes.as_slice()) {
+            Some(number) => Err(NodeNumber(number)),
+            None => Ok(yaml_document_t {
+                version_directive: version,
+                tag_directives: tags,
+                nodes,
+                start_implicit,
+                end_implicit,
+            }),
+        }
+    }
+
+    /// Does nothing; its contract is the law that each number that a node holds names a node.
+    pub fn numbers_name_nodes(&self)
+        ensures { is_whole (graph_of self.now) ≡ true }
+    {
+        let _document = self;
+    }
+
+    /// The node of a number; none where the number names none.
+    pub fn get_node(&self, index: i32) -> Option<&yaml_node_t<A>>
+        ensures { option_map (λ node. seen_node node.now) result ≡ node_numbered (graph_of self.now) (seen_number index) }
+    {
+        if index < 1 {
+            return None;
+        }
+        self.node_at(index as usize - 1)
+    }
+
+    fn node_at(&self, place: usize) -> Option<&yaml_node_t<A>>
+        ensures { option_map (λ node. seen_node node.now) result ≡ slice_get (graph_of self.now).nodes place }
+    {
+        self.nodes.as_slice().get(place)
+    }
+
+    /// Node 1; none where there are no nodes.
+    pub fn root(&self) -> Option<&yaml_node_t<A>>
+        ensures { option_map (λ node. seen_node node.now) result ≡ node_numbered (graph_of self.now) 1 }
+    {
+        self.nodes.as_slice().first()
+    }
+
+    /// Whether there are no nodes.
+    pub fn is_empty(&self) -> bool
+        ensures { result ≡ (length (graph_of self.now).nodes == 0) }
+    {
+        self.nodes.is_empty()
+    }
+
+    /// How many nodes there are.
+    pub fn node_count(&self) -> i32
+        ensures { result ≡ pos (length (graph_of self.now).nodes) }
+    {
+        self.nodes.len() as i32
+    }
+
+    /// The version that was handed in.
+    pub fn version_directive(&self) -> Option<yaml_version_directive_t>
+        ensures { option_map seen_version result ≡ (graph_of self.now).start.version }
+    {
+        self.version_directive
+    }
+
+    /// The directives that were handed in.
+    pub fn tag_directives(&self) -> &[yaml_tag_directive_t<A>]
+        ensures { map seen_directive result.now ≡ (graph_of self.now).start.directives }
+    {
+        self.tag_directives.as_slice()
+    }
+
+    /// Whether `---` may be left out.
+    pub fn start_implicit(&self) -> bool
+        ensures { result ≡ (graph_of self.now).start.implicit }
+    {
+        self.start_implicit
+    }
+
+    /// Whether `...` may be left out.
+    pub fn end_implicit(&self) -> bool
+        ensures { result ≡ (graph_of self.now).end_implicit }
+    {
+        self.end_implicit
+    }
+}
