@@ -1,6 +1,5 @@
 -- The numbers that name no node are sought node by node.
-use Rattle.std.proofs.Common.{IsTrue, is_none, refl, cond, ◌&&◌, nat_le, pos, negsuc, [], map, Bool, option_map, ◌≡◌, ℕ, suc, ◌+◌, ◌<◌, ℤ, true, false, not, is_some, Option, None, Some, List, ◌∷◌, ◌++◌, length, get_or, drop, drop-cons, add-one, sym, ap, ◌∙◌}
-use Rattle.std.specs.Prelude.{find}
+use Rattle.std.proofs.Common.{IsTrue, is_none, refl, cond, ◌&&◌, nat_le, pos, negsuc, [], map, Bool, ◌≡◌, ℕ, suc, ◌+◌, ◌<◌, ℤ, true, false, not, is_some, Option, None, Some, List, ◌∷◌, length, get_or, drop, drop-cons, add-one, sym, ap, ◌∙◌}
 use Rattle.std.specs.List.{list_all, flat_map}
 use Rattle.std.proofs.lemmas.List.{length-map}
 use Rattle.std.specs.Option.{option_or}

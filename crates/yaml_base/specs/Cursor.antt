@@ -1,5 +1,5 @@
 -- Where the next character stands, and the pieces of text that are put there (libyaml's own rules).
-use Rattle.std.specs.Prelude.{ℕ, Bool, true, false, Option, None, Some, List, [], ◌∷◌, ◌++◌, ◌==◌, ◌||◌, ◌&&◌, ◌+◌, ◌-◌, not, nat_lt, length, replicate, codes, if◌then◌else◌}
+use Rattle.std.specs.Prelude.{ℕ, Bool, true, false, Option, None, Some, [], ◌∷◌, ◌++◌, ◌==◌, ◌||◌, ◌&&◌, ◌+◌, ◌-◌, not, nat_lt, replicate, if◌then◌else◌}
 use Rattle.yaml_base.specs.Characters.{Text, is_break, line_feed, space}
 
 -- the column of the next character, counted in characters; whether white space stands before it,

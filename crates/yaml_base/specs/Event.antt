@@ -1,5 +1,5 @@
 -- Events and their parts as plain data (the event grammar of YAML 1.1, section 3.2.1, as libyaml has it).
-use Rattle.std.specs.Prelude.{ℕ, ℤ, Bool, Option, List}
+use Rattle.std.specs.Prelude.{ℤ, Bool, Option, List}
 use Rattle.yaml_base.specs.Characters.{Text}
 use Rattle.yaml_base.specs.Settings.{Encoding}
 

@@ -1,5 +1,5 @@
 -- How a finished text's line breaks are written, and how those of any text are read (YAML 1.1, section 5.4).
-use Rattle.std.specs.Prelude.{ℕ, Bool, true, false, List, [], ◌∷◌, ◌++◌, ◌==◌, ◌||◌, ◌&&◌, not, if◌then◌else◌}
+use Rattle.std.specs.Prelude.{ℕ, Bool, true, false, [], ◌∷◌, ◌++◌, ◌==◌, ◌||◌, ◌&&◌, not, if◌then◌else◌}
 use Rattle.yaml_base.specs.Characters.{Text, line_feed, carriage_return, next_line, is_break, line_separator, paragraph_separator, space}
 use Rattle.yaml_base.specs.Settings.{LineBreak, carriage_return_break, line_feed_break, both_break}
 

@@ -1,7 +1,6 @@
 -- What contracts see of nodes and documents: numbered nodes as plain data, no capacity and no allocator.
-use Rattle.std.specs.Prelude.{ℕ, ℤ, pos, negsuc, Bool, true, false, ◌&&◌, nat_le, not, Option, None, List, [], ◌∷◌, map, option_map, find, length}
+use Rattle.std.specs.Prelude.{ℕ, ℤ, pos, negsuc, Bool, false, ◌&&◌, nat_le, not, Option, List, [], ◌∷◌, map, option_map, find, length}
 use Rattle.std.specs.List.{flat_map, list_all}
-use Rattle.yaml_base.specs.Event.{DocumentStart}
 use Rattle.yaml_base.specs.Meetings.{NumberPair, Held, scalar_held, sequence_held, mapping_held, numbers_held, GraphNode, Graph}
 use Rattle.yaml_base.specs.Seen.{seen_text, seen_scalar_style, seen_sequence_style, seen_mapping_style, seen_version, seen_directive}
 use Rattle.yaml_base.specs.declared.directives.yaml_version_directive_t.{yaml_version_directive_t}

@@ -1,5 +1,5 @@
 -- What the caller sets, and what it comes to at the stream's start (libyaml's own rules).
-use Rattle.std.specs.Prelude.{ℕ, ℤ, pos, Bool, false, true, Option, None, Some, ◌==◌, ◌||◌, ◌&&◌, ◌*◌, nat_le, if◌then◌else◌, unwrap_or}
+use Rattle.std.specs.Prelude.{ℕ, ℤ, pos, Bool, Option, None, Some, ◌==◌, ◌&&◌, ◌*◌, nat_le, if◌then◌else◌, unwrap_or}
 
 pub data Encoding : Type 0 where
   utf8 : Encoding
