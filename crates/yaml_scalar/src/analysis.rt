@@ -111,7 +111,7 @@ fn allows_block(value: &str, charset: charset_t) -> bool
 }
 
 /// No character is left.
-fn is_at_end(rest: &str) -> bool
+pub(crate) fn is_at_end(rest: &str) -> bool
     ensures { result ≡ spec.is_empty (chars rest.now) }
 {
     match rest.chars().next() {

@@ -11,6 +11,7 @@ ghost use Rattle.yaml_pen.specs.Wrote.{Wrote};
 ghost use Rattle.yaml_scalar.specs.LineSteps as steps;
 ghost use Rattle.yaml_scalar.specs.Width.{limit_where};
 
+use crate::analysis::is_at_end;
 use crate::steps::{go_on, may_fold_here};
 use std::alloc::Allocator;
 use yaml_base::{is_break, is_space, yaml_error_t};
@@ -63,15 +64,6 @@ fn begins_kind(kind: CharacterKind, rest: &str) -> bool
     match rest.chars().next() {
         Some(c) => is_same_kind(kind, kind_of(c)),
         None => false,
-    }
-}
-
-pub(crate) fn is_at_end(rest: &str) -> bool
-    ensures { result ≡ analysis.is_empty (chars rest.now) }
-{
-    match rest.chars().next() {
-        Some(_) => false,
-        None => true,
     }
 }
 

@@ -9,7 +9,8 @@ ghost use Rattle.yaml_pen.specs.Wrote.{Wrote};
 ghost use Rattle.yaml_scalar.specs.ReadsBack.{ReadsBack};
 ghost use Rattle.yaml_scalar.specs.Width.{limit_where};
 
-use crate::lines::{Lines, is_at_end, separate, write_lines};
+use crate::analysis::is_at_end;
+use crate::lines::{Lines, separate, write_lines};
 use std::alloc::Allocator;
 use yaml_base::yaml_error_t;
 use yaml_pen::Pen;

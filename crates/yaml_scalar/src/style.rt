@@ -13,7 +13,7 @@ use yaml_base::{
 
 /// Chooses a scalar's style, and whether the bare tag `!` stands before it.
 ///
-/// `data` is the analysis of the value and `empty` says that the value is; `tag_written` says that a tag
+/// `allowed` is the analysis of the value and `empty` says that the value is; `tag_written` says that a tag
 /// is written, and the two flags are the event's; `flow` and `simple_key` tell where the scalar stands.
 /// Any becomes plain; canonical, and a simple key that holds a break, need double quotes; plain gives way
 /// to single quotes, and these and the block styles to double quotes, where they can't stand.
@@ -22,7 +22,7 @@ use yaml_base::{
 /// `NoTagNorImplicit` where no tag is written and both flags are off.
 pub fn select_scalar_style(
     style: yaml_scalar_style_t,
-    data: &scalar_data_t,
+    allowed: &scalar_data_t,
     empty: bool,
     tag_written: bool,
     plain_implicit: bool,
@@ -33,18 +33,25 @@ pub fn select_scalar_style(
 ) -> Result<(yaml_scalar_style_t, bool), yaml_error_t>
     ensures { MatchResult result
         (λ given. (spec.lacks_tag_and_flags tag_written plain_implicit quoted_implicit ≡ false)
-        × (seen_choice given ≡ spec.chosen (seen_data data.now) (seen_scalar_style style) empty tag_written plain_implicit quoted_implicit flow simple_key canonical))
+        × (seen_choice given ≡ spec.chosen (seen_data allowed.now) (seen_scalar_style style) empty tag_written plain_implicit quoted_implicit flow simple_key canonical))
         (λ error. (spec.lacks_tag_and_flags tag_written plain_implicit quoted_implicit ≡ true)
         × (error ≡ yaml_error_t.NoTagNorImplicit)) }
 {
     if lacks_tag_and_flags(tag_written, plain_implicit, quoted_implicit) {
         return Err(yaml_error_t::NoTagNorImplicit);
     }
-    let plain_fits = fits_plain(data, empty, tag_written, plain_implicit, flow, simple_key);
-    let block_fits = data.block_allowed && !flow && !simple_key;
-    let must_be_double = canonical || (simple_key && data.multiline);
+    let plain_fits = fits_plain(
+        allowed,
+        empty,
+        tag_written,
+        plain_implicit,
+        flow,
+        simple_key,
+    );
+    let block_fits = allowed.block_allowed && !flow && !simple_key;
+    let must_be_double = canonical || (simple_key && allowed.multiline);
     let asked = style_asked(must_be_double, style);
-    let style = style_fitting(data, plain_fits, block_fits, asked);
+    let style = style_fitting(allowed, plain_fits, block_fits, asked);
     Ok((style, is_bare(tag_written, quoted_implicit, style)))
 }
 
@@ -57,21 +64,21 @@ fn lacks_tag_and_flags(tag_written: bool, plain_implicit: bool, quoted_implicit:
 /// Plain fits where the value allows it in its context, isn't empty in flow or as a simple key, and is
 /// told apart from a quoted scalar by a tag or by its flag.
 fn fits_plain(
-    data: &scalar_data_t,
+    allowed: &scalar_data_t,
     empty: bool,
     tag_written: bool,
     plain_implicit: bool,
     flow: bool,
     simple_key: bool,
 ) -> bool
-    ensures { result ≡ spec.fits_plain (seen_data data.now) empty tag_written plain_implicit flow simple_key }
+    ensures { result ≡ spec.fits_plain (seen_data allowed.now) empty tag_written plain_implicit flow simple_key }
 {
-    let allowed = if flow {
-        data.flow_plain_allowed
+    let fits = if flow {
+        allowed.flow_plain_allowed
     } else {
-        data.block_plain_allowed
+        allowed.block_plain_allowed
     };
-    allowed && !(empty && (flow || simple_key)) && (tag_written || plain_implicit)
+    fits && !(empty && (flow || simple_key)) && (tag_written || plain_implicit)
 }
 
 /// What is asked for.
@@ -88,10 +95,10 @@ fn style_asked(must_be_double: bool, style: yaml_scalar_style_t) -> yaml_scalar_
 }
 
 /// Single quotes where the value allows them, else double quotes.
-fn style_quoted(data: &scalar_data_t) -> yaml_scalar_style_t
-    ensures { seen_scalar_style result ≡ spec.style_quoted (seen_data data.now) }
+fn style_quoted(allowed: &scalar_data_t) -> yaml_scalar_style_t
+    ensures { seen_scalar_style result ≡ spec.style_quoted (seen_data allowed.now) }
 {
-    if data.single_quoted_allowed {
+    if allowed.single_quoted_allowed {
         YAML_SINGLE_QUOTED_SCALAR_STYLE
     } else {
         YAML_DOUBLE_QUOTED_SCALAR_STYLE
@@ -100,16 +107,16 @@ fn style_quoted(data: &scalar_data_t) -> yaml_scalar_style_t
 
 /// The style asked for where it fits.
 fn style_fitting(
-    data: &scalar_data_t,
+    allowed: &scalar_data_t,
     plain_fits: bool,
     block_fits: bool,
     asked: yaml_scalar_style_t,
 ) -> yaml_scalar_style_t
-    ensures { seen_scalar_style result ≡ spec.style_fitting (seen_data data.now) plain_fits block_fits (seen_scalar_style asked) }
+    ensures { seen_scalar_style result ≡ spec.style_fitting (seen_data allowed.now) plain_fits block_fits (seen_scalar_style asked) }
 {
     match asked {
         YAML_PLAIN_SCALAR_STYLE if plain_fits => YAML_PLAIN_SCALAR_STYLE,
-        YAML_PLAIN_SCALAR_STYLE | YAML_SINGLE_QUOTED_SCALAR_STYLE => style_quoted(data),
+        YAML_PLAIN_SCALAR_STYLE | YAML_SINGLE_QUOTED_SCALAR_STYLE => style_quoted(allowed),
         YAML_LITERAL_SCALAR_STYLE if block_fits => YAML_LITERAL_SCALAR_STYLE,
         YAML_FOLDED_SCALAR_STYLE if block_fits => YAML_FOLDED_SCALAR_STYLE,
         _ => YAML_DOUBLE_QUOTED_SCALAR_STYLE,

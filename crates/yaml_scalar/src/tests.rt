@@ -3,10 +3,11 @@ ghost use Rattle.std.specs.Prelude.{IfOk};
 ghost use Rattle.yaml_pen.specs.Page.{IsReady};
 
 mod block;
+mod chosen;
+mod each_style;
 mod plain;
-mod quoted;
+mod short_block;
 mod short_quoted;
-mod short_values;
 mod single_quoted;
 
 use std::alloc::Allocator;

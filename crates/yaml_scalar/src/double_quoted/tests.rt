@@ -37,6 +37,7 @@ fn each_escape_is_written(rt: HostRuntime) -> Result<(), Fail> {
         ("\u{E9}", true, "\"\u{E9}\""),
         ("\u{7F}\u{1F}", true, r#""\x7F\x1F""#),
         ("\u{FF}\u{100}", false, r#""\xFF\u0100""#),
+        ("\u{FF}\u{100}", true, "\"\u{FF}\u{100}\""),
         ("\u{FFFF}\u{10000}", false, r#""\uFFFF\U00010000""#),
         ("\u{FFFF}\u{10000}", true, "\"\\uFFFF\u{10000}\""),
         ("\u{10FFFF}", false, r#""\U0010FFFF""#),

@@ -3,22 +3,24 @@ ghost use Rattle.std.specs.Prelude.{◌≡◌, true, false};
 ghost use Rattle.std.specs.Str.{chars};
 ghost use Rattle.yaml_base.specs.Analysis.{is_empty};
 
-use super::short_values::{self, Row};
 use super::{begun, begun_with_returns, begun_within};
 use crate::{analyze_scalar, write_block_scalar_hints, write_folded_scalar, write_literal_scalar};
 use std::alloc::Allocator;
 use std::test::Fail;
 use yaml_base::yaml_error_t;
 
-// The block styles are allowed, so the value isn't empty.
-fn is_allowed(value: &str) -> bool
+/// The block styles are allowed, so the value isn't empty.
+pub(super) fn is_allowed(value: &str) -> bool
     ensures { result ≡ true → is_empty (chars value.now) ≡ false }
 {
     analyze_scalar(value, true, false).block_allowed
 }
 
-// The text of a literal root, and the open mark.
-fn literal<A: Allocator + Copy>(alloc: A, value: &str) -> Result<(Vec<u8, A>, i32), yaml_error_t> {
+/// The text of a literal root, and the open mark; nothing and -1 where it isn't allowed.
+pub(super) fn literal<A: Allocator + Copy>(
+    alloc: A,
+    value: &str,
+) -> Result<(Vec<u8, A>, i32), yaml_error_t> {
     let mut pen = begun(alloc)?;
     let mark = if is_allowed(value) {
         write_literal_scalar(&mut pen, value, 2, 2)?
@@ -32,8 +34,8 @@ fn literal<A: Allocator + Copy>(alloc: A, value: &str) -> Result<(Vec<u8, A>, i3
     ))
 }
 
-// The text of a folded root, and the open mark.
-fn folded<A: Allocator + Copy>(
+/// The text of a folded root, and the open mark; nothing and -1 where it isn't allowed.
+pub(super) fn folded<A: Allocator + Copy>(
     alloc: A,
     value: &str,
     width: i32,
@@ -49,64 +51,6 @@ fn folded<A: Allocator + Copy>(
         Vec::from_slice(alloc, pen.output()).map_err(|_| yaml_error_t::Memory)?,
         mark,
     ))
-}
-
-// Each value of a table, in both styles, at the width of 5 and at none.
-fn agree<A: Allocator + Copy>(alloc: A, rows: &[Row]) -> Result<bool, yaml_error_t> {
-    let mut all = true;
-    for (value, as_literal, as_folded, mark) in rows {
-        let plainly = literal(alloc, value)?;
-        all = all && plainly.0.as_slice() == as_literal.as_bytes() && plainly.1 == *mark;
-        for width in [5, i32::MAX] {
-            let cut = folded(alloc, value, width)?;
-            all = all && cut.0.as_slice() == as_folded.as_bytes() && cut.1 == *mark;
-        }
-    }
-    Ok(all)
-}
-
-#[test]
-fn values_of_one_or_two_characters(rt: HostRuntime) -> Result<(), Fail> {
-    assert!(rt; agree(rt.alloc(), short_values::SHORTEST)?);
-    Ok(())
-}
-
-#[test]
-fn values_that_begin_with_a_space(rt: HostRuntime) -> Result<(), Fail> {
-    assert!(rt; agree(rt.alloc(), short_values::AFTER_SPACE)?);
-    assert!(rt; agree(rt.alloc(), short_values::AFTER_SPACE_AND_SPACE)?);
-    assert!(rt; agree(rt.alloc(), short_values::AFTER_SPACE_AND_LETTER)?);
-    Ok(())
-}
-
-#[test]
-fn values_that_begin_with_a_feed(rt: HostRuntime) -> Result<(), Fail> {
-    assert!(rt; agree(rt.alloc(), short_values::AFTER_FEED)?);
-    assert!(rt; agree(rt.alloc(), short_values::AFTER_FEED_AND_SPACE)?);
-    assert!(rt; agree(rt.alloc(), short_values::AFTER_FEED_AND_FEED)?);
-    assert!(rt; agree(rt.alloc(), short_values::AFTER_FEED_AND_LETTER)?);
-    assert!(rt; agree(rt.alloc(), short_values::AFTER_FEED_AND_SEPARATOR)?);
-    Ok(())
-}
-
-#[test]
-fn values_that_begin_with_a_letter(rt: HostRuntime) -> Result<(), Fail> {
-    assert!(rt; agree(rt.alloc(), short_values::AFTER_LETTER)?);
-    assert!(rt; agree(rt.alloc(), short_values::AFTER_LETTER_AND_SPACE)?);
-    assert!(rt; agree(rt.alloc(), short_values::AFTER_LETTER_AND_FEED)?);
-    assert!(rt; agree(rt.alloc(), short_values::AFTER_LETTER_AND_LETTER)?);
-    assert!(rt; agree(rt.alloc(), short_values::AFTER_LETTER_AND_SEPARATOR)?);
-    Ok(())
-}
-
-#[test]
-fn values_that_begin_with_a_separator(rt: HostRuntime) -> Result<(), Fail> {
-    assert!(rt; agree(rt.alloc(), short_values::AFTER_SEPARATOR)?);
-    assert!(rt; agree(rt.alloc(), short_values::AFTER_SEPARATOR_AND_SPACE)?);
-    assert!(rt; agree(rt.alloc(), short_values::AFTER_SEPARATOR_AND_FEED)?);
-    assert!(rt; agree(rt.alloc(), short_values::AFTER_SEPARATOR_AND_LETTER)?);
-    assert!(rt; agree(rt.alloc(), short_values::AFTER_SEPARATOR_AND_SEPARATOR)?);
-    Ok(())
 }
 
 #[test]
@@ -142,6 +86,21 @@ fn items_stand_at_their_indentation(rt: HostRuntime) -> Result<(), Fail> {
     }
     pen.flush()?;
     assert!(rt; pen.output() == b"- |3-\n       a\n       b>3-\n       a\n       b".as_slice());
+    Ok(())
+}
+
+#[test]
+fn an_item_follows_its_sign(rt: HostRuntime) -> Result<(), Fail> {
+    let mut pen = begun(rt.alloc())?;
+    pen.put(b'-')?;
+    pen.set_whitespace(false);
+    let value = " a";
+    assert!(rt; is_allowed(value));
+    if is_allowed(value) {
+        assert_eq!(rt; write_literal_scalar(&mut pen, value, 2, 2), Ok(0));
+    }
+    pen.flush()?;
+    assert!(rt; pen.output() == b"- |2-\n   a".as_slice());
     Ok(())
 }
 
