@@ -8,6 +8,7 @@ pub mod Standing
 pub mod StandingFailed
 pub mod StandingMore
 pub mod StandingTexts
+pub mod StandingPromises
 pub mod WritingPieces
 pub mod WritingDirectives
 pub mod WritingTags

@@ -1,9 +1,9 @@
 -- What a caller is promised of an emitter that stands after the events that it was given.
-use Rattle.std.specs.Prelude.{◌≡◌, ◌⊎◌, ℕ, ◌≤◌, Bool, true, false, Option, None, Some, List, [], ◌∷◌, ◌++◌, length, take}
+use Rattle.std.specs.Prelude.{◌≡◌, ◌↔◌, ℕ, ◌≤◌, Bool, true, false, Option, None, Some, List, [], ◌∷◌, ◌++◌, length, take}
 use Rattle.yaml_base.specs.Errors.{refusal_number}
 use Rattle.yaml_base.specs.Settings.{Settings}
 use Rattle.yaml_base.specs.Encoding.{cut}
-use Rattle.yaml_base.specs.Event.{Event, stream_end, document_start, sequence_start, mapping_start}
+use Rattle.yaml_base.specs.Event.{Event, document_start, sequence_start, mapping_start}
 use Rattle.yaml_base.specs.Refusal.{IsAccepted, BeginsAccepted, refusal}
 use Rattle.yaml_base.specs.Ready.{written}
 use Rattle.yaml_base.specs.Steps.{held_back}
@@ -11,6 +11,7 @@ use Rattle.yaml_base.specs.Pieces.{list_layout, pieces}
 use Rattle.yaml_base.specs.Output.{settings_for, text_written, bytes_written, output_of}
 use Rattle.yaml_base.specs.declared.errors.yaml_error_t.{yaml_error_t}
 use Rattle.yaml_base.specs.declared.errors.yaml_error_t.TheVariants.{WriteError, Memory}
+use Rattle.yaml_pen.specs.Page.{encoded}
 use Rattle.yaml_emitter.specs.State.{State}
 
 -- the text so far is that of the first so many pieces
@@ -64,10 +65,23 @@ pub record FillsLimit (given : Settings) (all : List Event) (state : State) : Ty
   pub full : length state.page.output ≡ given.limit
   pub output : (more : List Event) → IsAccepted given.canonical (all ++ more) → state.page.output ≡ output_of given (all ++ more)
 
--- the output's limit or memory gave out
-abbrev pub HasRunOut : Option yaml_error_t → Type 0
-HasRunOut error = (error ≡ Some WriteError) ⊎ (error ≡ Some Memory)
+-- an error of an event that can't be written: neither the output's limit nor memory
+abbrev pub IsRefusal : yaml_error_t → Type 0
+IsRefusal WriteError = ⊥
+IsRefusal Memory = ⊥
+IsRefusal error = Unit {0}
 
--- a list that ends a stream is accepted, and nothing waits; or something ran out
-abbrev pub IsWhole : Settings → List Event → State → Type 0
-IsWhole given all state = IsAccepted given.canonical all × (state.held ≡ [])
+-- neither the output's limit nor memory gave out
+abbrev pub HasRoom : Option yaml_error_t → Type 0
+HasRoom None = Unit {0}
+HasRoom (Some error) = IsRefusal error
+
+-- where there is room, a list that ends the stream is accepted exactly if no event was refused and none waits
+abbrev pub EndsExactly : Settings → List Event → State → Type 0
+EndsExactly given all state =
+    HasRoom state.error → IsAccepted given.canonical all ↔ ((state.error ≡ None) × (state.held ≡ []))
+
+-- an accepted list is written whole: its text, and all its bytes where they are handed out
+pub record IsWritten (given : Settings) (all : List Event) (state : State) : Type 0 where
+  pub text : state.page.text ≡ text_written (settings_for given all) (list_layout (settings_for given all) all)
+  pub output : state.page.output ≡ encoded state.page → state.page.output ≡ output_of given all

@@ -1,0 +1,429 @@
+-- What an emitter that stands promises its caller.
+use Rattle.std.proofs.Common.{◌≡◌, refl, sym, ap, ◌∙◌, subst, arith, append_assoc, append-nil, inl, inr}
+use Rattle.std.proofs.lemmas.List.{take-append-drop, length-take-le, length-append, take_at}
+use Rattle.std.proofs.lemmas.Bool.{false≢true}
+use Rattle.std.specs.Prelude.{ℕ, zero, suc, ◌<◌, ◌≤◌, ◌⊎◌, Bool, true, false, ◌&&◌, Option, None, Some, Result, Ok, Err, List, [], ◌∷◌, ◌++◌, length, take, drop, option_and_then}
+use Rattle.yaml_base.specs.Errors.{refusal_number}
+use Rattle.yaml_base.specs.Settings.{Settings, Effective}
+use Rattle.yaml_base.specs.Encoding.{encode, cut}
+use Rattle.yaml_base.specs.Event.{Event, stream_end, document_start, sequence_start, sequence_end, mapping_start, mapping_end}
+use Rattle.yaml_base.specs.Grammar.{at_item, at_key, at_value, Stream, stream_events, Partial, before_stream, between_documents, within_document, after_stream, pushed, partial_of}
+use Rattle.yaml_base.specs.Refusal.{begins_collection, ends_collection, IsAccepted, BeginsAccepted, refusal_at, refusal}
+use Rattle.yaml_base.specs.Ready.{is_ready, written}
+use Rattle.yaml_base.specs.Layout.{Piece, first_standing}
+use Rattle.yaml_base.specs.Steps.{Steps, at_stream, ends_next, steps, progress, held_back}
+use Rattle.yaml_base.specs.Pieces.{list_layout, pieces, begins_last, ends_first}
+use Rattle.yaml_base.specs.Pieces as closes
+use Rattle.yaml_base.specs.Output.{settings_for, text_written, bytes_written, output_of}
+use Rattle.yaml_base.specs.declared.errors.yaml_error_t.{yaml_error_t}
+use Rattle.yaml_base.specs.declared.errors.yaml_error_t.TheVariants.{WriteError, Memory}
+use Rattle.yaml_base.proofs.Accepted.{stands_from_begins, refused_exactly}
+use Rattle.yaml_base.proofs.Completions.{front_begins, pushed-append}
+use Rattle.yaml_base.proofs.Trees.{stream_pushed}
+use Rattle.yaml_base.proofs.PieceLaws.{steps-append, steps_same, front_layout, list_layout_steps}
+use Rattle.yaml_base.proofs.Progress.{progress_pieces}
+use Rattle.yaml_base.proofs.QueueLaws.{held_waits, held_is_short, written_within, open_at_written, stream_written}
+use Rattle.yaml_pen.specs.Page.{Page, encoded, IsHandedOut}
+use Rattle.yaml_emitter.specs.State.{State}
+use Rattle.yaml_emitter.specs.Queue.{is_head_ready}
+use Rattle.yaml_emitter.specs.Processing.{closes_at_once}
+use Rattle.yaml_emitter.specs.StandsAfter.{IsPage, HoldsPiecesWith, HasTaken, StandsWell, FailedAt, closes_last, StandsRefused, IsFront, StandsCut, StandsUnflushed, StandsStopped, StandsFailed, StandsBy, StandsAfter}
+use Rattle.yaml_emitter.specs.Promises.{HasText, begins_with_start, HoldsWaiting, RefusedAt, BeginsOutput, OutputBegins, FillsLimit, IsRefusal, HasRoom, EndsExactly, IsWritten}
+use Rattle.yaml_emitter.proofs.Standing.{few_held, open_last, own_end, closes_last-append, settings_grown}
+use Rattle.yaml_emitter.proofs.StandingFailed.{own_accepted}
+use Rattle.yaml_emitter.proofs.StandingMore.{ready_at, settings_failed}
+use Rattle.yaml_emitter.proofs.StandingTexts.{holds_text, pieces_front, BeginPieces, begin_taken, begin_longer, front_longer, front_itself, GoesOn, goes_on, output_begins, output_fills, holds_output}
+
+stands_well : (given : Settings) (all : List Event) (state : State) → StandsAfter given all state → state.error ≡ None → StandsWell given all state
+stands_well given all state h none = subst (λ e. StandsBy given all e state) none h
+
+stands_failed : (given : Settings) (all : List Event) (state : State) (error : yaml_error_t) → StandsAfter given all state → state.error ≡ Some error → StandsFailed given all error state
+stands_failed given all state error h is = (subst (λ e. StandsBy given all e state) is h).1
+
+-- Without an error the text is that of the ready events' pieces.
+pub promises_text : (given : Settings) (all : List Event) (state : State) → StandsAfter given all state → state.error ≡ None → HasText given all (written all) state
+promises_text given all state h none =
+    let s = settings_for given all in
+    let front = take (written all) all in
+    let well = stands_well given all state h none in
+    let stands = stands_from_begins given.canonical front well.taken.stands in
+    holds_text front s false None state.page well.taken.page
+    ∙ ap (text_written s) (sym (progress_pieces all stands.partial s stands.is_partial))
+
+-- The events that wait.
+starts_if : (event : Event) (rest : List Event) → is_ready event rest ≡ false → begins_with_start (event ∷ rest) ≡ true
+starts_if (document_start start) rest h = refl
+starts_if (sequence_start start) rest h = refl
+starts_if (mapping_start start) rest h = refl
+starts_if event rest h = cc
+
+waiting : (held : List Event) → ((event : Event) (rest : List Event) → held ≡ event ∷ rest → is_ready event rest ≡ false) → (is_head_ready held ≡ false) × (begins_with_start held ≡ true)
+waiting [] h = (refl, refl)
+waiting (event ∷ rest) h = let waits : is_ready event rest ≡ false = h event rest refl in (waits, starts_if event rest waits)
+
+pub promises_held : (given : Settings) (all : List Event) (state : State) → StandsAfter given all state → state.error ≡ None → HoldsWaiting all state
+promises_held given all state h none =
+    let well = stands_well given all state h none in
+    let waits = waiting (held_back all) (held_waits all) in
+    record {
+      held = well.held;
+      few = subst (λ held. length held ≤ 3) (sym well.held) (few_held (held_back all) waits.0);
+      starts = ap begins_with_start well.held ∙ waits.1;
+    }
+
+-- A refusal.
+refused_at : (given : Settings) (all : List Event) (state : State) (error : yaml_error_t) → StandsRefused given all error state → RefusedAt given all error state
+refused_at given all state error h =
+    let s = settings_for given all in
+    let stands = stands_from_begins given.canonical h.front h.taken.stands in
+    record {
+      front = h.front;
+      event = h.event;
+      later = h.later;
+      parts = h.failed.parts;
+      refusal = h.refusal;
+      begins = h.taken.stands;
+      ends = (λ more. let none : refusal given.canonical h.front h.event ≡ None = (refused_exactly given.canonical h.front h.event h.taken.stands).1 more in cc);
+      text =
+          holds_text h.front s false None state.page h.taken.page
+          ∙ ap (text_written s) (sym (pieces_front h.front (h.event ∷ h.later) all s stands.partial h.failed.parts stands.is_partial));
+    }
+
+refused_by : (error : yaml_error_t) (given : Settings) (all : List Event) (state : State) → IsRefusal error → StandsFailed given all error state → StandsRefused given all error state
+refused_by WriteError given all state is h = absurd is
+refused_by Memory given all state is h = absurd is
+refused_by error given all state is h = h
+
+pub promises_refusal : (given : Settings) (all : List Event) (state : State) (error : yaml_error_t) → StandsAfter given all state → state.error ≡ Some error → IsRefusal error → RefusedAt given all error state
+promises_refusal given all state error h failed is =
+    refused_at given all state error (refused_by error given all state is (stands_failed given all state error h failed))
+
+-- The output begins that of an accepted list.
+output_from : (given : Settings) (all front later : List Event) (error : Option yaml_error_t) (state : State) → front ++ later ≡ all → BeginsAccepted given.canonical front
+    → HoldsPiecesWith error (settings_for given all) front (steps (settings_for given all) false front at_stream first_standing).pieces state.page
+    → BeginsOutput given all front state
+output_from given all front later error state parts begins h =
+    let s = settings_for given all in
+    let on = goes_on given.canonical s front begins in
+    record {
+      later = later;
+      parts = parts;
+      more = on.more;
+      accepted = on.accepted;
+      output = holds_output front s false error state.page (list_layout s (front ++ on.more)) h on.begins;
+    }
+
+-- The steps of a front begin those of the whole.
+steps_begin : (front rest : List Event) (s : Effective) (follows : Bool)
+    → BeginPieces (steps s (ends_next rest follows) front at_stream first_standing).pieces (steps s follows (front ++ rest) at_stream first_standing).pieces
+steps_begin front rest s follows =
+    let before = steps s (ends_next rest follows) front at_stream first_standing in
+    record {
+      rest = (steps s follows rest before.stage before.standing).pieces;
+      parts = sym (ap (λ (all : Steps). all.pieces) (steps-append front rest s follows at_stream first_standing));
+    }
+
+-- What closes a collection is its end.
+ends_one : (event next : Event) (later : List Event) → closes_at_once event (next ∷ later) ≡ true → ends_collection next ≡ true
+ends_one (sequence_start c) sequence_end later h = refl
+ends_one (mapping_start c) mapping_end later h = refl
+ends_one event next later h = cc
+
+ends_if : (front : List Event) (next : Event) (later : List Event) → closes_last front (next ∷ later) ≡ true → ends_collection next ≡ true
+ends_if [] next later h = cc
+ends_if (event ∷ []) next later h = ends_one event next later h
+ends_if (event ∷ other ∷ more) next later h = ends_if (other ∷ more) next later h
+
+and_right_false : (b : Bool) → b && false ≡ false
+and_right_false true = refl
+and_right_false false = refl
+
+-- A front whose last event may be closed at once by the next: both ways a list goes on.
+closing_more : (canonical : Bool) (s : Effective) (front later : List Event) (closes : Bool) → closes_last front later ≡ closes → BeginsAccepted canonical front
+    → GoesOn canonical s front (steps s (closes_last front later) front at_stream first_standing).pieces
+closing_more canonical s front later false is begins =
+    subst (λ follows. GoesOn canonical s front (steps s follows front at_stream first_standing).pieces) (sym is) (goes_on canonical s front begins)
+closing_more canonical s front [] true is begins = absurd (false≢true (sym (open_last front [] (and_right_false (begins_last front))) ∙ is))
+closing_more canonical s front (next ∷ later) true is begins =
+    let stands = stands_from_begins canonical front begins in
+    let none : refusal canonical front next ≡ None =
+    ap (λ o. option_and_then (λ q. refusal_at canonical q next) o) stands.is_partial
+    ∙ own_accepted front next later canonical before_stream stands.partial stands.is_partial is in
+    let longer = (refused_exactly canonical front next begins).0 none in
+    let on = goes_on canonical s (front ++ next ∷ []) longer in
+    let ends : ends_collection next ≡ closes_last front (next ∷ later) = ends_if front next later is ∙ sym is in
+    let first : BeginPieces (steps s (ends_collection next) front at_stream first_standing).pieces (steps s false (front ++ next ∷ []) at_stream first_standing).pieces =
+    steps_begin front (next ∷ []) s false in
+    let same = append_assoc front (next ∷ []) on.more in
+    record {
+      more = next ∷ on.more;
+      accepted = subst (IsAccepted canonical) same on.accepted;
+      begins =
+          subst (λ follows. BeginPieces (steps s follows front at_stream first_standing).pieces (list_layout s (front ++ next ∷ on.more))) ends
+          (subst (λ events. BeginPieces (steps s (ends_collection next) front at_stream first_standing).pieces (list_layout s events)) same
+          (begin_longer (steps s (ends_collection next) front at_stream first_standing).pieces (steps s false (front ++ next ∷ []) at_stream first_standing).pieces (list_layout s ((front ++ next ∷ []) ++ on.more)) first on.begins));
+    }
+
+cut_output : (given : Settings) (all : List Event) (error : yaml_error_t) (state : State) → StandsCut given all error state → (front : List Event) × BeginsOutput given all front state
+cut_output given all error state h =
+    let s = settings_for given all in
+    elim h.page [
+      | inl unwritten ↦
+          let follows = closes_last h.front (h.event ∷ h.later) in
+          let on = closing_more given.canonical s h.front (h.event ∷ h.later) follows refl h.stands in
+          (h.front, record {
+            later = h.event ∷ h.later;
+            parts = h.failed.parts;
+            more = on.more;
+            accepted = on.accepted;
+            output = holds_output h.front s follows None state.page (list_layout s (h.front ++ on.more)) unwritten.1 on.begins;
+          })
+      | inr begun ↦
+          let longer = h.front ++ h.event ∷ [] in
+          let empty = closes_at_once h.event h.later in
+          let last = closes_last-append h.front h.later h.event in
+          let on : GoesOn given.canonical s longer (steps s empty longer at_stream first_standing).pieces =
+          subst (λ follows. GoesOn given.canonical s longer (steps s follows longer at_stream first_standing).pieces) last
+          (closing_more given.canonical s longer h.later (closes_last longer h.later) refl begun.0) in
+          (longer, record {
+            later = h.later;
+            parts = append_assoc h.front (h.event ∷ []) h.later ∙ h.failed.parts;
+            more = on.more;
+            accepted = on.accepted;
+            output =
+                output_begins s state.page (list_layout s (longer ++ on.more)) begun.1
+                (front_longer s state.page.text (steps s empty longer at_stream first_standing).pieces (list_layout s (longer ++ on.more)) begun.3 on.begins);
+          })
+    ]
+
+unflushed_output : (given : Settings) (all : List Event) (error : yaml_error_t) (state : State) → StandsUnflushed given all error state → (front : List Event) × BeginsOutput given all front state
+unflushed_output given all error state h =
+    let front = take (written h.before) h.before in
+    let rest = drop (written h.before) h.before in
+    let whole : front ++ (rest ++ h.later) ≡ all =
+    sym (append_assoc front rest h.later) ∙ ap (λ events. events ++ h.later) (take-append-drop (written h.before) h.before) ∙ h.parts in
+    (front, output_from given all front (rest ++ h.later) (Some error) state whole h.stands h.page)
+
+refused_output : (given : Settings) (all : List Event) (error : yaml_error_t) (state : State) → StandsRefused given all error state → (front : List Event) × BeginsOutput given all front state
+refused_output given all error state h =
+    (h.front, output_from given all h.front (h.event ∷ h.later) None state h.failed.parts h.taken.stands h.taken.page)
+
+stopped_output : (given : Settings) (all : List Event) (error : yaml_error_t) (state : State) → StandsStopped given all error state → (front : List Event) × BeginsOutput given all front state
+stopped_output given all error state h = elim h [ inl cut ↦ cut_output given all error state cut | inr other ↦ unflushed_output given all error state other ]
+
+failed_output : (error : yaml_error_t) (given : Settings) (all : List Event) (state : State) → StandsFailed given all error state → (front : List Event) × BeginsOutput given all front state
+failed_output WriteError given all state h = stopped_output given all WriteError state h
+failed_output Memory given all state h = stopped_output given all Memory state h
+failed_output error given all state h = refused_output given all error state h
+
+output_by : (error : Option yaml_error_t) (given : Settings) (all : List Event) (state : State) → StandsBy given all error state → OutputBegins given all error state
+output_by None given all state h =
+    output_from given all (take (written all) all) (held_back all) None state (take-append-drop (written all) all) h.taken.stands h.taken.page
+output_by (Some error) given all state h = failed_output error given all state h.1
+
+-- After every call the output begins that of an accepted list, which begins with the events written so far.
+pub promises_output : (given : Settings) (all : List Event) (state : State) → StandsAfter given all state → OutputBegins given all state.error state
+promises_output given all state h = output_by state.error given all state h
+
+-- The output's limit.
+not_memory : WriteError ≡ Memory → ⊥
+not_memory wrong = cc
+
+drop-all : (events : List Event) → drop (length events) events ≡ []
+drop-all [] = refl
+drop-all (x ∷ events) = drop-all events
+
+take-length : (events : List Event) → take (length events) events ≡ events
+take-length [] = refl
+take-length (x ∷ events) = ap (λ l. x ∷ l) (take-length events)
+
+no_start_alone : (event : Event) → is_ready event [] ≡ true → begins_collection event ≡ false
+no_start_alone (sequence_start c) ready = cc
+no_start_alone (mapping_start c) ready = cc
+no_start_alone event ready = refl
+
+begins_last-append : (front : List Event) (event : Event) → begins_last (front ++ event ∷ []) ≡ begins_collection event
+begins_last-append [] event = refl
+begins_last-append (x ∷ []) event = refl
+begins_last-append (x ∷ y ∷ more) event = begins_last-append (y ∷ more) event
+
+follows_ready : (front rest more : List Event) (event : Event) (s : Effective) (last : Bool) → begins_collection event ≡ last → is_ready event rest ≡ true
+    → (q : Partial) → partial_of (((front ++ event ∷ []) ++ rest) ++ more) ≡ Some q
+    → (steps s (ends_next (rest ++ more) false) (front ++ event ∷ []) at_stream first_standing).pieces ≡ (steps s (closes_at_once event rest) (front ++ event ∷ []) at_stream first_standing).pieces
+follows_ready front rest more event s false is ready q h =
+    ap (λ (made : Steps). made.pieces)
+    (steps_same (front ++ event ∷ []) s (ends_next (rest ++ more) false) (closes_at_once event rest) at_stream first_standing (begins_last-append front event ∙ is))
+follows_ready front [] more event s true is ready q h = let no : begins_collection event ≡ false = no_start_alone event ready in cc
+follows_ready front (next ∷ rest) more event s true is ready q h =
+    let longer = front ++ event ∷ [] in
+    let begun = front_begins (longer ++ next ∷ []) (rest ++ more) q
+    (ap partial_of (append_assoc longer (next ∷ []) (rest ++ more) ∙ sym (append_assoc longer (next ∷ rest) more)) ∙ h) in
+    ap (λ follows. (steps s follows longer at_stream first_standing).pieces)
+    (sym (own_end longer next rest before_stream begun.0 begun.1 (begins_last-append front event ∙ is)) ∙ closes_last-append front (next ∷ rest) event)
+
+layout_begins : (canonical : Bool) (s : Effective) (front rest : List Event) → IsAccepted canonical (front ++ rest) → BeginPieces (steps s (ends_next rest false) front at_stream first_standing).pieces (list_layout s (front ++ rest))
+layout_begins canonical s front rest accepted =
+    subst (BeginPieces (steps s (ends_next rest false) front at_stream first_standing).pieces)
+    (sym (list_layout_steps (front ++ rest) accepted.stream s (ap partial_of (sym accepted.is_stream) ∙ stream_pushed accepted.stream)))
+    (steps_begin front rest s false)
+
+cut_fills : (given : Settings) (all : List Event) (state : State) → StandsCut given all WriteError state → FillsLimit given all state
+cut_fills given all state h =
+    let s = settings_for given all in
+    let longer = h.front ++ h.event ∷ [] in
+    let empty = closes_at_once h.event h.later in
+    let begun_pieces = (steps s empty longer at_stream first_standing).pieces in
+    let parts : longer ++ h.later ≡ all = append_assoc h.front (h.event ∷ []) h.later ∙ h.failed.parts in
+    let ready = ready_at h.front h.event h.later (subst (λ events. length h.front < written events) (sym h.failed.parts) h.failed.became_ready) in
+    elim h.page [
+      | inl unwritten ↦ let wrong : WriteError ≡ Memory = unwritten.0 in absurd (not_memory wrong)
+      | inr begun ↦
+          let failed = begun.2 refl in
+          record {
+            full = (output_fills s state.page begun_pieces begun.1 begun.3 failed).0;
+            output = (λ more accepted.
+                let whole : longer ++ (h.later ++ more) ≡ all ++ more = sym (append_assoc longer h.later more) ∙ ap (λ events. events ++ more) parts in
+                let pushes : partial_of ((longer ++ h.later) ++ more) ≡ Some (after_stream accepted.stream) =
+                ap (λ events. partial_of (events ++ more)) parts ∙ ap partial_of (sym accepted.is_stream) ∙ stream_pushed accepted.stream in
+                let same : (steps s (ends_next (h.later ++ more) false) longer at_stream first_standing).pieces ≡ begun_pieces =
+                follows_ready h.front h.later more h.event s (begins_collection h.event) refl ready (after_stream accepted.stream) pushes in
+                let begins : BeginPieces begun_pieces (list_layout s (all ++ more)) =
+                subst (λ pieces. BeginPieces pieces (list_layout s (all ++ more))) same
+                (subst (λ events. BeginPieces (steps s (ends_next (h.later ++ more) false) longer at_stream first_standing).pieces (list_layout s events)) whole
+                (layout_begins given.canonical s longer (h.later ++ more) (subst (IsAccepted given.canonical) (sym whole) accepted))) in
+                (output_fills s state.page (list_layout s (all ++ more)) begun.1 (front_longer s state.page.text begun_pieces (list_layout s (all ++ more)) begun.3 begins) failed).1
+                ∙ ap (λ (s : Effective). cut s.limit (bytes_written s (list_layout s (all ++ more)))) (sym (settings_failed h.front given all h.event h.later more h.failed.parts)));
+          }
+    ]
+
+between_fills : (front rest : List Event) (given : Settings) (all : List Event) (state : State) → front ++ rest ≡ all
+    → HoldsPiecesWith (Some WriteError) (settings_for given all) front (steps (settings_for given all) false front at_stream first_standing).pieces state.page
+    → IsHandedOut (encoded state.page) state.page.output state.page.limit state.page.error
+    → ((more : List Event) → closes.closes_at_once front (rest ++ more) ≡ false)
+    → FillsLimit given all state
+between_fills [] rest given all state parts h handed opens =
+    let full = handed.full (ap (λ (p : Page). p.error) h) in
+    let none : length (encoded state.page) ≡ 0 = ap (λ (p : Page). length (encoded p)) h in
+    absurd (omega (arith, full.0, none))
+between_fills (x ∷ front) rest given all state parts h handed opens =
+    let s = settings_for given all in
+    let begun_pieces = (steps s false (x ∷ front) at_stream first_standing).pieces in
+    let text = front_itself state.page.text (text_written s begun_pieces) h.1 in
+    record {
+      full = (output_fills s state.page begun_pieces h.0 text h.2).0;
+      output = (λ more accepted.
+          let whole : (x ∷ front) ++ (rest ++ more) ≡ all ++ more = sym (append_assoc (x ∷ front) rest more) ∙ ap (λ events. events ++ more) parts in
+          let pushes : partial_of ((x ∷ front) ++ (rest ++ more)) ≡ Some (after_stream accepted.stream) =
+          ap partial_of whole ∙ ap partial_of (sym accepted.is_stream) ∙ stream_pushed accepted.stream in
+          let begins : BeginPieces begun_pieces (list_layout s (all ++ more)) =
+          subst (λ events. BeginPieces begun_pieces (list_layout s events)) whole
+          (begin_taken (length (x ∷ front)) begun_pieces (list_layout s ((x ∷ front) ++ (rest ++ more)))
+          (front_layout (x ∷ front) (rest ++ more) accepted.stream s pushes (opens more))) in
+          (output_fills s state.page (list_layout s (all ++ more)) h.0 (front_longer s state.page.text begun_pieces (list_layout s (all ++ more)) text begins) h.2).1
+          ∙ ap (λ (s : Effective). cut s.limit (bytes_written s (list_layout s (all ++ more)))) (sym (settings_grown given x front rest all more parts)));
+    }
+
+unflushed_fills : (given : Settings) (all : List Event) (state : State) → StandsUnflushed given all WriteError state → FillsLimit given all state
+unflushed_fills given all state h =
+    let front = take (written h.before) h.before in
+    let rest = drop (written h.before) h.before in
+    between_fills front (rest ++ h.later) given all state
+    (sym (append_assoc front rest h.later) ∙ ap (λ events. events ++ h.later) (take-append-drop (written h.before) h.before) ∙ h.parts)
+    h.page h.handed
+    (λ more. ap (λ events. closes.closes_at_once front events) (append_assoc rest h.later more) ∙ open_at_written h.before (h.later ++ more))
+
+-- After the output's limit was passed the output is full.
+pub promises_full : (given : Settings) (all : List Event) (state : State) → StandsAfter given all state → state.error ≡ Some WriteError → FillsLimit given all state
+promises_full given all state h failed =
+    elim (stands_failed given all state WriteError h failed) [ inl cut ↦ cut_fills given all state cut | inr other ↦ unflushed_fills given all state other ]
+
+-- The stream's end.
+finishes : (p q : Partial) → pushed p (stream_end ∷ []) ≡ Some q → (t : Stream) × (q ≡ after_stream t)
+finishes (between_documents e d) q h =
+    let t : Stream = record { encoding = e; documents = d } in
+    let same : after_stream t ≡ q = cc in
+    (t, sym same)
+finishes (within_document e d s []) q h = cc
+finishes (within_document e d s (at_item c items ∷ levels)) q h = cc
+finishes (within_document e d s (at_key c pairs ∷ levels)) q h = cc
+finishes (within_document e d s (at_value c pairs key ∷ levels)) q h = cc
+finishes p q h = cc
+
+nothing_after : (rest : List Event) (t : Stream) (q : Partial) → pushed (after_stream t) rest ≡ Some q → rest ≡ []
+nothing_after [] t q h = refl
+nothing_after (x ∷ rest) t q h = cc
+
+whole_accepted : (canonical : Bool) (all : List Event) → BeginsAccepted canonical (all ++ stream_end ∷ []) → IsAccepted canonical (all ++ stream_end ∷ [])
+whole_accepted canonical all begins =
+    let events = all ++ stream_end ∷ [] in
+    let stands = stands_from_begins canonical events begins in
+    let before = front_begins all (stream_end ∷ []) stands.partial stands.is_partial in
+    let done = finishes before.0 stands.partial
+    (ap (λ o. option_and_then (λ r. pushed r (stream_end ∷ [])) o) (sym before.1) ∙ sym (pushed-append all (stream_end ∷ []) before_stream) ∙ stands.is_partial) in
+    let whole : partial_of (events ++ begins.rest) ≡ Some (after_stream begins.accepted.stream) = ap partial_of (sym begins.accepted.is_stream) ∙ stream_pushed begins.accepted.stream in
+    let none : begins.rest ≡ [] =
+    nothing_after begins.rest done.0 (after_stream begins.accepted.stream)
+    (ap (λ o. option_and_then (λ r. pushed r begins.rest) o) (sym (stands.is_partial ∙ ap (λ p. Some p) done.1)) ∙ sym (pushed-append events begins.rest before_stream) ∙ whole) in
+    subst (IsAccepted canonical) (ap (λ rest. events ++ rest) none ∙ append-nil events) begins.accepted
+
+all_taken : (given : Settings) (all : List Event) (state : State) → StandsWell given all state → state.held ≡ [] → take (written all) all ≡ all
+all_taken given all state h none =
+    sym (append-nil (take (written all) all))
+    ∙ ap (λ rest. take (written all) all ++ rest) (sym none ∙ h.held)
+    ∙ take-append-drop (written all) all
+
+all_written : (canonical : Bool) (all : List Event) → IsAccepted canonical all → written all ≡ length all
+all_written canonical all accepted = ap written (sym accepted.is_stream) ∙ stream_written accepted.stream ∙ ap length accepted.is_stream
+
+none_refused : (given : Settings) (all : List Event) (error : yaml_error_t) (state : State) → IsAccepted given.canonical all → RefusedAt given all error state → ⊥
+none_refused given all error state accepted h =
+    h.ends (record { rest = h.later; accepted = subst (IsAccepted given.canonical) (sym (append_assoc h.front (h.event ∷ []) h.later ∙ h.parts)) accepted })
+
+no_error : (error : Option yaml_error_t) (given : Settings) (all : List Event) (state : State) → StandsAfter given all state → state.error ≡ error → HasRoom error → IsAccepted given.canonical all → error ≡ None
+no_error None given all state h is room accepted = refl
+no_error (Some error) given all state h is room accepted = absurd (none_refused given all error state accepted (promises_refusal given all state error h is room))
+
+pub promises_end : (given : Settings) (all : List Event) (state : State) → StandsAfter given (all ++ stream_end ∷ []) state → EndsExactly given (all ++ stream_end ∷ []) state
+promises_end given all state h room =
+    let events = all ++ stream_end ∷ [] in (
+      (λ accepted.
+          let none = no_error state.error given events state h refl room accepted in
+          let well = stands_well given events state h none in
+          (none, well.held ∙ ap (λ n. drop n events) (all_written given.canonical events accepted) ∙ drop-all events)),
+      (λ whole.
+          let well = stands_well given events state h whole.0 in
+          whole_accepted given.canonical all (subst (BeginsAccepted given.canonical) (all_taken given events state well whole.1) well.taken.stands)),
+    )
+
+-- An accepted list is written whole.
+take-whole : (n : ℕ) (bytes : List ℕ) → length bytes ≤ n → take n bytes ≡ bytes
+take-whole zero [] h = refl
+take-whole (suc n) [] h = refl
+take-whole zero (x ∷ bytes) h = absurd (omega (arith, h))
+take-whole (suc n) (x ∷ bytes) h = ap (λ l. x ∷ l) (take-whole n bytes (omega (arith, h)))
+
+whole_output : (front : List Event) (s : Effective) (follows : Bool) (page : Page) → (front ≡ [] → ⊥)
+    → HoldsPiecesWith None s front (steps s follows front at_stream first_standing).pieces page → page.output ≡ encoded page
+    → page.output ≡ cut s.limit (bytes_written s (steps s follows front at_stream first_standing).pieces)
+whole_output [] s follows page some h all = absurd (some refl)
+whole_output (x ∷ front) s follows page some h all =
+    let bytes = bytes_written s (steps s follows (x ∷ front) at_stream first_standing).pieces in
+    let is : page.output ≡ bytes = all ∙ ap (λ e. encode e page.text) h.0.encoding ∙ ap (encode (Some s.encoding)) h.1 in
+    let within : length bytes ≤ s.limit = omega (arith, h.0.handed.within, h.0.limit, ap length is) in
+    is ∙ sym (take-whole s.limit bytes within)
+
+pub promises_whole : (given : Settings) (all : List Event) (state : State) → StandsAfter given all state → IsAccepted given.canonical all → state.error ≡ None → IsWritten given all state
+promises_whole given all state h accepted none =
+    let s = settings_for given all in
+    let well = stands_well given all state h none in
+    let begins : take (written all) all ≡ all = ap (λ n. take n all) (all_written given.canonical all accepted) ∙ take-length all in
+    let layout : list_layout s all ≡ (steps s false all at_stream first_standing).pieces =
+    list_layout_steps all accepted.stream s (ap partial_of (sym accepted.is_stream) ∙ stream_pushed accepted.stream) in
+    let page : HoldsPiecesWith None s all (steps s false all at_stream first_standing).pieces state.page =
+    subst (λ front. HoldsPiecesWith None s front (steps s false front at_stream first_standing).pieces state.page) begins well.taken.page in
+    record {
+      text = holds_text all s false None state.page page ∙ ap (text_written s) (sym layout);
+      output = (λ handed.
+          whole_output all s false state.page (λ empty. let wrong : stream_events accepted.stream ≡ [] = accepted.is_stream ∙ empty in cc) page handed
+          ∙ ap (λ pieces. cut s.limit (bytes_written s pieces)) (sym layout));
+    }
