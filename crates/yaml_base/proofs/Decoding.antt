@@ -11,7 +11,7 @@ use Rattle.yaml_base.specs.Encoding.{utf16_units, upper_first, lower_first, text
 use Rattle.yaml_base.specs.Decode.{units_upper_first, units_lower_first, text_of_units, decode}
 
 -- a text's code units
-abbrev units_of : Text → List ℕ
+abbrev pub units_of : Text → List ℕ
 units_of [] = []
 units_of (c ∷ rest) = utf16_units c ++ units_of rest
 
@@ -35,17 +35,17 @@ lower_first-append : (xs ys : List ℕ) → lower_first (xs ++ ys) ≡ lower_fir
 lower_first-append [] ys = refl
 lower_first-append (x ∷ xs) ys = ap (λ l. (x % 0x100) ∷ (x / 0x100) ∷ l) (lower_first-append xs ys)
 
-text_bytes-big : (text : Text) → text_bytes utf16_big text ≡ upper_first (units_of text)
+pub text_bytes-big : (text : Text) → text_bytes utf16_big text ≡ upper_first (units_of text)
 text_bytes-big [] = refl
 text_bytes-big (c ∷ rest) =
     ap (λ l. upper_first (utf16_units c) ++ l) (text_bytes-big rest) ∙ sym (upper_first-append (utf16_units c) (units_of rest))
 
-text_bytes-little : (text : Text) → text_bytes utf16_little text ≡ lower_first (units_of text)
+pub text_bytes-little : (text : Text) → text_bytes utf16_little text ≡ lower_first (units_of text)
 text_bytes-little [] = refl
 text_bytes-little (c ∷ rest) =
     ap (λ l. lower_first (utf16_units c) ++ l) (text_bytes-little rest) ∙ sym (lower_first-append (utf16_units c) (units_of rest))
 
-text_bytes-utf8 : (text : Text) → text_bytes utf8 text ≡ encode_utf8_all text
+pub text_bytes-utf8 : (text : Text) → text_bytes utf8 text ≡ encode_utf8_all text
 text_bytes-utf8 [] = refl
 text_bytes-utf8 (c ∷ rest) = ap (λ l. encode_utf8 c ++ l) (text_bytes-utf8 rest)
 

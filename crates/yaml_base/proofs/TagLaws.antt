@@ -69,12 +69,12 @@ handle_tests false false true e = (refl, refl, refl)
 handle_tests false false false e = cc
 
 -- `!`, or characters of the anchor alphabet between two
-abbrev IsHandle : Text → Type 0
+abbrev pub IsHandle : Text → Type 0
 IsHandle handle =
     (handle ≡ tag_mark ∷ [])
     ⊎ ((middle : Text) × (handle ≡ (tag_mark ∷ middle) ++ tag_mark ∷ []) × (list_all is_alpha middle ≡ true))
 
-handle_form : (handle : Text) → handle_fault handle ≡ None → IsHandle handle
+pub handle_form : (handle : Text) → handle_fault handle ≡ None → IsHandle handle
 handle_form [] e = absurd (cc)
 handle_form (c ∷ []) e =
     let tests = handle_tests (not (c == tag_mark)) (not (c == tag_mark)) true e in
@@ -160,7 +160,7 @@ shorthand_reads own handle prefix c suffix f g h =
     ∙ ap (named_by (Some prefix)) (decoded_escaped (c ∷ suffix) h)
 
 -- Directives that are found by their handles.
-abbrev AreFound : List TagDirective → List TagDirective → Type 0
+abbrev pub AreFound : List TagDirective → List TagDirective → Type 0
 AreFound own [] = Unit {0}
 AreFound own (directive ∷ rest) =
     (handle_fault directive.handle ≡ None)
@@ -168,7 +168,7 @@ AreFound own (directive ∷ rest) =
     × AreFound own rest
 
 -- a tag is spelled as it is, or by the handle of a directive that is found, whose prefix and the rest are the tag
-abbrev ByHandle : List TagDirective → Text → (Spelling → Type 0) → Type 0
+abbrev pub ByHandle : List TagDirective → Text → (Spelling → Type 0) → Type 0
 ByHandle own tag P =
     (handle prefix : Text) (c : ℕ) (suffix : Text) →
     handle_fault handle ≡ None →
@@ -182,7 +182,7 @@ spelled_step P own directive tag otherwise (Some []) e f g by known = absurd (be
 spelled_step P own directive tag otherwise (Some (c ∷ suffix)) e f g by known =
     by directive.handle directive.prefix c suffix f g (behind-whole directive.prefix tag (c ∷ suffix) e)
 
-spelling_is : (P : Spelling → Type 0) (own directives : List TagDirective) (tag : Text) → AreFound own directives → P (verbatim tag) → ByHandle own tag P → P (spelling directives tag)
+pub spelling_is : (P : Spelling → Type 0) (own directives : List TagDirective) (tag : Text) → AreFound own directives → P (verbatim tag) → ByHandle own tag P → P (spelling directives tag)
 spelling_is P own [] tag found whole by = whole
 spelling_is P own (directive ∷ rest) tag found whole by =
     spelled_step P own directive tag (spelling rest tag) (behind directive.prefix tag) refl found.0 found.1 by
@@ -243,7 +243,7 @@ found-append : (own xs ys : List TagDirective) → AreFound own xs → AreFound 
 found-append own [] ys f g = g
 found-append own (x ∷ xs) ys f g = (f.0, f.1, found-append own xs ys f.2 g)
 
-in_force_found : (own : List TagDirective) → directives_fault own ≡ None → AreFound own (directives_in_force own)
+pub in_force_found : (own : List TagDirective) → directives_fault own ≡ None → AreFound own (directives_in_force own)
 in_force_found own h =
     found-append own own _ (all_found own [] own refl h)
     (defaults_found_by own (gives_handle primary.handle own) (gives_handle secondary.handle own) refl refl)

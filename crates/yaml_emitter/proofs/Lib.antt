@@ -19,3 +19,13 @@ pub mod HandingOut
 pub mod ProcessedBy
 pub mod KeptInside
 pub mod EventsDone
+pub mod CanonicalEvents
+pub mod CanonicalTokens
+pub mod CanonicalFold
+pub mod CanonicalDocuments
+pub mod CanonicalBytes
+pub mod CanonicalText
+pub mod CanonicalNames
+pub mod CanonicalQuotes
+pub mod CanonicalPlaces
+pub mod CanonicalNodes

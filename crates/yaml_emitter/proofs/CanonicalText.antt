@@ -1,0 +1,140 @@
+-- What a text says to the canonical reader between tokens: the tokens that it is read as, where what follows meets a demand.
+use Rattle.std.proofs.Common.{◌≡◌, ℕ, zero, suc, refl, sym, ap, ◌∙◌, subst, append_assoc, append-nil, arith}
+use Rattle.std.proofs.lemmas.Bool.{and_parts, and_from, true≢false, eqb-true}
+use Rattle.std.proofs.lemmas.List.Folds.{list_all-append}
+use Rattle.std.specs.List.{list_all}
+use Rattle.std.specs.Str.{all_scalars}
+use Rattle.std.specs.Prelude.{Bool, true, false, List, [], ◌∷◌, ◌++◌, ◌&&◌, ◌||◌, ◌-◌, ◌==◌, not, nat_lt, replicate, if◌then◌else◌}
+use Rattle.yaml_base.specs.Characters.{Text, is_alpha, is_space, space, line_feed}
+use Rattle.yaml_base.specs.Analysis.{begins_with}
+use Rattle.yaml_base.specs.LineBreaks.{is_laid_text}
+use Rattle.yaml_base.specs.Cursor.{Cursor, Laid, breaks_line, new_line, indicator, space_if, then_laid}
+use Rattle.yaml_base.specs.CanonicalReader.{Token, TokenPlace, free, tokens_from}
+use Rattle.yaml_base.proofs.BreakLaws.{laid-append}
+
+-- what may follow a text: anything, no letter of a name, or a space alone
+pub data Demand : Type 0 where
+  anything : Demand
+  name_ends : Demand
+  space_next : Demand
+
+abbrev pub Meets : Demand → Text → Type 0
+Meets anything rest = Unit {0}
+Meets name_ends rest = begins_with is_alpha rest ≡ false
+Meets space_next rest = begins_with is_space rest ≡ true
+
+pub record Says (breaks12 : Bool) (demand : Demand) (text : Text) (tokens : List Token) : Type 0 where
+  pub scalars : all_scalars text ≡ true
+  pub laid : is_laid_text text ≡ true
+  pub reads : (rest : Text) → Meets demand rest → tokens_from breaks12 free (text ++ rest) ≡ tokens ++ tokens_from breaks12 free rest
+
+-- a text meets a demand, whatever follows it
+pub record Opens (demand : Demand) (text : Text) : Type 0 where
+  pub meets : (rest : Text) → Meets demand (text ++ rest)
+
+pub opens_append : {demand : Demand} (a b : Text) → Opens demand a → Opens demand (a ++ b)
+opens_append {demand} a b o = record { meets = λ rest. subst (Meets demand) (sym (append_assoc a b rest)) (o.meets (b ++ rest)) }
+
+pub opens_any : (text : Text) → Opens anything text
+opens_any text = record { meets = λ rest. tt }
+
+pub scalars-append : (a b : Text) → all_scalars a ≡ true → all_scalars b ≡ true → all_scalars (a ++ b) ≡ true
+scalars-append [] b h k = k
+scalars-append (c ∷ a) b h k =
+    let p = and_parts _ _ h in
+    and_from _ _ p.0 (scalars-append a b p.1 k)
+
+-- One text after another.
+pub says_then : {breaks12 : Bool} {d e : Demand} {a b : Text} {j k : List Token} → Says breaks12 d a j → Opens d b → Says breaks12 e b k → Says breaks12 e (a ++ b) (j ++ k)
+says_then {breaks12} {d} {e} {a} {b} {j} {k} first opens second =
+    record {
+      scalars = scalars-append a b first.scalars second.scalars;
+      laid = laid-append a b first.laid second.laid;
+      reads = λ rest meets.
+          ap (tokens_from breaks12 free) (append_assoc a b rest)
+          ∙ first.reads (b ++ rest) (opens.meets rest)
+          ∙ ap (λ t. j ++ t) (second.reads rest meets)
+          ∙ sym (append_assoc j k (tokens_from breaks12 free rest));
+    }
+
+pub says_after : {breaks12 : Bool} {e : Demand} {a b : Text} {j k : List Token} → Says breaks12 anything a j → Says breaks12 e b k → Says breaks12 e (a ++ b) (j ++ k)
+says_after {breaks12} {e} {a} {b} first second = says_then first (opens_any b) second
+
+pub says_text : {breaks12 : Bool} {d : Demand} (a : Text) {b : Text} {k : List Token} → a ≡ b → Says breaks12 d b k → Says breaks12 d a k
+says_text {breaks12} {d} a {b} {k} e says = subst (λ t. Says breaks12 d t k) (sym e) says
+
+pub says_tokens : {breaks12 : Bool} {d : Demand} {a : Text} {j : List Token} (k : List Token) → j ≡ k → Says breaks12 d a j → Says breaks12 d a k
+says_tokens {breaks12} {d} {a} k e says = subst (λ t. Says breaks12 d a t) e says
+
+-- what may be followed by anything may be followed by what meets a demand
+pub says_less : {breaks12 : Bool} {a : Text} {k : List Token} (d : Demand) → Says breaks12 anything a k → Says breaks12 d a k
+says_less d says = record { scalars = says.scalars; laid = says.laid; reads = λ rest meets. says.reads rest tt }
+
+pub says_nothing : (breaks12 : Bool) → Says breaks12 anything [] []
+says_nothing breaks12 = record { scalars = refl; laid = refl; reads = λ rest meets. refl }
+
+-- Spaces and line feeds say nothing.
+abbrev pub is_white : Text → Bool
+is_white text = list_all (λ c. c == space || c == line_feed) text
+
+white-cases : (c : ℕ) (P : ℕ → Type 0) → (c == space || c == line_feed) ≡ true → P space → P line_feed → P c
+white-cases c P h a b = by (c == space) refl (c == line_feed) refl
+  where
+    by : (x : Bool) → (c == space) ≡ x → (y : Bool) → (c == line_feed) ≡ y → P c
+    by true e y f = subst P (sym (eqb-true c space e)) a
+    by false e true f = subst P (sym (eqb-true c line_feed f)) b
+    by false e false f = absurd (true≢false (sym h ∙ (rw (e, f) refl)))
+
+pub says_white : (breaks12 : Bool) (text : Text) → is_white text ≡ true → Says breaks12 anything text []
+says_white breaks12 [] h = says_nothing breaks12
+says_white breaks12 (c ∷ text) h =
+    let p : ((c == space || c == line_feed) ≡ true) × (is_white text ≡ true) = and_parts _ _ h in
+    let more = says_white breaks12 text p.1 in
+    white-cases c (λ x. Says breaks12 anything (x ∷ text) []) p.0
+    (record { scalars = more.scalars; laid = more.laid; reads = more.reads })
+    (record { scalars = more.scalars; laid = more.laid; reads = more.reads })
+
+pub white-opens : (a b : Text) → is_white a ≡ true → Opens name_ends b → Opens name_ends (a ++ b)
+white-opens [] b h o = o
+white-opens (c ∷ a) b h o =
+    let p : ((c == space || c == line_feed) ≡ true) × (is_white a ≡ true) = and_parts _ _ h in
+    white-cases c (λ x. Opens name_ends (x ∷ (a ++ b))) p.0 (record { meets = λ rest. refl }) (record { meets = λ rest. refl })
+
+spaces-white : (n : ℕ) → is_white (replicate n space) ≡ true
+spaces-white zero = refl
+spaces-white (suc n) = spaces-white n
+
+pub space_if-white : (need : Bool) (cursor : Cursor) → is_white (space_if need cursor) ≡ true
+space_if-white need cursor = by (need && not cursor.whitespace)
+  where
+    by : (b : Bool) → is_white (if b then space ∷ [] else []) ≡ true
+    by true = refl
+    by false = refl
+
+pub new_line-white : (at : ℕ) (cursor : Cursor) → is_white (new_line at cursor).text ≡ true
+new_line-white at cursor = by (breaks_line at cursor)
+  where
+    by : (b : Bool) → is_white (if b then line_feed ∷ replicate at space else replicate (at - cursor.column) space) ≡ true
+    by true = spaces-white at
+    by false = spaces-white (at - cursor.column)
+
+-- A sign after a space or none.
+pub indicator_says : {breaks12 : Bool} {d : Demand} {sign : Text} {k : List Token} (need whitespace indention : Bool) (cursor : Cursor) → Says breaks12 d sign k
+    → Says breaks12 d (indicator sign need whitespace indention cursor).text k
+indicator_says {breaks12} need whitespace indention cursor says =
+    says_after (says_white breaks12 (space_if need cursor) (space_if-white need cursor)) says
+
+pub indicator_opens : (sign : Text) (need whitespace indention : Bool) (cursor : Cursor) → Opens name_ends sign → Opens name_ends (indicator sign need whitespace indention cursor).text
+indicator_opens sign need whitespace indention cursor o = white-opens (space_if need cursor) sign (space_if-white need cursor) o
+
+pub and_false : (a : Bool) → (a && false) ≡ false
+and_false true = refl
+and_false false = refl
+
+-- after a space the next character is one
+pub space_first : (cursor : Cursor) (b : Text) → cursor.whitespace ≡ false → Opens space_next (space_if true cursor ++ b)
+space_first cursor b e = by cursor.whitespace e
+  where
+    by : (w : Bool) → w ≡ false → Opens space_next ((if true && not w then space ∷ [] else []) ++ b)
+    by true e = absurd (true≢false e)
+    by false e = record { meets = λ rest. refl }

@@ -1,0 +1,80 @@
+-- The tokens of a tree's canonical text, as they are laid: a comma or an opening bracket stands before each entry.
+use Rattle.std.specs.Prelude.{Bool, true, false, Option, None, Some, List, [], ◌∷◌, ◌++◌, ◌||◌, ◌&&◌, not, codes, if◌then◌else◌}
+use Rattle.std.specs.List.{list_all}
+use Rattle.std.specs.Str.{all_scalars}
+use Rattle.yaml_base.specs.Characters.{Text}
+use Rattle.yaml_base.specs.Event.{Version, TagDirective, Event, document_start, alias, scalar, sequence_start, mapping_start}
+use Rattle.yaml_base.specs.Tags.{TagRead, bare_tag, named_tag, directives_in_force, spelling, spelled}
+use Rattle.yaml_base.specs.Grammar.{Node, alias_node, scalar_node, sequence_node, mapping_node, Nodes, no_nodes, nodes_and, Pairs, no_pairs, pairs_and, Document, Documents, no_documents, documents_and}
+use Rattle.yaml_base.specs.Layout.{has_no_nodes, has_no_pairs, has_directives}
+use Rattle.yaml_base.specs.CanonicalReader.{Token, version_line, tag_line, document_begins, document_ends, anchor_token, alias_token, tag_token, scalar_token, opens_sequence, closes_sequence, opens_mapping, closes_mapping, key_sign, value_sign, comma}
+
+abbrev pub anchor_tokens : Option Text → List Token
+anchor_tokens None = []
+anchor_tokens (Some name) = anchor_token name ∷ []
+
+-- a written tag, the bare tag or none
+abbrev pub tag_tokens : List TagDirective → Option Text → (bare : Bool) → List Token
+tag_tokens own (Some tag) bare = tag_token (spelled (spelling (directives_in_force own) tag)) ∷ []
+tag_tokens own None true = tag_token (codes "!") ∷ []
+tag_tokens own None false = []
+
+abbrev pub properties_tokens : List TagDirective → Option Text → Option Text → (bare : Bool) → List Token
+properties_tokens own anchor tag bare = anchor_tokens anchor ++ tag_tokens own tag bare
+
+-- the sign before an entry, or before the end
+abbrev pub entry_sign : Token → (first : Bool) → Token
+entry_sign opening true = opening
+entry_sign opening false = comma
+
+abbrev mutual
+  pub node_tokens : Node → List TagDirective → List Token
+  node_tokens (alias_node name) own = alias_token name ∷ []
+  node_tokens (scalar_node content) own =
+      properties_tokens own content.anchor content.tag (not content.quoted_implicit) ++ scalar_token content.value ∷ []
+  node_tokens (sequence_node start items) own =
+      (properties_tokens own start.anchor start.tag false ++ nodes_tokens items own)
+      ++ (entry_sign opens_sequence (has_no_nodes items) ∷ closes_sequence ∷ [])
+  node_tokens (mapping_node start pairs) own =
+      (properties_tokens own start.anchor start.tag false ++ pairs_tokens pairs own)
+      ++ (entry_sign opens_mapping (has_no_pairs pairs) ∷ closes_mapping ∷ [])
+
+  pub nodes_tokens : Nodes → List TagDirective → List Token
+  nodes_tokens no_nodes own = []
+  nodes_tokens (nodes_and items last) own =
+      nodes_tokens items own ++ (entry_sign opens_sequence (has_no_nodes items) ∷ node_tokens last own)
+
+  pub pairs_tokens : Pairs → List TagDirective → List Token
+  pairs_tokens no_pairs own = []
+  pairs_tokens (pairs_and pairs key value) own =
+      (pairs_tokens pairs own ++ (entry_sign opens_mapping (has_no_pairs pairs) ∷ key_sign ∷ node_tokens key own))
+      ++ (value_sign ∷ node_tokens value own)
+
+abbrev pub version_tokens : Option Version → List Token
+version_tokens None = []
+version_tokens (Some version) = version_line version ∷ []
+
+abbrev pub tag_line_tokens : List TagDirective → List Token
+tag_line_tokens [] = []
+tag_line_tokens (directive ∷ rest) = tag_line directive ∷ tag_line_tokens rest
+
+abbrev pub end_tokens : Bool → List Token
+end_tokens true = document_ends ∷ []
+end_tokens false = []
+
+-- a document, after one that was left open or not
+abbrev pub document_tokens : (after_open : Bool) → Document → List Token
+document_tokens after_open document =
+    ((((end_tokens (has_directives document.start && after_open) ++ version_tokens document.start.version)
+    ++ tag_line_tokens document.start.directives) ++ document_begins ∷ [])
+    ++ node_tokens document.root document.start.directives)
+    ++ end_tokens (not document.end_implicit)
+
+-- the last document was left open
+abbrev pub left_open : Documents → Bool
+left_open no_documents = false
+left_open (documents_and before document) = document.end_implicit
+
+abbrev pub documents_tokens : Documents → List Token
+documents_tokens no_documents = []
+documents_tokens (documents_and before document) = documents_tokens before ++ document_tokens (left_open before) document
