@@ -25,7 +25,7 @@ pub processed_refused : (event : Event) (empty : Bool) (state : State) (error : 
     → refusal_now state event ≡ Some (refusal_number error) → Processed event empty state state (Err error)
 processed_refused event empty state WriteError is refusal = absurd is
 processed_refused event empty state Memory is refusal = absurd is
-processed_refused event empty state error is refusal = record { kept = refl; refusal = refusal; settings = refl; page = refl }
+processed_refused event empty state error is refusal = record { kept = refl; refusal = refusal }
 
 -- the event isn't the stream's start
 abbrev pub IsInStream : Event → Type 0

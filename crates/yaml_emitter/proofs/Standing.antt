@@ -165,7 +165,7 @@ own_end (event ∷ []) next rest p q h begins = own_end_one event next rest p q 
 own_end (event ∷ other ∷ more) next rest p q h begins = own_end_later (other ∷ more) next rest (own_end (other ∷ more) next rest) (push p event) q h begins
 
 -- So the steps of a front are those with this event behind it.
-end_next : (front rest : List Event) (event : Event) (q : Partial) (s : Effective) (last : Bool) → begins_last front ≡ last → partial_of (front ++ event ∷ []) ≡ Some q
+pub end_next : (front rest : List Event) (event : Event) (q : Partial) (s : Effective) (last : Bool) → begins_last front ≡ last → partial_of (front ++ event ∷ []) ≡ Some q
     → steps s (ends_collection event) front at_stream first_standing ≡ steps s (closes_last front (event ∷ rest)) front at_stream first_standing
 end_next front rest event q s false is h = steps_same front s (ends_collection event) (closes_last front (event ∷ rest)) at_stream first_standing is
 end_next front rest event q s true is h = ap (λ follows. steps s follows front at_stream first_standing) (sym (own_end front event rest before_stream q h is))

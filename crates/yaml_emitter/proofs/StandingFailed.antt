@@ -87,7 +87,9 @@ cut_page : (front rest : List Event) (given : Settings) (all : List Event) (even
     → HasTaken given all front (steps (settings_for given all) (closes_last front (event ∷ rest)) front at_stream first_standing) before
     → BeginsAccepted given.canonical (front ++ event ∷ [])
     → Wrote (event_laid before event (closes_at_once event rest)) before.page after.page answer
-    → IsPage (settings_for given all) after.page × IsFront after.page.text (text_written (settings_for given all) (steps (settings_for given all) (closes_at_once event rest) (front ++ event ∷ []) at_stream first_standing).pieces)
+    → IsPage (settings_for given all) after.page
+    × IsFront (text_written (settings_for given all) (steps (settings_for given all) (closes_last front (event ∷ rest)) front at_stream first_standing).pieces) after.page.text
+    × IsFront after.page.text (text_written (settings_for given all) (steps (settings_for given all) (closes_at_once event rest) (front ++ event ∷ []) at_stream first_standing).pieces)
 cut_page [] rest given all event before after answer h begun wrote =
     let none : after.page.encoding ≡ None = wrote.settings.encoding ∙ ap (λ (p : Page). p.encoding) h.page in
     absurd (false≢true (subst (λ o. IsSome o) none wrote.ready.begun))
@@ -100,6 +102,7 @@ cut_page (x ∷ front) rest given all event before after answer h begun wrote =
     let stands = stands_from_begins given.canonical ((x ∷ front) ++ event ∷ []) begun in
     let grew = wrote.grew in
     (is_page_wrote h.page.0 wrote,
+    record { rest = grew.front; parts = ap (λ text. text ++ grew.front) (sym h.page.1) ∙ sym grew.grown },
     record {
       rest = grew.rest;
       parts =
@@ -129,7 +132,7 @@ cut_stands given all front rest event error before after h is done =
         | inr begun ↦
             let accepted = accepted_next given all front event follows s now taken begun.0 in
             let cut = cut_page front rest given all event now after begun.3.0 taken accepted begun.3.1 in
-            inr (accepted, cut.0, begun.2, cut.1)
+            inr (accepted, cut.0, begun.2, cut.1, cut.2)
       ];
     }
 

@@ -94,6 +94,7 @@ CutPage given s front event at_front at_event error page =
     ⊎ (BeginsAccepted given.canonical (front ++ event ∷ [])
     × IsPage s page
     × (error ≡ WriteError → page.error ≡ Some WriteError)
+    × IsFront (text_written s (steps s at_front front at_stream first_standing).pieces) page.text
     × IsFront page.text (text_written s (steps s at_event (front ++ event ∷ []) at_stream first_standing).pieces))
 
 cut_grown : (given : Settings) (all more : List Event) (error : yaml_error_t) (before after : State) → AreFlags before after → StandsCut given all error before → StandsCut given (all ++ more) error after

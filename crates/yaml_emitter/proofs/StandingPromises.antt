@@ -20,7 +20,7 @@ use Rattle.yaml_base.specs.declared.errors.yaml_error_t.TheVariants.{WriteError,
 use Rattle.yaml_base.proofs.Accepted.{stands_from_begins, refused_exactly}
 use Rattle.yaml_base.proofs.Completions.{front_begins, pushed-append}
 use Rattle.yaml_base.proofs.Trees.{stream_pushed}
-use Rattle.yaml_base.proofs.PieceLaws.{steps-append, steps_same, front_layout, list_layout_steps}
+use Rattle.yaml_base.proofs.PieceLaws.{steps_count, steps-append, steps_same, front_layout, list_layout_steps}
 use Rattle.yaml_base.proofs.Progress.{progress_pieces}
 use Rattle.yaml_base.proofs.QueueLaws.{held_waits, held_is_short, written_within, open_at_written, stream_written}
 use Rattle.yaml_pen.specs.Page.{Page, encoded, IsHandedOut}
@@ -29,10 +29,10 @@ use Rattle.yaml_emitter.specs.Queue.{is_head_ready}
 use Rattle.yaml_emitter.specs.Processing.{closes_at_once}
 use Rattle.yaml_emitter.specs.StandsAfter.{IsPage, HoldsPiecesWith, HasTaken, StandsWell, FailedAt, closes_last, StandsRefused, IsFront, StandsCut, StandsUnflushed, StandsStopped, StandsFailed, StandsBy, StandsAfter}
 use Rattle.yaml_emitter.specs.Promises.{HasText, begins_with_start, HoldsWaiting, RefusedAt, BeginsOutput, OutputBegins, FillsLimit, IsRefusal, HasRoom, EndsExactly, IsWritten}
-use Rattle.yaml_emitter.proofs.Standing.{few_held, open_last, own_end, closes_last-append, settings_grown}
+use Rattle.yaml_emitter.proofs.Standing.{few_held, open_last, own_end, end_next, closes_last-append, settings_grown}
 use Rattle.yaml_emitter.proofs.StandingFailed.{own_accepted}
 use Rattle.yaml_emitter.proofs.StandingMore.{ready_at, settings_failed}
-use Rattle.yaml_emitter.proofs.StandingTexts.{holds_text, pieces_front, BeginPieces, begin_taken, begin_longer, front_longer, front_itself, GoesOn, goes_on, output_begins, output_fills, holds_output}
+use Rattle.yaml_emitter.proofs.StandingTexts.{holds_text, pieces_front, BeginPieces, begin_taken, begin_take, begin_longer, front_longer, front_itself, GoesOn, goes_on, output_begins, output_fills, holds_output}
 
 stands_well : (given : Settings) (all : List Event) (state : State) → StandsAfter given all state → state.error ≡ None → StandsWell given all state
 stands_well given all state h none = subst (λ e. StandsBy given all e state) none h
@@ -99,19 +99,31 @@ promises_refusal given all state error h failed is =
     refused_at given all state error (refused_by error given all state is (stands_failed given all state error h failed))
 
 -- The output begins that of an accepted list.
-output_from : (given : Settings) (all front later : List Event) (error : Option yaml_error_t) (state : State) → front ++ later ≡ all → BeginsAccepted given.canonical front
-    → HoldsPiecesWith error (settings_for given all) front (steps (settings_for given all) false front at_stream first_standing).pieces state.page
-    → BeginsOutput given all front state
-output_from given all front later error state parts begins h =
+output_by_pieces : (given : Settings) (all front later : List Event) (follows : Bool) (error : Option yaml_error_t) (state : State) → front ++ later ≡ all
+    → HoldsPiecesWith error (settings_for given all) front (steps (settings_for given all) follows front at_stream first_standing).pieces state.page
+    → GoesOn given.canonical (settings_for given all) front (steps (settings_for given all) follows front at_stream first_standing).pieces
+    → BeginsOutput given all front (length front) state
+output_by_pieces given all front later follows error state parts h on =
     let s = settings_for given all in
-    let on = goes_on given.canonical s front begins in
+    let begun = (steps s follows front at_stream first_standing).pieces in
+    let whole = list_layout s (front ++ on.more) in
+    let first : take (length front) whole ≡ begun = begin_take (length front) begun whole on.begins (steps_count front s follows at_stream first_standing) in
+    let text : state.page.text ≡ text_written s (take (length front) whole) = holds_text front s follows error state.page h ∙ ap (text_written s) (sym first) in
     record {
       later = later;
       parts = parts;
       more = on.more;
       accepted = on.accepted;
-      output = holds_output front s false error state.page (list_layout s (front ++ on.more)) h on.begins;
+      least = front_itself (text_written s (take (length front) whole)) state.page.text (sym text);
+      most = front_itself state.page.text (text_written s (take (length front) whole)) text;
+      output = holds_output front s follows error state.page whole h on.begins;
     }
+
+output_from : (given : Settings) (all front later : List Event) (error : Option yaml_error_t) (state : State) → front ++ later ≡ all → BeginsAccepted given.canonical front
+    → HoldsPiecesWith error (settings_for given all) front (steps (settings_for given all) false front at_stream first_standing).pieces state.page
+    → BeginsOutput given all front (length front) state
+output_from given all front later error state parts begins h =
+    output_by_pieces given all front later false error state parts h (goes_on given.canonical (settings_for given all) front begins)
 
 -- The steps of a front begin those of the whole.
 steps_begin : (front rest : List Event) (s : Effective) (follows : Bool)
@@ -164,61 +176,73 @@ closing_more canonical s front (next ∷ later) true is begins =
           (begin_longer (steps s (ends_collection next) front at_stream first_standing).pieces (steps s false (front ++ next ∷ []) at_stream first_standing).pieces (list_layout s ((front ++ next ∷ []) ++ on.more)) first on.begins));
     }
 
-cut_output : (given : Settings) (all : List Event) (error : yaml_error_t) (state : State) → StandsCut given all error state → (front : List Event) × BeginsOutput given all front state
+-- after an error: the last of the events may be written in part
+abbrev OutputOf : Settings → List Event → State → Type 0
+OutputOf given all state = (front : List Event) × (count : ℕ) × (length front ≤ suc count) × BeginsOutput given all front count state
+
+all_of : (given : Settings) (all front : List Event) (state : State) → BeginsOutput given all front (length front) state → OutputOf given all state
+all_of given all front state h = (front, length front, omega arith, h)
+
+cut_output : (given : Settings) (all : List Event) (error : yaml_error_t) (state : State) → StandsCut given all error state → OutputOf given all state
 cut_output given all error state h =
     let s = settings_for given all in
     elim h.page [
       | inl unwritten ↦
           let follows = closes_last h.front (h.event ∷ h.later) in
-          let on = closing_more given.canonical s h.front (h.event ∷ h.later) follows refl h.stands in
-          (h.front, record {
-            later = h.event ∷ h.later;
-            parts = h.failed.parts;
-            more = on.more;
-            accepted = on.accepted;
-            output = holds_output h.front s follows None state.page (list_layout s (h.front ++ on.more)) unwritten.1 on.begins;
-          })
+          all_of given all h.front state
+          (output_by_pieces given all h.front (h.event ∷ h.later) follows None state h.failed.parts unwritten.1
+          (closing_more given.canonical s h.front (h.event ∷ h.later) follows refl h.stands))
       | inr begun ↦
           let longer = h.front ++ h.event ∷ [] in
           let empty = closes_at_once h.event h.later in
+          let pieces = (steps s empty longer at_stream first_standing).pieces in
           let last = closes_last-append h.front h.later h.event in
-          let on : GoesOn given.canonical s longer (steps s empty longer at_stream first_standing).pieces =
+          let on : GoesOn given.canonical s longer pieces =
           subst (λ follows. GoesOn given.canonical s longer (steps s follows longer at_stream first_standing).pieces) last
           (closing_more given.canonical s longer h.later (closes_last longer h.later) refl begun.0) in
-          (longer, record {
+          let whole = list_layout s (longer ++ on.more) in
+          let stands = stands_from_begins given.canonical longer begun.0 in
+          let shorter = (steps s (ends_collection h.event) h.front at_stream first_standing).pieces in
+          let first : take (length h.front) whole ≡ shorter =
+          begin_take (length h.front) shorter whole (begin_longer shorter pieces whole (steps_begin h.front (h.event ∷ []) s empty) on.begins)
+          (steps_count h.front s (ends_collection h.event) at_stream first_standing) in
+          let same : take (length h.front) whole ≡ (steps s (closes_last h.front (h.event ∷ h.later)) h.front at_stream first_standing).pieces =
+          first ∙ ap (λ (made : Steps). made.pieces) (end_next h.front h.later h.event stands.partial s (begins_last h.front) refl stands.is_partial) in
+          (longer, length h.front, omega (arith, length-append h.front (h.event ∷ [])), record {
             later = h.later;
             parts = append_assoc h.front (h.event ∷ []) h.later ∙ h.failed.parts;
             more = on.more;
             accepted = on.accepted;
-            output =
-                output_begins s state.page (list_layout s (longer ++ on.more)) begun.1
-                (front_longer s state.page.text (steps s empty longer at_stream first_standing).pieces (list_layout s (longer ++ on.more)) begun.3 on.begins);
+            least = subst (λ pieces. IsFront (text_written s pieces) state.page.text) (sym same) begun.3;
+            most = subst (λ pieces. IsFront state.page.text (text_written s pieces)) (sym (begin_take (length longer) pieces whole on.begins (steps_count longer s empty at_stream first_standing))) begun.4;
+            output = output_begins s state.page whole begun.1 (front_longer s state.page.text pieces whole begun.4 on.begins);
           })
     ]
 
-unflushed_output : (given : Settings) (all : List Event) (error : yaml_error_t) (state : State) → StandsUnflushed given all error state → (front : List Event) × BeginsOutput given all front state
+unflushed_output : (given : Settings) (all : List Event) (error : yaml_error_t) (state : State) → StandsUnflushed given all error state → OutputOf given all state
 unflushed_output given all error state h =
     let front = take (written h.before) h.before in
     let rest = drop (written h.before) h.before in
     let whole : front ++ (rest ++ h.later) ≡ all =
     sym (append_assoc front rest h.later) ∙ ap (λ events. events ++ h.later) (take-append-drop (written h.before) h.before) ∙ h.parts in
-    (front, output_from given all front (rest ++ h.later) (Some error) state whole h.stands h.page)
+    all_of given all front state (output_from given all front (rest ++ h.later) (Some error) state whole h.stands h.page)
 
-refused_output : (given : Settings) (all : List Event) (error : yaml_error_t) (state : State) → StandsRefused given all error state → (front : List Event) × BeginsOutput given all front state
+refused_output : (given : Settings) (all : List Event) (error : yaml_error_t) (state : State) → StandsRefused given all error state → OutputOf given all state
 refused_output given all error state h =
-    (h.front, output_from given all h.front (h.event ∷ h.later) None state h.failed.parts h.taken.stands h.taken.page)
+    all_of given all h.front state (output_from given all h.front (h.event ∷ h.later) None state h.failed.parts h.taken.stands h.taken.page)
 
-stopped_output : (given : Settings) (all : List Event) (error : yaml_error_t) (state : State) → StandsStopped given all error state → (front : List Event) × BeginsOutput given all front state
+stopped_output : (given : Settings) (all : List Event) (error : yaml_error_t) (state : State) → StandsStopped given all error state → OutputOf given all state
 stopped_output given all error state h = elim h [ inl cut ↦ cut_output given all error state cut | inr other ↦ unflushed_output given all error state other ]
 
-failed_output : (error : yaml_error_t) (given : Settings) (all : List Event) (state : State) → StandsFailed given all error state → (front : List Event) × BeginsOutput given all front state
+failed_output : (error : yaml_error_t) (given : Settings) (all : List Event) (state : State) → StandsFailed given all error state → OutputOf given all state
 failed_output WriteError given all state h = stopped_output given all WriteError state h
 failed_output Memory given all state h = stopped_output given all Memory state h
 failed_output error given all state h = refused_output given all error state h
 
 output_by : (error : Option yaml_error_t) (given : Settings) (all : List Event) (state : State) → StandsBy given all error state → OutputBegins given all error state
 output_by None given all state h =
-    output_from given all (take (written all) all) (held_back all) None state (take-append-drop (written all) all) h.taken.stands h.taken.page
+    subst (λ count. BeginsOutput given all (take (written all) all) count state) (length-take-le (written all) all (written_within all))
+    (output_from given all (take (written all) all) (held_back all) None state (take-append-drop (written all) all) h.taken.stands h.taken.page)
 output_by (Some error) given all state h = failed_output error given all state h.1
 
 -- After every call the output begins that of an accepted list, which begins with the events written so far.
@@ -280,7 +304,7 @@ cut_fills given all state h =
       | inr begun ↦
           let failed = begun.2 refl in
           record {
-            full = (output_fills s state.page begun_pieces begun.1 begun.3 failed).0;
+            full = (output_fills s state.page begun_pieces begun.1 begun.4 failed).0;
             output = (λ more accepted.
                 let whole : longer ++ (h.later ++ more) ≡ all ++ more = sym (append_assoc longer h.later more) ∙ ap (λ events. events ++ more) parts in
                 let pushes : partial_of ((longer ++ h.later) ++ more) ≡ Some (after_stream accepted.stream) =
@@ -291,7 +315,7 @@ cut_fills given all state h =
                 subst (λ pieces. BeginPieces pieces (list_layout s (all ++ more))) same
                 (subst (λ events. BeginPieces (steps s (ends_next (h.later ++ more) false) longer at_stream first_standing).pieces (list_layout s events)) whole
                 (layout_begins given.canonical s longer (h.later ++ more) (subst (IsAccepted given.canonical) (sym whole) accepted))) in
-                (output_fills s state.page (list_layout s (all ++ more)) begun.1 (front_longer s state.page.text begun_pieces (list_layout s (all ++ more)) begun.3 begins) failed).1
+                (output_fills s state.page (list_layout s (all ++ more)) begun.1 (front_longer s state.page.text begun_pieces (list_layout s (all ++ more)) begun.4 begins) failed).1
                 ∙ ap (λ (s : Effective). cut s.limit (bytes_written s (list_layout s (all ++ more)))) (sym (settings_failed h.front given all h.event h.later more h.failed.parts)));
           }
     ]

@@ -44,6 +44,9 @@ pub record BeginPieces (front whole : List Piece) : Type 0 where
 pub begin_taken : (n : ℕ) (front whole : List Piece) → take n whole ≡ front → BeginPieces front whole
 begin_taken n front whole is = record { rest = drop n whole; parts = ap (λ pieces. pieces ++ drop n whole) (sym is) ∙ take-append-drop n whole }
 
+pub begin_take : (n : ℕ) (front whole : List Piece) → BeginPieces front whole → length front ≡ n → take n whole ≡ front
+begin_take n front whole h is = ap (take n) (sym h.parts) ∙ take_at front h.rest n is
+
 pub begin_longer : (a b c : List Piece) → BeginPieces a b → BeginPieces b c → BeginPieces a c
 begin_longer a b c h k =
     record { rest = h.rest ++ k.rest; parts = sym (append_assoc a h.rest k.rest) ∙ ap (λ pieces. pieces ++ k.rest) h.parts ∙ k.parts }

@@ -76,8 +76,6 @@ pub record CutShort (error : yaml_error_t) (event : Event) (empty : Bool) (befor
 pub record Refused (error : yaml_error_t) (event : Event) (before after : State) : Type 0 where
   pub kept : after ≡ before
   pub refusal : refusal_now before event ≡ Some (refusal_number error)
-  pub settings : after.settings ≡ before.settings
-  pub page : after.page ≡ before.page
 
 abbrev pub Processed : Event → (empty : Bool) → State → State → Result (Unit {0}) yaml_error_t → Type 0
 Processed event empty before after (Ok _) = Written event empty before after

@@ -1,5 +1,5 @@
 -- What a caller is promised of an emitter that stands after the events that it was given.
-use Rattle.std.specs.Prelude.{◌≡◌, ◌↔◌, ℕ, ◌≤◌, Bool, true, false, Option, None, Some, List, [], ◌∷◌, ◌++◌, length, take}
+use Rattle.std.specs.Prelude.{◌≡◌, ◌↔◌, ℕ, suc, ◌≤◌, Bool, true, false, Option, None, Some, List, [], ◌∷◌, ◌++◌, length, take}
 use Rattle.yaml_base.specs.Errors.{refusal_number}
 use Rattle.yaml_base.specs.Settings.{Settings}
 use Rattle.yaml_base.specs.Encoding.{cut}
@@ -13,6 +13,7 @@ use Rattle.yaml_base.specs.declared.errors.yaml_error_t.{yaml_error_t}
 use Rattle.yaml_base.specs.declared.errors.yaml_error_t.TheVariants.{WriteError, Memory}
 use Rattle.yaml_pen.specs.Page.{encoded}
 use Rattle.yaml_emitter.specs.State.{State}
+use Rattle.yaml_emitter.specs.StandsAfter.{IsFront}
 
 -- the text so far is that of the first so many pieces
 abbrev pub HasText : Settings → List Event → ℕ → State → Type 0
@@ -44,21 +45,28 @@ pub record RefusedAt (given : Settings) (all : List Event) (error : yaml_error_t
   pub ends : BeginsAccepted given.canonical (front ++ event ∷ []) → ⊥
   pub text : HasText given all (length front) state
 
--- an accepted list begins with these events, and its bytes with the output
-pub record BeginsOutput (given : Settings) (all front : List Event) (state : State) : Type 0 where
+-- an accepted list begins with these events: the text so far has the first so many pieces of its layout, and goes no
+-- further than those of these events; its bytes begin with the output
+pub record BeginsOutput (given : Settings) (all front : List Event) (count : ℕ) (state : State) : Type 0 where
   pub later : List Event
   pub parts : front ++ later ≡ all
   pub more : List Event
   pub accepted : IsAccepted given.canonical (front ++ more)
+  pub least :
+      let s = settings_for given all in
+      IsFront (text_written s (take count (list_layout s (front ++ more)))) state.page.text
+  pub most :
+      let s = settings_for given all in
+      IsFront state.page.text (text_written s (take (length front) (list_layout s (front ++ more))))
   pub output :
-      state.page.output
-      ≡ cut (length state.page.output)
-      (bytes_written (settings_for given all) (list_layout (settings_for given all) (front ++ more)))
+      let s = settings_for given all in
+      state.page.output ≡ cut (length state.page.output) (bytes_written s (list_layout s (front ++ more)))
 
--- without an error those events are all that are ready
+-- without an error those events are all that are ready; after one the last of them may be written in part
 abbrev pub OutputBegins : Settings → List Event → Option yaml_error_t → State → Type 0
-OutputBegins given all None state = BeginsOutput given all (take (written all) all) state
-OutputBegins given all (Some error) state = (front : List Event) × BeginsOutput given all front state
+OutputBegins given all None state = BeginsOutput given all (take (written all) all) (written all) state
+OutputBegins given all (Some error) state =
+    (front : List Event) × (count : ℕ) × (length front ≤ suc count) × BeginsOutput given all front count state
 
 -- the output is full: it is that of every accepted list that begins with all events
 pub record FillsLimit (given : Settings) (all : List Event) (state : State) : Type 0 where

@@ -90,6 +90,7 @@ pub record StandsCut (given : Settings) (all : List Event) (error : yaml_error_t
       ⊎ (BeginsAccepted given.canonical (front ++ event ∷ [])
       × IsPage (settings_for given all) state.page
       × (error ≡ WriteError → state.page.error ≡ Some WriteError)
+      × IsFront (text_written (settings_for given all) (steps (settings_for given all) (closes_last front (event ∷ later)) front at_stream first_standing).pieces) state.page.text
       × IsFront state.page.text
       (text_written (settings_for given all) (steps (settings_for given all) (closes_at_once event later) (front ++ event ∷ []) at_stream first_standing).pieces))
 
