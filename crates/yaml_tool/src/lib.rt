@@ -10,6 +10,7 @@ mod lines;
 mod numbers;
 mod scripts;
 mod settings;
+mod streams;
 mod texts;
 mod words;
 

@@ -1,3 +1,5 @@
+mod devices;
+
 use super::*;
 use std::alloc::{AllocError, Global};
 use std::test::Fail;
