@@ -223,7 +223,7 @@ def main():
     shutil.copytree(ROOT / "crates" / "yaml_base", crate, symlinks=True, ignore=shutil.ignore_patterns("must-fail"))
     (scratch / "crates.txt").write_text("yaml_base:\n")
     shutil.copy(ROOT / "HANDLES", scratch)
-    shutil.copy(HERE / "Common.antt", crate / "proofs" / "ComparedCommon.antt")
+    shutil.copy(HERE / "Common.antt.txt", crate / "proofs" / "ComparedCommon.antt")
     declared, names, spoiled = ["pub mod ComparedCommon"], set(), set()
     for k in range(0, len(cases), CASES_A_FILE):
         written, here, wrong = file_of(cases[k:k + CASES_A_FILE], spoiler(random.Random(k)) if o.wrong else None)
