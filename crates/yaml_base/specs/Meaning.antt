@@ -1,12 +1,12 @@
--- What the texts of scalars mean: each scalar's body in a layout, read by the rules of its style where it stands, is
--- its value (YAML 1.1, chapter 9).
-use Rattle.std.specs.Prelude.{◌≡◌, ℕ, Bool, true, Option, None, Some, List}
+-- What a layout means: each scalar's body, read by the rules of its style where it stands, is its value (YAML 1.1,
+-- chapter 9), and of canonical bytes a reader recovers the whole content.
+use Rattle.std.specs.Prelude.{◌≡◌, ℕ, Bool, true, Option, None, Some, List, ◌&&◌}
 use Rattle.std.specs.List.{All, list_all}
 use Rattle.std.specs.Str.{all_scalars}
 use Rattle.yaml_base.specs.Characters.{Text}
 use Rattle.yaml_base.specs.Settings.{Encoding, Settings, Effective, effective}
 use Rattle.yaml_base.specs.LineBreaks.{is_indented_text, with_breaks_written, with_line_breaks_read}
-use Rattle.yaml_base.specs.Event.{ScalarStyle, any_style, plain, single_quoted, double_quoted, literal, folded, Event, scalar}
+use Rattle.yaml_base.specs.Event.{ScalarStyle, any_style, plain, single_quoted, double_quoted, literal, folded, TagDirective, Event, document_start, scalar, sequence_start, mapping_start}
 use Rattle.yaml_base.specs.ReadPlain.{read_plain}
 use Rattle.yaml_base.specs.ReadSingle.{read_single}
 use Rattle.yaml_base.specs.ReadDouble.{read_double}
@@ -14,6 +14,9 @@ use Rattle.yaml_base.specs.ReadBlock.{read_block}
 use Rattle.yaml_base.specs.Refusal.{IsAccepted}
 use Rattle.yaml_base.specs.NodeLayout.{Body, bodies_of}
 use Rattle.yaml_base.specs.Pieces.{list_layout}
+use Rattle.yaml_base.specs.Output.{bytes_written}
+use Rattle.yaml_base.specs.Content.{content_of}
+use Rattle.yaml_base.specs.CanonicalReader.{canonical_content}
 
 -- the rules of a style: plain text is read in flow or in block, a block scalar in a block whose entries stand at a
 -- column; `any` is no style of a text
@@ -57,3 +60,28 @@ MeaningIsKept =
     (given : Settings) (encoding : Option Encoding) (events : List Event) → IsAccepted given.canonical events
     → list_all has_scalar_values events ≡ true
     → All (BodyMeans (effective given encoding)) (bodies_of (list_layout (effective given encoding) events))
+
+abbrev pub option_scalars : Option Text → Bool
+option_scalars None = true
+option_scalars (Some text) = all_scalars text
+
+abbrev pub directive_scalars : TagDirective → Bool
+directive_scalars directive = all_scalars directive.prefix
+
+-- tags, prefixes and values consist of Unicode scalar values, as every `String` does; other texts that are accepted
+-- are of ASCII
+abbrev pub has_scalar_texts : Event → Bool
+has_scalar_texts (document_start start) = list_all directive_scalars start.directives
+has_scalar_texts (scalar content) = option_scalars content.tag && all_scalars content.value
+has_scalar_texts (sequence_start start) = option_scalars start.tag
+has_scalar_texts (mapping_start start) = option_scalars start.tag
+has_scalar_texts _ = true
+
+-- in canonical mode all bytes of an accepted list, uncut, read as its content
+abbrev pub CanonicalBytesRead : Type 0
+CanonicalBytesRead =
+    (given : Settings) (encoding : Option Encoding) (events : List Event) → given.canonical ≡ true
+    → IsAccepted given.canonical events → list_all has_scalar_texts events ≡ true
+    → canonical_content given.breaks12
+    (bytes_written (effective given encoding) (list_layout (effective given encoding) events))
+    ≡ content_of events

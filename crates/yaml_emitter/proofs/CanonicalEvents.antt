@@ -23,7 +23,7 @@ abbrev mutual
   EachPair (pairs_and pairs key value) P = EachPair pairs P × EachNode key P × EachNode value P
 
 -- both parts of a list pass
-split : (q : Event → Bool) (xs ys : List Event) → list_all q (xs ++ ys) ≡ true → (list_all q xs ≡ true) × (list_all q ys ≡ true)
+pub split : (q : Event → Bool) (xs ys : List Event) → list_all q (xs ++ ys) ≡ true → (list_all q xs ≡ true) × (list_all q ys ≡ true)
 split q xs ys h = and_parts (list_all q xs) (list_all q ys) (sym (list_all-append q xs ys) ∙ h)
 
 mutual

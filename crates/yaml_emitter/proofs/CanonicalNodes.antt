@@ -48,11 +48,11 @@ record EntriesAfter (breaks12 : Bool) (empty : Bool) (demand : Demand) (text : T
 text_of-append : (a b : List Piece) → text_of (a ++ b) ≡ text_of a ++ text_of b
 text_of-append a b = flat_map-append piece_text a b
 
-more_text : (text : Text) (a b : List Piece) → text ++ text_of (a ++ b) ≡ (text ++ text_of a) ++ text_of b
+pub more_text : (text : Text) (a b : List Piece) → text ++ text_of (a ++ b) ≡ (text ++ text_of a) ++ text_of b
 more_text text a b = ap (λ t. text ++ t) (text_of-append a b) ∙ sym (append_assoc text (text_of a) (text_of b))
 
 -- the text of a lead by itself
-lead_text : (lead : Text) → (lead ++ []) ++ [] ≡ lead
+pub lead_text : (lead : Text) → (lead ++ []) ++ [] ≡ lead
 lead_text lead = append-nil (lead ++ []) ∙ append-nil lead
 
 space_opens : (demand : Demand) (cursor : Cursor) → Fits demand cursor → Opens demand (space_if true cursor)

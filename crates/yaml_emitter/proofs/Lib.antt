@@ -29,3 +29,7 @@ pub mod CanonicalNames
 pub mod CanonicalQuotes
 pub mod CanonicalPlaces
 pub mod CanonicalNodes
+pub mod CanonicalLines
+pub mod CanonicalSound
+pub mod CanonicalStream
+pub mod Canonical

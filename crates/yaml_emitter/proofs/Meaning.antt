@@ -95,7 +95,7 @@ bounded : (n : ℕ) (b : Bool) → (b ≡ true → IsIndent n) → IsIndent (if 
 bounded n true h = h refl
 bounded n false h = record { low = omega arith; high = omega arith }
 
-is_indent : (indent : Option ℤ) → IsIndent (effective_indent indent)
+pub is_indent : (indent : Option ℤ) → IsIndent (effective_indent indent)
 is_indent None = record { low = omega arith; high = omega arith }
 is_indent (Some (negsuc n)) = record { low = omega arith; high = omega arith }
 is_indent (Some (pos n)) =

@@ -14,4 +14,4 @@ mod settings;
 mod stage;
 mod writing;
 
-pub use laws::meaning_is_kept;
+pub use laws::{canonical_bytes_read, meaning_is_kept};
