@@ -1,5 +1,5 @@
 -- The calls of a block scalar's writer make up its layout.
-use Rattle.std.proofs.Common.{◌≡◌, refl, sym, ap, ◌∙◌, append_assoc, append-nil}
+use Rattle.std.proofs.Common.{◌≡◌, refl, sym, ap, ◌∙◌, append_assoc}
 use Rattle.std.specs.Prelude.{ℕ, Bool, true, false, [], ◌∷◌, ◌++◌, Option, Ok, Err}
 use Rattle.std.proofs.lemmas.Bool.{false≢true}
 use Rattle.yaml_base.specs.Analysis.{is_empty}
@@ -15,15 +15,13 @@ use Rattle.yaml_pen.proofs.Composing.{wrote_as, wrote_then, wrote_failed}
 use Rattle.yaml_scalar.specs.declared.block_lines.Place.{Place}
 use Rattle.yaml_scalar.specs.declared.block_lines.Place.TheVariants.{LineStart}
 use Rattle.yaml_scalar.specs.BlockSteps.{place_after, step_laid, lines_from, sign_of, separated_header, header_end, block_laid}
+use Rattle.yaml_scalar.proofs.StillToWrite.{StillToWrite}
 use Rattle.yaml_scalar.proofs.BlockSteps.{literal-lines-from, folded-lines-from}
 
 -- one after another, in either grouping
 then-assoc : (a : Laid) (f g : Cursor → Laid) → then_laid (then_laid a f) g ≡ then_laid a (λ k. then_laid (f k) g)
 then-assoc a f g =
     ap (λ t. let l : Laid = record { text = t; cursor = (g (f a.cursor).cursor).cursor } in l) (append_assoc a.text (f a.cursor).text (g (f a.cursor).cursor).text)
-
-then-nothing : (a : Laid) → then_laid a nothing_laid ≡ a
-then-nothing a = ap (λ t. let l : Laid = record { text = t; cursor = a.cursor } in l) (append-nil a.text)
 
 -- an indicator's separating space is text before it
 indicator-lead : (sign column : ℕ) (whitespace indention : Bool)
@@ -42,55 +40,10 @@ header-steps folded best_indent value cursor =
     ∙ then-assoc lead (λ k. then_laid (sign k) (hints_laid best_indent value)) header_end
     ∙ ap (λ (f : Cursor → Laid). then_laid lead f) (λ i k. then-assoc (sign k) (hints_laid best_indent value) header_end i)
 
--- a text that is being written: a front of it is written, and the rest is laid out from where it stands
-pub record LinesFront (folded : Bool) (limit : Option ℕ) (indent : ℕ) (all left : Text) (place : Place) (before after : Page) : Type 0 where
-  pub first : Cursor → Laid
-  pub wrote : Wrote first before after (Ok tt)
-  pub whole : lines_from folded limit indent LineStart all before.cursor ≡ then_laid (first before.cursor) (lines_from folded limit indent place left)
-
-pub lines_begin : (folded : Bool) (limit : Option ℕ) (indent : ℕ) (all : Text) {before after : Page} → Wrote nothing_laid before after (Ok tt)
-    → LinesFront folded limit indent all all LineStart before after
-lines_begin folded limit indent all wrote = record { first = nothing_laid; wrote = wrote; whole = refl }
-
--- a character more
-lines_on : (folded : Bool) (limit : Option ℕ) (indent : ℕ) (all : Text) (place : Place) (c : ℕ) (rest : Text) (first : Cursor → Laid) (cursor : Cursor)
-    → lines_from folded limit indent LineStart all cursor ≡ then_laid (first cursor) (lines_from folded limit indent place (c ∷ rest))
-    → lines_from folded limit indent LineStart all cursor
-    ≡ then_laid (then_laid (first cursor) (step_laid limit indent place c rest)) (lines_from folded limit indent (place_after folded place c) rest)
-lines_on folded limit indent all place c rest first cursor e =
-    e ∙ sym (then-assoc (first cursor) (step_laid limit indent place c rest) (lines_from folded limit indent (place_after folded place c) rest))
-
-pub lines_more : {folded : Bool} {limit : Option ℕ} {indent : ℕ} {all left : Text} {place : Place} (c : ℕ) (rest : Text) {before between after : Page}
-    → LinesFront folded limit indent all left place before between → left ≡ c ∷ rest
-    → Wrote (step_laid limit indent place c rest) between after (Ok tt)
-    → LinesFront folded limit indent all rest (place_after folded place c) before after
-lines_more {folded} {limit} {indent} {all} {left} {place} c rest {before} front is more =
-    record {
-      first = λ k. then_laid (front.first k) (step_laid limit indent place c rest);
-      wrote = wrote_then front.wrote more;
-      whole = lines_on folded limit indent all place c rest front.first before.cursor
-          (front.whole ∙ ap (λ (t : Text). then_laid (front.first before.cursor) (lines_from folded limit indent place t)) is);
-    }
-
--- the next character fails
-pub lines_failed : {folded : Bool} {limit : Option ℕ} {indent : ℕ} {all left : Text} {place : Place} (c : ℕ) (rest : Text) {before between after : Page} {error : yaml_error_t}
-    → LinesFront folded limit indent all left place before between → left ≡ c ∷ rest
-    → Wrote (step_laid limit indent place c rest) between after (Err error)
-    → Wrote (lines_from folded limit indent LineStart all) before after (Err error)
-lines_failed {folded} {limit} {indent} {all} {left} {place} c rest {before} front is failed =
-    wrote_as (lines_from folded limit indent LineStart all)
-    (sym (lines_on folded limit indent all place c rest front.first before.cursor
-    (front.whole ∙ ap (λ (t : Text). then_laid (front.first before.cursor) (lines_from folded limit indent place t)) is)))
-    (wrote_failed (lines_from folded limit indent (place_after folded place c) rest) (wrote_then front.wrote failed))
-
--- nothing is left
-pub lines_whole : {folded : Bool} {limit : Option ℕ} {indent : ℕ} {all left : Text} {place : Place} {before after : Page}
-    → LinesFront folded limit indent all left place before after → left ≡ []
-    → Wrote (lines_from folded limit indent LineStart all) before after (Ok tt)
-lines_whole {folded} {limit} {indent} {all} {left} {place} {before} front none =
-    wrote_as (lines_from folded limit indent LineStart all)
-    (sym (front.whole ∙ ap (λ (t : Text). then_laid (front.first before.cursor) (lines_from folded limit indent place t)) none ∙ then-nothing (front.first before.cursor)))
-    front.wrote
+-- a text of which some lines are left to be written, from a place on
+abbrev pub LinesLeft : (folded : Bool) (limit : Option ℕ) (indent : ℕ) (all left : Text) (place : Place) (before now : Page) → Type 0
+LinesLeft folded limit indent all left place before now =
+    StillToWrite (lines_from folded limit indent place left) (lines_from folded limit indent LineStart all) before now
 
 -- after a header a line begins
 header_then : (sign best_indent : ℕ) (value : Text) → Laid → Cursor → Laid

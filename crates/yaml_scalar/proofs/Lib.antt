@@ -16,10 +16,10 @@ pub mod Somewhere
 pub mod FirstCharacters
 pub mod PlainStarts
 pub mod PlainReads
+pub mod StillToWrite
 pub mod LinesWritten
 pub mod LinesReadBack
 pub mod Escapes
-pub mod StillToWrite
 pub mod InsideSteps
 pub mod QuotedSteps
 pub mod LastCharacters

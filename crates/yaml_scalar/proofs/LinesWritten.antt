@@ -10,8 +10,9 @@ use Rattle.yaml_base.specs.SingleQuoted.{quotes_doubled, single_quote, single_qu
 use Rattle.yaml_base.specs.declared.errors.yaml_error_t.{yaml_error_t}
 use Rattle.yaml_pen.specs.Page.{Page}
 use Rattle.yaml_pen.specs.Wrote.{Wrote}
-use Rattle.yaml_pen.proofs.Composing.{wrote_as, wrote_failed, wrote_no_error, wrote_nothing, wrote_then}
+use Rattle.yaml_pen.proofs.Composing.{wrote_as}
 use Rattle.yaml_scalar.specs.LineSteps.{begins_kind, step_laid, step_text, steps_laid, written_as}
+use Rattle.yaml_scalar.proofs.StillToWrite.{StillToWrite}
 use Rattle.yaml_scalar.proofs.LineRuns.{WritesEach, runs_by_steps}
 use Rattle.yaml_scalar.proofs.LineFolds.{spaces_only, breaks_only}
 use Rattle.yaml_scalar.proofs.LineIndents.{others_only}
@@ -87,55 +88,11 @@ pub wrote_step :
 wrote_step written limit indent kind c rest {text} {before} {after} {answer} is wrote =
     wrote_as (step_laid written limit indent kind c rest) (ap (λ (t : Text). text_laid t before.cursor) is) wrote
 
--- some lines are written, and whatever writes those that are left writes all
-pub record LinesBegun (written : Text → Text) (limit : Option ℕ) (indent : ℕ) (value left : Text) (kind : Kind) (before now : Page) : Type 0 where
-  pub fine : Wrote nothing_laid now now (Ok tt)
-  pub goes_on :
-      (after : Page) (answer : Result (Unit {0}) yaml_error_t) →
-      Wrote (steps_laid written limit indent kind left) now after answer →
-      Wrote (steps_laid written limit indent spaces value) before after answer
-
--- no lines are written yet
-pub lines_first :
-    (written : Text → Text) (limit : Option ℕ) (indent : ℕ) (value : Text) {before : Page} →
-    Wrote nothing_laid before before (Ok tt) →
-    LinesBegun written limit indent value value spaces before before
-lines_first written limit indent value fine = record { fine = fine; goes_on = λ after answer wrote. wrote }
-
--- one more step is written
-pub lines_more :
-    {written : Text → Text} {limit : Option ℕ} {indent : ℕ} {value left : Text} {kind : Kind} {before now next : Page} (c : ℕ) (rest : Text) →
-    LinesBegun written limit indent value left kind before now →
-    left ≡ c ∷ rest →
-    Wrote (step_laid written limit indent kind c rest) now next (Ok tt) →
-    LinesBegun written limit indent value rest (kind_of c) before next
-lines_more {written} {limit} {indent} {value} {left} {kind} {before} {now} {next} c rest begun is step = record {
-  fine = wrote_nothing step.ready (wrote_no_error step) step.handed;
-  goes_on = λ after answer more. begun.goes_on after answer
-      (subst (λ (t : Text). Wrote (steps_laid written limit indent kind t) now after answer) (sym is) (wrote_then step more));
-}
-
--- a step failed
-pub lines_failed :
-    {written : Text → Text} {limit : Option ℕ} {indent : ℕ} {value left : Text} {kind : Kind} {before now next : Page} {error : yaml_error_t} (c : ℕ) (rest : Text) →
-    LinesBegun written limit indent value left kind before now →
-    left ≡ c ∷ rest →
-    Wrote (step_laid written limit indent kind c rest) now next (Err error) →
-    Wrote (steps_laid written limit indent spaces value) before next (Err error)
-lines_failed {written} {limit} {indent} {value} {left} {kind} {before} {now} {next} {error} c rest begun is step =
-    begun.goes_on next (Err error)
-    (subst (λ (t : Text). Wrote (steps_laid written limit indent kind t) now next (Err error)) (sym is)
-    (wrote_failed (steps_laid written limit indent (kind_of c) rest) step))
-
--- no characters are left
-pub lines_whole :
-    {written : Text → Text} {limit : Option ℕ} {indent : ℕ} {value left : Text} {kind : Kind} {before now : Page} →
-    LinesBegun written limit indent value left kind before now →
-    left ≡ [] →
-    Wrote (steps_laid written limit indent spaces value) before now (Ok tt)
-lines_whole {written} {limit} {indent} {value} {left} {kind} {before} {now} begun none =
-    begun.goes_on now (Ok tt)
-    (subst (λ (t : Text). Wrote (steps_laid written limit indent kind t) now now (Ok tt)) (sym none) begun.fine)
+-- lines of a value of which some are left to be written, after a character of a kind
+abbrev pub LinesLeft :
+    (written : Text → Text) (limit : Option ℕ) (indent : ℕ) (value left : Text) (kind : Kind) (before now : Page) → Type 0
+LinesLeft written limit indent value left kind before now =
+    StillToWrite (steps_laid written limit indent kind left) (steps_laid written limit indent spaces value) before now
 
 -- both ways of writing go character by character
 pub written_each : (quoted : Bool) → WritesEach (written_as quoted)

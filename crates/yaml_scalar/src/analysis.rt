@@ -4,7 +4,7 @@ ghost use Rattle.std.specs.List.{list_any};
 ghost use Rattle.std.specs.Str.{chars};
 ghost use Rattle.yaml_base.specs.Analysis as spec;
 ghost use Rattle.yaml_base.specs.Characters as class;
-ghost use Rattle.yaml_scalar.specs.ScalarData.{seen_charset, seen_data};
+ghost use Rattle.yaml_scalar.specs.ScalarData.{bars_in, seen_charset, seen_data};
 
 use yaml_base::{is_ascii, is_blank, is_break, is_printable, is_space};
 
@@ -28,6 +28,14 @@ pub struct scalar_data_t {
 struct charset_t {
     unicode: bool,
     breaks12: bool,
+}
+
+/// What a text is to be: plain, in a flow collection or not, between single quotes, or literal or folded.
+#[derive(Clone, Copy)]
+enum TextKind {
+    Plain(bool),
+    SingleQuoted,
+    Block,
 }
 
 /// Analyses a scalar's value. With `unicode` all printable characters may stand as themselves, else
@@ -93,21 +101,21 @@ fn allows_plain(value: &str, charset: charset_t, flow: bool) -> bool
     ensures { result ≡ spec.allows_plain (seen_charset charset) flow (chars value.now) }
 {
     !(is_at_end(value) && flow)
-        && !(begins_unlike_plain(value) || bars_plain_somewhere(value, charset, flow))
+        && !(begins_unlike_plain(value) || is_barred(value, TextKind::Plain(flow), charset))
 }
 
 /// Single quotes; the empty value too.
 fn allows_single_quoted(value: &str, charset: charset_t) -> bool
     ensures { result ≡ spec.allows_single_quoted (seen_charset charset) (chars value.now) }
 {
-    !bars_single_quoted_somewhere(value, charset)
+    !is_barred(value, TextKind::SingleQuoted, charset)
 }
 
 /// Literal and folded; never the empty value.
 fn allows_block(value: &str, charset: charset_t) -> bool
     ensures { result ≡ spec.allows_block (seen_charset charset) (chars value.now) }
 {
-    !(is_at_end(value) || bars_block_somewhere(value, charset))
+    !(is_at_end(value) || is_barred(value, TextKind::Block, charset))
 }
 
 /// No character is left.
@@ -246,36 +254,24 @@ fn bars_block(c: char, rest: &str, charset: charset_t) -> bool
     is_special(c, charset) || is_trailing_space(c, rest) || (is_space(c) && is_at_end(rest))
 }
 
-fn bars_plain_somewhere(value: &str, charset: charset_t, flow: bool) -> bool
-    ensures { result ≡ spec.somewhere (spec.bars_plain (seen_charset charset) flow) (chars value.now) }
+/// A character that no text of a kind holds, seen with what follows it.
+fn bars_in(kind: TextKind, c: char, rest: &str, charset: charset_t) -> bool
+    ensures { result ≡ bars_in kind (seen_charset charset) c (chars rest.now) }
 {
-    let mut chars = value.chars();
-    while let Some(c) = chars.next() {
-        if bars_plain(c, chars.as_str(), charset, flow) {
-            return true;
-        }
+    match kind {
+        TextKind::Plain(flow) => bars_plain(c, rest, charset, flow),
+        TextKind::SingleQuoted => bars_single_quoted(c, rest, charset),
+        TextKind::Block => bars_block(c, rest, charset),
     }
-    false
 }
 
-fn bars_single_quoted_somewhere(value: &str, charset: charset_t) -> bool
-    ensures { result ≡ spec.somewhere (spec.bars_single_quoted (seen_charset charset)) (chars value.now) }
+/// Some character of the value is one that no text of a kind holds.
+fn is_barred(value: &str, kind: TextKind, charset: charset_t) -> bool
+    ensures { result ≡ spec.somewhere (bars_in kind (seen_charset charset)) (chars value.now) }
 {
     let mut chars = value.chars();
     while let Some(c) = chars.next() {
-        if bars_single_quoted(c, chars.as_str(), charset) {
-            return true;
-        }
-    }
-    false
-}
-
-fn bars_block_somewhere(value: &str, charset: charset_t) -> bool
-    ensures { result ≡ spec.somewhere (spec.bars_block (seen_charset charset)) (chars value.now) }
-{
-    let mut chars = value.chars();
-    while let Some(c) = chars.next() {
-        if bars_block(c, chars.as_str(), charset) {
+        if bars_in(kind, c, chars.as_str(), charset) {
             return true;
         }
     }

@@ -40,14 +40,13 @@ pub(crate) fn write_lines<A: Allocator>(
     requires not_negative { pos 0 ≤ℤ indent }
     ensures { Wrote (step.lines_from folded (limit_of width) (natural indent) LineStart (chars value.now)) pen.old pen.new result }
 {
-    go_on(pen)?;
     let mut place = Place::LineStart;
     let mut characters = value.chars();
     while let Some(character) = characters.next() {
         write_step(pen, place, character, characters.as_str(), indent, width)?;
         place = place_after(folded, place, character);
     }
-    Ok(())
+    go_on(pen)
 }
 
 fn write_step<A: Allocator>(

@@ -226,12 +226,11 @@ pub(crate) fn write_lines<A: Allocator>(
     requires { IsReady pen.old }
     ensures { Wrote (layout.runs_laid (steps.written_as lines.quoted) (limit_where lines.allow_breaks lines.width) lines.indent true (layout.runs (chars value.now))) pen.old pen.new result }
 {
-    go_on(pen)?;
     let mut before = CharacterKind::Space;
     let mut characters = value.chars();
     while let Some(character) = characters.next() {
         write_step(pen, lines, before, character, characters.as_str())?;
         before = kind_of(character);
     }
-    Ok(())
+    go_on(pen)
 }

@@ -3,12 +3,12 @@ use Rattle.std.specs.Str.Iter.{chars_rest}
 use Rattle.std.proofs.Common.{length}
 use Rattle.yaml_pen.specs.Page.{natural}
 use Rattle.yaml_scalar.specs.Width.{limit_of}
-use Rattle.yaml_scalar.proofs.BlockWrites.{LinesFront}
+use Rattle.yaml_scalar.proofs.BlockWrites.{LinesLeft}
 use Rattle.yaml_scalar.proofs.block_lines.write_lines.Given as goal
 
 abbrev pub invariant-loop-character : goal.invariant-loop-character
 invariant-loop-character g l =
-    LinesFront l.fn.folded (limit_of l.fn.width) (natural l.fn.indent) (chars l.fn.value) (chars (chars_rest l.characters)) l.place l.fn.pen l.pen
+    LinesLeft l.fn.folded (limit_of l.fn.width) (natural l.fn.indent) (chars l.fn.value) (chars (chars_rest l.characters)) l.place l.fn.pen l.pen
     × IsUtf8 (chars_rest l.characters)
 
 abbrev pub decreases-loop-character : goal.decreases-loop-character

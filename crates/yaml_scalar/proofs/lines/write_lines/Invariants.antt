@@ -2,14 +2,14 @@ use Rattle.std.proofs.Common.{IsUtf8, chars, length}
 use Rattle.std.specs.Str.Iter.{chars_rest}
 use Rattle.yaml_scalar.specs.LineSteps.{seen_kind, written_as}
 use Rattle.yaml_scalar.specs.Width.{limit_where}
-use Rattle.yaml_scalar.proofs.LinesWritten.{LinesBegun}
+use Rattle.yaml_scalar.proofs.LinesWritten.{LinesLeft}
 use Rattle.yaml_scalar.proofs.lines.write_lines.Given as goal
 
 abbrev pub invariant-loop-character : goal.invariant-loop-character
 invariant-loop-character g l =
     record {
       is_text : IsUtf8 (chars_rest l.characters);
-      begun : LinesBegun (written_as l.lines.quoted) (limit_where l.lines.allow_breaks l.lines.width) l.lines.indent
+      still : LinesLeft (written_as l.lines.quoted) (limit_where l.lines.allow_breaks l.lines.width) l.lines.indent
           (chars l.fn.value) (chars (chars_rest l.characters)) (seen_kind l.before) l.initial.pen l.pen;
     }
 
