@@ -33,3 +33,4 @@ pub mod CanonicalLines
 pub mod CanonicalSound
 pub mod CanonicalStream
 pub mod Canonical
+pub mod NodesDone

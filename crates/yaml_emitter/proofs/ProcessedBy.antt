@@ -150,3 +150,25 @@ processed_exit event empty before after error answer is processed =
     let p = err_from_is_err_and answer is.1 in
     let same : answer ≡ Err error = p.1 ∙ ap (λ (e : yaml_error_t). let r : Result (Unit {0}) yaml_error_t = Err e in r) p.2 in
     subst (λ (r : Result (Unit {0}) yaml_error_t). Processed event empty before after r) (sym same) processed
+
+-- want of memory after the piece was written
+pub processed_after_writing : (event : Event) (empty : Bool) (before after : State) (stage : Stage) → before.stage ≡ stage → Keeps before after
+    → after.settings ≡ before.settings → stage_refusal before.given.canonical stage event ≡ None → after.page.error ≡ None
+    → Wrote (piece_at (λ standing. (step before.settings stage event empty standing).laid) before.mark) before.page after.page (Ok tt)
+    → Processed event empty before after (Err Memory)
+processed_after_writing event empty before after stage at kept settings accepted well wrote =
+    record {
+      kept = kept;
+      settings = settings;
+      page = inr (ap (λ st. stage_refusal before.given.canonical st event) at ∙ accepted, (λ is. cc), (λ is. cc), (Ok tt, laid_at before after event empty stage (Ok tt) at wrote));
+    }
+
+-- at an exit by `?` of a call that fails by memory alone
+pub exit_by_memory : (error : yaml_error_t) (answer : Result (Unit {0}) yaml_error_t) → error ≡ Memory
+    → IsErr answer × IsErrAnd answer (λ given. given ≡ error) → IsErr answer × IsErrAnd answer (λ given. given ≡ Memory)
+exit_by_memory error answer memory is = subst (λ (e : yaml_error_t). IsErr answer × IsErrAnd answer (λ given. given ≡ e)) memory is
+
+-- an event by another form of it
+pub processed_as : (event named : Event) (empty : Bool) (before after : State) (answer : Result (Unit {0}) yaml_error_t) → event ≡ named
+    → Processed named empty before after answer → Processed event empty before after answer
+processed_as event named empty before after answer is processed = subst (λ (e : Event). Processed e empty before after answer) (sym is) processed

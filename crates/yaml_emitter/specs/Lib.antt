@@ -14,3 +14,4 @@ pub mod Inside
 pub mod Processing
 pub mod StandsAfter
 pub mod Promises
+pub mod NodeEvents

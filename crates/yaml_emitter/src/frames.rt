@@ -1,15 +1,24 @@
 //! The open collections of a document, the innermost first.
 
-ghost use Rattle.std.specs.Prelude.{◌≡◌, ◌∷◌, [], ◌<◌, ◌≤◌, ◌+◌, ◌*◌, ◌^◌, length, IfErr, OnOk, OnErr, MatchOption};
+ghost use Rattle.std.specs.Prelude.{◌≡◌, ◌∷◌, [], ◌<◌, ◌≤◌, ◌+◌, ◌*◌, List, length, not, nat_lt, IfErr, OnOk, OnErr, MatchOption};
+ghost use Rattle.yaml_base.specs.Event.{TagDirective};
 ghost use Rattle.yaml_base.specs.Layout.{line_column};
 ghost use Rattle.yaml_base.specs.Steps as steps;
 ghost use Rattle.yaml_emitter.specs.Places.{seen_frame, seen_place};
+ghost use Rattle.yaml_base.specs.Refusal.{most_open};
 ghost use Rattle.yaml_emitter.specs.Nesting.{advanced};
+ghost use Rattle.yaml_emitter.specs.NodeEvents.{end_event};
+ghost use Rattle.yaml_emitter.specs.Reach.{IsWithinReach};
+ghost use Rattle.yaml_emitter.specs.Stages.{seen_stage};
 
 use crate::place::{Frame, Place};
+use crate::stage::Stage;
 use std::alloc::Allocator;
 use std::marker::Model;
 use yaml_base::yaml_error_t;
+
+/// So many collections may be open at once.
+const MOST_OPEN: usize = 1_000_000;
 
 #[derive(Drop)]
 pub(crate) struct Frames<A: Allocator> {
@@ -40,21 +49,21 @@ impl<A: Allocator> Frames<A> {
         }
     }
 
-    /// The number of open collections.
-    pub(crate) fn len(&self) -> usize
-        requires { length self.now < 2 ^ 64 }
-        ensures { result ≡ length self.now }
+    /// As many collections are open as may be.
+    pub(crate) fn is_full(&self) -> bool
+        ensures { result ≡ not (nat_lt (length self.now) most_open) }
     {
         match self.innermost {
-            None => 0,
-            Some(_) => self.outer.len() + 1,
+            None => false,
+            Some(_) => self.outer.len() >= MOST_OPEN - 1,
         }
     }
 
     /// Where the next node stands.
     pub(crate) fn next_place(&self) -> Place
         ensures place { seen_place result ≡ steps.next_place self.now }
-        ensures reach { line_column (seen_place result).column ≤ 9 * length self.now }
+        ensures nested { line_column (seen_place result).column ≤ 9 * length self.now }
+        ensures reach { IsWithinReach result.column }
     {
         match self.innermost {
             Some(frame) => frame.place,
@@ -62,18 +71,34 @@ impl<A: Allocator> Frames<A> {
         }
     }
 
-    /// After a node of the innermost collection, which may have been a simple key.
-    pub(crate) fn advance(&mut self, simple: bool)
-        ensures { self.new ≡ advanced simple self.old }
+    /// The end of a mapping, or of a sequence, may come next.
+    pub(crate) fn may_end(&self, mapping: bool) -> bool
+        ensures { result ≡ steps.node_allowed self.now (end_event mapping) }
     {
-        if let Some(frame) = self.innermost {
-            self.innermost = Some(frame.after(simple));
+        match self.innermost {
+            None => false,
+            Some(frame) => frame.place.role.may_end(mapping),
+        }
+    }
+
+    /// After a node of the innermost collection, which may have been a simple key; answers what comes next.
+    pub(crate) fn advance(&mut self, simple: bool) -> Stage
+        ensures frames { self.new ≡ advanced simple self.old }
+        ensures stage { (directives : List TagDirective) → seen_stage result directives self.new ≡ steps.stage_after directives self.old simple }
+    {
+        match self.innermost {
+            Some(frame) => {
+                self.innermost = Some(frame.after(simple));
+                Stage::Node
+            }
+            None => Stage::DocumentEnd,
         }
     }
 
     /// Opens a collection within the innermost one.
     pub(crate) fn push(&mut self, frame: Frame) -> Result<(), yaml_error_t>
-        requires { line_column (seen_frame frame).place.column ≤ 9 * (length self.old + 1) }
+        requires column { line_column (seen_frame frame).place.column ≤ 9 * (length self.old + 1) }
+        requires room { length self.old < most_open }
         ensures ok { OnOk result (self.new ≡ seen_frame frame ∷ self.old) }
         ensures err { OnErr result (self.new ≡ self.old) }
         ensures memory { IfErr result (λ e. e ≡ yaml_error_t.Memory) }

@@ -6,6 +6,7 @@ mod directives;
 mod emitter;
 mod frames;
 mod laws;
+mod nodes;
 mod place;
 mod process;
 mod queue;

@@ -1,8 +1,8 @@
 //! Where a node stands, and the collections that are open around it.
 
-ghost use Rattle.std.specs.Prelude.{◌≡◌, ◌+◌, ◌≤◌, ◌^◌, ◌<◌};
+ghost use Rattle.std.specs.Prelude.{◌≡◌, ◌+◌, ◌≤◌, ◌^◌, ◌<◌, if◌then◌else◌};
 ghost use Rattle.yaml_base.specs.Layout.{deeper, is_in_mapping, is_key, line_column, root_place};
-ghost use Rattle.yaml_base.specs.Steps.{is_first, place_after, role_after};
+ghost use Rattle.yaml_base.specs.Steps.{is_first, is_item, place_after, role_after};
 ghost use Rattle.yaml_emitter.specs.Places.{seen_role, seen_place, seen_frame};
 
 /// What a node is. The first item or key of a flow collection writes its bracket; a value knows
@@ -42,6 +42,17 @@ impl Role {
         ensures { result ≡ is_in_mapping (seen_role self) }
     {
         matches!(self, Role::Key { .. } | Role::Value { .. })
+    }
+
+    /// A mapping ends in place of a key, a sequence in place of an item.
+    pub(crate) fn may_end(self, mapping: bool) -> bool
+        ensures { result ≡ (if mapping then is_key (seen_role self) else is_item (seen_role self)) }
+    {
+        match self {
+            Role::Item { .. } => !mapping,
+            Role::Key { .. } => mapping,
+            _ => false,
+        }
     }
 
     /// No entry of the collection is written yet.

@@ -11,7 +11,7 @@ mod scalars;
 mod spelling;
 mod styles;
 
-pub(crate) use contents::{CollectionContent, ScalarContent, borrowed_text};
+pub(crate) use contents::{CollectionContent, ScalarContent, borrowed_text, written_scalar_tag};
 pub(crate) use counts::{is_simple_alias_key, is_simple_collection_key, is_simple_scalar_key};
 pub(crate) use directives::write_document_start;
 pub(crate) use documents::{write_document_end, write_stream_end};

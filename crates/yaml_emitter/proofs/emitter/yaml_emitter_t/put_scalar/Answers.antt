@@ -1,0 +1,57 @@
+use Rattle.std.proofs.Common.{true, false, refl, ap, sym, ◌∙◌}
+use Rattle.yaml_base.specs.Event.{scalar}
+use Rattle.yaml_emitter.specs.BorrowedTexts.{seen_scalar}
+use Rattle.yaml_emitter.specs.Inside.{state_of}
+use Rattle.yaml_emitter.specs.Places.{seen_place}
+use Rattle.yaml_emitter.proofs.KeptInside.{has_output_inside}
+use Rattle.yaml_emitter.proofs.ProcessedBy.{processed_exit}
+use Rattle.yaml_emitter.proofs.NodesDone.{at_node_inside, seen_at_node, kept_at_node, kept_advancing, lacks_given, names_inside, scalar_anchor, scalar_refused, scalar_cut, scalar_written}
+use Rattle.yaml_emitter.proofs.emitter.yaml_emitter_t.put_scalar.Goals as goal
+
+pub returns-then-lacks_tag_and_flags : goal.returns-then-lacks_tag_and_flags
+returns-then-lacks_tag_and_flags g c = λ empty.
+    rw (← c.self.view_is)
+    (scalar_refused (state_of c.self.inside) c.self.inside.directives c.self.inside.frames (seen_scalar c.args.content.now) empty
+    (seen_at_node c.self.inside (at_node_inside c.self.inside c.self.view_is c.requires.stage))
+    (names_inside c.self.inside c.self.view_is (scalar (seen_scalar c.args.content.now)) c.requires.names)
+    (lacks_given (seen_scalar c.args.content.now) c.lacks_tag_and_flags.result c.self.inside.settings.canonical c.self.inside.given.canonical true c.self.invariant.canonical
+    c.if-lacks_tag_and_flags.true c.lacks_tag_and_flags.ensures))
+
+pub write_scalar-requires-clause-anchor : goal.write_scalar-requires-clause-anchor
+write_scalar-requires-clause-anchor g c = scalar_anchor c.args.self.now.given.canonical (seen_scalar c.args.content.now) c.requires.names
+
+pub invariant_of-self : goal.invariant_of-self
+invariant_of-self g c =
+    kept_at_node c.self.inside c.write_scalar.new.pen c.self.inside.frames c.self.inside.mark c.self.invariant
+    (has_output_inside c.self.inside c.self.view_is c.requires.output)
+    (at_node_inside c.self.inside c.self.view_is c.requires.stage) c.in_err-self-inside.ensures.written.ready
+
+pub returns-in_err-self-inside : goal.returns-in_err-self-inside
+returns-in_err-self-inside g c = λ empty.
+    rw (← c.self.view_is)
+    (processed_exit (scalar (seen_scalar c.args.content.now)) empty (state_of c.self.inside) _ c.in_err-self-inside.field-0.0 c.from_residual.result c.from_residual.ensures
+    (scalar_cut (state_of c.self.inside) c.self.inside.directives c.self.inside.frames (seen_scalar c.args.content.now) empty c.is_simple_scalar_key-simple.result (seen_place c.next_place-place.result) c.write_scalar.new.pen c.in_err-self-inside.field-0.0
+    (seen_at_node c.self.inside (at_node_inside c.self.inside c.self.view_is c.requires.stage))
+    (names_inside c.self.inside c.self.view_is (scalar (seen_scalar c.args.content.now)) c.requires.names)
+    (lacks_given (seen_scalar c.args.content.now) c.lacks_tag_and_flags.result c.self.inside.settings.canonical c.self.inside.given.canonical false c.self.invariant.canonical
+    c.if-lacks_tag_and_flags.false c.lacks_tag_and_flags.ensures)
+    c.next_place-place.ensures.place c.is_simple_scalar_key-simple.ensures
+    c.in_err-self-inside.ensures.written))
+
+pub invariant_of-self-2 : goal.invariant_of-self-2
+invariant_of-self-2 g c =
+    kept_advancing c.self.inside c.write_scalar.new.pen c.advance-self-inside.result c.advance-self-inside.new.self c.self.inside.frames c.is_simple_scalar_key-simple.result c.in_ok-self-inside.field-0 c.self.invariant
+    (has_output_inside c.self.inside c.self.view_is c.requires.output) (c.advance-self-inside.ensures.stage c.self.inside.directives) c.in_ok-self-inside.ensures.written.ready
+
+pub returns : goal.returns
+returns g c = λ empty.
+    rw (← c.self.view_is)
+    (scalar_written (state_of c.self.inside) c.self.inside.directives c.self.inside.frames (seen_scalar c.args.content.now) empty c.is_simple_scalar_key-simple.result (seen_place c.next_place-place.result) _ _ c.write_scalar.new.pen
+    (seen_at_node c.self.inside (at_node_inside c.self.inside c.self.view_is c.requires.stage))
+    (names_inside c.self.inside c.self.view_is (scalar (seen_scalar c.args.content.now)) c.requires.names)
+    (lacks_given (seen_scalar c.args.content.now) c.lacks_tag_and_flags.result c.self.inside.settings.canonical c.self.inside.given.canonical false c.self.invariant.canonical
+    c.if-lacks_tag_and_flags.false c.lacks_tag_and_flags.ensures)
+    c.next_place-place.ensures.place c.is_simple_scalar_key-simple.ensures
+    (c.advance-self-inside.ensures.stage c.self.inside.directives)
+    c.in_ok-self-inside.ensures.mark
+    c.in_ok-self-inside.ensures.written)

@@ -1,0 +1,33 @@
+-- Events within a document, and the stage that they stand at.
+use Rattle.std.specs.Prelude.{Bool, true, false, not, ◌&&◌}
+use Rattle.yaml_base.specs.Event.{Collection, Event, sequence_start, sequence_end, mapping_start, mapping_end}
+use Rattle.yaml_base.specs.Layout.{Brackets, square, curly, Role, as_item, as_key, is_in_mapping}
+use Rattle.yaml_base.specs.Steps.{Stage, at_node}
+
+-- within a document
+abbrev pub is_at_node : Stage → Bool
+is_at_node (at_node directives frames) = true
+is_at_node _ = false
+
+-- the start of a mapping, or of a sequence
+abbrev pub start_event : (mapping : Bool) → Collection → Event
+start_event true start = mapping_start start
+start_event false start = sequence_start start
+
+-- the end of a mapping, or of a sequence
+abbrev pub end_event : (mapping : Bool) → Event
+end_event true = mapping_end
+end_event false = sequence_end
+
+abbrev pub brackets_of : (mapping : Bool) → Brackets
+brackets_of true = curly
+brackets_of false = square
+
+-- the first entry of a mapping, or of a sequence
+abbrev pub first_entry : (mapping : Bool) → Role
+first_entry true = as_key true
+first_entry false = as_item true
+
+-- a sequence begins on the line of the key or value that it is
+abbrev pub is_undented : (mapping : Bool) → Role → Bool
+is_undented mapping role = not mapping && is_in_mapping role

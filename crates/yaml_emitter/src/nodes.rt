@@ -1,0 +1,299 @@
+//! Events within a document: leaves, and the starts and ends of collections. One function a kind.
+
+ghost use Rattle.std.specs.Prelude.{◌≡◌, ◌≤◌, ◌+◌, ℕ, Bool, None, true, false, not, chars, length, is_some, option_map};
+ghost use Rattle.yaml_base.specs.Event.{CollectionStyle, alias, scalar, any_layout};
+ghost use Rattle.yaml_base.specs.Layout as layout;
+ghost use Rattle.yaml_base.specs.Layout.{asks_flow, end_piece, entry_place, line_column};
+ghost use Rattle.yaml_base.specs.Refusal.{name_or_tag_fault, scalar_tag};
+ghost use Rattle.yaml_base.specs.Seen.{seen_event, seen_mapping_style, seen_scalar_style, seen_sequence_style, seen_text};
+ghost use Rattle.yaml_base.specs.Steps.{is_first};
+ghost use Rattle.yaml_base.specs.Style as style;
+ghost use Rattle.yaml_pen.specs.Page.{IsReady};
+ghost use Rattle.yaml_pen.specs.Wrote.{Wrote};
+ghost use Rattle.yaml_emitter.specs.BorrowedTexts.{seen_collection, seen_scalar};
+ghost use Rattle.yaml_emitter.specs.Given.{seen_effective};
+ghost use Rattle.yaml_emitter.specs.NodeEvents.{brackets_of, end_event, first_entry, is_at_node, is_undented, start_event};
+ghost use Rattle.yaml_emitter.specs.Places.{seen_frame, seen_place, seen_role};
+ghost use Rattle.yaml_emitter.specs.Processing.{Processed};
+ghost use Rattle.yaml_emitter.specs.Reach.{IsInForce, IsWithinReach};
+ghost use Rattle.yaml_emitter.specs.WrittenPieces.{piece_at};
+
+use crate::emitter::yaml_emitter_t;
+use crate::place::{Frame, Place, Role};
+use crate::settings::EffectiveSettings;
+use crate::writing::{
+    CollectionContent, ScalarContent, borrowed_text, entries_column, is_simple_alias_key,
+    is_simple_collection_key, is_simple_scalar_key, is_written_in_flow, write_alias,
+    write_collection_start, write_mapping_end, write_scalar, write_sequence_end,
+    written_scalar_tag,
+};
+use std::alloc::Allocator;
+use yaml_base::{
+    YAML_ALIAS_EVENT, YAML_FLOW_MAPPING_STYLE, YAML_FLOW_SEQUENCE_STYLE, YAML_MAPPING_END_EVENT,
+    YAML_MAPPING_START_EVENT, YAML_SCALAR_EVENT, YAML_SEQUENCE_END_EVENT, YAML_SEQUENCE_START_EVENT,
+    yaml_error_t, yaml_event_t, yaml_mapping_style_t, yaml_scalar_style_t, yaml_sequence_style_t,
+};
+use yaml_pen::Pen;
+
+impl<A: Allocator + Copy> yaml_emitter_t<A> {
+    /// Where a node may stand, or the end of the innermost open collection.
+    pub(crate) fn expect_node(
+        &mut self,
+        event: &yaml_event_t<A>,
+        empty: bool,
+    ) -> Result<(), yaml_error_t>
+        requires output { self.old.has_output ≡ true }
+        requires stage { is_at_node self.old.stage ≡ true }
+        requires names { name_or_tag_fault self.old.given.canonical (seen_event event.now) ≡ None }
+        ensures { Processed (seen_event event.now) empty self.old self.new result }
+    {
+        match event {
+            YAML_ALIAS_EVENT { anchor } => self.put_alias(anchor.as_str()),
+            YAML_SCALAR_EVENT {
+                anchor,
+                tag,
+                value,
+                plain_implicit,
+                quoted_implicit,
+                style,
+            } => self.put_scalar(&scalar_content(
+                anchor,
+                tag,
+                value,
+                *plain_implicit,
+                *quoted_implicit,
+                *style,
+            )),
+            YAML_SEQUENCE_START_EVENT {
+                anchor,
+                tag,
+                implicit,
+                style,
+            } => {
+                let content = collection_content(anchor, tag, *implicit);
+                self.start_collection(&content, false, is_flow_sequence(*style), empty)
+            }
+            YAML_MAPPING_START_EVENT {
+                anchor,
+                tag,
+                implicit,
+                style,
+            } => {
+                let content = collection_content(anchor, tag, *implicit);
+                self.start_collection(&content, true, is_flow_mapping(*style), empty)
+            }
+            YAML_SEQUENCE_END_EVENT => self.end_collection(false),
+            YAML_MAPPING_END_EVENT => self.end_collection(true),
+            _ => Err(yaml_error_t::ExpectedNode),
+        }
+    }
+
+    fn put_alias(&mut self, name: &str) -> Result<(), yaml_error_t>
+        requires output { self.old.has_output ≡ true }
+        requires stage { is_at_node self.old.stage ≡ true }
+        requires names { name_or_tag_fault self.old.given.canonical (alias (chars name.now)) ≡ None }
+        ensures { (empty : Bool) → Processed (alias (chars name.now)) empty self.old self.new result }
+    {
+        let place = self.frames.next_place();
+        let simple = is_simple_alias_key(&self.settings, &place, name);
+        write_alias(&mut self.pen, &self.settings, &place, simple, name)?;
+        self.stage = self.frames.advance(simple);
+        Ok(())
+    }
+
+    fn put_scalar(&mut self, content: &ScalarContent) -> Result<(), yaml_error_t>
+        requires output { self.old.has_output ≡ true }
+        requires stage { is_at_node self.old.stage ≡ true }
+        requires names { name_or_tag_fault self.old.given.canonical (scalar (seen_scalar content.now)) ≡ None }
+        ensures { (empty : Bool) → Processed (scalar (seen_scalar content.now)) empty self.old self.new result }
+    {
+        if lacks_tag_and_flags(content, self.settings.canonical) {
+            return Err(yaml_error_t::NoTagNorImplicit);
+        }
+        let place = self.frames.next_place();
+        let simple = is_simple_scalar_key(&self.settings, &self.directives, &place, content);
+        self.mark = write_scalar(
+            &mut self.pen,
+            &self.settings,
+            &self.directives,
+            &place,
+            simple,
+            content,
+            self.mark,
+        )?;
+        self.stage = self.frames.advance(simple);
+        Ok(())
+    }
+
+    fn start_collection(
+        &mut self,
+        content: &CollectionContent,
+        mapping: bool,
+        flow_asked: bool,
+        empty: bool,
+    ) -> Result<(), yaml_error_t>
+        requires output { self.old.has_output ≡ true }
+        requires stage { is_at_node self.old.stage ≡ true }
+        requires names { name_or_tag_fault self.old.given.canonical (start_event mapping (seen_collection content.now any_layout)) ≡ None }
+        ensures { (style : CollectionStyle) → asks_flow style ≡ flow_asked → Processed (start_event mapping (seen_collection content.now style)) empty self.old self.new result }
+    {
+        if self.frames.is_full() {
+            return Err(yaml_error_t::TooDeep);
+        }
+        let place = self.frames.next_place();
+        let simple =
+            is_simple_collection_key(&self.settings, &self.directives, &place, content, empty);
+        write_collection_start(
+            &mut self.pen,
+            &self.settings,
+            &self.directives,
+            &place,
+            simple,
+            content,
+        )?;
+        let in_flow = is_written_in_flow(&self.settings, &place, flow_asked, empty);
+        let frame = opened_frame(&self.pen, &self.settings, &place, mapping, in_flow, simple);
+        self.frames.push(frame)?;
+        Ok(())
+    }
+
+    fn end_collection(&mut self, mapping: bool) -> Result<(), yaml_error_t>
+        requires output { self.old.has_output ≡ true }
+        requires stage { is_at_node self.old.stage ≡ true }
+        ensures { (empty : Bool) → Processed (end_event mapping) empty self.old self.new result }
+    {
+        if !self.frames.may_end(mapping) {
+            return Err(yaml_error_t::ExpectedNode);
+        }
+        match self.frames.pop() {
+            None => Err(yaml_error_t::ExpectedNode),
+            Some(frame) => {
+                let outer = self.frames.next_place();
+                write_collection_end(&mut self.pen, &self.settings, &outer, &frame, mapping)?;
+                self.stage = self.frames.advance(frame.simple);
+                Ok(())
+            }
+        }
+    }
+}
+
+/// A scalar without a tag needs a flag.
+fn lacks_tag_and_flags(content: &ScalarContent, canonical: bool) -> bool
+    ensures { result ≡ style.lacks_tag_and_flags (is_some (scalar_tag canonical (seen_scalar content.now))) content.now.plain_implicit content.now.quoted_implicit }
+{
+    let tag = written_scalar_tag(content, canonical);
+    !tag.is_some() && !content.plain_implicit && !content.quoted_implicit
+}
+
+fn scalar_content<'a, A: Allocator>(
+    anchor: &'a Option<String<A>>,
+    tag: &'a Option<String<A>>,
+    value: &'a String<A>,
+    plain_implicit: bool,
+    quoted_implicit: bool,
+    style: yaml_scalar_style_t,
+) -> ScalarContent<'a>
+    ensures { seen_scalar result
+        ≡ record {
+          anchor = option_map seen_text anchor.now;
+          tag = option_map seen_text tag.now;
+          value = seen_text value.now;
+          plain_implicit = plain_implicit;
+          quoted_implicit = quoted_implicit;
+          style = seen_scalar_style style;
+        } }
+{
+    ScalarContent {
+        anchor: borrowed_text(anchor),
+        tag: borrowed_text(tag),
+        value: value.as_str(),
+        plain_implicit,
+        quoted_implicit,
+        style,
+    }
+}
+
+fn is_flow_sequence(style: yaml_sequence_style_t) -> bool
+    ensures { result ≡ asks_flow (seen_sequence_style style) }
+{
+    matches!(style, YAML_FLOW_SEQUENCE_STYLE)
+}
+
+fn is_flow_mapping(style: yaml_mapping_style_t) -> bool
+    ensures { result ≡ asks_flow (seen_mapping_style style) }
+{
+    matches!(style, YAML_FLOW_MAPPING_STYLE)
+}
+
+fn collection_content<'a, A: Allocator>(
+    anchor: &'a Option<String<A>>,
+    tag: &'a Option<String<A>>,
+    implicit: bool,
+) -> CollectionContent<'a>
+    ensures { (style : CollectionStyle) → seen_collection result style ≡ record { anchor = option_map seen_text anchor.now; tag = option_map seen_text tag.now; implicit = implicit; style = style } }
+{
+    CollectionContent {
+        anchor: borrowed_text(anchor),
+        tag: borrowed_text(tag),
+        implicit,
+    }
+}
+
+/// The frame of a collection whose start is written.
+fn opened_frame<A: Allocator>(
+    pen: &Pen<A>,
+    settings: &EffectiveSettings,
+    place: &Place,
+    mapping: bool,
+    in_flow: bool,
+    simple: bool,
+) -> Frame
+    requires settings { IsInForce settings.now }
+    requires reach { IsWithinReach place.now.column }
+    ensures frame { seen_frame result
+        ≡ record {
+          place = entry_place in_flow (first_entry mapping) (layout.entries_column in_flow (is_undented mapping (seen_role place.now.role)) settings.now.indent place.now.column pen.now.cursor);
+          simple = simple;
+        } }
+    ensures nested { line_column (seen_frame result).place.column ≤ line_column place.now.column + 9 }
+{
+    let undented = !mapping && place.role.is_in_mapping();
+    let column = entries_column(pen, settings, place, in_flow, undented);
+    Frame {
+        place: Place {
+            in_flow,
+            role: first_entry(mapping),
+            column: Some(column),
+        },
+        simple,
+    }
+}
+
+fn first_entry(mapping: bool) -> Role
+    ensures { seen_role result ≡ first_entry mapping }
+{
+    if mapping {
+        Role::Key { first: true }
+    } else {
+        Role::Item { first: true }
+    }
+}
+
+fn write_collection_end<A: Allocator>(
+    pen: &mut Pen<A>,
+    settings: &EffectiveSettings,
+    outer: &Place,
+    frame: &Frame,
+    mapping: bool,
+) -> Result<(), yaml_error_t>
+    requires ready { IsReady pen.old }
+    requires reach { IsWithinReach outer.now.column }
+    ensures { (mark : ℕ) → Wrote (piece_at (end_piece (seen_effective settings.now) (brackets_of mapping) frame.now.place.in_flow (is_first (seen_role frame.now.place.role)) outer.now.column) mark) pen.old pen.new result }
+{
+    let empty = frame.place.role.is_first();
+    if mapping {
+        write_mapping_end(pen, settings, outer, frame.place.in_flow, empty)
+    } else {
+        write_sequence_end(pen, settings, outer, frame.place.in_flow, empty)
+    }
+}
