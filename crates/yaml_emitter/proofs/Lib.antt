@@ -34,3 +34,4 @@ pub mod CanonicalSound
 pub mod CanonicalStream
 pub mod Canonical
 pub mod NodesDone
+pub mod CanonicalOutput

@@ -15,3 +15,4 @@ pub mod Processing
 pub mod StandsAfter
 pub mod Promises
 pub mod NodeEvents
+pub mod Uncut

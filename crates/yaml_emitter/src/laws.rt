@@ -1,5 +1,9 @@
 //! Laws of layouts, each the contract of a function that does nothing.
+ghost use Rattle.std.specs.Prelude.{List};
+ghost use Rattle.yaml_base.specs.Event.{Event};
 ghost use Rattle.yaml_base.specs.Meaning.{CanonicalBytesRead, MeaningIsKept};
+ghost use Rattle.yaml_base.specs.Settings.{Settings};
+ghost use Rattle.yaml_emitter.specs.Uncut.{OutputReads, OutputTells};
 
 /// Every scalar in the layout of an accepted list reads back: its text, read by the rules of its style where it
 /// stands, is exactly its value, and each nonempty line of it after the first begins with at least two spaces.
@@ -11,4 +15,11 @@ pub fn meaning_is_kept()
 /// with the writers finds in them every document's version, directives, nodes, anchors, tags and values.
 pub fn canonical_bytes_read()
     ensures { CanonicalBytesRead }
+{}
+
+/// The output of an accepted list in canonical mode, where no limit cuts it, reads as the list's content: so under equal
+/// settings equal outputs come only from equal contents.
+pub fn canonical_output_reads()
+    ensures reads { (given : Settings) (events : List Event) → OutputReads given events }
+    ensures tells { (given : Settings) (first second : List Event) → OutputTells given first second }
 {}

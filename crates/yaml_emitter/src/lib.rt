@@ -15,4 +15,4 @@ mod settings;
 mod stage;
 mod writing;
 
-pub use laws::{canonical_bytes_read, meaning_is_kept};
+pub use laws::{canonical_bytes_read, canonical_output_reads, meaning_is_kept};
