@@ -11,11 +11,13 @@ use Rattle.yaml_tool.specs.declared.fields.Field.TheVariants as field
 use Rattle.yaml_tool.specs.declared.fields.Standing.{Standing}
 use Rattle.yaml_tool.specs.declared.fields.Standing.TheVariants.{Outside, Inside, Escaped}
 
+-- where a character of a line stands
 abbrev pub seen_standing : Standing → notation.Standing
 seen_standing Outside = outside
 seen_standing Inside = inside
 seen_standing Escaped = escaped
 
+-- a word by its characters, a text by what it stands for
 abbrev pub seen_field : {A : Type 0} → Field A → notation.Field
 seen_field (field.Word word) = bare (chars word.now)
 seen_field (field.Text text) = quoted (seen_text text)

@@ -8,6 +8,7 @@ use Rattle.yaml_tool.specs.Settings.{seen_setting}
 use Rattle.yaml_tool.specs.declared.lines.Line.{Line}
 use Rattle.yaml_tool.specs.declared.lines.Line.TheVariants.{Nothing, Sets, Gives}
 
+-- what a line says, without its strings' room
 abbrev pub seen_line : {A : Type 0} → Line A → notation.Line
 seen_line Nothing = says_nothing
 seen_line (Sets setting) = sets (seen_setting setting)

@@ -11,9 +11,11 @@ use Rattle.yaml_tool.specs.declared.scripts.ScriptError.TheVariants.{BadLine, Ou
 use Rattle.yaml_tool.specs.Cuts.{IsFree, IsCut}
 use Rattle.yaml_tool.specs.Settings.{seen_setting}
 
+-- an event and the number of its line
 abbrev pub seen_numbered : {A : Type 0} → NumberedEvent A → notation.Numbered
 seen_numbered numbered = record { line = numbered.line; event = seen_event numbered.event }
 
+-- the settings and events of the lines so far
 abbrev pub seen_progress : {A : Type 0} → Progress A → notation.Sofar
 seen_progress progress = record { settings = map seen_setting progress.settings.items; events = map seen_numbered progress.events.items }
 

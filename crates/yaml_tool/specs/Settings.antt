@@ -8,6 +8,7 @@ use Rattle.yaml_tool.specs.declared.settings.Setting.{Setting}
 use Rattle.yaml_tool.specs.declared.settings.Setting.TheVariants.{Limit, Encoding, Canonical, Unicode, Indent, Width, LineBreak, Breaks12}
 use Rattle.yaml_tool.specs.declared.settings.Settings.{Settings}
 
+-- a setting's line, its names as plain data
 abbrev pub seen_setting : Setting → notation.Setting
 seen_setting (Limit bytes) = limit_set bytes
 seen_setting (Encoding encoding) = encoding_set (seen_encoding encoding)
@@ -18,6 +19,7 @@ seen_setting (Width width) = width_set width
 seen_setting (LineBreak line_break) = break_set (seen_break line_break)
 seen_setting (Breaks12 on) = breaks12_set on
 
+-- all settings together, as an emitter takes them
 abbrev pub seen_settings : Settings → given.Settings
 seen_settings settings = record {
   encoding = seen_encoding settings.encoding;
