@@ -1,13 +1,12 @@
 -- Each event's work within a document, as a step of the emitter.
-use Rattle.std.proofs.Common.{◌≡◌, ◌==◌, ℕ, Bool, true, false, not, ◌&&◌, Option, None, Some, Result, Ok, Err, List, [], ◌∷◌, refl, sym, ap, subst, ◌∙◌}
+use Rattle.std.proofs.Common.{◌≡◌, ℕ, Bool, true, false, not, ◌&&◌, Option, None, Some, Result, Ok, Err, List, [], ◌∷◌, refl, sym, ap, subst, ◌∙◌}
 use Rattle.std.specs.Option.{option_or}
 use Rattle.yaml_base.specs.Characters.{Text}
 use Rattle.std.specs.Prelude.{nat_lt, length, is_some, option_and_then}
 use Rattle.yaml_base.specs.Cursor.{Cursor}
 use Rattle.yaml_base.specs.Settings.{Effective}
-use Rattle.yaml_base.specs.Errors.{refusal_number}
-use Rattle.yaml_base.specs.Event.{Event, TagDirective, Scalar, Collection, CollectionStyle, alias, scalar, sequence_end, mapping_end}
-use Rattle.yaml_base.specs.Layout.{Place, Brackets, square, curly, is_key, is_simple_alias, is_simple_scalar, is_simple_collection, alias_piece, scalar_piece, start_piece, end_piece, is_written_in_flow, entry_place, entries_column}
+use Rattle.yaml_base.specs.Event.{Event, TagDirective, Scalar, Collection, CollectionStyle, alias, scalar}
+use Rattle.yaml_base.specs.Layout.{Place, Brackets, is_key, is_simple_alias, is_simple_scalar, is_simple_collection, alias_piece, scalar_piece, start_piece, end_piece, is_written_in_flow, entry_place, entries_column}
 use Rattle.yaml_base.specs.Refusal.{name_or_tag_fault, scalar_tag, collection_tag, fault_if, expected_node, no_tag_nor_implicit, too_deep, most_open}
 use Rattle.yaml_base.specs.Style.{lacks_tag_and_flags}
 use Rattle.yaml_base.specs.Tags.{alias_fault, anchor_fault, tag_fault}
@@ -25,7 +24,7 @@ use Rattle.yaml_emitter.specs.Processing.{Processed, hands_out}
 use Rattle.yaml_pen.specs.Page.{encoded, told}
 use Rattle.yaml_emitter.specs.declared.stage.Stage as stage
 use Rattle.yaml_emitter.specs.declared.stage.Stage.TheVariants.{Stream, Document, Node, DocumentEnd, Nothing}
-use Rattle.yaml_base.specs.declared.errors.yaml_error_t.TheVariants.{ExpectedNode, NoTagNorImplicit, TooDeep, WriteError, Memory}
+use Rattle.yaml_base.specs.declared.errors.yaml_error_t.TheVariants.{ExpectedNode, NoTagNorImplicit, TooDeep, Memory}
 use Rattle.yaml_emitter.specs.declared.writing.marks.OpenMark.{OpenMark}
 use Rattle.yaml_emitter.specs.declared.emitter.yaml_emitter_t.TheInside.{Inside}
 use Rattle.yaml_emitter.proofs.KeptInside.{kept_writing, fits_ready}
@@ -294,12 +293,15 @@ start_written before directives frames mapping start empty simple in_flow place 
     in_stream : (mapping : Bool) → IsInStream (start_event mapping start)
     in_stream true = tt
     in_stream false = tt
+
     hands : (mapping : Bool) → hands_out (start_event mapping start) ≡ true → page.output ≡ encoded page
     hands true is = cc
     hands false is = cc
+
     mark_by : (mapping : Bool) → before.mark ≡ (step before.settings (at_node directives frames) (start_event mapping start) empty (record { cursor = before.page.cursor; mark = before.mark })).laid.standing.mark
     mark_by true = refl
     mark_by false = refl
+
     stage_by : (mapping : Bool) → at_node directives (opened before.settings mapping (is_written_in_flow before.settings (next_place frames) start empty) (start_simple before.settings directives start empty (next_place frames)) (next_place frames) (step before.settings (at_node directives frames) (start_event mapping start) empty (record { cursor = before.page.cursor; mark = before.mark })).laid.standing.cursor ∷ frames)
         ≡ (step before.settings (at_node directives frames) (start_event mapping start) empty (record { cursor = before.page.cursor; mark = before.mark })).stage
     stage_by true = refl
@@ -363,12 +365,15 @@ end_written before directives frame outer mapping empty column after page at all
     in_stream : (mapping : Bool) → IsInStream (end_event mapping)
     in_stream true = tt
     in_stream false = tt
+
     hands : (mapping : Bool) → hands_out (end_event mapping) ≡ true → page.output ≡ encoded page
     hands true is = cc
     hands false is = cc
+
     mark_by : (mapping : Bool) → before.mark ≡ (step before.settings (at_node directives (frame ∷ outer)) (end_event mapping) empty (record { cursor = before.page.cursor; mark = before.mark })).laid.standing.mark
     mark_by true = refl
     mark_by false = refl
+
     stage_by : (mapping : Bool) → stage_after directives outer frame.simple
         ≡ (step before.settings (at_node directives (frame ∷ outer)) (end_event mapping) empty (record { cursor = before.page.cursor; mark = before.mark })).stage
     stage_by true = refl

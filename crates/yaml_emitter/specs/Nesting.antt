@@ -1,5 +1,5 @@
 -- The open collections of a document, and how far in each stands.
-use Rattle.std.specs.Prelude.{ℕ, ◌+◌, ◌*◌, ◌≤◌, ◌≡◌, Bool, Option, None, Some, List, [], ◌∷◌, length, map, reverse}
+use Rattle.std.specs.Prelude.{◌+◌, ◌*◌, ◌≤◌, ◌≡◌, Bool, Option, None, Some, List, [], ◌∷◌, length, map, reverse}
 use Rattle.yaml_base.specs.Layout.{line_column}
 use Rattle.yaml_base.specs.Refusal.{most_open}
 use Rattle.yaml_base.specs.Steps.{Frame, place_after}

@@ -30,8 +30,9 @@ use crate::writing::{
 use std::alloc::Allocator;
 use yaml_base::{
     YAML_ALIAS_EVENT, YAML_FLOW_MAPPING_STYLE, YAML_FLOW_SEQUENCE_STYLE, YAML_MAPPING_END_EVENT,
-    YAML_MAPPING_START_EVENT, YAML_SCALAR_EVENT, YAML_SEQUENCE_END_EVENT, YAML_SEQUENCE_START_EVENT,
-    yaml_error_t, yaml_event_t, yaml_mapping_style_t, yaml_scalar_style_t, yaml_sequence_style_t,
+    YAML_MAPPING_START_EVENT, YAML_SCALAR_EVENT, YAML_SEQUENCE_END_EVENT,
+    YAML_SEQUENCE_START_EVENT, yaml_error_t, yaml_event_t, yaml_mapping_style_t,
+    yaml_scalar_style_t, yaml_sequence_style_t,
 };
 use yaml_pen::Pen;
 
@@ -141,8 +142,13 @@ impl<A: Allocator + Copy> yaml_emitter_t<A> {
             return Err(yaml_error_t::TooDeep);
         }
         let place = self.frames.next_place();
-        let simple =
-            is_simple_collection_key(&self.settings, &self.directives, &place, content, empty);
+        let simple = is_simple_collection_key(
+            &self.settings,
+            &self.directives,
+            &place,
+            content,
+            empty,
+        );
         write_collection_start(
             &mut self.pen,
             &self.settings,

@@ -1,4 +1,4 @@
-//! What may come next in a stream, and what is refused there.
+//! What may come next in a stream.
 
 /// What comes next.
 #[derive(Clone, Copy)]

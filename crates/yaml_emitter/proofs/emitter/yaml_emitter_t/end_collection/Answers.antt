@@ -1,6 +1,6 @@
-use Rattle.std.proofs.Common.{true, false, refl, ap, sym, ◌∙◌, ◌∷◌}
+use Rattle.std.proofs.Common.{ap, ◌∙◌}
 use Rattle.yaml_base.specs.Layout.{Place}
-use Rattle.yaml_base.specs.Steps.{at_node, node_allowed}
+use Rattle.yaml_base.specs.Steps.{at_node}
 use Rattle.yaml_emitter.specs.Inside.{state_of}
 use Rattle.yaml_emitter.specs.NodeEvents.{end_event}
 use Rattle.yaml_emitter.specs.Places.{seen_frame}

@@ -1,8 +1,7 @@
-use Rattle.std.proofs.Common.{false, refl}
 use Rattle.std.specs.Prelude.{chars}
 use Rattle.yaml_base.specs.Event.{alias}
 use Rattle.yaml_emitter.specs.Inside.{state_of}
-use Rattle.yaml_emitter.proofs.KeptInside.{fits_ready, kept_writing, has_output_inside}
+use Rattle.yaml_emitter.proofs.KeptInside.{has_output_inside}
 use Rattle.yaml_emitter.proofs.ProcessedBy.{processed_exit}
 use Rattle.yaml_emitter.proofs.WritingNames.{sound_alias}
 use Rattle.yaml_emitter.proofs.NodesDone.{at_node_inside, seen_at_node, ready_inside, kept_at_node, kept_advancing, alias_cut, alias_written}

@@ -1,4 +1,4 @@
-use Rattle.std.proofs.Common.{true, false, refl, ap, sym, ◌∙◌}
+use Rattle.std.proofs.Common.{true, false}
 use Rattle.yaml_base.specs.Event.{scalar}
 use Rattle.yaml_emitter.specs.BorrowedTexts.{seen_scalar}
 use Rattle.yaml_emitter.specs.Inside.{state_of}

@@ -1,4 +1,3 @@
-use Rattle.std.proofs.Common.{true, false, refl, ap, sym, ◌∙◌, ◌∷◌}
 use Rattle.std.specs.Prelude.{length, nat_lt}
 use Rattle.yaml_base.specs.Event.{any_layout}
 use Rattle.yaml_base.specs.Refusal.{most_open}
@@ -10,7 +9,7 @@ use Rattle.yaml_emitter.specs.Places.{seen_frame, seen_place}
 use Rattle.yaml_emitter.specs.Stages.{seen_stage}
 use Rattle.yaml_emitter.proofs.KeptInside.{has_output_inside}
 use Rattle.yaml_emitter.proofs.ProcessedBy.{exit_by_memory, processed_exit}
-use Rattle.yaml_emitter.proofs.NodesDone.{at_node_inside, seen_at_node, ready_inside, kept_at_node, names_inside, of_any_style, collection_anchor, room_here, full_here, pushed_at_node, start_refused, start_cut, start_unkept, start_written}
+use Rattle.yaml_emitter.proofs.NodesDone.{at_node_inside, seen_at_node, kept_at_node, names_inside, of_any_style, collection_anchor, room_here, full_here, pushed_at_node, start_refused, start_cut, start_unkept, start_written}
 use Rattle.yaml_emitter.proofs.emitter.yaml_emitter_t.start_collection.Goals as goal
 
 pub returns-then-is_full : goal.returns-then-is_full
