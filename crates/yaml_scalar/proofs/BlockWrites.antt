@@ -1,20 +1,17 @@
 -- The calls of a block scalar's writer make up its layout.
 use Rattle.std.proofs.Common.{◌≡◌, refl, sym, ap, ◌∙◌, append_assoc}
-use Rattle.std.specs.Prelude.{ℕ, Bool, true, false, [], ◌∷◌, ◌++◌, Option, Ok, Err}
+use Rattle.std.specs.Prelude.{ℕ, Bool, true, false, [], ◌∷◌, ◌++◌, Option}
 use Rattle.std.proofs.lemmas.Bool.{false≢true}
 use Rattle.yaml_base.specs.Analysis.{is_empty}
 use Rattle.yaml_base.specs.Characters.{Text}
-use Rattle.yaml_base.specs.Cursor.{Cursor, Laid, nothing_laid, then_laid, text_laid, space_if, indicator}
+use Rattle.yaml_base.specs.Cursor.{Cursor, Laid, then_laid, text_laid, space_if, indicator}
 use Rattle.yaml_base.specs.BlockHeader.{hints_laid, header_laid}
 use Rattle.yaml_base.specs.Literal.{literal_laid}
 use Rattle.yaml_base.specs.Folded.{folded_laid}
-use Rattle.yaml_base.specs.declared.errors.yaml_error_t.{yaml_error_t}
 use Rattle.yaml_pen.specs.Page.{Page}
-use Rattle.yaml_pen.specs.Wrote.{Wrote}
-use Rattle.yaml_pen.proofs.Composing.{wrote_as, wrote_then, wrote_failed}
 use Rattle.yaml_scalar.specs.declared.block_lines.Place.{Place}
 use Rattle.yaml_scalar.specs.declared.block_lines.Place.TheVariants.{LineStart}
-use Rattle.yaml_scalar.specs.BlockSteps.{place_after, step_laid, lines_from, sign_of, separated_header, header_end, block_laid}
+use Rattle.yaml_scalar.specs.BlockSteps.{lines_from, sign_of, separated_header, header_end, block_laid}
 use Rattle.yaml_scalar.proofs.StillToWrite.{StillToWrite}
 use Rattle.yaml_scalar.proofs.BlockSteps.{literal-lines-from, folded-lines-from}
 

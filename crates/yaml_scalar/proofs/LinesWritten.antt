@@ -1,10 +1,10 @@
 -- What the parts of a step write is the step's text, and steps one after another are the lines.
-use Rattle.std.proofs.Common.{◌≡◌, refl, sym, ap, subst, ℕ, [], ◌∷◌, ◌++◌, Bool, true, false, Ok, Err, Result}
+use Rattle.std.proofs.Common.{◌≡◌, refl, sym, ap, subst, ℕ, [], ◌∷◌, ◌++◌, Bool, true, false, Result}
 use Rattle.std.specs.Prelude.{Option, ◌==◌, ◌||◌, ◌&&◌, not, if◌then◌else◌}
 use Rattle.std.proofs.lemmas.Bool.{eqb-true}
 use Rattle.yaml_base.specs.Analysis.{is_empty}
 use Rattle.yaml_base.specs.Characters.{Text, is_break, is_space, line_feed, space}
-use Rattle.yaml_base.specs.Cursor.{Cursor, Laid, indicator, is_past_width, nothing_laid, space_if, text_laid, then_laid}
+use Rattle.yaml_base.specs.Cursor.{Cursor, Laid, indicator, is_past_width, space_if, text_laid, then_laid}
 use Rattle.yaml_base.specs.Plain.{Kind, spaces, breaks, others, kind_of, indentation, is_same_kind, runs, runs_laid}
 use Rattle.yaml_base.specs.SingleQuoted.{quotes_doubled, single_quote, single_quoted_laid}
 use Rattle.yaml_base.specs.declared.errors.yaml_error_t.{yaml_error_t}
