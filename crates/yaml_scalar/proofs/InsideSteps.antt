@@ -10,7 +10,7 @@ use Rattle.yaml_base.specs.DoubleQuoted.{double_character, double_inside}
 use Rattle.yaml_base.specs.declared.errors.yaml_error_t.{yaml_error_t}
 use Rattle.yaml_pen.specs.Page.{Page}
 use Rattle.yaml_pen.specs.Wrote.{Wrote}
-use Rattle.yaml_scalar.proofs.StillToWrite.{StillToWrite, still_failed, still_rest}
+use Rattle.yaml_scalar.proofs.StillToWrite.{StillToWrite, still_failed, still_rest, still_same}
 
 -- what is still to be written between the quotes: these bytes' characters, after a character or at the start
 abbrev pub StillInside : (unicode : Bool) (limit : Option ℕ) (indent : ℕ) (value : Text) (before : Option ℕ) (bytes : List ℕ) (start here : Page) → Type 0
@@ -21,10 +21,7 @@ first_still : (unicode : Bool) (limit : Option ℕ) (indent : ℕ) (value : Text
     → IsUtf8 old → old ≡ encode_utf8 c ++ new → StillInside unicode limit indent value before old start here
     → StillToWrite (double_inside unicode limit indent before (c ∷ chars new)) (double_inside unicode limit indent None value) start here
 first_still unicode limit indent value before c old new start here is_text e still =
-    subst
-    (λ (t : Text). StillToWrite (double_inside unicode limit indent before t) (double_inside unicode limit indent None value) start here)
-    (chars_past_char old new c is_text e)
-    still
+    still_same (double_inside unicode limit indent before) (chars_past_char old new c is_text e) still
 
 -- a character that was written leaves the rest
 pub inside_more : (unicode : Bool) (limit : Option ℕ) (indent : ℕ) (value : Text) (before : Option ℕ) (c : ℕ) (old new rest : List ℕ) (start here after : Page)
@@ -53,9 +50,5 @@ pub inside_whole : (unicode : Bool) (limit : Option ℕ) (indent : ℕ) (value :
     → Wrote nothing_laid here after answer
     → Wrote (double_inside unicode limit indent None value) start after answer
 inside_whole unicode limit indent value before old start here after answer e still wrote =
-    let ended =
-    subst
-    (λ (t : Text). StillToWrite (double_inside unicode limit indent before t) (double_inside unicode limit indent None value) start here)
-    (ap chars (nil_from_length old e) ∙ chars-nil)
-    still in
+    let ended = still_same (double_inside unicode limit indent before) (ap chars (nil_from_length old e) ∙ chars-nil) still in
     ended.writes after answer wrote

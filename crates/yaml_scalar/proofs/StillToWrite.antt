@@ -1,5 +1,7 @@
 -- A loop that writes: what is still to be written after what has been.
+use Rattle.std.proofs.Common.{◌≡◌, subst}
 use Rattle.std.specs.Prelude.{Result, Ok, Err}
+use Rattle.yaml_base.specs.Characters.{Text}
 use Rattle.yaml_base.specs.Cursor.{Cursor, Laid, then_laid}
 use Rattle.yaml_base.specs.declared.errors.yaml_error_t.{yaml_error_t}
 use Rattle.yaml_pen.proofs.Composing.{wrote_failed, wrote_then}
@@ -26,3 +28,8 @@ pub still_failed : {first whole : Cursor → Laid} {start here after : Page} {er
     → StillToWrite (λ cursor. then_laid (first cursor) next) whole start here → Wrote first here after (Err error)
     → Wrote whole start after (Err error)
 still_failed {first} {whole} {start} {here} {after} {error} next still step = still.writes after (Err error) (wrote_failed next step)
+
+-- what is left of a text, called by another name
+pub still_same : (layout : Text → Cursor → Laid) {old new : Text} {whole : Cursor → Laid} {start here : Page}
+    → old ≡ new → StillToWrite (layout old) whole start here → StillToWrite (layout new) whole start here
+still_same layout {old} {new} {whole} {start} {here} is still = subst (λ (t : Text). StillToWrite (layout t) whole start here) is still
