@@ -1,5 +1,5 @@
 -- Reading canonical bytes back, without any word of what writes them: bytes to characters, characters to tokens, tokens
--- to contents (YAML 1.1, sections 5.2, 6.8 and 7.4, in flow style and double quotes alone).
+-- to contents (YAML 1.1, section 5.2 and chapters 7 to 10, in flow style and double quotes alone).
 --     canonical_content breaks12 bytes      the documents' contents, or nothing
 use Rattle.std.specs.Prelude.{ℕ, zero, suc, pos, Bool, true, false, Option, None, Some, List, [], ◌∷◌, ◌++◌, ◌==◌, ◌||◌, ◌&&◌, ◌+◌, ◌*◌, not, length, filter, fold, codes, chars, bytes_eq, option_map, option_and_then, is_some, if◌then◌else◌}
 use Rattle.std.specs.List.{slice_split}
@@ -46,6 +46,7 @@ characters_read bytes = utf8_read bytes
 
 -- ---- characters to tokens
 
+-- the words of a canonical stream, a line for each; bad is a fault of the text
 pub data Token : Type 0 where
   version_line : Version → Token
   tag_line : TagDirective → Token
@@ -80,9 +81,11 @@ pub record Turn : Type 0 where
   pub tokens : List Token
   pub place : TokenPlace
 
+-- a character that ends no token
 abbrev pub goes_to : TokenPlace → Turn
 goes_to place = record { tokens = []; place = place }
 
+-- a character that ends a token
 abbrev pub completes : Token → Turn
 completes token = record { tokens = token ∷ []; place = free }
 
@@ -95,6 +98,7 @@ abbrev pub anchor_named : Text → Token
 anchor_named [] = bad
 anchor_named (c ∷ rest) = anchor_token (c ∷ rest)
 
+-- an alias has a name of at least one character
 abbrev pub alias_named : Text → Token
 alias_named [] = bad
 alias_named (c ∷ rest) = alias_token (c ∷ rest)
@@ -105,7 +109,7 @@ ends_handle [] = false
 ends_handle (c ∷ []) = c == 0x21
 ends_handle (c ∷ d ∷ rest) = is_alpha c && ends_handle (d ∷ rest)
 
--- `!`, or the anchor alphabet between two `!` (section 6.8.2)
+-- `!`, or the anchor alphabet between two `!` (section 7.1.2.2)
 abbrev pub is_handle : Text → Bool
 is_handle [] = false
 is_handle (c ∷ rest) = c == 0x21 && (length rest == 0 || ends_handle rest)
@@ -114,12 +118,13 @@ is_handle (c ∷ rest) = c == 0x21 && (length rest == 0 || ends_handle rest)
 abbrev pub words : Text → List Text
 words line = filter (λ word. not (length word == 0)) (slice_split is_blank line)
 
--- `%YAML 1.1` and `%YAML 1.2` (section 6.8.1)
+-- `%YAML 1.1` and `%YAML 1.2` (section 7.1.1)
 abbrev pub version_named : Text → Token
 version_named word =
     if bytes_eq word (codes "1.1") then version_line (record { major = pos 1; minor = pos 1 })
     else (if bytes_eq word (codes "1.2") then version_line (record { major = pos 1; minor = pos 2 }) else bad)
 
+-- a `%TAG` line, whose handle is well-formed and whose prefix is decoded
 abbrev pub tag_line_of : Text → Option Text → Token
 tag_line_of handle None = bad
 tag_line_of handle (Some prefix) = if is_handle handle then tag_line (record { handle = handle; prefix = prefix }) else bad
@@ -131,6 +136,7 @@ directive_token (name ∷ handle ∷ prefix ∷ []) =
     if bytes_eq name (codes "%TAG") then tag_line_of handle (percent_decoded prefix) else bad
 directive_token _ = bad
 
+-- the document mark of three `-` or of three `.`
 abbrev pub mark_token : ℕ → Token
 mark_token sign = if sign == 0x2D then document_begins else document_ends
 
@@ -159,6 +165,7 @@ quotes_turn units (gives unit) = goes_to (in_quotes between (units ++ unit ∷ [
 quotes_turn units ends_quotes = completes (scalar_token (folding_read units))
 quotes_turn units has_no_reading = completes bad
 
+-- one more `-` or `.` of a document mark, of which so many are still to come
 abbrev pub mark_turn : (sign more : ℕ) → Turn
 mark_turn sign zero = completes (mark_token sign)
 mark_turn sign (suc more) = goes_to (in_mark sign more)
@@ -216,6 +223,7 @@ pub data Reading : Type 0 where
   outside : List DocumentContent → Head → (may_end : Bool) → Reading
   within : List DocumentContent → Head → List OpenContent → Awaited → Reading
 
+-- nothing said before `---`
 abbrev pub no_head : Head
 no_head = record { version = None; directives = [] }
 
@@ -289,6 +297,7 @@ token_read failed token = failed
 token_read (outside documents head may_end) token = outside_read documents head may_end token
 token_read (within documents head levels awaited) token = within_read documents head levels awaited token
 
+-- the documents read, where no directive waits for a document
 abbrev pub without_head : List DocumentContent → Option Version → List TagDirective → Option (List DocumentContent)
 without_head documents None [] = Some documents
 without_head documents _ _ = None

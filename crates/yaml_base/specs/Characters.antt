@@ -1,4 +1,4 @@
--- Texts, the classes of characters (YAML 1.1, sections 5.1 to 5.5) and the escapes of double quotes (section 5.7).
+-- Texts, the classes of characters (YAML 1.1, sections 5.1 to 5.5) and the escapes of double quotes (section 5.6).
 use Rattle.std.specs.Prelude.{ℕ, zero, suc, Bool, List, [], ◌∷◌, ◌++◌, ◌==◌, ◌||◌, ◌&&◌, ◌+◌, ◌/◌, ◌%◌, not, nat_le, nat_lt, if◌then◌else◌}
 use Rattle.std.specs.List.{list_any}
 
@@ -14,6 +14,7 @@ is_among text character = list_any (λ member. character == member) text
 abbrev pub is_between : ℕ → ℕ → ℕ → Bool
 is_between first last character = nat_le first character && nat_le character last
 
+-- Characters by their names.
 abbrev pub line_feed : ℕ
 line_feed = 0xA
 
@@ -42,18 +43,23 @@ tab = 0x9
 abbrev pub is_alpha : ℕ → Bool
 is_alpha c = is_between 48 57 c || is_between 65 90 c || is_between 97 122 c || c == 95 || c == 45
 
+-- up to U+007F
 abbrev pub is_ascii : ℕ → Bool
 is_ascii c = nat_le c 0x7F
 
+-- the space, and not the tab
 abbrev pub is_space : ℕ → Bool
 is_space c = c == space
 
+-- a space or a tab (section 5.5)
 abbrev pub is_blank : ℕ → Bool
 is_blank c = c == space || c == tab
 
+-- a line break of YAML 1.1 (section 5.4)
 abbrev pub is_break : ℕ → Bool
 is_break c = c == line_feed || c == carriage_return || c == next_line || c == line_separator || c == paragraph_separator
 
+-- the byte order mark (section 5.2)
 abbrev pub is_bom : ℕ → Bool
 is_bom c = c == byte_order_mark
 

@@ -26,11 +26,13 @@ mutual
     no_content_pairs : ContentPairs
     content_pairs_and : ContentPairs → Content → Content → ContentPairs
 
+-- a document's version, directives and tree
 pub record DocumentContent : Type 0 where
   pub version : Option Version
   pub directives : List TagDirective
   pub root : Content
 
+-- a scalar with its tag, or one whose flag for quoted styles tells whether the bare tag stands before it
 abbrev pub scalar_tag : Option Text → Bool → ScalarTag
 scalar_tag (Some tag) quoted_implicit = tagged tag
 scalar_tag None quoted_implicit = untagged quoted_implicit
@@ -51,10 +53,12 @@ abbrev mutual
   pairs_content no_pairs = no_content_pairs
   pairs_content (pairs_and pairs key value) = content_pairs_and (pairs_content pairs) (node_content key) (node_content value)
 
+-- the content of a document
 abbrev pub document_content : Document → DocumentContent
 document_content document =
     record { version = document.start.version; directives = document.start.directives; root = node_content document.root }
 
+-- the contents of some documents, in order
 abbrev pub documents_content : Documents → List DocumentContent
 documents_content no_documents = []
 documents_content (documents_and documents document) = documents_content documents ++ document_content document ∷ []

@@ -18,6 +18,7 @@ pub record Laid : Type 0 where
 abbrev pub first_cursor : Cursor
 first_cursor = record { column = 0; whitespace = true; indention = true }
 
+-- no text, the cursor as it was
 abbrev pub nothing_laid : Cursor → Laid
 nothing_laid cursor = record { text = []; cursor = cursor }
 

@@ -5,7 +5,7 @@ use Rattle.yaml_base.specs.declared.errors.yaml_error_t.TheVariants.{ExpectedStr
 use Rattle.yaml_base.specs.declared.errors.yaml_error_type_t.{yaml_error_type_t}
 use Rattle.yaml_base.specs.declared.errors.yaml_error_type_t.TheVariants.{YAML_MEMORY_ERROR, YAML_WRITER_ERROR, YAML_EMITTER_ERROR}
 
--- a refusal's number: 1 to 19 for events that can't be written, 20 for the output's limit, 21 for memory
+-- a refusal's number, a line for each: 1 to 19 for events that can't be written, 20 for the output's limit, 21 for memory
 abbrev pub refusal_number : yaml_error_t → ℕ
 refusal_number ExpectedStreamStart = 1
 refusal_number ExpectedDocumentStart = 2
@@ -35,7 +35,7 @@ kind_of WriteError = YAML_WRITER_ERROR
 kind_of Memory = YAML_MEMORY_ERROR
 kind_of _ = YAML_EMITTER_ERROR
 
--- a refusal in words; a refused growth has none
+-- a refusal in words, a line for each; a refused growth has none
 abbrev pub problem_text : yaml_error_t → List ℕ
 problem_text ExpectedStreamStart = codes "expected STREAM-START"
 problem_text ExpectedDocumentStart = codes "expected DOCUMENT-START or STREAM-END"

@@ -1,8 +1,9 @@
--- Events and their parts as plain data (the event grammar of YAML 1.1, section 3.2.1, as libyaml has it).
+-- Events and their parts as plain data (the serialization tree of YAML 1.1, section 3.2.2, in libyaml's events).
 use Rattle.std.specs.Prelude.{ℤ, Bool, Option, List}
 use Rattle.yaml_base.specs.Characters.{Text}
 use Rattle.yaml_base.specs.Settings.{Encoding}
 
+-- how a scalar is to be written (chapter 9)
 pub data ScalarStyle : Type 0 where
   any_style : ScalarStyle
   plain : ScalarStyle
@@ -11,24 +12,29 @@ pub data ScalarStyle : Type 0 where
   literal : ScalarStyle
   folded : ScalarStyle
 
+-- how a sequence or mapping is to be written (chapter 10)
 pub data CollectionStyle : Type 0 where
   any_layout : CollectionStyle
   block : CollectionStyle
   flow : CollectionStyle
 
+-- the version of a `%YAML` directive (section 7.1.1)
 pub record Version : Type 0 where
   pub major : ℤ
   pub minor : ℤ
 
+-- a handle, and the prefix that it stands for (section 7.1.2)
 pub record TagDirective : Type 0 where
   pub handle : Text
   pub prefix : Text
 
+-- what begins a document; implicit asks for no `---`
 pub record DocumentStart : Type 0 where
   pub version : Option Version
   pub directives : List TagDirective
   pub implicit : Bool
 
+-- a scalar; its flags say where its tag may be left out: written plain, or in any other style
 pub record Scalar : Type 0 where
   pub anchor : Option Text
   pub tag : Option Text
@@ -44,6 +50,7 @@ pub record Collection : Type 0 where
   pub implicit : Bool
   pub style : CollectionStyle
 
+-- the events of a stream, in the order in which they are given
 pub data Event : Type 0 where
   stream_start : Option Encoding → Event
   stream_end : Event

@@ -1,4 +1,4 @@
--- Trees of events, and their events in order (YAML 1.1, section 3.2.1, and libyaml's event grammar).
+-- Trees of events, and their events in order (YAML 1.1, section 3.2.2, and libyaml's event grammar).
 use Rattle.std.specs.Prelude.{◌≡◌, Bool, Option, None, Some, List, [], ◌∷◌, ◌++◌, option_and_then}
 use Rattle.yaml_base.specs.Characters.{Text}
 use Rattle.yaml_base.specs.Settings.{Encoding}
@@ -31,6 +31,7 @@ pub data Documents : Type 0 where
   no_documents : Documents
   documents_and : Documents → Document → Documents
 
+-- a stream: its encoding and its documents
 pub record Stream : Type 0 where
   pub encoding : Option Encoding
   pub documents : Documents
@@ -51,14 +52,17 @@ abbrev mutual
   pairs_events no_pairs = []
   pairs_events (pairs_and pairs key value) = pairs_events pairs ++ (node_events key ++ node_events value)
 
+-- a document's events
 abbrev pub document_events : Document → List Event
 document_events document =
     document_start document.start ∷ (node_events document.root ++ document_end document.end_implicit ∷ [])
 
+-- the events of some documents, in order
 abbrev pub documents_events : Documents → List Event
 documents_events no_documents = []
 documents_events (documents_and documents document) = documents_events documents ++ document_events document
 
+-- a stream's events
 abbrev pub stream_events : Stream → List Event
 stream_events stream = stream_start stream.encoding ∷ (documents_events stream.documents ++ stream_end ∷ [])
 
@@ -119,6 +123,7 @@ push (after_root encoding documents start root) (document_end implicit) =
     (documents_and documents (record { start = start; root = root; end_implicit = implicit })))
 push _ _ = None
 
+-- a partial tree after some more events, where each of them may stand
 abbrev pub pushed : Partial → List Event → Option Partial
 pushed partial [] = Some partial
 pushed partial (event ∷ events) = option_and_then (λ next. pushed next events) (push partial event)
@@ -127,6 +132,7 @@ pushed partial (event ∷ events) = option_and_then (λ next. pushed next events
 abbrev pub partial_of : List Event → Option Partial
 partial_of events = pushed before_stream events
 
+-- the stream, where it has ended
 abbrev pub finished : Partial → Option Stream
 finished (after_stream stream) = Some stream
 finished _ = None

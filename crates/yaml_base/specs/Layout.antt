@@ -1,4 +1,4 @@
--- The text of a stream, one piece for each event (libyaml's own rules; YAML 1.1, chapters 3 and 6, for the signs).
+-- The text of a stream, one piece for each event (libyaml's own rules; YAML 1.1, chapter 7, for the signs).
 use Rattle.std.specs.Prelude.{◌≡◌, Bool, true, false, Option, None, Some, List, [], ◌∷◌, ◌==◌, ◌||◌, ◌&&◌, not, length, codes, is_some, pos, if◌then◌else◌}
 use Rattle.std.specs.Ordering.{int_eq}
 use Rattle.yaml_base.specs.Characters.{Text}
@@ -19,6 +19,7 @@ sign_laid sign cursor = indicator sign true false false cursor
 abbrev pub line_ended : Laid → Laid
 line_ended laid = then_laid laid (new_line 0)
 
+-- text that is laid only where a test holds
 abbrev pub laid_if : Bool → (Cursor → Laid) → Cursor → Laid
 laid_if true next cursor = next cursor
 laid_if false next cursor = nothing_laid cursor
@@ -27,14 +28,17 @@ laid_if false next cursor = nothing_laid cursor
 abbrev pub closing_mark_laid : Cursor → Laid
 closing_mark_laid cursor = line_ended (sign_laid (codes "...") cursor)
 
+-- a version as `%YAML` names it
 abbrev pub version_text : Version → Text
 version_text version = if int_eq version.minor (pos 2) then codes "1.2" else codes "1.1"
 
+-- the `%YAML` line (section 7.1.1)
 abbrev pub version_laid : Option Version → Cursor → Laid
 version_laid None cursor = nothing_laid cursor
 version_laid (Some version) cursor =
     line_ended (then_laid (sign_laid (codes "%YAML") cursor) (sign_laid (version_text version)))
 
+-- a `%TAG` line (section 7.1.2)
 abbrev pub tag_directive_laid : TagDirective → Cursor → Laid
 tag_directive_laid directive cursor =
     line_ended
@@ -42,11 +46,13 @@ tag_directive_laid directive cursor =
     (then_laid (sign_laid (codes "%TAG") cursor) (handle_laid directive.handle))
     (handle_laid (percent_escaped directive.prefix)))
 
+-- the `%TAG` lines, in order
 abbrev pub tag_directives_laid : List TagDirective → Cursor → Laid
 tag_directives_laid [] cursor = nothing_laid cursor
 tag_directives_laid (directive ∷ rest) cursor =
     then_laid (tag_directive_laid directive cursor) (tag_directives_laid rest)
 
+-- a document says its version or gives a handle
 abbrev pub has_directives : DocumentStart → Bool
 has_directives start = is_some start.version || not (length start.directives == 0)
 
@@ -54,6 +60,7 @@ has_directives start = is_some start.version || not (length start.directives == 
 abbrev pub is_explicit : Bool → (first : Bool) → DocumentStart → Bool
 is_explicit canonical first start = not start.implicit || not first || canonical || has_directives start
 
+-- `---` on a new line, and in canonical mode a new line after it (section 7.2)
 abbrev pub document_mark_laid : Bool → Cursor → Laid
 document_mark_laid canonical cursor =
     then_laid (then_laid (new_line 0 cursor) (sign_laid (codes "---"))) (laid_if canonical (new_line 0))
@@ -69,6 +76,7 @@ document_start_laid canonical first start standing =
     (tag_directives_laid start.directives))
     (laid_if (is_explicit canonical first start) (document_mark_laid canonical))
 
+-- a document's start as a piece
 abbrev pub document_start_piece : Bool → (first : Bool) → DocumentStart → Standing → PieceLaid
 document_start_piece canonical first start standing =
     lead_alone 0 (document_start_laid canonical first start standing)
@@ -79,9 +87,11 @@ document_end_piece true standing =
     lead_alone (if standing.mark == 0 then 1 else standing.mark) (new_line 0 standing.cursor)
 document_end_piece false standing = lead_alone 0 (then_laid (new_line 0 standing.cursor) closing_mark_laid)
 
+-- the root stands in a block, at no indentation
 abbrev pub root_place : Place
 root_place = record { in_flow = false; role = as_root; column = None }
 
+-- a document: its start, its root, its end
 abbrev pub document_laid : Effective → (first : Bool) → Document → Standing → PiecesLaid
 document_laid s first document standing =
     then_pieces
@@ -89,15 +99,18 @@ document_laid s first document standing =
     (node_laid document.root s (directives_in_force document.start.directives) root_place))
     (λ after. one_piece (document_end_piece document.end_implicit after))
 
+-- whether the next document is the first
 abbrev pub has_no_documents : Documents → Bool
 has_no_documents no_documents = true
 has_no_documents (documents_and before document) = false
 
+-- some documents, in order
 abbrev pub documents_laid : Effective → Documents → Standing → PiecesLaid
 documents_laid s no_documents standing = no_pieces standing
 documents_laid s (documents_and documents document) standing =
     then_pieces (documents_laid s documents standing) (document_laid s (has_no_documents documents) document)
 
+-- where a stream begins: column 0, nothing open
 abbrev pub first_standing : Standing
 first_standing = record { cursor = first_cursor; mark = 0 }
 
@@ -117,6 +130,7 @@ stream_laid s stream =
     (then_pieces (one_piece (stream_start_piece first_standing)) (documents_laid s stream.documents))
     (λ after. one_piece (stream_end_piece after))
 
+-- the pieces of a stream, one for each event
 abbrev pub layout : Effective → Stream → List Piece
 layout s stream = (stream_laid s stream).pieces
 

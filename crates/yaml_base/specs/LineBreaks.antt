@@ -3,6 +3,7 @@ use Rattle.std.specs.Prelude.{ℕ, Bool, true, false, [], ◌∷◌, ◌++◌, �
 use Rattle.yaml_base.specs.Characters.{Text, line_feed, carriage_return, next_line, is_break, line_separator, paragraph_separator, space}
 use Rattle.yaml_base.specs.Settings.{LineBreak, carriage_return_break, line_feed_break, both_break}
 
+-- the characters of a line break
 abbrev pub break_text : LineBreak → Text
 break_text carriage_return_break = carriage_return ∷ []
 break_text line_feed_break = line_feed ∷ []
@@ -20,6 +21,7 @@ character_read after_carriage_return c =
     if c == line_feed && after_carriage_return then []
     else (if c == carriage_return || c == next_line then line_feed ∷ [] else c ∷ [])
 
+-- the line breaks of a text read, after a CR or not
 abbrev pub line_breaks_read_after : Bool → Text → Text
 line_breaks_read_after after_carriage_return [] = []
 line_breaks_read_after after_carriage_return (c ∷ rest) =

@@ -45,6 +45,7 @@ BodyReads s body = body_read s body ≡ Some body.value
 abbrev pub BodyIsIndented : Effective → Body → Type 0
 BodyIsIndented s body = is_indented_text (body_written s body) ≡ true
 
+-- a body reads back as its value, and its lines are indented
 pub record BodyMeans (s : Effective) (body : Body) : Type 0 where
   pub reads : BodyReads s body
   pub indented : BodyIsIndented s body
@@ -61,10 +62,12 @@ MeaningIsKept =
     → list_all has_scalar_values events ≡ true
     → All (BodyMeans (effective given encoding)) (bodies_of (list_layout (effective given encoding) events))
 
+-- a text, if there is one, consists of Unicode scalar values
 abbrev pub option_scalars : Option Text → Bool
 option_scalars None = true
 option_scalars (Some text) = all_scalars text
 
+-- a prefix consists of Unicode scalar values
 abbrev pub directive_scalars : TagDirective → Bool
 directive_scalars directive = all_scalars directive.prefix
 

@@ -7,6 +7,7 @@ use Rattle.yaml_base.specs.Event.{Event, DocumentStart, ScalarStyle, CollectionS
 
 -- ---- documents of nodes
 
+-- a pair of a mapping, by the numbers of its key and its value
 pub record NumberPair : Type 0 where
   pub key : ℕ
   pub value : ℕ
@@ -17,6 +18,7 @@ pub data Held : Type 0 where
   sequence_held : List ℕ → CollectionStyle → Held
   mapping_held : List NumberPair → CollectionStyle → Held
 
+-- a node: its tag, and what it holds
 pub record GraphNode : Type 0 where
   pub tag : Text
   pub held : Held
@@ -38,6 +40,7 @@ numbers_held (scalar_held value style) = []
 numbers_held (sequence_held items style) = items
 numbers_held (mapping_held pairs style) = flat_map (λ pair. pair.key ∷ pair.value ∷ []) pairs
 
+-- the numbers that a node refers to, none where there is no such node
 abbrev pub numbers_in : Option GraphNode → List ℕ
 numbers_in None = []
 numbers_in (Some node) = numbers_held node.held
@@ -54,6 +57,7 @@ pub data Step : Type 0 where
   leaves : ℕ → Step
   meets_again : ℕ → Step
 
+-- a step of the walk enters this node
 abbrev pub is_entry_of : ℕ → Step → Bool
 is_entry_of number (enters other) = number == other
 is_entry_of number _ = false
@@ -83,6 +87,7 @@ meetings graph = filter_map node_met (steps graph)
 
 -- ---- anchors
 
+-- the node that a step meets again
 abbrev pub node_met_again : Step → Option ℕ
 node_met_again (meets_again number) = Some number
 node_met_again _ = None
@@ -106,12 +111,15 @@ anchor_of walk number = option_map (λ place. numbered_name (place + 1)) (positi
 
 -- ---- events
 
+-- the tag of texts
 abbrev pub string_tag : Text
 string_tag = codes "tag:yaml.org,2002:str"
 
+-- the tag of sequences
 abbrev pub sequence_tag : Text
 sequence_tag = codes "tag:yaml.org,2002:seq"
 
+-- the tag of mappings
 abbrev pub mapping_tag : Text
 mapping_tag = codes "tag:yaml.org,2002:map"
 
@@ -125,6 +133,7 @@ beginning_of anchor tag (sequence_held items style) =
 beginning_of anchor tag (mapping_held pairs style) =
     mapping_start (record { anchor = anchor; tag = Some tag; implicit = bytes_eq tag mapping_tag; style = style })
 
+-- the event with which a node begins, none where there is no such node
 abbrev pub beginning_events : Option Text → Option GraphNode → List Event
 beginning_events anchor None = []
 beginning_events anchor (Some node) = beginning_of anchor node.tag node.held ∷ []
@@ -135,6 +144,7 @@ ending_of (scalar_held value style) = []
 ending_of (sequence_held items style) = sequence_end ∷ []
 ending_of (mapping_held pairs style) = mapping_end ∷ []
 
+-- the event with which a node ends, if it is a collection
 abbrev pub ending_events : Option GraphNode → List Event
 ending_events None = []
 ending_events (Some node) = ending_of node.held

@@ -1,4 +1,4 @@
--- The text of a node, one piece for each of its events (libyaml's own rules; YAML 1.1, chapters 6 to 9, for the signs).
+-- The text of a node, one piece for each of its events (libyaml's own rules; YAML 1.1, chapters 8 to 10, for the signs).
 use Rattle.std.specs.Prelude.{ℕ, Bool, true, false, Option, None, Some, List, [], ◌∷◌, ◌++◌, ◌||◌, ◌+◌, not, codes, is_some, filter_map, flat_map, if◌then◌else◌}
 use Rattle.yaml_base.specs.Characters.{Text}
 use Rattle.yaml_base.specs.Settings.{Effective}
@@ -34,10 +34,12 @@ pub record Piece : Type 0 where
   pub lead : Text
   pub body : Option Body
 
+-- the text of a scalar's body, none for other events
 abbrev pub body_text : Option Body → Text
 body_text None = []
 body_text (Some body) = body.text
 
+-- a piece's whole text
 abbrev pub piece_text : Piece → Text
 piece_text piece = piece.lead ++ body_text piece.body
 
@@ -65,9 +67,11 @@ pub record PiecesLaid : Type 0 where
   pub pieces : List Piece
   pub standing : Standing
 
+-- nothing written
 abbrev pub no_pieces : Standing → PiecesLaid
 no_pieces standing = record { pieces = []; standing = standing }
 
+-- a piece alone
 abbrev pub one_piece : PieceLaid → PiecesLaid
 one_piece laid = record { pieces = laid.piece ∷ []; standing = laid.standing }
 
@@ -87,13 +91,16 @@ lead_alone mark laid =
 
 -- Anchors and tags
 
+-- `&` and the name, where there is an anchor (section 8.1.2)
 abbrev pub anchor_laid : Option Text → Cursor → Laid
 anchor_laid None cursor = nothing_laid cursor
 anchor_laid (Some name) cursor = then_laid (indicator (codes "&") true false false cursor) (name_laid name)
 
+-- a tag handle, a space before it where one is needed
 abbrev pub handle_laid : Text → Cursor → Laid
 handle_laid handle cursor = name_laid (space_if true cursor ++ handle) cursor
 
+-- a tag as it is spelled (section 8.1.1)
 abbrev pub spelling_laid : Spelling → Cursor → Laid
 spelling_laid (shorthand handle suffix) cursor =
     then_laid (handle_laid handle cursor) (name_laid (percent_escaped suffix))
@@ -108,6 +115,7 @@ tag_laid directives (Some tag) bare cursor = spelling_laid (spelling directives 
 tag_laid directives None true cursor = handle_laid (codes "!") cursor
 tag_laid directives None false cursor = nothing_laid cursor
 
+-- the anchor, and then the tag (section 8.1)
 abbrev pub properties_laid : List TagDirective → Option Text → Option Text → (bare : Bool) → Cursor → Laid
 properties_laid directives anchor tag bare cursor =
     then_laid (anchor_laid anchor cursor) (tag_laid directives tag bare)
@@ -139,6 +147,7 @@ mark_after literal value mark = header_mark value
 mark_after folded value mark = header_mark value
 mark_after _ value mark = mark
 
+-- the style of a scalar at its place
 abbrev pub choice_of : Effective → Place → (simple : Bool) → Scalar → Choice
 choice_of s place simple content =
     chosen
@@ -172,6 +181,7 @@ scalar_piece s directives place simple content standing =
       standing = record { cursor = body.cursor; mark = mark_after choice.style content.value standing.mark };
     }
 
+-- an alias at its place
 abbrev pub alias_piece : Effective → Place → (simple : Bool) → Text → Standing → PieceLaid
 alias_piece s place simple name standing =
     lead_alone standing.mark (then_laid (place_laid s place simple standing.cursor) (alias_laid name simple))
@@ -184,6 +194,7 @@ start_piece s directives place simple start standing =
     (place_laid s place simple standing.cursor)
     (properties_laid directives start.anchor (collection_tag s.canonical start) false))
 
+-- a style that asks for flow
 abbrev pub asks_flow : CollectionStyle → Bool
 asks_flow flow = true
 asks_flow _ = false
@@ -197,9 +208,11 @@ pub record Brackets : Type 0 where
   pub opening : Text
   pub closing : Text
 
+-- the brackets of a sequence in flow (section 10.1.1)
 abbrev pub square : Brackets
 square = record { opening = codes "["; closing = codes "]" }
 
+-- the brackets of a mapping in flow (section 10.2.1)
 abbrev pub curly : Brackets
 curly = record { opening = codes "{"; closing = codes "}" }
 
@@ -218,10 +231,12 @@ end_laid s brackets false empty column cursor = nothing_laid cursor
 end_laid s brackets true empty column cursor =
     then_laid (empty_or_comma s brackets.opening empty column cursor) (indicator brackets.closing false false false)
 
+-- a collection's end as a piece
 abbrev pub end_piece : Effective → Brackets → (in_flow empty : Bool) → Option ℕ → Standing → PieceLaid
 end_piece s brackets in_flow empty column standing =
     lead_alone standing.mark (end_laid s brackets in_flow empty column standing.cursor)
 
+-- the place of an entry in a collection
 abbrev pub entry_place : (in_flow : Bool) → Role → ℕ → Place
 entry_place in_flow role column = record { in_flow = in_flow; role = role; column = Some column }
 
@@ -235,7 +250,7 @@ collection_laid s brackets in_flow undented empty column start entries =
     (entries (entries_column in_flow undented s.indent column start.standing.cursor)))
     (λ standing. one_piece (end_piece s brackets in_flow empty column standing))
 
--- a node at its place: its events' pieces, in order
+-- a node at its place: its events' pieces, in order; with it, the items of a sequence and the pairs of a mapping
 abbrev mutual
   pub node_laid : Node → Effective → List TagDirective → Place → Standing → PiecesLaid
   node_laid (alias_node name) s directives place standing =

@@ -5,6 +5,7 @@ use Rattle.std.specs.List.{flat_map}
 use Rattle.std.specs.Str.{is_utf8}
 use Rattle.yaml_base.specs.Characters.{Text, is_alpha, is_among, is_between, hex_digits}
 
+-- the sign that begins a percent form
 abbrev pub percent_sign : ℕ
 percent_sign = 0x25
 

@@ -48,6 +48,7 @@ missing (within_document encoding before start levels) =
 missing (after_root encoding before start root) = document_end true ∷ stream_end ∷ []
 missing (after_stream stream) = []
 
+-- the events that a partial tree lacks, none where there is no tree
 abbrev pub missing_after : Option Partial → List Event
 missing_after None = []
 missing_after (Some partial) = missing partial

@@ -1,5 +1,5 @@
 -- Where a node stands, which keys are simple, and what a place puts before its node (libyaml's own rules; YAML 1.1,
--- chapters 7 to 9, for the signs).
+-- chapter 10, for the signs).
 use Rattle.std.specs.Prelude.{ℕ, Bool, true, false, Option, None, Some, List, ◌||◌, ◌&&◌, ◌+◌, not, nat_le, length, codes, unwrap_or, encode_utf8_all, if◌then◌else◌}
 use Rattle.std.specs.List.{list_any}
 use Rattle.yaml_base.specs.Characters.{Text, is_break}
@@ -23,10 +23,12 @@ pub record Place : Type 0 where
   pub role : Role
   pub column : Option ℕ
 
+-- a node is the key of a pair
 abbrev pub is_key : Role → Bool
 is_key (as_key first) = true
 is_key _ = false
 
+-- a node is the key or the value of a pair
 abbrev pub is_in_mapping : Role → Bool
 is_in_mapping (as_key first) = true
 is_in_mapping (as_value simple) = true
@@ -50,22 +52,26 @@ entries_column false undented indent (Some column) cursor =
 
 -- Simple keys
 
+-- the length of a text in UTF-8
 abbrev pub byte_count : Text → ℕ
 byte_count text = length (encode_utf8_all text)
 
+-- the length of a name, nothing where there is none
 abbrev pub name_count : Option Text → ℕ
 name_count None = 0
 name_count (Some name) = byte_count name
 
+-- the length of a tag as it is spelled, before percent escapes
 abbrev pub spelling_count : Spelling → ℕ
 spelling_count (shorthand handle suffix) = byte_count handle + byte_count suffix
 spelling_count (verbatim tag) = byte_count tag
 
+-- the length of a tag that is written, nothing where none is
 abbrev pub tag_count : List TagDirective → Option Text → ℕ
 tag_count directives None = 0
 tag_count directives (Some tag) = spelling_count (spelling directives tag)
 
--- a simple key has at most so many bytes (YAML 1.1, section 7.3.3, allows 1024; this is libyaml's)
+-- a simple key has at most so many bytes (YAML 1.1, chapter 10, allows 1024; this is libyaml's)
 abbrev pub is_short : ℕ → Bool
 is_short count = nat_le count 128
 
@@ -73,20 +79,24 @@ is_short count = nat_le count 128
 abbrev pub is_simple_alias : Text → Bool
 is_simple_alias name = is_short (byte_count name)
 
+-- a scalar that may be a simple key: no line break, and short with its anchor and tag
 abbrev pub is_simple_scalar : Bool → List TagDirective → Scalar → Bool
 is_simple_scalar canonical directives content =
     not (list_any is_break content.value)
     && is_short
     (byte_count content.value + name_count content.anchor + tag_count directives (scalar_tag canonical content))
 
+-- a collection that may be a simple key: empty, and short anchor and tag
 abbrev pub is_simple_collection : Bool → List TagDirective → Collection → (empty : Bool) → Bool
 is_simple_collection canonical directives start empty =
     empty && is_short (name_count start.anchor + tag_count directives (collection_tag canonical start))
 
+-- a sequence without items
 abbrev pub has_no_nodes : Nodes → Bool
 has_no_nodes no_nodes = true
 has_no_nodes (nodes_and items item) = false
 
+-- a mapping without pairs
 abbrev pub has_no_pairs : Pairs → Bool
 has_no_pairs no_pairs = true
 has_no_pairs (pairs_and pairs key value) = false
@@ -111,6 +121,7 @@ abbrev pub flow_break : Effective → Option ℕ → Cursor → Laid
 flow_break s column cursor =
     if s.canonical || is_past_width s.width cursor then new_line (line_column column) cursor else nothing_laid cursor
 
+-- the opening bracket before the first entry, a comma before another
 abbrev pub opening_or_comma : Text → Bool → Cursor → Laid
 opening_or_comma bracket true cursor = indicator bracket true true false cursor
 opening_or_comma bracket false cursor = indicator (codes ",") false false false cursor
@@ -120,6 +131,7 @@ abbrev pub key_sign : (simple ind : Bool) → Cursor → Laid
 key_sign true ind cursor = nothing_laid cursor
 key_sign false ind cursor = indicator (codes "?") true false ind cursor
 
+-- what a place in flow puts before its node (sections 10.1.1 and 10.2.1)
 abbrev pub flow_place_laid : Effective → Role → (simple : Bool) → Option ℕ → Cursor → Laid
 flow_place_laid s as_root simple column cursor = nothing_laid cursor
 flow_place_laid s (as_item first) simple column cursor =
@@ -130,6 +142,7 @@ flow_place_laid s (as_value true) simple column cursor = indicator (codes ":") f
 flow_place_laid s (as_value false) simple column cursor =
     then_laid (flow_break s column cursor) (indicator (codes ":") true false false)
 
+-- what a place in a block puts before its node (sections 10.1.2 and 10.2.2)
 abbrev pub block_place_laid : Role → (simple : Bool) → Option ℕ → Cursor → Laid
 block_place_laid as_root simple column cursor = nothing_laid cursor
 block_place_laid (as_item first) simple column cursor =
@@ -140,6 +153,7 @@ block_place_laid (as_value true) simple column cursor = indicator (codes ":") fa
 block_place_laid (as_value false) simple column cursor =
     then_laid (new_line (line_column column) cursor) (indicator (codes ":") true false true)
 
+-- what a place puts before its node
 abbrev pub place_laid : Effective → Place → (simple : Bool) → Cursor → Laid
 place_laid s place simple cursor =
     if place.in_flow then flow_place_laid s place.role simple place.column cursor

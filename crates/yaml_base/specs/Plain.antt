@@ -5,14 +5,17 @@ use Rattle.yaml_base.specs.Characters.{Text, is_break, is_space, line_feed, spac
 use Rattle.yaml_base.specs.Analysis.{begins_with, is_empty}
 use Rattle.yaml_base.specs.Cursor.{Cursor, Laid, nothing_laid, then_laid, text_laid, with_flags, space_if, is_past_width}
 
+-- spaces, line breaks, or any other characters
 pub data Kind : Type 0 where
   spaces : Kind
   breaks : Kind
   others : Kind
 
+-- the kind of a character
 abbrev pub kind_of : ℕ → Kind
 kind_of c = if is_space c then spaces else if is_break c then breaks else others
 
+-- two kinds are the same
 abbrev pub is_same_kind : Kind → Kind → Bool
 is_same_kind spaces spaces = true
 is_same_kind breaks breaks = true
@@ -36,10 +39,12 @@ abbrev pub runs : Text → List Run
 runs [] = []
 runs (c ∷ rest) = joined_to c (runs rest)
 
+-- a run of one character
 abbrev pub is_lone : Text → Bool
 is_lone (c ∷ []) = true
 is_lone _ = false
 
+-- so many spaces (section 6.1)
 abbrev pub indentation : ℕ → Text
 indentation indent = replicate indent space
 
@@ -52,6 +57,7 @@ run_text written folds indent breaks text =
     (if begins_with (λ c. c == line_feed) text then line_feed ∷ [] else []) ++ (text ++ indentation indent)
 run_text written folds indent others text = written text
 
+-- no run follows
 abbrev pub is_last : List Run → Bool
 is_last [] = true
 is_last _ = false

@@ -1,4 +1,4 @@
--- Reading a double-quoted scalar (YAML 1.1, sections 5.7 and 9.1.1), one character after another.
+-- Reading a double-quoted scalar (YAML 1.1, sections 5.6 and 9.1.1), one character after another.
 use Rattle.std.specs.Prelude.{ℕ, zero, suc, Bool, Option, None, Some, List, [], ◌∷◌, ◌==◌, ◌||◌, ◌+◌, ◌-◌, ◌*◌, nat_lt, codes, if◌then◌else◌}
 use Rattle.yaml_base.specs.Characters.{Text, is_between}
 use Rattle.yaml_base.specs.ReadFolding.{FoldUnit, itself, unit_of, folding_read}

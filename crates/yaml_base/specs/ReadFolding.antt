@@ -27,6 +27,7 @@ run_read [] = []
 run_read (first ∷ []) = if first == line_feed then space ∷ [] else first ∷ []
 run_read (first ∷ second ∷ more) = if first == line_feed then second ∷ more else first ∷ second ∷ more
 
+-- the text that a front stands for
 abbrev pub front_read : Front → Text
 front_read front = front.blanks ++ (run_read front.breaks ++ front.rest)
 
@@ -41,6 +42,7 @@ unit_before (literal_blank c) front = record front { blanks = blanks_before fron
 unit_before (literal_break c) front = record front { blanks = []; breaks = c ∷ front.breaks }
 unit_before (itself c) front = record { blanks = []; breaks = []; rest = c ∷ front_read front }
 
+-- the front of some units, read from the last to the first
 abbrev pub front_of : List FoldUnit → Front
 front_of [] = record { blanks = []; breaks = []; rest = [] }
 front_of (unit ∷ units) = unit_before unit (front_of units)

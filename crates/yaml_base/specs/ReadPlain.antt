@@ -27,6 +27,7 @@ begins_no_plain breaks12 (c ∷ rest) =
     || is_among (codes "#,[]{}&*!|>'\"%@`") c
     || (is_among (codes "?:-") c && begins_white breaks12 rest)
 
+-- a `#` comes next
 abbrev pub begins_with_hash : Text → Bool
 begins_with_hash [] = false
 begins_with_hash (c ∷ rest) = c == 35

@@ -4,6 +4,7 @@ use Rattle.std.specs.List.{list_any}
 use Rattle.yaml_base.specs.Event.{Event, stream_start, stream_end, document_start, document_end, sequence_start, sequence_end, mapping_start, mapping_end}
 use Rattle.yaml_base.specs.Grammar.{Stream, stream_events}
 
+-- an event that opens a stream, a document or a collection
 abbrev pub is_start : Event → Bool
 is_start (stream_start encoding) = true
 is_start (document_start start) = true
@@ -11,6 +12,7 @@ is_start (sequence_start start) = true
 is_start (mapping_start start) = true
 is_start _ = false
 
+-- an event that closes one
 abbrev pub is_end : Event → Bool
 is_end stream_end = true
 is_end (document_end implicit) = true

@@ -1,4 +1,4 @@
--- Which event is refused after which list, and with what fault (libyaml's own rules; YAML 1.1, section 6.8, for
+-- Which event is refused after which list, and with what fault (libyaml's own rules; YAML 1.1, sections 7.1 and 8.1, for
 -- directives, anchors and tags).
 use Rattle.std.specs.Prelude.{◌≡◌, ◌↔◌, ℕ, ◌-◌, ◌≤◌, Bool, true, false, Option, None, Some, List, [], ◌∷◌, ◌++◌, ◌||◌, ◌&&◌, not, nat_lt, length, count_by, is_some, is_none, option_and_then, if◌then◌else◌}
 use Rattle.std.specs.Option.{option_or}
@@ -40,6 +40,7 @@ abbrev pub scalar_tag : Bool → Scalar → Option Text
 scalar_tag canonical content =
     if canonical || (not content.plain_implicit && not content.quoted_implicit) then content.tag else None
 
+-- the tag that a collection is written with: none where its flag lets it be left out
 abbrev pub collection_tag : Bool → Collection → Option Text
 collection_tag canonical start = if canonical || not start.implicit then start.tag else None
 
@@ -76,6 +77,7 @@ expected (within_document encoding before start levels) = expected_node
 expected (after_root encoding before start root) = expected_document_end
 expected (after_stream stream) = expected_nothing
 
+-- the refusal of an event that may not stand after this partial tree
 abbrev pub place_fault : Partial → Event → Option ℕ
 place_fault partial event = fault_if (is_none (push partial event)) (expected partial)
 
@@ -83,11 +85,13 @@ place_fault partial event = fault_if (is_none (push partial event)) (expected pa
 abbrev pub most_open : ℕ
 most_open = 1000000
 
+-- an event that opens a collection
 abbrev pub begins_collection : Event → Bool
 begins_collection (sequence_start start) = true
 begins_collection (mapping_start start) = true
 begins_collection _ = false
 
+-- an event that closes a collection
 abbrev pub ends_collection : Event → Bool
 ends_collection sequence_end = true
 ends_collection mapping_end = true
@@ -98,6 +102,7 @@ abbrev pub open_levels : Partial → List Level
 open_levels (within_document encoding before start levels) = levels
 open_levels _ = []
 
+-- the refusal of a collection where too many are open
 abbrev pub depth_fault : Partial → Event → Option ℕ
 depth_fault partial event =
     fault_if (begins_collection event && not (nat_lt (length (open_levels partial)) most_open)) too_deep

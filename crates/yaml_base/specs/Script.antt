@@ -42,12 +42,15 @@ pub data Script : Type 0 where
 
 -- ---- the characters of the notation
 
+-- the sign at both ends of a text
 abbrev pub quotation_mark : ℕ
 quotation_mark = 0x22
 
+-- the sign that begins a comment
 abbrev pub number_sign : ℕ
 number_sign = 0x23
 
+-- the sign that begins an escape
 abbrev pub backslash : ℕ
 backslash = 0x5C
 
@@ -166,6 +169,7 @@ named (entry ∷ rest) word = if is_word word entry.0 then Some entry.1 else nam
 abbrev pub flags : List (Text × Bool)
 flags = (codes "0", false) ∷ (codes "1", true) ∷ []
 
+-- the words for settings that are off or on
 abbrev pub switches : List (Text × Bool)
 switches = (codes "off", false) ∷ (codes "on", true) ∷ []
 
@@ -173,12 +177,15 @@ switches = (codes "off", false) ∷ (codes "on", true) ∷ []
 abbrev pub encodings : List (Text × Option Encoding)
 encodings = (codes "any", None) ∷ (codes "utf8", Some utf8) ∷ (codes "utf16le", Some utf16_little) ∷ (codes "utf16be", Some utf16_big) ∷ []
 
+-- the words for line breaks
 abbrev pub line_breaks : List (Text × Option LineBreak)
 line_breaks = (codes "any", None) ∷ (codes "cr", Some carriage_return_break) ∷ (codes "ln", Some line_feed_break) ∷ (codes "crln", Some both_break) ∷ []
 
+-- the words for styles of scalars
 abbrev pub scalar_styles : List (Text × ScalarStyle)
 scalar_styles = (codes "any", any_style) ∷ (codes "plain", plain) ∷ (codes "single", single_quoted) ∷ (codes "double", double_quoted) ∷ (codes "literal", literal) ∷ (codes "folded", folded) ∷ []
 
+-- the words for styles of collections
 abbrev pub collection_styles : List (Text × CollectionStyle)
 collection_styles = (codes "any", any_layout) ∷ (codes "block", block) ∷ (codes "flow", flow) ∷ []
 

@@ -34,6 +34,7 @@ seen_break YAML_CR_BREAK = Some carriage_return_break
 seen_break YAML_LN_BREAK = Some line_feed_break
 seen_break YAML_CRLN_BREAK = Some both_break
 
+-- a scalar's style
 abbrev pub seen_scalar_style : yaml_scalar_style_t → ScalarStyle
 seen_scalar_style YAML_ANY_SCALAR_STYLE = any_style
 seen_scalar_style YAML_PLAIN_SCALAR_STYLE = plain
@@ -42,11 +43,13 @@ seen_scalar_style YAML_DOUBLE_QUOTED_SCALAR_STYLE = double_quoted
 seen_scalar_style YAML_LITERAL_SCALAR_STYLE = literal
 seen_scalar_style YAML_FOLDED_SCALAR_STYLE = folded
 
+-- a sequence's style
 abbrev pub seen_sequence_style : yaml_sequence_style_t → CollectionStyle
 seen_sequence_style YAML_ANY_SEQUENCE_STYLE = any_layout
 seen_sequence_style YAML_BLOCK_SEQUENCE_STYLE = block
 seen_sequence_style YAML_FLOW_SEQUENCE_STYLE = flow
 
+-- a mapping's style
 abbrev pub seen_mapping_style : yaml_mapping_style_t → CollectionStyle
 seen_mapping_style YAML_ANY_MAPPING_STYLE = any_layout
 seen_mapping_style YAML_BLOCK_MAPPING_STYLE = block
@@ -56,13 +59,15 @@ seen_mapping_style YAML_FLOW_MAPPING_STYLE = flow
 abbrev pub seen_text : {A : Type 0} → String A → Text
 seen_text text = chars (string_bytes text)
 
+-- a version
 abbrev pub seen_version : yaml_version_directive_t → Version
 seen_version version = record { major = version.major; minor = version.minor }
 
+-- a directive, by the characters of its texts
 abbrev pub seen_directive : {A : Type 0} → yaml_tag_directive_t A → TagDirective
 seen_directive directive = record { handle = seen_text directive.handle; prefix = seen_text directive.prefix }
 
--- an event; the style of a sequence and that of a mapping are seen alike
+-- an event, case by case; the style of a sequence and that of a mapping are seen alike
 abbrev pub seen_event : {A : Type 0} → yaml_event_t A → Event
 seen_event (YAML_STREAM_START_EVENT encoding) = stream_start (seen_encoding encoding)
 seen_event YAML_STREAM_END_EVENT = stream_end

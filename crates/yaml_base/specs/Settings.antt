@@ -1,11 +1,13 @@
 -- What the caller sets, and what it comes to at the stream's start (libyaml's own rules).
 use Rattle.std.specs.Prelude.{ℕ, ℤ, pos, Bool, Option, None, Some, ◌==◌, ◌&&◌, ◌*◌, nat_le, if◌then◌else◌, unwrap_or}
 
+-- how characters become bytes (section 5.2)
 pub data Encoding : Type 0 where
   utf8 : Encoding
   utf16_little : Encoding
   utf16_big : Encoding
 
+-- how a line is ended (section 5.4)
 pub data LineBreak : Type 0 where
   carriage_return_break : LineBreak
   line_feed_break : LineBreak
@@ -50,6 +52,7 @@ abbrev pub effective_encoding : Option Encoding → Option Encoding → Encoding
 effective_encoding (Some own) of_stream = own
 effective_encoding None of_stream = unwrap_or of_stream utf8
 
+-- the settings in force, from those that were given and the stream's encoding
 abbrev pub effective : Settings → Option Encoding → Effective
 effective given of_stream =
     let indent = effective_indent given.indent in

@@ -29,12 +29,14 @@ abbrev pub next_place : List Frame → Place
 next_place [] = root_place
 next_place (frame ∷ outer) = frame.place
 
+-- the role of the entry after one of this role
 abbrev pub role_after : Role → (simple : Bool) → Role
 role_after as_root simple = as_root
 role_after (as_item first) simple = as_item false
 role_after (as_key first) simple = as_value simple
 role_after (as_value was_simple) simple = as_key false
 
+-- the place of the entry after one at this place
 abbrev pub place_after : Place → (simple : Bool) → Place
 place_after place simple = record place { role = role_after place.role simple }
 
@@ -44,6 +46,7 @@ stage_after directives [] simple = at_document_end
 stage_after directives (frame ∷ outer) simple =
     at_node directives (record frame { place = place_after frame.place simple } ∷ outer)
 
+-- the entry is the first of its collection
 abbrev pub is_first : Role → Bool
 is_first (as_item first) = first
 is_first (as_key first) = first
@@ -71,6 +74,7 @@ frame_opened s place in_flow undented simple role laid =
       simple = simple;
     }
 
+-- a collection's start: its piece, and the place of its first entry
 abbrev pub start_step :
     Effective → List TagDirective → List Frame → (undented simple empty : Bool) → Role → Collection → Standing → Stepped
 start_step s directives frames undented simple empty role start standing =
@@ -83,6 +87,7 @@ start_step s directives frames undented simple empty role start standing =
           (frame_opened s place (is_written_in_flow s place start empty) undented simple role laid ∷ frames);
     }
 
+-- a collection's end: its piece, and what follows the collection
 abbrev pub end_step : Effective → Brackets → List TagDirective → List Frame → Standing → Stepped
 end_step s brackets directives [] standing = stopped standing
 end_step s brackets directives (frame ∷ outer) standing =
@@ -92,7 +97,7 @@ end_step s brackets directives (frame ∷ outer) standing =
       stage = stage_after directives outer frame.simple;
     }
 
--- an event within a document; empty: the collection that it starts ends at once
+-- an event within a document, case by case; empty: the collection that it starts ends at once
 abbrev pub node_step : Effective → List TagDirective → List Frame → Event → (empty : Bool) → Standing → Stepped
 node_step s directives frames (alias name) empty standing =
     let simple = is_key (next_place frames).role && (not s.canonical && is_simple_alias name) in
@@ -139,6 +144,7 @@ pub record Steps : Type 0 where
   pub standing : Standing
   pub stage : Stage
 
+-- a step, and then the steps from where it leads
 abbrev pub then_steps : Stepped → (Stage → Standing → Steps) → Steps
 then_steps stepped next =
     let after = next stepped.stage stepped.laid.standing in
@@ -152,6 +158,7 @@ steps s follows (event ∷ rest) stage standing =
 
 -- What is refused at a stage
 
+-- an item of a sequence
 abbrev pub is_item : Role → Bool
 is_item (as_item first) = true
 is_item _ = false
@@ -166,6 +173,7 @@ node_allowed (frame ∷ outer) sequence_end = is_item frame.place.role
 node_allowed (frame ∷ outer) mapping_end = is_key frame.place.role
 node_allowed _ _ = false
 
+-- an event may stand at a stage
 abbrev pub stage_allows : Stage → Event → Bool
 stage_allows at_stream (stream_start encoding) = true
 stage_allows (at_document first) (document_start start) = true
@@ -174,6 +182,7 @@ stage_allows (at_node directives frames) event = node_allowed frames event
 stage_allows at_document_end (document_end implicit) = true
 stage_allows _ event = false
 
+-- the refusal of an event that may not stand at a stage
 abbrev pub stage_expected : Stage → ℕ
 stage_expected at_stream = expected_stream_start
 stage_expected (at_document first) = expected_document_start
@@ -181,6 +190,7 @@ stage_expected (at_node directives frames) = expected_node
 stage_expected at_document_end = expected_document_end
 stage_expected at_nothing = expected_nothing
 
+-- how many collections are open at a stage
 abbrev pub open_frames : Stage → ℕ
 open_frames (at_node directives frames) = length frames
 open_frames _ = 0

@@ -50,9 +50,11 @@ abbrev pub name_fault : ℕ → ℕ → Text → Option ℕ
 name_fault if_empty if_other [] = Some if_empty
 name_fault if_empty if_other (c ∷ rest) = if list_all is_alpha (c ∷ rest) then None else Some if_other
 
+-- the refusal of an anchor's name
 abbrev pub anchor_fault : Text → Option ℕ
 anchor_fault name = name_fault anchor_empty anchor_alphabet name
 
+-- the refusal of an alias's name
 abbrev pub alias_fault : Text → Option ℕ
 alias_fault name = name_fault alias_empty alias_alphabet name
 
@@ -61,6 +63,7 @@ abbrev pub tag_fault : Text → Option ℕ
 tag_fault [] = Some tag_empty
 tag_fault (_ ∷ _) = None
 
+-- an integer is this number
 abbrev pub is_the_number : ℕ → ℤ → Bool
 is_the_number n (pos m) = n == m
 is_the_number n (negsuc _) = false
@@ -94,6 +97,7 @@ handle_fault (c ∷ rest) =
     else (if not (last_from c rest == tag_mark) then Some tag_handle_end
     else (if list_all is_alpha (without_last rest) then None else Some tag_handle_alphabet))
 
+-- the refusal of a prefix: it has at least one character (section 7.1.2.1)
 abbrev pub prefix_fault : Text → Option ℕ
 prefix_fault [] = Some tag_prefix_empty
 prefix_fault (_ ∷ _) = None
@@ -102,6 +106,7 @@ prefix_fault (_ ∷ _) = None
 abbrev pub directive_fault : TagDirective → Option ℕ
 directive_fault directive = option_or (handle_fault directive.handle) (prefix_fault directive.prefix)
 
+-- some directive gives this handle
 abbrev pub gives_handle : Text → List TagDirective → Bool
 gives_handle handle directives = list_any (λ directive. bytes_eq directive.handle handle) directives
 
@@ -143,6 +148,7 @@ pub data Spelling : Type 0 where
   shorthand : Text → Text → Spelling
   verbatim : Text → Spelling
 
+-- a handle with what stands behind its prefix, or else another spelling
 abbrev pub spelling_by : Text → Option Text → Spelling → Spelling
 spelling_by handle None otherwise = otherwise
 spelling_by handle (Some suffix) otherwise = shorthand handle suffix
@@ -173,6 +179,7 @@ at_mark_before c [] suffix =
     if c == tag_mark then record { handle = c ∷ []; suffix = suffix } else record { handle = []; suffix = c ∷ suffix }
 at_mark_before c (h ∷ handle) suffix = record { handle = c ∷ h ∷ handle; suffix = suffix }
 
+-- a text cut behind its last `!`
 abbrev pub at_last_mark : Text → AtMark
 at_last_mark [] = record { handle = []; suffix = [] }
 at_last_mark (c ∷ rest) = let cut = at_last_mark rest in at_mark_before c cut.handle cut.suffix
@@ -188,6 +195,7 @@ abbrev pub named_by : Option Text → Option Text → Option TagRead
 named_by (Some prefix) (Some suffix) = Some (named_tag (prefix ++ suffix))
 named_by _ _ = None
 
+-- a handle's prefix and the decoded rest, by the document's own directives and the defaults
 abbrev pub shorthand_read : List TagDirective → AtMark → Option TagRead
 shorthand_read own text = named_by (prefix_given (own ++ default_directives) text.handle) (percent_decoded text.suffix)
 

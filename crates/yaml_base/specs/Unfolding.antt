@@ -15,6 +15,7 @@ pub data Kind : Type 0 where
   sequence_kind : Option CollectionStyle → Kind
   mapping_kind : Option CollectionStyle → Kind
 
+-- what a node shows by itself: its tag and its kind
 pub record Label : Type 0 where
   pub tag : Option Text
   pub kind : Kind
@@ -48,6 +49,7 @@ abbrev mutual
   pairs_shapes no_pairs = no_shapes
   pairs_shapes (pairs_and pairs key value) = shapes_and (shapes_and (pairs_shapes pairs) (node_shape_of key)) (node_shape_of value)
 
+-- the tag, where one was written
 abbrev pub tag_told : ScalarTag → Option Text
 tag_told (tagged tag) = Some tag
 tag_told (untagged quoted_implicit) = None
@@ -83,10 +85,12 @@ mutual
     none_placed : PlacedAll
     placed_and : PlacedAll → Placed → PlacedAll
 
+-- the number of the node at a place
 abbrev pub number_at : Placed → ℕ
 number_at (alias_placed name number) = number
 number_at (node_placed anchor number below) = number
 
+-- the numbers of the nodes at some places, in order
 abbrev pub numbers_at : PlacedAll → List ℕ
 numbers_at none_placed = []
 numbers_at (placed_and before last) = numbers_at before ++ number_at last ∷ []
@@ -97,6 +101,7 @@ kind_held styled (scalar_held value style) = scalar_kind value (if styled then S
 kind_held styled (sequence_held items style) = sequence_kind (if styled then Some style else None)
 kind_held styled (mapping_held pairs style) = mapping_kind (if styled then Some style else None)
 
+-- a graph node's label, with its style or without
 abbrev pub label_of : Bool → GraphNode → Label
 label_of styled node = record { tag = Some node.tag; kind = kind_held styled node.held }
 
@@ -135,10 +140,12 @@ abbrev mutual
   places_below none_placed = []
   places_below (placed_and before last) = places_below before ++ places last
 
+-- a place bears this anchor
 abbrev pub carries : Text → Place → Bool
 carries name (node_place (Some anchor) number) = bytes_eq name anchor
 carries name _ = false
 
+-- a place is that of the node with this number
 abbrev pub is_place_of : ℕ → Place → Bool
 is_place_of number (node_place anchor other) = number == other
 is_place_of number (alias_place name other) = false

@@ -1,4 +1,4 @@
-//! Events: a stream of documents, piece by piece (YAML 1.1, section 3.2.1).
+//! Events: a stream of documents, piece by piece (YAML 1.1, section 3.2.2).
 ghost use Rattle.std.specs.Prelude.{◌≡◌};
 ghost use Rattle.yaml_base.specs.declared.events.yaml_event_t.TheVariants.{YAML_STREAM_END_EVENT};
 

@@ -11,9 +11,9 @@ pub enum yaml_scalar_style_t {
     YAML_SINGLE_QUOTED_SCALAR_STYLE,
     /// Between `"` and `"`, with escapes (section 9.1.1).
     YAML_DOUBLE_QUOTED_SCALAR_STYLE,
-    /// A block after `|`, line for line (section 9.2.3).
+    /// A block after `|`, line for line (section 9.3.1).
     YAML_LITERAL_SCALAR_STYLE,
-    /// A block after `>`, whose lines are folded (section 9.2.4).
+    /// A block after `>`, whose lines are folded (section 9.3.2).
     YAML_FOLDED_SCALAR_STYLE,
 }
 

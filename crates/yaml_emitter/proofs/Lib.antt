@@ -3,7 +3,6 @@ pub mod WritingScalars
 pub mod Fronts
 pub mod Signs
 pub mod Defaults
-pub mod Fits
 pub mod Standing
 pub mod StandingFailed
 pub mod StandingMore

@@ -81,7 +81,7 @@ fn needs_escape(c: char, unicode: bool) -> bool
     !is_printable(c) || (!unicode && !is_ascii(c)) || is_break(c) || c == '"' || c == '\\'
 }
 
-/// The letter of a character that has an escape of one letter (YAML 1.1, section 5.7).
+/// The letter of a character that has an escape of one letter (YAML 1.1, section 5.6).
 fn short_letter(c: char) -> Option<u8>
     ensures { result ≡ spec.letter_among spec.short_escapes c }
 {

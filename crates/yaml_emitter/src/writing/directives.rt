@@ -1,4 +1,4 @@
-//! What stands before a document's root: `%YAML`, `%TAG` and `---` (YAML 1.1, sections 7.1 and 9.3).
+//! What stands before a document's root: `%YAML`, `%TAG` and `---` (YAML 1.1, sections 7.1 and 7.2).
 
 ghost use Rattle.std.specs.Prelude.{◌≡◌, ◌==◌, ◌||◌, ◌&&◌, option_map, is_some, map, length, chars, not, false};
 ghost use Rattle.std.specs.List.{list_any};

@@ -1,4 +1,4 @@
-//! What the starts and ends of documents write (YAML 1.1, chapter 9).
+//! What the starts and ends of documents write (YAML 1.1, sections 7.2 to 7.4).
 
 ghost use Rattle.std.specs.Prelude.{◌≡◌, ◌==◌, ℕ, Option, option_map, true, false, codes};
 ghost use Rattle.yaml_base.specs.Cursor.{then_laid, new_line};

@@ -1,4 +1,4 @@
-//! Anchors, aliases and tags (YAML 1.1, section 6.9).
+//! Anchors, aliases and tags (YAML 1.1, sections 8.1 and 8.3).
 
 ghost use Rattle.std.specs.Prelude.{◌≡◌, Some, chars, true, false};
 ghost use Rattle.std.specs.List.{list_any};

@@ -1,4 +1,4 @@
-//! How a tag is spelled by the directives in force (YAML 1.1, section 6.8.2).
+//! How a tag is spelled by the directives in force (YAML 1.1, section 8.1.1).
 
 ghost use Rattle.std.specs.Prelude.{◌≡◌, chars};
 ghost use Rattle.yaml_base.specs.Tags.{spelling};

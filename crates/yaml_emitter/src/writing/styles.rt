@@ -1,4 +1,4 @@
-//! A scalar's text in its style (YAML 1.1, sections 9.1 and 9.2).
+//! A scalar's text in its style (YAML 1.1, sections 9.1 and 9.3).
 
 ghost use Rattle.std.specs.Prelude.{◌≡◌, ◌≤ℤ◌, pos, true, false, IfOk, chars};
 ghost use Rattle.yaml_base.specs.BlockHeader.{header_mark};
