@@ -15,14 +15,17 @@ abbrev pub seen_number : ℤ → ℕ
 seen_number (pos number) = number
 seen_number (negsuc _) = 0
 
+-- a pair's two numbers
 abbrev pub seen_pair : yaml_node_pair_t → NumberPair
 seen_pair pair = record { key = seen_number pair.key; value = seen_number pair.value }
 
+-- what a node holds
 abbrev pub seen_held : {A : Type 0} → yaml_node_data_t A → Held
 seen_held (Scalar value style) = scalar_held (seen_text value) (seen_scalar_style style)
 seen_held (Sequence items style) = sequence_held (map seen_number items.items) (seen_sequence_style style)
 seen_held (Mapping pairs style) = mapping_held (map seen_pair pairs.items) (seen_mapping_style style)
 
+-- a node
 abbrev pub seen_node : {A : Type 0} → yaml_node_t A → GraphNode
 seen_node node = record { tag = seen_text node.tag; held = seen_held node.contents }
 
@@ -39,6 +42,7 @@ abbrev pub names_node : ℕ → ℤ → Bool
 names_node count (pos number) = nat_le 1 number && nat_le number count
 names_node count (negsuc _) = false
 
+-- the numbers in pairs, keys before their values
 abbrev pub numbers_of_pairs : List yaml_node_pair_t → List ℤ
 numbers_of_pairs pairs = flat_map (λ pair. pair.key ∷ pair.value ∷ []) pairs
 
@@ -48,6 +52,7 @@ numbers_of (Scalar value style) = []
 numbers_of (Sequence items style) = items.items
 numbers_of (Mapping pairs style) = numbers_of_pairs pairs.items
 
+-- the numbers that nodes hold, in order
 abbrev pub all_numbers : {A : Type 0} → List (yaml_node_t A) → List ℤ
 all_numbers nodes = flat_map (λ node. numbers_of node.contents) nodes
 

@@ -14,10 +14,12 @@ use Rattle.yaml_emitter.specs.declared.writing.spelling.SpelledTag.TheVariants.{
 abbrev pub seen_name : Option (Bor (List ℕ)) → Option Text
 seen_name name = option_map chars (option_copied name)
 
+-- a spelling by its characters
 abbrev pub seen_spelling : SpelledTag → Spelling
 seen_spelling (Shorthand handle suffix) = shorthand (chars handle.now) (chars suffix.now)
 seen_spelling (Verbatim tag) = verbatim (chars tag.now)
 
+-- a scalar by its characters
 abbrev pub seen_scalar : ScalarContent → Scalar
 seen_scalar content =
     record {

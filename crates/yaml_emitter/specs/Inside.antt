@@ -10,6 +10,7 @@ use Rattle.yaml_emitter.specs.State.{State, FitsPage}
 use Rattle.yaml_emitter.specs.WrittenPieces.{seen_mark}
 use Rattle.yaml_emitter.specs.declared.emitter.yaml_emitter_t.TheInside.{Inside}
 
+-- what contracts see of an emitter
 abbrev pub state_of : {A : Type 0} → Inside A → State
 state_of e =
     record {

@@ -19,6 +19,7 @@ abbrev pub end_event : (mapping : Bool) → Event
 end_event true = mapping_end
 end_event false = sequence_end
 
+-- the brackets of a mapping or a sequence
 abbrev pub brackets_of : (mapping : Bool) → Brackets
 brackets_of true = curly
 brackets_of false = square

@@ -7,14 +7,17 @@ use Rattle.yaml_emitter.specs.declared.place.Role.TheVariants.{Root, Item, Key, 
 use Rattle.yaml_emitter.specs.declared.place.Place as place
 use Rattle.yaml_emitter.specs.declared.place.Frame as frame
 
+-- an entry's role
 abbrev pub seen_role : role.Role → Role
 seen_role Root = as_root
 seen_role (Item first) = as_item first
 seen_role (Key first) = as_key first
 seen_role (Value simple) = as_value simple
 
+-- a node's place
 abbrev pub seen_place : place.Place → Place
 seen_place here = record { in_flow = here.in_flow; role = seen_role here.role; column = here.column }
 
+-- an open collection
 abbrev pub seen_frame : frame.Frame → Frame
 seen_frame open_here = record { place = seen_place open_here.place; simple = open_here.simple }

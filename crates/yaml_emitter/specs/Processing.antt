@@ -77,6 +77,7 @@ pub record Refused (error : yaml_error_t) (event : Event) (before after : State)
   pub kept : after ≡ before
   pub refusal : refusal_now before event ≡ Some (refusal_number error)
 
+-- an event was written, cut short, or refused
 abbrev pub Processed : Event → (empty : Bool) → State → State → Result (Unit {0}) yaml_error_t → Type 0
 Processed event empty before after (Ok _) = Written event empty before after
 Processed event empty before after (Err WriteError) = CutShort WriteError event empty before after

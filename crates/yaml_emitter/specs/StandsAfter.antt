@@ -33,6 +33,7 @@ HoldsPiecesWith error s (event ∷ events) pieces page =
 abbrev pub HoldsPieces : Effective → List Event → List Piece → Page → Type 0
 HoldsPieces s events pieces page = HoldsPiecesWith None s events pieces page
 
+-- from the first event on the settings are those of the stream
 abbrev pub IsSettled : Effective → List Event → State → Type 0
 IsSettled s [] state = Unit {0}
 IsSettled s (event ∷ events) state = state.settings ≡ s
@@ -110,6 +111,7 @@ pub record StandsUnflushed (given : Settings) (all : List Event) (error : yaml_e
 abbrev pub StandsStopped : Settings → List Event → yaml_error_t → State → Type 0
 StandsStopped given all error state = StandsCut given all error state ⊎ StandsUnflushed given all error state
 
+-- memory and the limit stop an emitter; any other error is a refusal
 abbrev pub StandsFailed : Settings → List Event → yaml_error_t → State → Type 0
 StandsFailed given all WriteError state = StandsStopped given all WriteError state
 StandsFailed given all Memory state = StandsStopped given all Memory state

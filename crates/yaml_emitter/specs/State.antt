@@ -24,6 +24,7 @@ pub record State : Type 0 where
   pub page : Page
   pub error : Option yaml_error_t
 
+-- a new emitter
 abbrev pub new_state : State
 new_state =
     record {
@@ -49,6 +50,7 @@ abbrev pub FitsPage : Stage → Page → Type 0
 FitsPage at_stream page = IsUntouched page × (page.mark_due ≡ false)
 FitsPage _ page = IsReady page
 
+-- the stream has not begun
 abbrev pub is_at_stream : Stage → Bool
 is_at_stream at_stream = true
 is_at_stream _ = false

@@ -14,6 +14,7 @@ laid_of laid = record { text = piece_text laid.piece; cursor = laid.standing.cur
 abbrev pub piece_at : (Standing → PieceLaid) → (mark : ℕ) → Cursor → Laid
 piece_at piece mark cursor = laid_of (piece (record { cursor = cursor; mark = mark }))
 
+-- the open mark as a number
 abbrev pub seen_mark : OpenMark → ℕ
 seen_mark Closed = 0
 seen_mark ImplicitEnd = 1

@@ -8,6 +8,7 @@ use Rattle.yaml_base.specs.SingleQuoted.{quotes_doubled}
 use Rattle.yaml_scalar.specs.declared.lines.CharacterKind.{CharacterKind}
 use Rattle.yaml_scalar.specs.declared.lines.CharacterKind.TheVariants.{Space, Break, Other}
 
+-- a character's kind
 abbrev pub seen_kind : CharacterKind → Kind
 seen_kind Space = spaces
 seen_kind Break = breaks
@@ -35,6 +36,7 @@ step_text written folds indent before breaks c rest =
     ++ (c ∷ (if begins_kind breaks rest then [] else indentation indent))
 step_text written folds indent before others c rest = written (c ∷ [])
 
+-- what one character of a value becomes, by what was before and what follows
 abbrev pub step_laid :
     (written : Text → Text) (limit : Option ℕ) (indent : ℕ) (before : Kind) (c : ℕ) (rest : Text) → Cursor → Laid
 step_laid written limit indent before c rest cursor =

@@ -10,6 +10,7 @@ use Rattle.yaml_scalar.specs.declared.analysis.charset_t.{charset_t}
 use Rattle.yaml_scalar.specs.declared.analysis.TextKind.{TextKind}
 use Rattle.yaml_scalar.specs.declared.analysis.TextKind.TheVariants.{Plain, SingleQuoted, Block}
 
+-- the styles that an analysis allows
 abbrev pub seen_data : scalar_data_t → Allowances
 seen_data given =
     record {
@@ -20,6 +21,7 @@ seen_data given =
       block = given.block_allowed;
     }
 
+-- what may stand as itself
 abbrev pub seen_charset : charset_t → Charset
 seen_charset given = record { unicode = given.unicode; breaks12 = given.breaks12 }
 
