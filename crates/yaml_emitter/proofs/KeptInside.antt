@@ -3,6 +3,8 @@ use Rattle.std.proofs.Common.{◌≡◌, Bool, true, false, List, refl, ap, ◌�
 use Rattle.yaml_base.specs.Steps.{Frame, Stage, at_stream, at_document, at_node, at_document_end, at_nothing}
 use Rattle.yaml_pen.specs.Page.{Page, IsReady, IsUntouched}
 use Rattle.yaml_emitter.specs.State.{State, FitsPage, is_at_stream}
+use Rattle.yaml_base.specs.Event.{TagDirective}
+use Rattle.yaml_emitter.specs.Signs.{some_handle_breaks}
 use Rattle.yaml_emitter.specs.Stages.{seen_stage}
 use Rattle.yaml_emitter.specs.Inside.{IsEmitter, state_of}
 use Rattle.yaml_emitter.specs.declared.stage.Stage as stage
@@ -22,10 +24,22 @@ pub kept_writing : {A : Type 0} (e : Inside A) (pen : Page) (after : stage.Stage
 kept_writing e pen after frames mark kept output fits =
     record {
       in_force = kept.in_force;
-      few_wait = kept.few_wait;
       room = kept.room;
       untouched = λ none. cc;
       handles = kept.handles;
+      canonical = kept.canonical;
+      page = fits;
+    }
+
+pub kept_beginning : {A : Type 0} (e : Inside A) (pen : Page) (after : stage.Stage) (directives : List TagDirective) (frames : List Frame) (mark : OpenMark) → IsEmitter e → e.has_output ≡ true
+    → some_handle_breaks directives ≡ false → FitsPage (seen_stage after directives frames) pen
+    → IsEmitter (record e { pen = pen; stage = after; directives = directives; frames = frames; mark = mark })
+kept_beginning e pen after directives frames mark kept output handles fits =
+    record {
+      in_force = kept.in_force;
+      room = kept.room;
+      untouched = λ none. cc;
+      handles = handles;
       canonical = kept.canonical;
       page = fits;
     }

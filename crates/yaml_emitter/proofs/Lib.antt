@@ -34,3 +34,4 @@ pub mod CanonicalStream
 pub mod Canonical
 pub mod NodesDone
 pub mod CanonicalOutput
+pub mod DocumentsDone

@@ -240,14 +240,17 @@ abbrev page_begun : Effective → Page → Page
 page_begun s page = record page { encoding = Some s.encoding; line_break = s.line_break; mark_due = false }
 
 page_started : (s : Effective) (encoding : Option Encoding) → HoldsPieces s (stream_start encoding ∷ []) ((stream_start_piece first_standing).piece ∷ []) (page_begun s (new_page s.limit))
-page_started s encoding =
-    (record {
-      encoding = refl;
-      marked = refl;
-      line_break = refl;
-      limit = refl;
-      handed = record { beginning = refl; within = omega arith; full = λ h. cc; named = inl refl };
-    }, refl, refl)
+page_started s encoding = (
+  record {
+    encoding = refl;
+    marked = refl;
+    line_break = refl;
+    limit = refl;
+    handed = record { beginning = refl; within = omega arith; full = λ h. cc; named = inl refl };
+  },
+  refl,
+  refl,
+)
 
 taken_first : (event : Event) (rest : List Event) (given : Settings) (empty : Bool) (before after : State)
     → IsStreamStart event

@@ -100,18 +100,19 @@ cut_page (x ∷ front) rest given all event before after answer h begun wrote =
     let taken = steps s (closes_last (x ∷ front) (event ∷ rest)) (x ∷ front) at_stream first_standing in
     let stepped = event_stepped before event empty in
     let stands = stands_from_begins given.canonical ((x ∷ front) ++ event ∷ []) begun in
-    let grew = wrote.grew in
-    (is_page_wrote h.page.0 wrote,
-    record { rest = grew.front; parts = ap (λ text. text ++ grew.front) (sym h.page.1) ∙ sym grew.grown },
-    record {
-      rest = grew.rest;
-      parts =
-          ap (λ text. text ++ grew.rest) grew.grown
-          ∙ append_assoc before.page.text grew.front grew.rest
-          ∙ ap (λ text. before.page.text ++ text) (sym grew.parts)
-          ∙ named_more s x front taken.pieces stepped.laid.piece lay before.page h.page refl
-          ∙ sym (ap (λ (all : Steps). text_written s all.pieces) (stepped_steps given all x front rest event stands.partial before h stands.is_partial));
-    })
+    let grew = wrote.grew in (
+      is_page_wrote h.page.0 wrote,
+      record { rest = grew.front; parts = ap (λ text. text ++ grew.front) (sym h.page.1) ∙ sym grew.grown },
+      record {
+        rest = grew.rest;
+        parts =
+            ap (λ text. text ++ grew.rest) grew.grown
+            ∙ append_assoc before.page.text grew.front grew.rest
+            ∙ ap (λ text. before.page.text ++ text) (sym grew.parts)
+            ∙ named_more s x front taken.pieces stepped.laid.piece lay before.page h.page refl
+            ∙ sym (ap (λ (all : Steps). text_written s all.pieces) (stepped_steps given all x front rest event stands.partial before h stands.is_partial));
+      },
+    )
 
 cut_stands : (given : Settings) (all front rest : List Event) (event : Event) (error : yaml_error_t) (before after : State) → Reached given all front (event ∷ rest) before → is_ready event rest ≡ true
     → CutShort error event (closes_at_once event rest) (record before { held = rest }) after → StandsCut given all error (failed_by error after)

@@ -224,14 +224,17 @@ flushed_page [] s pieces before after answer h flushed =
     flushed.kept
     ∙ ap (λ (p : Page). let made : Page = record p { output = after.output; error = after.error } in made) h
     ∙ ap (λ output. let made : Page = record (new_page s.limit) { output = output; error = after.error } in made) output
-flushed_page (x ∷ front) s pieces before after answer h flushed =
-    (record {
-      encoding = ap (λ (p : Page). p.encoding) flushed.kept ∙ h.0.encoding;
-      marked = ap (λ (p : Page). p.mark_due) flushed.kept ∙ h.0.marked;
-      line_break = ap (λ (p : Page). p.line_break) flushed.kept ∙ h.0.line_break;
-      limit = ap (λ (p : Page). p.limit) flushed.kept ∙ h.0.limit;
-      handed = flushed.handed;
-    }, ap (λ (p : Page). p.text) flushed.kept ∙ h.1, refl)
+flushed_page (x ∷ front) s pieces before after answer h flushed = (
+  record {
+    encoding = ap (λ (p : Page). p.encoding) flushed.kept ∙ h.0.encoding;
+    marked = ap (λ (p : Page). p.mark_due) flushed.kept ∙ h.0.marked;
+    line_break = ap (λ (p : Page). p.line_break) flushed.kept ∙ h.0.line_break;
+    limit = ap (λ (p : Page). p.limit) flushed.kept ∙ h.0.limit;
+    handed = flushed.handed;
+  },
+  ap (λ (p : Page). p.text) flushed.kept ∙ h.1,
+  refl,
+)
 
 pub flushed_stands : (given : Settings) (all : List Event) (state : State) (page : Page) → StandsWell given all state → Flushed state.page page (Ok tt) → StandsWell given all (record state { page = page })
 flushed_stands given all state page h flushed =
@@ -283,7 +286,7 @@ flush_failed given all state page error h flushed =
     elim flushed.handed.named [
       | inl none ↦ let wrong : Some error ≡ None = sym failed ∙ none in cc
       | inr other ↦ elim other [
-          | inl full ↦ let wrong : Some error ≡ Some WriteError = sym failed ∙ full in cc
-          | inr memory ↦ let wrong : Some error ≡ Some Memory = sym failed ∙ memory in cc
-        ]
+        | inl full ↦ let wrong : Some error ≡ Some WriteError = sym failed ∙ full in cc
+        | inr memory ↦ let wrong : Some error ≡ Some Memory = sym failed ∙ memory in cc
+      ]
     ]

@@ -207,16 +207,20 @@ cut_output given all error state h =
           begin_take (length h.front) shorter whole (begin_longer shorter pieces whole (steps_begin h.front (h.event ∷ []) s empty) on.begins)
           (steps_count h.front s (ends_collection h.event) at_stream first_standing) in
           let same : take (length h.front) whole ≡ (steps s (closes_last h.front (h.event ∷ h.later)) h.front at_stream first_standing).pieces =
-          first ∙ ap (λ (made : Steps). made.pieces) (end_next h.front h.later h.event stands.partial s (begins_last h.front) refl stands.is_partial) in
-          (longer, length h.front, omega (arith, length-append h.front (h.event ∷ [])), record {
-            later = h.later;
-            parts = append_assoc h.front (h.event ∷ []) h.later ∙ h.failed.parts;
-            more = on.more;
-            accepted = on.accepted;
-            least = subst (λ pieces. IsFront (text_written s pieces) state.page.text) (sym same) begun.3;
-            most = subst (λ pieces. IsFront state.page.text (text_written s pieces)) (sym (begin_take (length longer) pieces whole on.begins (steps_count longer s empty at_stream first_standing))) begun.4;
-            output = output_begins s state.page whole begun.1 (front_longer s state.page.text pieces whole begun.4 on.begins);
-          })
+          first ∙ ap (λ (made : Steps). made.pieces) (end_next h.front h.later h.event stands.partial s (begins_last h.front) refl stands.is_partial) in (
+            longer,
+            length h.front,
+            omega (arith, length-append h.front (h.event ∷ [])),
+            record {
+              later = h.later;
+              parts = append_assoc h.front (h.event ∷ []) h.later ∙ h.failed.parts;
+              more = on.more;
+              accepted = on.accepted;
+              least = subst (λ pieces. IsFront (text_written s pieces) state.page.text) (sym same) begun.3;
+              most = subst (λ pieces. IsFront state.page.text (text_written s pieces)) (sym (begin_take (length longer) pieces whole on.begins (steps_count longer s empty at_stream first_standing))) begun.4;
+              output = output_begins s state.page whole begun.1 (front_longer s state.page.text pieces whole begun.4 on.begins);
+            },
+          )
     ]
 
 unflushed_output : (given : Settings) (all : List Event) (error : yaml_error_t) (state : State) → StandsUnflushed given all error state → OutputOf given all state

@@ -158,9 +158,10 @@ pub output_fills : (s : Effective) (page : Page) (whole : List Piece) → IsPage
 output_fills s page whole h front failed =
     let full = h.handed.full failed in
     let within : s.limit ≤ length (encoded page) = omega (arith, full.0, h.limit) in
-    let is : page.output ≡ take s.limit (encoded page) = full.1 ∙ ap (λ n. take n (encoded page)) h.limit in
-    (ap length is ∙ length-take-le s.limit (encoded page) within,
-    is ∙ sym (take_longer s.limit (encoded page) (text_bytes s.encoding front.rest) within) ∙ ap (take s.limit) (sym (page_bytes s page whole h front)))
+    let is : page.output ≡ take s.limit (encoded page) = full.1 ∙ ap (λ n. take n (encoded page)) h.limit in (
+      ap length is ∙ length-take-le s.limit (encoded page) within,
+      is ∙ sym (take_longer s.limit (encoded page) (text_bytes s.encoding front.rest) within) ∙ ap (take s.limit) (sym (page_bytes s page whole h front)),
+    )
 
 -- A page's output is a beginning of the bytes of each list with its pieces.
 pub holds_output : (front : List Event) (s : Effective) (follows : Bool) (error : Option yaml_error_t) (page : Page) (whole : List Piece)

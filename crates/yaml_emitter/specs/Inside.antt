@@ -27,11 +27,10 @@ state_of e =
       error = e.error;
     }
 
--- the settings in force are in range, no more than three events wait where four find room, nothing is written
+-- the settings in force are in range, four events find room, nothing is written
 -- before an output is set, no handle in force holds a break, and the page was begun with the stream
 pub record IsEmitter {A : Type 0} (e : Inside A) : Type 0 where
   pub in_force : IsInForce e.settings
-  pub few_wait : vec_len e.queue ≤ 3
   pub room : 4 ≤ vec_capacity e.queue
   pub untouched : e.has_output ≡ false → IsUntouched e.pen
   pub handles : some_handle_breaks e.directives ≡ false

@@ -12,10 +12,20 @@ use Rattle.yaml_pen.specs.Wrote.{Wrote}
 use Rattle.yaml_emitter.specs.State.{State, standing_of}
 use Rattle.yaml_emitter.specs.WrittenPieces.{piece_at}
 
+-- the first event ends a sequence
+abbrev pub ends_sequence : List Event → Bool
+ends_sequence (sequence_end ∷ rest) = true
+ends_sequence rest = false
+
+-- the first event ends a mapping
+abbrev pub ends_mapping : List Event → Bool
+ends_mapping (mapping_end ∷ rest) = true
+ends_mapping rest = false
+
 -- an event that starts a collection is followed at once by that collection's end
 abbrev pub closes_at_once : Event → List Event → Bool
-closes_at_once (sequence_start start) (sequence_end ∷ rest) = true
-closes_at_once (mapping_start start) (mapping_end ∷ rest) = true
+closes_at_once (sequence_start start) rest = ends_sequence rest
+closes_at_once (mapping_start start) rest = ends_mapping rest
 closes_at_once event rest = false
 
 -- an event's piece and what comes next; empty: the collection that it starts ends at once

@@ -137,3 +137,9 @@ pub record Reached (given : Settings) (all front rest : List Event) (state : Sta
 -- after an error the events that waited are dropped
 abbrev pub failed_by : yaml_error_t → State → State
 failed_by error state = record state { held = []; error = Some error }
+
+-- wherever the emitter had come, it has come on from there
+abbrev pub ReachedOn : State → State → Type 0
+ReachedOn before after =
+    (given : Settings) (all front : List Event) → Reached given all front before.held before
+    → (next : List Event) × Reached given all next after.held after

@@ -1,14 +1,15 @@
 //! The directives of a document, as it begins.
 
-ghost use Rattle.std.specs.Prelude.{◌≡◌, ◌≢◌, [], ◌∷◌, ◌++◌, chars, map, Err, IfErr, OnOk};
+ghost use Rattle.std.specs.Option.{option_or};
+ghost use Rattle.std.specs.Prelude.{Some, IfOk, option_map, option_and_then, ◌≡◌, ◌≢◌, [], ◌∷◌, ◌++◌, chars, map, Err, IfErr, OnOk};
 ghost use Rattle.yaml_base.specs.Errors.{refused};
-ghost use Rattle.yaml_base.specs.Seen.{seen_directive};
+ghost use Rattle.yaml_base.specs.Seen.{seen_directive, seen_version};
 ghost use Rattle.yaml_emitter.specs.InForce.{with_default};
-ghost use Rattle.yaml_base.specs.Tags.{directives_fault, directives_in_force, next_directive_fault};
+ghost use Rattle.yaml_base.specs.Tags.{directives_fault, directives_in_force, next_directive_fault, version_fault};
 
 use std::alloc::Allocator;
-use yaml_base::{yaml_error_t, yaml_tag_directive_t};
-use yaml_mark::{Directives, analyze_tag_directive};
+use yaml_base::{yaml_error_t, yaml_tag_directive_t, yaml_version_directive_t};
+use yaml_mark::{Directives, analyze_tag_directive, analyze_version};
 
 /// Copies a document's own directives, each checked in its turn. `Memory` may come at any of them.
 pub(crate) fn read_directives<A: Allocator + Copy>(
@@ -63,4 +64,32 @@ fn add_default<A: Allocator + Copy>(
         prefix: String::from_str(alloc, prefix).map_err(|_| yaml_error_t::Memory)?,
     };
     directives.append(&directive, true)
+}
+
+/// The directives in force in a document with this version and these directives of its own, each checked in its
+/// turn. `Memory` may come at any of them.
+pub(crate) fn directives_for<A: Allocator + Copy>(
+    alloc: A,
+    version: Option<yaml_version_directive_t>,
+    own: &[yaml_tag_directive_t<A>],
+) -> Result<Directives<A>, yaml_error_t>
+    ensures refusal { refused result ≢ Some 21
+        → refused result
+        ≡ option_or (option_and_then version_fault (option_map seen_version version)) (directives_fault (map seen_directive own.now)) }
+    ensures in_force { IfOk result (λ directives. directives ≡ directives_in_force (map seen_directive own.now)) }
+{
+    check_version(version)?;
+    let mut directives = Directives::new(alloc);
+    read_directives(own, &mut directives)?;
+    add_defaults(alloc, &mut directives)?;
+    Ok(directives)
+}
+
+fn check_version(version: Option<yaml_version_directive_t>) -> Result<(), yaml_error_t>
+    ensures { refused result ≡ option_and_then version_fault (option_map seen_version version) }
+{
+    match version {
+        Some(version) => analyze_version(version),
+        None => Ok(()),
+    }
 }

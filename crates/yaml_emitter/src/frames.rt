@@ -110,6 +110,14 @@ impl<A: Allocator> Frames<A> {
         Ok(())
     }
 
+    /// Closes all collections.
+    pub(crate) fn clear(&mut self)
+        ensures { self.new ≡ [] }
+    {
+        self.innermost = None;
+        self.outer.clear();
+    }
+
     /// Closes the innermost collection.
     pub(crate) fn pop(&mut self) -> Option<Frame>
         ensures { MatchOption result ((self.old ≡ []) × (self.new ≡ [])) (λ frame. self.old ≡ seen_frame frame ∷ self.new) }

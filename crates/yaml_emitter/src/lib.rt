@@ -3,6 +3,7 @@
 
 mod check;
 mod directives;
+mod emit;
 mod emitter;
 mod frames;
 mod laws;

@@ -1,10 +1,10 @@
 //! One event: what refuses it, what it writes, and what may come next. One function a place.
 
-ghost use Rattle.std.specs.Prelude.{◌≡◌, ◌<◌, ◌≤◌, ◌+◌, ◌*◌, ◌∷◌, ℕ, None, Some, false, true, List, length, IsOk, IsSome, OnOk, unwrap_or};
-ghost use Rattle.yaml_base.specs.Event.{TagDirective, stream_start, stream_end, document_end};
+ghost use Rattle.std.specs.Prelude.{Bool, map, option_map, ◌≡◌, ◌<◌, ◌≤◌, ◌+◌, ◌*◌, ◌∷◌, ℕ, None, Some, false, true, List, length, IsOk, IsSome, OnOk, unwrap_or};
+ghost use Rattle.yaml_base.specs.Event.{TagDirective, stream_start, stream_end, document_start, document_end};
 ghost use Rattle.yaml_base.specs.Layout.{document_end_piece, stream_end_piece};
 ghost use Rattle.yaml_base.specs.Refusal.{name_or_tag_fault};
-ghost use Rattle.yaml_base.specs.Seen.{seen_break, seen_encoding, seen_event};
+ghost use Rattle.yaml_base.specs.Seen.{seen_break, seen_directive, seen_encoding, seen_event, seen_version};
 ghost use Rattle.yaml_base.specs.Settings.{line_feed_break};
 ghost use Rattle.yaml_base.specs.Steps.{Frame, at_stream, at_document, at_node, at_document_end, at_nothing, stage_after};
 ghost use Rattle.yaml_pen.specs.Page.{IsReady, IsUntouched, encoded};
@@ -12,23 +12,28 @@ ghost use Rattle.yaml_pen.specs.Wrote.{Wrote};
 ghost use Rattle.yaml_emitter.specs.Processing.{Processed};
 ghost use Rattle.yaml_emitter.specs.WrittenPieces.{piece_at, seen_mark};
 
+use crate::directives::directives_for;
 use crate::emitter::yaml_emitter_t;
 use crate::stage::Stage;
-use crate::writing::{OpenMark, write_document_end, write_stream_end};
+use crate::writing::{OpenMark, write_document_end, write_document_start, write_stream_end};
 use std::alloc::Allocator;
 use yaml_base::{
-    YAML_DOCUMENT_END_EVENT, YAML_STREAM_START_EVENT, yaml_break_t, yaml_encoding_t, yaml_error_t,
-    yaml_event_t,
+    YAML_DOCUMENT_END_EVENT, YAML_DOCUMENT_START_EVENT, YAML_STREAM_END_EVENT,
+    YAML_STREAM_START_EVENT, yaml_break_t, yaml_encoding_t, yaml_error_t, yaml_event_t,
+    yaml_tag_directive_t, yaml_version_directive_t,
 };
 use yaml_pen::Pen;
 
 impl<A: Allocator + Copy> yaml_emitter_t<A> {
     /// Where the stream must start.
-    fn expect_stream_start(&mut self, event: &yaml_event_t<A>) -> Result<(), yaml_error_t>
+    pub(crate) fn expect_stream_start(
+        &mut self,
+        event: &yaml_event_t<A>,
+    ) -> Result<(), yaml_error_t>
         requires output { self.old.has_output ≡ true }
         requires stage { self.old.stage ≡ at_stream }
         requires names { name_or_tag_fault self.old.given.canonical (seen_event event.now) ≡ None }
-        ensures { Processed (seen_event event.now) false self.old self.new result }
+        ensures { (empty : Bool) → Processed (seen_event event.now) empty self.old self.new result }
     {
         match event {
             YAML_STREAM_START_EVENT { encoding } => self.start_stream(*encoding),
@@ -36,12 +41,42 @@ impl<A: Allocator + Copy> yaml_emitter_t<A> {
         }
     }
 
+    /// Where a document or the stream's end must stand.
+    pub(crate) fn expect_document(
+        &mut self,
+        first: bool,
+        event: &yaml_event_t<A>,
+    ) -> Result<(), yaml_error_t>
+        requires output { self.old.has_output ≡ true }
+        requires stage { self.old.stage ≡ at_document first }
+        requires names { name_or_tag_fault self.old.given.canonical (seen_event event.now) ≡ None }
+        ensures { (empty : Bool) → Processed (seen_event event.now) empty self.old self.new result }
+    {
+        match event {
+            YAML_DOCUMENT_START_EVENT {
+                version_directive,
+                tag_directives,
+                implicit,
+            } => self.start_document(
+                first,
+                *version_directive,
+                tag_directives.as_slice(),
+                *implicit,
+            ),
+            YAML_STREAM_END_EVENT => self.end_stream(first),
+            _ => Err(yaml_error_t::ExpectedDocumentStart),
+        }
+    }
+
     /// Where a document must end.
-    fn expect_document_end(&mut self, event: &yaml_event_t<A>) -> Result<(), yaml_error_t>
+    pub(crate) fn expect_document_end(
+        &mut self,
+        event: &yaml_event_t<A>,
+    ) -> Result<(), yaml_error_t>
         requires output { self.old.has_output ≡ true }
         requires stage { self.old.stage ≡ at_document_end }
         requires names { name_or_tag_fault self.old.given.canonical (seen_event event.now) ≡ None }
-        ensures { Processed (seen_event event.now) false self.old self.new result }
+        ensures { (empty : Bool) → Processed (seen_event event.now) empty self.old self.new result }
     {
         match event {
             YAML_DOCUMENT_END_EVENT { implicit } => self.end_document(*implicit),
@@ -50,11 +85,11 @@ impl<A: Allocator + Copy> yaml_emitter_t<A> {
     }
 
     /// Behind the stream's end.
-    fn expect_nothing(&mut self, event: &yaml_event_t<A>) -> Result<(), yaml_error_t>
+    pub(crate) fn expect_nothing(&mut self, event: &yaml_event_t<A>) -> Result<(), yaml_error_t>
         requires output { self.old.has_output ≡ true }
         requires stage { self.old.stage ≡ at_nothing }
         requires names { name_or_tag_fault self.old.given.canonical (seen_event event.now) ≡ None }
-        ensures { Processed (seen_event event.now) false self.old self.new result }
+        ensures { (empty : Bool) → Processed (seen_event event.now) empty self.old self.new result }
     {
         Err(yaml_error_t::ExpectedNothing)
     }
@@ -63,7 +98,7 @@ impl<A: Allocator + Copy> yaml_emitter_t<A> {
     fn start_stream(&mut self, encoding: yaml_encoding_t) -> Result<(), yaml_error_t>
         requires output { self.old.has_output ≡ true }
         requires stage { self.old.stage ≡ at_stream }
-        ensures { Processed (stream_start (seen_encoding encoding)) false self.old self.new result }
+        ensures { (empty : Bool) → Processed (stream_start (seen_encoding encoding)) empty self.old self.new result }
     {
         self.settings = self.given.effective(encoding);
         begin_page(
@@ -75,11 +110,42 @@ impl<A: Allocator + Copy> yaml_emitter_t<A> {
         Ok(())
     }
 
+    /// A document's start. Memory is asked for before anything is written.
+    fn start_document(
+        &mut self,
+        first: bool,
+        version: Option<yaml_version_directive_t>,
+        own: &[yaml_tag_directive_t<A>],
+        implicit: bool,
+    ) -> Result<(), yaml_error_t>
+        requires output { self.old.has_output ≡ true }
+        requires stage { self.old.stage ≡ at_document first }
+        ensures { (empty : Bool) → Processed
+            (document_start (record { version = option_map seen_version version; directives = map seen_directive own.now; implicit = implicit }))
+            empty self.old self.new result }
+    {
+        let directives = directives_for(self.alloc, version, own)?;
+        write_document_start(
+            &mut self.pen,
+            self.settings.canonical,
+            first,
+            version,
+            own,
+            implicit,
+            self.mark,
+        )?;
+        self.directives = directives;
+        self.frames.clear();
+        self.mark = OpenMark::Closed;
+        self.stage = Stage::Node;
+        Ok(())
+    }
+
     /// A document's end, with `...` where it isn't implicit.
     fn end_document(&mut self, implicit: bool) -> Result<(), yaml_error_t>
         requires output { self.old.has_output ≡ true }
         requires stage { self.old.stage ≡ at_document_end }
-        ensures { Processed (document_end implicit) false self.old self.new result }
+        ensures { (empty : Bool) → Processed (document_end implicit) empty self.old self.new result }
     {
         hand_out_document_end(&mut self.pen, implicit)?;
         self.mark = self.mark.after_document(implicit);
@@ -91,7 +157,7 @@ impl<A: Allocator + Copy> yaml_emitter_t<A> {
     fn end_stream(&mut self, first: bool) -> Result<(), yaml_error_t>
         requires output { self.old.has_output ≡ true }
         requires stage { self.old.stage ≡ at_document first }
-        ensures { Processed stream_end false self.old self.new result }
+        ensures { (empty : Bool) → Processed stream_end empty self.old self.new result }
     {
         hand_out_stream_end(&mut self.pen, self.mark)?;
         self.stage = Stage::Nothing;

@@ -1,9 +1,11 @@
 //! Which events can be written: the head of the queue waits for those that decide how it is written.
 
-ghost use Rattle.std.specs.Prelude.{◌≡◌, if◌then◌else◌};
+ghost use Rattle.std.specs.Prelude.{◌≡◌, ◌∷◌, true, vec_capacity, if◌then◌else◌};
 ghost use Rattle.std.specs.List.{list_any};
 ghost use Rattle.yaml_base.specs.Ready.{is_start, is_end, awaited, is_balanced, fronts, is_ready};
 ghost use Rattle.yaml_base.specs.Seen.{seen_event, seen_events};
+ghost use Rattle.yaml_emitter.specs.Processing as processing;
+ghost use Rattle.yaml_emitter.specs.Processing.{ends_mapping, ends_sequence};
 ghost use Rattle.yaml_emitter.specs.Queue.{is_head_ready};
 
 use std::alloc::Allocator;
@@ -84,4 +86,45 @@ pub(crate) fn is_next_ready<A: Allocator>(events: &[yaml_event_t<A>]) -> bool
         return true;
     }
     closes(events)
+}
+
+/// Whether an event starts a collection that the next event ends.
+pub(crate) fn closes_at_once<A: Allocator>(
+    event: &yaml_event_t<A>,
+    rest: &[yaml_event_t<A>],
+) -> bool
+    ensures { result ≡ processing.closes_at_once (seen_event event.now) (seen_events rest.now) }
+{
+    match event {
+        YAML_SEQUENCE_START_EVENT { .. } => begins_with_sequence_end(rest),
+        YAML_MAPPING_START_EVENT { .. } => begins_with_mapping_end(rest),
+        _ => false,
+    }
+}
+
+fn begins_with_sequence_end<A: Allocator>(rest: &[yaml_event_t<A>]) -> bool
+    ensures { result ≡ ends_sequence (seen_events rest.now) }
+{
+    match rest {
+        [YAML_SEQUENCE_END_EVENT, ..] => true,
+        _ => false,
+    }
+}
+
+fn begins_with_mapping_end<A: Allocator>(rest: &[yaml_event_t<A>]) -> bool
+    ensures { result ≡ ends_mapping (seen_events rest.now) }
+{
+    match rest {
+        [YAML_MAPPING_END_EVENT, ..] => true,
+        _ => false,
+    }
+}
+
+/// Takes the first event out of the queue; its room stays.
+pub(crate) fn first_taken<A: Allocator>(queue: &mut Vec<yaml_event_t<A>, A>) -> yaml_event_t<A>
+    requires { is_head_ready (seen_events queue.old.items) ≡ true }
+    ensures first { seen_events queue.old.items ≡ seen_event result ∷ seen_events queue.new.items }
+    ensures room { vec_capacity queue.new ≡ vec_capacity queue.old }
+{
+    queue.remove(0)
 }

@@ -12,7 +12,6 @@ pub invariant_of-result : goal.invariant_of-result
 invariant_of-result g c =
     record {
       in_force = search rules;
-      few_wait = omega (arith, c.in_ok-queue.ensures.room.0);
       room = c.in_ok-queue.ensures.room.1;
       untouched = λ _. subst (λ (p : Page). IsUntouched p) (sym c.in_ok-pen.ensures.made) untouched_new;
       handles = search rules;

@@ -13,7 +13,6 @@ invariant_of-self g c =
     let output = has_output_inside c.self.inside c.self.view_is c.requires.output in
     record {
       in_force = c.effective-self-inside.ensures.in_force;
-      few_wait = c.self.invariant.few_wait;
       room = c.self.invariant.room;
       untouched = λ none. cc;
       handles = c.self.invariant.handles;
@@ -22,10 +21,10 @@ invariant_of-self g c =
     }
 
 pub returns : goal.returns
-returns g c =
+returns g c = λ empty.
     let s = seen_effective c.effective-self-inside.result in
     rw (← c.self.view_is)
-    (stream_started (state_of c.self.inside) (seen_encoding c.args.encoding) s c.begin_page.new.pen (stage_inside c.self.inside c.self.view_is c.requires.stage)
+    (stream_started empty (state_of c.self.inside) (seen_encoding c.args.encoding) s c.begin_page.new.pen (stage_inside c.self.inside c.self.view_is c.requires.stage)
     c.effective-self-inside.ensures.gives
     (c.begin_page.ensures
     ∙ ap (λ (e : Option Encoding). let p : Page = record c.self.inside.pen { encoding = e; line_break = s.line_break; mark_due = false } in p) (given_is_there (seen_encoding c.effective-self-inside.result.encoding) utf8 c.effective-self-inside.ensures.encoding)))
