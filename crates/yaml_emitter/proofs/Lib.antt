@@ -35,3 +35,4 @@ pub mod Canonical
 pub mod NodesDone
 pub mod CanonicalOutput
 pub mod DocumentsDone
+pub mod Emitting

@@ -1,5 +1,5 @@
 -- An emitter stands after the events that it was given.
-use Rattle.std.specs.Prelude.{◌≡◌, ◌⊎◌, ℕ, ◌+◌, ◌<◌, Bool, true, false, Option, None, Some, List, [], ◌∷◌, ◌++◌, length, take}
+use Rattle.std.specs.Prelude.{◌≡◌, ◌⊎◌, ℕ, ◌+◌, ◌<◌, Bool, true, false, Option, None, Some, Result, List, [], ◌∷◌, ◌++◌, length, take}
 use Rattle.yaml_base.specs.Errors.{refusal_number}
 use Rattle.yaml_base.specs.Settings.{Settings, Effective}
 use Rattle.yaml_base.specs.Characters.{Text}
@@ -13,7 +13,7 @@ use Rattle.yaml_base.specs.declared.errors.yaml_error_t.{yaml_error_t}
 use Rattle.yaml_base.specs.declared.errors.yaml_error_t.TheVariants.{WriteError, Memory}
 use Rattle.yaml_pen.specs.Page.{Page, new_page, encoded, IsHandedOut}
 use Rattle.yaml_emitter.specs.State.{State, standing_of}
-use Rattle.yaml_emitter.specs.Processing.{closes_at_once}
+use Rattle.yaml_emitter.specs.Processing.{Processed, closes_at_once}
 
 -- a page of a stream that was begun, with its settings, and this text
 pub record IsPage (s : Effective) (page : Page) : Type 0 where
@@ -143,3 +143,10 @@ abbrev pub ReachedOn : State → State → Type 0
 ReachedOn before after =
     (given : Settings) (all front : List Event) → Reached given all front before.held before
     → (next : List Event) × Reached given all next after.held after
+
+-- the first event that waited was taken and processed
+pub record TookFirst (before after : State) (answer : Result (Unit {0}) yaml_error_t) : Type 0 where
+  pub event : Event
+  pub rest : List Event
+  pub held : before.held ≡ event ∷ rest
+  pub done : Processed event (closes_at_once event rest) (record before { held = rest }) after answer

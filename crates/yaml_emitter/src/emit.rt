@@ -1,11 +1,18 @@
-//! The work on one event, wherever the stream stands.
+//! Events that wait are written where they are ready.
 
-ghost use Rattle.std.specs.Prelude.{◌≡◌, true};
+ghost use Rattle.std.specs.Prelude.{◌≡◌, ◌<◌, true, None, List, length, OnOk, OnErr};
+ghost use Rattle.yaml_base.specs.Event.{Event};
 ghost use Rattle.yaml_base.specs.Seen.{seen_event};
+ghost use Rattle.yaml_base.specs.Settings.{Settings};
+ghost use Rattle.yaml_pen.specs.Page.{told};
+ghost use Rattle.yaml_emitter.specs.Processing as processing;
 ghost use Rattle.yaml_emitter.specs.Processing.{Processed};
+ghost use Rattle.yaml_emitter.specs.Queue.{is_head_ready};
+ghost use Rattle.yaml_emitter.specs.StandsAfter.{Reached, ReachedOn, StandsAfter, TookFirst, failed_by};
 
 use crate::check::check_names;
 use crate::emitter::yaml_emitter_t;
+use crate::queue::{closes_at_once, first_taken, is_next_ready};
 use crate::stage::Stage;
 use std::alloc::Allocator;
 use yaml_base::{yaml_error_t, yaml_event_t};
@@ -24,5 +31,65 @@ impl<A: Allocator + Copy> yaml_emitter_t<A> {
             Stage::DocumentEnd => self.expect_document_end(event),
             Stage::Nothing => self.expect_nothing(event),
         }
+    }
+
+    /// Writes the events that are ready, in order, up to the first error.
+    fn settle(&mut self) -> Result<(), yaml_error_t>
+        requires output { self.old.has_output ≡ true }
+        requires no_error { self.old.error ≡ None }
+        ensures stands { (given : Settings) (all front : List Event) → Reached given all front self.old.held self.old → StandsAfter given all self.new }
+        ensures answered { result ≡ told self.new.error }
+    {
+        while is_next_ready(self.queue.as_slice()) {
+            self.write_next()?;
+        }
+        Ok(())
+    }
+
+    /// Writes the first event that waits. After an error nothing waits.
+    fn write_next(&mut self) -> Result<(), yaml_error_t>
+        requires output { self.old.has_output ≡ true }
+        requires no_error { self.old.error ≡ None }
+        requires ready { is_head_ready self.old.held ≡ true }
+        ensures next { OnOk result (ReachedOn self.old self.new) }
+        ensures failed { OnErr result ((given : Settings) (all front : List Event) → Reached given all front self.old.held self.old → StandsAfter given all self.new) }
+        ensures shorter { OnOk result (length self.new.held < length self.old.held) }
+        ensures answered { result ≡ told self.new.error }
+        ensures output { self.new.has_output ≡ true }
+    {
+        match self.process_next() {
+            Ok(()) => Ok(()),
+            Err(error) => {
+                self.fail(error);
+                Err(error)
+            }
+        }
+    }
+
+    /// Takes the first event that waits, and processes it.
+    fn process_next(&mut self) -> Result<(), yaml_error_t>
+        requires output { self.old.has_output ≡ true }
+        requires ready { is_head_ready self.old.held ≡ true }
+        ensures { TookFirst self.old self.new result }
+    {
+        let event = first_taken(&mut self.queue);
+        self.process_taken(event)
+    }
+
+    /// One event that was taken out of the queue.
+    fn process_taken(&mut self, event: yaml_event_t<A>) -> Result<(), yaml_error_t>
+        requires output { self.old.has_output ≡ true }
+        ensures { Processed (seen_event event) (processing.closes_at_once (seen_event event) self.old.held) self.old self.new result }
+    {
+        let empty = closes_at_once(&event, self.queue.as_slice());
+        self.process(&event, empty)
+    }
+
+    /// The first error is kept for good, and the events that wait are dropped.
+    fn fail(&mut self, error: yaml_error_t)
+        ensures { self.new ≡ failed_by error self.old }
+    {
+        self.queue.clear();
+        self.error = Some(error);
     }
 }

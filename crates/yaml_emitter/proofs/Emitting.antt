@@ -1,0 +1,56 @@
+-- The events that wait are written one after another.
+use Rattle.std.proofs.Common.{arith, ◌≡◌, ◌<◌, ℕ, Bool, true, Option, Some, Result, Ok, Err, List, [], ◌∷◌, ◌++◌, length, refl, sym, ap, subst, ◌∙◌}
+use Rattle.yaml_base.specs.Settings.{Settings}
+use Rattle.yaml_base.specs.Event.{Event}
+use Rattle.yaml_base.specs.Ready.{is_ready}
+use Rattle.yaml_base.specs.declared.errors.yaml_error_t.{yaml_error_t}
+use Rattle.yaml_base.specs.declared.errors.yaml_error_t.TheVariants.{WriteError, Memory}
+use Rattle.yaml_emitter.specs.State.{State}
+use Rattle.yaml_emitter.specs.Queue.{is_head_ready}
+use Rattle.yaml_emitter.specs.Processing.{Processed, closes_at_once}
+use Rattle.yaml_emitter.specs.StandsAfter.{Reached, ReachedOn, StandsAfter, TookFirst, failed_by}
+use Rattle.yaml_emitter.proofs.Standing.{reached_next}
+use Rattle.yaml_emitter.proofs.StandingFailed.{reached_failed}
+
+-- What took an event keeps whether there is an output.
+pub took_output : (before after : State) (answer : Result (Unit {0}) yaml_error_t) → TookFirst before after answer → after.has_output ≡ before.has_output
+took_output before after (Ok _) h = ap (λ (s : State). s.has_output) h.done.kept
+took_output before after (Err WriteError) h = ap (λ (s : State). s.has_output) h.done.kept
+took_output before after (Err Memory) h = ap (λ (s : State). s.has_output) h.done.kept
+took_output before after (Err error) h = ap (λ (s : State). s.has_output) h.done.kept
+
+-- An event that was written waits no more.
+pub took_rest : (before after : State) (h : TookFirst before after (Ok tt)) → after.held ≡ h.rest
+took_rest before after h = ap (λ (s : State). s.held) h.done.kept
+
+pub took_error : (before after : State) → TookFirst before after (Ok tt) → after.error ≡ before.error
+took_error before after h = ap (λ (s : State). s.error) h.done.kept
+
+pub took_shorter : (before after : State) → TookFirst before after (Ok tt) → length after.held < length before.held
+took_shorter before after h =
+    let less : length h.rest < length (h.event ∷ h.rest) = omega arith in
+    subst (λ r. length r < length before.held) (sym (took_rest before after h))
+    (subst (λ r. length h.rest < length r) (sym h.held) less)
+
+took_ready : (before after : State) (answer : Result (Unit {0}) yaml_error_t) (h : TookFirst before after answer) → is_head_ready before.held ≡ true → is_ready h.event h.rest ≡ true
+took_ready before after answer h ready = subst (λ r. is_head_ready r ≡ true) h.held ready
+
+pub took_next : (before after : State) → TookFirst before after (Ok tt) → is_head_ready before.held ≡ true → ReachedOn before after
+took_next before after h ready given all front reached =
+    let at : Reached given all front (h.event ∷ h.rest) before = subst (λ r. Reached given all front r before) h.held reached in
+    let on : Reached given all (front ++ h.event ∷ []) h.rest after =
+    reached_next given all front h.rest h.event before after at (took_ready before after (Ok tt) h ready) h.done in
+    (front ++ h.event ∷ [], subst (λ r. Reached given all (front ++ h.event ∷ []) r after) (sym (took_rest before after h)) on)
+
+pub took_failed : (before after : State) (error : yaml_error_t) → TookFirst before after (Err error) → is_head_ready before.held ≡ true → (given : Settings) (all front : List Event)
+    → Reached given all front before.held before
+    → StandsAfter given all (failed_by error after)
+took_failed before after error h ready given all front reached =
+    let at : Reached given all front (h.event ∷ h.rest) before = subst (λ r. Reached given all front r before) h.held reached in
+    reached_failed given all front h.rest h.event before after error at (took_ready before after (Err error) h ready) h.done
+
+-- Where an emitter has come in two parts, it has come.
+pub reached_on : (first second third : State) → ReachedOn first second → ReachedOn second third → ReachedOn first third
+reached_on first second third h h' given all front reached =
+    let at = h given all front reached in
+    h' given all at.0 at.1
