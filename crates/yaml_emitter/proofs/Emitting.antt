@@ -1,16 +1,17 @@
 -- The events that wait are written one after another.
-use Rattle.std.proofs.Common.{arith, ◌≡◌, ◌<◌, ℕ, Bool, true, Option, Some, Result, Ok, Err, List, [], ◌∷◌, ◌++◌, length, refl, sym, ap, subst, ◌∙◌}
+use Rattle.std.proofs.Common.{arith, ◌≡◌, ◌≤◌, ◌<◌, ℕ, Bool, true, Option, None, Some, Result, Ok, Err, List, [], ◌∷◌, ◌++◌, length, take, refl, sym, ap, subst, ◌∙◌}
 use Rattle.yaml_base.specs.Settings.{Settings}
 use Rattle.yaml_base.specs.Event.{Event}
-use Rattle.yaml_base.specs.Ready.{is_ready}
+use Rattle.yaml_base.specs.Ready.{is_ready, written}
 use Rattle.yaml_base.specs.declared.errors.yaml_error_t.{yaml_error_t}
 use Rattle.yaml_base.specs.declared.errors.yaml_error_t.TheVariants.{WriteError, Memory}
 use Rattle.yaml_emitter.specs.State.{State}
 use Rattle.yaml_emitter.specs.Queue.{is_head_ready}
 use Rattle.yaml_emitter.specs.Processing.{Processed, closes_at_once}
-use Rattle.yaml_emitter.specs.StandsAfter.{Reached, ReachedOn, StandsAfter, TookFirst, failed_by}
-use Rattle.yaml_emitter.proofs.Standing.{reached_next}
+use Rattle.yaml_emitter.specs.StandsAfter.{Reached, ReachedOn, StandsAfter, StandsWell, TookFirst, failed_by}
+use Rattle.yaml_emitter.proofs.Standing.{reached_first, reached_next}
 use Rattle.yaml_emitter.proofs.StandingFailed.{reached_failed}
+use Rattle.yaml_emitter.proofs.StandingPromises.{promises_held, stands_well}
 
 -- What took an event keeps whether there is an output.
 pub took_output : (before after : State) (answer : Result (Unit {0}) yaml_error_t) → TookFirst before after answer → after.has_output ≡ before.has_output
@@ -54,3 +55,18 @@ pub reached_on : (first second third : State) → ReachedOn first second → Rea
 reached_on first second third h h' given all front reached =
     let at = h given all front reached in
     h' given all at.0 at.1
+
+-- Where at most three events wait, there is room for one more.
+pub stands_few : (given : Settings) (all : List Event) (before : State) → StandsAfter given all before → before.error ≡ None → length before.held ≤ 3
+stands_few given all before h none = (promises_held given all before h none).few
+
+-- An event that was taken stands behind those that wait.
+pub reached_taken : (given : Settings) (all : List Event) (event : Event) (before after : State) → StandsAfter given all before → before.error ≡ None
+    → after ≡ record before { started = true; held = before.held ++ event ∷ [] }
+    → Reached given (all ++ event ∷ []) (take (written all) all) after.held after
+reached_taken given all event before after h none is =
+    let well : StandsWell given all before = stands_well given all before h none in
+    let now : State = record before { started = true; held = before.held ++ event ∷ [] } in
+    let at : Reached given (all ++ event ∷ []) (take (written all) all) (before.held ++ event ∷ []) now =
+    subst (λ l. Reached given (all ++ event ∷ []) (take (written all) all) (l ++ event ∷ []) now) (sym well.held) (reached_first given all event before well none) in
+    subst (λ (s : State). Reached given (all ++ event ∷ []) (take (written all) all) s.held s) (sym is) at

@@ -34,7 +34,7 @@ use Rattle.yaml_emitter.proofs.StandingFailed.{own_accepted}
 use Rattle.yaml_emitter.proofs.StandingMore.{ready_at, settings_failed}
 use Rattle.yaml_emitter.proofs.StandingTexts.{holds_text, pieces_front, BeginPieces, begin_taken, begin_take, begin_longer, front_longer, front_itself, GoesOn, goes_on, output_begins, output_fills, holds_output}
 
-stands_well : (given : Settings) (all : List Event) (state : State) → StandsAfter given all state → state.error ≡ None → StandsWell given all state
+pub stands_well : (given : Settings) (all : List Event) (state : State) → StandsAfter given all state → state.error ≡ None → StandsWell given all state
 stands_well given all state h none = subst (λ e. StandsBy given all e state) none h
 
 stands_failed : (given : Settings) (all : List Event) (state : State) (error : yaml_error_t) → StandsAfter given all state → state.error ≡ Some error → StandsFailed given all error state

@@ -1,6 +1,6 @@
 //! Events that wait are written where they are ready.
 
-ghost use Rattle.std.specs.Prelude.{◌≡◌, ◌<◌, true, None, List, length, OnOk, OnErr};
+ghost use Rattle.std.specs.Prelude.{◌≡◌, ◌≤◌, ◌<◌, true, None, List, [], ◌∷◌, ◌++◌, length, OnOk, OnErr, IsOk};
 ghost use Rattle.yaml_base.specs.Event.{Event};
 ghost use Rattle.yaml_base.specs.Seen.{seen_event};
 ghost use Rattle.yaml_base.specs.Settings.{Settings};
@@ -17,7 +17,42 @@ use crate::stage::Stage;
 use std::alloc::Allocator;
 use yaml_base::{yaml_error_t, yaml_event_t};
 
+/// Takes an event, and writes what can be written now: an event that starts a document or a collection waits
+/// until those are given that decide how it is written (at most three follow it).
+///
+/// Answers the first error that there was, in this call or before; the event is taken in each case, and after an
+/// error nothing waits and nothing more is written.
+pub fn yaml_emitter_emit<A: Allocator + Copy>(
+    emitter: &mut yaml_emitter_t<A>,
+    event: yaml_event_t<A>,
+) -> Result<(), yaml_error_t>
+    requires { emitter.old.has_output ≡ true }
+    ensures stands { (given : Settings) (all : List Event) → StandsAfter given all emitter.old → StandsAfter given (all ++ seen_event event ∷ []) emitter.new }
+    ensures answered { result ≡ told emitter.new.error }
+{
+    emitter.started = true;
+    if let Some(error) = emitter.error {
+        return Err(error);
+    }
+    emitter.take(event)?;
+    emitter.settle()
+}
+
 impl<A: Allocator + Copy> yaml_emitter_t<A> {
+    /// Puts an event behind those that wait. Where at most three wait, it needs no memory.
+    fn take(&mut self, event: yaml_event_t<A>) -> Result<(), yaml_error_t>
+        requires { self.old.error ≡ None }
+        ensures taken { OnOk result (self.new ≡ record self.old { held = self.old.held ++ seen_event event ∷ [] }) }
+        ensures room { length self.old.held ≤ 3 → IsOk result }
+        ensures answered { result ≡ told self.new.error }
+    {
+        if self.queue.push(event).is_err() {
+            self.fail(yaml_error_t::Memory);
+            return Err(yaml_error_t::Memory);
+        }
+        Ok(())
+    }
+
     /// One event. Its names and tags are looked at before its place.
     fn process(&mut self, event: &yaml_event_t<A>, empty: bool) -> Result<(), yaml_error_t>
         requires output { self.old.has_output ≡ true }

@@ -1,0 +1,27 @@
+use Rattle.std.proofs.Common.{◌++◌, ◌∷◌, [], take, sym, subst}
+use Rattle.std.proofs.lemmas.Bool.{false≢true}
+use Rattle.yaml_base.specs.Ready.{written}
+use Rattle.yaml_base.specs.Seen.{seen_event}
+use Rattle.yaml_emitter.specs.Inside.{state_of}
+use Rattle.yaml_emitter.specs.StandsAfter.{StandsAfter}
+use Rattle.yaml_emitter.proofs.Emitting.{stands_few, reached_taken}
+use Rattle.yaml_emitter.proofs.StandingMore.{failed_more}
+use Rattle.yaml_emitter.proofs.emit.yaml_emitter_emit.Goals as goal
+
+pub returns-in-Some-clause-stands : goal.returns-in-Some-clause-stands
+returns-in-Some-clause-stands g c given all stands =
+    failed_more given all (seen_event c.args.event) (state_of c.emitter.inside) c.in-Some.error
+    (subst (λ s. StandsAfter given all s) (sym c.emitter.view_is) stands)
+    c.in-Some.is
+
+pub returns-in_err-take-clause-stands : goal.returns-in_err-take-clause-stands
+returns-in_err-take-clause-stands g c given all stands =
+    let h = subst (λ s. StandsAfter given all s) (sym c.emitter.view_is) stands in
+    absurd (false≢true (c.in_err-take.ensures.room (stands_few given all (state_of c.emitter.inside) h c.in_default.is)))
+
+pub returns-clause-stands : goal.returns-clause-stands
+returns-clause-stands g c given all stands =
+    let event = seen_event c.args.event in
+    let h = subst (λ s. StandsAfter given all s) (sym c.emitter.view_is) stands in
+    c.settle.ensures.stands given (all ++ event ∷ []) (take (written all) all)
+    (reached_taken given all event (state_of c.emitter.inside) c.take.new.self h c.in_default.is c.in_ok-take.ensures.taken)
