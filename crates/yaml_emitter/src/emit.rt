@@ -29,6 +29,7 @@ pub fn yaml_emitter_emit<A: Allocator + Copy>(
     requires { emitter.old.has_output ≡ true }
     ensures stands { (given : Settings) (all : List Event) → StandsAfter given all emitter.old → StandsAfter given (all ++ seen_event event ∷ []) emitter.new }
     ensures answered { result ≡ told emitter.new.error }
+    ensures output { emitter.new.has_output ≡ true }
 {
     emitter.started = true;
     if let Some(error) = emitter.error {
@@ -41,10 +42,12 @@ pub fn yaml_emitter_emit<A: Allocator + Copy>(
 impl<A: Allocator + Copy> yaml_emitter_t<A> {
     /// Puts an event behind those that wait. Where at most three wait, it needs no memory.
     fn take(&mut self, event: yaml_event_t<A>) -> Result<(), yaml_error_t>
-        requires { self.old.error ≡ None }
+        requires output { self.old.has_output ≡ true }
+        requires no_error { self.old.error ≡ None }
         ensures taken { OnOk result (self.new ≡ record self.old { held = self.old.held ++ seen_event event ∷ [] }) }
         ensures room { length self.old.held ≤ 3 → IsOk result }
         ensures answered { result ≡ told self.new.error }
+        ensures output { self.new.has_output ≡ true }
     {
         if self.queue.push(event).is_err() {
             self.fail(yaml_error_t::Memory);
@@ -74,6 +77,7 @@ impl<A: Allocator + Copy> yaml_emitter_t<A> {
         requires no_error { self.old.error ≡ None }
         ensures stands { (given : Settings) (all front : List Event) → Reached given all front self.old.held self.old → StandsAfter given all self.new }
         ensures answered { result ≡ told self.new.error }
+        ensures output { self.new.has_output ≡ true }
     {
         while is_next_ready(self.queue.as_slice()) {
             self.write_next()?;
