@@ -4,7 +4,8 @@ ghost use Rattle.std.specs.Prelude.{◌≡◌, ◌≤◌, ◌<◌, true, None, L
 ghost use Rattle.yaml_base.specs.Event.{Event};
 ghost use Rattle.yaml_base.specs.Seen.{seen_event};
 ghost use Rattle.yaml_base.specs.Settings.{Settings};
-ghost use Rattle.yaml_pen.specs.Page.{told};
+ghost use Rattle.yaml_pen.specs.Page.{told, encoded};
+ghost use Rattle.yaml_emitter.specs.State.{knows_encoding};
 ghost use Rattle.yaml_emitter.specs.Processing as processing;
 ghost use Rattle.yaml_emitter.specs.Processing.{Processed};
 ghost use Rattle.yaml_emitter.specs.Queue.{is_head_ready};
@@ -39,6 +40,26 @@ pub fn yaml_emitter_emit<A: Allocator + Copy>(
     emitter.settle()
 }
 
+/// Hands out all that is written; what waits goes on waiting.
+///
+/// Answers the first error that there was, in this call or before: `WriteError` where the text's bytes pass the
+/// output's limit, `Memory` where the output found no room; after an error nothing waits.
+pub fn yaml_emitter_flush<A: Allocator + Copy>(
+    emitter: &mut yaml_emitter_t<A>,
+) -> Result<(), yaml_error_t>
+    requires output { emitter.old.has_output ≡ true }
+    requires encoding { knows_encoding emitter.old ≡ true }
+    ensures stands { (given : Settings) (all : List Event) → StandsAfter given all emitter.old → StandsAfter given all emitter.new }
+    ensures answered { result ≡ told emitter.new.error }
+    ensures output { emitter.new.has_output ≡ true }
+    ensures handed_out { OnOk result (emitter.new.page.output ≡ encoded emitter.new.page) }
+{
+    if let Some(error) = emitter.error {
+        return Err(error);
+    }
+    emitter.hand_out()
+}
+
 impl<A: Allocator + Copy> yaml_emitter_t<A> {
     /// Puts an event behind those that wait. Where at most three wait, it needs no memory.
     fn take(&mut self, event: yaml_event_t<A>) -> Result<(), yaml_error_t>
@@ -54,6 +75,24 @@ impl<A: Allocator + Copy> yaml_emitter_t<A> {
             return Err(yaml_error_t::Memory);
         }
         Ok(())
+    }
+
+    /// Hands out all that is written.
+    fn hand_out(&mut self) -> Result<(), yaml_error_t>
+        requires output { self.old.has_output ≡ true }
+        requires no_error { self.old.error ≡ None }
+        ensures stands { (given : Settings) (all : List Event) → StandsAfter given all self.old → StandsAfter given all self.new }
+        ensures answered { result ≡ told self.new.error }
+        ensures output { self.new.has_output ≡ true }
+        ensures handed_out { OnOk result (self.new.page.output ≡ encoded self.new.page) }
+    {
+        match self.pen.flush() {
+            Ok(()) => Ok(()),
+            Err(error) => {
+                self.fail(error);
+                Err(error)
+            }
+        }
     }
 
     /// One event. Its names and tags are looked at before its place.
