@@ -8,7 +8,7 @@ use Rattle.yaml_base.specs.declared.errors.yaml_error_t.TheVariants.{WriteError,
 use Rattle.yaml_emitter.specs.State.{State}
 use Rattle.yaml_emitter.specs.Queue.{is_head_ready}
 use Rattle.yaml_emitter.specs.Processing.{Processed, closes_at_once}
-use Rattle.yaml_emitter.specs.StandsAfter.{Reached, ReachedOn, StandsAfter, StandsWell, TookFirst, failed_by}
+use Rattle.yaml_emitter.specs.StandsAfter.{Reached, ReachedOn, StandsSo, StandsWell, TookFirst, failed_by}
 use Rattle.yaml_emitter.proofs.Standing.{reached_first, reached_next}
 use Rattle.yaml_emitter.proofs.StandingFailed.{reached_failed}
 use Rattle.yaml_emitter.proofs.StandingPromises.{promises_held, stands_well}
@@ -45,7 +45,7 @@ took_next before after h ready given all front reached =
 
 pub took_failed : (before after : State) (error : yaml_error_t) → TookFirst before after (Err error) → is_head_ready before.held ≡ true → (given : Settings) (all front : List Event)
     → Reached given all front before.held before
-    → StandsAfter given all (failed_by error after)
+    → StandsSo given all (failed_by error after)
 took_failed before after error h ready given all front reached =
     let at : Reached given all front (h.event ∷ h.rest) before = subst (λ r. Reached given all front r before) h.held reached in
     reached_failed given all front h.rest h.event before after error at (took_ready before after (Err error) h ready) h.done
@@ -57,11 +57,11 @@ reached_on first second third h h' given all front reached =
     h' given all at.0 at.1
 
 -- Where at most three events wait, there is room for one more.
-pub stands_few : (given : Settings) (all : List Event) (before : State) → StandsAfter given all before → before.error ≡ None → length before.held ≤ 3
+pub stands_few : (given : Settings) (all : List Event) (before : State) → StandsSo given all before → before.error ≡ None → length before.held ≤ 3
 stands_few given all before h none = (promises_held given all before h none).few
 
 -- An event that was taken stands behind those that wait.
-pub reached_taken : (given : Settings) (all : List Event) (event : Event) (before after : State) → StandsAfter given all before → before.error ≡ None
+pub reached_taken : (given : Settings) (all : List Event) (event : Event) (before after : State) → StandsSo given all before → before.error ≡ None
     → after ≡ record before { started = true; held = before.held ++ event ∷ [] }
     → Reached given (all ++ event ∷ []) (take (written all) all) after.held after
 reached_taken given all event before after h none is =

@@ -1,7 +1,10 @@
 -- What an emitter keeps true, after a call that writes.
-use Rattle.std.proofs.Common.{◌≡◌, Bool, true, false, List, refl, ap, ◌∙◌}
+use Rattle.std.proofs.Common.{◌≡◌, Bool, true, false, Option, None, Some, Result, List, [], refl, sym, ap, subst, ◌∙◌}
+use Rattle.std.specs.Prelude.{IsSome, if◌then◌else◌}
 use Rattle.yaml_base.specs.Steps.{Frame, Stage, at_stream, at_document, at_node, at_document_end, at_nothing}
-use Rattle.yaml_pen.specs.Page.{Page, IsReady, IsUntouched}
+use Rattle.yaml_base.specs.declared.errors.yaml_error_t.{yaml_error_t}
+use Rattle.yaml_pen.specs.Page.{Page, IsReady, IsUntouched, encoded}
+use Rattle.yaml_pen.specs.Wrote.{Flushed}
 use Rattle.yaml_emitter.specs.State.{State, FitsPage, is_at_stream}
 use Rattle.yaml_base.specs.Event.{TagDirective}
 use Rattle.yaml_emitter.specs.Signs.{some_handle_breaks}
@@ -48,8 +51,43 @@ kept_beginning e pen after directives frames mark kept output handles fits =
 pub has_output_inside : {A : Type 0} (e : Inside A) {seen : State} → state_of e ≡ seen → seen.has_output ≡ true → e.has_output ≡ true
 has_output_inside e is output = ap (λ (s : State). s.has_output) is ∙ output
 
+pub error_inside : {A : Type 0} (e : Inside A) {seen : State} → state_of e ≡ seen → seen.error ≡ None → (state_of e).error ≡ None
+error_inside e is none = ap (λ (s : State). s.error) is ∙ none
+
 pub stage_inside : {A : Type 0} (e : Inside A) {seen : State} {at : Stage} → state_of e ≡ seen → seen.stage ≡ at → (state_of e).stage ≡ at
 stage_inside e is stage = ap (λ (s : State). s.stage) is ∙ stage
 
 pub behind_start : {st at : Stage} → st ≡ at → is_at_stream at ≡ false → is_at_stream st ≡ false
 behind_start is behind = ap is_at_stream is ∙ behind
+
+-- a flush keeps a page that fits: of an untouched one it changes nothing
+unwritten : (page : Page) → IsUntouched page → page.mark_due ≡ false → page.output ≡ [] → page.output ≡ encoded page
+unwritten page untouched due output = output ∙ sym untouched.no_bytes ∙ ap (λ b. if b then [] else encoded page) due
+
+ready_flushed : (before after : Page) (answer : Result (Unit {0}) yaml_error_t) → IsReady before → Flushed before after answer → IsReady after
+ready_flushed before after answer ready flushed =
+    record {
+      begun = subst (λ o. IsSome o) (sym (ap (λ (p : Page). p.encoding) flushed.kept)) ready.begun;
+      marked = ap (λ (p : Page). p.mark_due) flushed.kept ∙ ready.marked;
+    }
+
+pub fits_flushed : (st : Stage) (before after : Page) (answer : Result (Unit {0}) yaml_error_t) → FitsPage st before → Flushed before after answer
+    → (before.error ≡ None → before.output ≡ encoded before → after ≡ before) → FitsPage st after
+fits_flushed at_stream before after answer fits flushed empty =
+    subst (λ page. FitsPage at_stream page) (sym (empty fits.0.no_error (unwritten before fits.0 fits.1 fits.2))) fits
+fits_flushed (at_document first) before after answer fits flushed empty = ready_flushed before after answer fits flushed
+fits_flushed (at_node directives frames) before after answer fits flushed empty = ready_flushed before after answer fits flushed
+fits_flushed at_document_end before after answer fits flushed empty = ready_flushed before after answer fits flushed
+fits_flushed at_nothing before after answer fits flushed empty = ready_flushed before after answer fits flushed
+
+pub fits_marked : (st : Stage) (page : Page) → FitsPage st page → page.mark_due ≡ false
+fits_marked at_stream page fits = fits.1
+fits_marked (at_document first) page fits = fits.marked
+fits_marked (at_node directives frames) page fits = fits.marked
+fits_marked at_document_end page fits = fits.marked
+fits_marked at_nothing page fits = fits.marked
+
+pub kept_flushing : {A : Type 0} (e : Inside A) (pen : Page) (answer : Result (Unit {0}) yaml_error_t) → IsEmitter e → e.has_output ≡ true → Flushed e.pen pen answer
+    → (e.pen.error ≡ None → e.pen.output ≡ encoded e.pen → pen ≡ e.pen) → IsEmitter (record e { pen = pen })
+kept_flushing e pen answer kept output flushed empty =
+    kept_writing e pen e.stage e.frames e.mark kept output (fits_flushed (seen_stage e.stage e.directives e.frames) e.pen pen answer kept.page flushed empty)

@@ -36,3 +36,6 @@ pub mod NodesDone
 pub mod CanonicalOutput
 pub mod DocumentsDone
 pub mod Emitting
+pub mod StandingSet
+pub mod SeenTexts
+pub mod Promising

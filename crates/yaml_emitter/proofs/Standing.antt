@@ -23,13 +23,13 @@ use Rattle.yaml_base.proofs.QueueLaws.{written_within, open_at_written, no_end_h
 use Rattle.yaml_base.proofs.Progress.{written-append}
 use Rattle.yaml_base.proofs.PieceLaws.{steps-append, steps_same}
 use Rattle.yaml_base.proofs.Stages.{stage_refusal_after}
-use Rattle.yaml_pen.specs.Page.{Page, new_page}
+use Rattle.yaml_pen.specs.Page.{Page, encoded, new_page}
 use Rattle.yaml_pen.specs.Wrote.{Wrote, named_text}
 use Rattle.yaml_pen.proofs.Composing.{with_breaks_written-append, wrote_all, wrote_no_error}
 use Rattle.yaml_emitter.specs.State.{State, standing_of}
 use Rattle.yaml_emitter.specs.Queue.{is_head_ready}
-use Rattle.yaml_emitter.specs.Processing.{closes_at_once, event_stepped, event_laid, refusal_now, WritesPage, Written, Processed}
-use Rattle.yaml_emitter.specs.StandsAfter.{IsPage, HoldsPieces, IsSettled, HasTaken, StandsWell, closes_last, Reached}
+use Rattle.yaml_emitter.specs.Processing.{closes_at_once, event_stepped, event_laid, refusal_now, WritesPage, hands_out, Written, Processed}
+use Rattle.yaml_emitter.specs.StandsAfter.{IsPage, HoldsPieces, IsSettled, hands_out_last, HasTaken, StandsWell, closes_last, Reached}
 
 -- Settings are those of the first event.
 asked_more : (event : Event) (rest more : List Event) → encoding_asked (event ∷ (rest ++ more)) ≡ encoding_asked (event ∷ rest)
@@ -50,7 +50,7 @@ pub taken_grown : (front rest all more : List Event) (given : Settings) (follows
     → HasTaken given all front (steps (settings_for given all) follows front at_stream first_standing) state
     → HasTaken given (all ++ more) front (steps (settings_for given (all ++ more)) follows front at_stream first_standing) state
 taken_grown [] rest all more given follows state parts h =
-    record { given_kept = h.given_kept; settled = tt; stands = h.stands; stage = h.stage; standing = h.standing; page = h.page }
+    record { given_kept = h.given_kept; settled = tt; stands = h.stands; stage = h.stage; standing = h.standing; page = h.page; handed_out = h.handed_out }
 taken_grown (event ∷ front) rest all more given follows state parts h =
     let same = sym (settings_grown given event front rest all more parts) in
     record {
@@ -60,6 +60,7 @@ taken_grown (event ∷ front) rest all more given follows state parts h =
       stage = h.stage ∙ ap (λ (s : Effective). (steps s follows (event ∷ front) at_stream first_standing).stage) same;
       standing = h.standing ∙ ap (λ (s : Effective). (steps s follows (event ∷ front) at_stream first_standing).standing) same;
       page = subst (λ (s : Effective). HoldsPieces s (event ∷ front) (steps s follows (event ∷ front) at_stream first_standing).pieces state.page) same h.page;
+      handed_out = h.handed_out;
     }
 
 -- A collection that isn't ended at once.
@@ -92,6 +93,7 @@ taken_same given all front taken before after is_given is_settings is_stage is_m
           ∙ ap (λ mark. let made : Standing = record { cursor = before.page.cursor; mark = mark } in made) is_mark
           ∙ h.standing;
       page = subst (λ page. HoldsPieces (settings_for given all) front taken.pieces page) (sym is_page) h.page;
+      handed_out = subst (λ (page : Page). hands_out_last front ≡ true → page.output ≡ encoded page) (sym is_page) h.handed_out;
     }
 
 -- The first of a call: an event comes to those that are held.
@@ -277,6 +279,7 @@ taken_first (stream_start encoding) rest given empty before after start h begun 
           ∙ ap (λ (g : Settings). page_begun (effective g encoding) before.page) h.given_kept
           ∙ ap (page_begun (effective given encoding)) h.page))
           (page_started (effective given encoding) encoding);
+      handed_out = λ hands. cc;
     }
 taken_first event rest given empty before after start h begun done = absurd start
 
@@ -295,6 +298,11 @@ stepped_steps given all x front rest event q before h pushes =
     ∙ ap (λ stage. step s stage event empty (standing_of before)) h.stage
     ∙ ap (λ standing. step s taken.stage event empty standing) h.standing in
     next_steps (x ∷ front) rest event q s empty pushes ∙ ap (one_more taken) (sym same)
+
+hands_out_last-append : (front : List Event) (event : Event) → hands_out_last (front ++ event ∷ []) ≡ hands_out event
+hands_out_last-append [] event = refl
+hands_out_last-append (x ∷ []) event = refl
+hands_out_last-append (x ∷ y ∷ more) event = hands_out_last-append (y ∷ more) event
 
 taken_later : (given : Settings) (all : List Event) (x : Event) (front rest : List Event) (event : Event) (q : Partial) (before after : State)
     → IsLater event
@@ -321,6 +329,7 @@ taken_later given all x front rest event q before after later h pushes begun don
           ap (λ cursor. let made : Standing = record { cursor = cursor; mark = after.mark } in made) (wrote_all wrote.1).cursor
           ∙ ap (λ mark. let made : Standing = record { cursor = stepped.laid.standing.cursor; mark = mark } in made) done.mark;
       page = page_more s x front taken.pieces stepped.laid.piece (event_laid before event empty) before.page after.page h.page wrote.1 refl;
+      handed_out = λ hands. done.handed_out (sym (hands_out_last-append (x ∷ front) event) ∙ hands);
     })
 
 taken_next : (front rest : List Event) (given : Settings) (all : List Event) (event : Event) (q : Partial) (before after : State) → front ++ event ∷ rest ≡ all

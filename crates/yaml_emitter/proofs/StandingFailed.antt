@@ -21,7 +21,7 @@ use Rattle.yaml_pen.specs.Page.{Page}
 use Rattle.yaml_pen.specs.Wrote.{Wrote, named_text}
 use Rattle.yaml_emitter.specs.State.{State}
 use Rattle.yaml_emitter.specs.Processing.{closes_at_once, event_stepped, event_laid, refusal_now, CutShort, Refused, Processed}
-use Rattle.yaml_emitter.specs.StandsAfter.{IsPage, HoldsPieces, HoldsPiecesWith, HasTaken, FailedAt, closes_last, StandsRefused, IsFront, StandsCut, StandsUnflushed, StandsFailed, StandsBy, StandsAfter, Reached, failed_by}
+use Rattle.yaml_emitter.specs.StandsAfter.{IsPage, HoldsPieces, HoldsPiecesWith, HasTaken, FailedAt, closes_last, StandsRefused, IsFront, StandsCut, StandsUnflushed, StandsFailed, StandsBy, StandsSo, Reached, failed_by}
 use Rattle.yaml_emitter.proofs.Standing.{settings_grown, taken_same, taken_grown, refusal_same, accepted_next, stepped_steps, named_more, is_page_wrote}
 
 failed_at : (given : Settings) (all front rest : List Event) (event : Event) (before : State) → Reached given all front (event ∷ rest) before → is_ready event rest ≡ true → FailedAt all front event rest
@@ -140,7 +140,7 @@ cut_stands given all front rest event error before after h is done =
 -- A ready event fails.
 pub reached_failed : (given : Settings) (all front rest : List Event) (event : Event) (before after : State) (error : yaml_error_t) → Reached given all front (event ∷ rest) before → is_ready event rest ≡ true
     → Processed event (closes_at_once event rest) (record before { held = rest }) after (Err error)
-    → StandsAfter given all (failed_by error after)
+    → StandsSo given all (failed_by error after)
 reached_failed given all front rest event before after WriteError h is done = (refl, inl (cut_stands given all front rest event WriteError before after h is done))
 reached_failed given all front rest event before after Memory h is done = (refl, inl (cut_stands given all front rest event Memory before after h is done))
 reached_failed given all front rest event before after error h is done = (refl, refused_stands given all front rest event error before after h is done)

@@ -21,7 +21,7 @@ use Rattle.yaml_pen.specs.Wrote.{Flushed}
 use Rattle.yaml_pen.proofs.Writing.{none_from_told}
 use Rattle.yaml_emitter.specs.State.{State}
 use Rattle.yaml_emitter.specs.Processing.{closes_at_once}
-use Rattle.yaml_emitter.specs.StandsAfter.{IsPage, HoldsPieces, HoldsPiecesWith, HasTaken, StandsWell, FailedAt, closes_last, StandsRefused, IsFront, StandsCut, StandsUnflushed, StandsStopped, StandsFailed, StandsBy, StandsAfter, failed_by}
+use Rattle.yaml_emitter.specs.StandsAfter.{IsPage, HoldsPieces, HoldsPiecesWith, HasTaken, StandsWell, FailedAt, closes_last, StandsRefused, IsFront, StandsCut, StandsUnflushed, StandsStopped, StandsFailed, StandsBy, StandsSo, failed_by}
 use Rattle.yaml_emitter.proofs.Standing.{settings_grown, settled_same, taken_same, taken_grown}
 
 -- two states differ in what was begun, set, opened and closed alone
@@ -156,8 +156,8 @@ failed_more_by Memory given all more before after same h = stopped_grown given a
 failed_more_by error given all more before after same h = refused_grown given all more error before after same h
 
 -- After a failure another event changes nothing.
-pub failed_more : (given : Settings) (all : List Event) (event : Event) (state : State) (error : yaml_error_t) → StandsAfter given all state → state.error ≡ Some error
-    → StandsAfter given (all ++ event ∷ []) (record state { started = true })
+pub failed_more : (given : Settings) (all : List Event) (event : Event) (state : State) (error : yaml_error_t) → StandsSo given all state → state.error ≡ Some error
+    → StandsSo given (all ++ event ∷ []) (record state { started = true })
 failed_more given all event state error h is =
     let now = record state { started = true } in
     let was : StandsBy given all (Some error) state = subst (λ e. StandsBy given all e state) is h in
@@ -165,10 +165,10 @@ failed_more given all event state error h is =
     (was.0, failed_more_by error given all (event ∷ []) state now refl was.1)
 
 -- What was set, opened and closed matters to no other part.
-pub stands_same : (given : Settings) (all : List Event) (before after : State) → AreFlags before after → StandsAfter given all before → StandsAfter given all after
+pub stands_same : (given : Settings) (all : List Event) (before after : State) → AreFlags before after → StandsSo given all before → StandsSo given all after
 stands_same given all before after same h = stands_by before.error refl h
   where
-    stands_by : (error : Option yaml_error_t) → before.error ≡ error → StandsBy given all error before → StandsAfter given all after
+    stands_by : (error : Option yaml_error_t) → before.error ≡ error → StandsBy given all error before → StandsSo given all after
     stands_by None is h =
         let well : StandsWell given all after =
         record {
@@ -192,7 +192,7 @@ pub nothing_begins : (canonical : Bool) → BeginsAccepted canonical []
 nothing_begins canonical = begins_from_stands canonical [] (record { partial = before_stream; is_partial = refl; sound = refl; shallow = no_open })
 
 pub new_stands : (given : Settings) (state : State) → state.given ≡ given → state.page ≡ new_page given.limit → state.stage ≡ at_stream → state.mark ≡ 0 → state.held ≡ [] → state.error ≡ None
-    → StandsAfter given [] state
+    → StandsSo given [] state
 new_stands given state is_given page stage mark held none =
     let well : StandsWell given [] state =
     record {
@@ -205,6 +205,7 @@ new_stands given state is_given page stage mark held none =
             ap (λ (page : Page). let made : Standing = record { cursor = page.cursor; mark = state.mark } in made) page
             ∙ ap (λ mark. let made : Standing = record { cursor = first_standing.cursor; mark = mark } in made) mark;
         page = page;
+        handed_out = λ hands. cc;
       };
       held = held;
     } in
@@ -252,6 +253,7 @@ flushed_stands given all state page h flushed =
         page =
             subst (λ error. HoldsPiecesWith error s front (progress s all).pieces page) (none_from_told page.error flushed.answered)
             (flushed_page front s (progress s all).pieces state.page page (Ok tt) h.taken.page flushed);
+        handed_out = λ hands. (flushed.all (none_from_told page.error flushed.answered)).1;
       };
       held = h.held;
     }
@@ -278,7 +280,7 @@ unflushed_stands given all state page error h flushed =
 
 -- A flush that fails does so by the output's limit or by memory.
 pub flush_failed : (given : Settings) (all : List Event) (state : State) (page : Page) (error : yaml_error_t) → StandsWell given all state → Flushed state.page page (Err error)
-    → StandsAfter given all (failed_by error (record state { page = page }))
+    → StandsSo given all (failed_by error (record state { page = page }))
 flush_failed given all state page WriteError h flushed = (refl, inr (unflushed_stands given all state page WriteError h flushed))
 flush_failed given all state page Memory h flushed = (refl, inr (unflushed_stands given all state page Memory h flushed))
 flush_failed given all state page error h flushed =

@@ -27,21 +27,21 @@ use Rattle.yaml_pen.specs.Page.{Page, encoded, IsHandedOut}
 use Rattle.yaml_emitter.specs.State.{State}
 use Rattle.yaml_emitter.specs.Queue.{is_head_ready}
 use Rattle.yaml_emitter.specs.Processing.{closes_at_once}
-use Rattle.yaml_emitter.specs.StandsAfter.{IsPage, HoldsPiecesWith, HasTaken, StandsWell, FailedAt, closes_last, StandsRefused, IsFront, StandsCut, StandsUnflushed, StandsStopped, StandsFailed, StandsBy, StandsAfter}
-use Rattle.yaml_emitter.specs.Promises.{HasText, begins_with_start, HoldsWaiting, RefusedAt, BeginsOutput, OutputBegins, FillsLimit, IsRefusal, HasRoom, EndsExactly, IsWritten}
+use Rattle.yaml_emitter.specs.StandsAfter.{IsPage, HoldsPiecesWith, HasTaken, StandsWell, FailedAt, closes_last, StandsRefused, IsFront, StandsCut, StandsUnflushed, StandsStopped, StandsFailed, StandsBy, StandsSo}
+use Rattle.yaml_emitter.specs.Promises.{HasText, begins_with_start, HoldsWaiting, RefusedAt, BeginsOutput, OutputBegins, FillsLimit, IsRefusal, HasRoom, EndsExactly}
 use Rattle.yaml_emitter.proofs.Standing.{few_held, open_last, own_end, end_next, closes_last-append, settings_grown}
 use Rattle.yaml_emitter.proofs.StandingFailed.{own_accepted}
 use Rattle.yaml_emitter.proofs.StandingMore.{ready_at, settings_failed}
 use Rattle.yaml_emitter.proofs.StandingTexts.{holds_text, pieces_front, BeginPieces, begin_taken, begin_take, begin_longer, front_longer, front_itself, GoesOn, goes_on, output_begins, output_fills, holds_output}
 
-pub stands_well : (given : Settings) (all : List Event) (state : State) → StandsAfter given all state → state.error ≡ None → StandsWell given all state
+pub stands_well : (given : Settings) (all : List Event) (state : State) → StandsSo given all state → state.error ≡ None → StandsWell given all state
 stands_well given all state h none = subst (λ e. StandsBy given all e state) none h
 
-stands_failed : (given : Settings) (all : List Event) (state : State) (error : yaml_error_t) → StandsAfter given all state → state.error ≡ Some error → StandsFailed given all error state
+stands_failed : (given : Settings) (all : List Event) (state : State) (error : yaml_error_t) → StandsSo given all state → state.error ≡ Some error → StandsFailed given all error state
 stands_failed given all state error h is = (subst (λ e. StandsBy given all e state) is h).1
 
 -- Without an error the text is that of the ready events' pieces.
-pub promises_text : (given : Settings) (all : List Event) (state : State) → StandsAfter given all state → state.error ≡ None → HasText given all (written all) state
+pub promises_text : (given : Settings) (all : List Event) (state : State) → StandsSo given all state → state.error ≡ None → HasText given all (written all) state
 promises_text given all state h none =
     let s = settings_for given all in
     let front = take (written all) all in
@@ -61,7 +61,7 @@ waiting : (held : List Event) → ((event : Event) (rest : List Event) → held 
 waiting [] h = (refl, refl)
 waiting (event ∷ rest) h = let waits : is_ready event rest ≡ false = h event rest refl in (waits, starts_if event rest waits)
 
-pub promises_held : (given : Settings) (all : List Event) (state : State) → StandsAfter given all state → state.error ≡ None → HoldsWaiting all state
+pub promises_held : (given : Settings) (all : List Event) (state : State) → StandsSo given all state → state.error ≡ None → HoldsWaiting all state
 promises_held given all state h none =
     let well = stands_well given all state h none in
     let waits = waiting (held_back all) (held_waits all) in
@@ -81,6 +81,7 @@ refused_at given all state error h =
       event = h.event;
       later = h.later;
       parts = h.failed.parts;
+      became_ready = h.failed.became_ready;
       refusal = h.refusal;
       begins = h.taken.stands;
       ends = (λ more. let none : refusal given.canonical h.front h.event ≡ None = (refused_exactly given.canonical h.front h.event h.taken.stands).1 more in cc);
@@ -94,7 +95,7 @@ refused_by WriteError given all state is h = absurd is
 refused_by Memory given all state is h = absurd is
 refused_by error given all state is h = h
 
-pub promises_refusal : (given : Settings) (all : List Event) (state : State) (error : yaml_error_t) → StandsAfter given all state → state.error ≡ Some error → IsRefusal error → RefusedAt given all error state
+pub promises_refusal : (given : Settings) (all : List Event) (state : State) (error : yaml_error_t) → StandsSo given all state → state.error ≡ Some error → IsRefusal error → RefusedAt given all error state
 promises_refusal given all state error h failed is =
     refused_at given all state error (refused_by error given all state is (stands_failed given all state error h failed))
 
@@ -250,7 +251,7 @@ output_by None given all state h =
 output_by (Some error) given all state h = failed_output error given all state h.1
 
 -- After every call the output begins that of an accepted list, which begins with the events written so far.
-pub promises_output : (given : Settings) (all : List Event) (state : State) → StandsAfter given all state → OutputBegins given all state.error state
+pub promises_output : (given : Settings) (all : List Event) (state : State) → StandsSo given all state → OutputBegins given all state.error state
 promises_output given all state h = output_by state.error given all state h
 
 -- The output's limit.
@@ -261,7 +262,7 @@ drop-all : (events : List Event) → drop (length events) events ≡ []
 drop-all [] = refl
 drop-all (x ∷ events) = drop-all events
 
-take-length : (events : List Event) → take (length events) events ≡ events
+pub take-length : (events : List Event) → take (length events) events ≡ events
 take-length [] = refl
 take-length (x ∷ events) = ap (λ l. x ∷ l) (take-length events)
 
@@ -361,7 +362,7 @@ unflushed_fills given all state h =
     (λ more. ap (λ events. closes.closes_at_once front events) (append_assoc rest h.later more) ∙ open_at_written h.before (h.later ++ more))
 
 -- After the output's limit was passed the output is full.
-pub promises_full : (given : Settings) (all : List Event) (state : State) → StandsAfter given all state → state.error ≡ Some WriteError → FillsLimit given all state
+pub promises_full : (given : Settings) (all : List Event) (state : State) → StandsSo given all state → state.error ≡ Some WriteError → FillsLimit given all state
 promises_full given all state h failed =
     elim (stands_failed given all state WriteError h failed) [ inl cut ↦ cut_fills given all state cut | inr other ↦ unflushed_fills given all state other ]
 
@@ -394,24 +395,24 @@ whole_accepted canonical all begins =
     (ap (λ o. option_and_then (λ r. pushed r begins.rest) o) (sym (stands.is_partial ∙ ap (λ p. Some p) done.1)) ∙ sym (pushed-append events begins.rest before_stream) ∙ whole) in
     subst (IsAccepted canonical) (ap (λ rest. events ++ rest) none ∙ append-nil events) begins.accepted
 
-all_taken : (given : Settings) (all : List Event) (state : State) → StandsWell given all state → state.held ≡ [] → take (written all) all ≡ all
+pub all_taken : (given : Settings) (all : List Event) (state : State) → StandsWell given all state → state.held ≡ [] → take (written all) all ≡ all
 all_taken given all state h none =
     sym (append-nil (take (written all) all))
     ∙ ap (λ rest. take (written all) all ++ rest) (sym none ∙ h.held)
     ∙ take-append-drop (written all) all
 
-all_written : (canonical : Bool) (all : List Event) → IsAccepted canonical all → written all ≡ length all
+pub all_written : (canonical : Bool) (all : List Event) → IsAccepted canonical all → written all ≡ length all
 all_written canonical all accepted = ap written (sym accepted.is_stream) ∙ stream_written accepted.stream ∙ ap length accepted.is_stream
 
 none_refused : (given : Settings) (all : List Event) (error : yaml_error_t) (state : State) → IsAccepted given.canonical all → RefusedAt given all error state → ⊥
 none_refused given all error state accepted h =
     h.ends (record { rest = h.later; accepted = subst (IsAccepted given.canonical) (sym (append_assoc h.front (h.event ∷ []) h.later ∙ h.parts)) accepted })
 
-no_error : (error : Option yaml_error_t) (given : Settings) (all : List Event) (state : State) → StandsAfter given all state → state.error ≡ error → HasRoom error → IsAccepted given.canonical all → error ≡ None
+no_error : (error : Option yaml_error_t) (given : Settings) (all : List Event) (state : State) → StandsSo given all state → state.error ≡ error → HasRoom error → IsAccepted given.canonical all → error ≡ None
 no_error None given all state h is room accepted = refl
 no_error (Some error) given all state h is room accepted = absurd (none_refused given all error state accepted (promises_refusal given all state error h is room))
 
-pub promises_end : (given : Settings) (all : List Event) (state : State) → StandsAfter given (all ++ stream_end ∷ []) state → EndsExactly given (all ++ stream_end ∷ []) state
+pub promises_end : (given : Settings) (all : List Event) (state : State) → StandsSo given (all ++ stream_end ∷ []) state → EndsExactly given (all ++ stream_end ∷ []) state
 promises_end given all state h room =
     let events = all ++ stream_end ∷ [] in (
       (λ accepted.
@@ -440,8 +441,13 @@ whole_output (x ∷ front) s follows page some h all =
     let within : length bytes ≤ s.limit = omega (arith, h.0.handed.within, h.0.limit, ap length is) in
     is ∙ sym (take-whole s.limit bytes within)
 
-pub promises_whole : (given : Settings) (all : List Event) (state : State) → StandsAfter given all state → IsAccepted given.canonical all → state.error ≡ None → IsWritten given all state
-promises_whole given all state h accepted none =
+-- a list that is written whole: its text, and its output where all is handed out
+pub record WrittenText (given : Settings) (all : List Event) (state : State) : Type 0 where
+  pub text : state.page.text ≡ text_written (settings_for given all) (list_layout (settings_for given all) all)
+  pub output : state.page.output ≡ encoded state.page → state.page.output ≡ output_of given all
+
+pub whole_text : (given : Settings) (all : List Event) (state : State) → StandsSo given all state → IsAccepted given.canonical all → state.error ≡ None → WrittenText given all state
+whole_text given all state h accepted none =
     let s = settings_for given all in
     let well = stands_well given all state h none in
     let begins : take (written all) all ≡ all = ap (λ n. take n all) (all_written given.canonical all accepted) ∙ take-length all in

@@ -13,6 +13,6 @@ pub mod State
 pub mod Inside
 pub mod Processing
 pub mod StandsAfter
+pub mod Uncut
 pub mod Promises
 pub mod NodeEvents
-pub mod Uncut

@@ -1,19 +1,24 @@
 -- What a caller is promised of an emitter that stands after the events that it was given.
-use Rattle.std.specs.Prelude.{◌≡◌, ◌↔◌, ℕ, suc, ◌≤◌, Bool, true, false, Option, None, Some, List, [], ◌∷◌, ◌++◌, length, take}
+use Rattle.std.specs.Prelude.{◌≡◌, ◌↔◌, ℕ, zero, suc, ◌<◌, ◌≤◌, Bool, true, false, Option, None, Some, IsSome, List, [], ◌∷◌, ◌++◌, length, take}
+use Rattle.std.specs.List.{All}
 use Rattle.yaml_base.specs.Errors.{refusal_number}
 use Rattle.yaml_base.specs.Settings.{Settings}
 use Rattle.yaml_base.specs.Encoding.{cut}
-use Rattle.yaml_base.specs.Event.{Event, document_start, sequence_start, mapping_start}
+use Rattle.yaml_base.specs.Event.{Event, stream_end, document_start, sequence_start, mapping_start}
 use Rattle.yaml_base.specs.Refusal.{IsAccepted, BeginsAccepted, refusal}
 use Rattle.yaml_base.specs.Ready.{written}
 use Rattle.yaml_base.specs.Steps.{held_back}
+use Rattle.yaml_base.specs.NodeLayout.{bodies_of}
 use Rattle.yaml_base.specs.Pieces.{list_layout, pieces}
 use Rattle.yaml_base.specs.Output.{settings_for, text_written, bytes_written, output_of}
+use Rattle.yaml_base.specs.Meaning.{BodyMeans}
+use Rattle.yaml_base.specs.Content.{content_of}
+use Rattle.yaml_base.specs.CanonicalReader.{canonical_content}
 use Rattle.yaml_base.specs.declared.errors.yaml_error_t.{yaml_error_t}
 use Rattle.yaml_base.specs.declared.errors.yaml_error_t.TheVariants.{WriteError, Memory}
-use Rattle.yaml_pen.specs.Page.{encoded}
 use Rattle.yaml_emitter.specs.State.{State}
-use Rattle.yaml_emitter.specs.StandsAfter.{IsFront}
+use Rattle.yaml_emitter.specs.StandsAfter.{IsFront, hands_out_last}
+use Rattle.yaml_emitter.specs.Uncut.{IsUncut}
 
 -- the text so far is that of the first so many pieces
 abbrev pub HasText : Settings → List Event → ℕ → State → Type 0
@@ -34,12 +39,14 @@ pub record HoldsWaiting (all : List Event) (state : State) : Type 0 where
   pub few : length state.held ≤ 3
   pub starts : begins_with_start state.held ≡ true
 
--- an event was refused: those before it begin an accepted list, with it they begin none; the text is that before it
+-- an event that became ready was refused: those before it begin an accepted list, with it they begin none; the text is
+-- that before it
 pub record RefusedAt (given : Settings) (all : List Event) (error : yaml_error_t) (state : State) : Type 0 where
   pub front : List Event
   pub event : Event
   pub later : List Event
   pub parts : front ++ event ∷ later ≡ all
+  pub became_ready : length front < written all
   pub refusal : refusal given.canonical front event ≡ Some (refusal_number error)
   pub begins : BeginsAccepted given.canonical front
   pub ends : BeginsAccepted given.canonical (front ++ event ∷ []) → ⊥
@@ -84,12 +91,48 @@ abbrev pub HasRoom : Option yaml_error_t → Type 0
 HasRoom None = Unit {0}
 HasRoom (Some error) = IsRefusal error
 
+-- the last of some events is the stream's end
+abbrev pub ends_stream : List Event → Bool
+ends_stream [] = false
+ends_stream (stream_end ∷ []) = true
+ends_stream (event ∷ rest) = ends_stream rest
+
 -- where there is room, a list that ends the stream is accepted exactly if no event was refused and none waits
 abbrev pub EndsExactly : Settings → List Event → State → Type 0
 EndsExactly given all state =
     HasRoom state.error → IsAccepted given.canonical all ↔ ((state.error ≡ None) × (state.held ≡ []))
 
--- an accepted list is written whole: its text, and all its bytes where they are handed out
+-- of no pieces there are no bytes, not even a byte order mark
+abbrev pub bytes_of_some : ℕ → List ℕ → List ℕ
+bytes_of_some zero bytes = []
+bytes_of_some (suc count) bytes = bytes
+
+-- all bytes of the pieces that are written
+abbrev pub bytes_so_far : Settings → List Event → List ℕ
+bytes_so_far given all =
+    let s = settings_for given all in
+    bytes_of_some (written all) (bytes_written s (pieces s all (written all)))
+
+-- all bytes are handed out
+abbrev pub HasAllBytes : Settings → List Event → State → Type 0
+HasAllBytes given all state = state.page.output ≡ bytes_so_far given all
+
+-- an accepted list is written whole, and means what it says: each scalar reads as its value, and uncut canonical bytes
+-- read as the content
 pub record IsWritten (given : Settings) (all : List Event) (state : State) : Type 0 where
   pub text : state.page.text ≡ text_written (settings_for given all) (list_layout (settings_for given all) all)
-  pub output : state.page.output ≡ encoded state.page → state.page.output ≡ output_of given all
+  pub output : state.page.output ≡ output_of given all
+  pub means : All (BodyMeans (settings_for given all)) (bodies_of (list_layout (settings_for given all) all))
+  pub reads : given.canonical ≡ true → IsUncut given all → canonical_content given.breaks12 state.page.output ≡ content_of all
+
+-- what a caller may rely on wherever an emitter stands
+pub record Promised (given : Settings) (all : List Event) (state : State) : Type 0 where
+  pub text : state.error ≡ None → HasText given all (written all) state
+  pub held : state.error ≡ None → HoldsWaiting all state
+  pub dropped : IsSome state.error → state.held ≡ []
+  pub refused : (error : yaml_error_t) → state.error ≡ Some error → IsRefusal error → RefusedAt given all error state
+  pub output : OutputBegins given all state.error state
+  pub full : state.error ≡ Some WriteError → FillsLimit given all state
+  pub handed_out : state.error ≡ None → hands_out_last (take (written all) all) ≡ true → HasAllBytes given all state
+  pub ends : ends_stream all ≡ true → EndsExactly given all state
+  pub whole : state.error ≡ None → IsAccepted given.canonical all → IsWritten given all state

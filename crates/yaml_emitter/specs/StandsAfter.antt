@@ -1,5 +1,6 @@
 -- An emitter stands after the events that it was given.
 use Rattle.std.specs.Prelude.{◌≡◌, ◌⊎◌, ℕ, ◌+◌, ◌<◌, Bool, true, false, Option, None, Some, Result, List, [], ◌∷◌, ◌++◌, length, take}
+use Rattle.std.specs.List.{list_all}
 use Rattle.yaml_base.specs.Errors.{refusal_number}
 use Rattle.yaml_base.specs.Settings.{Settings, Effective}
 use Rattle.yaml_base.specs.Characters.{Text}
@@ -9,11 +10,12 @@ use Rattle.yaml_base.specs.Ready.{written}
 use Rattle.yaml_base.specs.Layout.{Piece, first_standing}
 use Rattle.yaml_base.specs.Steps.{at_stream, Steps, steps, step, progress, held_back}
 use Rattle.yaml_base.specs.Output.{settings_for, text_written}
+use Rattle.yaml_base.specs.Meaning.{has_scalar_texts}
 use Rattle.yaml_base.specs.declared.errors.yaml_error_t.{yaml_error_t}
 use Rattle.yaml_base.specs.declared.errors.yaml_error_t.TheVariants.{WriteError, Memory}
 use Rattle.yaml_pen.specs.Page.{Page, new_page, encoded, IsHandedOut}
 use Rattle.yaml_emitter.specs.State.{State, standing_of}
-use Rattle.yaml_emitter.specs.Processing.{Processed, closes_at_once}
+use Rattle.yaml_emitter.specs.Processing.{Processed, closes_at_once, hands_out}
 
 -- a page of a stream that was begun, with its settings, and this text
 pub record IsPage (s : Effective) (page : Page) : Type 0 where
@@ -38,6 +40,12 @@ abbrev pub IsSettled : Effective → List Event → State → Type 0
 IsSettled s [] state = Unit {0}
 IsSettled s (event ∷ events) state = state.settings ≡ s
 
+-- the last of some events hands out all that is written
+abbrev pub hands_out_last : List Event → Bool
+hands_out_last [] = false
+hands_out_last (event ∷ []) = hands_out event
+hands_out_last (event ∷ next ∷ more) = hands_out_last (next ∷ more)
+
 -- the state after some steps over a front of the events
 pub record HasTaken (given : Settings) (all front : List Event) (taken : Steps) (state : State) : Type 0 where
   pub given_kept : state.given ≡ given
@@ -46,6 +54,7 @@ pub record HasTaken (given : Settings) (all front : List Event) (taken : Steps) 
   pub stage : state.stage ≡ taken.stage
   pub standing : standing_of state ≡ taken.standing
   pub page : HoldsPieces (settings_for given all) front taken.pieces state.page
+  pub handed_out : hands_out_last front ≡ true → state.page.output ≡ encoded state.page
 
 -- without an error: the ready events are written, the others held
 pub record StandsWell (given : Settings) (all : List Event) (state : State) : Type 0 where
@@ -122,9 +131,14 @@ abbrev pub StandsBy : Settings → List Event → Option yaml_error_t → State 
 StandsBy given all None state = StandsWell given all state
 StandsBy given all (Some error) state = (state.held ≡ []) × StandsFailed given all error state
 
--- the emitter stands after these events, under these settings
-abbrev pub StandsAfter : Settings → List Event → State → Type 0
-StandsAfter given all state = StandsBy given all state.error state
+-- by its error, or without one
+abbrev pub StandsSo : Settings → List Event → State → Type 0
+StandsSo given all state = StandsBy given all state.error state
+
+-- the emitter stands after these events, whose texts are those of strings, under these settings
+pub record StandsAfter (given : Settings) (all : List Event) (state : State) : Type 0 where
+  pub texts : list_all has_scalar_texts all ≡ true
+  pub so : StandsSo given all state
 
 -- on the way: a front of the events is written, the others wait
 pub record Reached (given : Settings) (all front rest : List Event) (state : State) : Type 0 where

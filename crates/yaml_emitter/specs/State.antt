@@ -45,9 +45,9 @@ new_state =
 abbrev pub standing_of : State → Standing
 standing_of state = record { cursor = state.page.cursor; mark = state.mark }
 
--- a page is begun at the stream's start
+-- nothing is written before the stream's start; a page is begun with it
 abbrev pub FitsPage : Stage → Page → Type 0
-FitsPage at_stream page = IsUntouched page × (page.mark_due ≡ false)
+FitsPage at_stream page = IsUntouched page × (page.mark_due ≡ false) × (page.output ≡ [])
 FitsPage _ page = IsReady page
 
 -- the stream has not begun

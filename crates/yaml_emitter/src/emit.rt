@@ -1,15 +1,15 @@
 //! Events that wait are written where they are ready.
 
-ghost use Rattle.std.specs.Prelude.{◌≡◌, ◌≤◌, ◌<◌, true, None, List, [], ◌∷◌, ◌++◌, length, OnOk, OnErr, IsOk};
+ghost use Rattle.std.specs.Prelude.{◌≡◌, ◌≤◌, ◌<◌, true, None, List, [], ◌∷◌, ◌++◌, length, OnOk, OnErr, IsOk, IsSome};
 ghost use Rattle.yaml_base.specs.Event.{Event};
 ghost use Rattle.yaml_base.specs.Seen.{seen_event};
 ghost use Rattle.yaml_base.specs.Settings.{Settings};
 ghost use Rattle.yaml_pen.specs.Page.{told, encoded};
-ghost use Rattle.yaml_emitter.specs.State.{knows_encoding};
+ghost use Rattle.yaml_emitter.specs.Promises.{HasAllBytes, Promised};
 ghost use Rattle.yaml_emitter.specs.Processing as processing;
 ghost use Rattle.yaml_emitter.specs.Processing.{Processed};
 ghost use Rattle.yaml_emitter.specs.Queue.{is_head_ready};
-ghost use Rattle.yaml_emitter.specs.StandsAfter.{Reached, ReachedOn, StandsAfter, TookFirst, failed_by};
+ghost use Rattle.yaml_emitter.specs.StandsAfter.{Reached, ReachedOn, StandsAfter, StandsSo, TookFirst, failed_by};
 
 use crate::check::check_names;
 use crate::emitter::yaml_emitter_t;
@@ -29,6 +29,8 @@ pub fn yaml_emitter_emit<A: Allocator + Copy>(
 ) -> Result<(), yaml_error_t>
     requires { emitter.old.has_output ≡ true }
     ensures stands { (given : Settings) (all : List Event) → StandsAfter given all emitter.old → StandsAfter given (all ++ seen_event event ∷ []) emitter.new }
+    ensures promised { (given : Settings) (all : List Event) → StandsAfter given all emitter.old → Promised given (all ++ seen_event event ∷ []) emitter.new }
+    ensures kept { IsSome emitter.old.error → emitter.new ≡ record emitter.old { started = true } }
     ensures answered { result ≡ told emitter.new.error }
     ensures output { emitter.new.has_output ≡ true }
 {
@@ -48,11 +50,12 @@ pub fn yaml_emitter_flush<A: Allocator + Copy>(
     emitter: &mut yaml_emitter_t<A>,
 ) -> Result<(), yaml_error_t>
     requires output { emitter.old.has_output ≡ true }
-    requires encoding { knows_encoding emitter.old ≡ true }
     ensures stands { (given : Settings) (all : List Event) → StandsAfter given all emitter.old → StandsAfter given all emitter.new }
+    ensures promised { (given : Settings) (all : List Event) → StandsAfter given all emitter.old → Promised given all emitter.new }
+    ensures flushed { OnOk result ((given : Settings) (all : List Event) → StandsAfter given all emitter.old → HasAllBytes given all emitter.new) }
+    ensures kept { IsSome emitter.old.error → emitter.new ≡ emitter.old }
     ensures answered { result ≡ told emitter.new.error }
     ensures output { emitter.new.has_output ≡ true }
-    ensures handed_out { OnOk result (emitter.new.page.output ≡ encoded emitter.new.page) }
 {
     if let Some(error) = emitter.error {
         return Err(error);
@@ -81,7 +84,7 @@ impl<A: Allocator + Copy> yaml_emitter_t<A> {
     fn hand_out(&mut self) -> Result<(), yaml_error_t>
         requires output { self.old.has_output ≡ true }
         requires no_error { self.old.error ≡ None }
-        ensures stands { (given : Settings) (all : List Event) → StandsAfter given all self.old → StandsAfter given all self.new }
+        ensures stands { (given : Settings) (all : List Event) → StandsSo given all self.old → StandsSo given all self.new }
         ensures answered { result ≡ told self.new.error }
         ensures output { self.new.has_output ≡ true }
         ensures handed_out { OnOk result (self.new.page.output ≡ encoded self.new.page) }
@@ -114,7 +117,7 @@ impl<A: Allocator + Copy> yaml_emitter_t<A> {
     fn settle(&mut self) -> Result<(), yaml_error_t>
         requires output { self.old.has_output ≡ true }
         requires no_error { self.old.error ≡ None }
-        ensures stands { (given : Settings) (all front : List Event) → Reached given all front self.old.held self.old → StandsAfter given all self.new }
+        ensures stands { (given : Settings) (all front : List Event) → Reached given all front self.old.held self.old → StandsSo given all self.new }
         ensures answered { result ≡ told self.new.error }
         ensures output { self.new.has_output ≡ true }
     {
@@ -130,7 +133,7 @@ impl<A: Allocator + Copy> yaml_emitter_t<A> {
         requires no_error { self.old.error ≡ None }
         requires ready { is_head_ready self.old.held ≡ true }
         ensures next { OnOk result (ReachedOn self.old self.new) }
-        ensures failed { OnErr result ((given : Settings) (all front : List Event) → Reached given all front self.old.held self.old → StandsAfter given all self.new) }
+        ensures failed { OnErr result ((given : Settings) (all front : List Event) → Reached given all front self.old.held self.old → StandsSo given all self.new) }
         ensures shorter { OnOk result (length self.new.held < length self.old.held) }
         ensures answered { result ≡ told self.new.error }
         ensures output { self.new.has_output ≡ true }

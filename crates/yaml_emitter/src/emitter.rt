@@ -2,6 +2,8 @@
 
 ghost use Rattle.std.specs.Prelude.{◌≡◌, ◌↔◌, IsOk, IsTrue, IfOk, IfErr, Some, None, [], ◌≤◌, vec_len, vec_capacity};
 ghost use Rattle.yaml_base.specs.Seen.{seen_break, seen_encoding};
+ghost use Rattle.yaml_emitter.specs.Given.{nothing_given};
+ghost use Rattle.yaml_emitter.specs.StandsAfter.{StandsAfter};
 ghost use Rattle.yaml_emitter.specs.State.{State, new_state};
 
 use crate::frames::Frames;
@@ -52,6 +54,7 @@ pub fn yaml_emitter_initialize<A: Allocator + Copy>(
     alloc: A,
 ) -> Result<yaml_emitter_t<A>, yaml_error_t>
     ensures made { IfOk result (λ emitter. emitter ≡ new_state) }
+    ensures stands { IfOk result (λ emitter. StandsAfter nothing_given [] emitter) }
     ensures memory { IfErr result (λ error. error ≡ yaml_error_t.Memory) }
 {
     let given = GivenSettings::new();

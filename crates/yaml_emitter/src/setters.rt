@@ -1,7 +1,8 @@
 //! What the caller sets before the stream, and what it may ask.
 
-ghost use Rattle.std.specs.Prelude.{◌≡◌, ◌↔◌, IsTrue, Some, None, false, true, length};
+ghost use Rattle.std.specs.Prelude.{◌≡◌, ◌↔◌, IsTrue, Some, None, false, true, [], length};
 ghost use Rattle.yaml_base.specs.Seen.{seen_break, seen_encoding};
+ghost use Rattle.yaml_emitter.specs.StandsAfter.{StandsAfter};
 ghost use Rattle.yaml_emitter.specs.State.{knows_encoding};
 
 use crate::emitter::yaml_emitter_t;
@@ -17,12 +18,13 @@ pub fn yaml_emitter_delete<A: Allocator>(emitter: yaml_emitter_t<A>) {
 /// Sets an output of at most so many bytes.
 pub fn yaml_emitter_set_output_string<A: Allocator>(emitter: &mut yaml_emitter_t<A>, size: usize)
     requires { emitter.old.has_output ≡ false }
-    ensures { emitter.new
+    ensures set { emitter.new
         ≡ record emitter.old {
           has_output = true;
           given = record emitter.old.given { limit = size };
           page = record emitter.old.page { limit = size };
         } }
+    ensures stands { StandsAfter emitter.old.given [] emitter.old → StandsAfter emitter.new.given [] emitter.new }
 {
     emitter.pen.set_limit(size);
     emitter.given.limit = size;
@@ -36,7 +38,8 @@ pub fn yaml_emitter_set_encoding<A: Allocator>(
 )
     requires not_started { emitter.old.started ≡ false }
     requires unset { emitter.old.given.encoding ≡ None }
-    ensures { emitter.new ≡ record emitter.old { given = record emitter.old.given { encoding = seen_encoding encoding } } }
+    ensures set { emitter.new ≡ record emitter.old { given = record emitter.old.given { encoding = seen_encoding encoding } } }
+    ensures stands { StandsAfter emitter.old.given [] emitter.old → StandsAfter emitter.new.given [] emitter.new }
 {
     emitter.given.encoding = encoding;
 }
@@ -44,11 +47,12 @@ pub fn yaml_emitter_set_encoding<A: Allocator>(
 /// Sets whether the output is canonical: in flow, double-quoted, every tag written.
 pub fn yaml_emitter_set_canonical<A: Allocator>(emitter: &mut yaml_emitter_t<A>, canonical: bool)
     requires { emitter.old.started ≡ false }
-    ensures { emitter.new
+    ensures set { emitter.new
         ≡ record emitter.old {
           given = record emitter.old.given { canonical = canonical };
           settings = record emitter.old.settings { canonical = canonical };
         } }
+    ensures stands { StandsAfter emitter.old.given [] emitter.old → StandsAfter emitter.new.given [] emitter.new }
 {
     emitter.given.canonical = canonical;
     emitter.settings.canonical = canonical;
@@ -57,7 +61,8 @@ pub fn yaml_emitter_set_canonical<A: Allocator>(emitter: &mut yaml_emitter_t<A>,
 /// Sets the indent in columns; 2 to 9 is kept, any other becomes 2.
 pub fn yaml_emitter_set_indent<A: Allocator>(emitter: &mut yaml_emitter_t<A>, indent: i32)
     requires { emitter.old.started ≡ false }
-    ensures { emitter.new ≡ record emitter.old { given = record emitter.old.given { indent = Some indent } } }
+    ensures set { emitter.new ≡ record emitter.old { given = record emitter.old.given { indent = Some indent } } }
+    ensures stands { StandsAfter emitter.old.given [] emitter.old → StandsAfter emitter.new.given [] emitter.new }
 {
     emitter.given.indent = Some(indent);
 }
@@ -65,7 +70,8 @@ pub fn yaml_emitter_set_indent<A: Allocator>(emitter: &mut yaml_emitter_t<A>, in
 /// Sets the column, in characters, past which lines are folded; a negative one is no limit.
 pub fn yaml_emitter_set_width<A: Allocator>(emitter: &mut yaml_emitter_t<A>, width: i32)
     requires { emitter.old.started ≡ false }
-    ensures { emitter.new ≡ record emitter.old { given = record emitter.old.given { width = Some width } } }
+    ensures set { emitter.new ≡ record emitter.old { given = record emitter.old.given { width = Some width } } }
+    ensures stands { StandsAfter emitter.old.given [] emitter.old → StandsAfter emitter.new.given [] emitter.new }
 {
     emitter.given.width = Some(width);
 }
@@ -73,7 +79,8 @@ pub fn yaml_emitter_set_width<A: Allocator>(emitter: &mut yaml_emitter_t<A>, wid
 /// Sets whether printable characters past ASCII stand as themselves.
 pub fn yaml_emitter_set_unicode<A: Allocator>(emitter: &mut yaml_emitter_t<A>, unicode: bool)
     requires { emitter.old.started ≡ false }
-    ensures { emitter.new ≡ record emitter.old { given = record emitter.old.given { unicode = unicode } } }
+    ensures set { emitter.new ≡ record emitter.old { given = record emitter.old.given { unicode = unicode } } }
+    ensures stands { StandsAfter emitter.old.given [] emitter.old → StandsAfter emitter.new.given [] emitter.new }
 {
     emitter.given.unicode = unicode;
 }
@@ -84,7 +91,8 @@ pub fn yaml_emitter_set_break<A: Allocator>(
     line_break: yaml_break_t,
 )
     requires { emitter.old.started ≡ false }
-    ensures { emitter.new ≡ record emitter.old { given = record emitter.old.given { line_break = seen_break line_break } } }
+    ensures set { emitter.new ≡ record emitter.old { given = record emitter.old.given { line_break = seen_break line_break } } }
+    ensures stands { StandsAfter emitter.old.given [] emitter.old → StandsAfter emitter.new.given [] emitter.new }
 {
     emitter.given.line_break = line_break;
 }
@@ -93,7 +101,8 @@ pub fn yaml_emitter_set_break<A: Allocator>(
 /// readers of both versions find the same value.
 pub fn yaml_emitter_set_line_breaks_1_2<A: Allocator>(emitter: &mut yaml_emitter_t<A>, breaks12: bool)
     requires { emitter.old.started ≡ false }
-    ensures { emitter.new ≡ record emitter.old { given = record emitter.old.given { breaks12 = breaks12 } } }
+    ensures set { emitter.new ≡ record emitter.old { given = record emitter.old.given { breaks12 = breaks12 } } }
+    ensures stands { StandsAfter emitter.old.given [] emitter.old → StandsAfter emitter.new.given [] emitter.new }
 {
     emitter.given.breaks12 = breaks12;
 }

@@ -1,27 +1,44 @@
-use Rattle.std.proofs.Common.{◌++◌, ◌∷◌, [], take, sym, subst}
+use Rattle.std.proofs.Common.{◌++◌, ◌∷◌, [], List, take, sym, subst}
 use Rattle.std.proofs.lemmas.Bool.{false≢true}
+use Rattle.yaml_base.specs.Event.{Event}
 use Rattle.yaml_base.specs.Ready.{written}
 use Rattle.yaml_base.specs.Seen.{seen_event}
+use Rattle.yaml_base.specs.Settings.{Settings}
 use Rattle.yaml_emitter.specs.Inside.{state_of}
 use Rattle.yaml_emitter.specs.StandsAfter.{StandsAfter}
 use Rattle.yaml_emitter.proofs.Emitting.{stands_few, reached_taken}
+use Rattle.yaml_emitter.proofs.Promising.{promised, stands_with}
 use Rattle.yaml_emitter.proofs.StandingMore.{failed_more}
 use Rattle.yaml_emitter.proofs.emit.yaml_emitter_emit.Goals as goal
 
 pub returns-in-Some-clause-stands : goal.returns-in-Some-clause-stands
 returns-in-Some-clause-stands g c given all stands =
-    failed_more given all (seen_event c.args.event) (state_of c.emitter.inside) c.in-Some.error
-    (subst (λ s. StandsAfter given all s) (sym c.emitter.view_is) stands)
-    c.in-Some.is
+    let h = subst (λ s. StandsAfter given all s) (sym c.emitter.view_is) stands in
+    stands_with given all c.args.event _ (failed_more given all (seen_event c.args.event) (state_of c.emitter.inside) c.in-Some.error h.so c.in-Some.is) h.texts
+
+pub returns-in-Some-clause-promised : goal.returns-in-Some-clause-promised
+returns-in-Some-clause-promised g c given all stands =
+    promised given (all ++ seen_event c.args.event ∷ []) _ (returns-in-Some-clause-stands g c given all stands)
 
 pub returns-in_err-take-clause-stands : goal.returns-in_err-take-clause-stands
 returns-in_err-take-clause-stands g c given all stands =
     let h = subst (λ s. StandsAfter given all s) (sym c.emitter.view_is) stands in
-    absurd (false≢true (c.in_err-take.ensures.room (stands_few given all (state_of c.emitter.inside) h c.in_default.is)))
+    absurd (false≢true (c.in_err-take.ensures.room (stands_few given all (state_of c.emitter.inside) h.so c.in_default.is)))
+
+pub returns-in_err-take-clause-promised : goal.returns-in_err-take-clause-promised
+returns-in_err-take-clause-promised g c given all stands =
+    let h = subst (λ s. StandsAfter given all s) (sym c.emitter.view_is) stands in
+    absurd (false≢true (c.in_err-take.ensures.room (stands_few given all (state_of c.emitter.inside) h.so c.in_default.is)))
 
 pub returns-clause-stands : goal.returns-clause-stands
 returns-clause-stands g c given all stands =
     let event = seen_event c.args.event in
     let h = subst (λ s. StandsAfter given all s) (sym c.emitter.view_is) stands in
-    c.settle.ensures.stands given (all ++ event ∷ []) (take (written all) all)
-    (reached_taken given all event (state_of c.emitter.inside) c.take.new.self h c.in_default.is c.in_ok-take.ensures.taken)
+    stands_with given all c.args.event c.settle.new.self
+    (c.settle.ensures.stands given (all ++ event ∷ []) (take (written all) all)
+    (reached_taken given all event (state_of c.emitter.inside) c.take.new.self h.so c.in_default.is c.in_ok-take.ensures.taken))
+    h.texts
+
+pub returns-clause-promised : goal.returns-clause-promised
+returns-clause-promised g c given all stands =
+    promised given (all ++ seen_event c.args.event ∷ []) _ (returns-clause-stands g c given all stands)

@@ -16,5 +16,5 @@ invariant_of-result g c =
       untouched = λ _. subst (λ (p : Page). IsUntouched p) (sym c.in_ok-pen.ensures.made) untouched_new;
       handles = search rules;
       canonical = ap (λ (s : Effective). s.canonical) c.effective.ensures.gives;
-      page = subst (λ (p : Page). FitsPage at_stream p) (sym c.in_ok-pen.ensures.made) (untouched_new, refl);
+      page = subst (λ (p : Page). FitsPage at_stream p) (sym c.in_ok-pen.ensures.made) (untouched_new, refl, refl);
     }

@@ -1,0 +1,26 @@
+use Rattle.std.proofs.Common.{◌≡◌, List, OnOk, sym, subst}
+use Rattle.yaml_base.specs.Event.{Event}
+use Rattle.yaml_base.specs.Settings.{Settings}
+use Rattle.yaml_emitter.specs.Inside.{state_of}
+use Rattle.yaml_emitter.specs.Promises.{HasAllBytes, Promised}
+use Rattle.yaml_emitter.specs.State.{State}
+use Rattle.yaml_emitter.specs.StandsAfter.{StandsAfter}
+use Rattle.yaml_emitter.proofs.Promising.{flushed_all, promised, stands_on}
+use Rattle.yaml_emitter.proofs.emit.yaml_emitter_flush.Goals as goal
+
+pub returns-in-Some-clause-promised : goal.returns-in-Some-clause-promised
+returns-in-Some-clause-promised g c given all stands = promised given all c.args.emitter.now stands
+
+stood : (g : _) (c : goal.After-hand_out g) (given : Settings) (all : List Event) → StandsAfter given all c.args.emitter.now → StandsAfter given all c.hand_out.new.self
+stood g c given all stands =
+    stands_on given all c.args.emitter.now c.hand_out.new.self (c.hand_out.ensures.stands given all) stands
+
+pub returns-clause-stands : goal.returns-clause-stands
+returns-clause-stands g c given all stands = stood g c given all stands
+
+pub returns-clause-promised : goal.returns-clause-promised
+returns-clause-promised g c given all stands = promised given all c.hand_out.new.self (stood g c given all stands)
+
+pub returns-clause-flushed : goal.returns-clause-flushed
+returns-clause-flushed g c =
+    flushed_all c.hand_out.result c.args.emitter.now c.hand_out.new.self c.hand_out.ensures.answered c.hand_out.ensures.handed_out c.hand_out.ensures.stands
