@@ -3,10 +3,10 @@ use Rattle.std.proofs.Common.{◌≡◌, ◌≤◌, refl, sym, ap, ◌∙◌, su
 use Rattle.std.proofs.lemmas.Bool.{and_parts, and_from}
 use Rattle.std.specs.List.{list_all}
 use Rattle.std.specs.Str.{all_scalars}
-use Rattle.std.specs.Prelude.{Bool, true, false, Option, None, Some, option_map, option_and_then, unwrap_or, List, [], ◌∷◌, ◌++◌, ◌&&◌, ◌==◌, if◌then◌else◌}
+use Rattle.std.specs.Prelude.{Bool, true, false, Option, Some, option_map, option_and_then, unwrap_or, List, [], ◌∷◌, ◌++◌, ◌==◌, if◌then◌else◌}
 use lib.Utf8.{scalar}
 use Rattle.yaml_base.specs.Characters.{Text, line_feed}
-use Rattle.yaml_base.specs.Settings.{LineBreak, carriage_return_break, line_feed_break, both_break, Settings, Effective, effective}
+use Rattle.yaml_base.specs.Settings.{LineBreak, carriage_return_break, line_feed_break, both_break, Effective, effective}
 use Rattle.yaml_base.specs.LineBreaks.{break_text, with_breaks_written, with_line_breaks_read}
 use Rattle.yaml_base.specs.Event.{Event, stream_start, stream_end}
 use Rattle.yaml_base.specs.Grammar.{Stream, stream_events, documents_events, tree_of}
@@ -14,12 +14,12 @@ use Rattle.yaml_base.specs.Layout.{Piece, text_of, layout}
 use Rattle.yaml_base.specs.Pieces.{list_layout}
 use Rattle.yaml_base.specs.Output.{bytes_written}
 use Rattle.yaml_base.specs.Refusal.{IsAccepted, is_sound}
-use Rattle.yaml_base.specs.Content.{DocumentContent, documents_content, content_of}
-use Rattle.yaml_base.specs.CanonicalReader.{free, tokens_from, documents_read, characters_read, canonical_content}
+use Rattle.yaml_base.specs.Content.{documents_content, content_of}
+use Rattle.yaml_base.specs.CanonicalReader.{free, tokens_from, documents_read, canonical_content}
 use Rattle.yaml_base.specs.Meaning.{has_scalar_texts, CanonicalBytesRead}
 use Rattle.yaml_base.proofs.BreakLaws.{breaks-round}
 use Rattle.yaml_base.proofs.Trees.{tree_of-stream_events}
-use Rattle.yaml_emitter.proofs.CanonicalText.{anything, Says, scalars-append}
+use Rattle.yaml_emitter.proofs.CanonicalText.{scalars-append}
 use Rattle.yaml_emitter.proofs.CanonicalPlaces.{in_canonical}
 use Rattle.yaml_emitter.proofs.CanonicalTokens.{documents_tokens}
 use Rattle.yaml_emitter.proofs.CanonicalDocuments.{stream_read}
@@ -27,7 +27,6 @@ use Rattle.yaml_emitter.proofs.CanonicalBytes.{characters_back}
 use Rattle.yaml_emitter.proofs.CanonicalEvents.{split}
 use Rattle.yaml_emitter.proofs.CanonicalSound.{is_good, documents_ok, each_document, DocumentsOk}
 use Rattle.yaml_emitter.proofs.CanonicalStream.{stream_says}
-use Rattle.yaml_emitter.proofs.MeaningBodies.{IsIndent}
 use Rattle.yaml_emitter.proofs.Meaning.{is_indent}
 
 -- line breaks are scalar values

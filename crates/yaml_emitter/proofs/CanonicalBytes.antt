@@ -1,12 +1,12 @@
 -- The canonical reader finds a text in its bytes.
-use Rattle.std.proofs.Common.{◌≡◌, refl, sym, ap, ◌∙◌, ℕ, ◌+◌, ◌-◌, ◌*◌, ◌/◌, ◌%◌, ◌<◌, ◌≤◌, Bool, true, false, cond, ◌&&◌, inl, inr, ⊎_elim, Option, Some, None, List, [], ◌∷◌, ◌++◌, nat_lt, nat_le, arith, lt-ltb, le-ltb, le-leb}
-use Rattle.std.specs.Prelude.{◌==◌, chars, option_map, option_and_then, if◌then◌else◌}
+use Rattle.std.proofs.Common.{◌≡◌, refl, ap, ◌∙◌, ℕ, ◌+◌, ◌-◌, ◌*◌, ◌/◌, ◌%◌, ◌<◌, ◌≤◌, Bool, true, false, ◌&&◌, inl, inr, ⊎_elim, Some, None, List, [], ◌∷◌, ◌++◌, nat_lt, nat_le, arith, lt-ltb, le-ltb, le-leb}
+use Rattle.std.specs.Prelude.{◌==◌, option_map, option_and_then}
 use Rattle.std.specs.Char.{IsScalar}
-use Rattle.std.specs.Char.Utf16.{is_high_surrogate, is_low_surrogate, surrogate_pair_char}
+use Rattle.std.specs.Char.Utf16.{is_high_surrogate, is_low_surrogate}
 use Rattle.std.specs.List.{list_all}
-use Rattle.std.specs.Str.{all_scalars, encode_utf8_all, is_utf8}
+use Rattle.std.specs.Str.{all_scalars, is_utf8}
 use Rattle.std.proofs.lemmas.Str.{chars-encodes, is_utf8-from_IsUtf8}
-use Rattle.std.proofs.lemmas.Bool.{lt-leb, cases_lt, and_parts, ltb-true}
+use Rattle.std.proofs.lemmas.Bool.{lt-leb, cases_lt, and_parts}
 use Rattle.std.proofs.lemmas.Bool.Decides.{nat_tests}
 use Rattle.std.proofs.lemmas.List.Folds.{list_all-append}
 use lib.Utf8.{scalar, scalars, encode, encodes, scalar_cases}

@@ -2,10 +2,10 @@
 use Rattle.std.proofs.Common.{◌≡◌, refl, sym, ap, ◌∙◌, append_assoc, append-nil}
 use Rattle.std.proofs.lemmas.List.Sums.{fold-append}
 use Rattle.std.specs.Prelude.{Bool, true, false, Option, None, Some, List, [], ◌∷◌, ◌++◌, ◌&&◌, not, fold}
-use Rattle.yaml_base.specs.Event.{Version, TagDirective, DocumentStart}
+use Rattle.yaml_base.specs.Event.{Version, TagDirective}
 use Rattle.yaml_base.specs.Grammar.{Document, Documents, no_documents, documents_and}
 use Rattle.yaml_base.specs.Layout.{has_directives}
-use Rattle.yaml_base.specs.Content.{DocumentContent, node_content, document_content, documents_content}
+use Rattle.yaml_base.specs.Content.{DocumentContent, document_content, documents_content}
 use Rattle.yaml_base.specs.CanonicalReader.{Token, document_begins, Head, no_head, Reading, outside, within, node_awaited, token_read, documents_at_end, documents_read}
 use Rattle.yaml_emitter.proofs.CanonicalTokens.{node_tokens, version_tokens, tag_line_tokens, end_tokens, document_tokens, left_open, documents_tokens}
 use Rattle.yaml_emitter.proofs.CanonicalEvents.{EachNode}

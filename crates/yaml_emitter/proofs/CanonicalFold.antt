@@ -1,19 +1,14 @@
 -- The canonical reader makes a tree's content of its tokens.
-use Rattle.std.proofs.Common.{◌≡◌, refl, sym, ap, ◌∙◌, append_assoc}
-use Rattle.std.proofs.lemmas.Bool.{and_parts}
+use Rattle.std.proofs.Common.{◌≡◌, refl, ap, ◌∙◌, append_assoc}
 use Rattle.std.proofs.lemmas.List.Sums.{fold-append}
-use Rattle.std.proofs.lemmas.List.Folds.{list_all-append}
-use Rattle.std.specs.List.{list_all}
-use Rattle.std.specs.Str.{all_scalars}
-use Rattle.std.specs.Prelude.{Bool, true, false, Option, None, Some, List, [], ◌∷◌, ◌++◌, ◌&&◌, not, fold, codes}
+use Rattle.std.specs.Prelude.{Bool, true, false, Option, None, Some, List, [], ◌∷◌, ◌++◌, not, fold}
 use Rattle.yaml_base.specs.Characters.{Text}
 use Rattle.yaml_base.specs.Event.{TagDirective, Event, scalar, sequence_start, mapping_start}
-use Rattle.yaml_base.specs.Tags.{TagRead, bare_tag, named_tag, directives_fault, directives_in_force, spelling, spelled, tag_read}
-use Rattle.yaml_base.specs.Grammar.{Node, alias_node, scalar_node, sequence_node, mapping_node, Nodes, no_nodes, nodes_and, Pairs, no_pairs, pairs_and, node_events, nodes_events, pairs_events}
+use Rattle.yaml_base.specs.Tags.{TagRead, bare_tag, named_tag, directives_in_force, spelling, spelled, tag_read}
+use Rattle.yaml_base.specs.Grammar.{Node, alias_node, scalar_node, sequence_node, mapping_node, Nodes, no_nodes, nodes_and, Pairs, no_pairs, pairs_and}
 use Rattle.yaml_base.specs.Layout.{has_no_nodes, has_no_pairs}
-use Rattle.yaml_base.specs.Content.{ScalarTag, tagged, untagged, scalar_tag, Content, scalar_content, sequence_content, mapping_content, Contents, no_contents, contents_and, no_content_pairs, content_pairs_and, node_content, nodes_content, pairs_content, DocumentContent}
-use Rattle.yaml_base.specs.CanonicalReader.{Token, tag_token, scalar_token, opens_sequence, closes_sequence, opens_mapping, closes_mapping, key_sign, value_sign, comma, OpenContent, open_sequence, open_mapping, Awaited, node_awaited, entry_awaited, comma_awaited, value_awaited, Head, Reading, within, with_content, with_tag, with_open, node_read, entry_read, token_read}
-use Rattle.yaml_base.proofs.TagLaws.{written_tag_reads}
+use Rattle.yaml_base.specs.Content.{scalar_tag, scalar_content, Contents, node_content, nodes_content, pairs_content, DocumentContent}
+use Rattle.yaml_base.specs.CanonicalReader.{Token, scalar_token, opens_sequence, closes_sequence, opens_mapping, closes_mapping, key_sign, value_sign, comma, OpenContent, open_sequence, open_mapping, node_awaited, entry_awaited, comma_awaited, Head, Reading, within, with_content, with_tag, token_read}
 use Rattle.yaml_emitter.proofs.CanonicalTokens.{properties_tokens, entry_sign, node_tokens, nodes_tokens, pairs_tokens}
 use Rattle.yaml_emitter.proofs.CanonicalEvents.{EachNode, EachItem, EachPair}
 

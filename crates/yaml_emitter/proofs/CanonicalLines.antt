@@ -1,6 +1,6 @@
 -- What document marks and directives say to the canonical reader.
-use Rattle.std.proofs.Common.{◌≡◌, ◌⊎◌, ℕ, ℤ, pos, negsuc, zero, suc, refl, sym, ap, ◌∙◌, subst, append_assoc, append-nil, arith, inl, inr}
-use Rattle.std.proofs.lemmas.Bool.{and_parts, and_from, or_right, true≢false, false≢true, eqb-true}
+use Rattle.std.proofs.Common.{◌≡◌, ◌⊎◌, ℕ, ℤ, pos, negsuc, refl, sym, ap, ◌∙◌, subst, append_assoc, append-nil, arith, inl, inr}
+use Rattle.std.proofs.lemmas.Bool.{and_parts, and_from, or_right, false≢true, eqb-true}
 use Rattle.std.proofs.lemmas.Bool.Decides.{nat_tests}
 use Rattle.std.proofs.lemmas.List.Folds.{list_all-append}
 use Rattle.std.proofs.lemmas.List.Splits.{slice_split-cons_yes, slice_split-cons_no}
@@ -8,18 +8,18 @@ use Rattle.std.specs.List.{list_all, slice_split, onto_first}
 use Rattle.std.specs.Str.{all_scalars}
 use Rattle.std.specs.Prelude.{Bool, true, false, Option, None, Some, List, [], ◌∷◌, ◌++◌, ◌&&◌, ◌||◌, ◌==◌, not, codes, filter, length, replicate, if◌then◌else◌}
 use Rattle.yaml_base.specs.Characters.{Text, is_alpha, is_blank, space, line_feed}
-use Rattle.yaml_base.specs.LineBreaks.{is_laid_text, is_read_break}
-use Rattle.yaml_base.specs.Cursor.{Cursor, breaks_line, new_line, indicator, space_if}
+use Rattle.yaml_base.specs.LineBreaks.{is_read_break}
+use Rattle.yaml_base.specs.Cursor.{Cursor, new_line, space_if}
 use Rattle.yaml_base.specs.Event.{Version, TagDirective}
-use Rattle.yaml_base.specs.Percent.{percent_escaped, percent_decoded}
-use Rattle.yaml_base.specs.Tags.{version_fault, is_the_number, directive_fault, handle_fault, prefix_fault, tag_mark}
+use Rattle.yaml_base.specs.Percent.{percent_escaped}
+use Rattle.yaml_base.specs.Tags.{version_fault, is_the_number, prefix_fault, tag_mark}
 use Rattle.yaml_base.specs.Layout.{sign_laid, closing_mark_laid, version_laid, tag_directive_laid, tag_directives_laid, document_mark_laid}
-use Rattle.yaml_base.specs.CanonicalReader.{Token, version_line, tag_line, document_begins, document_ends, free, in_line, tokens_from, words, directive_token, tag_line_of, is_handle, ends_handle}
+use Rattle.yaml_base.specs.CanonicalReader.{version_line, tag_line, document_begins, document_ends, free, in_line, tokens_from, words, directive_token, tag_line_of, is_handle, ends_handle}
 use Rattle.yaml_base.proofs.PercentLaws.{decoded_escaped, escaped_begins}
-use Rattle.yaml_base.proofs.TagLaws.{IsHandle, handle_form}
+use Rattle.yaml_base.proofs.TagLaws.{IsHandle}
 use Rattle.yaml_base.proofs.BreakLaws.{laid-append}
-use Rattle.yaml_emitter.proofs.CanonicalText.{anything, name_ends, Says, Opens, says_after, says_text, says_tokens, says_nothing, says_white, space_if-white, new_line-white, indicator_says, scalars-append, and_false}
-use Rattle.yaml_emitter.proofs.CanonicalNames.{is_written, all_written, written-append, all-scalars, all-laid, escaped-written, IsTagText, handle_text}
+use Rattle.yaml_emitter.proofs.CanonicalText.{anything, Says, says_after, says_text, says_nothing, says_white, space_if-white, new_line-white, indicator_says, scalars-append, and_false}
+use Rattle.yaml_emitter.proofs.CanonicalNames.{is_written, all_written, all-scalars, all-laid, escaped-written, handle_text}
 use Rattle.yaml_emitter.proofs.CanonicalTokens.{version_tokens, tag_line_tokens}
 
 -- Marks.

@@ -1,22 +1,22 @@
 -- What anchors, aliases and tags say to the canonical reader.
 use Rattle.std.proofs.Common.{◌≡◌, ℕ, refl, sym, ap, ◌∙◌, subst, append_assoc, append-nil, arith, inl, inr}
-use Rattle.std.proofs.lemmas.Bool.{and_parts, and_from, true≢false, false≢true}
+use Rattle.std.proofs.lemmas.Bool.{and_parts, and_from, false≢true}
 use Rattle.std.proofs.lemmas.Bool.Decides.{nat_tests}
 use Rattle.std.proofs.lemmas.List.Folds.{list_all-append}
 use Rattle.std.specs.List.{list_all}
 use Rattle.std.specs.Str.{all_scalars}
-use Rattle.std.specs.Prelude.{Bool, true, false, Option, None, Some, List, [], ◌∷◌, ◌++◌, ◌&&◌, ◌||◌, ◌==◌, not, codes}
+use Rattle.std.specs.Prelude.{Bool, true, false, None, List, [], ◌∷◌, ◌++◌, ◌||◌, ◌==◌, not, codes}
 use lib.Utf8.{scalar}
 use Rattle.yaml_base.specs.Characters.{Text, is_alpha, is_among, is_space, space, carriage_return, next_line}
 use Rattle.yaml_base.specs.Analysis.{begins_with}
-use Rattle.yaml_base.specs.LineBreaks.{is_laid_text, is_read_break}
+use Rattle.yaml_base.specs.LineBreaks.{is_laid_text}
 use Rattle.yaml_base.specs.Event.{TagDirective}
 use Rattle.yaml_base.specs.Percent.{percent_escaped}
-use Rattle.yaml_base.specs.Tags.{Spelling, shorthand, verbatim, spelling, spelled, directives_fault, directives_in_force, handle_fault, tag_mark}
-use Rattle.yaml_base.specs.CanonicalReader.{Token, anchor_token, alias_token, tag_token, anchor_named, alias_named, TokenPlace, free, in_anchor, in_alias, in_tag, tokens_from, free_turn, goes_to}
+use Rattle.yaml_base.specs.Tags.{Spelling, spelling, spelled, directives_fault, directives_in_force, tag_mark}
+use Rattle.yaml_base.specs.CanonicalReader.{anchor_token, alias_token, tag_token, anchor_named, alias_named, free, in_anchor, in_alias, in_tag, tokens_from, free_turn, goes_to}
 use Rattle.yaml_base.proofs.PercentLaws.{stands_written, escaped_stands}
 use Rattle.yaml_base.proofs.TagLaws.{IsHandle, handle_form, spelling_is, in_force_found}
-use Rattle.yaml_emitter.proofs.CanonicalText.{Demand, anything, name_ends, space_next, Meets, Says}
+use Rattle.yaml_emitter.proofs.CanonicalText.{name_ends, space_next, Says}
 
 -- what stands in a written tag, handle or prefix
 abbrev pub is_written : ℕ → Bool

@@ -3,7 +3,7 @@ use Rattle.std.proofs.Common.{◌≡◌, ℕ, ◌≤◌, refl, sym, ap, ◌∙�
 use Rattle.std.proofs.lemmas.Grind.{flat_map-append}
 use Rattle.std.proofs.lemmas.Bool.{true≢false}
 use Rattle.std.specs.Str.{all_scalars}
-use Rattle.std.specs.Prelude.{Bool, true, false, Option, None, Some, List, [], ◌∷◌, ◌++◌, ◌&&◌, ◌||◌, not, codes, is_some, if◌then◌else◌}
+use Rattle.std.specs.Prelude.{Bool, true, false, Option, None, Some, List, [], ◌∷◌, ◌++◌, ◌&&◌, not, codes, is_some, if◌then◌else◌}
 use Rattle.yaml_base.specs.Characters.{Text, space}
 use Rattle.yaml_base.specs.Settings.{Effective}
 use Rattle.yaml_base.specs.Cursor.{Cursor, new_line, indicator, space_if, then_laid}
@@ -11,9 +11,9 @@ use Rattle.yaml_base.specs.DoubleQuoted.{double_quoted_body}
 use Rattle.yaml_base.specs.Event.{TagDirective, Scalar, Collection, Event, alias, scalar, sequence_start, mapping_start}
 use Rattle.yaml_base.specs.Tags.{directives_fault, directives_in_force}
 use Rattle.yaml_base.specs.Grammar.{Node, alias_node, scalar_node, sequence_node, mapping_node, Nodes, no_nodes, nodes_and, Pairs, no_pairs, pairs_and}
-use Rattle.yaml_base.specs.Layout.{Role, as_root, as_item, as_key, as_value, Piece, piece_text, text_of, Standing, PieceLaid, PiecesLaid, one_piece, then_pieces, Place, is_key, is_in_mapping, line_column, deeper, has_no_nodes, has_no_pairs, is_simple, is_simple_at, place_laid, properties_laid, alias_piece, scalar_piece, start_piece, choice_of, scalar_lead, is_written_in_flow, Brackets, square, curly, empty_or_comma, end_laid, end_piece, entry_place, collection_laid, node_laid, nodes_laid, pairs_laid}
+use Rattle.yaml_base.specs.Layout.{as_item, as_key, as_value, Piece, piece_text, text_of, Standing, PiecesLaid, one_piece, is_key, is_in_mapping, line_column, deeper, has_no_nodes, has_no_pairs, is_simple, place_laid, properties_laid, alias_piece, scalar_piece, start_piece, choice_of, scalar_lead, is_written_in_flow, Brackets, square, curly, end_laid, end_piece, collection_laid, node_laid, nodes_laid, pairs_laid}
 use Rattle.yaml_base.specs.CanonicalReader.{Token, opens_sequence, closes_sequence, opens_mapping, closes_mapping, scalar_token, alias_token}
-use Rattle.yaml_emitter.proofs.CanonicalText.{Demand, anything, name_ends, space_next, Says, Opens, opens_append, opens_any, says_then, says_after, says_text, says_tokens, says_less, says_white, white-opens, space_if-white, new_line-white, indicator_says, and_false, space_first}
+use Rattle.yaml_emitter.proofs.CanonicalText.{Demand, anything, name_ends, space_next, Says, Opens, opens_append, opens_any, says_then, says_after, says_text, says_tokens, says_less, says_white, space_if-white, new_line-white, indicator_says, and_false}
 use Rattle.yaml_emitter.proofs.CanonicalNames.{IsName, alias_says}
 use Rattle.yaml_emitter.proofs.CanonicalQuotes.{body_says}
 use Rattle.yaml_emitter.proofs.CanonicalPlaces.{in_canonical, Spot, place_of, spot_tokens, Fits, Entered, Follows, says_square, says_square_end, says_curly, says_curly_end, says_comma, place_says, opening_opens, place_opens, AnchorOk, demand_of, properties_say, properties_fit}

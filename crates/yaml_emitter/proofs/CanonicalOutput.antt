@@ -1,13 +1,13 @@
 -- The output of a list in canonical mode, where no limit cuts it, reads as its content.
-use Rattle.std.proofs.Common.{◌≡◌, sym, ap, ◌∙◌}
+use Rattle.std.proofs.Common.{sym, ap, ◌∙◌}
 use Rattle.std.proofs.lemmas.List.{take_all}
 use Rattle.std.specs.Prelude.{List}
 use Rattle.yaml_base.specs.Settings.{Settings}
 use Rattle.yaml_base.specs.Event.{Event}
 use Rattle.yaml_base.specs.Pieces.{list_layout}
-use Rattle.yaml_base.specs.Output.{encoding_asked, settings_for, bytes_written, output_of}
+use Rattle.yaml_base.specs.Output.{encoding_asked, settings_for, bytes_written}
 use Rattle.yaml_base.specs.CanonicalReader.{canonical_content}
-use Rattle.yaml_emitter.specs.Uncut.{IsWhole, OutputReads, OutputTells}
+use Rattle.yaml_emitter.specs.Uncut.{OutputReads, OutputTells}
 use Rattle.yaml_emitter.proofs.Canonical.{canonical_bytes_read}
 
 pub output_reads : (given : Settings) (events : List Event) → OutputReads given events

@@ -1,14 +1,13 @@
 -- What the signs of places and the properties of nodes say to the canonical reader.
-use Rattle.std.proofs.Common.{◌≡◌, ℕ, refl, sym, ap, ◌∙◌, subst, append_assoc, append-nil}
-use Rattle.std.proofs.lemmas.Bool.{true≢false}
-use Rattle.std.specs.Prelude.{Bool, true, false, Option, None, Some, List, [], ◌∷◌, ◌++◌, ◌&&◌, not, codes, if◌then◌else◌}
-use Rattle.yaml_base.specs.Characters.{Text, space}
+use Rattle.std.proofs.Common.{◌≡◌, ℕ, refl, sym, ◌∙◌, subst, append_assoc, append-nil}
+use Rattle.std.specs.Prelude.{Bool, true, false, Option, None, Some, List, [], ◌∷◌, ◌++◌, codes}
+use Rattle.yaml_base.specs.Characters.{Text}
 use Rattle.yaml_base.specs.Settings.{Effective}
-use Rattle.yaml_base.specs.Cursor.{Cursor, new_line, indicator, name_laid, space_if}
+use Rattle.yaml_base.specs.Cursor.{Cursor, new_line, indicator, space_if}
 use Rattle.yaml_base.specs.Event.{TagDirective}
 use Rattle.yaml_base.specs.Percent.{percent_escaped}
 use Rattle.yaml_base.specs.Tags.{Spelling, shorthand, verbatim, spelling, spelled, directives_fault, directives_in_force}
-use Rattle.yaml_base.specs.Layout.{Role, as_root, as_item, as_key, as_value, Place, line_column, opening_or_comma, place_laid, root_place, entry_place, anchor_laid, spelling_laid, properties_laid}
+use Rattle.yaml_base.specs.Layout.{Role, as_root, as_item, as_key, as_value, Place, opening_or_comma, place_laid, root_place, entry_place, anchor_laid, spelling_laid, properties_laid}
 use Rattle.yaml_base.specs.CanonicalReader.{Token, opens_sequence, closes_sequence, opens_mapping, closes_mapping, key_sign, value_sign, comma, tag_token}
 use Rattle.yaml_emitter.proofs.CanonicalText.{Demand, anything, name_ends, space_next, Says, Opens, opens_append, opens_any, says_then, says_after, says_text, says_nothing, says_white, white-opens, space_if-white, new_line-white, indicator_says, indicator_opens, space_first}
 use Rattle.yaml_emitter.proofs.CanonicalNames.{IsName, anchor_says, tag_says, IsTagText, tag_text}

@@ -1,13 +1,12 @@
 -- What accepted events are to the canonical reader: names, tags and directives that it reads.
-use Rattle.std.proofs.Common.{◌≡◌, ℕ, refl, sym, ap, ◌∙◌}
+use Rattle.std.proofs.Common.{◌≡◌, ℕ, refl, ap}
 use Rattle.std.proofs.lemmas.Bool.{and_parts, false≢true}
-use Rattle.std.proofs.lemmas.List.Folds.{list_all-append}
 use Rattle.std.specs.List.{list_all}
 use Rattle.std.specs.Option.{option_or}
 use Rattle.std.specs.Str.{all_scalars}
 use Rattle.std.specs.Prelude.{Bool, true, false, Option, None, Some, List, [], ◌∷◌, ◌++◌, ◌&&◌, is_none, option_and_then, if◌then◌else◌}
 use Rattle.yaml_base.specs.Characters.{Text, is_alpha}
-use Rattle.yaml_base.specs.Event.{Version, TagDirective, DocumentStart, Event, stream_start, stream_end, document_start, document_end, alias, scalar, sequence_start, sequence_end, mapping_start, mapping_end}
+use Rattle.yaml_base.specs.Event.{Version, TagDirective, Event, document_start, document_end, alias, scalar, sequence_start, mapping_start}
 use Rattle.yaml_base.specs.Tags.{name_fault, anchor_fault, anchor_empty, anchor_alphabet, alias_empty, alias_alphabet, tag_fault, handle_fault, prefix_fault, directive_fault, next_directive_fault, directives_fault_after, directives_fault, version_fault, gives_handle, duplicate_directive}
 use Rattle.yaml_base.specs.Refusal.{is_sound, name_or_tag_fault, content_fault, properties_fault}
 use Rattle.yaml_base.specs.Grammar.{Document, Documents, no_documents, documents_and, node_events, document_events, documents_events}
@@ -16,7 +15,7 @@ use Rattle.yaml_base.proofs.TagLaws.{handle_form, written_tag_reads}
 use Rattle.yaml_emitter.proofs.CanonicalNames.{IsName}
 use Rattle.yaml_emitter.proofs.CanonicalPlaces.{AnchorOk}
 use Rattle.yaml_emitter.proofs.CanonicalNodes.{EventOk}
-use Rattle.yaml_emitter.proofs.CanonicalLines.{VersionOk, DirectiveOk, EachDirective}
+use Rattle.yaml_emitter.proofs.CanonicalLines.{VersionOk, EachDirective}
 use Rattle.yaml_emitter.proofs.CanonicalEvents.{EachNode, each_node, split}
 use Rattle.yaml_emitter.proofs.CanonicalFold.{TagReads, TagOf}
 use Rattle.yaml_emitter.proofs.CanonicalDocuments.{EachDocument}

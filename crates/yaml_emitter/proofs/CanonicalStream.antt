@@ -1,18 +1,17 @@
 -- What the text of a stream says to the canonical reader.
 use Rattle.std.proofs.Common.{◌≡◌, ℕ, ◌≤◌, refl, sym, ap, ◌∙◌, subst, append_assoc, append-nil}
 use Rattle.std.proofs.lemmas.Bool.{false≢true}
-use Rattle.std.specs.Prelude.{Bool, true, false, Option, None, Some, List, [], ◌∷◌, ◌++◌, ◌&&◌, ◌||◌, ◌==◌, not, if◌then◌else◌}
-use Rattle.yaml_base.specs.Characters.{Text, line_feed}
+use Rattle.std.specs.Prelude.{Bool, true, false, None, List, [], ◌∷◌, ◌++◌, ◌&&◌, ◌||◌, ◌==◌, not, if◌then◌else◌}
+use Rattle.yaml_base.specs.Characters.{Text}
 use Rattle.yaml_base.specs.Settings.{Effective}
 use Rattle.yaml_base.specs.Cursor.{Cursor, new_line}
-use Rattle.yaml_base.specs.Event.{DocumentStart}
 use Rattle.yaml_base.specs.Tags.{directives_in_force}
 use Rattle.yaml_base.specs.Grammar.{Document, Documents, no_documents, documents_and, Stream}
-use Rattle.yaml_base.specs.Layout.{Piece, text_of, Standing, PiecesLaid, root_place, node_laid, laid_if, closing_mark_laid, version_laid, tag_directives_laid, has_directives, is_explicit, document_mark_laid, document_start_laid, document_start_piece, document_end_piece, document_laid, has_no_documents, documents_laid, first_standing, stream_start_piece, stream_end_piece, stream_laid, layout}
+use Rattle.yaml_base.specs.Layout.{text_of, Standing, PiecesLaid, root_place, node_laid, laid_if, closing_mark_laid, version_laid, tag_directives_laid, has_directives, is_explicit, document_mark_laid, document_start_laid, document_start_piece, document_end_piece, document_laid, has_no_documents, documents_laid, first_standing, stream_start_piece, stream_end_piece, layout}
 use Rattle.yaml_base.specs.CanonicalReader.{Token, document_begins}
-use Rattle.yaml_emitter.proofs.CanonicalText.{anything, name_ends, Says, Opens, opens_append, opens_any, says_then, says_after, says_text, says_tokens, says_nothing, says_white, new_line-white}
+use Rattle.yaml_emitter.proofs.CanonicalText.{anything, name_ends, Says, Opens, opens_append, says_then, says_after, says_text, says_tokens, says_nothing, says_white, new_line-white}
 use Rattle.yaml_emitter.proofs.CanonicalPlaces.{in_canonical}
-use Rattle.yaml_emitter.proofs.CanonicalNodes.{After, lead_text, more_text, node_after}
+use Rattle.yaml_emitter.proofs.CanonicalNodes.{lead_text, more_text, node_after}
 use Rattle.yaml_emitter.proofs.CanonicalLines.{closing_says, mark_says, version_says, directives_say, line_breaks}
 use Rattle.yaml_emitter.proofs.CanonicalSound.{DocumentOk, DocumentsOk}
 use Rattle.yaml_emitter.proofs.CanonicalTokens.{node_tokens, version_tokens, tag_line_tokens, end_tokens, document_tokens, left_open, documents_tokens}

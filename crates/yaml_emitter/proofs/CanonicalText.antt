@@ -1,15 +1,14 @@
 -- What a text says to the canonical reader between tokens: the tokens that it is read as, where what follows meets a demand.
-use Rattle.std.proofs.Common.{◌≡◌, ℕ, zero, suc, refl, sym, ap, ◌∙◌, subst, append_assoc, append-nil, arith}
+use Rattle.std.proofs.Common.{◌≡◌, ℕ, zero, suc, refl, sym, ap, ◌∙◌, subst, append_assoc}
 use Rattle.std.proofs.lemmas.Bool.{and_parts, and_from, true≢false, eqb-true}
-use Rattle.std.proofs.lemmas.List.Folds.{list_all-append}
 use Rattle.std.specs.List.{list_all}
 use Rattle.std.specs.Str.{all_scalars}
-use Rattle.std.specs.Prelude.{Bool, true, false, List, [], ◌∷◌, ◌++◌, ◌&&◌, ◌||◌, ◌-◌, ◌==◌, not, nat_lt, replicate, if◌then◌else◌}
+use Rattle.std.specs.Prelude.{Bool, true, false, List, [], ◌∷◌, ◌++◌, ◌&&◌, ◌||◌, ◌-◌, ◌==◌, not, replicate, if◌then◌else◌}
 use Rattle.yaml_base.specs.Characters.{Text, is_alpha, is_space, space, line_feed}
 use Rattle.yaml_base.specs.Analysis.{begins_with}
 use Rattle.yaml_base.specs.LineBreaks.{is_laid_text}
-use Rattle.yaml_base.specs.Cursor.{Cursor, Laid, breaks_line, new_line, indicator, space_if, then_laid}
-use Rattle.yaml_base.specs.CanonicalReader.{Token, TokenPlace, free, tokens_from}
+use Rattle.yaml_base.specs.Cursor.{Cursor, breaks_line, new_line, indicator, space_if}
+use Rattle.yaml_base.specs.CanonicalReader.{Token, free, tokens_from}
 use Rattle.yaml_base.proofs.BreakLaws.{laid-append}
 
 -- what may follow a text: anything, no letter of a name, or a space alone

@@ -1,10 +1,8 @@
 -- The tokens of a tree's canonical text, as they are laid: a comma or an opening bracket stands before each entry.
-use Rattle.std.specs.Prelude.{Bool, true, false, Option, None, Some, List, [], ◌∷◌, ◌++◌, ◌||◌, ◌&&◌, not, codes, if◌then◌else◌}
-use Rattle.std.specs.List.{list_all}
-use Rattle.std.specs.Str.{all_scalars}
+use Rattle.std.specs.Prelude.{Bool, true, false, Option, None, Some, List, [], ◌∷◌, ◌++◌, ◌&&◌, not, codes}
 use Rattle.yaml_base.specs.Characters.{Text}
-use Rattle.yaml_base.specs.Event.{Version, TagDirective, Event, document_start, alias, scalar, sequence_start, mapping_start}
-use Rattle.yaml_base.specs.Tags.{TagRead, bare_tag, named_tag, directives_in_force, spelling, spelled}
+use Rattle.yaml_base.specs.Event.{Version, TagDirective}
+use Rattle.yaml_base.specs.Tags.{directives_in_force, spelling, spelled}
 use Rattle.yaml_base.specs.Grammar.{Node, alias_node, scalar_node, sequence_node, mapping_node, Nodes, no_nodes, nodes_and, Pairs, no_pairs, pairs_and, Document, Documents, no_documents, documents_and}
 use Rattle.yaml_base.specs.Layout.{has_no_nodes, has_no_pairs, has_directives}
 use Rattle.yaml_base.specs.CanonicalReader.{Token, version_line, tag_line, document_begins, document_ends, anchor_token, alias_token, tag_token, scalar_token, opens_sequence, closes_sequence, opens_mapping, closes_mapping, key_sign, value_sign, comma}

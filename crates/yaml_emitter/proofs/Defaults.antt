@@ -1,13 +1,13 @@
 -- Adding both defaults in turn gives the directives in force.
-use Rattle.std.proofs.Common.{◌≡◌, Bool, true, false, ◌||◌, not, List, [], ◌∷◌, ◌++◌, refl, sym, ap, ◌∙◌, append_assoc, append-nil, codes, bytes_eq, ℕ, Result, Ok, Err, OnOk}
-use Rattle.std.specs.Prelude.{filter, if◌then◌else◌}
+use Rattle.std.proofs.Common.{◌≡◌, Bool, true, false, not, List, [], ◌∷◌, ◌++◌, refl, sym, ap, ◌∙◌, append_assoc, append-nil, codes, bytes_eq, ℕ, Result, Ok, Err, OnOk}
+use Rattle.std.specs.Prelude.{if◌then◌else◌}
 use Rattle.std.specs.List.{list_any}
 use Rattle.std.specs.Str.{chars}
 use Rattle.yaml_base.specs.declared.errors.yaml_error_t.{yaml_error_t}
 use Rattle.std.proofs.Math.Bool.{or-false}
 use Rattle.std.proofs.lemmas.List.Folds.{list_any-append}
 use Rattle.yaml_base.specs.Event.{TagDirective}
-use Rattle.yaml_base.specs.Tags.{gives_handle, default_directives, directives_in_force}
+use Rattle.yaml_base.specs.Tags.{gives_handle, directives_in_force}
 use Rattle.yaml_emitter.specs.InForce.{with_default}
 
 abbrev pub own_default : TagDirective

@@ -1,5 +1,5 @@
 -- The events that wait are written one after another.
-use Rattle.std.proofs.Common.{arith, ◌≡◌, ◌≤◌, ◌<◌, ℕ, Bool, true, Option, None, Some, Result, Ok, Err, List, [], ◌∷◌, ◌++◌, length, take, refl, sym, ap, subst, ◌∙◌}
+use Rattle.std.proofs.Common.{arith, ◌≡◌, ◌≤◌, ◌<◌, true, None, Result, Ok, Err, List, [], ◌∷◌, ◌++◌, length, take, sym, ap, subst}
 use Rattle.yaml_base.specs.Settings.{Settings}
 use Rattle.yaml_base.specs.Event.{Event}
 use Rattle.yaml_base.specs.Ready.{is_ready, written}
@@ -7,7 +7,6 @@ use Rattle.yaml_base.specs.declared.errors.yaml_error_t.{yaml_error_t}
 use Rattle.yaml_base.specs.declared.errors.yaml_error_t.TheVariants.{WriteError, Memory}
 use Rattle.yaml_emitter.specs.State.{State}
 use Rattle.yaml_emitter.specs.Queue.{is_head_ready}
-use Rattle.yaml_emitter.specs.Processing.{Processed, closes_at_once}
 use Rattle.yaml_emitter.specs.StandsAfter.{Reached, ReachedOn, StandsSo, StandsWell, TookFirst, failed_by}
 use Rattle.yaml_emitter.proofs.Standing.{reached_first, reached_next}
 use Rattle.yaml_emitter.proofs.StandingFailed.{reached_failed}

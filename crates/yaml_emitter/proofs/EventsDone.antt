@@ -1,11 +1,10 @@
 -- Each event's work, as a step of the emitter.
-use Rattle.std.proofs.Common.{◌≡◌, ◌==◌, ℕ, Bool, true, false, not, Option, None, Some, Result, Ok, Err, List, refl, sym, ap, subst, ◌∙◌}
+use Rattle.std.proofs.Common.{◌≡◌, ◌==◌, ℕ, Bool, true, false, Option, None, Some, Ok, Err, refl, sym, ap, ◌∙◌}
 use Rattle.std.specs.Prelude.{if◌then◌else◌, IsSome, unwrap_or}
-use Rattle.yaml_base.specs.Errors.{refusal_number}
 use Rattle.yaml_base.specs.Settings.{Encoding, Effective, effective}
-use Rattle.yaml_base.specs.Event.{Event, stream_start, stream_end, document_end}
+use Rattle.yaml_base.specs.Event.{stream_start, stream_end, document_end}
 use Rattle.yaml_base.specs.Layout.{document_end_piece, stream_end_piece}
-use Rattle.yaml_base.specs.Steps.{Stage, at_stream, at_document, at_node, at_document_end, at_nothing, stage_refusal, step}
+use Rattle.yaml_base.specs.Steps.{at_stream, at_document, at_document_end, at_nothing, stage_refusal, step}
 use Rattle.yaml_base.specs.declared.errors.yaml_error_t.{yaml_error_t}
 use Rattle.yaml_pen.specs.Page.{Page, encoded}
 use Rattle.yaml_pen.specs.Wrote.{Wrote}

@@ -1,9 +1,9 @@
 -- A flush after a call that writes.
-use Rattle.std.proofs.Common.{◌≡◌, ap, sym, append-nil, Result}
+use Rattle.std.proofs.Common.{◌≡◌, ap, append-nil, Result}
 use Rattle.yaml_base.specs.Characters.{Text}
 use Rattle.yaml_base.specs.Cursor.{Cursor, Laid, nothing_laid, then_laid}
 use Rattle.yaml_base.specs.declared.errors.yaml_error_t.{yaml_error_t}
-use Rattle.std.specs.Prelude.{Ok, ◌++◌, []}
+use Rattle.std.specs.Prelude.{Ok}
 use Rattle.yaml_pen.specs.Page.{Page}
 use Rattle.yaml_pen.specs.Wrote.{Wrote, Flushed}
 use Rattle.yaml_pen.proofs.Composing.{wrote_then, wrote_as, flushed_wrote}

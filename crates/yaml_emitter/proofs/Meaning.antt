@@ -1,12 +1,12 @@
 -- Every scalar in the layout of a stream reads back as exactly its value.
-use Rattle.std.proofs.Common.{◌≡◌, ◌≤◌, refl, sym, ap, ◌∙◌, subst, arith}
+use Rattle.std.proofs.Common.{◌≡◌, refl, sym, ap, ◌∙◌, subst, arith}
 use Rattle.std.proofs.lemmas.Bool.{and_parts, leb-true}
-use Rattle.std.proofs.lemmas.List.Elements.{All-nil, All-cons, All-same}
+use Rattle.std.proofs.lemmas.List.Elements.{All-nil, All-cons}
 use Rattle.std.specs.List.{All, list_all}
 use Rattle.std.specs.Prelude.{ℕ, ℤ, pos, negsuc, Bool, true, false, ◌&&◌, nat_le, Option, None, Some, option_map, unwrap_or, List, [], ◌∷◌, is_some, if◌then◌else◌}
 use Rattle.yaml_base.specs.Analysis.{allowances, is_empty}
-use Rattle.yaml_base.specs.Event.{TagDirective, Scalar, Event, stream_start, stream_end, document_start, document_end, alias, scalar, sequence_start, sequence_end, mapping_start, mapping_end}
-use Rattle.yaml_base.specs.Grammar.{Stream, stream_events, tree_of}
+use Rattle.yaml_base.specs.Event.{TagDirective, Scalar, Event, stream_start, stream_end, document_start, document_end, scalar, sequence_end, mapping_end}
+use Rattle.yaml_base.specs.Grammar.{Stream, stream_events}
 use Rattle.yaml_base.specs.Layout.{layout, first_standing}
 use Rattle.yaml_base.specs.Meaning.{BodyMeans, has_scalar_values, MeaningIsKept}
 use Rattle.yaml_base.specs.NodeLayout.{Body, Piece, bodies_of, Standing, choice_of, scalar_lead, scalar_piece}
@@ -14,7 +14,7 @@ use Rattle.yaml_base.specs.Pieces.{list_layout}
 use Rattle.yaml_base.specs.Places.{Place}
 use Rattle.yaml_base.specs.Refusal.{IsAccepted, scalar_tag}
 use Rattle.yaml_base.specs.Settings.{Effective, effective, effective_indent}
-use Rattle.yaml_base.specs.Steps.{Frame, Stage, at_stream, at_document, at_node, at_document_end, at_nothing, step, node_step, ends_next, steps}
+use Rattle.yaml_base.specs.Steps.{Frame, Stage, at_stream, at_document, at_node, at_document_end, step, node_step, ends_next, steps}
 use Rattle.yaml_base.proofs.StepLaws.{stream_steps}
 use Rattle.yaml_base.proofs.Trees.{tree_of-stream_events}
 use Rattle.yaml_emitter.proofs.MeaningStyles.{chosen_allowed}

@@ -1,6 +1,6 @@
 -- A body that stands in a layout reads as its value.
 use Rattle.std.proofs.Common.{◌≡◌, ◌≤◌, refl, arith}
-use Rattle.std.specs.Prelude.{ℕ, Bool, true, false, Option, None, Some, List, [], ◌∷◌, ◌+◌, if◌then◌else◌}
+use Rattle.std.specs.Prelude.{ℕ, Bool, true, false, Option, None, Some}
 use Rattle.std.specs.Str.{all_scalars}
 use Rattle.yaml_base.specs.Analysis.{Charset, allowances, allows_plain}
 use Rattle.yaml_base.specs.BlockHeader.{Encloses}

@@ -1,17 +1,16 @@
 -- What an event did, from what the calls in its work did.
-use Rattle.std.proofs.Common.{◌≡◌, ℕ, Bool, true, false, Option, None, Some, Result, Ok, Err, refl, sym, ap, subst, ◌∙◌, inl, inr}
+use Rattle.std.proofs.Common.{◌≡◌, Bool, true, Option, None, Some, Result, Ok, Err, refl, sym, ap, subst, ◌∙◌, inl, inr}
 use Rattle.std.specs.Prelude.{◌⊎◌, IsErr, IsErrAnd}
 use Rattle.std.proofs.lemmas.Result.{err_from_is_err_and}
-use Rattle.std.specs.Option.{option_or}
 use Rattle.yaml_base.specs.Errors.{refusal_number}
 use Rattle.yaml_base.specs.Event.{Event, stream_start}
 use Rattle.yaml_base.specs.Steps.{Stage, stage_refusal, step}
 use Rattle.yaml_base.specs.declared.errors.yaml_error_t.{yaml_error_t}
-use Rattle.yaml_base.specs.declared.errors.yaml_error_t.TheVariants.{ExpectedStreamStart, ExpectedDocumentStart, ExpectedDocumentEnd, ExpectedNode, ExpectedNothing, IncompatibleVersion, TagHandleEmpty, TagHandleStart, TagHandleEnd, TagHandleAlphabet, TagPrefixEmpty, DuplicateDirective, AnchorEmpty, AnchorAlphabet, AliasEmpty, AliasAlphabet, TagEmpty, NoTagNorImplicit, TooDeep, WriteError, Memory}
-use Rattle.yaml_pen.specs.Page.{Page, told, encoded}
+use Rattle.yaml_base.specs.declared.errors.yaml_error_t.TheVariants.{WriteError, Memory}
+use Rattle.yaml_pen.specs.Page.{told, encoded}
 use Rattle.yaml_pen.specs.Wrote.{Wrote}
 use Rattle.yaml_emitter.specs.State.{State, standing_of}
-use Rattle.yaml_emitter.specs.Processing.{Processed, Written, CutShort, Refused, Keeps, WritesPage, refusal_now, event_laid, event_stepped, hands_out}
+use Rattle.yaml_emitter.specs.Processing.{Processed, CutShort, Keeps, WritesPage, refusal_now, event_laid, event_stepped, hands_out}
 use Rattle.yaml_emitter.specs.WrittenPieces.{piece_at}
 
 -- a refusal's error: neither the output's limit nor memory

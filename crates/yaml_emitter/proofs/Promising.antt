@@ -1,6 +1,6 @@
 -- All that an emitter promises where it stands.
 use Rattle.std.proofs.Common.{◌≡◌, refl, sym, ap, ◌∙◌, subst}
-use Rattle.std.specs.Prelude.{ℕ, zero, suc, Bool, true, false, Option, None, Some, IsSome, Result, Ok, Err, OnOk, List, [], ◌∷◌, ◌++◌, length, take}
+use Rattle.std.specs.Prelude.{ℕ, zero, suc, Bool, true, Option, None, Some, IsSome, Result, Ok, Err, OnOk, List, [], ◌∷◌, ◌++◌, length, take}
 use Rattle.std.proofs.lemmas.List.{length-take-le}
 use Rattle.yaml_base.specs.Characters.{Text}
 use Rattle.yaml_base.specs.Settings.{Settings, Effective}
@@ -10,7 +10,7 @@ use Rattle.yaml_base.specs.Grammar.{documents_events}
 use Rattle.yaml_base.specs.Refusal.{IsAccepted}
 use Rattle.yaml_base.specs.Ready.{written}
 use Rattle.yaml_base.specs.Layout.{Piece}
-use Rattle.yaml_base.specs.Pieces.{list_layout, pieces}
+use Rattle.yaml_base.specs.Pieces.{pieces}
 use Rattle.yaml_base.specs.Steps.{progress}
 use Rattle.yaml_base.specs.Output.{encoding_asked, settings_for, text_written}
 use Rattle.yaml_base.specs.CanonicalReader.{canonical_content}
@@ -23,10 +23,9 @@ use Rattle.yaml_base.proofs.QueueLaws.{written_within}
 use Rattle.yaml_pen.specs.Page.{Page, encoded, told}
 use Rattle.yaml_pen.proofs.Writing.{none_from_told}
 use Rattle.yaml_emitter.specs.State.{State}
-use Rattle.yaml_emitter.specs.Processing.{hands_out}
 use Rattle.yaml_emitter.specs.StandsAfter.{HoldsPieces, hands_out_last, StandsWell, StandsBy, StandsSo, StandsAfter}
 use Rattle.yaml_emitter.specs.Promises.{bytes_of_some, HasAllBytes, ends_stream, EndsExactly, IsWritten, Promised}
-use Rattle.yaml_emitter.proofs.StandingPromises.{take-length, stands_well, promises_text, promises_held, promises_refusal, promises_output, promises_full, promises_end, all_taken, all_written, whole_text}
+use Rattle.yaml_emitter.proofs.StandingPromises.{take-length, stands_well, promises_text, promises_held, promises_refusal, promises_output, promises_full, promises_end, all_written, whole_text}
 use Rattle.yaml_emitter.proofs.Meaning.{meaning_is_kept}
 use Rattle.yaml_emitter.proofs.CanonicalOutput.{output_reads}
 use Rattle.yaml_emitter.proofs.SeenTexts.{seen_scalars, texts_more, values_of_texts}

@@ -1,5 +1,5 @@
 -- The texts of events are strings, so they consist of Unicode scalar values.
-use Rattle.std.proofs.Common.{◌≡◌, Bool, true, ◌&&◌, Option, None, Some, List, [], ◌∷◌, ◌++◌, String, map, option_map, refl, ap, ◌∙◌}
+use Rattle.std.proofs.Common.{◌≡◌, true, Option, None, Some, List, [], ◌∷◌, ◌++◌, String, map, option_map, refl}
 use Rattle.std.specs.List.{list_all}
 use Rattle.std.specs.Str.{all_scalars}
 use Rattle.std.specs.String.{string_bytes}

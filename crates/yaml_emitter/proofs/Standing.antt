@@ -1,9 +1,8 @@
 -- An emitter stands after its events: as one more comes, as each that is ready is written, and when no more is ready.
-use Rattle.std.proofs.Common.{◌≡◌, refl, sym, ap, ◌∙◌, subst, arith, append_assoc, append-nil, inl, inr}
+use Rattle.std.proofs.Common.{◌≡◌, refl, sym, ap, ◌∙◌, subst, arith, append_assoc, append-nil, inl}
 use Rattle.std.proofs.lemmas.List.{take-append-drop, length-take-le, length-append, take_at, drop_at}
 use Rattle.std.proofs.lemmas.List.Concat.{flat_map-append}
-use Rattle.std.specs.Prelude.{ℕ, suc, ◌+◌, ◌≤◌, ◌<◌, Bool, true, false, ◌&&◌, Option, None, Some, Result, Ok, Err, List, [], ◌∷◌, ◌++◌, length, take, drop, option_and_then, if◌then◌else◌}
-use Rattle.yaml_base.specs.Characters.{Text}
+use Rattle.std.specs.Prelude.{suc, ◌+◌, ◌≤◌, Bool, true, false, ◌&&◌, Option, None, Some, Result, Ok, List, [], ◌∷◌, ◌++◌, length, take, drop, option_and_then, if◌then◌else◌}
 use Rattle.yaml_base.specs.Settings.{Encoding, Settings, Effective, effective}
 use Rattle.yaml_base.specs.LineBreaks.{with_breaks_written}
 use Rattle.yaml_base.specs.Cursor.{Cursor, Laid}
@@ -18,7 +17,7 @@ use Rattle.yaml_base.specs.Output.{encoding_asked, settings_for, text_written}
 use Rattle.yaml_base.specs.declared.errors.yaml_error_t.{yaml_error_t}
 use Rattle.yaml_base.proofs.Accepted.{stands_from_begins, refused_exactly}
 use Rattle.yaml_base.proofs.Completions.{pushed-append}
-use Rattle.yaml_base.proofs.Pushes.{partial_events, partial_of_events}
+use Rattle.yaml_base.proofs.Pushes.{partial_of_events}
 use Rattle.yaml_base.proofs.QueueLaws.{written_within, open_at_written, no_end_held, held_is_short}
 use Rattle.yaml_base.proofs.Progress.{written-append}
 use Rattle.yaml_base.proofs.PieceLaws.{steps-append, steps_same}

@@ -1,13 +1,11 @@
 -- An emitter that failed stands after the events that it was given, and after those that come later.
 use Rattle.std.proofs.Common.{◌≡◌, refl, sym, ap, ◌∙◌, subst, arith, append_assoc, inl, inr}
 use Rattle.std.proofs.lemmas.Bool.{false≢true}
-use Rattle.std.proofs.lemmas.Bool.Decides.{nat_tests}
-use Rattle.std.specs.Prelude.{ℕ, suc, ◌<◌, ◌≤◌, ◌⊎◌, Bool, true, false, Option, None, Some, IsSome, Result, Ok, Err, List, [], ◌∷◌, ◌++◌, length, option_and_then, if◌then◌else◌}
+use Rattle.std.specs.Prelude.{ℕ, suc, Bool, true, false, Option, None, Some, IsSome, Result, Err, List, [], ◌∷◌, ◌++◌, option_and_then, if◌then◌else◌}
 use Rattle.yaml_base.specs.Errors.{refusal_number}
-use Rattle.yaml_base.specs.Characters.{Text}
-use Rattle.yaml_base.specs.Settings.{Settings, Effective}
+use Rattle.yaml_base.specs.Settings.{Settings}
 use Rattle.yaml_base.specs.Event.{Event, sequence_start, sequence_end, mapping_start, mapping_end}
-use Rattle.yaml_base.specs.Grammar.{Partial, before_stream, within_document, no_nodes, no_pairs, at_item, at_key, push, pushed, partial_of}
+use Rattle.yaml_base.specs.Grammar.{Partial, before_stream, within_document, no_nodes, no_pairs, at_item, at_key, push, pushed}
 use Rattle.yaml_base.specs.Refusal.{BeginsAccepted, refusal_at, refusal}
 use Rattle.yaml_base.specs.Ready.{is_ready, written}
 use Rattle.yaml_base.specs.Layout.{first_standing}
@@ -16,13 +14,12 @@ use Rattle.yaml_base.specs.Output.{settings_for, text_written}
 use Rattle.yaml_base.specs.declared.errors.yaml_error_t.{yaml_error_t}
 use Rattle.yaml_base.specs.declared.errors.yaml_error_t.TheVariants.{WriteError, Memory}
 use Rattle.yaml_base.proofs.Accepted.{stands_from_begins}
-use Rattle.yaml_base.proofs.ReadyLaws.{written_grows}
 use Rattle.yaml_pen.specs.Page.{Page}
-use Rattle.yaml_pen.specs.Wrote.{Wrote, named_text}
+use Rattle.yaml_pen.specs.Wrote.{Wrote}
 use Rattle.yaml_emitter.specs.State.{State}
-use Rattle.yaml_emitter.specs.Processing.{closes_at_once, event_stepped, event_laid, refusal_now, CutShort, Refused, Processed}
-use Rattle.yaml_emitter.specs.StandsAfter.{IsPage, HoldsPieces, HoldsPiecesWith, HasTaken, FailedAt, closes_last, StandsRefused, IsFront, StandsCut, StandsUnflushed, StandsFailed, StandsBy, StandsSo, Reached, failed_by}
-use Rattle.yaml_emitter.proofs.Standing.{settings_grown, taken_same, taken_grown, refusal_same, accepted_next, stepped_steps, named_more, is_page_wrote}
+use Rattle.yaml_emitter.specs.Processing.{closes_at_once, event_stepped, event_laid, CutShort, Refused, Processed}
+use Rattle.yaml_emitter.specs.StandsAfter.{IsPage, HoldsPieces, HasTaken, FailedAt, closes_last, StandsRefused, IsFront, StandsCut, StandsSo, Reached, failed_by}
+use Rattle.yaml_emitter.proofs.Standing.{taken_same, refusal_same, accepted_next, stepped_steps, named_more, is_page_wrote}
 
 failed_at : (given : Settings) (all front rest : List Event) (event : Event) (before : State) → Reached given all front (event ∷ rest) before → is_ready event rest ≡ true → FailedAt all front event rest
 failed_at given all front rest event before h is =

@@ -1,17 +1,16 @@
 -- What an emitter that stands promises its caller.
 use Rattle.std.proofs.Common.{◌≡◌, refl, sym, ap, ◌∙◌, subst, arith, append_assoc, append-nil, inl, inr}
-use Rattle.std.proofs.lemmas.List.{take-append-drop, length-take-le, length-append, take_at}
+use Rattle.std.proofs.lemmas.List.{take-append-drop, length-take-le, length-append}
 use Rattle.std.proofs.lemmas.Bool.{false≢true}
-use Rattle.std.specs.Prelude.{ℕ, zero, suc, ◌<◌, ◌≤◌, ◌⊎◌, Bool, true, false, ◌&&◌, Option, None, Some, Result, Ok, Err, List, [], ◌∷◌, ◌++◌, length, take, drop, option_and_then}
-use Rattle.yaml_base.specs.Errors.{refusal_number}
+use Rattle.std.specs.Prelude.{ℕ, zero, suc, ◌<◌, ◌≤◌, Bool, true, false, ◌&&◌, Option, None, Some, List, [], ◌∷◌, ◌++◌, length, take, drop, option_and_then}
 use Rattle.yaml_base.specs.Settings.{Settings, Effective}
 use Rattle.yaml_base.specs.Encoding.{encode, cut}
 use Rattle.yaml_base.specs.Event.{Event, stream_end, document_start, sequence_start, sequence_end, mapping_start, mapping_end}
 use Rattle.yaml_base.specs.Grammar.{at_item, at_key, at_value, Stream, stream_events, Partial, before_stream, between_documents, within_document, after_stream, pushed, partial_of}
 use Rattle.yaml_base.specs.Refusal.{begins_collection, ends_collection, IsAccepted, BeginsAccepted, refusal_at, refusal}
 use Rattle.yaml_base.specs.Ready.{is_ready, written}
-use Rattle.yaml_base.specs.Layout.{Piece, first_standing}
-use Rattle.yaml_base.specs.Steps.{Steps, at_stream, ends_next, steps, progress, held_back}
+use Rattle.yaml_base.specs.Layout.{first_standing}
+use Rattle.yaml_base.specs.Steps.{Steps, at_stream, ends_next, steps, held_back}
 use Rattle.yaml_base.specs.Pieces.{list_layout, pieces, begins_last, ends_first}
 use Rattle.yaml_base.specs.Pieces as closes
 use Rattle.yaml_base.specs.Output.{settings_for, text_written, bytes_written, output_of}
@@ -22,12 +21,12 @@ use Rattle.yaml_base.proofs.Completions.{front_begins, pushed-append}
 use Rattle.yaml_base.proofs.Trees.{stream_pushed}
 use Rattle.yaml_base.proofs.PieceLaws.{steps_count, steps-append, steps_same, front_layout, list_layout_steps}
 use Rattle.yaml_base.proofs.Progress.{progress_pieces}
-use Rattle.yaml_base.proofs.QueueLaws.{held_waits, held_is_short, written_within, open_at_written, stream_written}
+use Rattle.yaml_base.proofs.QueueLaws.{held_waits, written_within, open_at_written, stream_written}
 use Rattle.yaml_pen.specs.Page.{Page, encoded, IsHandedOut}
 use Rattle.yaml_emitter.specs.State.{State}
 use Rattle.yaml_emitter.specs.Queue.{is_head_ready}
 use Rattle.yaml_emitter.specs.Processing.{closes_at_once}
-use Rattle.yaml_emitter.specs.StandsAfter.{IsPage, HoldsPiecesWith, HasTaken, StandsWell, FailedAt, closes_last, StandsRefused, IsFront, StandsCut, StandsUnflushed, StandsStopped, StandsFailed, StandsBy, StandsSo}
+use Rattle.yaml_emitter.specs.StandsAfter.{HoldsPiecesWith, StandsWell, closes_last, StandsRefused, IsFront, StandsCut, StandsUnflushed, StandsStopped, StandsFailed, StandsBy, StandsSo}
 use Rattle.yaml_emitter.specs.Promises.{HasText, begins_with_start, HoldsWaiting, RefusedAt, BeginsOutput, OutputBegins, FillsLimit, IsRefusal, HasRoom, EndsExactly}
 use Rattle.yaml_emitter.proofs.Standing.{few_held, open_last, own_end, end_next, closes_last-append, settings_grown}
 use Rattle.yaml_emitter.proofs.StandingFailed.{own_accepted}

@@ -1,6 +1,6 @@
 -- An emitter that was given no event stands as its caller sets it.
 use Rattle.std.proofs.Common.{◌≡◌, refl, sym, ap, ◌∙◌, subst, arith, inl, inr}
-use Rattle.std.specs.Prelude.{ℕ, ◌<◌, ◌≤◌, ◌⊎◌, Option, None, Some, Result, Ok, List, [], ◌∷◌, ◌++◌, take}
+use Rattle.std.specs.Prelude.{ℕ, Option, None, Some, Ok, List, [], ◌∷◌, ◌++◌, take}
 use Rattle.yaml_base.specs.Settings.{Settings, Effective}
 use Rattle.yaml_base.specs.Event.{Event}
 use Rattle.yaml_base.specs.Ready.{written}
@@ -13,7 +13,9 @@ use Rattle.yaml_pen.specs.Page.{Page, new_page, encoded, IsHandedOut}
 use Rattle.yaml_pen.specs.Wrote.{Flushed}
 use Rattle.yaml_emitter.specs.Given.{nothing_given}
 use Rattle.yaml_emitter.specs.State.{State, new_state}
-use Rattle.yaml_emitter.specs.StandsAfter.{HoldsPiecesWith, FailedAt, StandsWell, StandsCut, StandsRefused, StandsUnflushed, StandsStopped, StandsFailed, StandsBy, StandsSo, StandsAfter}
+use Rattle.yaml_emitter.specs.Inside.{state_of}
+use Rattle.yaml_emitter.specs.declared.emitter.yaml_emitter_t.TheInside.{Inside}
+use Rattle.yaml_emitter.specs.StandsAfter.{HoldsPiecesWith, FailedAt, StandsWell, StandsUnflushed, StandsStopped, StandsFailed, StandsBy, StandsSo, StandsAfter}
 use Rattle.yaml_emitter.proofs.StandingMore.{nothing_begins, new_stands, flushed_stands}
 use Rattle.yaml_emitter.proofs.StandingPromises.{stands_well}
 
@@ -153,3 +155,11 @@ pub stands_flushed : (given : Settings) (all : List Event) (state : State) (page
 stands_flushed given all state page h none flushed =
     subst (λ e. StandsBy given all e (record state { page = page })) (sym none)
     (flushed_stands given all state page (stands_well given all state h none) flushed)
+
+-- What is set inside an emitter, without a limit.
+pub stands_inside : {A : Type 0} (e after : Inside A) {seen : State} → state_of e ≡ seen
+    → state_of after ≡ record (state_of e) { given = (state_of after).given; settings = (state_of after).settings }
+    → (state_of after).given.limit ≡ (state_of e).given.limit
+    → StandsAfter seen.given [] seen → StandsAfter (state_of after).given [] (state_of after)
+stands_inside e after is set same h =
+    stands_given (state_of e) (state_of after) (state_of after).given (state_of after).settings set same (subst (λ (s : State). StandsAfter s.given [] s) (sym is) h)

@@ -1,23 +1,23 @@
 -- The text and the output of an emitter that stands, beside the layouts of lists that go on from its events.
 use Rattle.std.proofs.Common.{◌≡◌, refl, sym, ap, ◌∙◌, subst, arith, append_assoc, append-nil}
-use Rattle.std.proofs.lemmas.List.{take-append-drop, length-take-le, take_at, length-append}
-use Rattle.std.specs.Prelude.{ℕ, zero, suc, ◌<◌, ◌≤◌, Bool, true, false, ◌&&◌, Option, None, Some, List, [], ◌∷◌, ◌++◌, length, take, drop, option_and_then}
+use Rattle.std.proofs.lemmas.List.{take-append-drop, length-take-le, take_at}
+use Rattle.std.specs.Prelude.{ℕ, zero, suc, ◌≤◌, Bool, true, false, ◌&&◌, Option, None, Some, List, [], ◌∷◌, ◌++◌, length, take, drop, option_and_then}
 use Rattle.yaml_base.specs.Characters.{Text}
-use Rattle.yaml_base.specs.Settings.{Settings, Effective}
+use Rattle.yaml_base.specs.Settings.{Effective}
 use Rattle.yaml_base.specs.Encoding.{encode, cut, text_bytes}
 use Rattle.yaml_base.specs.Event.{Event, sequence_start, mapping_start}
 use Rattle.yaml_base.specs.Grammar.{no_nodes, no_pairs, at_item, at_key, Partial, before_stream, within_document, after_stream, push, pushed, partial_of}
 use Rattle.yaml_base.specs.Refusal.{refusal_at, refusal, IsAccepted, BeginsAccepted}
 use Rattle.yaml_base.specs.Layout.{Piece, first_standing}
-use Rattle.yaml_base.specs.Steps.{Steps, at_stream, steps}
+use Rattle.yaml_base.specs.Steps.{at_stream, steps}
 use Rattle.yaml_base.specs.Pieces.{empty_scalar, list_layout, completion, begins_last, ends_first, closes_at_once, pieces}
 use Rattle.yaml_base.specs.Output.{text_written, bytes_written}
 use Rattle.yaml_base.specs.declared.errors.yaml_error_t.{yaml_error_t}
 use Rattle.yaml_base.specs.declared.errors.yaml_error_t.TheVariants.{WriteError}
-use Rattle.yaml_base.proofs.Accepted.{Stands, stands_from_begins, refused_exactly}
+use Rattle.yaml_base.proofs.Accepted.{stands_from_begins, refused_exactly}
 use Rattle.yaml_base.proofs.Trees.{stream_pushed}
 use Rattle.yaml_base.proofs.PieceLaws.{begun_pieces, front_layout}
-use Rattle.yaml_pen.specs.Page.{Page, new_page, encoded, IsHandedOut}
+use Rattle.yaml_pen.specs.Page.{Page, encoded}
 use Rattle.yaml_pen.proofs.Adding.{encode-append}
 use Rattle.yaml_emitter.specs.StandsAfter.{IsPage, HoldsPiecesWith, IsFront}
 use Rattle.yaml_emitter.proofs.Standing.{text_written-append}

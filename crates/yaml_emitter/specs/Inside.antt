@@ -1,5 +1,5 @@
 -- What an emitter holds, and what contracts see of it.
-use Rattle.std.specs.Prelude.{◌≡◌, ◌≤◌, false, vec_len, vec_capacity}
+use Rattle.std.specs.Prelude.{◌≡◌, ◌≤◌, false, vec_capacity}
 use Rattle.yaml_base.specs.Seen.{seen_events}
 use Rattle.yaml_pen.specs.Page.{IsUntouched}
 use Rattle.yaml_emitter.specs.Given.{seen_given, seen_effective}

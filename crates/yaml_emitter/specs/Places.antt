@@ -1,5 +1,4 @@
 -- Places and open collections, as the definitions see them.
-use Rattle.std.specs.Prelude.{Option}
 use Rattle.yaml_base.specs.Layout.{Role, as_root, as_item, as_key, as_value, Place}
 use Rattle.yaml_base.specs.Steps.{Frame}
 use Rattle.yaml_emitter.specs.declared.place.Role as role

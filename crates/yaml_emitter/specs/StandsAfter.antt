@@ -1,5 +1,5 @@
 -- An emitter stands after the events that it was given.
-use Rattle.std.specs.Prelude.{◌≡◌, ◌⊎◌, ℕ, ◌+◌, ◌<◌, Bool, true, false, Option, None, Some, Result, List, [], ◌∷◌, ◌++◌, length, take}
+use Rattle.std.specs.Prelude.{◌≡◌, ◌⊎◌, ◌+◌, ◌<◌, Bool, true, false, Option, None, Some, Result, List, [], ◌∷◌, ◌++◌, length, take}
 use Rattle.std.specs.List.{list_all}
 use Rattle.yaml_base.specs.Errors.{refusal_number}
 use Rattle.yaml_base.specs.Settings.{Settings, Effective}
@@ -8,7 +8,7 @@ use Rattle.yaml_base.specs.Event.{Event}
 use Rattle.yaml_base.specs.Refusal.{BeginsAccepted, refusal}
 use Rattle.yaml_base.specs.Ready.{written}
 use Rattle.yaml_base.specs.Layout.{Piece, first_standing}
-use Rattle.yaml_base.specs.Steps.{at_stream, Steps, steps, step, progress, held_back}
+use Rattle.yaml_base.specs.Steps.{at_stream, Steps, steps, progress, held_back}
 use Rattle.yaml_base.specs.Output.{settings_for, text_written}
 use Rattle.yaml_base.specs.Meaning.{has_scalar_texts}
 use Rattle.yaml_base.specs.declared.errors.yaml_error_t.{yaml_error_t}

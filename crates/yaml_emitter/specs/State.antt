@@ -1,5 +1,5 @@
 -- What contracts see of an emitter.
-use Rattle.std.specs.Prelude.{◌≡◌, ℕ, ◌≤◌, Bool, true, false, not, ◌||◌, is_some, Option, None, List, [], length}
+use Rattle.std.specs.Prelude.{◌≡◌, ℕ, Bool, true, false, not, ◌||◌, is_some, Option, None, List, []}
 use Rattle.yaml_base.specs.Settings.{Settings, Effective, effective}
 use Rattle.yaml_base.specs.Event.{Event}
 use Rattle.yaml_base.specs.Layout.{Standing}

@@ -21,6 +21,6 @@ pub use emitter::{yaml_emitter_initialize, yaml_emitter_t};
 pub use laws::{canonical_bytes_read, canonical_output_reads, meaning_is_kept};
 pub use setters::{
     yaml_emitter_delete, yaml_emitter_set_break, yaml_emitter_set_canonical,
-    yaml_emitter_set_encoding, yaml_emitter_set_indent, yaml_emitter_set_output_string,
-    yaml_emitter_set_line_breaks_1_2, yaml_emitter_set_unicode, yaml_emitter_set_width,
+    yaml_emitter_set_encoding, yaml_emitter_set_indent, yaml_emitter_set_line_breaks_1_2,
+    yaml_emitter_set_output_string, yaml_emitter_set_unicode, yaml_emitter_set_width,
 };

@@ -99,7 +99,10 @@ pub fn yaml_emitter_set_break<A: Allocator>(
 
 /// Sets whether the breaks U+2028 and U+2029, which YAML 1.2 takes for ordinary characters, are escaped, so that
 /// readers of both versions find the same value.
-pub fn yaml_emitter_set_line_breaks_1_2<A: Allocator>(emitter: &mut yaml_emitter_t<A>, breaks12: bool)
+pub fn yaml_emitter_set_line_breaks_1_2<A: Allocator>(
+    emitter: &mut yaml_emitter_t<A>,
+    breaks12: bool,
+)
     requires { emitter.old.started ≡ false }
     ensures set { emitter.new ≡ record emitter.old { given = record emitter.old.given { breaks12 = breaks12 } } }
     ensures stands { StandsAfter emitter.old.given [] emitter.old → StandsAfter emitter.new.given [] emitter.new }

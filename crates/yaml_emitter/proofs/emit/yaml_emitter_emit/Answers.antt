@@ -1,9 +1,7 @@
-use Rattle.std.proofs.Common.{◌++◌, ◌∷◌, [], List, take, sym, subst}
+use Rattle.std.proofs.Common.{◌++◌, ◌∷◌, [], take, sym, subst}
 use Rattle.std.proofs.lemmas.Bool.{false≢true}
-use Rattle.yaml_base.specs.Event.{Event}
 use Rattle.yaml_base.specs.Ready.{written}
 use Rattle.yaml_base.specs.Seen.{seen_event}
-use Rattle.yaml_base.specs.Settings.{Settings}
 use Rattle.yaml_emitter.specs.Inside.{state_of}
 use Rattle.yaml_emitter.specs.StandsAfter.{StandsAfter}
 use Rattle.yaml_emitter.proofs.Emitting.{stands_few, reached_taken}

@@ -1,9 +1,6 @@
-use Rattle.std.proofs.Common.{◌≡◌, List, OnOk, sym, subst}
+use Rattle.std.proofs.Common.{List}
 use Rattle.yaml_base.specs.Event.{Event}
 use Rattle.yaml_base.specs.Settings.{Settings}
-use Rattle.yaml_emitter.specs.Inside.{state_of}
-use Rattle.yaml_emitter.specs.Promises.{HasAllBytes, Promised}
-use Rattle.yaml_emitter.specs.State.{State}
 use Rattle.yaml_emitter.specs.StandsAfter.{StandsAfter}
 use Rattle.yaml_emitter.proofs.Promising.{flushed_all, promised, stands_on}
 use Rattle.yaml_emitter.proofs.emit.yaml_emitter_flush.Goals as goal

@@ -1,4 +1,4 @@
-use Rattle.std.proofs.Common.{false, refl}
+use Rattle.std.proofs.Common.{refl}
 use Rattle.yaml_base.specs.Event.{document_end}
 use Rattle.yaml_emitter.specs.Inside.{state_of}
 use Rattle.yaml_emitter.proofs.KeptInside.{fits_ready, kept_writing, has_output_inside, stage_inside, behind_start}

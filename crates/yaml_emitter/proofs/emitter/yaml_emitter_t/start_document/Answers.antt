@@ -1,4 +1,4 @@
-use Rattle.std.proofs.Common.{false, refl, map, option_map, sym, ap, ◌∙◌, None, Some}
+use Rattle.std.proofs.Common.{refl, map, option_map, sym, ap, ◌∙◌}
 use Rattle.std.specs.Prelude.{option_and_then}
 use Rattle.yaml_base.specs.Event.{DocumentStart, document_start}
 use Rattle.yaml_base.specs.Seen.{seen_directive, seen_version}

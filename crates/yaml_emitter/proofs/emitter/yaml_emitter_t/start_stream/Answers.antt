@@ -1,6 +1,6 @@
-use Rattle.std.proofs.Common.{◌≡◌, Option, true, false, refl, ap, sym, subst, ◌∙◌}
-use Rattle.yaml_base.specs.Seen.{seen_encoding, seen_break}
-use Rattle.yaml_base.specs.Settings.{Effective, Encoding, LineBreak, utf8, line_feed_break}
+use Rattle.std.proofs.Common.{Option, false, refl, ap, sym, subst, ◌∙◌}
+use Rattle.yaml_base.specs.Seen.{seen_encoding}
+use Rattle.yaml_base.specs.Settings.{Effective, Encoding, utf8}
 use Rattle.yaml_pen.specs.Page.{Page, IsReady}
 use Rattle.yaml_emitter.specs.Inside.{state_of}
 use Rattle.yaml_emitter.specs.Given.{seen_effective}

@@ -1,4 +1,4 @@
-use Rattle.std.proofs.Common.{◌≡◌, true, false, ◌∙◌, sym}
+use Rattle.std.proofs.Common.{◌≡◌, true, false, ◌∙◌}
 use Rattle.yaml_base.specs.Layout.{is_key}
 use Rattle.yaml_emitter.specs.Places.{seen_role}
 use Rattle.yaml_emitter.proofs.WritingTags.{simple_where}
