@@ -1,8 +1,11 @@
 -- The events that wait are written one after another.
-use Rattle.std.proofs.Common.{arith, ◌≡◌, ◌≤◌, ◌<◌, true, None, Result, Ok, Err, List, [], ◌∷◌, ◌++◌, length, take, sym, ap, subst}
+use Rattle.std.proofs.Common.{ℕ, arith, ◌≡◌, ◌≤◌, ◌<◌, true, None, Result, Ok, Err, List, [], ◌∷◌, ◌++◌, length, take, sym, ap, subst, false, ◌+◌, suc, Bool, refl}
 use Rattle.yaml_base.specs.Settings.{Settings}
 use Rattle.yaml_base.specs.Event.{Event}
+use Rattle.std.specs.Prelude.{if◌then◌else◌}
 use Rattle.yaml_base.specs.Ready.{is_ready, written}
+use Rattle.yaml_base.specs.Steps.{held_back}
+use Rattle.yaml_base.proofs.Progress.{written-append}
 use Rattle.yaml_base.specs.declared.errors.yaml_error_t.{yaml_error_t}
 use Rattle.yaml_base.specs.declared.errors.yaml_error_t.TheVariants.{WriteError, Memory}
 use Rattle.yaml_emitter.specs.State.{State}
@@ -10,7 +13,7 @@ use Rattle.yaml_emitter.specs.Queue.{is_head_ready}
 use Rattle.yaml_emitter.specs.StandsAfter.{Reached, ReachedOn, StandsSo, StandsWell, TookFirst, failed_by}
 use Rattle.yaml_emitter.proofs.Standing.{reached_first, reached_next}
 use Rattle.yaml_emitter.proofs.StandingFailed.{reached_failed}
-use Rattle.yaml_emitter.proofs.StandingPromises.{promises_held, stands_well}
+use Rattle.yaml_emitter.proofs.StandingPromises.{most_few, promises_held, stands_well}
 
 -- What took an event keeps whether there is an output.
 pub took_output : (before after : State) (answer : Result (Unit {0}) yaml_error_t) → TookFirst before after answer → after.has_output ≡ before.has_output
@@ -57,7 +60,7 @@ reached_on first second third h h' given all front reached =
 
 -- Where at most three events wait, there is room for one more.
 pub stands_few : (given : Settings) (all : List Event) (before : State) → StandsSo given all before → before.error ≡ None → length before.held ≤ 3
-stands_few given all before h none = (promises_held given all before h none).few
+stands_few given all before h none = omega (arith, (promises_held given all before h none).few, most_few before.held)
 
 -- An event that was taken stands behind those that wait.
 pub reached_taken : (given : Settings) (all : List Event) (event : Event) (before after : State) → StandsSo given all before → before.error ≡ None
@@ -69,3 +72,20 @@ reached_taken given all event before after h none is =
     let at : Reached given (all ++ event ∷ []) (take (written all) all) (before.held ++ event ∷ []) now =
     subst (λ l. Reached given (all ++ event ∷ []) (take (written all) all) (l ++ event ∷ []) now) (sym well.held) (reached_first given all event before well none) in
     subst (λ (s : State). Reached given (all ++ event ∷ []) (take (written all) all) s.held s) (sym is) at
+
+unready : (b : Bool) (n : ℕ) → (if b then suc n else 0) ≡ 0 → b ≡ false
+unready true n h = cc
+unready false n h = refl
+
+head_unready : (rest : List Event) → written rest ≡ 0 → is_head_ready rest ≡ false
+head_unready [] h = refl
+head_unready (first ∷ rest) h = unready (is_ready first rest) (written rest) h
+
+-- Where no event became ready, the first that waits isn't ready.
+pub none_became_ready : (given : Settings) (all : List Event) (event : Event) (before : State) → StandsSo given all before → before.error ≡ None
+    → written (all ++ event ∷ []) ≡ written all → is_head_ready (before.held ++ event ∷ []) ≡ false
+none_became_ready given all event before h none same =
+    let well : StandsWell given all before = stands_well given all before h none in
+    let count : written (all ++ event ∷ []) ≡ written all + written (held_back all ++ event ∷ []) = written-append all (event ∷ []) in
+    subst (λ held. is_head_ready (held ++ event ∷ []) ≡ false) (sym well.held)
+    (head_unready (held_back all ++ event ∷ []) (omega (arith, count, same)))

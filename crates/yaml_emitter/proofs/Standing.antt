@@ -389,7 +389,7 @@ none_ends : (rest : List Event) → is_head_ready rest ≡ false → ends_first 
 none_ends [] h = refl
 none_ends (event ∷ rest) h = no_end_held event rest h
 
-awaits_few : (event : Event) → awaited event ≤ 3
+pub awaits_few : (event : Event) → awaited event ≤ 3
 awaits_few (document_start start) = omega arith
 awaits_few (sequence_start start) = omega arith
 awaits_few (mapping_start start) = omega arith

@@ -21,14 +21,14 @@ use Rattle.yaml_base.proofs.Completions.{front_begins, pushed-append}
 use Rattle.yaml_base.proofs.Trees.{stream_pushed}
 use Rattle.yaml_base.proofs.PieceLaws.{steps_count, steps-append, steps_same, front_layout, list_layout_steps}
 use Rattle.yaml_base.proofs.Progress.{progress_pieces}
-use Rattle.yaml_base.proofs.QueueLaws.{held_waits, written_within, open_at_written, stream_written}
+use Rattle.yaml_base.proofs.QueueLaws.{held_is_short, held_waits, written_within, open_at_written, stream_written}
 use Rattle.yaml_pen.specs.Page.{Page, encoded, IsHandedOut}
 use Rattle.yaml_emitter.specs.State.{State}
 use Rattle.yaml_emitter.specs.Queue.{is_head_ready}
 use Rattle.yaml_emitter.specs.Processing.{closes_at_once}
 use Rattle.yaml_emitter.specs.StandsAfter.{HoldsPiecesWith, StandsWell, closes_last, StandsRefused, IsFront, StandsCut, StandsUnflushed, StandsStopped, StandsFailed, StandsBy, StandsSo}
-use Rattle.yaml_emitter.specs.Promises.{HasText, begins_with_start, HoldsWaiting, RefusedAt, BeginsOutput, OutputBegins, FillsLimit, IsRefusal, HasRoom, EndsExactly}
-use Rattle.yaml_emitter.proofs.Standing.{few_held, open_last, own_end, end_next, closes_last-append, settings_grown}
+use Rattle.yaml_emitter.specs.Promises.{HasText, begins_with_start, most_held, HoldsWaiting, RefusedAt, BeginsOutput, OutputBegins, FillsLimit, IsRefusal, HasRoom, EndsExactly}
+use Rattle.yaml_emitter.proofs.Standing.{awaits_few, open_last, own_end, end_next, closes_last-append, settings_grown}
 use Rattle.yaml_emitter.proofs.StandingFailed.{own_accepted}
 use Rattle.yaml_emitter.proofs.StandingMore.{ready_at, settings_failed}
 use Rattle.yaml_emitter.proofs.StandingTexts.{holds_text, pieces_front, BeginPieces, begin_taken, begin_take, begin_longer, front_longer, front_itself, GoesOn, goes_on, output_begins, output_fills, holds_output}
@@ -60,13 +60,21 @@ waiting : (held : List Event) → ((event : Event) (rest : List Event) → held 
 waiting [] h = (refl, refl)
 waiting (event ∷ rest) h = let waits : is_ready event rest ≡ false = h event rest refl in (waits, starts_if event rest waits)
 
+held_few : (held : List Event) → is_head_ready held ≡ false → length held ≤ most_held held
+held_few [] h = omega arith
+held_few (event ∷ rest) h = held_is_short event rest h
+
+pub most_few : (held : List Event) → most_held held ≤ 3
+most_few [] = omega arith
+most_few (event ∷ rest) = awaits_few event
+
 pub promises_held : (given : Settings) (all : List Event) (state : State) → StandsSo given all state → state.error ≡ None → HoldsWaiting all state
 promises_held given all state h none =
     let well = stands_well given all state h none in
     let waits = waiting (held_back all) (held_waits all) in
     record {
       held = well.held;
-      few = subst (λ held. length held ≤ 3) (sym well.held) (few_held (held_back all) waits.0);
+      few = subst (λ held. length held ≤ most_held held) (sym well.held) (held_few (held_back all) waits.0);
       starts = ap begins_with_start well.held ∙ waits.1;
     }
 
@@ -295,6 +303,9 @@ layout_begins canonical s front rest accepted =
     (sym (list_layout_steps (front ++ rest) accepted.stream s (ap partial_of (sym accepted.is_stream) ∙ stream_pushed accepted.stream)))
     (steps_begin front rest s false)
 
+passes : (limit : ℕ) (page : Page) → page.limit ≡ limit → page.limit < length (encoded page) → limit < length (encoded page)
+passes limit page is h = subst (λ limit. limit < length (encoded page)) is h
+
 cut_fills : (given : Settings) (all : List Event) (state : State) → StandsCut given all WriteError state → FillsLimit given all state
 cut_fills given all state h =
     let s = settings_for given all in
@@ -308,6 +319,7 @@ cut_fills given all state h =
       | inr begun ↦
           let failed = begun.2 refl in
           record {
+            passed = passes given.limit state.page begun.1.limit (begun.1.handed.full failed).0;
             full = (output_fills s state.page begun_pieces begun.1 begun.4 failed).0;
             output = (λ more accepted.
                 let whole : longer ++ (h.later ++ more) ≡ all ++ more = sym (append_assoc longer h.later more) ∙ ap (λ events. events ++ more) parts in
@@ -338,6 +350,7 @@ between_fills (x ∷ front) rest given all state parts h handed opens =
     let begun_pieces = (steps s false (x ∷ front) at_stream first_standing).pieces in
     let text = front_itself state.page.text (text_written s begun_pieces) h.1 in
     record {
+      passed = passes given.limit state.page h.0.limit (h.0.handed.full h.2).0;
       full = (output_fills s state.page begun_pieces h.0 text h.2).0;
       output = (λ more accepted.
           let whole : (x ∷ front) ++ (rest ++ more) ≡ all ++ more = sym (append_assoc (x ∷ front) rest more) ∙ ap (λ events. events ++ more) parts in

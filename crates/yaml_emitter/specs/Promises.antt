@@ -6,7 +6,7 @@ use Rattle.yaml_base.specs.Settings.{Settings}
 use Rattle.yaml_base.specs.Encoding.{cut}
 use Rattle.yaml_base.specs.Event.{Event, stream_end, document_start, sequence_start, mapping_start}
 use Rattle.yaml_base.specs.Refusal.{IsAccepted, BeginsAccepted, refusal}
-use Rattle.yaml_base.specs.Ready.{written}
+use Rattle.yaml_base.specs.Ready.{awaited, written}
 use Rattle.yaml_base.specs.Steps.{held_back}
 use Rattle.yaml_base.specs.NodeLayout.{bodies_of}
 use Rattle.yaml_base.specs.Pieces.{list_layout, pieces}
@@ -16,6 +16,7 @@ use Rattle.yaml_base.specs.Content.{content_of}
 use Rattle.yaml_base.specs.CanonicalReader.{canonical_content}
 use Rattle.yaml_base.specs.declared.errors.yaml_error_t.{yaml_error_t}
 use Rattle.yaml_base.specs.declared.errors.yaml_error_t.TheVariants.{WriteError, Memory}
+use Rattle.yaml_pen.specs.Page.{encoded}
 use Rattle.yaml_emitter.specs.State.{State}
 use Rattle.yaml_emitter.specs.StandsAfter.{IsFront, hands_out_last}
 use Rattle.yaml_emitter.specs.Uncut.{IsUncut}
@@ -33,10 +34,15 @@ begins_with_start (sequence_start start ∷ rest) = true
 begins_with_start (mapping_start start ∷ rest) = true
 begins_with_start events = false
 
--- the events that aren't ready wait: three at most
+-- as many events may wait as the first of them awaits: one at a document's start, two at a sequence's, three at a mapping's
+abbrev pub most_held : List Event → ℕ
+most_held [] = 0
+most_held (event ∷ rest) = awaited event
+
+-- the events that aren't ready wait
 pub record HoldsWaiting (all : List Event) (state : State) : Type 0 where
   pub held : state.held ≡ held_back all
-  pub few : length state.held ≤ 3
+  pub few : length state.held ≤ most_held state.held
   pub starts : begins_with_start state.held ≡ true
 
 -- an event that became ready was refused: those before it begin an accepted list, with it they begin none; the text is
@@ -75,8 +81,10 @@ OutputBegins given all None state = BeginsOutput given all (take (written all) a
 OutputBegins given all (Some error) state =
     (front : List Event) × (count : ℕ) × (length front ≤ suc count) × BeginsOutput given all front count state
 
--- the output is full: it is that of every accepted list that begins with all events
+-- the bytes of the text pass the limit, and the output is full: it is that of every accepted list that begins with all
+-- events
 pub record FillsLimit (given : Settings) (all : List Event) (state : State) : Type 0 where
+  pub passed : given.limit < length (encoded state.page)
   pub full : length state.page.output ≡ given.limit
   pub output : (more : List Event) → IsAccepted given.canonical (all ++ more) → state.page.output ≡ output_of given (all ++ more)
 

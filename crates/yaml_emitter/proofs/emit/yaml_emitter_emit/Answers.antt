@@ -1,10 +1,12 @@
-use Rattle.std.proofs.Common.{◌++◌, ◌∷◌, [], take, sym, subst}
+use Rattle.std.proofs.Common.{◌++◌, ◌∷◌, [], take, sym, subst, ◌≡◌, false}
 use Rattle.std.proofs.lemmas.Bool.{false≢true}
 use Rattle.yaml_base.specs.Ready.{written}
 use Rattle.yaml_base.specs.Seen.{seen_event}
 use Rattle.yaml_emitter.specs.Inside.{state_of}
+use Rattle.yaml_emitter.specs.Queue.{is_head_ready}
+use Rattle.yaml_emitter.specs.State.{State}
 use Rattle.yaml_emitter.specs.StandsAfter.{StandsAfter}
-use Rattle.yaml_emitter.proofs.Emitting.{stands_few, reached_taken}
+use Rattle.yaml_emitter.proofs.Emitting.{none_became_ready, stands_few, reached_taken}
 use Rattle.yaml_emitter.proofs.Promising.{promised, stands_with}
 use Rattle.yaml_emitter.proofs.StandingMore.{failed_more}
 use Rattle.yaml_emitter.proofs.emit.yaml_emitter_emit.Goals as goal
@@ -40,3 +42,15 @@ returns-clause-stands g c given all stands =
 pub returns-clause-promised : goal.returns-clause-promised
 returns-clause-promised g c given all stands =
     promised given (all ++ seen_event c.args.event ∷ []) _ (returns-clause-stands g c given all stands)
+
+pub returns-in_err-take-clause-waits : goal.returns-in_err-take-clause-waits
+returns-in_err-take-clause-waits g c given all stands none same =
+    let h = subst (λ s. StandsAfter given all s) (sym c.emitter.view_is) stands in
+    absurd (false≢true (c.in_err-take.ensures.room (stands_few given all (state_of c.emitter.inside) h.so c.in_default.is)))
+
+pub returns-clause-waits : goal.returns-clause-waits
+returns-clause-waits g c given all stands none same =
+    let h = subst (λ s. StandsAfter given all s) (sym c.emitter.view_is) stands in
+    c.settle.ensures.waits
+    (subst (λ (s : State). is_head_ready s.held ≡ false) (sym c.in_ok-take.ensures.taken)
+    (none_became_ready given all (seen_event c.args.event) (state_of c.emitter.inside) h.so c.in_default.is same))
