@@ -1,5 +1,5 @@
--- A text that is being written, character by character: a front of it is written, the rest is left.
-use Rattle.std.proofs.Common.{◌≡◌, ◌==◌, ◌∙◌, sym, ap, subst, ℕ, false, Ok, Err, [], ◌∷◌, ◌++◌, append_assoc, append-nil}
+-- A text that is being written, part by part: a front of it is written, the rest is left.
+use Rattle.std.proofs.Common.{◌≡◌, ◌==◌, ◌||◌, ◌∙◌, refl, sym, ap, subst, ℕ, false, Result, Ok, Err, [], ◌∷◌, ◌++◌, append_assoc, append-nil}
 use Rattle.std.proofs.lemmas.Bool.{or_parts}
 use Rattle.std.specs.List.{list_any}
 use Rattle.yaml_base.specs.Characters.{Text, is_break, line_feed}
@@ -7,6 +7,7 @@ use Rattle.yaml_base.specs.Cursor.{text_laid}
 use Rattle.yaml_base.specs.declared.errors.yaml_error_t.{yaml_error_t}
 use Rattle.yaml_pen.specs.Page.{Page}
 use Rattle.yaml_pen.specs.Wrote.{Wrote}
+use Rattle.yaml_pen.proofs.Writing.{line_feed-break}
 use Rattle.yaml_pen.proofs.Composing.{wrote_text_then, wrote_cut}
 
 pub record WroteFront (all left : Text) (before after : Page) : Type 0 where
@@ -15,31 +16,46 @@ pub record WroteFront (all left : Text) (before after : Page) : Type 0 where
   pub wrote : Wrote (text_laid front) before after (Ok tt)
   pub no_break : list_any is_break left ≡ false
 
--- LF is a break
-pub line_feed-break : (c : ℕ) → is_break c ≡ false → (c == line_feed) ≡ false
-line_feed-break c other = (or_parts _ _ (or_parts _ _ (or_parts _ _ (or_parts _ _ other).0).0).0).0
-
 pub no_line_feed : (c : ℕ) (rest : Text) → list_any is_break (c ∷ rest) ≡ false → (c == line_feed) ≡ false
 no_line_feed c rest none = line_feed-break c (or_parts _ _ none).0
 
--- one more character is written
-pub front_more : {all left : Text} (c : ℕ) (rest : Text) {before between after : Page} → WroteFront all left before between → left ≡ c ∷ rest
-    → Wrote (text_laid (c ∷ [])) between after (Ok tt)
+-- no break stands in the parts of a text without one
+unbroken_parts : (xs ys : Text) → list_any is_break (xs ++ ys) ≡ false → (list_any is_break xs ≡ false) × (list_any is_break ys ≡ false)
+unbroken_parts [] ys none = (refl, none)
+unbroken_parts (x ∷ xs) ys none =
+    let p = or_parts _ _ none in
+    let q = unbroken_parts xs ys p.1 in
+    (ap (λ b. b || list_any is_break xs) p.0 ∙ q.0, q.1)
+
+-- the next part holds no break
+pub part_unbroken : {all left : Text} (part rest : Text) {before after : Page} → WroteFront all left before after → left ≡ part ++ rest → list_any is_break part ≡ false
+part_unbroken part rest wrote is = (unbroken_parts part rest (sym (ap (list_any is_break) is) ∙ wrote.no_break)).0
+
+-- one more part is written
+pub front_more : {all left : Text} (part rest : Text) {before between after : Page} → WroteFront all left before between → left ≡ part ++ rest
+    → Wrote (text_laid part) between after (Ok tt)
     → WroteFront all rest before after
-front_more {all} {left} c rest {before} {between} {after} wrote is more =
+front_more {all} {left} part rest {before} {between} {after} wrote is more =
     record {
-      front = wrote.front ++ c ∷ [];
-      parts = wrote.parts ∙ ap (λ l. wrote.front ++ l) is ∙ sym (append_assoc wrote.front (c ∷ []) rest);
+      front = wrote.front ++ part;
+      parts = wrote.parts ∙ ap (λ l. wrote.front ++ l) is ∙ sym (append_assoc wrote.front part rest);
       wrote = wrote_text_then wrote.wrote more;
-      no_break = (or_parts _ _ (sym (ap (list_any is_break) is) ∙ wrote.no_break)).1;
+      no_break = (unbroken_parts part rest (sym (ap (list_any is_break) is) ∙ wrote.no_break)).1;
     }
 
--- the next character fails
-pub front_failed : {all left : Text} (c : ℕ) (rest : Text) {before between after : Page} {error : yaml_error_t} → WroteFront all left before between → left ≡ c ∷ rest
-    → Wrote (text_laid (c ∷ [])) between after (Err error)
+-- the next part fails
+pub front_failed : {all left : Text} (part rest : Text) {before between after : Page} {error : yaml_error_t} → WroteFront all left before between → left ≡ part ++ rest
+    → Wrote (text_laid part) between after (Err error)
     → Wrote (text_laid all) before after (Err error)
-front_failed {all} {left} c rest wrote is failed =
-    wrote_cut (text_laid all) rest (wrote.parts ∙ ap (λ l. wrote.front ++ l) is ∙ sym (append_assoc wrote.front (c ∷ []) rest)) (wrote_text_then wrote.wrote failed)
+front_failed {all} {left} part rest wrote is failed =
+    wrote_cut (text_laid all) rest (wrote.parts ∙ ap (λ l. wrote.front ++ l) is ∙ sym (append_assoc wrote.front part rest)) (wrote_text_then wrote.wrote failed)
+
+-- the last part
+pub front_last : {all left : Text} {before between after : Page} {answer : Result (Unit {0}) yaml_error_t} → WroteFront all left before between
+    → Wrote (text_laid left) between after answer
+    → Wrote (text_laid all) before after answer
+front_last {all} {left} {before} {between} {after} {answer} wrote last =
+    subst (λ (t : Text). Wrote (text_laid t) before after answer) (sym wrote.parts) (wrote_text_then wrote.wrote last)
 
 -- nothing is left
 pub front_whole : {all left : Text} {before after : Page} → WroteFront all left before after → left ≡ [] → Wrote (text_laid all) before after (Ok tt)

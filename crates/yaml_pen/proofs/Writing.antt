@@ -1,18 +1,20 @@
 -- What it does to a pen that its bytes grow by those of a text.
-use Rattle.std.proofs.Common.{◌≡◌, refl, sym, ◌∙◌, ap, ℕ, ◌==◌, true, false, Bool, Option, None, Some, Ok, List, [], ◌∷◌, ◌++◌, IsSome, min, unwrap_or, if◌then◌else◌, append-nil, subst}
-use Rattle.std.specs.Str.{all_scalars}
+use Rattle.std.proofs.Common.{◌≡◌, refl, sym, ◌∙◌, ap, ℕ, ◌==◌, ◌+◌, true, false, Bool, Option, None, Some, Ok, List, [], ◌∷◌, ◌++◌, IsSome, IsUtf8, arith, length, min, unwrap_or, if◌then◌else◌, append-nil, subst}
+use Rattle.std.specs.List.{list_any}
+use Rattle.std.specs.Str.{all_scalars, chars, encode_utf8_all}
 use Rattle.std.specs.Char.{IsScalar}
-use Rattle.std.proofs.lemmas.Bool.{false≢true, and_from}
-use Rattle.yaml_base.specs.Characters.{Text, line_feed}
-use Rattle.yaml_base.specs.Settings.{Encoding, LineBreak, carriage_return_break, line_feed_break, both_break}
+use Rattle.std.proofs.lemmas.Bool.{false≢true, and_from, or_parts}
+use Rattle.std.proofs.lemmas.Str.{encodes-chars}
+use Rattle.yaml_base.specs.Characters.{Text, is_break, line_feed}
+use Rattle.yaml_base.specs.Settings.{Encoding, utf8, utf16_little, utf16_big, LineBreak, carriage_return_break, line_feed_break, both_break}
 use Rattle.yaml_base.specs.Encoding.{encode, character_bytes, text_bytes}
-use Rattle.yaml_base.specs.LineBreaks.{break_text}
+use Rattle.yaml_base.specs.LineBreaks.{break_text, with_breaks_written}
 use Rattle.yaml_base.specs.Cursor.{Cursor, Laid, column_after, next_column, text_laid}
 use Rattle.yaml_base.specs.Seen.{seen_encoding, seen_break}
 use Rattle.yaml_base.specs.declared.encodings.yaml_encoding_t.{yaml_encoding_t}
 use Rattle.yaml_base.specs.declared.encodings.yaml_break_t.{yaml_break_t}
 use Rattle.yaml_base.specs.declared.errors.yaml_error_t.{yaml_error_t}
-use Rattle.yaml_pen.specs.Page.{Page, IsReady, IsHandedOut, told}
+use Rattle.yaml_pen.specs.Page.{Page, IsReady, IsHandedOut, has_mark, told}
 use Rattle.yaml_pen.specs.Wrote.{Wrote, named_text}
 use Rattle.yaml_pen.specs.Outlet.{Bytes, IsSound, Appended}
 use Rattle.yaml_pen.specs.Pen.{page_of, IsPen}
@@ -175,3 +177,47 @@ Names-break page =
       text = append-nil (break_text page.line_break);
       cursor = ap (λ (n : ℕ). let c : Cursor = record page.cursor { column = n } in c) (sym (break-column page.line_break page.cursor.column));
     }
+
+-- an encoding without a mark is UTF-8
+pub unmarked : (encoding : Option Encoding) → IsSome encoding → has_mark encoding ≡ false → encoding ≡ Some utf8
+unmarked None some no_mark = absurd (false≢true some)
+unmarked (Some utf8) some no_mark = refl
+unmarked (Some utf16_little) some no_mark = cc
+unmarked (Some utf16_big) some no_mark = cc
+
+encodes-bytes : (text : Text) → encode_utf8_all text ≡ text_bytes utf8 text
+encodes-bytes [] = refl
+encodes-bytes (c ∷ rest) = ap (λ l. character_bytes utf8 c ++ l) (encodes-bytes rest)
+
+-- in UTF-8 a text's bytes are those that it is made of
+pub utf8-bytes : (bytes : List ℕ) → IsUtf8 bytes → bytes ≡ text_bytes utf8 (chars bytes)
+utf8-bytes bytes is = sym (encodes-chars bytes is) ∙ encodes-bytes (chars bytes)
+
+-- LF is a break
+pub line_feed-break : (c : ℕ) → is_break c ≡ false → (c == line_feed) ≡ false
+line_feed-break c other = (or_parts _ _ (or_parts _ _ (or_parts _ _ (or_parts _ _ other).0).0).0).0
+
+unbroken-written : (setting : LineBreak) (text : Text) → list_any is_break text ≡ false → with_breaks_written setting text ≡ text
+unbroken-written setting [] none = refl
+unbroken-written setting (c ∷ rest) none =
+    let p = or_parts _ _ none in
+    ap (λ b. (if b then break_text setting else c ∷ []) ++ with_breaks_written setting rest) (line_feed-break c p.0)
+    ∙ ap (λ l. c ∷ l) (unbroken-written setting rest p.1)
+
+-- characters without a break name themselves
+pub Names-run : (text : Text) (page : Page) → list_any is_break text ≡ false → Names text (text_laid text) page
+Names-run text page none = record { text = unbroken-written page.line_break text none; cursor = refl }
+
+-- each of them takes a column
+pub run-column : (text : Text) (column : ℕ) → list_any is_break text ≡ false → column_after text column ≡ column + length text
+run-column [] column none = omega arith
+run-column (c ∷ rest) column none =
+    let p = or_parts _ _ none in
+    ap (λ b. column_after rest (if b then 0 else column + 1)) p.0 ∙ run-column rest (column + 1) p.1 ∙ omega arith
+
+-- as the pen keeps columns, up to a bound
+pub piece-column : (text : Text) (column stored count : ℕ) → list_any is_break text ≡ false → stored ≡ min column 4294967295 → count ≡ length text
+    → min (stored + count) 4294967295 ≡ min (column_after text column) 4294967295
+piece-column text column stored count none is_stored is_count =
+    let after : column_after text column ≡ column + length text = run-column text column none in
+    omega arith

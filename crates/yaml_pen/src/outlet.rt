@@ -8,7 +8,7 @@ use std::marker::Model;
 use yaml_base::yaml_error_t;
 
 /// The bytes that the buffer holds.
-const BUFFER_SIZE: usize = 16_384;
+pub(crate) const BUFFER_SIZE: usize = 16_384;
 
 #[derive(Drop)]
 pub(crate) struct Outlet<A: Allocator> {
@@ -104,9 +104,9 @@ impl<A: Allocator> Outlet<A> {
         self.error
     }
 
-    /// Appends a few bytes whole, or none of them where the flush that makes room for them fails.
+    /// Appends bytes whole, or none of them where the flush that makes room for them fails.
     pub(crate) fn append(&mut self, bytes: &[u8]) -> Result<(), yaml_error_t>
-        requires { length bytes.now ≤ 4 }
+        requires { length bytes.now ≤ 16384 }
         ensures { Appended bytes.now self.old self.new result }
     {
         match self.error {

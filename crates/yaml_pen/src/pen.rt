@@ -1,9 +1,9 @@
 //! A pen writes text: it keeps the cursor, encodes, and hands its bytes out within a limit.
-ghost use Rattle.std.specs.Prelude.{◌≡◌, ℕ, ◌==◌, ◌&&◌, pos, ◌≤ℤ◌, ◌<◌, ◌++◌, [], ◌∷◌, false, true, min, not, Option, IsOk, IsSome, IfOk, IfErr, Some, None, codes, unwrap_or, replicate};
+ghost use Rattle.std.specs.Prelude.{◌≡◌, ℕ, ◌==◌, ◌&&◌, pos, ◌≤ℤ◌, ◌<◌, ◌≤◌, ◌++◌, length, [], ◌∷◌, false, true, min, not, Option, IsOk, IsSome, IfOk, IfErr, Some, None, codes, unwrap_or, replicate};
 ghost use Rattle.std.specs.Str.{chars};
 ghost use Rattle.std.specs.List.{list_any};
 ghost use Rattle.yaml_base.specs.Characters.{is_break, line_feed, space};
-ghost use Rattle.yaml_base.specs.Cursor.{next_column, text_laid, nothing_laid, breaks_line, new_line, space_if, indicator};
+ghost use Rattle.yaml_base.specs.Cursor.{text_laid, nothing_laid, breaks_line, new_line, space_if, indicator};
 ghost use Rattle.yaml_base.specs.Settings.{line_feed_break};
 ghost use Rattle.yaml_base.specs.Encoding.{encode};
 ghost use Rattle.yaml_base.specs.Seen.{seen_encoding, seen_break};
@@ -11,11 +11,12 @@ ghost use Rattle.yaml_pen.specs.Page.{Page, IsUntouched, IsReady, IsHandedOut, e
 ghost use Rattle.yaml_pen.specs.Wrote.{Wrote, Flushed};
 ghost use Rattle.yaml_pen.specs.Lines.{line_break_laid, spaces_to};
 
+use crate::counting::{character_count, next_column};
 use crate::encoded::{encoded_break, encoded_character};
-use crate::outlet::Outlet;
+use crate::outlet::{BUFFER_SIZE, Outlet};
 use std::alloc::Allocator;
 use std::marker::Model;
-use yaml_base::{is_break, yaml_break_t, yaml_encoding_t, yaml_error_t};
+use yaml_base::{yaml_break_t, yaml_encoding_t, yaml_error_t};
 
 /// Writes characters in an encoding through a buffer of 16,384 bytes to an output that it owns, and
 /// keeps the cursor. A call that writes, or a flush, answers `WriteError` where the encoded text passes
@@ -183,6 +184,20 @@ impl<A: Allocator> Pen<A> {
         self.write_character(character as char)
     }
 
+    /// Writes characters none of which is a break.
+    pub fn write_run(&mut self, text: &str) -> Result<(), yaml_error_t>
+        requires ready { IsReady self.old }
+        requires no_break { list_any is_break (chars text.now) ≡ false }
+        ensures written { Wrote (text_laid (chars text.now)) self.old self.new result }
+        ensures stays { IsSome self.old.error → self.new ≡ self.old }
+    {
+        if has_mark(self.encoding) {
+            self.write_characters(text)
+        } else {
+            self.write_pieces(text)
+        }
+    }
+
     /// Writes a line break, as the setting says.
     pub fn put_break(&mut self) -> Result<(), yaml_error_t>
         requires ready { IsReady self.old }
@@ -236,7 +251,7 @@ impl<A: Allocator> Pen<A> {
         ensures stays { IsSome self.old.error → self.new ≡ self.old }
     {
         self.separate(need_whitespace)?;
-        self.write_text(text)?;
+        self.write_run(text)?;
         self.set_flags(whitespace, indention);
         Ok(())
     }
@@ -322,7 +337,8 @@ impl<A: Allocator> Pen<A> {
         }
     }
 
-    fn write_text(&mut self, text: &str) -> Result<(), yaml_error_t>
+    // One character after another.
+    fn write_characters(&mut self, text: &str) -> Result<(), yaml_error_t>
         requires ready { IsReady self.old }
         requires no_break { list_any is_break (chars text.now) ≡ false }
         ensures written { Wrote (text_laid (chars text.now)) self.old self.new result }
@@ -333,6 +349,37 @@ impl<A: Allocator> Pen<A> {
         while let Some(character) = characters.next() {
             self.write_character(character)?;
         }
+        Ok(())
+    }
+
+    // In UTF-8, pieces of whole characters that fit the buffer.
+    fn write_pieces(&mut self, text: &str) -> Result<(), yaml_error_t>
+        requires ready { IsReady self.old }
+        requires unmarked { has_mark self.old.encoding ≡ false }
+        requires no_break { list_any is_break (chars text.now) ≡ false }
+        ensures written { Wrote (text_laid (chars text.now)) self.old self.new result }
+        ensures stays { IsSome self.old.error → self.new ≡ self.old }
+    {
+        self.go_on()?;
+        let mut rest = text;
+        while rest.len() > BUFFER_SIZE {
+            let (piece, after) = rest.split_at(rest.floor_char_boundary(BUFFER_SIZE));
+            self.write_piece(piece)?;
+            rest = after;
+        }
+        self.write_piece(rest)
+    }
+
+    fn write_piece(&mut self, text: &str) -> Result<(), yaml_error_t>
+        requires ready { IsReady self.old }
+        requires unmarked { has_mark self.old.encoding ≡ false }
+        requires no_break { list_any is_break (chars text.now) ≡ false }
+        requires fits { length text.now ≤ 16384 }
+        ensures written { Wrote (text_laid (chars text.now)) self.old self.new result }
+        ensures stays { IsSome self.old.error → self.new ≡ self.old }
+    {
+        self.outlet.append(text.as_bytes())?;
+        self.column = self.column.saturating_add(character_count(text));
         Ok(())
     }
 
@@ -367,15 +414,4 @@ fn has_mark(encoding: yaml_encoding_t) -> bool
         encoding,
         yaml_encoding_t::YAML_UTF16LE_ENCODING | yaml_encoding_t::YAML_UTF16BE_ENCODING
     )
-}
-
-// The column after a character; `u32::MAX` stands for that and all above.
-fn next_column(character: char, column: u32) -> u32
-    ensures { (unbounded : ℕ) → column ≡ min unbounded 4294967295 → result ≡ min (next_column character unbounded) 4294967295 }
-{
-    if is_break(character) {
-        0
-    } else {
-        column.saturating_add(1)
-    }
 }

@@ -1,10 +1,14 @@
 //! Bytes that are known from outside, borders of the buffer, limits, and growths that are refused.
-ghost use Rattle.std.specs.Prelude.{IfOk};
+ghost use Rattle.std.specs.Prelude.{◌≡◌, IfOk, false};
+ghost use Rattle.std.specs.List.{list_any};
+ghost use Rattle.std.specs.Str.{chars};
+ghost use Rattle.std.specs.String.{string_bytes};
+ghost use Rattle.yaml_base.specs.Characters.{is_break};
 ghost use Rattle.yaml_pen.specs.Page.{IsReady};
 
 use crate::Pen;
 use linked_list_allocator::LocalHeap;
-use std::alloc::Allocator;
+use std::alloc::{AllocError, Allocator};
 use std::test::Fail;
 use yaml_base::{
     YAML_CRLN_BREAK, YAML_LN_BREAK, YAML_UTF8_ENCODING, YAML_UTF16BE_ENCODING,
@@ -56,6 +60,31 @@ fn write_cycles<A: Allocator>(pen: &mut Pen<A>, count: usize) -> Result<(), yaml
         pen.write_char('\u{1F600}')?;
     }
     Ok(())
+}
+
+// Ten bytes of UTF-8, again and again.
+fn long_run<A: Allocator>(alloc: A, count: usize) -> Result<String<A>, AllocError>
+    ensures { IfOk result (λ text. list_any is_break (chars (string_bytes text)) ≡ false) }
+{
+    let mut text = String::new(alloc);
+    'cycles: for _ in 0..count {
+        text.push_str("aé€\u{1F600}")?;
+    }
+    Ok(text)
+}
+
+fn write_long_run<A: Allocator, B: Allocator>(
+    pen: &mut Pen<A>,
+    alloc: B,
+    count: usize,
+) -> Result<(), yaml_error_t>
+    requires { IsReady pen.old }
+    ensures { IsReady pen.new }
+{
+    match long_run(alloc, count) {
+        Ok(run) => pen.write_run(&run),
+        Err(_) => Ok(()),
+    }
 }
 
 #[test]
@@ -174,6 +203,59 @@ fn characters_stay_whole_across_the_buffer(rt: HostRuntime) -> Result<(), Fail> 
     Ok(())
 }
 
+// The same ten bytes, written as one run that is longer than six buffers.
+#[test]
+fn runs_stay_whole_across_the_buffer(rt: HostRuntime) -> Result<(), Fail> {
+    let utf8 = b"a\xC3\xA9\xE2\x82\xAC\xF0\x9F\x98\x80";
+    let little = b"a\0\xE9\0\xAC\x20\x3D\xD8\x00\xDE";
+    for (encoding, cycle, mark, width) in [
+        (YAML_UTF8_ENCODING, utf8, 0usize, 1usize),
+        (YAML_UTF16LE_ENCODING, little, 2, 2),
+    ] {
+        for ahead in 0..10usize {
+            let mut pen = begun(rt.alloc(), usize::MAX, encoding)?;
+            put_letters(&mut pen, ahead)?;
+            write_long_run(&mut pen, rt.alloc(), 10_000)?;
+            assert_eq!(rt; pen.column(), 40_000 + ahead as i32);
+            write_long_run(&mut pen, rt.alloc(), 0)?;
+            write_long_run(&mut pen, rt.alloc(), 1)?;
+            assert_eq!(rt; pen.column(), 40_004 + ahead as i32);
+            pen.flush()?;
+            let start = mark + ahead * width;
+            assert_eq!(rt; pen.output().len(), start + 100_010);
+            for (place, byte) in pen.output()[start..].iter().enumerate() {
+                assert_eq!(rt; *byte, cycle[place % 10], "after {ahead}, at {place}");
+            }
+        }
+    }
+    Ok(())
+}
+
+#[test]
+fn a_limit_cuts_a_run_at_any_byte(rt: HostRuntime) -> Result<(), Fail> {
+    let cycle = b"a\xC3\xA9\xE2\x82\xAC\xF0\x9F\x98\x80";
+    for limit in [0usize, 1, 16_383, 16_384, 16_385, 33_333, 49_999, 50_000] {
+        let mut pen = begun(rt.alloc(), limit, YAML_UTF8_ENCODING)?;
+        let written = write_long_run(&mut pen, rt.alloc(), 5_000);
+        let answer = pen.flush();
+        assert!(rt; written.is_ok() || written == Err(yaml_error_t::WriteError));
+        assert_eq!(rt; answer.is_ok(), limit == 50_000);
+        assert_eq!(rt; pen.output().len(), limit);
+        for (place, byte) in pen.output().iter().enumerate() {
+            assert_eq!(rt; *byte, cycle[place % 10], "within {limit}, at {place}");
+        }
+        if limit < 50_000 {
+            assert_eq!(rt; answer, Err(yaml_error_t::WriteError));
+            assert_eq!(rt;
+                write_long_run(&mut pen, rt.alloc(), 1),
+                Err(yaml_error_t::WriteError)
+            );
+            assert_eq!(rt; pen.output().len(), limit);
+        }
+    }
+    Ok(())
+}
+
 // The buffer takes 16,384 bytes and a little; the output's first flush asks for as many, its second
 // for more than that again.
 #[test]
@@ -199,6 +281,31 @@ fn refused_growths_leave_the_output(rt: HostRuntime) -> Result<(), Fail> {
                 assert_eq!(rt; pen.output().len(), handed_out);
                 assert!(rt; pen.output().iter().all(|byte| *byte == b'x'));
             }
+        }
+    }
+    Ok(())
+}
+
+// A run is refused where its own flush finds no room; the first piece of this one has 16,383 bytes, as a
+// character stands across the buffer's end.
+#[test]
+fn refused_growths_end_a_run(rt: HostRuntime) -> Result<(), Fail> {
+    let cycle = b"a\xC3\xA9\xE2\x82\xAC\xF0\x9F\x98\x80";
+    for (budget, handed_out) in [(20_000, 0), (50_000, 16_383)] {
+        let heap = LocalHeap::new(rt.alloc(), budget)?;
+        let mut pen = begun(&heap, usize::MAX, YAML_UTF8_ENCODING)?;
+        assert_eq!(rt;
+            write_long_run(&mut pen, rt.alloc(), 10_000),
+            Err(yaml_error_t::Memory)
+        );
+        assert_eq!(rt;
+            write_long_run(&mut pen, rt.alloc(), 1),
+            Err(yaml_error_t::Memory)
+        );
+        assert_eq!(rt; pen.error(), Some(yaml_error_t::Memory));
+        assert_eq!(rt; pen.output().len(), handed_out);
+        for (place, byte) in pen.output().iter().enumerate() {
+            assert_eq!(rt; *byte, cycle[place % 10]);
         }
     }
     Ok(())

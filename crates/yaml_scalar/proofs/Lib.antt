@@ -20,6 +20,7 @@ pub mod StillToWrite
 pub mod LinesWritten
 pub mod LinesReadBack
 pub mod Escapes
+pub mod WholeRuns
 pub mod InsideSteps
 pub mod QuotedSteps
 pub mod LastCharacters

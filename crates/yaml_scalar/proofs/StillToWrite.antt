@@ -1,10 +1,10 @@
 -- A loop that writes: what is still to be written after what has been.
-use Rattle.std.proofs.Common.{◌≡◌, subst}
+use Rattle.std.proofs.Common.{◌≡◌, subst, sym}
 use Rattle.std.specs.Prelude.{Result, Ok, Err}
 use Rattle.yaml_base.specs.Characters.{Text}
 use Rattle.yaml_base.specs.Cursor.{Cursor, Laid, then_laid}
 use Rattle.yaml_base.specs.declared.errors.yaml_error_t.{yaml_error_t}
-use Rattle.yaml_pen.proofs.Composing.{wrote_failed, wrote_then}
+use Rattle.yaml_pen.proofs.Composing.{wrote_as, wrote_failed, wrote_then}
 use Rattle.yaml_pen.specs.Page.{Page, IsReady}
 use Rattle.yaml_pen.specs.Wrote.{Wrote}
 
@@ -33,3 +33,9 @@ still_failed {first} {whole} {start} {here} {after} {error} next still step = st
 pub still_same : (layout : Text → Cursor → Laid) {old new : Text} {whole : Cursor → Laid} {start here : Page}
     → old ≡ new → StillToWrite (layout old) whole start here → StillToWrite (layout new) whole start here
 still_same layout {old} {new} {whole} {start} {here} is still = subst (λ (t : Text). StillToWrite (layout t) whole start here) is still
+
+-- what is left depends on what its layout puts at the cursor alone
+pub still_as : {rest whole : Cursor → Laid} (other : Cursor → Laid) {start here : Page}
+    → rest here.cursor ≡ other here.cursor → StillToWrite rest whole start here → StillToWrite other whole start here
+still_as {rest} other same still =
+    record { ready = still.ready; writes = λ after answer wrote. still.writes after answer (wrote_as rest (sym same) wrote) }

@@ -4,3 +4,4 @@ pub mod ReadsBack
 pub mod LineSteps
 pub mod BlockCode
 pub mod BlockSteps
+pub mod WholeRuns

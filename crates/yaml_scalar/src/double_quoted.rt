@@ -8,6 +8,7 @@ ghost use Rattle.yaml_base.specs.ReadDouble.{read_double};
 ghost use Rattle.yaml_pen.specs.Page.{IsReady, natural};
 ghost use Rattle.yaml_pen.specs.Wrote.{Wrote};
 ghost use Rattle.yaml_scalar.specs.ReadsBack.{ReadsBack};
+ghost use Rattle.yaml_scalar.specs.WholeRuns.{IsRun, has_limit, stays};
 ghost use Rattle.yaml_scalar.specs.Width.{limit_where};
 
 use crate::steps::{go_on, may_fold_here};
@@ -270,7 +271,45 @@ fn write_next<A: Allocator>(
     }
 }
 
-/// What stands between the quotes.
+/// Some column is past the width.
+fn has_limit(quoting: quoting_t) -> bool
+    ensures { result ≡ has_limit (limit_where quoting.allow_breaks quoting.width) }
+{
+    quoting.allow_breaks && quoting.width != i32::MAX
+}
+
+/// A character that is written as itself and never becomes a fold.
+fn stays(c: char, quoting: quoting_t) -> bool
+    ensures { result ≡ stays quoting.unicode (limit_where quoting.allow_breaks quoting.width) c }
+{
+    !needs_escape(c, quoting.unicode) && !(is_space(c) && has_limit(quoting))
+}
+
+/// The run that follows a character: its bytes, and the last character up to its end.
+#[derive(Clone, Copy)]
+struct run_t {
+    length: usize,
+    last: char,
+}
+
+/// The longest front of a text whose characters are written as themselves and never become folds.
+fn run_after(before: char, text: &str, quoting: quoting_t) -> run_t
+    ensures { IsRun (stays quoting.unicode (limit_where quoting.allow_breaks quoting.width)) before text.now result.length result.last }
+{
+    let mut length = 0;
+    let mut last = before;
+    let mut chars = text.chars();
+    while let Some(c) = chars.next() {
+        if !stays(c, quoting) {
+            return run_t { length, last };
+        }
+        length += c.len_utf8();
+        last = c;
+    }
+    run_t { length, last }
+}
+
+/// What stands between the quotes: a character, and the run that follows it, in turn.
 fn write_inside<A: Allocator>(
     pen: &mut Pen<A>,
     value: &str,
@@ -283,8 +322,13 @@ fn write_inside<A: Allocator>(
     let mut before = None;
     let mut chars = value.chars();
     while let Some(c) = chars.next() {
-        write_next(pen, before, c, chars.as_str(), quoting)?;
-        before = Some(c);
+        let rest = chars.as_str();
+        write_next(pen, before, c, rest, quoting)?;
+        let run = run_after(c, rest, quoting);
+        let (front, after) = rest.split_at(run.length);
+        pen.write_run(front)?;
+        before = Some(run.last);
+        chars = after.chars();
     }
     go_on(pen)
 }

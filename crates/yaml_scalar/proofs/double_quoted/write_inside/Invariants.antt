@@ -1,4 +1,4 @@
-use Rattle.std.proofs.Common.{IsUtf8, chars}
+use Rattle.std.proofs.Common.{IsUtf8, chars, length}
 use Rattle.std.specs.Str.Iter.{chars_rest}
 use Rattle.yaml_pen.specs.Page.{natural}
 use Rattle.yaml_scalar.specs.Width.{limit_where}
@@ -14,3 +14,6 @@ invariant-loop-c g l =
           StillInside quoting.unicode (limit_where quoting.allow_breaks quoting.width) (natural quoting.indent)
           (chars l.fn.value) l.before (chars_rest l.chars) l.initial.pen l.pen;
     }
+
+abbrev pub decreases-loop-c : goal.decreases-loop-c
+decreases-loop-c g l = length (chars_rest l.chars)

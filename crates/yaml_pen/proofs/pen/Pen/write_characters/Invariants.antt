@@ -2,7 +2,7 @@ use Rattle.std.specs.Str.{chars, IsUtf8}
 use Rattle.std.specs.Str.Iter.{chars_rest}
 use Rattle.std.proofs.Common.{length}
 use Rattle.yaml_pen.proofs.Fronts.{WroteFront}
-use Rattle.yaml_pen.proofs.pen.Pen.write_text.Given as goal
+use Rattle.yaml_pen.proofs.pen.Pen.write_characters.Given as goal
 
 abbrev pub invariant-loop-character : goal.invariant-loop-character
 invariant-loop-character g l =

@@ -1,4 +1,4 @@
-use Rattle.std.proofs.Common.{◌∙◌, ap, sym}
+use Rattle.std.proofs.Common.{◌∙◌, ap, sym, [], ◌∷◌}
 use Rattle.std.specs.Str.{chars}
 use Rattle.std.specs.Str.Iter.{chars_rest}
 use Rattle.std.specs.List.{list_any}
@@ -7,7 +7,7 @@ use Rattle.std.proofs.lemmas.List.{nil_from_length}
 use Rattle.yaml_base.specs.Characters.{is_break}
 use Rattle.yaml_pen.proofs.Composing.{wrote_exit}
 use Rattle.yaml_pen.proofs.Fronts.{no_line_feed, front_more, front_failed, front_whole}
-use Rattle.yaml_pen.proofs.pen.Pen.write_text.Goals as goal
+use Rattle.yaml_pen.proofs.pen.Pen.write_characters.Goals as goal
 
 pub write_character-requires-clause-not_line_feed : goal.write_character-requires-clause-not_line_feed
 write_character-requires-clause-not_line_feed g c =
@@ -17,14 +17,14 @@ write_character-requires-clause-not_line_feed g c =
 pub loop-character-preserved : goal.loop-character-preserved
 loop-character-preserved g c =
     let step = chars_past_char _ (chars_rest c.next.new.self) c.in-Some.character c.loop-character.invariant.1 c.in-Some.ensures.steps.0 in (
-      front_more _ _ c.loop-character.invariant.0 step c.in_ok-write_character.ensures.written,
+      front_more (c.in-Some.character ∷ []) _ c.loop-character.invariant.0 step c.in_ok-write_character.ensures.written,
       IsUtf8-past_char _ _ c.in-Some.character c.loop-character.invariant.1 c.in-Some.ensures.steps.0,
     )
 
 pub returns-in_err-write_character-clause-written : goal.returns-in_err-write_character-clause-written
 returns-in_err-write_character-clause-written g c =
     let step = chars_past_char _ (chars_rest c.next.new.self) c.in-Some.character c.loop-character.invariant.1 c.in-Some.ensures.steps.0 in
-    wrote_exit c.from_residual-in_err-write_character.ensures (front_failed _ _ c.loop-character.invariant.0 step c.in_err-write_character.ensures.written)
+    wrote_exit c.from_residual-in_err-write_character.ensures (front_failed (c.in-Some.character ∷ []) _ c.loop-character.invariant.0 step c.in_err-write_character.ensures.written)
 
 pub returns-clause-written : goal.returns-clause-written
 returns-clause-written g c = front_whole c.loop-character.invariant.0 (ap chars (nil_from_length _ c.in_default.ensures.steps.0.0) ∙ chars-nil)

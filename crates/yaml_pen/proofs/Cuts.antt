@@ -1,0 +1,28 @@
+-- A text that is cut between two of its characters.
+use Rattle.std.proofs.Common.{◌≡◌, ◌∙◌, sym, ap, ℕ, ◌+◌, ◌<◌, ◌≤◌, zero, suc, List, [], ◌∷◌, ◌++◌, IsUtf8, arith, drop, length, take}
+use Rattle.std.proofs.lemmas.List.{take-append-drop}
+use Rattle.std.proofs.lemmas.Str.{IsCharBoundary-past_char, IsUtf8-take, chars-append, len_utf8_bounds}
+use Rattle.std.specs.Char.{len_utf8}
+use Rattle.std.specs.Str.{IsCharBoundary, chars, encode_utf8_all}
+
+-- its characters are those of both parts
+pub chars-cut : (bytes front back : List ℕ) (place : ℕ) → IsUtf8 bytes → IsCharBoundary bytes place → front ≡ take place bytes → back ≡ drop place bytes
+    → chars bytes ≡ chars front ++ chars back
+chars-cut bytes front back place is boundary in_front behind =
+    ap chars (sym (take-append-drop place bytes))
+    ∙ chars-append (take place bytes) (drop place bytes) (IsUtf8-take bytes place is boundary)
+    ∙ ap (λ l. chars l ++ chars (drop place bytes)) (sym in_front)
+    ∙ ap (λ l. chars front ++ chars l) (sym behind)
+
+-- the last place where it may be cut before a bound is behind its first character
+pub cut-forward : (bytes : List ℕ) (place bound : ℕ) → IsUtf8 bytes → 4 ≤ bound → bound < length bytes
+    → ((i : ℕ) → place < i → i ≤ bound → IsCharBoundary bytes i → ⊥) → 1 ≤ place
+cut-forward bytes (suc n) bound is wide long nearest = omega arith
+cut-forward bytes zero bound is wide long nearest = go is.0 is.1.1
+  where
+    go : (text : List ℕ) → encode_utf8_all text ≡ bytes → 1 ≤ zero
+    go [] e = absurd (let none : length bytes ≡ 0 = ap length (sym e) in omega arith)
+    go (c ∷ rest) e =
+        let bounds = len_utf8_bounds c in
+        let few : 0 ≤ length bytes = omega arith in
+        absurd (nearest (0 + len_utf8 c) (omega arith) (omega arith) (IsCharBoundary-past_char bytes (encode_utf8_all rest) 0 c few is (sym e)))

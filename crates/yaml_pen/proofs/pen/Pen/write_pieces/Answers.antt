@@ -1,0 +1,40 @@
+use Rattle.std.proofs.Common.{◌∙◌, ap, arith}
+use Rattle.std.specs.Str.{chars}
+use Rattle.std.proofs.lemmas.Str.{IsUtf8-drop}
+use Rattle.yaml_pen.specs.Page.{has_mark}
+use Rattle.yaml_pen.proofs.Composing.{wrote_exit}
+use Rattle.yaml_pen.proofs.Cuts.{chars-cut, cut-forward}
+use Rattle.yaml_pen.proofs.Fronts.{part_unbroken, front_more, front_failed, front_last}
+use Rattle.yaml_pen.proofs.pen.Pen.write_pieces.Goals as goal
+
+pub write_piece-requires-clause-no_break : goal.write_piece-requires-clause-no_break
+write_piece-requires-clause-no_break g c =
+    let so_far = c.loop-rest.invariant in
+    let step = chars-cut _ _ _ _ so_far.is_text c.floor_char_boundary.ensures.boundary c.split_at.ensures.front c.split_at.ensures.back in
+    part_unbroken (chars c.split_at.result.0.now) (chars c.split_at.result.1.now) so_far.front step
+
+pub loop-rest-preserved : goal.loop-rest-preserved
+loop-rest-preserved g c =
+    let so_far = c.loop-rest.invariant in
+    let step = chars-cut _ _ _ _ so_far.is_text c.floor_char_boundary.ensures.boundary c.split_at.ensures.front c.split_at.ensures.back in
+    record {
+      front = front_more (chars c.split_at.result.0.now) (chars c.split_at.result.1.now) so_far.front step c.in_ok-write_piece.ensures.written;
+      is_text = rw c.split_at.ensures.back (IsUtf8-drop _ _ so_far.is_text c.floor_char_boundary.ensures.boundary);
+      unmarked = ap has_mark c.in_ok-write_piece.ensures.written.settings.encoding ∙ so_far.unmarked;
+    }
+
+pub loop-rest-smaller : goal.loop-rest-smaller
+loop-rest-smaller g c =
+    let forward = cut-forward c.loop-rest.rest.now c.floor_char_boundary.result 16384 c.loop-rest.invariant.is_text (omega arith) (omega arith) c.floor_char_boundary.ensures.nearest in
+    let len = c.split_at.ensures.back_len in
+    omega arith
+
+pub returns-in_err-write_piece-clause-written : goal.returns-in_err-write_piece-clause-written
+returns-in_err-write_piece-clause-written g c =
+    let so_far = c.loop-rest.invariant in
+    let step = chars-cut _ _ _ _ so_far.is_text c.floor_char_boundary.ensures.boundary c.split_at.ensures.front c.split_at.ensures.back in
+    wrote_exit c.from_residual-in_err-write_piece.ensures
+    (front_failed (chars c.split_at.result.0.now) (chars c.split_at.result.1.now) so_far.front step c.in_err-write_piece.ensures.written)
+
+pub returns-clause-written : goal.returns-clause-written
+returns-clause-written g c = front_last c.loop-rest.invariant.front c.write_piece-2.ensures.written

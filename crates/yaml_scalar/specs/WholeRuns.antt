@@ -1,0 +1,27 @@
+-- Runs of characters that are written whole.
+use Rattle.std.specs.Prelude.{◌≡◌, ℕ, Bool, true, false, Option, None, Some, List, [], ◌∷◌, ◌&&◌, not, take}
+use Rattle.std.specs.List.{list_all}
+use Rattle.std.specs.Str.{IsCharBoundary, chars}
+use Rattle.yaml_base.specs.Characters.{Text, is_space}
+use Rattle.yaml_base.specs.DoubleQuoted.{needs_escape}
+
+-- some column is past the width
+abbrev pub has_limit : Option ℕ → Bool
+has_limit None = false
+has_limit (Some _) = true
+
+-- between double quotes a character is written as itself, and never becomes a fold
+abbrev pub stays : (unicode : Bool) → (limit : Option ℕ) → ℕ → Bool
+stays unicode limit c = not (needs_escape unicode c) && not (is_space c && has_limit limit)
+
+-- the last character of a text, or the one before it where it is empty
+abbrev pub last_from : ℕ → Text → ℕ
+last_from before [] = before
+last_from before (c ∷ rest) = last_from c rest
+
+-- a front of a text, by its length in bytes, whose characters all pass a test; and the last character up to
+-- its end, from the one before the text on
+pub record IsRun (test : ℕ → Bool) (before : ℕ) (text : List ℕ) (length last : ℕ) : Type 0 where
+  pub boundary : IsCharBoundary text length
+  pub all : list_all test (chars (take length text)) ≡ true
+  pub last_is : last ≡ last_from before (chars (take length text))
