@@ -1,9 +1,9 @@
 use Rattle.std.proofs.Common.{[], map, subst}
 use Rattle.yaml_base.specs.Seen.{seen_directive, seen_text}
 use Rattle.yaml_emitter.specs.Promises.{Promised}
-use Rattle.yaml_rows.specs.Letter.{letter_settings}
-use Rattle.yaml_rows.proofs.Written.{events_of, letter_bytes}
-use Rattle.yaml_rows.proofs.emit_letter.Goals as goal
+use Rattle.yaml_caller.specs.Letter.{letter_settings}
+use Rattle.yaml_caller.proofs.Written.{events_of, letter_bytes}
+use Rattle.yaml_caller.proofs.emit_letter.Goals as goal
 
 pub returns : goal.returns
 returns g c =

@@ -9,7 +9,7 @@ use Rattle.yaml_base.specs.declared.errors.yaml_error_t.{yaml_error_t}
 use Rattle.yaml_pen.specs.Page.{told}
 use Rattle.yaml_emitter.specs.State.{State}
 use Rattle.yaml_emitter.specs.Promises.{Promised, HasRoom}
-use Rattle.yaml_rows.specs.Letter.{letter_settings, letter_events}
+use Rattle.yaml_caller.specs.Letter.{letter_settings, letter_events}
 
 -- the events by the directives and the root's value
 abbrev pub events_of : List TagDirective → Text → List Event

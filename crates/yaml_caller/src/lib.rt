@@ -4,7 +4,7 @@
 ghost use Rattle.std.specs.Prelude.{◌≡◌, IfOk, OnOk, true, None, Some, [], codes};
 ghost use Rattle.yaml_base.specs.Seen.{seen_text};
 ghost use Rattle.yaml_emitter.specs.StandsAfter.{StandsAfter};
-ghost use Rattle.yaml_rows.specs.Letter.{letter_settings};
+ghost use Rattle.yaml_caller.specs.Letter.{letter_settings};
 
 use std::alloc::Allocator;
 use yaml_base::{

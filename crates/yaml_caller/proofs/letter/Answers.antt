@@ -1,7 +1,7 @@
 use Rattle.std.proofs.Common.{codes, refl, ap, ◌∙◌}
 use Rattle.std.specs.Str.{chars}
 use Rattle.yaml_base.proofs.Literals.{chars-literal}
-use Rattle.yaml_rows.proofs.letter.Goals as goal
+use Rattle.yaml_caller.proofs.letter.Goals as goal
 
 pub returns-in-Ok : goal.returns-in-Ok
 returns-in-Ok g c = ap chars c.in-Ok.ensures.ok ∙ chars-literal (codes "a") refl
