@@ -12,7 +12,7 @@ pub mod LineFolds
 pub mod LineIndents
 pub mod SingleReads
 pub mod BlockSteps
-pub mod Somewhere
+pub mod Barred
 pub mod FirstCharacters
 pub mod PlainStarts
 pub mod PlainReads

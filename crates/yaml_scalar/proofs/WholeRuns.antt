@@ -1,6 +1,6 @@
 -- Runs of characters are found one character after another, and are laid out as themselves.
-use Rattle.std.proofs.Common.{◌≡◌, refl, sym, ap, subst, ◌∙◌, arith, append_assoc, append-nil, IsUtf8}
-use Rattle.std.proofs.lemmas.Bool.{and_from, and_parts, false≢true, not-true}
+use Rattle.std.proofs.Common.{◌≡◌, refl, sym, ap, subst, ◌∙◌, append_assoc, append-nil, IsUtf8}
+use Rattle.std.proofs.lemmas.Bool.{and_from, and_parts, not-true}
 use Rattle.std.proofs.lemmas.List.Folds.{list_all-append}
 use Rattle.std.proofs.lemmas.List.{length-append, take_at}
 use Rattle.std.proofs.lemmas.Str.{IsCharBoundary-at_seam, IsUtf8-past_char, IsUtf8-take, chars_from_encodes, encodes-append}
@@ -9,7 +9,7 @@ use Rattle.std.specs.List.{list_all, list_any}
 use Rattle.std.specs.Prelude.{ℕ, Bool, true, false, not, Option, None, Some, List, [], ◌∷◌, ◌++◌, ◌||◌, ◌&&◌, ◌+◌, length, take, if◌then◌else◌}
 use Rattle.std.specs.Str.{IsCharBoundary, chars, encode_utf8_all}
 use Rattle.yaml_base.specs.Characters.{Text, is_break, is_space}
-use Rattle.yaml_base.specs.Cursor.{Cursor, Laid, column_after, is_past_width, next_column, text_laid, then_laid}
+use Rattle.yaml_base.specs.Cursor.{Cursor, Laid, is_past_width, next_column, text_laid, then_laid}
 use Rattle.yaml_base.specs.DoubleQuoted.{character_text, double_character, double_fold, double_inside, escape_text, may_fold, needs_escape}
 use Rattle.yaml_scalar.proofs.Unbroken.{unescaped}
 use Rattle.yaml_scalar.specs.WholeRuns.{IsRun, has_limit, last_from, stays}

@@ -1,4 +1,5 @@
 pub mod ScalarData
+pub mod Barred
 pub mod Width
 pub mod ReadsBack
 pub mod LineSteps

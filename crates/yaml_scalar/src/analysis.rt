@@ -1,10 +1,10 @@
 //! Which styles a scalar's value allows.
 ghost use Rattle.std.specs.Prelude.{◌≡◌, ◌==◌, ◌||◌, ◌&&◌, not, codes};
-ghost use Rattle.std.specs.List.{list_any};
 ghost use Rattle.std.specs.Str.{chars};
 ghost use Rattle.yaml_base.specs.Analysis as spec;
 ghost use Rattle.yaml_base.specs.Characters as class;
-ghost use Rattle.yaml_scalar.specs.ScalarData.{bars_in, seen_charset, seen_data};
+ghost use Rattle.yaml_scalar.specs.Barred.{barred_by, barred_in, either, is_ordinary, seen_barred};
+ghost use Rattle.yaml_scalar.specs.ScalarData.{seen_charset, seen_data};
 
 use yaml_base::{is_ascii, is_blank, is_break, is_printable, is_space};
 
@@ -30,12 +30,14 @@ struct charset_t {
     breaks12: bool,
 }
 
-/// What a text is to be: plain, in a flow collection or not, between single quotes, or literal or folded.
+/// Whether some character that was read is a break, or one that no text of a kind holds.
 #[derive(Clone, Copy)]
-enum TextKind {
-    Plain(bool),
-    SingleQuoted,
-    Block,
+struct barred_t {
+    multiline: bool,
+    flow_plain: bool,
+    block_plain: bool,
+    single_quoted: bool,
+    block: bool,
 }
 
 /// Analyses a scalar's value. With `unicode` all printable characters may stand as themselves, else
@@ -43,21 +45,16 @@ enum TextKind {
 pub fn analyze_scalar(value: &str, unicode: bool, breaks12: bool) -> scalar_data_t
     ensures { seen_data result ≡ spec.allowances (record { unicode = unicode; breaks12 = breaks12 }) (chars value.now) }
 {
-    let charset = charset_t { unicode, breaks12 };
+    let barred = barred_in(value, charset_t { unicode, breaks12 });
+    let is_empty = is_at_end(value);
+    let unlike_plain = begins_unlike_plain(value);
     scalar_data_t {
-        multiline: holds_break(value),
-        flow_plain_allowed: allows_plain(value, charset, true),
-        block_plain_allowed: allows_plain(value, charset, false),
-        single_quoted_allowed: allows_single_quoted(value, charset),
-        block_allowed: allows_block(value, charset),
+        multiline: barred.multiline,
+        flow_plain_allowed: !is_empty && !(unlike_plain || barred.flow_plain),
+        block_plain_allowed: !(unlike_plain || barred.block_plain),
+        single_quoted_allowed: !barred.single_quoted,
+        block_allowed: !(is_empty || barred.block),
     }
-}
-
-/// Some character is a break.
-fn holds_break(value: &str) -> bool
-    ensures { result ≡ list_any class.is_break (chars value.now) }
-{
-    value.chars().any(|c| is_break(c))
 }
 
 /// A blank, a break or NUL.
@@ -94,28 +91,6 @@ fn is_special(c: char, charset: charset_t) -> bool
     !is_printable(c)
         || (!charset.unicode && !is_ascii(c))
         || (charset.breaks12 && matches!(c, '\u{2028}' | '\u{2029}'))
-}
-
-/// Plain text; the empty value only in block.
-fn allows_plain(value: &str, charset: charset_t, flow: bool) -> bool
-    ensures { result ≡ spec.allows_plain (seen_charset charset) flow (chars value.now) }
-{
-    !(is_at_end(value) && flow)
-        && !(begins_unlike_plain(value) || is_barred(value, TextKind::Plain(flow), charset))
-}
-
-/// Single quotes; the empty value too.
-fn allows_single_quoted(value: &str, charset: charset_t) -> bool
-    ensures { result ≡ spec.allows_single_quoted (seen_charset charset) (chars value.now) }
-{
-    !is_barred(value, TextKind::SingleQuoted, charset)
-}
-
-/// Literal and folded; never the empty value.
-fn allows_block(value: &str, charset: charset_t) -> bool
-    ensures { result ≡ spec.allows_block (seen_charset charset) (chars value.now) }
-{
-    !(is_at_end(value) || is_barred(value, TextKind::Block, charset))
 }
 
 /// No character is left.
@@ -254,26 +229,43 @@ fn bars_block(c: char, rest: &str, charset: charset_t) -> bool
     is_special(c, charset) || is_trailing_space(c, rest) || (is_space(c) && is_at_end(rest))
 }
 
-/// A character that no text of a kind holds, seen with what follows it.
-fn bars_in(kind: TextKind, c: char, rest: &str, charset: charset_t) -> bool
-    ensures { result ≡ bars_in kind (seen_charset charset) c (chars rest.now) }
+/// A letter or a digit, which every text may hold.
+pub(crate) fn is_ordinary(c: char) -> bool
+    ensures { result ≡ is_ordinary c }
 {
-    match kind {
-        TextKind::Plain(flow) => bars_plain(c, rest, charset, flow),
-        TextKind::SingleQuoted => bars_single_quoted(c, rest, charset),
-        TextKind::Block => bars_block(c, rest, charset),
+    matches!(c, 'a'..='z' | 'A'..='Z' | '0'..='9')
+}
+
+/// What was read, and the next character, seen with what follows it.
+fn with_next(barred: barred_t, c: char, rest: &str, charset: charset_t) -> barred_t
+    ensures { seen_barred result ≡ either (seen_barred barred) (barred_by (seen_charset charset) c (chars rest.now)) }
+{
+    if is_ordinary(c) {
+        return barred;
+    }
+    barred_t {
+        multiline: barred.multiline || is_break(c),
+        flow_plain: barred.flow_plain || bars_plain(c, rest, charset, true),
+        block_plain: barred.block_plain || bars_plain(c, rest, charset, false),
+        single_quoted: barred.single_quoted || bars_single_quoted(c, rest, charset),
+        block: barred.block || bars_block(c, rest, charset),
     }
 }
 
-/// Some character of the value is one that no text of a kind holds.
-fn is_barred(value: &str, kind: TextKind, charset: charset_t) -> bool
-    ensures { result ≡ spec.somewhere (bars_in kind (seen_charset charset)) (chars value.now) }
+/// What the characters of a value bar.
+fn barred_in(value: &str, charset: charset_t) -> barred_t
+    ensures { seen_barred result ≡ barred_in (seen_charset charset) (chars value.now) }
 {
+    let mut barred = barred_t {
+        multiline: false,
+        flow_plain: false,
+        block_plain: false,
+        single_quoted: false,
+        block: false,
+    };
     let mut chars = value.chars();
     while let Some(c) = chars.next() {
-        if bars_in(kind, c, chars.as_str(), charset) {
-            return true;
-        }
+        barred = with_next(barred, c, chars.as_str(), charset);
     }
-    false
+    barred
 }

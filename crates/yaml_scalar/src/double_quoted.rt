@@ -11,6 +11,7 @@ ghost use Rattle.yaml_scalar.specs.ReadsBack.{ReadsBack};
 ghost use Rattle.yaml_scalar.specs.WholeRuns.{IsRun, has_limit, stays};
 ghost use Rattle.yaml_scalar.specs.Width.{limit_where};
 
+use crate::analysis::is_ordinary;
 use crate::steps::{go_on, may_fold_here};
 use std::alloc::Allocator;
 use yaml_base::{is_ascii, is_break, is_printable, is_space, yaml_error_t};
@@ -282,7 +283,7 @@ fn has_limit(quoting: quoting_t) -> bool
 fn stays(c: char, quoting: quoting_t) -> bool
     ensures { result ≡ stays quoting.unicode (limit_where quoting.allow_breaks quoting.width) c }
 {
-    !needs_escape(c, quoting.unicode) && !(is_space(c) && has_limit(quoting))
+    is_ordinary(c) || (!needs_escape(c, quoting.unicode) && !(is_space(c) && has_limit(quoting)))
 }
 
 /// The run that follows a character: its bytes, and the last character up to its end.

@@ -1,0 +1,12 @@
+use Rattle.std.proofs.Common.{◌≡◌, IsUtf8, chars}
+use Rattle.std.specs.Str.Iter.{chars_rest}
+use Rattle.yaml_scalar.specs.Barred.{barred_in, either, seen_barred}
+use Rattle.yaml_scalar.specs.ScalarData.{seen_charset}
+use Rattle.yaml_scalar.proofs.analysis.barred_in.Given as goal
+
+abbrev pub invariant-loop-c : goal.invariant-loop-c
+invariant-loop-c l =
+    record {
+      is_text : IsUtf8 (chars_rest l.chars);
+      so_far : barred_in (seen_charset l.fn.charset) (chars l.fn.value) ≡ either (seen_barred l.barred) (barred_in (seen_charset l.fn.charset) (chars (chars_rest l.chars)));
+    }

@@ -1,0 +1,62 @@
+-- What the characters of a value bar, all styles seen at once.
+use Rattle.std.specs.Prelude.{ℕ, Bool, true, false, ◌||◌}
+use Rattle.std.specs.List.{list_any}
+use Rattle.yaml_base.specs.Analysis.{Charset, bars_block, bars_plain, bars_single_quoted, somewhere}
+use Rattle.yaml_base.specs.Characters.{Text, is_between, is_break}
+use Rattle.yaml_scalar.specs.declared.analysis.barred_t.{barred_t}
+
+-- whether there is a break, and a character that no text of a kind holds
+pub record Barred : Type 0 where
+  pub multiline : Bool
+  pub flow_plain : Bool
+  pub block_plain : Bool
+  pub single_quoted : Bool
+  pub block : Bool
+
+-- what a loop has found
+abbrev pub seen_barred : barred_t → Barred
+seen_barred found =
+    record {
+      multiline = found.multiline;
+      flow_plain = found.flow_plain;
+      block_plain = found.block_plain;
+      single_quoted = found.single_quoted;
+      block = found.block;
+    }
+
+-- what one character bars, seen with what follows it
+abbrev pub barred_by : Charset → ℕ → Text → Barred
+barred_by charset c rest =
+    record {
+      multiline = is_break c;
+      flow_plain = bars_plain charset true c rest;
+      block_plain = bars_plain charset false c rest;
+      single_quoted = bars_single_quoted charset c rest;
+      block = bars_block charset c rest;
+    }
+
+-- what all characters of a value bar
+abbrev pub barred_in : Charset → Text → Barred
+barred_in charset value =
+    record {
+      multiline = list_any is_break value;
+      flow_plain = somewhere (bars_plain charset true) value;
+      block_plain = somewhere (bars_plain charset false) value;
+      single_quoted = somewhere (bars_single_quoted charset) value;
+      block = somewhere (bars_block charset) value;
+    }
+
+-- what one of two bars
+abbrev pub either : Barred → Barred → Barred
+either a b =
+    record {
+      multiline = a.multiline || b.multiline;
+      flow_plain = a.flow_plain || b.flow_plain;
+      block_plain = a.block_plain || b.block_plain;
+      single_quoted = a.single_quoted || b.single_quoted;
+      block = a.block || b.block;
+    }
+
+-- a letter or a digit of ASCII
+abbrev pub is_ordinary : ℕ → Bool
+is_ordinary c = is_between 97 122 c || is_between 65 90 c || is_between 48 57 c
