@@ -3,13 +3,14 @@ use Rattle.std.proofs.Common.{◌≡◌, ℕ, Bool, false, ◌==◌, Option, Non
 use Rattle.std.specs.Prelude.{String}
 use Rattle.std.specs.String.{string_bytes}
 use Rattle.std.specs.Char.{encode_utf8}
-use Rattle.std.specs.Str.{chars, encode_utf8_all}
-use Rattle.std.proofs.lemmas.Str.{chars-nil, encodes-append, encodes-chars, IsUtf8-string_bytes, chars_from_encodes}
+use Rattle.std.specs.Str.{IsUtf8, chars, encode_utf8_all}
+use Rattle.std.proofs.lemmas.Str.{chars-append, chars-nil, encodes-append, encodes-chars, IsUtf8-string_bytes, chars_from_encodes}
 use Rattle.yaml_base.specs.Seen.{seen_text}
 use Rattle.yaml_base.specs.Characters.{Text}
 use Rattle.yaml_base.specs.Script as notation
-use Rattle.yaml_base.specs.Script.{goes_on, stands_for, ends, fails, at_character, at_digits, at_brace, text_from, numbered_turn, turn}
+use Rattle.yaml_base.specs.Script.{goes_on, stands_for, ends, fails, at_character, at_escape, at_digits, at_brace, text_from, numbered_turn, quotation_mark, backslash, turn}
 use Rattle.yaml_tool.specs.Cuts.{IsFree, IsCut}
+use Rattle.yaml_tool.specs.Texts.{ReadsOn}
 use Rattle.yaml_tool.proofs.CutLemmas.{neither}
 
 -- what a turn and the characters behind it are read as
@@ -78,3 +79,44 @@ one_more text grown c (Some more) grows =
 pub nothing_before : {A : Type 0} (text : String A) (read : Option Text) → string_bytes text ≡ [] → read ≡ option_map (λ more. seen_text text ++ more) read
 nothing_before text None empty = refl
 nothing_before text (Some more) empty = ap (λ (front : List ℕ). Some (front ++ more)) (sym (ap chars empty ∙ chars-nil))
+
+-- nothing of a text was read
+pub reads_from_start : (whole front : Text) → front ≡ [] → ReadsOn whole front whole
+reads_from_start whole front none = go (text_from at_character whole)
+  where
+    go : (read : Option Text) → read ≡ option_map (λ more. front ++ more) read
+    go None = refl
+    go (Some more) = ap (λ (t : Text). Some (t ++ more)) (sym none)
+
+-- a character that is no quotation mark and no backslash stands for itself
+pub reads_further : (whole front grown left rest : Text) (c : ℕ) → ReadsOn whole front left → left ≡ c ∷ rest
+    → (c == quotation_mark) ≡ false → (c == backslash) ≡ false → grown ≡ front ++ c ∷ [] → ReadsOn whole grown rest
+reads_further whole front grown left rest c reads is no_mark no_backslash grows =
+    reads ∙ ap (λ t. option_map (λ more. front ++ more) (text_from at_character t)) is
+    ∙ ap (option_map (λ more. front ++ more)) (first_turn at_character c rest ∙ ap (λ t. read_turn t rest) stands)
+    ∙ go (text_from at_character rest)
+  where
+    stands : turn at_character c ≡ stands_for c
+    stands =
+        ap (λ (b : Bool). if b then ends else (if c == backslash then goes_on at_escape else stands_for c)) no_mark
+        ∙ ap (λ (b : Bool). if b then goes_on at_escape else stands_for c) no_backslash
+
+    go : (read : Option Text) → option_map (λ more. front ++ more) (option_map (λ value. c ∷ value) read) ≡ option_map (λ more. grown ++ more) read
+    go None = refl
+    go (Some more) = ap (λ (t : Text). Some t) (sym (append_assoc front (c ∷ []) more) ∙ ap (λ (t : Text). t ++ more) (sym grows))
+
+-- a text to its end
+pub reads_all : (whole front left text : Text) → ReadsOn whole front left → text ≡ front → ReadsOn whole text left
+reads_all whole front left text reads is = reads ∙ ap (λ (t : Text). option_map (λ more. t ++ more) (text_from at_character left)) (sym is)
+
+-- bytes that have grown by those of a front
+pub front_taken : (text grown front : List ℕ) (whole behind : Text) → IsUtf8 text → grown ≡ text ++ front → ReadsOn whole (chars front) behind
+    → option_map (λ more. chars text ++ more) (text_from at_character whole) ≡ option_map (λ more. chars grown ++ more) (text_from at_character behind)
+front_taken text grown front whole behind is grows reads = ap (option_map (λ more. chars text ++ more)) reads ∙ go (text_from at_character behind)
+  where
+    seen : chars grown ≡ chars text ++ chars front
+    seen = ap chars grows ∙ chars-append text front is
+
+    go : (read : Option Text) → option_map (λ more. chars text ++ more) (option_map (λ more. chars front ++ more) read) ≡ option_map (λ more. chars grown ++ more) read
+    go None = refl
+    go (Some more) = ap (λ (t : Text). Some t) (sym (append_assoc (chars text) (chars front) more) ∙ ap (λ (t : Text). t ++ more) (sym seen))

@@ -1,5 +1,5 @@
 -- What a turn of the reading of a text says of the reading of the whole.
-use Rattle.std.specs.Prelude.{List, ◌≡◌, ℕ, ◌<◌, Option, None, Some, [], ◌∷◌, length, option_map}
+use Rattle.std.specs.Prelude.{List, ◌≡◌, ℕ, ◌<◌, Option, None, Some, [], ◌∷◌, ◌++◌, length, option_map}
 use Rattle.std.specs.Str.{chars, IsUtf8}
 use Rattle.yaml_base.specs.Characters.{Text}
 use Rattle.yaml_base.specs.Script as notation
@@ -18,3 +18,8 @@ TurnsTo Ends read behind = read ≡ Some []
 TurnsTo (StandsFor character rest) read behind =
     (read ≡ option_map (λ others. character ∷ others) (notation.text_from notation.at_character (chars rest.now))) × (length rest.now < length behind) × IsUtf8 rest.now
 TurnsTo Fails read behind = read ≡ None
+
+-- a text reads as its front, which stands for itself, and then what stands behind it
+abbrev pub ReadsOn : Text → Text → Text → Type 0
+ReadsOn whole front behind =
+    notation.text_from notation.at_character whole ≡ option_map (λ more. front ++ more) (notation.text_from notation.at_character behind)

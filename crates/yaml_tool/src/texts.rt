@@ -1,11 +1,11 @@
 //! Texts of a script's lines, between `"` and `"`.
-ghost use Rattle.std.specs.Prelude.{◌≡◌, length, IfOk, option_map};
-ghost use Rattle.std.specs.Str.{chars};
+ghost use Rattle.std.specs.Prelude.{◌≡◌, ◌≤◌, ◌++◌, length, IfOk, option_map};
+ghost use Rattle.std.specs.Str.{chars, IsUtf8};
 ghost use Rattle.yaml_base.specs.Script as notation;
 ghost use Rattle.yaml_base.specs.Seen.{seen_text};
-ghost use Rattle.yaml_tool.specs.Texts.{turn_of, TurnsTo};
+ghost use Rattle.yaml_tool.specs.Texts.{turn_of, ReadsOn, TurnsTo};
 
-use crate::characters::{cut_once, first_character};
+use crate::characters::{cut_once, first_character, front_before};
 use crate::numbers::number_in;
 use std::alloc::{AllocError, Allocator};
 
@@ -82,6 +82,36 @@ fn next_turn(behind: &str) -> Turn<'_>
     }
 }
 
+/// The longest front without quotation marks and backslashes, and what stands behind it.
+fn unescaped_front(text: &str) -> (&str, &str)
+    ensures reads { ReadsOn (chars text.now) (chars result.0.now) (chars result.1.now) }
+    ensures shorter { length result.1.now ≤ length text.now }
+    ensures utf8 { IsUtf8 result.1.now }
+{
+    let mut rest = text;
+    while let Some((character, behind)) = first_character(rest) {
+        if character == '"' || character == '\\' {
+            return (front_before(text, rest), rest);
+        }
+        rest = behind;
+    }
+    (text, rest)
+}
+
+/// Takes that front over, and answers what stands behind it.
+fn push_front<'a, A: Allocator>(
+    text: &mut String<A>,
+    behind: &'a str,
+) -> Result<&'a str, AllocError>
+    ensures read { IfOk result (λ others. option_map (λ more. seen_text text.old ++ more) (notation.text_from notation.at_character (chars behind.now)) ≡ option_map (λ more. seen_text text.new ++ more) (notation.text_from notation.at_character (chars others.now))) }
+    ensures shorter { IfOk result (λ others. length others.now ≤ length behind.now) }
+    ensures utf8 { IfOk result (λ others. IsUtf8 others.now) }
+{
+    let (front, others) = unescaped_front(behind);
+    text.push_str(front)?;
+    Ok(others)
+}
+
 /// What the characters behind an opening `"` stand for; none where they are no text.
 pub fn text_behind<A: Allocator>(alloc: A, behind: &str) -> Result<Option<String<A>>, AllocError>
     ensures { IfOk result (λ text. option_map seen_text text ≡ notation.text_from notation.at_character (chars behind.now)) }
@@ -89,7 +119,8 @@ pub fn text_behind<A: Allocator>(alloc: A, behind: &str) -> Result<Option<String
     let mut text = String::with_capacity(alloc, behind.len())?;
     let mut rest = behind;
     loop {
-        match next_turn(rest) {
+        let others = push_front(&mut text, rest)?;
+        match next_turn(others) {
             Turn::StandsFor(character, others) => {
                 text.push(character)?;
                 rest = others;

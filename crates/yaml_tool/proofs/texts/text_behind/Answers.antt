@@ -5,17 +5,18 @@ use Rattle.yaml_base.specs.Script.{text_from, at_character}
 use Rattle.yaml_tool.proofs.TextLemmas.{nothing_before, one_more}
 use Rattle.yaml_tool.proofs.texts.text_behind.Goals as goal
 
-pub loop-character-init : goal.loop-character-init
-loop-character-init g c = record {
+pub loop-text-init : goal.loop-text-init
+loop-text-init g c = record {
   utf8 = c.utf8.behind;
   read = nothing_before c.in_ok-text.text (text_from at_character (chars c.args.behind.now)) c.in_ok-text.ensures.bytes;
 }
 
-pub loop-character-preserved : goal.loop-character-preserved
-loop-character-preserved g c = record {
+pub loop-text-preserved : goal.loop-text-preserved
+loop-text-preserved g c = record {
   utf8 = c.in-StandsFor.ensures.2;
   read =
-      c.loop-character.invariant.read
-      ∙ ap (λ read. option_map (λ more. seen_text c.loop-character.text ++ more) read) c.in-StandsFor.ensures.0
-      ∙ one_more c.loop-character.text c.push.new.self c.in-StandsFor.character (text_from at_character (chars c.in-StandsFor.others.now)) c.in_ok-push-in-StandsFor.ensures.bytes;
+      c.loop-text.invariant.read
+      ∙ c.in_ok-others.ensures.read
+      ∙ ap (λ read. option_map (λ more. seen_text c.push_front.new.text ++ more) read) c.in-StandsFor.ensures.0
+      ∙ one_more c.push_front.new.text c.push.new.self c.in-StandsFor.character (text_from at_character (chars c.in-StandsFor.others.now)) c.in_ok-push-in-StandsFor.ensures.bytes;
 }

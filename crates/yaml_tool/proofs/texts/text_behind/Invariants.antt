@@ -4,11 +4,11 @@ use Rattle.yaml_base.specs.Script as notation
 use Rattle.yaml_base.specs.Seen.{seen_text}
 use Rattle.yaml_tool.proofs.texts.text_behind.Given as goal
 
-abbrev pub invariant-loop-character : goal.invariant-loop-character
-invariant-loop-character g l = record {
+abbrev pub invariant-loop-text : goal.invariant-loop-text
+invariant-loop-text g l = record {
   utf8 : IsUtf8 l.rest;
   read : notation.text_from notation.at_character (chars l.behind) ≡ option_map (λ others. seen_text l.text ++ others) (notation.text_from notation.at_character (chars l.rest));
 }
 
-abbrev pub decreases-loop-character : goal.decreases-loop-character
-decreases-loop-character g l = length l.rest
+abbrev pub decreases-loop-text : goal.decreases-loop-text
+decreases-loop-text g l = length l.rest
