@@ -1,0 +1,208 @@
+//! Which events wait, and what is handed out meanwhile.
+use super::streams::Given::{
+    Alias, Anchored, BlockMapping, BlockSequence, Directed, Document, DocumentEnd, FlowMapping,
+    FlowSequence, MappingEnd, Sequence, SequenceEnd, Stream, StreamEnd, Styled, Tagged, Text,
+};
+use super::streams::{Given, event};
+use super::{Setting, UNSET, begun, check_failed, emit_all, flush_if_known, give};
+use std::alloc::Global;
+use std::process::Abort;
+use std::test::Fail;
+use yaml_base::{
+    YAML_FLOW_SEQUENCE_STYLE, YAML_LITERAL_SCALAR_STYLE, YAML_UTF8_ENCODING, YAML_UTF16LE_ENCODING,
+    yaml_error_t,
+};
+
+/// An event, the text that its call makes ready, and how many events wait after it.
+type Turns<'a> = &'a [(Given<'a>, &'a str, usize)];
+
+// Events up to one, a flush, and the rest.
+fn check_flush_after(
+    rt: &impl Abort,
+    alloc: Global,
+    turns: Turns,
+    count: usize,
+) -> Result<(), Fail> {
+    let mut emitter = begun(alloc, &UNSET)?;
+    let mut text = String::new(alloc);
+    let mut waiting = 0;
+    for (given, ready, held) in turns.iter().take(count) {
+        assert_eq!(rt; give(rt, &mut emitter, event(alloc, given)?), Ok(()));
+        text.push_str(ready)?;
+        waiting = *held;
+    }
+    assert_eq!(rt; flush_if_known(rt, &mut emitter), Ok(()), "{count}");
+    assert_eq!(rt; emitter.output(), text.as_str().as_bytes(), "{count}");
+    assert_eq!(rt; emitter.held(), waiting, "{count}");
+    for (given, ready, _) in turns.iter().skip(count) {
+        assert_eq!(rt; give(rt, &mut emitter, event(alloc, given)?), Ok(()));
+        text.push_str(ready)?;
+    }
+    assert_eq!(rt; emitter.output(), text.as_str().as_bytes(), "{count}");
+    assert_eq!(rt; emitter.held(), 0);
+    Ok(())
+}
+
+fn check_flush_after_each(rt: &impl Abort, alloc: Global, turns: Turns) -> Result<(), Fail> {
+    for count in 0..=turns.len() {
+        check_flush_after(rt, alloc, turns, count)?;
+    }
+    Ok(())
+}
+
+#[test]
+fn a_flush_hands_out_what_is_ready(rt: HostRuntime) -> Result<(), Fail> {
+    let turns: Turns = &[
+        (Stream, "", 0),
+        (Directed(&[("!e!", "tag:e.com,2000:")]), "", 1),
+        (BlockMapping, "%TAG !e! tag:e.com,2000:\n---", 1),
+        (Anchored("n", "a key"), "", 2),
+        (BlockSequence, "", 3),
+        (Tagged("tag:e.com,2000:t", "x"), "\n&n a key", 2),
+        (FlowMapping, ":\n- !e!t x", 1),
+        (Text("k"), "", 2),
+        (Sequence(Some("s"), None, YAML_FLOW_SEQUENCE_STYLE), "", 3),
+        (SequenceEnd, "\n- {k: &s []", 0),
+        (MappingEnd, "}", 0),
+        (
+            Styled(YAML_LITERAL_SCALAR_STYLE, "a\n\n"),
+            "\n- |+\n  a\n\n",
+            0,
+        ),
+        (SequenceEnd, "", 0),
+        (Alias("n"), "*n ", 0),
+        (BlockMapping, "", 1),
+        (MappingEnd, ": {}", 0),
+        (MappingEnd, "", 0),
+        (DocumentEnd, "\n", 0),
+        (Document, "", 1),
+        (
+            Styled(YAML_LITERAL_SCALAR_STYLE, "b\n\n"),
+            "--- |+\n  b\n\n",
+            0,
+        ),
+        (DocumentEnd, "", 0),
+        (StreamEnd, "...\n", 0),
+    ];
+    check_flush_after_each(&rt, rt.alloc(), turns)
+}
+
+// Without a flush of the caller's only the ends of documents and of the stream hand out.
+#[test]
+fn an_emit_hands_out_at_the_end_of_a_document(rt: HostRuntime) -> Result<(), Fail> {
+    let alloc = rt.alloc();
+    let mut emitter = begun(alloc, &UNSET)?;
+    for (given, text) in [
+        (Stream, ""),
+        (Document, ""),
+        (FlowSequence, ""),
+        (Text("a"), ""),
+        (Text("b"), ""),
+        (SequenceEnd, ""),
+        (DocumentEnd, "[a, b]\n"),
+        (Document, "[a, b]\n"),
+        (Text("c"), "[a, b]\n"),
+        (DocumentEnd, "[a, b]\n--- c\n"),
+        (StreamEnd, "[a, b]\n--- c\n"),
+    ] {
+        assert_eq!(rt; give(&rt, &mut emitter, event(alloc, &given)?), Ok(()));
+        assert_eq!(rt; emitter.output(), text.as_bytes());
+    }
+    Ok(())
+}
+
+#[test]
+fn a_flow_sequence_waits_for_two_events(rt: HostRuntime) -> Result<(), Fail> {
+    let alloc = rt.alloc();
+    let mut emitter = begun(alloc, &UNSET)?;
+    let outer = Sequence(Some("a"), None, YAML_FLOW_SEQUENCE_STYLE);
+    let events = [Stream, Document, outer, FlowSequence, Text("x")];
+    assert_eq!(rt; emit_all(&rt, alloc, &mut emitter, &events)?, None);
+    assert_eq!(rt; flush_if_known(&rt, &mut emitter), Ok(()));
+    assert_eq!(rt; emitter.output(), b"&a".as_slice());
+    assert_eq!(rt; emitter.held(), 2);
+    let rest = [SequenceEnd, SequenceEnd, DocumentEnd, StreamEnd];
+    assert_eq!(rt; emit_all(&rt, alloc, &mut emitter, &rest)?, None);
+    assert_eq!(rt; emitter.output(), b"&a [[x]]\n".as_slice());
+    assert_eq!(rt; emitter.held(), 0);
+    Ok(())
+}
+
+#[test]
+fn a_canonical_item_is_handed_out_without_its_comma(rt: HostRuntime) -> Result<(), Fail> {
+    let alloc = rt.alloc();
+    let setting = Setting {
+        canonical: true,
+        width: Some(-1),
+        ..UNSET
+    };
+    let mut emitter = begun(alloc, &setting)?;
+    let events = [Stream, Document, BlockSequence, Text("a"), Text("b")];
+    assert_eq!(rt; emit_all(&rt, alloc, &mut emitter, &events)?, None);
+    assert_eq!(rt; flush_if_known(&rt, &mut emitter), Ok(()));
+    assert_eq!(rt; emitter.output(), b"---\n[\n  \"a\",\n  \"b\"".as_slice());
+    assert_eq!(rt; emitter.held(), 0);
+    Ok(())
+}
+
+// What was written before a refused event can no longer be handed out.
+#[test]
+fn an_event_in_a_wrong_place_ends_the_output(rt: HostRuntime) -> Result<(), Fail> {
+    let alloc = rt.alloc();
+    let error = yaml_error_t::ExpectedNode;
+    let events = [Stream, Document, FlowSequence, Text("a"), Text("b")];
+    for flushed in [true, false] {
+        let mut emitter = begun(alloc, &UNSET)?;
+        assert_eq!(rt; emit_all(&rt, alloc, &mut emitter, &events)?, None);
+        if flushed {
+            assert_eq!(rt; flush_if_known(&rt, &mut emitter), Ok(()));
+        }
+        let answer = give(&rt, &mut emitter, event(alloc, &DocumentEnd)?);
+        assert_eq!(rt; answer, Err(error));
+        check_failed(&rt, &mut emitter, error);
+        let text: &[u8] = if flushed { b"[a, b" } else { b"" };
+        assert_eq!(rt; emitter.output(), text);
+    }
+    Ok(())
+}
+
+#[test]
+fn a_flush_past_the_limit_is_refused(rt: HostRuntime) -> Result<(), Fail> {
+    let alloc = rt.alloc();
+    let error = yaml_error_t::WriteError;
+    let setting = Setting { limit: 2, ..UNSET };
+    let mut emitter = begun(alloc, &setting)?;
+    let events = [Stream, Document, Text("foo")];
+    assert_eq!(rt; emit_all(&rt, alloc, &mut emitter, &events)?, None);
+    assert_eq!(rt; emitter.output(), b"".as_slice());
+    assert_eq!(rt; flush_if_known(&rt, &mut emitter), Err(error));
+    check_failed(&rt, &mut emitter, error);
+    assert_eq!(rt; emitter.output(), b"fo".as_slice());
+    Ok(())
+}
+
+// An encoding that was set is known before the stream begins; there is nothing to hand out.
+#[test]
+fn a_flush_before_the_stream_hands_out_nothing(rt: HostRuntime) -> Result<(), Fail> {
+    let alloc = rt.alloc();
+    for encoding in [YAML_UTF8_ENCODING, YAML_UTF16LE_ENCODING] {
+        let setting = Setting { encoding, ..UNSET };
+        let mut emitter = begun(alloc, &setting)?;
+        assert!(rt; emitter.encoding_known());
+        assert!(rt; !emitter.is_started());
+        assert_eq!(rt; flush_if_known(&rt, &mut emitter), Ok(()));
+        assert_eq!(rt; emitter.output(), b"".as_slice());
+        assert!(rt; !emitter.is_started());
+        assert_eq!(rt;
+            emit_all(&rt, alloc, &mut emitter, &[Stream, StreamEnd])?,
+            None
+        );
+        assert!(rt; emitter.is_started());
+        let mark: &[u8] = match encoding {
+            YAML_UTF8_ENCODING => b"",
+            _ => b"\xFF\xFE",
+        };
+        assert_eq!(rt; emitter.output(), mark);
+    }
+    Ok(())
+}
