@@ -7,3 +7,4 @@ pub mod CutLemmas
 pub mod LineLemmas
 pub mod ScriptLemmas
 pub mod CharacterLemmas
+pub mod RunLemmas

@@ -4,6 +4,7 @@ pub mod Events
 pub mod Fields
 pub mod Lines
 pub mod Numbers
+pub mod Runs
 pub mod Scripts
 pub mod Settings
 pub mod Texts

@@ -1,4 +1,4 @@
-//! Scripts of YAML events: how they are read.
+//! Scripts of YAML events: how they are read and run.
 #![tactic(auto)]
 
 mod answers;
@@ -8,6 +8,7 @@ mod events;
 mod fields;
 mod lines;
 mod numbers;
+mod runs;
 mod scripts;
 mod settings;
 mod streams;
@@ -15,6 +16,7 @@ mod texts;
 mod words;
 
 pub use answers::{run_answer_t, status, write_line};
+pub use runs::run;
 pub use scripts::{NumberedEvent, Script, ScriptError, read_script};
 pub use settings::Settings;
 

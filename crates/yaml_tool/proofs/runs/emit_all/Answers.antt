@@ -1,0 +1,52 @@
+use Rattle.std.proofs.Common.{map, sym, ap, ◌∙◌, subst, inl}
+use Rattle.std.proofs.lemmas.Iterator.Adapters.{YieldsList-from_vec}
+use Rattle.std.proofs.lemmas.Iterator.Consumers.{YieldsList-end}
+use Rattle.std.proofs.lemmas.List.{map-id}
+use Rattle.std.specs.Vec.Iter.{into_iter_items}
+use Rattle.yaml_pen.proofs.Writing.{none_from_told}
+use Rattle.yaml_emitter.specs.StandsAfter.{StandsAfter}
+use Rattle.yaml_tool.specs.Scripts.{seen_numbered}
+use Rattle.yaml_tool.specs.Runs.{events_in, LastLine}
+use Rattle.yaml_tool.proofs.RunLemmas.{some_told, events_more, parts_more, ends_more, refused_at, ended_with, ended_without}
+use Rattle.yaml_tool.proofs.runs.emit_all.Goals as goal
+
+pub returns-in-Err : goal.returns-in-Err
+returns-in-Err g c given stands =
+    let now = c.loop-numbered in
+    let stood = now.invariant.5 given stands in
+    inl
+    (refused_at given now.yielded c.in-Some.numbered (into_iter_items c.next.new.self) (into_iter_items now.numbered-iterator) c.args.events.items c.in-Err.error now.emitter c.yaml_emitter_emit.new.emitter
+    now.invariant.4 c.in-Some.ensures.steps.0 now.invariant.3 stood (some_told c.yaml_emitter_emit.new.emitter.error c.in-Err.error c.in-Err.ensures.answered)
+    (c.yaml_emitter_emit.ensures.stands given (events_in (map seen_numbered now.yielded)) stood))
+
+pub loop-numbered-preserved : goal.loop-numbered-preserved
+loop-numbered-preserved g c =
+    let now = c.loop-numbered in (
+      tt,
+      tt,
+      c.yaml_emitter_emit.ensures.output,
+      none_from_told c.yaml_emitter_emit.new.emitter.error c.in_default.ensures.answered,
+      parts_more now.yielded c.in-Some.numbered (into_iter_items c.next.new.self) (into_iter_items now.numbered-iterator) c.args.events.items now.invariant.4 c.in-Some.ensures.steps.0,
+      λ given stands.
+          subst (λ events. StandsAfter given events c.yaml_emitter_emit.new.emitter) (events_more now.yielded c.in-Some.numbered)
+          (c.yaml_emitter_emit.ensures.stands given (events_in (map seen_numbered now.yielded)) (now.invariant.5 given stands)),
+      ends_more now.yielded c.in-Some.numbered,
+    )
+
+pub returns-in-Some-last : goal.returns-in-Some-last
+returns-in-Some-last g c given stands =
+    let now = c.loop-numbered in
+    let road = YieldsList-from_vec {s = c.into_iter-numbered-iterator.result} c.args.events.items c.into_iter-numbered-iterator.ensures.into_iter_gives.0 (c.into_iter-numbered-iterator.ensures.into_iter_gives.1 ∙ c.args.events.ok.0) in
+    let whole = ap (map seen_numbered) (sym (map-id now.yielded) ∙ (YieldsList-end road now.yielded now.numbered-iterator now.yielded_by c.next.result c.next.new.self c.in-None.is c.next.ensures.steps).0) in
+    ended_with given (map seen_numbered c.args.events.items) c.in-Some-last.line now.last c.flush_last.result now.emitter c.flush_last.new.emitter c.in-Some-last.is
+    (subst (λ all. StandsAfter given (events_in all) now.emitter) whole (now.invariant.5 given stands)) now.invariant.3
+    (subst (λ all. LastLine all now.last now.emitter) whole now.invariant.6) c.flush_last.ensures
+
+pub returns-in-None-last : goal.returns-in-None-last
+returns-in-None-last g c given stands =
+    let now = c.loop-numbered in
+    let road = YieldsList-from_vec {s = c.into_iter-numbered-iterator.result} c.args.events.items c.into_iter-numbered-iterator.ensures.into_iter_gives.0 (c.into_iter-numbered-iterator.ensures.into_iter_gives.1 ∙ c.args.events.ok.0) in
+    let whole = ap (map seen_numbered) (sym (map-id now.yielded) ∙ (YieldsList-end road now.yielded now.numbered-iterator now.yielded_by c.next.result c.next.new.self c.in-None.is c.next.ensures.steps).0) in
+    ended_without given (map seen_numbered c.args.events.items) now.last now.emitter c.in-None-last.is
+    (subst (λ all. StandsAfter given (events_in all) now.emitter) whole (now.invariant.5 given stands)) now.invariant.3
+    (subst (λ all. LastLine all now.last now.emitter) whole now.invariant.6)

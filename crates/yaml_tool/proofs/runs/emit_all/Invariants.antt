@@ -1,0 +1,17 @@
+use Rattle.std.proofs.Common.{◌≡◌, None, true, [], ◌++◌, map}
+use Rattle.std.specs.Vec.Iter.{into_iter_items}
+use Rattle.yaml_base.specs.Settings.{Settings}
+use Rattle.yaml_emitter.specs.StandsAfter.{StandsAfter}
+use Rattle.yaml_tool.specs.Runs.{events_in, LastLine}
+use Rattle.yaml_tool.specs.Scripts.{seen_numbered}
+use Rattle.yaml_tool.proofs.runs.emit_all.Given as goal
+
+abbrev pub invariant-loop-numbered : goal.invariant-loop-numbered
+invariant-loop-numbered g l =
+    (goal.iterator-loop-numbered g).can_next l.numbered-iterator
+    × (goal.iterator-loop-numbered g).is_finite l.numbered-iterator
+    × (l.emitter.has_output ≡ true)
+    × (l.emitter.error ≡ None)
+    × (l.yielded ++ into_iter_items l.numbered-iterator ≡ l.fn.events.items)
+    × ((given : Settings) → StandsAfter given [] l.initial.emitter → StandsAfter given (events_in (map seen_numbered l.yielded)) l.emitter)
+    × LastLine (map seen_numbered l.yielded) l.last l.emitter

@@ -1,0 +1,123 @@
+-- What a run comes to: what its answer says of the script that was read and of what was written.
+use Rattle.std.specs.Prelude.{◌≡◌, ◌⊎◌, ℕ, ⊤, None, Some, Option, List, [], ◌∷◌, ◌++◌, map}
+use Rattle.std.specs.Io.KnownBytes.{Appends, Keeps, IsAtEnd}
+use Rattle.yaml_base.specs.Settings.{Settings}
+use Rattle.yaml_base.specs.Event.{Event}
+use Rattle.yaml_base.specs.Script.{Numbered, Script, bad_line, understood}
+use Rattle.yaml_base.specs.declared.errors.yaml_error_t.{yaml_error_t}
+use Rattle.yaml_emitter.specs.State.{State}
+use Rattle.yaml_emitter.specs.StandsAfter.{StandsAfter}
+use Rattle.yaml_emitter.specs.Promises.{HasAllBytes, Promised}
+use Rattle.yaml_tool.specs.declared.answers.run_answer_t.{run_answer_t}
+use Rattle.yaml_tool.specs.declared.answers.run_answer_t.TheVariants.{Done, Refused, BadLine, ReadFailed, WriteFailed, NoMemory}
+
+-- the events, without the numbers of their lines
+abbrev pub events_in : List Numbered → List Event
+events_in all = map (λ (numbered : Numbered). numbered.event) all
+
+-- ---- the emitter that a script's events were given
+
+-- no call answered an error, and all that is written is handed out
+pub record EmitsAll (given : Settings) (all : List Numbered) (state : State) : Type 0 where
+  pub stands : StandsAfter given (events_in all) state
+  pub promised : Promised given (events_in all) state
+  pub no_error : state.error ≡ None
+  pub handed_out : HasAllBytes given (events_in all) state
+
+-- the call that was given this line's event is the first that answered an error, this one, and no event after it was given
+pub record RefusesAt (given : Settings) (all : List Numbered) (line : ℕ) (error : yaml_error_t) (state : State) : Type 0 where
+  pub before : List Numbered
+  pub event : Event
+  pub later : List Numbered
+  pub parts : before ++ record { line = line; event = event } ∷ later ≡ all
+  pub earlier : State
+  pub stood : StandsAfter given (events_in before) earlier
+  pub no_error : earlier.error ≡ None
+  pub stands : StandsAfter given (events_in before ++ event ∷ []) state
+  pub promised : Promised given (events_in before ++ event ∷ []) state
+  pub failed : state.error ≡ Some error
+
+-- every event was taken without an error, and the flush after the last, of this line, answered this one
+pub record FlushFails (given : Settings) (all : List Numbered) (line : ℕ) (error : yaml_error_t) (state : State) : Type 0 where
+  pub before : List Numbered
+  pub event : Event
+  pub parts : before ++ record { line = line; event = event } ∷ [] ≡ all
+  pub earlier : State
+  pub stood : StandsAfter given (events_in all) earlier
+  pub no_error : earlier.error ≡ None
+  pub stands : StandsAfter given (events_in all) state
+  pub promised : Promised given (events_in all) state
+  pub failed : state.error ≡ Some error
+
+-- what an answer says of the emitter
+abbrev pub Emits : Settings → List Numbered → run_answer_t → State → Type 0
+Emits given all Done state = EmitsAll given all state
+Emits given all (Refused line error) state = RefusesAt given all line error state ⊎ FlushFails given all line error state
+Emits given all answer state = ⊥
+
+-- ---- the whole run, by what was read and by the writer's bytes before and after it
+
+-- the output of an emitter that was given the events was appended
+abbrev pub WritesOutput : Settings → List Numbered → run_answer_t → Option (List ℕ) → Option (List ℕ) → Type 0
+WritesOutput given all answer old new = (state : State) × Emits given all answer state × Appends old new state.page.output
+
+-- what an answer says of a script's first bad line, unless reading or memory failed
+abbrev pub TellsBadLine : ℕ → run_answer_t → Type 0
+TellsBadLine number (BadLine line) = line ≡ number
+TellsBadLine number ReadFailed = ⊤
+TellsBadLine number NoMemory = ⊤
+TellsBadLine number answer = ⊥
+
+-- what an answer says of a script's events, unless reading, writing or memory failed
+abbrev pub TellsEvents : Settings → List Numbered → run_answer_t → Option (List ℕ) → Option (List ℕ) → Type 0
+TellsEvents given all (BadLine line) old new = ⊥
+TellsEvents given all ReadFailed old new = ⊤
+TellsEvents given all WriteFailed old new = ⊤
+TellsEvents given all NoMemory old new = ⊤
+TellsEvents given all answer old new = WritesOutput given all answer old new
+
+-- what an answer says of a script
+abbrev pub Tells : Script → run_answer_t → Option (List ℕ) → Option (List ℕ) → Type 0
+Tells (bad_line number) answer old new = TellsBadLine number answer
+Tells (understood given all) answer old new = TellsEvents given all answer old new
+
+-- nothing is written where no event was emitted
+abbrev pub WritesNothing : run_answer_t → Option (List ℕ) → Option (List ℕ) → Type 0
+WritesNothing (BadLine line) old new = Keeps old new
+WritesNothing ReadFailed old new = Keeps old new
+WritesNothing NoMemory old new = Keeps old new
+WritesNothing answer old new = ⊤
+
+-- the whole script was read, unless reading or memory failed
+abbrev pub ReadsAll : run_answer_t → Option (List ℕ) → Type 0
+ReadsAll ReadFailed left = ⊤
+ReadsAll NoMemory left = ⊤
+ReadsAll answer left = IsAtEnd left
+
+-- ---- parts of a run
+
+-- why no script was understood
+abbrev pub IsFault : run_answer_t → Script → Type 0
+IsFault (BadLine line) script = script ≡ bad_line line
+IsFault ReadFailed script = ⊤
+IsFault NoMemory script = ⊤
+IsFault answer script = ⊥
+
+-- the last of some events stands on this line
+pub record EndsAt (all : List Numbered) (line : ℕ) : Type 0 where
+  pub before : List Numbered
+  pub event : Event
+  pub parts : before ++ record { line = line; event = event } ∷ [] ≡ all
+
+-- the line of the last event, where there is one; before the first nothing is handed out
+abbrev pub LastLine : List Numbered → Option ℕ → State → Type 0
+LastLine all None state = (all ≡ []) × (state.page.output ≡ [])
+LastLine all (Some line) state = EndsAt all line
+
+-- what the last flush does, with the line that it is told
+abbrev pub FlushesLast : ℕ → State → run_answer_t → State → Type 0
+FlushesLast line before Done after =
+    (after.error ≡ None) × ((given : Settings) (all : List Event) → StandsAfter given all before → StandsAfter given all after × Promised given all after × HasAllBytes given all after)
+FlushesLast line before (Refused told error) after =
+    (told ≡ line) × (after.error ≡ Some error) × ((given : Settings) (all : List Event) → StandsAfter given all before → StandsAfter given all after × Promised given all after)
+FlushesLast line before answer after = ⊥

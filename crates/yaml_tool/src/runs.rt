@@ -1,0 +1,159 @@
+//! A whole run: a script is read, its events are emitted, and the output is written.
+ghost use Rattle.std.specs.Prelude.{◌≡◌, ℕ, None, Some, true, false, List, [], map, IfOk, IfErr, OnOk, IfSome};
+ghost use Rattle.std.specs.Io.KnownBytes.{IsAtEnd};
+ghost use Rattle.yaml_base.specs.Script as notation;
+ghost use Rattle.yaml_base.specs.Settings as given;
+ghost use Rattle.yaml_emitter.specs.Given.{nothing_given};
+ghost use Rattle.yaml_emitter.specs.State.{new_state};
+ghost use Rattle.yaml_emitter.specs.StandsAfter.{StandsAfter};
+ghost use Rattle.yaml_tool.specs.Runs.{Emits, FlushesLast, TellsEvents, Tells, WritesNothing, ReadsAll, IsFault};
+ghost use Rattle.yaml_tool.specs.Scripts.{seen_numbered};
+ghost use Rattle.yaml_tool.specs.Settings.{seen_settings};
+
+use crate::answers::run_answer_t;
+use crate::scripts::{NumberedEvent, Script, ScriptError, read_script};
+use crate::settings::Settings;
+use crate::streams::{read_all, write_out};
+use std::alloc::Allocator;
+use std::io::{Read, Write};
+use yaml_emitter::{
+    yaml_emitter_emit, yaml_emitter_flush, yaml_emitter_initialize, yaml_emitter_set_break,
+    yaml_emitter_set_canonical, yaml_emitter_set_encoding, yaml_emitter_set_indent,
+    yaml_emitter_set_line_breaks_1_2, yaml_emitter_set_output_string, yaml_emitter_set_unicode,
+    yaml_emitter_set_width, yaml_emitter_t,
+};
+
+/// Reads a script to its end, emits its events, and writes what came out, also where an event was refused.
+///
+/// After a bad line nothing is written.
+pub fn run<A: Allocator + Copy, R: Read, W: Write>(
+    alloc: A,
+    reader: &mut R,
+    writer: &mut W,
+) -> run_answer_t
+    ensures told { IfSome (R.remaining reader.old) (λ left. Tells (notation.script_of left) result (W.contents writer.old) (W.contents writer.new)) }
+    ensures unwritten { WritesNothing result (W.contents writer.old) (W.contents writer.new) }
+    ensures read { ReadsAll result (R.remaining reader.new) }
+{
+    match script_in(alloc, reader) {
+        Ok(script) => emit_script(alloc, script, writer),
+        Err(answer) => answer,
+    }
+}
+
+/// What a script says; its bytes are dropped.
+fn script_in<A: Allocator + Copy, R: Read>(
+    alloc: A,
+    reader: &mut R,
+) -> Result<Script<A>, run_answer_t>
+    ensures understood { IfOk result (λ script. IfSome (R.remaining reader.old) (λ left. notation.script_of left ≡ notation.understood (seen_settings script.settings) (map seen_numbered script.events.items))) }
+    ensures fault { IfErr result (λ answer. IfSome (R.remaining reader.old) (λ left. IsFault answer (notation.script_of left))) }
+    ensures end { OnOk result (IsAtEnd (R.remaining reader.new)) }
+    ensures read { IfErr result (λ answer. ReadsAll answer (R.remaining reader.new)) }
+{
+    let bytes = read_all(alloc, reader)?;
+    match read_script(alloc, bytes.as_slice()) {
+        Ok(script) => Ok(script),
+        Err(ScriptError::BadLine(line)) => Err(run_answer_t::BadLine(line)),
+        Err(ScriptError::OutOfMemory) => Err(run_answer_t::NoMemory),
+    }
+}
+
+/// Emits a script's events, and writes what came out.
+fn emit_script<A: Allocator + Copy, W: Write>(
+    alloc: A,
+    script: Script<A>,
+    writer: &mut W,
+) -> run_answer_t
+    ensures told { TellsEvents (seen_settings script.settings) (map seen_numbered script.events.items) result (W.contents writer.old) (W.contents writer.new) }
+    ensures unwritten { WritesNothing result (W.contents writer.old) (W.contents writer.new) }
+{
+    let Ok(mut emitter) = yaml_emitter_initialize(alloc) else {
+        return run_answer_t::NoMemory;
+    };
+    set_all(&script.settings, &mut emitter);
+    let answer = emit_all(&mut emitter, script.events);
+    write_out(writer, emitter.output(), answer)
+}
+
+/// Sets what a script sets.
+fn set_all<A: Allocator>(settings: &Settings, emitter: &mut yaml_emitter_t<A>)
+    requires new { emitter.old ≡ new_state }
+    requires stands { StandsAfter nothing_given [] emitter.old }
+    ensures given { emitter.new.given ≡ seen_settings settings.now }
+    ensures stands { StandsAfter emitter.new.given [] emitter.new }
+    ensures no_error { emitter.new.error ≡ None }
+    ensures output { emitter.new.has_output ≡ true }
+    ensures nothing { emitter.new.page.output ≡ [] }
+{
+    yaml_emitter_set_output_string(emitter, settings.limit as usize);
+    yaml_emitter_set_encoding(emitter, settings.encoding);
+    yaml_emitter_set_canonical(emitter, settings.canonical);
+    yaml_emitter_set_unicode(emitter, settings.unicode);
+    set_indent(settings.indent, emitter);
+    set_width(settings.width, emitter);
+    yaml_emitter_set_break(emitter, settings.line_break);
+    yaml_emitter_set_line_breaks_1_2(emitter, settings.breaks12);
+}
+
+/// Sets the indent where there is one.
+fn set_indent<A: Allocator>(indent: Option<i32>, emitter: &mut yaml_emitter_t<A>)
+    requires not_started { emitter.old.started ≡ false }
+    requires unset { emitter.old.given.indent ≡ None }
+    ensures set { emitter.new ≡ record emitter.old { given = record emitter.old.given { indent = indent } } }
+    ensures stands { StandsAfter emitter.old.given [] emitter.old → StandsAfter emitter.new.given [] emitter.new }
+{
+    match indent {
+        Some(indent) => yaml_emitter_set_indent(emitter, indent),
+        None => {}
+    }
+}
+
+/// Sets the width where there is one.
+fn set_width<A: Allocator>(width: Option<i32>, emitter: &mut yaml_emitter_t<A>)
+    requires not_started { emitter.old.started ≡ false }
+    requires unset { emitter.old.given.width ≡ None }
+    ensures set { emitter.new ≡ record emitter.old { given = record emitter.old.given { width = width } } }
+    ensures stands { StandsAfter emitter.old.given [] emitter.old → StandsAfter emitter.new.given [] emitter.new }
+{
+    match width {
+        Some(width) => yaml_emitter_set_width(emitter, width),
+        None => {}
+    }
+}
+
+/// Emits events in order up to the first refusal; then hands out what is left.
+fn emit_all<A: Allocator + Copy>(
+    emitter: &mut yaml_emitter_t<A>,
+    events: Vec<NumberedEvent<A>, A>,
+) -> run_answer_t
+    requires output { emitter.old.has_output ≡ true }
+    requires no_error { emitter.old.error ≡ None }
+    requires nothing { emitter.old.page.output ≡ [] }
+    ensures { (given : given.Settings) → StandsAfter given [] emitter.old → Emits given (map seen_numbered events.items) result emitter.new }
+{
+    let mut last = None;
+    for numbered in events {
+        let line = numbered.line;
+        if let Err(error) = yaml_emitter_emit(emitter, numbered.event) {
+            return run_answer_t::Refused(line, error);
+        }
+        last = Some(line);
+    }
+    match last {
+        Some(line) => flush_last(emitter, line),
+        None => run_answer_t::Done,
+    }
+}
+
+/// Hands out what is left; an error is told with the last event's line.
+fn flush_last<A: Allocator + Copy>(emitter: &mut yaml_emitter_t<A>, line: u64) -> run_answer_t
+    requires output { emitter.old.has_output ≡ true }
+    requires no_error { emitter.old.error ≡ None }
+    ensures { FlushesLast line emitter.old result emitter.new }
+{
+    match yaml_emitter_flush(emitter) {
+        Ok(()) => run_answer_t::Done,
+        Err(error) => run_answer_t::Refused(line, error),
+    }
+}
