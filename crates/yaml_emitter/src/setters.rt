@@ -137,7 +137,8 @@ impl<A: Allocator> yaml_emitter_t<A> {
 
     /// The bytes that were handed out; empty where no output is set.
     pub fn output(&self) -> &[u8]
-        ensures { result.now ≡ self.now.page.output }
+        ensures value { result.now ≡ self.now.page.output }
+        ensures unset { self.now.has_output ≡ false → result.now ≡ [] }
     {
         self.pen.output()
     }
