@@ -1,10 +1,19 @@
 //! Scripts, with what a run of each writes and tells. The expected values were worked out by hand.
 mod bad_lines;
+mod canonical;
+mod collections;
 mod cuts;
 mod devices;
+mod documents;
+mod fronts;
 mod growths;
+mod limits;
+mod places;
+mod refusals;
+mod scalars;
 
 use std::alloc::{AllocError, Global};
+use std::process::Abort;
 use std::test::Fail;
 use yaml_tool::{run, status, write_line};
 
@@ -29,8 +38,38 @@ fn ran(alloc: Global, script: &[u8]) -> Result<Told, Fail> {
     })
 }
 
+// Nothing is refused, and this is written.
+fn check_text(rt: &impl Abort, alloc: Global, script: &str, text: &[u8]) -> Result<(), Fail> {
+    let ran = ran(alloc, script.as_bytes())?;
+    assert_eq!(rt; ran.output.as_slice(), text, "{script:?}");
+    assert_eq!(rt; ran.line.as_slice(), b"".as_slice(), "{script:?}");
+    assert_eq!(rt; ran.status, 0, "{script:?}");
+    Ok(())
+}
+
+/// Scripts or parts of them, each with the text that comes of it.
+type Rows<'a> = &'a [(&'a str, &'a str)];
+
+/// Streams, after these settings.
+fn check_streams(rt: &impl Abort, alloc: Global, settings: &str, rows: Rows) -> Result<(), Fail> {
+    for (stream, text) in rows {
+        let script = format!(in alloc; "{settings}{stream}")?;
+        check_text(rt, alloc, script.as_str(), text.as_bytes())?;
+    }
+    Ok(())
+}
+
+/// Streams of one document, after these settings, by the events of its root.
+fn check_roots(rt: &impl Abort, alloc: Global, settings: &str, rows: Rows) -> Result<(), Fail> {
+    for (root, text) in rows {
+        let script = format!(in alloc; "{settings}+STR any\n+DOC 1 -\n{root}\n-DOC 1\n-STR\n")?;
+        check_text(rt, alloc, script.as_str(), text.as_bytes())?;
+    }
+    Ok(())
+}
+
 /// A stream of one document in canonical mode, without a width.
-fn canonical(
+fn canonical_stream(
     alloc: Global,
     settings: &str,
     encoding: &str,
@@ -47,8 +86,7 @@ const FIRST: &str =
 
 #[test]
 fn whole_streams_are_written(rt: HostRuntime) -> Result<(), Fail> {
-    let alloc = rt.alloc();
-    for (script, output) in [
+    let rows: Rows = &[
         ("", ""),
         ("limit 007", ""),
         (FIRST, "---\n\"a\"\n"),
@@ -70,19 +108,17 @@ fn whole_streams_are_written(rt: HostRuntime) -> Result<(), Fail> {
         ),
         ("+STR utf8\n-STR", ""),
         ("+STR any\n-STR", ""),
-    ] {
-        let ran = ran(alloc, script.as_bytes())?;
-        assert_eq!(rt; ran.output.as_slice(), output.as_bytes(), "{script:?}");
-        assert_eq!(rt; ran.line.as_slice(), b"".as_slice(), "{script:?}");
-        assert_eq!(rt; ran.status, 0, "{script:?}");
-    }
-    Ok(())
+    ];
+    check_streams(&rt, rt.alloc(), "", rows)
 }
 
 #[test]
 fn utf_16_begins_with_a_mark(rt: HostRuntime) -> Result<(), Fail> {
     let alloc = rt.alloc();
-    let big = ran(alloc, canonical(alloc, "", "utf16be", "\"a\"")?.as_bytes())?;
+    let big = ran(
+        alloc,
+        canonical_stream(alloc, "", "utf16be", "\"a\"")?.as_bytes(),
+    )?;
     assert_eq!(rt;
         big.output.as_slice(),
         b"\xFE\xFF\0-\0-\0-\0\n\0\"\0a\0\"\0\n".as_slice()
@@ -90,7 +126,7 @@ fn utf_16_begins_with_a_mark(rt: HostRuntime) -> Result<(), Fail> {
     assert_eq!(rt; big.status, 0);
     let little = ran(
         alloc,
-        canonical(alloc, "unicode on\n", "utf16le", "\"\u{1F600}\"")?.as_bytes(),
+        canonical_stream(alloc, "unicode on\n", "utf16le", "\"\u{1F600}\"")?.as_bytes(),
     )?;
     assert_eq!(rt;
         little.output.as_slice(),
@@ -106,8 +142,8 @@ fn utf_16_begins_with_a_mark(rt: HostRuntime) -> Result<(), Fail> {
 #[test]
 fn refusals_are_told_with_their_line(rt: HostRuntime) -> Result<(), Fail> {
     let alloc = rt.alloc();
-    let limited = canonical(alloc, "limit 4\n", "any", "\"a\"")?;
-    let marked = canonical(alloc, "limit 3\n", "utf16be", "\"a\"")?;
+    let limited = canonical_stream(alloc, "limit 4\n", "any", "\"a\"")?;
+    let marked = canonical_stream(alloc, "limit 3\n", "utf16be", "\"a\"")?;
     for (script, output, line) in [
         (
             limited.as_str(),

@@ -10,10 +10,7 @@ use std::test::Fail;
 use yaml_base::yaml_error_t;
 use yaml_emitter::yaml_emitter_t;
 
-const ENDLESS: Setting = Setting {
-    width: Some(-1),
-    ..UNSET
-};
+const ENDLESS: Setting = Setting { width: -1, ..UNSET };
 
 /// So many collections may be open at once.
 const MOST: usize = 1_000_000;

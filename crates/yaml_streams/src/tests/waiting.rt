@@ -1,17 +1,15 @@
 //! Which events wait, and what is handed out meanwhile.
 use super::streams::Given::{
-    Alias, Anchored, BlockMapping, BlockSequence, Directed, Document, DocumentEnd, FlowMapping,
-    FlowSequence, MappingEnd, Sequence, SequenceEnd, Stream, StreamEnd, Styled, Tagged, Text,
+    Alias, Anchored, AnchoredSequence, BlockMapping, BlockSequence, Directed, Document,
+    DocumentEnd, FlowMapping, FlowSequence, Literal, MappingEnd, SequenceEnd, Stream, StreamEnd,
+    Tagged, Text,
 };
 use super::streams::{Given, event};
 use super::{Setting, UNSET, begun, check_failed, emit_all, flush_if_known, give};
 use std::alloc::Global;
 use std::process::Abort;
 use std::test::Fail;
-use yaml_base::{
-    YAML_FLOW_SEQUENCE_STYLE, YAML_LITERAL_SCALAR_STYLE, YAML_UTF8_ENCODING, YAML_UTF16LE_ENCODING,
-    yaml_error_t,
-};
+use yaml_base::{YAML_UTF8_ENCODING, YAML_UTF16LE_ENCODING, yaml_error_t};
 
 /// An event, the text that its call makes ready, and how many events wait after it.
 type Turns<'a> = &'a [(Given<'a>, &'a str, usize)];
@@ -61,14 +59,10 @@ fn a_flush_hands_out_what_is_ready(rt: HostRuntime) -> Result<(), Fail> {
         (Tagged("tag:e.com,2000:t", "x"), "\n&n a key", 2),
         (FlowMapping, ":\n- !e!t x", 1),
         (Text("k"), "", 2),
-        (Sequence(Some("s"), None, YAML_FLOW_SEQUENCE_STYLE), "", 3),
+        (AnchoredSequence("s"), "", 3),
         (SequenceEnd, "\n- {k: &s []", 0),
         (MappingEnd, "}", 0),
-        (
-            Styled(YAML_LITERAL_SCALAR_STYLE, "a\n\n"),
-            "\n- |+\n  a\n\n",
-            0,
-        ),
+        (Literal("a\n\n"), "\n- |+\n  a\n\n", 0),
         (SequenceEnd, "", 0),
         (Alias("n"), "*n ", 0),
         (BlockMapping, "", 1),
@@ -76,11 +70,7 @@ fn a_flush_hands_out_what_is_ready(rt: HostRuntime) -> Result<(), Fail> {
         (MappingEnd, "", 0),
         (DocumentEnd, "\n", 0),
         (Document, "", 1),
-        (
-            Styled(YAML_LITERAL_SCALAR_STYLE, "b\n\n"),
-            "--- |+\n  b\n\n",
-            0,
-        ),
+        (Literal("b\n\n"), "--- |+\n  b\n\n", 0),
         (DocumentEnd, "", 0),
         (StreamEnd, "...\n", 0),
     ];
@@ -115,7 +105,7 @@ fn an_emit_hands_out_at_the_end_of_a_document(rt: HostRuntime) -> Result<(), Fai
 fn a_flow_sequence_waits_for_two_events(rt: HostRuntime) -> Result<(), Fail> {
     let alloc = rt.alloc();
     let mut emitter = begun(alloc, &UNSET)?;
-    let outer = Sequence(Some("a"), None, YAML_FLOW_SEQUENCE_STYLE);
+    let outer = AnchoredSequence("a");
     let events = [Stream, Document, outer, FlowSequence, Text("x")];
     assert_eq!(rt; emit_all(&rt, alloc, &mut emitter, &events)?, None);
     assert_eq!(rt; flush_if_known(&rt, &mut emitter), Ok(()));
@@ -133,7 +123,7 @@ fn a_canonical_item_is_handed_out_without_its_comma(rt: HostRuntime) -> Result<(
     let alloc = rt.alloc();
     let setting = Setting {
         canonical: true,
-        width: Some(-1),
+        width: -1,
         ..UNSET
     };
     let mut emitter = begun(alloc, &setting)?;

@@ -1,0 +1,209 @@
+//! Events that are refused: with which error, and by which call.
+use super::{Rows, check_streams};
+use std::alloc::Global;
+use std::process::Abort;
+use std::test::Fail;
+use yaml_base::yaml_error_t;
+use yaml_tool::{run, run_answer_t};
+
+/// A script, and the line of the call that is refused, with its error.
+type Refusals<'a> = &'a [(&'a str, u64, yaml_error_t)];
+
+fn check_refusals(rt: &impl Abort, alloc: Global, rows: Refusals) -> Result<(), Fail> {
+    for (script, line, error) in rows {
+        let mut left = script.as_bytes();
+        let mut output: Vec<u8> = Vec::new(alloc);
+        let answer = run(alloc, &mut left, &mut output);
+        assert_eq!(rt; answer, run_answer_t::Refused(*line, *error), "{script:?}");
+        assert!(rt; output.is_empty(), "{script:?}");
+    }
+    Ok(())
+}
+
+// The call that is refused is the one by which the event is written, not the one that brings it.
+#[test]
+fn a_start_that_waits_is_refused_later(rt: HostRuntime) -> Result<(), Fail> {
+    let rows: Refusals = &[
+        (
+            r#"
++DOC 1 -
+=VAL any 1 1 - - "a"
+=VAL any 1 1 - - "a""#,
+            3,
+            yaml_error_t::ExpectedStreamStart,
+        ),
+        (
+            r#"
++STR any
++DOC 1 -
+-SEQ"#,
+            4,
+            yaml_error_t::ExpectedNode,
+        ),
+        (
+            r#"
++STR any
++DOC 1 -
++MAP block 1 - -
+=VAL any 1 1 - - "a"
+-MAP"#,
+            6,
+            yaml_error_t::ExpectedNode,
+        ),
+        (
+            r#"
++STR any
++DOC 1 -
++SEQ block 1 - -
+-MAP"#,
+            5,
+            yaml_error_t::ExpectedNode,
+        ),
+    ];
+    check_refusals(&rt, rt.alloc(), rows)
+}
+
+#[test]
+fn directives_are_refused_in_order(rt: HostRuntime) -> Result<(), Fail> {
+    let rows: Refusals = &[
+        (
+            r#"
++STR any
++DOC 1 1.3 "" "x"
+=VAL any 1 1 - - "a""#,
+            4,
+            yaml_error_t::IncompatibleVersion,
+        ),
+        (
+            r#"
++STR any
++DOC 1 - "" "x"
+=VAL any 1 1 - - "a""#,
+            4,
+            yaml_error_t::TagHandleEmpty,
+        ),
+        (
+            r#"
++STR any
++DOC 1 - "a!" "x"
+=VAL any 1 1 - - "a""#,
+            4,
+            yaml_error_t::TagHandleStart,
+        ),
+        (
+            r#"
++STR any
++DOC 1 - "!a" "x"
+=VAL any 1 1 - - "a""#,
+            4,
+            yaml_error_t::TagHandleEnd,
+        ),
+        (
+            r#"
++STR any
++DOC 1 - "!a.b!" "x"
+=VAL any 1 1 - - "a""#,
+            4,
+            yaml_error_t::TagHandleAlphabet,
+        ),
+        (
+            r#"
++STR any
++DOC 1 - "!e!" ""
+=VAL any 1 1 - - "a""#,
+            4,
+            yaml_error_t::TagPrefixEmpty,
+        ),
+        (
+            r#"
++STR any
++DOC 1 - "!!" "x" "!!" "x"
+=VAL any 1 1 - - "a""#,
+            4,
+            yaml_error_t::DuplicateDirective,
+        ),
+    ];
+    check_refusals(&rt, rt.alloc(), rows)
+}
+
+// Names are looked at before tags, and both before the place.
+#[test]
+fn names_and_tags_are_refused_in_order(rt: HostRuntime) -> Result<(), Fail> {
+    let rows: Refusals = &[
+        (
+            r#"
++STR any
++DOC 1 -
+=VAL any 0 0 "" "" "x""#,
+            4,
+            yaml_error_t::AnchorEmpty,
+        ),
+        (
+            r#"=VAL any 1 1 "a b" - "x""#,
+            1,
+            yaml_error_t::AnchorAlphabet,
+        ),
+        (r#"=ALI """#, 1, yaml_error_t::AliasEmpty),
+        (r#"=ALI "a\u{E9}""#, 1, yaml_error_t::AliasAlphabet),
+        (r#"=VAL any 0 0 - "" "x""#, 1, yaml_error_t::TagEmpty),
+        (
+            r#"
++STR any
++DOC 1 -
+=VAL any 0 0 - "" "x""#,
+            4,
+            yaml_error_t::TagEmpty,
+        ),
+        (
+            r#"
++STR any
++DOC 1 -
++SEQ any 0 - ""
+-SEQ"#,
+            5,
+            yaml_error_t::TagEmpty,
+        ),
+        (
+            r#"
++STR any
++DOC 1 -
+=VAL any 0 0 - - "a""#,
+            4,
+            yaml_error_t::NoTagNorImplicit,
+        ),
+        (
+            r#"
++STR any
+=VAL any 0 0 - - "a""#,
+            3,
+            yaml_error_t::ExpectedDocumentStart,
+        ),
+    ];
+    check_refusals(&rt, rt.alloc(), rows)
+}
+
+// A tag that isn't written isn't looked at; canonical text has every tag.
+#[test]
+fn an_empty_tag_is_refused_where_it_is_written(rt: HostRuntime) -> Result<(), Fail> {
+    let rows: Rows = &[(
+        r#"
++STR any
++DOC 1 -
+=VAL any 1 1 - "" "a"
+-DOC 1
+-STR"#,
+        "a\n",
+    )];
+    check_streams(&rt, rt.alloc(), "", rows)?;
+    let rows: Refusals = &[(
+        r#"canonical on
++STR any
++DOC 1 -
+=VAL any 1 1 - "" "a"
+-DOC 1
+-STR"#,
+        4,
+        yaml_error_t::TagEmpty,
+    )];
+    check_refusals(&rt, rt.alloc(), rows)
+}
