@@ -1,7 +1,7 @@
 //! A caller of the emitter: it knows the public contracts and the definitions, and proves the bytes that it gets.
 #![tactic(auto)]
 
-ghost use Rattle.std.specs.Prelude.{◌≡◌, IfOk, OnOk, true, None, Some, [], codes};
+ghost use Rattle.std.specs.Prelude.{◌≡◌, IfOk, IfErr, OnOk, true, None, Some, [], codes};
 ghost use Rattle.yaml_base.specs.Seen.{seen_text};
 ghost use Rattle.yaml_emitter.specs.StandsAfter.{StandsAfter};
 ghost use Rattle.yaml_caller.specs.Letter.{letter_settings};
@@ -20,6 +20,7 @@ use yaml_emitter::{
 fn canonical_emitter<A: Allocator + Copy>(alloc: A) -> Result<yaml_emitter_t<A>, yaml_error_t>
     ensures stands { IfOk result (λ emitter. StandsAfter letter_settings [] emitter) }
     ensures output { IfOk result (λ emitter. emitter.has_output ≡ true) }
+    ensures memory { IfErr result (λ error. error ≡ yaml_error_t.Memory) }
 {
     let mut emitter = yaml_emitter_initialize(alloc)?;
     yaml_emitter_set_output_string(&mut emitter, 100);
@@ -29,8 +30,12 @@ fn canonical_emitter<A: Allocator + Copy>(alloc: A) -> Result<yaml_emitter_t<A>,
 }
 
 /// The bytes of a stream of one document, whose root is the string `a`, in canonical form.
+///
+/// # Errors
+/// `Memory` where a growth was refused; no other error comes.
 pub fn letter_written<A: Allocator + Copy>(alloc: A) -> Result<Vec<u8, A>, yaml_error_t>
     ensures bytes { IfOk result (λ bytes. bytes.items ≡ codes "---\n\"a\"\n") }
+    ensures memory { IfErr result (λ error. error ≡ yaml_error_t.Memory) }
 {
     let mut emitter = canonical_emitter(alloc)?;
     let value = letter(alloc)?;
@@ -39,7 +44,8 @@ pub fn letter_written<A: Allocator + Copy>(alloc: A) -> Result<Vec<u8, A>, yaml_
 }
 
 fn letter<A: Allocator>(alloc: A) -> Result<String<A>, yaml_error_t>
-    ensures { IfOk result (λ text. seen_text text ≡ codes "a") }
+    ensures letter { IfOk result (λ text. seen_text text ≡ codes "a") }
+    ensures memory { IfErr result (λ error. error ≡ yaml_error_t.Memory) }
 {
     match String::from_str(alloc, "a") {
         Ok(text) => Ok(text),
@@ -48,7 +54,8 @@ fn letter<A: Allocator>(alloc: A) -> Result<String<A>, yaml_error_t>
 }
 
 fn copied<A: Allocator>(alloc: A, bytes: &[u8]) -> Result<Vec<u8, A>, yaml_error_t>
-    ensures { IfOk result (λ copy. copy.items ≡ bytes.now) }
+    ensures bytes { IfOk result (λ copy. copy.items ≡ bytes.now) }
+    ensures memory { IfErr result (λ error. error ≡ yaml_error_t.Memory) }
 {
     let mut copy = Vec::new(alloc);
     copy.extend_from_slice(bytes)
@@ -65,7 +72,8 @@ fn emit_letter<A: Allocator + Copy>(
     requires stands { StandsAfter letter_settings [] emitter.old }
     requires output { emitter.old.has_output ≡ true }
     requires letter { seen_text value ≡ codes "a" }
-    ensures { OnOk result (emitter.new.page.output ≡ codes "---\n\"a\"\n") }
+    ensures bytes { OnOk result (emitter.new.page.output ≡ codes "---\n\"a\"\n") }
+    ensures memory { IfErr result (λ error. error ≡ yaml_error_t.Memory) }
 {
     yaml_emitter_emit(
         emitter,

@@ -1,12 +1,13 @@
-use Rattle.std.proofs.Common.{[], map, subst}
+use Rattle.std.proofs.Common.{[], Err, map, codes, refl, ap, subst}
 use Rattle.yaml_base.specs.Seen.{seen_directive, seen_text}
 use Rattle.yaml_emitter.specs.Promises.{Promised}
 use Rattle.yaml_caller.specs.Letter.{letter_settings}
 use Rattle.yaml_caller.proofs.Written.{events_of, letter_bytes}
+use Rattle.yaml_caller.proofs.OnlyMemory.{call_memory, exit_memory}
 use Rattle.yaml_caller.proofs.emit_letter.Goals as goal
 
-pub returns : goal.returns
-returns g c =
+pub returns-clause-bytes : goal.returns-clause-bytes
+returns-clause-bytes g c =
     let first = c.yaml_emitter_emit.ensures.stands letter_settings [] c.requires.stands in
     let second = c.yaml_emitter_emit-2.ensures.stands letter_settings _ first in
     let third = c.yaml_emitter_emit-3.ensures.stands letter_settings _ second in
@@ -17,3 +18,41 @@ returns g c =
     subst (λ directives. Promised letter_settings (events_of (map seen_directive directives) (seen_text c.args.value)) after) c.new.ensures.items promised in
     letter_bytes c.yaml_emitter_emit-5.result after
     (subst (λ value. Promised letter_settings (events_of [] value) after) c.requires.letter bare) c.yaml_emitter_emit-5.ensures.answered
+
+pub returns-in_err-yaml_emitter_emit-clause-memory : goal.returns-in_err-yaml_emitter_emit-clause-memory
+returns-in_err-yaml_emitter_emit-clause-memory g c =
+    exit_memory c.in_err-yaml_emitter_emit.field-0.0 c.from_residual.result
+    (call_memory 1 [] (codes "a") c.yaml_emitter_emit.new.emitter (Err c.in_err-yaml_emitter_emit.field-0.0) refl refl
+    (c.in_err-yaml_emitter_emit.ensures.promised letter_settings [] c.requires.stands) c.in_err-yaml_emitter_emit.ensures.answered)
+    c.from_residual.ensures
+
+pub returns-in_err-yaml_emitter_emit-3-clause-memory : goal.returns-in_err-yaml_emitter_emit-3-clause-memory
+returns-in_err-yaml_emitter_emit-3-clause-memory g c =
+    let first = c.yaml_emitter_emit.ensures.stands letter_settings [] c.requires.stands in
+    let second = c.yaml_emitter_emit-2.ensures.stands letter_settings _ first in
+    exit_memory c.in_err-yaml_emitter_emit-3.field-0.0 c.from_residual-in_err-yaml_emitter_emit-3.result
+    (call_memory 3 (map seen_directive c.new.result.items) (seen_text c.args.value) c.yaml_emitter_emit-3.new.emitter (Err c.in_err-yaml_emitter_emit-3.field-0.0)
+    (ap (map seen_directive) c.new.ensures.items) c.requires.letter
+    (c.in_err-yaml_emitter_emit-3.ensures.promised letter_settings _ second) c.in_err-yaml_emitter_emit-3.ensures.answered)
+    c.from_residual-in_err-yaml_emitter_emit-3.ensures
+
+pub returns-in_err-yaml_emitter_emit-4-clause-memory : goal.returns-in_err-yaml_emitter_emit-4-clause-memory
+returns-in_err-yaml_emitter_emit-4-clause-memory g c =
+    let first = c.yaml_emitter_emit.ensures.stands letter_settings [] c.requires.stands in
+    let second = c.yaml_emitter_emit-2.ensures.stands letter_settings _ first in
+    let third = c.yaml_emitter_emit-3.ensures.stands letter_settings _ second in
+    exit_memory c.in_err-yaml_emitter_emit-4.field-0.0 c.from_residual-in_err-yaml_emitter_emit-4.result
+    (call_memory 4 (map seen_directive c.new.result.items) (seen_text c.args.value) c.yaml_emitter_emit-4.new.emitter (Err c.in_err-yaml_emitter_emit-4.field-0.0)
+    (ap (map seen_directive) c.new.ensures.items) c.requires.letter
+    (c.in_err-yaml_emitter_emit-4.ensures.promised letter_settings _ third) c.in_err-yaml_emitter_emit-4.ensures.answered)
+    c.from_residual-in_err-yaml_emitter_emit-4.ensures
+
+pub returns-clause-memory : goal.returns-clause-memory
+returns-clause-memory g c =
+    let first = c.yaml_emitter_emit.ensures.stands letter_settings [] c.requires.stands in
+    let second = c.yaml_emitter_emit-2.ensures.stands letter_settings _ first in
+    let third = c.yaml_emitter_emit-3.ensures.stands letter_settings _ second in
+    let fourth = c.yaml_emitter_emit-4.ensures.stands letter_settings _ third in
+    call_memory 5 (map seen_directive c.new.result.items) (seen_text c.args.value) c.yaml_emitter_emit-5.new.emitter c.yaml_emitter_emit-5.result
+    (ap (map seen_directive) c.new.ensures.items) c.requires.letter
+    (c.yaml_emitter_emit-5.ensures.promised letter_settings _ fourth) c.yaml_emitter_emit-5.ensures.answered

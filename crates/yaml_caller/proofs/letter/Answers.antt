@@ -3,5 +3,5 @@ use Rattle.std.specs.Str.{chars}
 use Rattle.yaml_base.proofs.Literals.{chars-literal}
 use Rattle.yaml_caller.proofs.letter.Goals as goal
 
-pub returns-in-Ok : goal.returns-in-Ok
-returns-in-Ok g c = ap chars c.in-Ok.ensures.ok ∙ chars-literal (codes "a") refl
+pub returns-in-Ok-clause-letter : goal.returns-in-Ok-clause-letter
+returns-in-Ok-clause-letter g c = ap chars c.in-Ok.ensures.ok ∙ chars-literal (codes "a") refl

@@ -1,0 +1,125 @@
+-- The stream of one letter is accepted and fits, so that nothing but memory can give out.
+use Rattle.std.proofs.Common.{◌≡◌, refl, sym, ap, ◌∙◌, arith, subst, append_assoc, append-nil}
+use Rattle.std.proofs.lemmas.List.{take-append-drop}
+use Rattle.std.proofs.lemmas.List.Sums.{sum_by-append}
+use Rattle.std.specs.Prelude.{ℕ, ◌+◌, ◌-◌, ◌≤◌, Bool, true, false, cond, ◌&&◌, Option, None, Some, List, [], ◌∷◌, ◌++◌, length, count_by, is_none, codes, Result, Ok, Err, IfErr, IsErr, IsErrAnd, take, drop}
+use Rattle.std.specs.Char.{encode_utf8}
+use Rattle.yaml_base.specs.Errors.{refusal_number}
+use Rattle.yaml_base.specs.Characters.{Text}
+use Rattle.yaml_base.specs.Event.{Event, TagDirective, any_style}
+use Rattle.yaml_base.specs.Grammar.{Stream, no_documents, documents_and, scalar_node}
+use Rattle.yaml_base.specs.Refusal.{IsAccepted, refusal, begins_collection, ends_collection, open_count, most_open}
+use Rattle.yaml_base.specs.Output.{output_of}
+use Rattle.yaml_base.specs.declared.errors.yaml_error_t.{yaml_error_t}
+use Rattle.yaml_base.specs.declared.errors.yaml_error_t.TheVariants.{WriteError, Memory}
+use Rattle.yaml_pen.specs.Page.{told}
+use Rattle.yaml_emitter.specs.State.{State}
+use Rattle.yaml_emitter.specs.Promises.{Promised, RefusedAt, FillsLimit}
+use Rattle.yaml_caller.specs.Letter.{letter_settings, letter_events}
+use Rattle.yaml_caller.proofs.Written.{events_of}
+
+-- each of some events, after those before it, is refused nowhere
+abbrev unrefused : (before events : List Event) → Bool
+unrefused before [] = true
+unrefused before (event ∷ events) = is_none (refusal true before event) && unrefused (before ++ event ∷ []) events
+
+and_left : (a b : Bool) → a && b ≡ true → a ≡ true
+and_left true b h = refl
+and_left false b h = h
+
+and_right : (a b : Bool) → a && b ≡ true → b ≡ true
+and_right true b h = h
+and_right false b h = cc
+
+none_so : (o : Option ℕ) → is_none o ≡ true → o ≡ None
+none_so None h = refl
+none_so (Some n) h = cc
+
+no_refusal : (before front : List Event) (event : Event) (later : List Event) → unrefused before (front ++ event ∷ later) ≡ true → refusal true (before ++ front) event ≡ None
+no_refusal before [] event later none =
+    ap (λ events. refusal true events event) (append-nil before)
+    ∙ none_so (refusal true before event) (and_left (is_none (refusal true before event)) (unrefused (before ++ event ∷ []) later) none)
+no_refusal before (first ∷ front) event later none =
+    ap (λ events. refusal true events event) (sym (append_assoc before (first ∷ []) front))
+    ∙ no_refusal (before ++ first ∷ []) front event later
+    (and_right (is_none (refusal true before first)) (unrefused (before ++ first ∷ []) (front ++ event ∷ later)) none)
+
+none_refused : unrefused [] letter_events ≡ true
+none_refused = refl
+
+-- no event that begins the stream is refused
+never_refused : (all rest : List Event) (error : yaml_error_t) (state : State) → all ++ rest ≡ letter_events → RefusedAt letter_settings all error state → ⊥
+never_refused all rest error state begins refused =
+    let whole : refused.front ++ refused.event ∷ (refused.later ++ rest) ≡ letter_events =
+    sym (append_assoc refused.front (refused.event ∷ refused.later) rest) ∙ ap (λ events. events ++ rest) refused.parts ∙ begins in
+    let none = no_refusal [] refused.front refused.event (refused.later ++ rest) (ap (unrefused []) whole ∙ none_refused) in
+    some_none (refusal_number error) (sym refused.refusal ∙ none)
+  where
+    some_none : (n : ℕ) → Some n ≡ None → ⊥
+    some_none n h = cc
+
+abbrev letter_stream : Stream
+letter_stream =
+    record {
+      encoding = None;
+      documents =
+          documents_and no_documents
+          (record {
+            start = record { version = None; directives = []; implicit = true };
+            root = scalar_node (record { anchor = None; tag = None; value = codes "a"; plain_implicit = true; quoted_implicit = true; style = any_style });
+            end_implicit = true;
+          });
+    }
+
+shallow : (front rest : List Event) → front ++ rest ≡ letter_events → open_count front ≤ most_open
+shallow front rest is =
+    let none : count_by begins_collection front + count_by begins_collection rest ≡ 0 =
+    sym (sum_by-append (λ x. cond (begins_collection x) 1 0) front rest) ∙ ap (count_by begins_collection) is in
+    bounded most_open (count_by begins_collection front) (count_by ends_collection front) (count_by begins_collection rest) none
+  where
+    bounded : (most starts ends others : ℕ) → starts + others ≡ 0 → starts - ends ≤ most
+    bounded most starts ends others h = omega (arith, h)
+
+accepted : IsAccepted true letter_events
+accepted = record { stream = letter_stream; is_stream = refl; sound = refl; shallow = shallow }
+
+row : length (output_of letter_settings letter_events) ≡ 8
+unfolding encode_utf8
+row = refl
+
+-- the stream's bytes don't pass the limit
+never_full : (all rest : List Event) (state : State) → all ++ rest ≡ letter_events → FillsLimit letter_settings all state → ⊥
+never_full all rest state begins filled =
+    let output = filled.output rest (subst (IsAccepted true) (sym begins) accepted) in
+    not_so (sym filled.full ∙ ap length output ∙ ap (λ events. length (output_of letter_settings events)) begins ∙ row)
+  where
+    not_so : ◌≡◌ {A = ℕ} 100 8 → ⊥
+    not_so h = cc
+
+-- where an emitter stands after a front of the stream, its error is want of memory
+only_memory : (all rest : List Event) (state : State) (error : yaml_error_t) → all ++ rest ≡ letter_events → Promised letter_settings all state → state.error ≡ Some error → error ≡ Memory
+only_memory all rest state WriteError begins promised is = absurd (never_full all rest state begins (promised.full is))
+only_memory all rest state Memory begins promised is = refl
+only_memory all rest state error begins promised is = absurd (never_refused all rest error state begins (promised.refused error is tt))
+
+failed : (error : yaml_error_t) (state : State) → Err error ≡ told state.error → state.error ≡ Some error
+failed error state is = by state.error is
+  where
+    by : (given : Option yaml_error_t) → Err error ≡ told given → given ≡ Some error
+    by None is = cc
+    by (Some other) is = cc
+
+-- what a call answers that has given so many of the events
+pub call_memory : (count : ℕ) (directives : List TagDirective) (value : Text) (state : State) (answer : Result (Unit {0}) yaml_error_t) → directives ≡ [] → value ≡ codes "a"
+    → Promised letter_settings (take count (events_of directives value)) state → answer ≡ told state.error → IfErr answer (λ error. error ≡ Memory)
+call_memory count directives value state (Ok _) none letter promised is = tt
+call_memory count directives value state (Err error) none letter promised is =
+    only_memory (take count (events_of directives value)) (drop count (events_of directives value)) state error
+    (take-append-drop count (events_of directives value) ∙ ap (λ given. events_of given value) none ∙ ap (events_of []) letter)
+    promised (failed error state is)
+
+-- what is passed on
+pub exit_memory : (error : yaml_error_t) (answer : Result (Unit {0}) yaml_error_t) → error ≡ Memory → IsErr answer × IsErrAnd answer (λ given. given ≡ error)
+    → IfErr answer (λ given. given ≡ Memory)
+exit_memory error (Ok _) memory is = tt
+exit_memory error (Err given) memory is = is.1 ∙ memory
