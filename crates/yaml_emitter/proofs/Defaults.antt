@@ -1,13 +1,13 @@
 -- Adding both defaults in turn gives the directives in force.
-use Rattle.std.proofs.Common.{◌≡◌, Bool, true, false, not, List, [], ◌∷◌, ◌++◌, refl, sym, ap, ◌∙◌, append_assoc, append-nil, codes, bytes_eq, ℕ, Result, Ok, Err, OnOk}
-use Rattle.std.specs.Prelude.{if◌then◌else◌}
+use Rattle.std.proofs.Common.{◌≡◌, Bool, true, false, not, List, [], ◌∷◌, ◌++◌, refl, sym, ap, ◌∙◌, append_assoc, append-nil, codes, bytes_eq, ℕ, Result, Ok, Err, OnOk, Some}
+use Rattle.std.specs.Prelude.{if◌then◌else◌, length, slice_get}
 use Rattle.std.specs.List.{list_any}
 use Rattle.std.specs.Str.{chars}
 use Rattle.yaml_base.specs.declared.errors.yaml_error_t.{yaml_error_t}
 use Rattle.std.proofs.Math.Bool.{or-false}
 use Rattle.std.proofs.lemmas.List.Folds.{list_any-append}
 use Rattle.yaml_base.specs.Event.{TagDirective}
-use Rattle.yaml_base.specs.Tags.{gives_handle, directives_in_force}
+use Rattle.yaml_base.specs.Tags.{gives_handle, default_directives, directives_in_force}
 use Rattle.yaml_emitter.specs.InForce.{with_default}
 
 abbrev pub own_default : TagDirective
@@ -71,3 +71,16 @@ defaults_added own middle last (Ok _) first second =
     ∙ ap (λ list. with_default list yaml_default) (first ∙ ap (with_default own) own_default_read)
     ∙ both_defaults own
 defaults_added own middle last (Err _) first second = second
+
+-- a list of just both is theirs
+pub two_defaults : (list : List TagDirective) → length list ≡ 2 → slice_get list 0 ≡ Some (of_bytes (codes "!") (codes "!"))
+    → slice_get list 1 ≡ Some (of_bytes (codes "!!") (codes "tag:yaml.org,2002:")) → list ≡ default_directives
+two_defaults [] count first second = cc
+two_defaults (a ∷ []) count first second = cc
+two_defaults (a ∷ b ∷ []) count first second =
+    ap (λ (d : TagDirective). d ∷ b ∷ []) (some_is a (of_bytes (codes "!") (codes "!")) first ∙ own_default_read)
+    ∙ ap (λ (d : TagDirective). own_default ∷ d ∷ []) (some_is b (of_bytes (codes "!!") (codes "tag:yaml.org,2002:")) second ∙ yaml_default_read)
+  where
+    some_is : (x y : TagDirective) → Some x ≡ Some y → x ≡ y
+    some_is x y h = cc
+two_defaults (a ∷ b ∷ c ∷ more) count first second = cc

@@ -1,5 +1,5 @@
 -- What an emitter keeps true, after a call that writes.
-use Rattle.std.proofs.Common.{◌≡◌, true, false, None, Result, List, [], sym, ap, subst, ◌∙◌}
+use Rattle.std.proofs.Common.{◌≡◌, Bool, refl, true, false, None, Result, List, [], sym, ap, subst, ◌∙◌}
 use Rattle.std.specs.Prelude.{IsSome, if◌then◌else◌}
 use Rattle.yaml_base.specs.Steps.{Frame, Stage, at_stream, at_document, at_node, at_document_end, at_nothing}
 use Rattle.yaml_base.specs.declared.errors.yaml_error_t.{yaml_error_t}
@@ -11,6 +11,7 @@ use Rattle.yaml_emitter.specs.Signs.{some_handle_breaks}
 use Rattle.yaml_emitter.specs.Stages.{seen_stage}
 use Rattle.yaml_emitter.specs.Inside.{IsEmitter, state_of}
 use Rattle.yaml_emitter.specs.declared.stage.Stage as stage
+use Rattle.yaml_emitter.specs.declared.stage.Stage.TheVariants.{Stream, Document, Node, DocumentEnd, Nothing}
 use Rattle.yaml_emitter.specs.declared.writing.marks.OpenMark.{OpenMark}
 use Rattle.yaml_emitter.specs.declared.emitter.yaml_emitter_t.TheInside.{Inside}
 
@@ -45,6 +46,35 @@ kept_beginning e pen after directives frames mark kept output handles fits =
       handles = handles;
       canonical = kept.canonical;
       page = fits;
+    }
+
+-- more room for what is open changes nothing that is seen
+pub kept_with_room : {A : Type 0} (e : Inside A) (frames : List Frame) → frames ≡ e.frames → IsEmitter e → IsEmitter (record e { frames = frames })
+kept_with_room e frames same kept = subst (λ (f : List Frame). IsEmitter (record e { frames = f })) (sym same) kept
+
+pub seen_with_room : {A : Type 0} (e : Inside A) (frames : List Frame) → frames ≡ e.frames → state_of (record e { frames = frames }) ≡ state_of e
+seen_with_room e frames same = ap (λ (f : List Frame). state_of (record e { frames = f })) same
+
+-- between documents no directives are seen
+unseen : (st : stage.Stage) (before after : List TagDirective) (frames : List Frame) (first : Bool) → seen_stage st before frames ≡ at_document first → seen_stage st after frames ≡ seen_stage st before frames
+unseen Stream before after frames first at = refl
+unseen (Document other) before after frames first at = refl
+unseen Node before after frames first at = cc
+unseen DocumentEnd before after frames first at = refl
+unseen Nothing before after frames first at = refl
+
+pub seen_without : {A : Type 0} (e : Inside A) (directives : List TagDirective) (first : Bool) → (state_of e).stage ≡ at_document first → state_of (record e { directives = directives }) ≡ state_of e
+seen_without e directives first at = ap (λ (st : Stage). record (state_of e) { stage = st }) (unseen e.stage e.directives directives e.frames first at)
+
+pub kept_without : {A : Type 0} (e : Inside A) (directives : List TagDirective) (first : Bool) → directives ≡ [] → (state_of e).stage ≡ at_document first → IsEmitter e → IsEmitter (record e { directives = directives })
+kept_without e directives first none at kept =
+    record {
+      in_force = kept.in_force;
+      room = kept.room;
+      untouched = kept.untouched;
+      handles = ap some_handle_breaks none;
+      canonical = kept.canonical;
+      page = subst (λ (st : Stage). FitsPage st e.pen) (sym (unseen e.stage e.directives directives e.frames first at)) kept.page;
     }
 
 -- what is seen of an emitter, of its fields

@@ -10,14 +10,9 @@ use Rattle.yaml_base.specs.declared.errors.yaml_error_t.TheVariants.{WriteError,
 use Rattle.yaml_pen.specs.Page.{told, encoded}
 use Rattle.yaml_pen.specs.Wrote.{Wrote}
 use Rattle.yaml_emitter.specs.State.{State, standing_of}
+use Rattle.yaml_emitter.specs.Promises.{IsRefusal}
 use Rattle.yaml_emitter.specs.Processing.{Processed, CutShort, Keeps, WritesPage, refusal_now, event_laid, event_stepped, hands_out}
 use Rattle.yaml_emitter.specs.WrittenPieces.{piece_at}
-
--- a refusal's error: neither the output's limit nor memory
-abbrev pub IsRefusal : yaml_error_t → Type 0
-IsRefusal WriteError = ⊥
-IsRefusal Memory = ⊥
-IsRefusal _ = Unit {0}
 
 -- a refused event changes nothing
 pub processed_refused : (event : Event) (empty : Bool) (state : State) (error : yaml_error_t) → IsRefusal error

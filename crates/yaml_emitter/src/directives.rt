@@ -1,11 +1,11 @@
 //! The directives of a document, as it begins.
 
 ghost use Rattle.std.specs.Option.{option_or};
-ghost use Rattle.std.specs.Prelude.{Some, IfOk, option_map, option_and_then, ◌≡◌, ◌≢◌, [], ◌∷◌, ◌++◌, chars, map, Err, IfErr, OnOk};
+ghost use Rattle.std.specs.Prelude.{Some, IfOk, option_map, option_and_then, ◌≡◌, ◌≢◌, [], ◌∷◌, ◌++◌, chars, map, Err, IfErr, OnOk, true};
 ghost use Rattle.yaml_base.specs.Errors.{refused};
 ghost use Rattle.yaml_base.specs.Seen.{seen_directive, seen_version};
 ghost use Rattle.yaml_emitter.specs.InForce.{with_default};
-ghost use Rattle.yaml_base.specs.Tags.{directives_fault, directives_in_force, next_directive_fault, version_fault};
+ghost use Rattle.yaml_base.specs.Tags.{default_directives, directives_fault, directives_in_force, next_directive_fault, version_fault};
 
 use std::alloc::Allocator;
 use yaml_base::{yaml_error_t, yaml_tag_directive_t, yaml_version_directive_t};
@@ -83,6 +83,51 @@ pub(crate) fn directives_for<A: Allocator + Copy>(
     read_directives(own, &mut directives)?;
     add_defaults(alloc, &mut directives)?;
     Ok(directives)
+}
+
+/// The same, after a document with the directives before: they are kept where both are the defaults alone.
+pub(crate) fn next_directives<A: Allocator + Copy>(
+    alloc: A,
+    before: Directives<A>,
+    version: Option<yaml_version_directive_t>,
+    own: &[yaml_tag_directive_t<A>],
+) -> Result<Directives<A>, yaml_error_t>
+    ensures refusal { refused result ≢ Some 21
+        → refused result
+        ≡ option_or (option_and_then version_fault (option_map seen_version version)) (directives_fault (map seen_directive own.now)) }
+    ensures in_force { IfOk result (λ directives. directives ≡ directives_in_force (map seen_directive own.now)) }
+{
+    if !own.is_empty() || !are_defaults(&before) {
+        return directives_for(alloc, version, own);
+    }
+    check_version(version)?;
+    Ok(before)
+}
+
+/// The two defaults and no others.
+fn are_defaults<A: Allocator>(directives: &Directives<A>) -> bool
+    ensures { result ≡ true → directives.now ≡ default_directives }
+{
+    if directives.len() != 2 {
+        return false;
+    }
+    gives(directives.get(0), "!", "!") && gives(directives.get(1), "!!", "tag:yaml.org,2002:")
+}
+
+/// This prefix for this handle.
+fn gives<A: Allocator>(
+    directive: Option<&yaml_tag_directive_t<A>>,
+    handle: &str,
+    prefix: &str,
+) -> bool
+    ensures { result ≡ true → option_map (λ d. seen_directive d.now) directive.entry ≡ Some (record { handle = chars handle.now; prefix = chars prefix.now }) }
+{
+    match directive {
+        Some(directive) => {
+            directive.handle.as_str() == handle && directive.prefix.as_str() == prefix
+        }
+        None => false,
+    }
 }
 
 fn check_version(version: Option<yaml_version_directive_t>) -> Result<(), yaml_error_t>

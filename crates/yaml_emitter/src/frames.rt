@@ -95,6 +95,17 @@ impl<A: Allocator> Frames<A> {
         }
     }
 
+    /// Room for one more collection, where one more may be opened.
+    pub(crate) fn make_room(&mut self) -> Result<(), yaml_error_t>
+        ensures frames { self.new ≡ self.old }
+        ensures memory { IfErr result (λ e. e ≡ yaml_error_t.Memory) }
+    {
+        if self.innermost.is_none() || self.is_full() {
+            return Ok(());
+        }
+        self.outer.reserve(1).map_err(|_| yaml_error_t::Memory)
+    }
+
     /// Opens a collection within the innermost one.
     pub(crate) fn push(&mut self, frame: Frame) -> Result<(), yaml_error_t>
         requires column { line_column (seen_frame frame).place.column ≤ 9 * (length self.old + 1) }

@@ -126,7 +126,24 @@ impl<A: Allocator + Copy> yaml_emitter_t<A> {
         Ok(())
     }
 
+    /// Memory for what is open is asked for first: where it is refused, nothing of the start is written.
     fn start_collection(
+        &mut self,
+        content: &CollectionContent,
+        mapping: bool,
+        flow_asked: bool,
+        empty: bool,
+    ) -> Result<(), yaml_error_t>
+        requires output { self.old.has_output ≡ true }
+        requires stage { is_at_node self.old.stage ≡ true }
+        requires names { name_or_tag_fault self.old.given.canonical (start_event mapping (seen_collection content.now any_layout)) ≡ None }
+        ensures { (style : CollectionStyle) → asks_flow style ≡ flow_asked → Processed (start_event mapping (seen_collection content.now style)) empty self.old self.new result }
+    {
+        self.frames.make_room()?;
+        self.open_collection(content, mapping, flow_asked, empty)
+    }
+
+    fn open_collection(
         &mut self,
         content: &CollectionContent,
         mapping: bool,

@@ -12,16 +12,18 @@ ghost use Rattle.yaml_pen.specs.Wrote.{Wrote};
 ghost use Rattle.yaml_emitter.specs.Processing.{Processed};
 ghost use Rattle.yaml_emitter.specs.WrittenPieces.{piece_at, seen_mark};
 
-use crate::directives::directives_for;
+use crate::directives::next_directives;
 use crate::emitter::yaml_emitter_t;
 use crate::stage::Stage;
 use crate::writing::{OpenMark, write_document_end, write_document_start, write_stream_end};
 use std::alloc::Allocator;
+use std::mem;
 use yaml_base::{
     YAML_DOCUMENT_END_EVENT, YAML_DOCUMENT_START_EVENT, YAML_STREAM_END_EVENT,
     YAML_STREAM_START_EVENT, yaml_break_t, yaml_encoding_t, yaml_error_t, yaml_event_t,
     yaml_tag_directive_t, yaml_version_directive_t,
 };
+use yaml_mark::Directives;
 use yaml_pen::Pen;
 
 impl<A: Allocator + Copy> yaml_emitter_t<A> {
@@ -124,7 +126,8 @@ impl<A: Allocator + Copy> yaml_emitter_t<A> {
             (document_start (record { version = option_map seen_version version; directives = map seen_directive own.now; implicit = implicit }))
             empty self.old self.new result }
     {
-        let directives = directives_for(self.alloc, version, own)?;
+        let before = mem::replace(&mut self.directives, Directives::new(self.alloc));
+        let directives = next_directives(self.alloc, before, version, own)?;
         write_document_start(
             &mut self.pen,
             self.settings.canonical,

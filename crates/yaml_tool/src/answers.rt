@@ -1,5 +1,5 @@
 //! How a run ends, and what is told of it.
-ghost use Rattle.std.specs.Prelude.{◌≡◌};
+ghost use Rattle.std.specs.Prelude.{◌≡◌, IsOk, None};
 ghost use Rattle.yaml_tool.specs.Answers.{status_of};
 
 use std::io;
@@ -51,7 +51,9 @@ enum Fault {
     NoMemory,
 }
 
-fn fault_of(answer: &run_answer_t) -> Option<Fault> {
+fn fault_of(answer: &run_answer_t) -> Option<Fault>
+    ensures { answer.now ≡ run_answer_t.Done → result ≡ None }
+{
     match answer {
         run_answer_t::Done => None,
         run_answer_t::Refused(line, error) => Some(Fault::Refused(*line, *error)),
@@ -63,7 +65,9 @@ fn fault_of(answer: &run_answer_t) -> Option<Fault> {
 }
 
 /// Writes what went wrong and a line break; nothing where the run is done. Answers as the writer did.
-pub fn write_line<W: Write>(answer: &run_answer_t, writer: &mut W) -> io::Result<()> {
+pub fn write_line<W: Write>(answer: &run_answer_t, writer: &mut W) -> io::Result<()>
+    ensures done { answer.now ≡ run_answer_t.Done → IsOk result × (W.contents writer.new ≡ W.contents writer.old) }
+{
     match fault_of(answer) {
         Some(fault) => writeln!(writer, "{fault}"),
         None => Ok(()),

@@ -1,82 +1,31 @@
-use Rattle.std.specs.Prelude.{length, nat_lt}
-use Rattle.yaml_base.specs.Event.{any_layout}
-use Rattle.yaml_base.specs.Refusal.{most_open}
+use Rattle.std.proofs.Common.{Err, refl, sym, subst, ◌∙◌}
 use Rattle.yaml_base.specs.declared.errors.yaml_error_t.TheVariants.{Memory}
 use Rattle.yaml_emitter.specs.BorrowedTexts.{seen_collection}
-use Rattle.yaml_emitter.specs.Inside.{state_of}
 use Rattle.yaml_emitter.specs.NodeEvents.{start_event}
-use Rattle.yaml_emitter.specs.Places.{seen_frame, seen_place}
-use Rattle.yaml_emitter.specs.Stages.{seen_stage}
-use Rattle.yaml_emitter.proofs.KeptInside.{has_output_inside}
-use Rattle.yaml_emitter.proofs.ProcessedBy.{exit_by_memory, processed_exit}
-use Rattle.yaml_emitter.proofs.NodesDone.{at_node_inside, seen_at_node, kept_at_node, names_inside, of_any_style, collection_anchor, room_here, full_here, pushed_at_node, start_refused, start_cut, start_unkept, start_written}
+use Rattle.yaml_emitter.specs.Processing.{Processed}
+use Rattle.yaml_emitter.specs.State.{State}
+use Rattle.yaml_emitter.proofs.KeptInside.{kept_with_room, seen_with_room}
+use Rattle.yaml_emitter.proofs.ProcessedBy.{exit_by_memory, processed_exit, processed_unwritten}
 use Rattle.yaml_emitter.proofs.emitter.yaml_emitter_t.start_collection.Goals as goal
 
-pub returns-then-is_full : goal.returns-then-is_full
-returns-then-is_full g c = λ style asked.
-    rw (← c.self.view_is)
-    (start_refused (state_of c.self.inside) c.self.inside.directives c.self.inside.frames c.args.mapping (seen_collection c.args.content.now style) c.args.empty
-    (seen_at_node c.self.inside (at_node_inside c.self.inside c.self.view_is c.requires.stage))
-    (of_any_style c.self.inside.given.canonical c.args.mapping (seen_collection c.args.content.now any_layout) style
-    (names_inside c.self.inside c.self.view_is (start_event c.args.mapping (seen_collection c.args.content.now any_layout)) c.requires.names))
-    (full_here (nat_lt (length c.self.inside.frames) most_open) c.is_full.result c.is_full.ensures c.if-is_full.true))
-
-pub write_collection_start-requires-clause-anchor : goal.write_collection_start-requires-clause-anchor
-write_collection_start-requires-clause-anchor g c = collection_anchor c.args.self.now.given.canonical c.args.mapping (seen_collection c.args.content.now any_layout) c.requires.names
-
 pub invariant_of-self : goal.invariant_of-self
-invariant_of-self g c =
-    kept_at_node c.self.inside c.write_collection_start.new.pen c.self.inside.frames c.self.inside.mark c.self.invariant
-    (has_output_inside c.self.inside c.self.view_is c.requires.output)
-    (at_node_inside c.self.inside c.self.view_is c.requires.stage) (c.write_collection_start.ensures any_layout 0).ready
+invariant_of-self g c = kept_with_room c.self.inside c.make_room.new.self c.make_room.ensures.frames c.self.invariant
 
-pub returns-in_err-write_collection_start : goal.returns-in_err-write_collection_start
-returns-in_err-write_collection_start g c = λ style asked.
-    rw (← c.self.view_is)
-    (processed_exit (start_event c.args.mapping (seen_collection c.args.content.now style)) c.args.empty (state_of c.self.inside) _ c.in_err-write_collection_start.field-0.0 c.from_residual.result c.from_residual.ensures
-    (start_cut (state_of c.self.inside) c.self.inside.directives c.self.inside.frames c.args.mapping (seen_collection c.args.content.now style) c.args.empty c.is_simple_collection_key-simple.result (seen_place c.next_place-place.result) c.write_collection_start.new.pen c.in_err-write_collection_start.field-0.0
-    (seen_at_node c.self.inside (at_node_inside c.self.inside c.self.view_is c.requires.stage))
-    (of_any_style c.self.inside.given.canonical c.args.mapping (seen_collection c.args.content.now any_layout) style
-    (names_inside c.self.inside c.self.view_is (start_event c.args.mapping (seen_collection c.args.content.now any_layout)) c.requires.names))
-    (room_here (nat_lt (length c.self.inside.frames) most_open) c.is_full.result c.is_full.ensures c.if-is_full.false)
-    c.next_place-place.ensures.place (c.is_simple_collection_key-simple.ensures style)
-    (c.in_err-write_collection_start.ensures style (state_of c.self.inside).mark)))
-
-pub invariant_of-self-in_err-push : goal.invariant_of-self-in_err-push
-invariant_of-self-in_err-push g c =
-    kept_at_node c.self.inside c.write_collection_start.new.pen c.push.new.self c.self.inside.mark c.self.invariant
-    (has_output_inside c.self.inside c.self.view_is c.requires.output)
-    (at_node_inside c.self.inside c.self.view_is c.requires.stage) (c.write_collection_start.ensures any_layout 0).ready
-
-pub returns-in_err-push : goal.returns-in_err-push
-returns-in_err-push g c = λ style asked.
-    rw (← c.self.view_is)
-    (processed_exit (start_event c.args.mapping (seen_collection c.args.content.now style)) c.args.empty (state_of c.self.inside) _ Memory c.from_residual-in_err-push.result
-    (exit_by_memory c.in_err-push.field-0.0 c.from_residual-in_err-push.result c.in_err-push.ensures.memory c.from_residual-in_err-push.ensures)
-    (start_unkept (state_of c.self.inside) c.self.inside.directives c.self.inside.frames c.args.mapping (seen_collection c.args.content.now style) c.args.empty c.is_simple_collection_key-simple.result (seen_place c.next_place-place.result) (seen_stage c.self.inside.stage c.self.inside.directives c.push.new.self) c.write_collection_start.new.pen
-    (seen_at_node c.self.inside (at_node_inside c.self.inside c.self.view_is c.requires.stage))
-    (of_any_style c.self.inside.given.canonical c.args.mapping (seen_collection c.args.content.now any_layout) style
-    (names_inside c.self.inside c.self.view_is (start_event c.args.mapping (seen_collection c.args.content.now any_layout)) c.requires.names))
-    (room_here (nat_lt (length c.self.inside.frames) most_open) c.is_full.result c.is_full.ensures c.if-is_full.false)
-    c.next_place-place.ensures.place (c.is_simple_collection_key-simple.ensures style)
-    (c.in_ok-write_collection_start.ensures style (state_of c.self.inside).mark)))
+pub returns-in_err-make_room : goal.returns-in_err-make_room
+returns-in_err-make_room g c = λ style asked.
+    let event = start_event c.args.mapping (seen_collection c.args.content.now style) in
+    let same = seen_with_room c.self.inside c.make_room.new.self c.in_err-make_room.ensures.frames ∙ c.self.view_is in
+    processed_exit event c.args.empty c.args.self.now _ Memory c.from_residual.result
+    (exit_by_memory c.in_err-make_room.field-0.0 c.from_residual.result c.in_err-make_room.ensures.memory c.from_residual.ensures)
+    (subst (λ (s : State). Processed event c.args.empty c.args.self.now s (Err Memory)) (sym same)
+    (processed_unwritten event c.args.empty c.args.self.now c.args.self.now refl refl refl))
 
 pub invariant_of-self-2 : goal.invariant_of-self-2
-invariant_of-self-2 g c =
-    kept_at_node c.self.inside c.write_collection_start.new.pen c.push.new.self c.self.inside.mark c.self.invariant
-    (has_output_inside c.self.inside c.self.view_is c.requires.output)
-    (at_node_inside c.self.inside c.self.view_is c.requires.stage) (c.write_collection_start.ensures any_layout 0).ready
+invariant_of-self-2 g c = kept_with_room c.self.inside c.make_room.new.self c.make_room.ensures.frames c.self.invariant
 
 pub returns : goal.returns
 returns g c = λ style asked.
-    rw (← c.self.view_is)
-    (start_written (state_of c.self.inside) c.self.inside.directives c.self.inside.frames c.args.mapping (seen_collection c.args.content.now style) c.args.empty c.is_simple_collection_key-simple.result c.is_written_in_flow-in_flow.result (seen_place c.next_place-place.result) (seen_frame c.opened_frame-frame.result) _ c.write_collection_start.new.pen
-    (seen_at_node c.self.inside (at_node_inside c.self.inside c.self.view_is c.requires.stage))
-    (of_any_style c.self.inside.given.canonical c.args.mapping (seen_collection c.args.content.now any_layout) style
-    (names_inside c.self.inside c.self.view_is (start_event c.args.mapping (seen_collection c.args.content.now any_layout)) c.requires.names))
-    (room_here (nat_lt (length c.self.inside.frames) most_open) c.is_full.result c.is_full.ensures c.if-is_full.false)
-    c.next_place-place.ensures.place (c.is_simple_collection_key-simple.ensures style)
-    (c.is_written_in_flow-in_flow.ensures (seen_collection c.args.content.now style) asked)
-    c.opened_frame-frame.ensures.frame
-    (pushed_at_node c.self.inside c.push.new.self (seen_frame c.opened_frame-frame.result) (at_node_inside c.self.inside c.self.view_is c.requires.stage) c.in_ok-push.ensures.ok)
-    (c.in_ok-write_collection_start.ensures style (state_of c.self.inside).mark))
+    let event = start_event c.args.mapping (seen_collection c.args.content.now style) in
+    let same = seen_with_room c.self.inside c.make_room.new.self c.in_ok-make_room.ensures.frames ∙ c.self.view_is in
+    subst (λ (s : State). Processed event c.args.empty s c.open_collection.new.self c.open_collection.result) same
+    (c.open_collection.ensures style asked)
