@@ -10,7 +10,7 @@ use std::alloc::{AllocError, Allocator, Global};
 use std::process::Abort;
 use std::test::Fail;
 use yaml_base::{YAML_UTF16LE_ENCODING, yaml_error_t};
-use yaml_emitter::yaml_emitter_t;
+use yaml_emitter::{yaml_emitter_delete, yaml_emitter_t};
 
 type Blocks<'a> = Vec<Vec<u8, &'a LocalHeap>>;
 
@@ -188,6 +188,24 @@ fn a_new_emitter_needs_room_for_its_buffer(rt: HostRuntime) -> Result<(), Fail> 
         }
     }
     assert!(rt; made);
+    Ok(())
+}
+
+// The heap has room for one emitter, and not for two.
+#[test]
+fn a_deleted_emitter_leaves_room_for_another(rt: HostRuntime) -> Result<(), Fail> {
+    let heap = LocalHeap::new(rt.alloc(), 30_000)?;
+    for _ in 0..100 {
+        let mut emitter = begun(&heap, &UNSET)?;
+        for given in [Stream, Document, Text("a")] {
+            assert_eq!(rt; give(&rt, &mut emitter, event(&heap, &given)?), Ok(()));
+        }
+        match begun(&heap, &UNSET) {
+            Ok(_) => assert!(rt; false),
+            Err(error) => assert_eq!(rt; error, yaml_error_t::Memory),
+        }
+        yaml_emitter_delete(emitter);
+    }
     Ok(())
 }
 
