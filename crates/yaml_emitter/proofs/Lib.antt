@@ -39,3 +39,5 @@ pub mod Emitting
 pub mod StandingSet
 pub mod SeenTexts
 pub mod Promising
+pub mod KeepsSet
+pub mod StandingMarked

@@ -58,3 +58,11 @@ is_at_stream _ = false
 -- the encoding is known once it was set, or the stream has begun
 abbrev pub knows_encoding : State → Bool
 knows_encoding state = is_some state.given.encoding || not (is_at_stream state.stage)
+
+-- what the caller set stays: the settings, the output, and whether the stream was begun, opened and closed
+pub record KeepsSet (before after : State) : Type 0 where
+  pub given : after.given ≡ before.given
+  pub started : after.started ≡ before.started
+  pub has_output : after.has_output ≡ before.has_output
+  pub opened : after.opened ≡ before.opened
+  pub closed : after.closed ≡ before.closed

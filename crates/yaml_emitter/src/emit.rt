@@ -10,6 +10,7 @@ ghost use Rattle.yaml_emitter.specs.Promises.{HasAllBytes, Promised};
 ghost use Rattle.yaml_emitter.specs.Processing as processing;
 ghost use Rattle.yaml_emitter.specs.Processing.{Processed};
 ghost use Rattle.yaml_emitter.specs.Queue.{is_head_ready};
+ghost use Rattle.yaml_emitter.specs.State.{KeepsSet};
 ghost use Rattle.yaml_emitter.specs.StandsAfter.{Reached, ReachedOn, StandsAfter, StandsSo, TookFirst, failed_by};
 
 use crate::check::check_names;
@@ -33,6 +34,7 @@ pub fn yaml_emitter_emit<A: Allocator + Copy>(
     ensures promised { (given : Settings) (all : List Event) → StandsAfter given all emitter.old → Promised given (all ++ seen_event event ∷ []) emitter.new }
     ensures waits { (given : Settings) (all : List Event) → StandsAfter given all emitter.old → emitter.old.error ≡ None → written (all ++ seen_event event ∷ []) ≡ written all → IsOk result }
     ensures kept { IsSome emitter.old.error → emitter.new ≡ record emitter.old { started = true } }
+    ensures set { KeepsSet (record emitter.old { started = true }) emitter.new }
     ensures answered { result ≡ told emitter.new.error }
     ensures output { emitter.new.has_output ≡ true }
 {
@@ -56,6 +58,7 @@ pub fn yaml_emitter_flush<A: Allocator + Copy>(
     ensures promised { (given : Settings) (all : List Event) → StandsAfter given all emitter.old → Promised given all emitter.new }
     ensures flushed { OnOk result ((given : Settings) (all : List Event) → StandsAfter given all emitter.old → HasAllBytes given all emitter.new) }
     ensures kept { IsSome emitter.old.error → emitter.new ≡ emitter.old }
+    ensures set { KeepsSet emitter.old emitter.new }
     ensures answered { result ≡ told emitter.new.error }
     ensures output { emitter.new.has_output ≡ true }
 {
@@ -72,6 +75,7 @@ impl<A: Allocator + Copy> yaml_emitter_t<A> {
         requires no_error { self.old.error ≡ None }
         ensures taken { OnOk result (self.new ≡ record self.old { held = self.old.held ++ seen_event event ∷ [] }) }
         ensures room { length self.old.held ≤ 3 → IsOk result }
+        ensures set { KeepsSet self.old self.new }
         ensures answered { result ≡ told self.new.error }
         ensures output { self.new.has_output ≡ true }
     {
@@ -87,6 +91,7 @@ impl<A: Allocator + Copy> yaml_emitter_t<A> {
         requires output { self.old.has_output ≡ true }
         requires no_error { self.old.error ≡ None }
         ensures stands { (given : Settings) (all : List Event) → StandsSo given all self.old → StandsSo given all self.new }
+        ensures set { KeepsSet self.old self.new }
         ensures answered { result ≡ told self.new.error }
         ensures output { self.new.has_output ≡ true }
         ensures handed_out { OnOk result (self.new.page.output ≡ encoded self.new.page) }
@@ -121,6 +126,7 @@ impl<A: Allocator + Copy> yaml_emitter_t<A> {
         requires no_error { self.old.error ≡ None }
         ensures stands { (given : Settings) (all front : List Event) → Reached given all front self.old.held self.old → StandsSo given all self.new }
         ensures waits { is_head_ready self.old.held ≡ false → IsOk result }
+        ensures set { KeepsSet self.old self.new }
         ensures answered { result ≡ told self.new.error }
         ensures output { self.new.has_output ≡ true }
     {
@@ -138,6 +144,7 @@ impl<A: Allocator + Copy> yaml_emitter_t<A> {
         ensures next { OnOk result (ReachedOn self.old self.new) }
         ensures failed { OnErr result ((given : Settings) (all front : List Event) → Reached given all front self.old.held self.old → StandsSo given all self.new) }
         ensures shorter { OnOk result (length self.new.held < length self.old.held) }
+        ensures set { KeepsSet self.old self.new }
         ensures answered { result ≡ told self.new.error }
         ensures output { self.new.has_output ≡ true }
     {

@@ -1,7 +1,9 @@
 //! What the caller sets before the stream, and what it may ask.
 
-ghost use Rattle.std.specs.Prelude.{◌≡◌, ◌↔◌, IsTrue, Some, None, false, true, [], length};
+ghost use Rattle.std.specs.Prelude.{◌≡◌, ◌↔◌, IsTrue, Some, None, false, true, List, [], length};
+ghost use Rattle.yaml_base.specs.Event.{Event};
 ghost use Rattle.yaml_base.specs.Seen.{seen_break, seen_encoding};
+ghost use Rattle.yaml_base.specs.Settings.{Settings};
 ghost use Rattle.yaml_emitter.specs.StandsAfter.{StandsAfter};
 ghost use Rattle.yaml_emitter.specs.State.{knows_encoding};
 
@@ -133,6 +135,37 @@ impl<A: Allocator> yaml_emitter_t<A> {
             Stage::Stream => self.given.encoding != YAML_ANY_ENCODING,
             _ => true,
         }
+    }
+
+    /// Whether the stream was opened as a whole, for documents to be dumped into it.
+    pub fn is_opened(&self) -> bool
+        ensures { result ≡ self.now.opened }
+    {
+        self.opened
+    }
+
+    /// Whether the stream was closed as a whole.
+    pub fn is_closed(&self) -> bool
+        ensures { result ≡ self.now.closed }
+    {
+        self.closed
+    }
+
+    /// Notes that the stream was opened as a whole.
+    pub fn mark_opened(&mut self)
+        requires { self.old.has_output ≡ true }
+        ensures set { self.new ≡ record self.old { opened = true } }
+        ensures stands { (given : Settings) (all : List Event) → StandsAfter given all self.old → StandsAfter given all self.new }
+    {
+        self.opened = true;
+    }
+
+    /// Notes that the stream was closed as a whole.
+    pub fn mark_closed(&mut self)
+        ensures set { self.new ≡ record self.old { closed = true } }
+        ensures stands { (given : Settings) (all : List Event) → StandsAfter given all self.old → StandsAfter given all self.new }
+    {
+        self.closed = true;
     }
 
     /// The bytes that were handed out; empty where no output is set.

@@ -1,4 +1,5 @@
 use Rattle.std.proofs.Common.{◌≡◌, true, false, None, length}
+use Rattle.yaml_emitter.specs.State.{KeepsSet}
 use Rattle.yaml_emitter.specs.Queue.{is_head_ready}
 use Rattle.yaml_emitter.specs.StandsAfter.{ReachedOn}
 use Rattle.yaml_emitter.proofs.emitter.yaml_emitter_t.settle.Given as goal
@@ -9,6 +10,7 @@ invariant-loop-self g l =
       output : l.self.has_output ≡ true;
       no_error : l.self.error ≡ None;
       reached : ReachedOn l.initial.self l.self;
+      set : KeepsSet l.initial.self l.self;
       waits : is_head_ready l.initial.self.held ≡ false → is_head_ready l.self.held ≡ false;
     }
 
