@@ -21,6 +21,8 @@ pub mod LinesWritten
 pub mod LinesReadBack
 pub mod Escapes
 pub mod WholeRuns
+pub mod RunsWritten
+pub mod StaysInLine
 pub mod InsideSteps
 pub mod QuotedSteps
 pub mod LastCharacters

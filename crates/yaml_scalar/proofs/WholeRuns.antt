@@ -1,18 +1,15 @@
--- Runs of characters are found one character after another, and are laid out as themselves.
+-- Runs of characters are found one character after another.
 use Rattle.std.proofs.Common.{◌≡◌, refl, sym, ap, subst, ◌∙◌, append_assoc, append-nil, IsUtf8}
-use Rattle.std.proofs.lemmas.Bool.{and_from, and_parts, not-true}
+use Rattle.std.proofs.lemmas.Bool.{and_from, and_parts}
 use Rattle.std.proofs.lemmas.List.Folds.{list_all-append}
 use Rattle.std.proofs.lemmas.List.{length-append, take_at}
 use Rattle.std.proofs.lemmas.Str.{IsCharBoundary-at_seam, IsUtf8-past_char, IsUtf8-take, chars_from_encodes, encodes-append}
 use Rattle.std.specs.Char.{encode_utf8}
 use Rattle.std.specs.List.{list_all, list_any}
-use Rattle.std.specs.Prelude.{ℕ, Bool, true, false, not, Option, None, Some, List, [], ◌∷◌, ◌++◌, ◌||◌, ◌&&◌, ◌+◌, length, take, if◌then◌else◌}
+use Rattle.std.specs.Prelude.{ℕ, Bool, true, false, List, [], ◌∷◌, ◌++◌, ◌||◌, ◌+◌, length, take}
 use Rattle.std.specs.Str.{IsCharBoundary, chars, encode_utf8_all}
-use Rattle.yaml_base.specs.Characters.{Text, is_break, is_space}
-use Rattle.yaml_base.specs.Cursor.{Cursor, Laid, is_past_width, next_column, text_laid, then_laid}
-use Rattle.yaml_base.specs.DoubleQuoted.{character_text, double_character, double_fold, double_inside, escape_text, may_fold, needs_escape}
-use Rattle.yaml_scalar.proofs.Unbroken.{unescaped}
-use Rattle.yaml_scalar.specs.WholeRuns.{IsRun, has_limit, last_from, stays}
+use Rattle.yaml_base.specs.Characters.{Text, is_break}
+use Rattle.yaml_scalar.specs.WholeRuns.{IsRun, last_from}
 
 -- a front was read whose characters pass a test
 pub record RunSoFar (test : ℕ → Bool) (before : ℕ) (text rest : List ℕ) (size last : ℕ) : Type 0 where
@@ -63,49 +60,14 @@ run_ends {test} {before} {text} {rest} {size} {last} is so_far =
       last_is = so_far.last_is ∙ ap (last_from before) front;
     }
 
--- what stays is no break
-stays_parts : (unicode : Bool) (limit : Option ℕ) (c : ℕ) → stays unicode limit c ≡ true
-    → (needs_escape unicode c ≡ false) × ((is_space c && has_limit limit) ≡ false)
-stays_parts unicode limit c h =
-    let p = and_parts (not (needs_escape unicode c)) (not (is_space c && has_limit limit)) h in
-    (not-true _ p.0, not-true _ p.1)
+-- a run holds no break where no character that passes is one
+all_unbroken : (test : ℕ → Bool) → ((c : ℕ) → test c ≡ true → is_break c ≡ false) → (text : Text) → list_all test text ≡ true → list_any is_break text ≡ false
+all_unbroken test none [] h = refl
+all_unbroken test none (c ∷ rest) h =
+    let p = and_parts (test c) (list_all test rest) h in
+    ap (λ b. b || list_any is_break rest) (none c p.0) ∙ all_unbroken test none rest p.1
 
-pub stays_unbroken : (unicode : Bool) (limit : Option ℕ) (text : Text) → list_all (stays unicode limit) text ≡ true → list_any is_break text ≡ false
-stays_unbroken unicode limit [] h = refl
-stays_unbroken unicode limit (c ∷ rest) h =
-    let p = and_parts (stays unicode limit c) (list_all (stays unicode limit) rest) h in
-    let no_break = (unescaped unicode c (stays_parts unicode limit c p.0).0).no_break in
-    ap (λ b. b || list_any is_break rest) no_break ∙ stays_unbroken unicode limit rest p.1
-
-pub run_unbroken : (unicode : Bool) (limit : Option ℕ) {before size last : ℕ} {text run : List ℕ}
-    → IsRun (stays unicode limit) before text size last → run ≡ take size text → list_any is_break (chars run) ≡ false
-run_unbroken unicode limit {before} {size} {last} {text} {run} is front =
-    ap (λ l. list_any is_break (chars l)) front ∙ stays_unbroken unicode limit (chars (take size text)) is.all
-
-no_fold : (a b : Bool) (limit : Option ℕ) (cursor : Cursor) → (a && has_limit limit) ≡ false → (a && b && is_past_width limit cursor) ≡ false
-no_fold false b limit cursor h = refl
-no_fold true false limit cursor h = refl
-no_fold true true None cursor h = refl
-no_fold true true (Some width) cursor h = cc
-
--- such a character is laid out as itself
-character_stays : (unicode : Bool) (limit : Option ℕ) (indent : ℕ) (before : Option ℕ) (c : ℕ) (rest : Text) (cursor : Cursor)
-    → stays unicode limit c ≡ true → double_character unicode limit indent before c rest cursor ≡ text_laid (c ∷ []) cursor
-character_stays unicode limit indent before c rest cursor h =
-    let p = stays_parts unicode limit c h in
-    ap (λ (b : Bool). if b then double_fold indent rest cursor else text_laid (character_text unicode c) cursor)
-    (no_fold (is_space c) (may_fold before rest) limit cursor p.1)
-    ∙ ap (λ (b : Bool). text_laid (if b then escape_text c else c ∷ []) cursor) p.0
-
--- and so is a run of them
-pub run_laid : (unicode : Bool) (limit : Option ℕ) (indent : ℕ) (before : ℕ) (run rest : Text) (cursor : Cursor)
-    → list_all (stays unicode limit) run ≡ true
-    → double_inside unicode limit indent (Some before) (run ++ rest) cursor
-    ≡ then_laid (text_laid run cursor) (double_inside unicode limit indent (Some (last_from before run)) rest)
-run_laid unicode limit indent before [] rest cursor h = refl
-run_laid unicode limit indent before (c ∷ run) rest cursor h =
-    let p = and_parts (stays unicode limit c) (list_all (stays unicode limit) run) h in
-    let next : Cursor = record cursor { column = next_column c cursor.column } in
-    ap (λ (l : Laid). then_laid l (double_inside unicode limit indent (Some c) (run ++ rest)))
-    (character_stays unicode limit indent (Some before) c (run ++ rest) cursor p.0)
-    ∙ ap (λ (l : Laid). let m : Laid = record { text = c ∷ l.text; cursor = l.cursor } in m) (run_laid unicode limit indent c run rest next p.1)
+pub run_unbroken : (test : ℕ → Bool) → ((c : ℕ) → test c ≡ true → is_break c ≡ false) → {before size last : ℕ} {text run : List ℕ}
+    → IsRun test before text size last → run ≡ take size text → list_any is_break (chars run) ≡ false
+run_unbroken test none {before} {size} {last} {text} {run} is front =
+    ap (λ l. list_any is_break (chars l)) front ∙ all_unbroken test none (chars (take size text)) is.all

@@ -1,8 +1,8 @@
 -- Runs of characters that are written whole.
-use Rattle.std.specs.Prelude.{◌≡◌, ℕ, Bool, true, false, Option, None, Some, List, [], ◌∷◌, ◌&&◌, not, take}
+use Rattle.std.specs.Prelude.{◌≡◌, ℕ, Bool, true, false, Option, None, Some, List, [], ◌∷◌, ◌==◌, ◌||◌, ◌&&◌, not, take}
 use Rattle.std.specs.List.{list_all}
 use Rattle.std.specs.Str.{IsCharBoundary, chars}
-use Rattle.yaml_base.specs.Characters.{Text, is_space}
+use Rattle.yaml_base.specs.Characters.{Text, is_break, is_space}
 use Rattle.yaml_base.specs.DoubleQuoted.{needs_escape}
 
 -- some column is past the width
@@ -13,6 +13,11 @@ has_limit (Some _) = true
 -- between double quotes a character is written as itself, and never becomes a fold
 abbrev pub stays : (unicode : Bool) → (limit : Option ℕ) → ℕ → Bool
 stays unicode limit c = not (needs_escape unicode c) && not (is_space c && has_limit limit)
+
+-- in a line of any other style a character is written as itself, where a space may become a fold or not, and
+-- a `'` is doubled or not
+abbrev pub stays_in_line : (folds quotes : Bool) → ℕ → Bool
+stays_in_line folds quotes c = not (is_break c || (folds && is_space c) || (quotes && c == 39))
 
 -- the last character of a text, or the one before it where it is empty
 abbrev pub last_from : ℕ → Text → ℕ

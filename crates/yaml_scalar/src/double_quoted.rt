@@ -8,11 +8,12 @@ ghost use Rattle.yaml_base.specs.ReadDouble.{read_double};
 ghost use Rattle.yaml_pen.specs.Page.{IsReady, natural};
 ghost use Rattle.yaml_pen.specs.Wrote.{Wrote};
 ghost use Rattle.yaml_scalar.specs.ReadsBack.{ReadsBack};
-ghost use Rattle.yaml_scalar.specs.WholeRuns.{IsRun, has_limit, stays};
+ghost use Rattle.yaml_scalar.specs.WholeRuns.{IsRun, stays};
 ghost use Rattle.yaml_scalar.specs.Width.{limit_where};
 
 use crate::analysis::is_ordinary;
-use crate::steps::{go_on, may_fold_here};
+use crate::runs::run_t;
+use crate::steps::{go_on, has_limit, may_fold_here};
 use std::alloc::Allocator;
 use yaml_base::{is_ascii, is_break, is_printable, is_space, yaml_error_t};
 use yaml_pen::Pen;
@@ -272,25 +273,13 @@ fn write_next<A: Allocator>(
     }
 }
 
-/// Some column is past the width.
-fn has_limit(quoting: quoting_t) -> bool
-    ensures { result ≡ has_limit (limit_where quoting.allow_breaks quoting.width) }
-{
-    quoting.allow_breaks && quoting.width != i32::MAX
-}
-
 /// A character that is written as itself and never becomes a fold.
 fn stays(c: char, quoting: quoting_t) -> bool
     ensures { result ≡ stays quoting.unicode (limit_where quoting.allow_breaks quoting.width) c }
 {
-    is_ordinary(c) || (!needs_escape(c, quoting.unicode) && !(is_space(c) && has_limit(quoting)))
-}
-
-/// The run that follows a character: its bytes, and the last character up to its end.
-#[derive(Clone, Copy)]
-struct run_t {
-    length: usize,
-    last: char,
+    is_ordinary(c)
+        || (!needs_escape(c, quoting.unicode)
+            && !(is_space(c) && has_limit(quoting.allow_breaks, quoting.width)))
 }
 
 /// The longest front of a text whose characters are written as themselves and never become folds.

@@ -9,6 +9,7 @@ mod folded;
 mod lines;
 mod literal;
 mod plain;
+mod runs;
 mod single_quoted;
 mod steps;
 mod style;

@@ -9,10 +9,12 @@ ghost use Rattle.yaml_base.specs.Plain as layout;
 ghost use Rattle.yaml_pen.specs.Page.{IsReady};
 ghost use Rattle.yaml_pen.specs.Wrote.{Wrote};
 ghost use Rattle.yaml_scalar.specs.LineSteps as steps;
+ghost use Rattle.yaml_scalar.specs.WholeRuns.{IsRun, has_limit, stays_in_line};
 ghost use Rattle.yaml_scalar.specs.Width.{limit_where};
 
 use crate::analysis::is_at_end;
-use crate::steps::{go_on, may_fold_here};
+use crate::runs::{RunEnds, line_run_after, run_t};
+use crate::steps::{go_on, has_limit, may_fold_here};
 use std::alloc::Allocator;
 use yaml_base::{is_break, is_space, yaml_error_t};
 use yaml_pen::Pen;
@@ -217,6 +219,17 @@ fn write_step<A: Allocator>(
     }
 }
 
+// A space ends a run where it may become a fold, and a `'` where it is doubled.
+fn run_after(character: char, rest: &str, lines: Lines) -> run_t
+    ensures { IsRun (stays_in_line (has_limit (limit_where lines.allow_breaks lines.width)) lines.quoted) character rest.now result.length result.last }
+{
+    let ends = RunEnds {
+        space: has_limit(lines.allow_breaks, lines.width),
+        quote: lines.quoted,
+    };
+    line_run_after(character, rest, ends)
+}
+
 /// Writes the lines of a value, the flags of the cursor left as they are.
 pub(crate) fn write_lines<A: Allocator>(
     pen: &mut Pen<A>,
@@ -229,8 +242,13 @@ pub(crate) fn write_lines<A: Allocator>(
     let mut before = CharacterKind::Space;
     let mut characters = value.chars();
     while let Some(character) = characters.next() {
-        write_step(pen, lines, before, character, characters.as_str())?;
-        before = kind_of(character);
+        let rest = characters.as_str();
+        write_step(pen, lines, before, character, rest)?;
+        let run = run_after(character, rest, lines);
+        let (front, after) = rest.split_at(run.length);
+        pen.write_run(front)?;
+        before = kind_of(run.last);
+        characters = after.chars();
     }
     go_on(pen)
 }

@@ -3,6 +3,7 @@ ghost use Rattle.std.specs.Prelude.{◌≡◌};
 ghost use Rattle.yaml_base.specs.Cursor.{is_past_width, nothing_laid};
 ghost use Rattle.yaml_pen.specs.Page.{IsReady};
 ghost use Rattle.yaml_pen.specs.Wrote.{Wrote};
+ghost use Rattle.yaml_scalar.specs.WholeRuns.{has_limit};
 ghost use Rattle.yaml_scalar.specs.Width.{limit_where};
 
 use crate::width;
@@ -15,6 +16,13 @@ pub(crate) fn may_fold_here<A: Allocator>(pen: &Pen<A>, allow_breaks: bool, widt
     ensures { result ≡ is_past_width (limit_where allow_breaks width) pen.now.cursor }
 {
     allow_breaks && width::is_past_width(pen, width)
+}
+
+/// Some column is past the width.
+pub(crate) fn has_limit(allow_breaks: bool, width: i32) -> bool
+    ensures { result ≡ has_limit (limit_where allow_breaks width) }
+{
+    allow_breaks && width != i32::MAX
 }
 
 /// Nothing is written; the error of a pen that failed is told.

@@ -1,50 +1,74 @@
-use Rattle.std.proofs.Common.{◌∙◌, ap, sym, subst, chars, List, ℕ, Ok, Err}
+use Rattle.std.proofs.Common.{◌∙◌, sym, subst, chars, IsUtf8, List, ℕ}
 use Rattle.std.specs.Str.Iter.{chars_rest}
-use Rattle.std.proofs.lemmas.Str.{chars_past_char, IsUtf8-past_char, chars-nil}
-use Rattle.std.proofs.lemmas.List.{nil_from_length}
+use Rattle.std.proofs.lemmas.Str.{IsUtf8-drop, IsUtf8-past_char}
 use Rattle.yaml_base.specs.Plain.{Kind, kind_of}
-use Rattle.yaml_pen.specs.Wrote.{Wrote}
 use Rattle.yaml_pen.proofs.Composing.{wrote_exit}
-use Rattle.yaml_scalar.specs.LineSteps.{seen_kind, step_laid, steps_laid, written_as}
+use Rattle.yaml_scalar.specs.LineSteps.{seen_kind, steps_laid, written_as}
+use Rattle.yaml_scalar.specs.WholeRuns.{has_limit}
 use Rattle.yaml_scalar.specs.Width.{limit_where}
 use Rattle.yaml_scalar.proofs.LinesWritten.{LinesLeft, wrote_runs}
-use Rattle.yaml_scalar.proofs.StillToWrite.{still_rest, still_failed, still_same}
+use Rattle.yaml_scalar.proofs.RunsWritten.{character_still, end_still, run_failed, run_more}
+use Rattle.yaml_scalar.proofs.StaysInLine.{lines_after, lines_alone, stays_unbroken}
+use Rattle.yaml_scalar.proofs.StillToWrite.{still_failed, still_rest}
+use Rattle.yaml_scalar.proofs.WholeRuns.{run_unbroken}
 use Rattle.yaml_scalar.proofs.lines.write_lines.Goals as goal
+
+pub split_at-requires : goal.split_at-requires
+split_at-requires g c = c.run_after-run.ensures.boundary
+
+pub write_run-requires-clause-no_break : goal.write_run-requires-clause-no_break
+write_run-requires-clause-no_break g c =
+    let lines = c.args.lines in
+    run_unbroken _ (stays_unbroken (has_limit (limit_where lines.allow_breaks lines.width)) lines.quoted) c.run_after-run.ensures c.split_at.ensures.front
 
 pub returns-in_err-write_step : goal.returns-in_err-write_step
 returns-in_err-write_step g c =
-    let written = written_as c.args.lines.quoted in
-    let rest = chars (chars_rest c.next.new.self) in
-    let limit = limit_where c.args.lines.allow_breaks c.args.lines.width in
-    let left = chars_past_char _ (chars_rest c.next.new.self) c.in-Some.character c.loop-character.invariant.is_text c.in-Some.ensures.steps.0 in
-    let still = still_same (steps_laid written limit c.args.lines.indent (seen_kind c.loop-character.before)) left c.loop-character.invariant.still in
-    let step = subst (λ (t : List ℕ). Wrote (step_laid written limit c.args.lines.indent (seen_kind c.loop-character.before) c.in-Some.character (chars t)) c.loop-character.pen c.write_step.new.pen (Err c.in_err-write_step.field-0.0))
-    c.as_str.ensures c.in_err-write_step.ensures in
+    let so_far = c.loop-character.invariant in
+    let lines = c.args.lines in
+    let limit = limit_where lines.allow_breaks lines.width in
+    let rest : List ℕ = c.as_str-rest.result.now in
+    let left = steps_laid (written_as lines.quoted) limit lines.indent in
+    let first = character_still (left (seen_kind c.loop-character.before)) c.in-Some.character _ _ rest so_far.is_text c.in-Some.ensures.steps.0 c.as_str-rest.ensures so_far.still in
     wrote_exit c.from_residual.ensures
-    (wrote_runs c.args.lines.quoted limit c.args.lines.indent (chars c.args.value.now)
-    (still_failed (steps_laid written limit c.args.lines.indent (kind_of c.in-Some.character) rest) still step))
+    (wrote_runs lines.quoted limit lines.indent (chars c.args.value.now)
+    (still_failed (left (kind_of c.in-Some.character) (chars rest)) first c.in_err-write_step.ensures))
+
+pub returns-in_err-write_run : goal.returns-in_err-write_run
+returns-in_err-write_run g c =
+    let so_far = c.loop-character.invariant in
+    let lines = c.args.lines in
+    let limit = limit_where lines.allow_breaks lines.width in
+    let rest : List ℕ = c.as_str-rest.result.now in
+    let is_text = subst IsUtf8 (sym c.as_str-rest.ensures) (IsUtf8-past_char _ _ c.in-Some.character so_far.is_text c.in-Some.ensures.steps.0) in
+    let left = steps_laid (written_as lines.quoted) limit lines.indent in
+    let first = character_still (left (seen_kind c.loop-character.before)) c.in-Some.character _ _ rest so_far.is_text c.in-Some.ensures.steps.0 c.as_str-rest.ensures so_far.still in
+    wrote_exit c.from_residual-in_err-write_run.ensures
+    (wrote_runs lines.quoted limit lines.indent (chars c.args.value.now)
+    (run_failed (lines_after lines.quoted limit lines.indent) c.split_at.result.1.now (lines_alone lines.quoted limit lines.indent c.write_step.new.pen.cursor)
+    is_text c.run_after-run.ensures c.split_at.ensures.front c.split_at.ensures.back (still_rest first c.in_ok-write_step.ensures) c.in_err-write_run.ensures.written))
 
 pub loop-character-preserved : goal.loop-character-preserved
 loop-character-preserved g c =
-    let written = written_as c.args.lines.quoted in
-    let rest = chars (chars_rest c.next.new.self) in
-    let limit = limit_where c.args.lines.allow_breaks c.args.lines.width in
-    let left = chars_past_char _ (chars_rest c.next.new.self) c.in-Some.character c.loop-character.invariant.is_text c.in-Some.ensures.steps.0 in
-    let still = still_same (steps_laid written limit c.args.lines.indent (seen_kind c.loop-character.before)) left c.loop-character.invariant.still in
-    let step = subst (λ (t : List ℕ). Wrote (step_laid written limit c.args.lines.indent (seen_kind c.loop-character.before) c.in-Some.character (chars t)) c.loop-character.pen c.write_step.new.pen (Ok tt))
-    c.as_str.ensures c.in_ok-write_step.ensures in
+    let so_far = c.loop-character.invariant in
+    let lines = c.args.lines in
+    let written = written_as lines.quoted in
+    let limit = limit_where lines.allow_breaks lines.width in
+    let rest : List ℕ = c.as_str-rest.result.now in
+    let is_text = subst IsUtf8 (sym c.as_str-rest.ensures) (IsUtf8-past_char _ _ c.in-Some.character so_far.is_text c.in-Some.ensures.steps.0) in
+    let behind = c.chars-characters-in-Some.ensures.rest ∙ c.split_at.ensures.back in
+    let first = character_still (steps_laid written limit lines.indent (seen_kind c.loop-character.before)) c.in-Some.character _ _ rest so_far.is_text c.in-Some.ensures.steps.0 c.as_str-rest.ensures so_far.still in
     record {
-      is_text = IsUtf8-past_char _ _ c.in-Some.character c.loop-character.invariant.is_text c.in-Some.ensures.steps.0;
-      still = subst (λ (kind : Kind). LinesLeft written limit c.args.lines.indent (chars c.args.value.now) rest kind c.args.pen.now c.write_step.new.pen)
+      is_text = subst IsUtf8 (sym behind) (IsUtf8-drop _ _ is_text c.run_after-run.ensures.boundary);
+      still = subst (λ (kind : Kind). LinesLeft written limit lines.indent (chars c.args.value.now) (chars (chars_rest c.chars-characters-in-Some.result)) kind c.args.pen.now c.write_run.new.self)
           (sym c.kind_of-before.ensures)
-          (still_rest still step);
+          (run_more (lines_after lines.quoted limit lines.indent) (lines_alone lines.quoted limit lines.indent c.write_step.new.pen.cursor)
+          is_text c.run_after-run.ensures c.split_at.ensures.front behind (still_rest first c.in_ok-write_step.ensures) c.in_ok-write_run.ensures.written);
     }
 
 pub returns : goal.returns
 returns g c =
-    let written = written_as c.args.lines.quoted in
-    let limit = limit_where c.args.lines.allow_breaks c.args.lines.width in
-    let still = still_same (steps_laid written limit c.args.lines.indent (seen_kind c.loop-character.before))
-    (ap chars (nil_from_length _ c.in_default.ensures.steps.0.0) ∙ chars-nil) c.loop-character.invariant.still in
-    wrote_runs c.args.lines.quoted limit c.args.lines.indent (chars c.args.value.now)
-    (still.writes c.loop-character.pen c.go_on.result c.go_on.ensures)
+    let lines = c.args.lines in
+    let limit = limit_where lines.allow_breaks lines.width in
+    wrote_runs lines.quoted limit lines.indent (chars c.args.value.now)
+    ((end_still (steps_laid (written_as lines.quoted) limit lines.indent (seen_kind c.loop-character.before)) _
+    c.in_default.ensures.steps.0.0 c.loop-character.invariant.still).writes _ _ c.go_on.ensures)
