@@ -9,6 +9,7 @@ use Rattle.yaml_pen.specs.Page.{Page}
 use Rattle.yaml_scalar.proofs.RunsWritten.{StandAlone}
 use Rattle.yaml_scalar.proofs.StillToWrite.{StillToWrite}
 use Rattle.yaml_scalar.proofs.Unbroken.{unescaped}
+use Rattle.yaml_scalar.proofs.WholeRuns.{no_fold}
 use Rattle.yaml_scalar.specs.WholeRuns.{has_limit, stays}
 
 -- what is still to be written between the quotes: these bytes' characters, after a character or at the start
@@ -26,19 +27,13 @@ stays_parts unicode limit c h =
 pub stays_unbroken : (unicode : Bool) (limit : Option ℕ) (c : ℕ) → stays unicode limit c ≡ true → is_break c ≡ false
 stays_unbroken unicode limit c h = (unescaped unicode c (stays_parts unicode limit c h).0).no_break
 
-no_fold : (a b : Bool) (limit : Option ℕ) (cursor : Cursor) → (a && has_limit limit) ≡ false → (a && b && is_past_width limit cursor) ≡ false
-no_fold false b limit cursor h = refl
-no_fold true false limit cursor h = refl
-no_fold true true None cursor h = refl
-no_fold true true (Some width) cursor h = cc
-
 -- such a character is laid out as itself
 character_stays : (unicode : Bool) (limit : Option ℕ) (indent : ℕ) (before : Option ℕ) (c : ℕ) (rest : Text) (cursor : Cursor)
     → stays unicode limit c ≡ true → double_character unicode limit indent before c rest cursor ≡ text_laid (c ∷ []) cursor
 character_stays unicode limit indent before c rest cursor h =
     let p = stays_parts unicode limit c h in
     ap (λ (b : Bool). if b then double_fold indent rest cursor else text_laid (character_text unicode c) cursor)
-    (no_fold (is_space c) (may_fold before rest) limit cursor p.1)
+    (no_fold (λ l. is_past_width l cursor) refl (is_space c) (may_fold before rest) limit p.1)
     ∙ ap (λ (b : Bool). text_laid (if b then escape_text c else c ∷ []) cursor) p.0
 
 -- what follows a character between the quotes

@@ -23,6 +23,7 @@ pub mod Escapes
 pub mod WholeRuns
 pub mod RunsWritten
 pub mod StaysInLine
+pub mod BlockStays
 pub mod InsideSteps
 pub mod QuotedSteps
 pub mod LastCharacters

@@ -13,13 +13,13 @@ use Rattle.yaml_scalar.proofs.RunsWritten.{StandAlone}
 -- it is no break, no space that may become a fold, and no quote that is doubled
 pub record Stays (folds quotes : Bool) (c : ℕ) : Type 0 where
   pub no_break : is_break c ≡ false
-  pub no_fold : (folds && is_space c) ≡ false
+  pub no_fold : (is_space c && folds) ≡ false
   pub no_quote : (quotes && c == 39) ≡ false
 
 pub stays_parts : (folds quotes : Bool) (c : ℕ) → stays_in_line folds quotes c ≡ true → Stays folds quotes c
 stays_parts folds quotes c h =
-    let p = or_parts (is_break c || (folds && is_space c)) (quotes && c == 39) (not-true _ h) in
-    let q = or_parts (is_break c) (folds && is_space c) p.0 in
+    let p = or_parts (is_break c || (is_space c && folds)) (quotes && c == 39) (not-true _ h) in
+    let q = or_parts (is_break c) (is_space c && folds) p.0 in
     record { no_break = q.0; no_fold = q.1; no_quote = p.1 }
 
 pub stays_unbroken : (folds quotes : Bool) (c : ℕ) → stays_in_line folds quotes c ≡ true → is_break c ≡ false
@@ -31,7 +31,7 @@ other_kept true c e = (written_each true).kept c e
 other_kept false c e = refl
 
 step_kept : (quoted : Bool) (limit : Option ℕ) (indent : ℕ) (before : Kind) (c : ℕ) (rest : Text) (cursor : Cursor) (is_space is_break : Bool)
-    → is_break ≡ false → (has_limit limit && is_space) ≡ false → (quoted && c == 39) ≡ false
+    → is_break ≡ false → (is_space && has_limit limit) ≡ false → (quoted && c == 39) ≡ false
     → step_text (written_as quoted) (is_past_width limit cursor) indent before (if is_space then spaces else if is_break then breaks else others) c rest ≡ c ∷ []
 step_kept quoted None indent before c rest cursor true broken e f g = refl
 step_kept quoted (Some width) indent before c rest cursor true broken e f g = cc

@@ -6,10 +6,10 @@ use Rattle.std.proofs.lemmas.List.{length-append, take_at}
 use Rattle.std.proofs.lemmas.Str.{IsCharBoundary-at_seam, IsUtf8-past_char, IsUtf8-take, chars_from_encodes, encodes-append}
 use Rattle.std.specs.Char.{encode_utf8}
 use Rattle.std.specs.List.{list_all, list_any}
-use Rattle.std.specs.Prelude.{ℕ, Bool, true, false, List, [], ◌∷◌, ◌++◌, ◌||◌, ◌+◌, length, take}
+use Rattle.std.specs.Prelude.{ℕ, Bool, Option, None, Some, true, false, List, [], ◌∷◌, ◌++◌, ◌||◌, ◌&&◌, ◌+◌, length, take}
 use Rattle.std.specs.Str.{IsCharBoundary, chars, encode_utf8_all}
 use Rattle.yaml_base.specs.Characters.{Text, is_break}
-use Rattle.yaml_scalar.specs.WholeRuns.{IsRun, last_from}
+use Rattle.yaml_scalar.specs.WholeRuns.{IsRun, has_limit, last_from}
 
 -- a front was read whose characters pass a test
 pub record RunSoFar (test : ℕ → Bool) (before : ℕ) (text rest : List ℕ) (size last : ℕ) : Type 0 where
@@ -71,3 +71,15 @@ pub run_unbroken : (test : ℕ → Bool) → ((c : ℕ) → test c ≡ true → 
     → IsRun test before text size last → run ≡ take size text → list_any is_break (chars run) ≡ false
 run_unbroken test none {before} {size} {last} {text} {run} is front =
     ap (λ l. list_any is_break (chars l)) front ∙ all_unbroken test none (chars (take size text)) is.all
+
+-- the run of no character
+pub no_run : (test : ℕ → Bool) (before : ℕ) (text : List ℕ) → IsUtf8 text → IsRun test before text 0 before
+no_run test before text is = run_ends is (run_starts test before text text is refl)
+
+-- a space that stays in a run is past no width
+pub no_fold : (past : Option ℕ → Bool) → past None ≡ false → (space other : Bool) (limit : Option ℕ)
+    → (space && has_limit limit) ≡ false → (space && other && past limit) ≡ false
+no_fold past none false other limit h = refl
+no_fold past none true false limit h = refl
+no_fold past none true true None h = none
+no_fold past none true true (Some width) h = cc

@@ -5,6 +5,7 @@ use Rattle.yaml_base.specs.BlockHeader.{header_laid}
 use Rattle.yaml_base.specs.Cursor.{Cursor, Laid, nothing_laid, then_laid, text_laid, with_flags, space_if, new_line}
 use Rattle.yaml_base.specs.Lines.{parts}
 use Rattle.yaml_base.specs.Folded.{folds, next_even}
+use Rattle.yaml_scalar.specs.WholeRuns.{has_limit, stays_in_line}
 use Rattle.yaml_scalar.specs.declared.block_lines.Place.{Place}
 use Rattle.yaml_scalar.specs.declared.block_lines.Place.TheVariants.{LineStart, Folding, Fixed}
 
@@ -62,6 +63,12 @@ end_laid twice c cursor = if twice then then_laid (text_laid (c ∷ []) cursor) 
 abbrev pub step_laid : (limit : Option ℕ) (indent : ℕ) → Place → ℕ → Text → Cursor → Laid
 step_laid limit indent place c rest cursor =
     if is_break c then end_laid (is_doubled place c rest) c cursor else inner_laid limit indent place c rest cursor
+
+-- a character that is written as itself: none where a line begins, and no space that may become a fold
+abbrev pub stays_at : (limit : Option ℕ) → Place → ℕ → Bool
+stays_at limit LineStart c = false
+stays_at limit Folding c = stays_in_line (has_limit limit) false c
+stays_at limit Fixed c = stays_in_line false false c
 
 -- a text, from a place on
 abbrev pub lines_from : (folded : Bool) (limit : Option ℕ) (indent : ℕ) → Place → Text → Cursor → Laid

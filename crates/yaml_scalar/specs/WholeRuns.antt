@@ -17,7 +17,7 @@ stays unicode limit c = not (needs_escape unicode c) && not (is_space c && has_l
 -- in a line of any other style a character is written as itself, where a space may become a fold or not, and
 -- a `'` is doubled or not
 abbrev pub stays_in_line : (folds quotes : Bool) → ℕ → Bool
-stays_in_line folds quotes c = not (is_break c || (folds && is_space c) || (quotes && c == 39))
+stays_in_line folds quotes c = not (is_break c || (is_space c && folds) || (quotes && c == 39))
 
 -- the last character of a text, or the one before it where it is empty
 abbrev pub last_from : ℕ → Text → ℕ

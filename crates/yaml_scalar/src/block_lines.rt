@@ -10,10 +10,12 @@ ghost use Rattle.yaml_pen.specs.Page.{IsReady, natural};
 ghost use Rattle.yaml_pen.specs.Wrote.{Wrote};
 ghost use Rattle.yaml_scalar.specs.BlockSteps as step;
 ghost use Rattle.yaml_scalar.specs.declared.block_lines.Place.TheVariants.{LineStart};
+ghost use Rattle.yaml_scalar.specs.WholeRuns.{IsRun, stays_in_line};
 ghost use Rattle.yaml_scalar.specs.Width.{limit_of};
 
 use crate::analysis::begins_with_space;
-use crate::steps::go_on;
+use crate::runs::{RunEnds, line_run_after, run_t};
+use crate::steps::{go_on, has_limit};
 use crate::width::is_past_width;
 use std::alloc::Allocator;
 use yaml_base::{is_break, is_space, yaml_error_t};
@@ -43,8 +45,13 @@ pub(crate) fn write_lines<A: Allocator>(
     let mut place = Place::LineStart;
     let mut characters = value.chars();
     while let Some(character) = characters.next() {
-        write_step(pen, place, character, characters.as_str(), indent, width)?;
+        let rest = characters.as_str();
+        write_step(pen, place, character, rest, indent, width)?;
         place = place_after(folded, place, character);
+        let run = run_after(character, rest, place, width);
+        let (front, after) = rest.split_at(run.length);
+        pen.write_run(front)?;
+        characters = after.chars();
     }
     go_on(pen)
 }
@@ -165,6 +172,31 @@ fn entered(folded: bool, first: char) -> Place
     } else {
         Place::Fixed
     }
+}
+
+/// The run that follows a character, seen from where it stands: none where a line begins; a space ends it
+/// where it may become a fold.
+fn run_after(character: char, rest: &str, place: Place, width: i32) -> run_t
+    ensures { IsRun (step.stays_at (limit_of width) place) character rest.now result.length result.last }
+{
+    match place {
+        Place::LineStart => run_t {
+            length: 0,
+            last: character,
+        },
+        Place::Folding => run_within(character, rest, has_limit(true, width)),
+        Place::Fixed => run_within(character, rest, false),
+    }
+}
+
+fn run_within(character: char, rest: &str, folds: bool) -> run_t
+    ensures { IsRun (stays_in_line folds false) character rest.now result.length result.last }
+{
+    let ends = RunEnds {
+        space: folds,
+        quote: false,
+    };
+    line_run_after(character, rest, ends)
 }
 
 /// The last space of a run, past the width.

@@ -23,7 +23,7 @@ pub(crate) struct RunEnds {
 fn stays_in_line(c: char, ends: RunEnds) -> bool
     ensures { result ≡ stays_in_line ends.space ends.quote c }
 {
-    is_ordinary(c) || !(is_break(c) || (ends.space && is_space(c)) || (ends.quote && c == '\''))
+    is_ordinary(c) || !(is_break(c) || (is_space(c) && ends.space) || (ends.quote && c == '\''))
 }
 
 /// The longest front of a text that nothing ends.

@@ -1,32 +1,62 @@
-use Rattle.std.proofs.Common.{ap, ◌∙◌}
-use Rattle.std.specs.Str.{chars}
+use Rattle.std.proofs.Common.{◌∙◌, sym, subst, chars, IsUtf8, List, ℕ}
 use Rattle.std.specs.Str.Iter.{chars_rest}
 use Rattle.std.proofs.lemmas.Int.{to_z-of_z}
-use Rattle.std.proofs.lemmas.List.{nil_from_length}
-use Rattle.std.proofs.lemmas.Str.{chars_past_char, IsUtf8-past_char, chars-nil}
+use Rattle.std.proofs.lemmas.Str.{IsUtf8-drop, IsUtf8-past_char}
 use mir.Val.{SFits}
 use mir.Syntax.{w32}
+use Rattle.yaml_base.specs.Characters.{Text}
+use Rattle.yaml_base.specs.Cursor.{Cursor, Laid}
 use Rattle.yaml_pen.specs.Page.{natural}
 use Rattle.yaml_pen.proofs.Composing.{wrote_exit}
 use Rattle.yaml_scalar.specs.Width.{limit_of}
 use Rattle.yaml_scalar.specs.BlockSteps.{lines_from, place_after}
+use Rattle.yaml_scalar.specs.declared.block_lines.Place.{Place}
+use Rattle.yaml_scalar.proofs.BlockStays.{block_alone, stays_unbroken}
 use Rattle.yaml_scalar.proofs.BlockWrites.{LinesLeft}
-use Rattle.yaml_scalar.proofs.StillToWrite.{still_rest, still_failed, still_same}
+use Rattle.yaml_scalar.proofs.RunsWritten.{character_still, end_still, run_failed, run_more}
+use Rattle.yaml_scalar.proofs.StillToWrite.{still_failed, still_rest}
+use Rattle.yaml_scalar.proofs.WholeRuns.{run_unbroken}
 use Rattle.yaml_scalar.proofs.block_lines.write_lines.Goals as goal
+
+pub split_at-requires : goal.split_at-requires
+split_at-requires g c = c.run_after-run.ensures.boundary
+
+pub write_run-requires-clause-no_break : goal.write_run-requires-clause-no_break
+write_run-requires-clause-no_break g c =
+    let wide : SFits w32 c.args.width = c.ranges.width in
+    let run = simp to_z-of_z at c.run_after-run.ensures in
+    run_unbroken _ (stays_unbroken (limit_of c.args.width) c.place_after-place.result) run c.split_at.ensures.front
 
 pub returns-in_err-write_step : goal.returns-in_err-write_step
 returns-in_err-write_step g c =
     let fits : SFits w32 c.args.indent = c.ranges.indent in
     let wide : SFits w32 c.args.width = c.ranges.width in
+    let lines : Place → Text → Cursor → Laid = lines_from c.args.folded (limit_of c.args.width) (natural c.args.indent) in
+    let rest : List ℕ = c.as_str-rest.result.now in
+    let left = simp to_z-of_z at c.loop-character.invariant.0 in
+    let first = character_still (lines c.loop-character.place) c.in-Some.character _ _ rest c.loop-character.invariant.1 c.in-Some.ensures.steps.0 c.as_str-rest.ensures left in
+    let step = simp to_z-of_z at c.in_err-write_step.ensures in
+    wrote_exit c.from_residual.ensures
+    (still_failed (lines (place_after c.args.folded c.loop-character.place c.in-Some.character) (chars rest)) first step)
+
+pub returns-in_err-write_run : goal.returns-in_err-write_run
+returns-in_err-write_run g c =
+    let fits : SFits w32 c.args.indent = c.ranges.indent in
+    let wide : SFits w32 c.args.width = c.ranges.width in
     let limit = limit_of c.args.width in
     let n = natural c.args.indent in
-    let next = chars_past_char _ (chars_rest c.next.new.self) c.in-Some.character c.loop-character.invariant.1 c.in-Some.ensures.steps.0 in
+    let placed = c.place_after-place.result in
+    let rest : List ℕ = c.as_str-rest.result.now in
+    let is_text = subst IsUtf8 (sym c.as_str-rest.ensures) (IsUtf8-past_char _ _ c.in-Some.character c.loop-character.invariant.1 c.in-Some.ensures.steps.0) in
     let left = simp to_z-of_z at c.loop-character.invariant.0 in
-    let still = still_same (lines_from c.args.folded limit n c.loop-character.place) next left in
-    let step = simp to_z-of_z at c.in_err-write_step.ensures in
-    let failed = rw c.as_str.ensures at step in
-    wrote_exit c.from_residual.ensures
-    (still_failed (lines_from c.args.folded limit n (place_after c.args.folded c.loop-character.place c.in-Some.character) (chars (chars_rest c.next.new.self))) still failed)
+    let first = character_still (lines_from c.args.folded limit n c.loop-character.place) c.in-Some.character _ _ rest c.loop-character.invariant.1 c.in-Some.ensures.steps.0 c.as_str-rest.ensures left in
+    let step = simp to_z-of_z at c.in_ok-write_step.ensures in
+    let run = simp to_z-of_z at c.run_after-run.ensures in
+    let still = subst (λ (p : Place). LinesLeft c.args.folded limit n (chars c.args.value.now) (chars rest) p c.args.pen.now c.write_step.new.pen) (sym c.place_after-place.ensures) (still_rest first step) in
+    wrote_exit c.from_residual-in_err-write_run.ensures
+    (run_failed (λ before. lines_from c.args.folded limit n placed) c.split_at.result.1.now
+    (block_alone c.args.folded limit n c.loop-character.place placed c.in-Some.character (chars rest) c.place_after-place.ensures step)
+    is_text run c.split_at.ensures.front c.split_at.ensures.back still c.in_err-write_run.ensures.written)
 
 pub loop-character-preserved : goal.loop-character-preserved
 loop-character-preserved g c =
@@ -34,22 +64,24 @@ loop-character-preserved g c =
     let wide : SFits w32 c.args.width = c.ranges.width in
     let limit = limit_of c.args.width in
     let n = natural c.args.indent in
-    let next = chars_past_char _ (chars_rest c.next.new.self) c.in-Some.character c.loop-character.invariant.1 c.in-Some.ensures.steps.0 in
+    let placed = c.place_after-place.result in
+    let rest : List ℕ = c.as_str-rest.result.now in
+    let is_text = subst IsUtf8 (sym c.as_str-rest.ensures) (IsUtf8-past_char _ _ c.in-Some.character c.loop-character.invariant.1 c.in-Some.ensures.steps.0) in
+    let behind = c.chars-characters-in-Some.ensures.rest ∙ c.split_at.ensures.back in
     let left = simp to_z-of_z at c.loop-character.invariant.0 in
-    let still = still_same (lines_from c.args.folded limit n c.loop-character.place) next left in
+    let first = character_still (lines_from c.args.folded limit n c.loop-character.place) c.in-Some.character _ _ rest c.loop-character.invariant.1 c.in-Some.ensures.steps.0 c.as_str-rest.ensures left in
     let step = simp to_z-of_z at c.in_ok-write_step.ensures in
-    let more = rw c.as_str.ensures at step in
-    let on : LinesLeft c.args.folded limit n (chars c.args.value.now) (chars (chars_rest c.next.new.self)) (place_after c.args.folded c.loop-character.place c.in-Some.character) c.args.pen.now c.write_step.new.pen = still_rest still more in
-    let placed = rw (← c.place_after-place.ensures) at on in
-    simp to_z-of_z (placed, IsUtf8-past_char _ _ c.in-Some.character c.loop-character.invariant.1 c.in-Some.ensures.steps.0)
+    let run = simp to_z-of_z at c.run_after-run.ensures in
+    let still = subst (λ (p : Place). LinesLeft c.args.folded limit n (chars c.args.value.now) (chars rest) p c.args.pen.now c.write_step.new.pen) (sym c.place_after-place.ensures) (still_rest first step) in
+    let more : LinesLeft c.args.folded limit n (chars c.args.value.now) (chars (chars_rest c.chars-characters-in-Some.result)) placed c.args.pen.now c.write_run.new.self =
+    run_more (λ before. lines_from c.args.folded limit n placed)
+    (block_alone c.args.folded limit n c.loop-character.place placed c.in-Some.character (chars rest) c.place_after-place.ensures step)
+    is_text run c.split_at.ensures.front behind still c.in_ok-write_run.ensures.written in
+    simp to_z-of_z (more, subst IsUtf8 (sym behind) (IsUtf8-drop _ _ is_text run.boundary))
 
 pub returns : goal.returns
 returns g c =
     let fits : SFits w32 c.args.indent = c.ranges.indent in
     let wide : SFits w32 c.args.width = c.ranges.width in
-    let limit = limit_of c.args.width in
-    let n = natural c.args.indent in
     let left = simp to_z-of_z at c.loop-character.invariant.0 in
-    let still = still_same (lines_from c.args.folded limit n c.loop-character.place)
-    (ap chars (nil_from_length _ c.in_default.ensures.steps.0.0) ∙ chars-nil) left in
-    still.writes c.loop-character.pen c.go_on.result c.go_on.ensures
+    (end_still (lines_from c.args.folded (limit_of c.args.width) (natural c.args.indent) c.loop-character.place) _ c.in_default.ensures.steps.0.0 left).writes _ _ c.go_on.ensures
