@@ -19,6 +19,10 @@ stays unicode limit c = not (needs_escape unicode c) && not (is_space c && has_l
 abbrev pub stays_in_line : (folds quotes : Bool) → ℕ → Bool
 stays_in_line folds quotes c = not (is_break c || (is_space c && folds) || (quotes && c == 39))
 
+-- what a test of characters answers
+abbrev pub Decides : (ℕ → Bool → Type 0) → (ℕ → Bool) → Type 0
+Decides answers test = (c : ℕ) (answer : Bool) → answers c answer → answer ≡ test c
+
 -- the last character of a text, or the one before it where it is empty
 abbrev pub last_from : ℕ → Text → ℕ
 last_from before [] = before

@@ -12,7 +12,7 @@ ghost use Rattle.yaml_scalar.specs.WholeRuns.{IsRun, stays};
 ghost use Rattle.yaml_scalar.specs.Width.{limit_where};
 
 use crate::analysis::is_ordinary;
-use crate::runs::run_t;
+use crate::runs::{run_t, run_where};
 use crate::steps::{go_on, has_limit, may_fold_here};
 use std::alloc::Allocator;
 use yaml_base::{is_ascii, is_break, is_printable, is_space, yaml_error_t};
@@ -286,17 +286,7 @@ fn stays(c: char, quoting: quoting_t) -> bool
 fn run_after(before: char, text: &str, quoting: quoting_t) -> run_t
     ensures { IsRun (stays quoting.unicode (limit_where quoting.allow_breaks quoting.width)) before text.now result.length result.last }
 {
-    let mut length = 0;
-    let mut last = before;
-    let mut chars = text.chars();
-    while let Some(c) = chars.next() {
-        if !stays(c, quoting) {
-            return run_t { length, last };
-        }
-        length += c.len_utf8();
-        last = c;
-    }
-    run_t { length, last }
+    run_where(before, text, |c| stays(c, quoting))
 }
 
 /// What stands between the quotes: a character, and the run that follows it, in turn.

@@ -1,13 +1,9 @@
-use Rattle.std.proofs.Common.{◌∙◌, sym, ap, ◌+◌}
-use Rattle.yaml_scalar.proofs.WholeRuns.{run_ends, run_goes_on}
+use Rattle.std.proofs.Common.{rules}
+use Rattle.yaml_scalar.specs.WholeRuns.{stays}
+use Rattle.yaml_scalar.specs.Width.{limit_where}
 use Rattle.yaml_scalar.proofs.double_quoted.run_after.Goals as goal
 
-pub returns-then-not-stays : goal.returns-then-not-stays
-returns-then-not-stays c = run_ends c.utf8.text c.loop-c.invariant
-
-pub loop-c-preserved : goal.loop-c-preserved
-loop-c-preserved c =
-    run_goes_on _ _ c.in-Some.c _ c.loop-c.invariant c.in-Some.ensures.steps.0 (sym c.stays.ensures ∙ c.if-not-stays.false) (ap (λ n. c.loop-c.length + n) c.len_utf8-length.ensures.len)
-
 pub returns : goal.returns
-returns c = run_ends c.utf8.text c.loop-c.invariant
+returns c =
+    let quoting = c.args.quoting in
+    c.run_where.ensures (stays quoting.unicode (limit_where quoting.allow_breaks quoting.width)) (λ d b called. search rules)
