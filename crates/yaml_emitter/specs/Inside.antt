@@ -1,5 +1,5 @@
 -- What an emitter holds, and what contracts see of it.
-use Rattle.std.specs.Prelude.{◌≡◌, ◌≤◌, false, vec_capacity}
+use Rattle.std.specs.Prelude.{◌≡◌, ◌≤◌, false, true, vec_capacity}
 use Rattle.yaml_base.specs.Seen.{seen_events}
 use Rattle.yaml_pen.specs.Page.{IsUntouched}
 use Rattle.yaml_emitter.specs.Given.{seen_given, seen_effective}
@@ -27,12 +27,13 @@ state_of e =
       error = e.error;
     }
 
--- the settings in force are in range, four events find room, nothing is written
--- before an output is set, no handle in force holds a break, and the page was begun with the stream
+-- the settings in force are in range, four events find room, nothing is written or opened before an output is set, no
+-- handle in force holds a break, and the page was begun with the stream
 pub record IsEmitter {A : Type 0} (e : Inside A) : Type 0 where
   pub in_force : IsInForce e.settings
   pub room : 4 ≤ vec_capacity e.queue
   pub untouched : e.has_output ≡ false → IsUntouched e.pen
+  pub opened : e.opened ≡ true → e.has_output ≡ true
   pub handles : some_handle_breaks e.directives ≡ false
   pub canonical : e.settings.canonical ≡ e.given.canonical
   pub page : FitsPage (seen_stage e.stage e.directives e.frames) e.pen

@@ -137,9 +137,10 @@ impl<A: Allocator> yaml_emitter_t<A> {
         }
     }
 
-    /// Whether the stream was opened as a whole, for documents to be dumped into it.
+    /// Whether the stream was opened as a whole, for documents to be dumped into it; an output is then set.
     pub fn is_opened(&self) -> bool
-        ensures { result ≡ self.now.opened }
+        ensures value { result ≡ self.now.opened }
+        ensures output { self.now.opened ≡ true → self.now.has_output ≡ true }
     {
         self.opened
     }

@@ -17,6 +17,7 @@ invariant_of-result g c =
       in_force = search rules;
       room = c.in_ok-queue.ensures.room.1;
       untouched = λ _. subst (λ (p : Page). IsUntouched p) (sym c.in_ok-pen.ensures.made) untouched_new;
+      opened = λ opened. opened;
       handles = search rules;
       canonical = ap (λ (s : Effective). s.canonical) c.effective.ensures.gives;
       page = subst (λ (p : Page). FitsPage at_stream p) (sym c.in_ok-pen.ensures.made) (untouched_new, refl, refl);

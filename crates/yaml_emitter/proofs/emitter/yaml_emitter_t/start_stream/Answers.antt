@@ -15,6 +15,7 @@ invariant_of-self g c =
       in_force = c.effective-self-inside.ensures.in_force;
       room = c.self.invariant.room;
       untouched = λ none. cc;
+      opened = c.self.invariant.opened;
       handles = c.self.invariant.handles;
       canonical = ap (λ (s : Effective). s.canonical) c.effective-self-inside.ensures.gives;
       page = subst (λ (p : Page). IsReady p) (sym c.begin_page.ensures) (record { begun = c.effective-self-inside.ensures.encoding; marked = refl });
