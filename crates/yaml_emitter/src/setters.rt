@@ -4,6 +4,7 @@ ghost use Rattle.std.specs.Prelude.{◌≡◌, ◌↔◌, IsTrue, Some, None, fa
 ghost use Rattle.yaml_base.specs.Event.{Event};
 ghost use Rattle.yaml_base.specs.Seen.{seen_break, seen_encoding};
 ghost use Rattle.yaml_base.specs.Settings.{Settings};
+ghost use Rattle.yaml_emitter.specs.Promises.{Promised};
 ghost use Rattle.yaml_emitter.specs.StandsAfter.{StandsAfter};
 ghost use Rattle.yaml_emitter.specs.State.{knows_encoding};
 
@@ -157,6 +158,7 @@ impl<A: Allocator> yaml_emitter_t<A> {
         requires { self.old.has_output ≡ true }
         ensures set { self.new ≡ record self.old { opened = true } }
         ensures stands { (given : Settings) (all : List Event) → StandsAfter given all self.old → StandsAfter given all self.new }
+        ensures promised { (given : Settings) (all : List Event) → StandsAfter given all self.old → Promised given all self.new }
     {
         self.opened = true;
     }
@@ -165,6 +167,7 @@ impl<A: Allocator> yaml_emitter_t<A> {
     pub fn mark_closed(&mut self)
         ensures set { self.new ≡ record self.old { closed = true } }
         ensures stands { (given : Settings) (all : List Event) → StandsAfter given all self.old → StandsAfter given all self.new }
+        ensures promised { (given : Settings) (all : List Event) → StandsAfter given all self.old → Promised given all self.new }
     {
         self.closed = true;
     }
