@@ -4,7 +4,7 @@ use Rattle.std.specs.Char.{encode_utf8}
 use Rattle.std.specs.Str.{chars, IsUtf8, IsCharBoundary, encode_utf8_all}
 use Rattle.std.proofs.lemmas.List.{take-append-drop, take_at, drop_at}
 use Rattle.std.proofs.Math.Nat.{sub_self}
-use Rattle.std.proofs.lemmas.Str.{encodes-append, encodes-chars, chars_from_encodes, IsUtf8-take, IsUtf8-past_char, chars_past_char, chars-nil, IsCharBoundary-at_seam}
+use Rattle.std.proofs.lemmas.Str.{encodes-append, encodes-chars, chars_from_encodes, IsUtf8-take, IsUtf8-past_char, chars_past_char, chars-append, chars-nil, IsCharBoundary-at_seam}
 use Rattle.std.specs.Prelude.{◌==◌}
 use Rattle.std.specs.List.{list_any}
 use Rattle.std.proofs.lemmas.List.Folds.{list_any-append}
@@ -29,7 +29,7 @@ pub front_of_itself : (text : List ℕ) → front_of text text ≡ []
 front_of_itself text = ap (λ (n : ℕ). take n text) (sub_self (length text))
 
 -- a front and an end tell where the text is cut
-take_seam : (text front end : List ℕ) → text ≡ front ++ end → front_of text end ≡ front
+pub take_seam : (text front end : List ℕ) → text ≡ front ++ end → front_of text end ≡ front
 take_seam text front end is =
     let before : length text - length end ≡ length front = omega (arith, ap length is, length-append front end) in
     ap (λ (n : ℕ). take n text) before ∙ ap (λ (bs : List ℕ). take (length front) bs) is ∙ take_at front end (length front) refl
@@ -38,6 +38,9 @@ drop_seam : (text front end : List ℕ) → text ≡ front ++ end → drop (leng
 drop_seam text front end is =
     let before : length text - length end ≡ length front = omega (arith, ap length is, length-append front end) in
     ap (λ (n : ℕ). drop n text) before ∙ ap (λ (bs : List ℕ). drop (length front) bs) is ∙ drop_at front end (length front) refl
+
+pub ends_at_seam : (text front end : List ℕ) → text ≡ front ++ end → EndsIn text end
+ends_at_seam text front end is = record { within = omega (arith, ap length is, length-append front end); same = drop_seam text front end is }
 
 all_pieces : (text end piece behind : List ℕ) → EndsIn text end → end ≡ piece ++ behind → text ≡ (front_of text end ++ piece) ++ behind
 all_pieces text end piece behind ends is =
@@ -66,12 +69,24 @@ front_grows text end behind c is_text is_end is_behind ends is =
     encodes-append (chars front) (c ∷ []) ∙ ap (λ (bs : List ℕ). bs ++ encode_utf8_all (c ∷ [])) (encodes-chars front is_front) ∙ ap (λ (bs : List ℕ). front ++ bs) (append-nil (encode_utf8 c)) ∙ sym (front_further text end (encode_utf8 c) behind ends is) in
     sym (chars_from_encodes (chars front ++ c ∷ []) (front_of text behind) is_grown spelled)
 
+pub is_front : (text end : List ℕ) → EndsIn text end → IsUtf8 text → IsUtf8 end → IsUtf8 (front_of text end)
+is_front text end ends is_text is_end = IsUtf8-take text (length text - length end) is_text (cut_before_end text end ends is_end)
+
 -- a text that was passed over up to its end
 pub record Passed (text end : List ℕ) : Type 0 where
   pub ends : EndsIn text end
   pub is_text : IsUtf8 text
   pub is_end : IsUtf8 end
   pub all : chars text ≡ chars (front_of text end) ++ chars end
+
+-- it is passed wherever it ends in characters
+pub passed_to : (text end : List ℕ) → EndsIn text end → IsUtf8 text → IsUtf8 end → Passed text end
+passed_to text end ends is_text is_end = record {
+  ends = ends;
+  is_text = is_text;
+  is_end = is_end;
+  all = ap chars (front_and_end text end ends) ∙ chars-append (front_of text end) end (is_front text end ends is_text is_end);
+}
 
 pub nothing_passed : (text : List ℕ) → IsUtf8 text → Passed text text
 nothing_passed text is = record {
@@ -101,6 +116,16 @@ one_passed text end behind c passed is =
 
 pub front_passed : (text end behind : List ℕ) (c : ℕ) → Passed text end → end ≡ encode_utf8 c ++ behind → chars (front_of text behind) ≡ chars (front_of text end) ++ c ∷ []
 front_passed text end behind c passed is = front_grows text end behind c passed.is_text passed.is_end (IsUtf8-past_char end behind c passed.is_end is) passed.ends is
+
+-- one run of characters after another
+pub run_passed : (text end further : List ℕ) → Passed text end → EndsIn end further → IsUtf8 further → Passed text further
+run_passed text end further passed ends is =
+    passed_to text further (ends_further text end (front_of end further) further passed.ends (front_and_end end further ends)) passed.is_text is
+
+pub run_front : (text end further : List ℕ) → Passed text end → EndsIn end further → chars (front_of text further) ≡ chars (front_of text end) ++ chars (front_of end further)
+run_front text end further passed ends =
+    ap chars (front_further text end (front_of end further) further passed.ends (front_and_end end further ends))
+    ∙ chars-append (front_of text end) (front_of end further) (is_front text end passed.ends passed.is_text passed.is_end)
 
 -- where nothing is left the front is all
 pub all_passed : (text end : List ℕ) → Passed text end → chars end ≡ [] → chars text ≡ chars (front_of text end)

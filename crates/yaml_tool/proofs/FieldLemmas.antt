@@ -1,15 +1,15 @@
 -- A line is cut at its first separator, character by character.
-use Rattle.std.proofs.Common.{◌≡◌, ℕ, Bool, true, false, List, [], ◌∷◌, ◌++◌, refl, sym, subst, ap, ◌∙◌, arith}
+use Rattle.std.proofs.Common.{◌≡◌, ℕ, Bool, true, false, if◌then◌else◌, ◌==◌, ◌≤◌, length, List, [], ◌∷◌, ◌++◌, refl, sym, subst, ap, ◌∙◌, arith}
 use Rattle.std.proofs.lemmas.Bool.Decides.{nat_tests}
 use Rattle.std.specs.List.{onto_first}
+use Rattle.std.specs.Str.{chars, IsUtf8}
 use Rattle.yaml_base.specs.Characters.{Text}
 use Rattle.yaml_base.specs.Script as notation
 use Rattle.yaml_base.specs.Script.{outside, inside, escaped, separates, standing_after, cut_before, cut_from}
-
--- characters before the first piece
-abbrev pub attached : Text → List Text → List Text
-attached [] pieces = pieces
-attached (c ∷ front) pieces = onto_first c (attached front pieces)
+use Rattle.yaml_tool.specs.Cuts.{IsFree, SkipsTo, front_of}
+use Rattle.yaml_tool.specs.Fields.{attached, RunsTo}
+use Rattle.yaml_tool.proofs.CutLemmas.{neither}
+use Rattle.yaml_tool.proofs.CharacterLemmas.{Passed, passed_to, ends_in_itself, empty_front, run_front, run_passed}
 
 attached_one : (front : Text) (c : ℕ) (pieces : List Text) → attached (front ++ c ∷ []) pieces ≡ attached front (onto_first c pieces)
 attached_one [] c pieces = refl
@@ -47,3 +47,67 @@ goes_first standing c front grown text rest begins is_not grows =
     let opened : cut_from standing text ≡ cut_before (separates standing c) c pieces = ap (cut_from standing) begins in
     let kept : cut_before (separates standing c) c pieces ≡ onto_first c pieces = ap (λ (b : Bool). cut_before b c pieces) is_not in
     ap (attached front) (opened ∙ kept) ∙ sym (attached_one front c pieces) ∙ ap (λ (all : Text). attached all pieces) (sym grows)
+
+pub attached_both : (front more : Text) (pieces : List Text) → attached (front ++ more) pieces ≡ attached front (attached more pieces)
+attached_both [] more pieces = refl
+attached_both (c ∷ front) more pieces = ap (onto_first c) (attached_both front more pieces)
+
+-- outside texts only a space and a quotation mark matter
+pub run_outside : (front rest : Text) → IsFree 0x20 front → IsFree 0x22 front → cut_from outside (front ++ rest) ≡ attached front (cut_from outside rest)
+run_outside [] rest no_space no_mark = refl
+run_outside (c ∷ front) rest no_space no_mark =
+    let space = neither (c == 0x20) _ no_space in
+    let mark = neither (c == 0x22) _ no_mark in
+    ap (λ (b : Bool). cut_before b c (cut_from (standing_after outside c) (front ++ rest))) space.0
+    ∙ ap (λ (b : Bool). onto_first c (cut_from (if b then inside else outside) (front ++ rest))) mark.0
+    ∙ ap (onto_first c) (run_outside front rest space.1 mark.1)
+
+-- inside them a quotation mark and a backslash
+pub run_inside : (front rest : Text) → IsFree 0x22 front → IsFree 0x5C front → cut_from inside (front ++ rest) ≡ attached front (cut_from inside rest)
+run_inside [] rest no_mark no_backslash = refl
+run_inside (c ∷ front) rest no_mark no_backslash =
+    let mark = neither (c == 0x22) _ no_mark in
+    let backslash = neither (c == 0x5C) _ no_backslash in
+    ap (λ (b : Bool). onto_first c (cut_from (if b then outside else (if c == 0x5C then escaped else inside)) (front ++ rest))) mark.0
+    ∙ ap (λ (b : Bool). onto_first c (cut_from (if b then escaped else inside) (front ++ rest))) backslash.0
+    ∙ ap (onto_first c) (run_inside front rest mark.1 backslash.1)
+
+-- so what stands before such a character is a run
+pub runs_outside : (text end : List ℕ) → IsUtf8 text → SkipsTo 0x20 0x22 text end → RunsTo outside text end
+runs_outside text end is skipped = record {
+  ends = skipped.ends;
+  is_end = skipped.is_end;
+  run = ap (cut_from outside) (passed_to text end skipped.ends is skipped.is_end).all ∙ run_outside (chars (front_of text end)) (chars end) skipped.free.0 skipped.free.1;
+}
+
+pub runs_inside : (text end : List ℕ) → IsUtf8 text → SkipsTo 0x22 0x5C text end → RunsTo inside text end
+runs_inside text end is skipped = record {
+  ends = skipped.ends;
+  is_end = skipped.is_end;
+  run = ap (cut_from inside) (passed_to text end skipped.ends is skipped.is_end).all ∙ run_inside (chars (front_of text end)) (chars end) skipped.free.0 skipped.free.1;
+}
+
+-- no character is a run, too
+pub runs_nowhere : (standing : notation.Standing) (text : List ℕ) → IsUtf8 text → RunsTo standing text text
+runs_nowhere standing text is = record {
+  ends = ends_in_itself text;
+  is_end = is;
+  run = ap (λ (front : Text). attached front (cut_from standing (chars text))) (sym (empty_front text));
+}
+
+-- past a run the pieces are those of what follows, behind a longer front
+pub further_on : (standing : notation.Standing) (line text end : List ℕ) (pieces : List Text) → Passed line text → RunsTo standing text end
+    → pieces ≡ attached (chars (front_of line text)) (cut_from standing (chars text)) → pieces ≡ attached (chars (front_of line end)) (cut_from standing (chars end))
+further_on standing line text end pieces passed runs is =
+    let before = chars (front_of line text) in
+    let run = chars (front_of text end) in
+    is ∙ ap (attached before) runs.run ∙ sym (attached_both before run (cut_from standing (chars end)))
+    ∙ ap (λ (front : Text). attached front (cut_from standing (chars end))) (sym (run_front line text end passed runs.ends))
+
+-- a run is passed
+pub past_run : (standing : notation.Standing) (line text end : List ℕ) → Passed line text → RunsTo standing text end → Passed line end
+past_run standing line text end passed runs = run_passed line text end passed runs.ends runs.is_end
+
+-- what follows it is no longer
+pub run_within : (standing : notation.Standing) (text end : List ℕ) → RunsTo standing text end → length end ≤ length text
+run_within standing text end runs = runs.ends.within

@@ -6,5 +6,6 @@ pub mod EventLemmas
 pub mod CutLemmas
 pub mod LineLemmas
 pub mod ScriptLemmas
+pub mod SearchLemmas
 pub mod CharacterLemmas
 pub mod RunLemmas

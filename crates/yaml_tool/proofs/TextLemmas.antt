@@ -9,9 +9,10 @@ use Rattle.yaml_base.specs.Seen.{seen_text}
 use Rattle.yaml_base.specs.Characters.{Text}
 use Rattle.yaml_base.specs.Script as notation
 use Rattle.yaml_base.specs.Script.{goes_on, stands_for, ends, fails, at_character, at_escape, at_digits, at_brace, text_from, numbered_turn, quotation_mark, backslash, turn}
-use Rattle.yaml_tool.specs.Cuts.{IsFree, IsCut}
+use Rattle.yaml_tool.specs.Cuts.{IsFree, IsCut, SkipsTo, front_of}
 use Rattle.yaml_tool.specs.Texts.{ReadsOn}
 use Rattle.yaml_tool.proofs.CutLemmas.{neither}
+use Rattle.yaml_tool.proofs.CharacterLemmas.{passed_to}
 
 -- what a turn and the characters behind it are read as
 abbrev pub read_turn : notation.Turn → Text → Option Text
@@ -80,34 +81,40 @@ pub nothing_before : {A : Type 0} (text : String A) (read : Option Text) → str
 nothing_before text None empty = refl
 nothing_before text (Some more) empty = ap (λ (front : List ℕ). Some (front ++ more)) (sym (ap chars empty ∙ chars-nil))
 
--- nothing of a text was read
-pub reads_from_start : (whole front : Text) → front ≡ [] → ReadsOn whole front whole
-reads_from_start whole front none = go (text_from at_character whole)
+-- characters other than a quotation mark and a backslash stand for themselves
+pub reads_front : (front behind : Text) → IsFree quotation_mark front → IsFree backslash front → ReadsOn (front ++ behind) front behind
+reads_front [] behind no_mark no_backslash = go (text_from at_character behind)
   where
-    go : (read : Option Text) → read ≡ option_map (λ more. front ++ more) read
+    go : (read : Option Text) → read ≡ option_map (λ more. [] ++ more) read
     go None = refl
-    go (Some more) = ap (λ (t : Text). Some (t ++ more)) (sym none)
-
--- a character that is no quotation mark and no backslash stands for itself
-pub reads_further : (whole front grown left rest : Text) (c : ℕ) → ReadsOn whole front left → left ≡ c ∷ rest
-    → (c == quotation_mark) ≡ false → (c == backslash) ≡ false → grown ≡ front ++ c ∷ [] → ReadsOn whole grown rest
-reads_further whole front grown left rest c reads is no_mark no_backslash grows =
-    reads ∙ ap (λ t. option_map (λ more. front ++ more) (text_from at_character t)) is
-    ∙ ap (option_map (λ more. front ++ more)) (first_turn at_character c rest ∙ ap (λ t. read_turn t rest) stands)
-    ∙ go (text_from at_character rest)
+    go (Some more) = refl
+reads_front (c ∷ front) behind no_mark no_backslash =
+    first_turn at_character c (front ++ behind)
+    ∙ ap (λ t. read_turn t (front ++ behind)) stands
+    ∙ ap (option_map (λ value. c ∷ value)) (reads_front front behind mark.1 slash.1)
+    ∙ go (text_from at_character behind)
   where
+    mark : ((c == quotation_mark) ≡ false) × IsFree quotation_mark front
+    mark = neither (c == quotation_mark) _ no_mark
+
+    slash : ((c == backslash) ≡ false) × IsFree backslash front
+    slash = neither (c == backslash) _ no_backslash
+
     stands : turn at_character c ≡ stands_for c
     stands =
-        ap (λ (b : Bool). if b then ends else (if c == backslash then goes_on at_escape else stands_for c)) no_mark
-        ∙ ap (λ (b : Bool). if b then goes_on at_escape else stands_for c) no_backslash
+        ap (λ (b : Bool). if b then ends else (if c == backslash then goes_on at_escape else stands_for c)) mark.0
+        ∙ ap (λ (b : Bool). if b then goes_on at_escape else stands_for c) slash.0
 
-    go : (read : Option Text) → option_map (λ more. front ++ more) (option_map (λ value. c ∷ value) read) ≡ option_map (λ more. grown ++ more) read
+    go : (read : Option Text) → option_map (λ value. c ∷ value) (option_map (λ more. front ++ more) read) ≡ option_map (λ more. (c ∷ front) ++ more) read
     go None = refl
-    go (Some more) = ap (λ (t : Text). Some t) (sym (append_assoc front (c ∷ []) more) ∙ ap (λ (t : Text). t ++ more) (sym grows))
+    go (Some more) = refl
 
--- a text to its end
-pub reads_all : (whole front left text : Text) → ReadsOn whole front left → text ≡ front → ReadsOn whole text left
-reads_all whole front left text reads is = reads ∙ ap (λ (t : Text). option_map (λ more. t ++ more) (text_from at_character left)) (sym is)
+-- so does what stands before the first of them
+pub reads_skipped : (text behind front : List ℕ) → IsUtf8 text → SkipsTo quotation_mark backslash text behind → front ≡ front_of text behind → ReadsOn (chars text) (chars front) (chars behind)
+reads_skipped text behind front is skipped begins =
+    ap (text_from at_character) (passed_to text behind skipped.ends is skipped.is_end).all
+    ∙ reads_front (chars (front_of text behind)) (chars behind) skipped.free.0 skipped.free.1
+    ∙ ap (λ (bytes : List ℕ). option_map (λ more. chars bytes ++ more) (text_from at_character (chars behind))) (sym begins)
 
 -- bytes that have grown by those of a front
 pub front_taken : (text grown front : List ℕ) (whole behind : Text) → IsUtf8 text → grown ≡ text ++ front → ReadsOn whole (chars front) behind

@@ -1,6 +1,7 @@
 -- A text cut at the first of a character, and at each of them.
 use Rattle.std.specs.Prelude.{◌≡◌, ℕ, ◌-◌, ◌≤◌, false, ◌==◌, List, ◌∷◌, ◌++◌, length, take, drop}
 use Rattle.std.specs.List.{list_any, slice_split}
+use Rattle.std.specs.Str.{chars, IsUtf8}
 
 -- the character stands nowhere in the text
 abbrev pub IsFree : ℕ → List ℕ → Type 0
@@ -22,3 +23,9 @@ pub record EndsIn (text end : List ℕ) : Type 0 where
 -- the bytes before an end of so many
 abbrev pub front_of : List ℕ → List ℕ → List ℕ
 front_of text end = take (length text - length end) text
+
+-- the text ends in a text before which neither of two characters stands
+pub record SkipsTo (first second : ℕ) (text end : List ℕ) : Type 0 where
+  pub ends : EndsIn text end
+  pub is_end : IsUtf8 end
+  pub free : IsFree first (chars (front_of text end)) × IsFree second (chars (front_of text end))

@@ -2,7 +2,10 @@
 ghost use Rattle.std.specs.Prelude.{◌≡◌, ◌++◌, ◌∷◌, ◌<◌, [], length, IfSome, MatchOption};
 ghost use Rattle.std.specs.Char.{encode_utf8};
 ghost use Rattle.std.specs.Str.{chars, IsUtf8};
-ghost use Rattle.yaml_tool.specs.Cuts.{IsFree, IsCut, EndsIn, front_of};
+ghost use Rattle.yaml_tool.specs.Cuts.{IsFree, IsCut, EndsIn, SkipsTo, front_of};
+ghost use Rattle.memchr.specs.Find.{IsFirstByte, is_byte2};
+
+use memchr::memchr2;
 
 /// The first character, and what stands behind it.
 pub fn first_character(text: &str) -> Option<(char, &str)>
@@ -24,6 +27,54 @@ pub fn front_before<'a>(text: &'a str, end: &str) -> &'a str
     ensures { result.now ≡ front_of text.now end.now }
 {
     &text[..text.len() - end.len()]
+}
+
+/// Where the first of two bytes stands, sought byte by byte.
+fn near_place(first: u8, second: u8, bytes: &[u8]) -> Option<usize>
+    ensures { IsFirstByte (is_byte2 first second) bytes.now result }
+{
+    for (index, byte) in bytes.iter().enumerate() {
+        if *byte == first || *byte == second {
+            return Some(index);
+        }
+    }
+    None
+}
+
+/// What stands from a sign on that was found; nothing where none was.
+fn from_place(first: u8, second: u8, text: &str, place: Option<usize>) -> &str
+    requires first { first < 128 }
+    requires second { second < 128 }
+    requires found { IsFirstByte (is_byte2 first second) text.now place }
+    ensures { SkipsTo first second text.now result.now }
+{
+    match place {
+        Some(place) => &text[place..],
+        None => "",
+    }
+}
+
+/// What stands from the first of two ASCII signs on; nothing where there is neither.
+pub fn from_sign(first: u8, second: u8, text: &str) -> &str
+    requires first { first < 128 }
+    requires second { second < 128 }
+    ensures { SkipsTo first second text.now result.now }
+{
+    from_place(first, second, text, memchr2(first, second, text.as_bytes()))
+}
+
+/// The same, faster where one of them stands within a few characters.
+pub fn from_near_sign(first: u8, second: u8, text: &str) -> &str
+    requires first { first < 128 }
+    requires second { second < 128 }
+    ensures { SkipsTo first second text.now result.now }
+{
+    from_place(
+        first,
+        second,
+        text,
+        near_place(first, second, text.as_bytes()),
+    )
 }
 
 /// What stands before the first of a character, and what stands behind it.

@@ -2,9 +2,9 @@
 ghost use Rattle.std.specs.Prelude.{◌≡◌, ◌<◌, IfOk, IfSome, length, map, option_map};
 ghost use Rattle.std.specs.Str.{chars, IsUtf8};
 ghost use Rattle.yaml_base.specs.Script as notation;
-ghost use Rattle.yaml_tool.specs.Fields.{seen_standing, seen_field, CutsFirst};
+ghost use Rattle.yaml_tool.specs.Fields.{seen_standing, seen_field, CutsFirst, RunsTo};
 
-use crate::characters::{first_character, front_before};
+use crate::characters::{first_character, from_near_sign, from_sign, front_before};
 use crate::texts::text_behind;
 use std::alloc::{AllocError, Allocator};
 
@@ -37,6 +37,17 @@ impl Standing {
         matches!(self, Standing::Outside) && character == ' '
     }
 
+    /// What stands behind a run of characters that don't separate and after which the next one stands there too.
+    fn past_run(self, text: &str) -> &str
+        ensures { RunsTo (seen_standing self) text.now result.now }
+    {
+        match self {
+            Standing::Outside => from_near_sign(b' ', b'"', text),
+            Standing::Inside => from_sign(b'"', b'\\', text),
+            Standing::Escaped => text,
+        }
+    }
+
     /// Where the next character stands.
     fn after(self, character: char) -> Standing
         ensures { seen_standing result ≡ notation.standing_after (seen_standing self) character }
@@ -58,13 +69,13 @@ fn first_piece(line: &str) -> (&str, Option<&str>)
     ensures utf8 { IfSome result.1 (λ others. IsUtf8 others.now) }
 {
     let mut standing = Standing::Outside;
-    let mut rest = line;
+    let mut rest = standing.past_run(line);
     while let Some((character, behind)) = first_character(rest) {
         if standing.separates(character) {
             return (front_before(line, rest), Some(behind));
         }
         standing = standing.after(character);
-        rest = behind;
+        rest = standing.past_run(behind);
     }
     (line, None)
 }
@@ -83,6 +94,9 @@ fn field_read<'a, A: Allocator>(
     }
 }
 
+/// Room for a line's fields: only directives need more than a scalar.
+const USUAL_FIELDS: usize = 7;
+
 /// The fields of a line, with one space between two; none where a piece is no field.
 pub fn fields_read<'a, A: Allocator + Copy>(
     alloc: A,
@@ -90,7 +104,7 @@ pub fn fields_read<'a, A: Allocator + Copy>(
 ) -> Result<Option<Vec<Field<'a, A>, A>>, AllocError>
     ensures { IfOk result (λ fields. option_map (λ all. map seen_field all.items) fields ≡ notation.fields_read (chars line.now)) }
 {
-    let mut fields = Vec::new(alloc);
+    let mut fields = Vec::with_capacity(alloc, USUAL_FIELDS)?;
     let mut rest = line;
     loop {
         let (piece, others) = first_piece(rest);

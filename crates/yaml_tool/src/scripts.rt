@@ -7,6 +7,7 @@ ghost use Rattle.yaml_tool.specs.Scripts.{seen_progress, seen_numbered, after_li
 
 use crate::lines::{Line, line_understood};
 use crate::settings::{Setting, Settings, is_set, settings_of};
+use memchr::memchr;
 use std::alloc::{AllocError, Allocator};
 use yaml_base::yaml_event_t;
 
@@ -82,12 +83,10 @@ impl<A: Allocator> Progress<A> {
 fn first_line(bytes: &[u8]) -> (&[u8], Option<&[u8]>)
     ensures { CutsLine bytes.now result.0.now result.1 }
 {
-    for (index, byte) in bytes.iter().enumerate() {
-        if *byte == b'\n' {
-            return (&bytes[..index], Some(&bytes[index + 1..]));
-        }
+    match memchr(b'\n', bytes) {
+        Some(end) => (&bytes[..end], Some(&bytes[end + 1..])),
+        None => (bytes, None),
     }
-    (bytes, None)
 }
 
 /// Understands a script, or tells its first bad line.

@@ -5,7 +5,7 @@ ghost use Rattle.yaml_base.specs.Script as notation;
 ghost use Rattle.yaml_base.specs.Seen.{seen_text};
 ghost use Rattle.yaml_tool.specs.Texts.{turn_of, ReadsOn, TurnsTo};
 
-use crate::characters::{cut_once, first_character, front_before};
+use crate::characters::{cut_once, first_character, from_sign, front_before};
 use crate::numbers::number_in;
 use std::alloc::{AllocError, Allocator};
 
@@ -88,14 +88,8 @@ fn unescaped_front(text: &str) -> (&str, &str)
     ensures shorter { length result.1.now ≤ length text.now }
     ensures utf8 { IsUtf8 result.1.now }
 {
-    let mut rest = text;
-    while let Some((character, behind)) = first_character(rest) {
-        if character == '"' || character == '\\' {
-            return (front_before(text, rest), rest);
-        }
-        rest = behind;
-    }
-    (text, rest)
+    let behind = from_sign(b'"', b'\\', text);
+    (front_before(text, behind), behind)
 }
 
 /// Takes that front over, and answers what stands behind it.

@@ -2,17 +2,22 @@ use Rattle.std.proofs.Common.{◌≡◌, ℕ, List, [], ◌∷◌, true, false, 
 use Rattle.std.specs.Str.{chars}
 use Rattle.yaml_base.specs.Script.{outside, cut_from, separates}
 use Rattle.yaml_tool.specs.Cuts.{front_of}
-use Rattle.yaml_tool.specs.Fields.{seen_standing}
+use Rattle.yaml_tool.specs.Fields.{seen_standing, attached}
 use Rattle.yaml_tool.proofs.CharacterLemmas.{nothing_passed, empty_front, one_passed, front_passed, all_passed}
-use Rattle.yaml_tool.proofs.FieldLemmas.{attached, stops_first, goes_first, whole_line}
+use Rattle.yaml_tool.proofs.FieldLemmas.{stops_first, goes_first, past_run, further_on, run_within, whole_line}
 use Rattle.yaml_tool.proofs.fields.first_piece.Goals as goal
 
 pub loop-character-init : goal.loop-character-init
-loop-character-init c = record {
-  passed = nothing_passed c.args.line.now c.utf8.line;
-  cut = ap (λ front. attached front (cut_from outside (chars c.args.line.now))) (sym (empty_front c.args.line.now));
-  within = omega arith;
-}
+loop-character-init c =
+    let line = c.args.line.now in
+    let rest = c.past_run-rest.result.now in
+    let runs = c.past_run-rest.ensures in
+    let start = nothing_passed line c.utf8.line in
+    let empty = ap (λ front. attached front (cut_from outside (chars line))) (sym (empty_front line)) in record {
+      passed = past_run outside line line rest start runs;
+      cut = further_on outside line line rest (cut_from outside (chars line)) start runs empty;
+      within = run_within outside line rest runs;
+    }
 
 pub returns-then-separates-clause-cut : goal.returns-then-separates-clause-cut
 returns-then-separates-clause-cut c =
@@ -28,15 +33,21 @@ loop-character-preserved c =
     let before = c.loop-character.invariant in
     let line = c.args.line.now in
     let rest = c.loop-character.rest.now in
+    let character = c.in-Some.character in
     let behind = c.in-Some.behind.now in
+    let end = c.past_run-rest-in-Some.result.now in
+    let runs = c.past_run-rest-in-Some.ensures in
     let standing = seen_standing c.loop-character.standing in
-    let is_not : separates standing c.in-Some.character ≡ false = sym c.separates.ensures ∙ c.if-separates.false in record {
-      passed = one_passed line rest behind c.in-Some.character before.passed c.in-Some.ensures.bytes;
-      cut =
-          before.cut
-          ∙ goes_first standing c.in-Some.character (chars (front_of line rest)) (chars (front_of line behind)) (chars rest) (chars behind) c.in-Some.ensures.characters is_not (front_passed line rest behind c.in-Some.character before.passed c.in-Some.ensures.bytes)
-          ∙ ap (λ s. attached (chars (front_of line behind)) (cut_from s (chars behind))) (sym c.after-standing.ensures);
-      within = omega (arith, c.in-Some.ensures.shorter);
+    let next = seen_standing c.after-standing.result in
+    let is_not : separates standing character ≡ false = sym c.separates.ensures ∙ c.if-separates.false in
+    let passed = one_passed line rest behind character before.passed c.in-Some.ensures.bytes in
+    let cut =
+    before.cut
+    ∙ goes_first standing character (chars (front_of line rest)) (chars (front_of line behind)) (chars rest) (chars behind) c.in-Some.ensures.characters is_not (front_passed line rest behind character before.passed c.in-Some.ensures.bytes)
+    ∙ ap (λ s. attached (chars (front_of line behind)) (cut_from s (chars behind))) (sym c.after-standing.ensures) in record {
+      passed = past_run next line behind end passed runs;
+      cut = further_on next line behind end (cut_from outside (chars line)) passed runs cut;
+      within = omega (arith, before.within, c.in-Some.ensures.shorter, run_within next behind end runs);
     }
 
 pub returns-clause-cut : goal.returns-clause-cut

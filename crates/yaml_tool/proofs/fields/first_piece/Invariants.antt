@@ -2,9 +2,8 @@ use Rattle.std.proofs.Common.{◌≡◌, ◌≤◌, length}
 use Rattle.std.specs.Str.{chars}
 use Rattle.yaml_base.specs.Script.{outside, cut_from}
 use Rattle.yaml_tool.specs.Cuts.{front_of}
-use Rattle.yaml_tool.specs.Fields.{seen_standing}
+use Rattle.yaml_tool.specs.Fields.{seen_standing, attached}
 use Rattle.yaml_tool.proofs.CharacterLemmas.{Passed}
-use Rattle.yaml_tool.proofs.FieldLemmas.{attached}
 use Rattle.yaml_tool.proofs.fields.first_piece.Given as goal
 
 abbrev pub invariant-loop-character : goal.invariant-loop-character

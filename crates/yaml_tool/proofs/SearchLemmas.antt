@@ -1,0 +1,97 @@
+-- What a search of bytes tells of the front before the byte that it found.
+use Rattle.std.proofs.Common.{◌≡◌, ℕ, zero, suc, ◌+◌, ◌-◌, ◌<◌, ◌≤◌, ◌==◌, Bool, true, false, ◌||◌, List, [], ◌∷◌, ◌++◌, length, take, drop, add-one, take_all, le_refl, append-nil, refl, sym, subst, ap, ◌∙◌, arith}
+use Rattle.std.specs.Prelude.{slice_index}
+use Rattle.std.specs.List.{list_any}
+use Rattle.std.specs.Char.{encode_utf8}
+use Rattle.std.specs.Str.{chars, IsUtf8, encode_utf8_all}
+use Rattle.std.proofs.lemmas.Str.{encode_ascii, encodes-chars, IsUtf8-take, IsUtf8-drop, IsUtf8-nil, IsCharBoundary-before_ascii}
+use Rattle.std.proofs.Math.Seq.{drop-cons}
+use Rattle.std.proofs.lemmas.Bool.Decides.{nat_tests}
+use Rattle.std.proofs.lemmas.Bool.{eqb-true, false≢true}
+use Rattle.std.proofs.lemmas.List.{take-append-drop, take_rest}
+use Rattle.std.proofs.lemmas.List.Folds.{list_any_more, list_any-append}
+use Rattle.memchr.specs.Find.{Nowhere, NoneBefore, Passes, is_byte, is_byte2}
+use Rattle.yaml_base.specs.Characters.{line_feed}
+use Rattle.yaml_tool.specs.Cuts.{IsFree, IsCut, SkipsTo}
+use Rattle.yaml_tool.proofs.CutLemmas.{neither}
+use Rattle.yaml_tool.proofs.CharacterLemmas.{take_seam, ends_at_seam}
+
+not_true : (b : Bool) → ¬ (b ≡ true) → b ≡ false
+not_true true h = absurd (h refl)
+not_true false h = refl
+
+-- no byte before it passes
+pub none_before : (test : ℕ → Bool) (hay : List ℕ) (k : ℕ) → k ≤ length hay → Nowhere (Passes test hay) 0 k → list_any test (take k hay) ≡ false
+none_before test hay zero within none = refl
+none_before test hay (suc k) within none =
+    let before = none_before test hay k (omega arith) (λ i low high. none i low (omega arith)) in
+    let last = not_true (test (slice_index hay k)) (none k (omega arith) (omega arith)) in
+    rw (← add-one k) (list_any_more test hay k 0 (omega arith) ∙ ap (λ (b : Bool). b || test (slice_index hay k)) before ∙ last)
+
+-- the first LF ends a line
+pub line_ends : (bytes : List ℕ) (end : ℕ) → NoneBefore (Passes (is_byte line_feed) bytes) 0 (length bytes) end × Passes (is_byte line_feed) bytes end
+    → IsCut line_feed bytes (take end bytes) (take (length bytes - (end + 1)) (drop (end + 1) bytes))
+line_ends bytes end found =
+    let begins = drop-cons bytes end 0 found.0.high ∙ ap (λ (byte : ℕ). byte ∷ drop (suc end) bytes) (eqb-true (slice_index bytes end) line_feed found.1) in
+    let behind : drop (suc end) bytes ≡ take (length bytes - (end + 1)) (drop (end + 1) bytes) = ap (λ (n : ℕ). drop n bytes) (sym (add-one end)) ∙ sym (take_rest bytes (end + 1)) in (
+      sym (take-append-drop end bytes) ∙ ap (λ (back : List ℕ). take end bytes ++ back) (begins ∙ ap (λ (back : List ℕ). line_feed ∷ back) behind),
+      none_before (is_byte line_feed) bytes end (omega (arith, found.0.high)) found.0.before,
+    )
+
+-- without an LF there is one line
+pub one_line : (bytes : List ℕ) → Nowhere (Passes (is_byte line_feed) bytes) 0 (length bytes) → IsFree line_feed bytes
+one_line bytes none = ap (list_any (is_byte line_feed)) (sym (take_all (length bytes) bytes (le_refl (length bytes)))) ∙ none_before (is_byte line_feed) bytes (length bytes) (le_refl (length bytes)) none
+
+-- an ASCII sign stands among characters only where its byte does
+free_characters : (test : ℕ → Bool) (sign : ℕ) (text : List ℕ) → sign < 128 → test sign ≡ true → list_any test (encode_utf8_all text) ≡ false → IsFree sign text
+free_characters test sign [] ascii passes none = refl
+free_characters test sign (c ∷ text) ascii passes none =
+    let both = neither (list_any test (encode_utf8 c)) (list_any test (encode_utf8_all text)) (sym (list_any-append test (encode_utf8 c) (encode_utf8_all text)) ∙ none) in
+    let first : (c == sign) ≡ false = not_true (c == sign) (λ yes. byte_passes (eqb-true c sign yes) both.0) in
+    ap (λ (b : Bool). b || list_any (λ d. d == sign) text) first ∙ free_characters test sign text ascii passes both.1
+  where
+    byte_passes : c ≡ sign → list_any test (encode_utf8 c) ≡ false → ⊥
+    byte_passes is free =
+        false≢true (sym free ∙ ap (λ (d : ℕ). list_any test (encode_utf8 d)) is ∙ ap (list_any test) (encode_ascii sign ascii) ∙ ap (λ (b : Bool). b || false) passes)
+
+passes_first : (first second : ℕ) → is_byte2 first second first ≡ true
+passes_first first second = grind (arith, nat_tests)
+
+passes_second : (first second : ℕ) → is_byte2 first second second ≡ true
+passes_second first second = grind (arith, nat_tests)
+
+skips : (first second : ℕ) (text front end : List ℕ) → first < 128 → second < 128 → text ≡ front ++ end → IsUtf8 front → IsUtf8 end → list_any (is_byte2 first second) front ≡ false → SkipsTo first second text end
+skips first second text front end first_ascii second_ascii all is_front is_end none =
+    let test = is_byte2 first second in
+    let spelled = ap (list_any test) (encodes-chars front is_front) ∙ none in
+    let before = take_seam text front end all in record {
+      ends = ends_at_seam text front end all;
+      is_end = is_end;
+      free = (
+        ap (λ (bytes : List ℕ). list_any (λ c. c == first) (chars bytes)) before ∙ free_characters test first (chars front) first_ascii (passes_first first second) spelled,
+        ap (λ (bytes : List ℕ). list_any (λ c. c == second) (chars bytes)) before ∙ free_characters test second (chars front) second_ascii (passes_second first second) spelled,
+      );
+    }
+
+sign_is_ascii : (first second byte : ℕ) → first < 128 → second < 128 → is_byte2 first second byte ≡ true → byte < 128
+sign_is_ascii first second byte first_ascii second_ascii passes = grind (arith, nat_tests, passes, first_ascii, second_ascii)
+
+-- a text ends in what stands from one of two signs on
+pub sign_found : (first second : ℕ) (text end : List ℕ) (place : ℕ) → IsUtf8 text → first < 128 → second < 128
+    → NoneBefore (Passes (is_byte2 first second) text) 0 (length text) place × Passes (is_byte2 first second) text place
+    → end ≡ drop place text → SkipsTo first second text end
+sign_found first second text end place is first_ascii second_ascii found begins =
+    let low = sign_is_ascii first second (slice_index text place) first_ascii second_ascii found.1 in
+    let seam = IsCharBoundary-before_ascii text place found.0.high low in
+    skips first second text (take place text) end first_ascii second_ascii
+    (sym (take-append-drop place text) ∙ ap (λ (back : List ℕ). take place text ++ back) (sym begins))
+    (IsUtf8-take text place is seam)
+    (subst IsUtf8 (sym begins) (IsUtf8-drop text place is seam))
+    (none_before (is_byte2 first second) text place (omega (arith, found.0.high)) found.0.before)
+
+-- or it has neither
+pub no_sign : (first second : ℕ) (text : List ℕ) → IsUtf8 text → first < 128 → second < 128 → Nowhere (Passes (is_byte2 first second) text) 0 (length text) → SkipsTo first second text []
+no_sign first second text is first_ascii second_ascii none =
+    let all = length text in
+    skips first second text text [] first_ascii second_ascii (sym (append-nil text)) is IsUtf8-nil
+    (ap (list_any (is_byte2 first second)) (sym (take_all all text (le_refl all))) ∙ none_before (is_byte2 first second) text all (le_refl all) none)
