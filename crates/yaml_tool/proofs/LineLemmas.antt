@@ -1,28 +1,19 @@
 -- What lines say, by the number of their fields and by their bytes.
-use Rattle.std.proofs.Common.{◌≡◌, ℕ, ◌<◌, ◌≤◌, Bool, true, false, None, List, [], ◌∷◌, map, length, refl, ap, arith, if◌then◌else◌}
+use Rattle.std.proofs.Common.{◌≡◌, ℕ, Bool, true, false, None, List, [], ◌∷◌, map, length, refl, ap, if◌then◌else◌}
 use Rattle.std.specs.Str.{chars, IsUtf8, is_utf8}
 use Rattle.std.proofs.lemmas.Str.{is_utf8-from_IsUtf8, IsUtf8-from_is_utf8}
-use Rattle.yaml_base.specs.Script.{line_read, line_understood}
+use Rattle.yaml_base.specs.Script.{setting_line, line_read, line_understood}
+use Rattle.yaml_base.specs.Characters.{Text}
 use Rattle.yaml_tool.specs.declared.fields.Field as declared
 use Rattle.yaml_tool.specs.declared.fields.Field.TheVariants as field
 use Rattle.yaml_tool.specs.Fields.{seen_field}
-use Rattle.yaml_tool.specs.Lines.{setting_in}
 
--- fewer than two fields set nothing
-pub few_set_nothing : {A : Type 0} (fields : List (declared.Field A)) → length fields < 2 → setting_in (map seen_field fields) ≡ None
-few_set_nothing [] few = refl
-few_set_nothing (field.Word word ∷ []) few = refl
-few_set_nothing (field.Text text ∷ []) few = refl
-few_set_nothing (first ∷ second ∷ rest) few = absurd (omega arith)
-
--- and so do more
-pub many_set_nothing : {A : Type 0} (fields : List (declared.Field A)) → 3 ≤ length fields → setting_in (map seen_field fields) ≡ None
-many_set_nothing [] many = absurd (omega arith)
-many_set_nothing (first ∷ []) many = absurd (omega arith)
-many_set_nothing (first ∷ second ∷ []) many = absurd (omega arith)
-many_set_nothing (field.Text text ∷ second ∷ third ∷ rest) many = refl
-many_set_nothing (field.Word word ∷ field.Text text ∷ third ∷ rest) many = refl
-many_set_nothing (field.Word word ∷ field.Word value ∷ third ∷ rest) many = refl
+-- no field behind the name sets nothing, nor do several
+pub others_set_nothing : {A : Type 0} (name : Text) (fields : List (declared.Field A)) → ¬ (length fields ≡ 1) → setting_line name (map seen_field fields) ≡ None
+others_set_nothing name [] others = refl
+others_set_nothing name (first ∷ []) others = absurd (others refl)
+others_set_nothing name (field.Word word ∷ second ∷ rest) others = refl
+others_set_nothing name (field.Text text ∷ second ∷ rest) others = refl
 
 -- a line in UTF-8 says what its characters say
 pub characters_said : (bytes : List ℕ) → IsUtf8 bytes → line_understood bytes ≡ line_read (chars bytes)

@@ -1,6 +1,5 @@
 //! The versions and directives of a script's document starts.
 ghost use Rattle.std.specs.Prelude.{◌≡◌, ◌∷◌, [], map, option_map, pos, IfOk, MatchOption};
-ghost use Rattle.std.specs.Vec.Iter.{into_iter_items};
 ghost use Rattle.std.specs.Str.{chars};
 ghost use Rattle.yaml_base.specs.Script as notation;
 ghost use Rattle.yaml_base.specs.Seen.{seen_version, seen_directive};
@@ -12,7 +11,7 @@ use crate::fields::Field;
 use crate::numbers::number_up_to;
 use crate::words::is_word;
 use std::alloc::{AllocError, Allocator};
-use std::vec::IntoIter;
+use std::collections::VecDeque;
 use yaml_base::{yaml_tag_directive_t, yaml_version_directive_t};
 
 /// A number of a version.
@@ -60,17 +59,17 @@ pub fn version_or_none(word: &str) -> Option<Option<yaml_version_directive_t>>
 /// Pairs of texts, each a handle and its prefix; none where a field is no text, or a handle has no prefix.
 pub fn directives_of<A: Allocator + Copy>(
     alloc: A,
-    mut fields: IntoIter<Field<'_, A>, A>,
+    fields: &mut VecDeque<Field<'_, A>, A>,
 ) -> Result<Option<Vec<yaml_tag_directive_t<A>, A>>, AllocError>
-    ensures { IfOk result (λ directives. option_map (λ all. map seen_directive all.items) directives ≡ notation.directives_of (map seen_field (into_iter_items fields.entry))) }
+    ensures { IfOk result (λ directives. option_map (λ all. map seen_directive all.items) directives ≡ notation.directives_of (map seen_field fields.old.items)) }
 {
     let mut directives = Vec::new(alloc);
     loop {
-        match fields.next() {
+        match fields.pop_front() {
             None => return Ok(Some(directives)),
             Some(Field::Word(_)) => return Ok(None),
             Some(Field::Text(handle)) => {
-                let Some(Field::Text(prefix)) = fields.next() else {
+                let Some(Field::Text(prefix)) = fields.pop_front() else {
                     return Ok(None);
                 };
                 directives.push(yaml_tag_directive_t { handle, prefix })?;

@@ -1,6 +1,5 @@
 //! The events of a script's lines.
 ghost use Rattle.std.specs.Prelude.{◌≡◌, map, option_map, MatchOption, IfOk};
-ghost use Rattle.std.specs.Vec.Iter.{into_iter_items};
 ghost use Rattle.yaml_base.specs.Event.{sequence_start, mapping_start};
 ghost use Rattle.std.specs.Str.{chars};
 ghost use Rattle.yaml_base.specs.Script as notation;
@@ -15,7 +14,7 @@ use crate::words::{
     sequence_style_named,
 };
 use std::alloc::{AllocError, Allocator};
-use std::vec::IntoIter;
+use std::collections::VecDeque;
 use yaml_base::{
     yaml_event_t, yaml_mapping_style_t, yaml_scalar_style_t, yaml_sequence_style_t,
     yaml_tag_directive_t, yaml_version_directive_t,
@@ -32,26 +31,26 @@ fn text_or_none<A: Allocator>(field: Field<'_, A>) -> Option<Option<String<A>>>
 }
 
 /// A text, where nothing stands behind it.
-fn last_text<A: Allocator>(mut fields: IntoIter<Field<'_, A>, A>) -> Option<String<A>>
-    ensures { option_map seen_text result ≡ last_text (map seen_field (into_iter_items fields.entry)) }
+fn last_text<A: Allocator>(fields: &mut VecDeque<Field<'_, A>, A>) -> Option<String<A>>
+    ensures { option_map seen_text result ≡ last_text (map seen_field fields.old.items) }
 {
-    let Some(Field::Text(text)) = fields.next() else {
+    let Some(Field::Text(text)) = fields.pop_front() else {
         return None;
     };
-    if fields.next().is_some() {
+    if !fields.is_empty() {
         return None;
     }
     Some(text)
 }
 
 /// A word, where nothing stands behind it.
-fn last_word<'a, A: Allocator>(mut fields: IntoIter<Field<'a, A>, A>) -> Option<&'a str>
-    ensures { option_map (λ word. chars word.now) result ≡ last_word (map seen_field (into_iter_items fields.entry)) }
+fn last_word<'a, A: Allocator>(fields: &mut VecDeque<Field<'a, A>, A>) -> Option<&'a str>
+    ensures { option_map (λ word. chars word.now) result ≡ last_word (map seen_field fields.old.items) }
 {
-    let Some(Field::Word(word)) = fields.next() else {
+    let Some(Field::Word(word)) = fields.pop_front() else {
         return None;
     };
-    if fields.next().is_some() {
+    if !fields.is_empty() {
         return None;
     }
     Some(word)
@@ -60,19 +59,16 @@ fn last_word<'a, A: Allocator>(mut fields: IntoIter<Field<'a, A>, A>) -> Option<
 /// An event without any field.
 fn alone<A: Allocator>(
     event: yaml_event_t<A>,
-    mut fields: IntoIter<Field<'_, A>, A>,
+    fields: &mut VecDeque<Field<'_, A>, A>,
 ) -> Option<yaml_event_t<A>>
-    ensures { option_map seen_event result ≡ notation.alone (seen_event event) (map seen_field (into_iter_items fields.entry)) }
+    ensures { option_map seen_event result ≡ notation.alone (seen_event event) (map seen_field fields.old.items) }
 {
-    match fields.next() {
-        None => Some(event),
-        Some(_) => None,
-    }
+    if fields.is_empty() { Some(event) } else { None }
 }
 
 /// `+STR`: an encoding.
-fn stream_start_of<A: Allocator>(fields: IntoIter<Field<'_, A>, A>) -> Option<yaml_event_t<A>>
-    ensures { option_map seen_event result ≡ notation.stream_start_of (map seen_field (into_iter_items fields.entry)) }
+fn stream_start_of<A: Allocator>(fields: &mut VecDeque<Field<'_, A>, A>) -> Option<yaml_event_t<A>>
+    ensures { option_map seen_event result ≡ notation.stream_start_of (map seen_field fields.old.items) }
 {
     let encoding = encoding_named(last_word(fields)?)?;
     Some(yaml_event_t::YAML_STREAM_START_EVENT { encoding })
@@ -96,14 +92,14 @@ fn document_start_with<A: Allocator>(
 /// `+DOC`: whether it is implicit, a version, directives.
 fn document_start_of<A: Allocator + Copy>(
     alloc: A,
-    mut fields: IntoIter<Field<'_, A>, A>,
+    fields: &mut VecDeque<Field<'_, A>, A>,
 ) -> Result<Option<yaml_event_t<A>>, AllocError>
-    ensures { IfOk result (λ event. option_map seen_event event ≡ notation.document_start_of (map seen_field (into_iter_items fields.entry))) }
+    ensures { IfOk result (λ event. option_map seen_event event ≡ notation.document_start_of (map seen_field fields.old.items)) }
 {
-    let Some(Field::Word(implicit)) = fields.next() else {
+    let Some(Field::Word(implicit)) = fields.pop_front() else {
         return Ok(None);
     };
-    let Some(Field::Word(version)) = fields.next() else {
+    let Some(Field::Word(version)) = fields.pop_front() else {
         return Ok(None);
     };
     let directives = directives_of(alloc, fields)?;
@@ -111,16 +107,16 @@ fn document_start_of<A: Allocator + Copy>(
 }
 
 /// `-DOC`: whether it is implicit.
-fn document_end_of<A: Allocator>(fields: IntoIter<Field<'_, A>, A>) -> Option<yaml_event_t<A>>
-    ensures { option_map seen_event result ≡ notation.document_end_of (map seen_field (into_iter_items fields.entry)) }
+fn document_end_of<A: Allocator>(fields: &mut VecDeque<Field<'_, A>, A>) -> Option<yaml_event_t<A>>
+    ensures { option_map seen_event result ≡ notation.document_end_of (map seen_field fields.old.items) }
 {
     let implicit = flag_named(last_word(fields)?)?;
     Some(yaml_event_t::YAML_DOCUMENT_END_EVENT { implicit })
 }
 
 /// `=ALI`: a name.
-fn alias_of<A: Allocator>(fields: IntoIter<Field<'_, A>, A>) -> Option<yaml_event_t<A>>
-    ensures { option_map seen_event result ≡ notation.alias_of (map seen_field (into_iter_items fields.entry)) }
+fn alias_of<A: Allocator>(fields: &mut VecDeque<Field<'_, A>, A>) -> Option<yaml_event_t<A>>
+    ensures { option_map seen_event result ≡ notation.alias_of (map seen_field fields.old.items) }
 {
     let anchor = last_text(fields)?;
     Some(yaml_event_t::YAML_ALIAS_EVENT { anchor })
@@ -148,22 +144,22 @@ fn scalar_with<A: Allocator>(
 }
 
 /// `=VAL`: a style, the plain and the quoted flag, an anchor, a tag, a value.
-fn scalar_of<A: Allocator>(mut fields: IntoIter<Field<'_, A>, A>) -> Option<yaml_event_t<A>>
-    ensures { option_map seen_event result ≡ notation.scalar_of (map seen_field (into_iter_items fields.entry)) }
+fn scalar_of<A: Allocator>(fields: &mut VecDeque<Field<'_, A>, A>) -> Option<yaml_event_t<A>>
+    ensures { option_map seen_event result ≡ notation.scalar_of (map seen_field fields.old.items) }
 {
-    let Some(Field::Word(style)) = fields.next() else {
+    let Some(Field::Word(style)) = fields.pop_front() else {
         return None;
     };
-    let Some(Field::Word(plain_implicit)) = fields.next() else {
+    let Some(Field::Word(plain_implicit)) = fields.pop_front() else {
         return None;
     };
-    let Some(Field::Word(quoted_implicit)) = fields.next() else {
+    let Some(Field::Word(quoted_implicit)) = fields.pop_front() else {
         return None;
     };
-    let Some(anchor) = fields.next() else {
+    let Some(anchor) = fields.pop_front() else {
         return None;
     };
-    let Some(tag) = fields.next() else {
+    let Some(tag) = fields.pop_front() else {
         return None;
     };
     let value = last_text(fields)?;
@@ -187,20 +183,20 @@ struct CollectionFields<'a, A: Allocator> {
 }
 
 /// Four fields: two words and two more.
-fn collection_fields<A: Allocator>(
-    mut fields: IntoIter<Field<'_, A>, A>,
-) -> Option<CollectionFields<'_, A>>
-    ensures { MatchOption result (notation.collection_of (map seen_field (into_iter_items fields.entry)) ≡ None) (λ parts. map seen_field (into_iter_items fields.entry) ≡ four_fields parts) }
+fn collection_fields<'a, A: Allocator>(
+    fields: &mut VecDeque<Field<'a, A>, A>,
+) -> Option<CollectionFields<'a, A>>
+    ensures { MatchOption result (notation.collection_of (map seen_field fields.old.items) ≡ None) (λ parts. map seen_field fields.old.items ≡ four_fields parts) }
 {
-    let Some(Field::Word(style)) = fields.next() else {
+    let Some(Field::Word(style)) = fields.pop_front() else {
         return None;
     };
-    let Some(Field::Word(implicit)) = fields.next() else {
+    let Some(Field::Word(implicit)) = fields.pop_front() else {
         return None;
     };
-    let anchor = fields.next()?;
-    let tag = fields.next()?;
-    if fields.next().is_some() {
+    let anchor = fields.pop_front()?;
+    let tag = fields.pop_front()?;
+    if !fields.is_empty() {
         return None;
     }
     Some(CollectionFields {
@@ -229,8 +225,10 @@ fn sequence_with<A: Allocator>(
 }
 
 /// `+SEQ`: a style, whether it is implicit, an anchor, a tag.
-fn sequence_start_of<A: Allocator>(fields: IntoIter<Field<'_, A>, A>) -> Option<yaml_event_t<A>>
-    ensures { option_map seen_event result ≡ option_map sequence_start (notation.collection_of (map seen_field (into_iter_items fields.entry))) }
+fn sequence_start_of<A: Allocator>(
+    fields: &mut VecDeque<Field<'_, A>, A>,
+) -> Option<yaml_event_t<A>>
+    ensures { option_map seen_event result ≡ option_map sequence_start (notation.collection_of (map seen_field fields.old.items)) }
 {
     let fields = collection_fields(fields)?;
     sequence_with(
@@ -259,8 +257,8 @@ fn mapping_with<A: Allocator>(
 }
 
 /// `+MAP`: likewise.
-fn mapping_start_of<A: Allocator>(fields: IntoIter<Field<'_, A>, A>) -> Option<yaml_event_t<A>>
-    ensures { option_map seen_event result ≡ option_map mapping_start (notation.collection_of (map seen_field (into_iter_items fields.entry))) }
+fn mapping_start_of<A: Allocator>(fields: &mut VecDeque<Field<'_, A>, A>) -> Option<yaml_event_t<A>>
+    ensures { option_map seen_event result ≡ option_map mapping_start (notation.collection_of (map seen_field fields.old.items)) }
 {
     let fields = collection_fields(fields)?;
     mapping_with(
@@ -275,9 +273,9 @@ fn mapping_start_of<A: Allocator>(fields: IntoIter<Field<'_, A>, A>) -> Option<y
 pub fn event_of<A: Allocator + Copy>(
     alloc: A,
     name: &str,
-    fields: IntoIter<Field<'_, A>, A>,
+    fields: &mut VecDeque<Field<'_, A>, A>,
 ) -> Result<Option<yaml_event_t<A>>, AllocError>
-    ensures { IfOk result (λ event. option_map seen_event event ≡ notation.event_of (chars name.now) (map seen_field (into_iter_items fields.entry))) }
+    ensures { IfOk result (λ event. option_map seen_event event ≡ notation.event_of (chars name.now) (map seen_field fields.old.items)) }
 {
     if is_word(name, "+STR") {
         Ok(stream_start_of(fields))

@@ -1,5 +1,5 @@
 //! The fields of a script's line.
-ghost use Rattle.std.specs.Prelude.{◌≡◌, ◌<◌, IfOk, IfSome, length, map, option_map};
+ghost use Rattle.std.specs.Prelude.{◌≡◌, ◌<◌, Some, None, IfOk, IfSome, length, map, option_map, if◌then◌else◌};
 ghost use Rattle.std.specs.Str.{chars, IsUtf8};
 ghost use Rattle.yaml_base.specs.Script as notation;
 ghost use Rattle.yaml_tool.specs.Fields.{seen_standing, seen_field, CutsFirst, RunsTo};
@@ -7,6 +7,7 @@ ghost use Rattle.yaml_tool.specs.Fields.{seen_standing, seen_field, CutsFirst, R
 use crate::characters::{first_character, from_near_sign, from_sign, front_before};
 use crate::texts::text_behind;
 use std::alloc::{AllocError, Allocator};
+use std::collections::VecDeque;
 
 /// A field of a line.
 #[derive(Drop)]
@@ -94,27 +95,25 @@ fn field_read<'a, A: Allocator>(
     }
 }
 
-/// Room for a line's fields: only directives need more than a scalar.
-const USUAL_FIELDS: usize = 7;
-
-/// The fields of a line, with one space between two; none where a piece is no field.
+/// Reads the fields of a line, with one space between two, in place of others; answers whether each piece is one.
 pub fn fields_read<'a, A: Allocator + Copy>(
     alloc: A,
     line: &'a str,
-) -> Result<Option<Vec<Field<'a, A>, A>>, AllocError>
-    ensures { IfOk result (λ fields. option_map (λ all. map seen_field all.items) fields ≡ notation.fields_read (chars line.now)) }
+    fields: &mut VecDeque<Field<'a, A>, A>,
+) -> Result<bool, AllocError>
+    ensures { IfOk result (λ read. notation.fields_read (chars line.now) ≡ (if read then Some (map seen_field fields.new.items) else None)) }
 {
-    let mut fields = Vec::with_capacity(alloc, USUAL_FIELDS)?;
+    fields.clear();
     let mut rest = line;
     loop {
         let (piece, others) = first_piece(rest);
         match field_read(alloc, piece)? {
-            Some(field) => fields.push(field)?,
-            None => return Ok(None),
+            Some(field) => fields.push_back(field)?,
+            None => return Ok(false),
         }
         match others {
             Some(others) => rest = others,
-            None => return Ok(Some(fields)),
+            None => return Ok(true),
         }
     }
 }

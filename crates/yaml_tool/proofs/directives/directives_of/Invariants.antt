@@ -1,5 +1,4 @@
 use Rattle.std.proofs.Common.{◌≡◌, ◌++◌, map, option_map, length}
-use Rattle.std.specs.Vec.Iter.{into_iter_items}
 use Rattle.yaml_base.specs.Script as notation
 use Rattle.yaml_base.specs.Seen.{seen_directive}
 use Rattle.yaml_tool.specs.Fields.{seen_field}
@@ -7,7 +6,7 @@ use Rattle.yaml_tool.proofs.directives.directives_of.Given as goal
 
 abbrev pub invariant-loop-directives : goal.invariant-loop-directives
 invariant-loop-directives g l =
-    notation.directives_of (map seen_field (into_iter_items l.fn.fields)) ≡ option_map (λ more. map seen_directive l.directives.items ++ more) (notation.directives_of (map seen_field (into_iter_items l.fields)))
+    notation.directives_of (map seen_field l.fn.fields.items) ≡ option_map (λ more. map seen_directive l.directives.items ++ more) (notation.directives_of (map seen_field l.fields.items))
 
 abbrev pub decreases-loop-directives : goal.decreases-loop-directives
-decreases-loop-directives g l = length (into_iter_items l.fields)
+decreases-loop-directives g l = length l.fields.items

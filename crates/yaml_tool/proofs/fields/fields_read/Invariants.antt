@@ -4,11 +4,11 @@ use Rattle.yaml_base.specs.Script as notation
 use Rattle.yaml_tool.specs.Fields.{seen_field}
 use Rattle.yaml_tool.proofs.fields.fields_read.Given as goal
 
-abbrev pub invariant-loop-fields : goal.invariant-loop-fields
-invariant-loop-fields g l = record {
+abbrev pub invariant-loop-field : goal.invariant-loop-field
+invariant-loop-field g l = record {
   utf8 : IsUtf8 l.rest;
   read : notation.fields_read (chars l.line) ≡ option_map (λ more. map seen_field l.fields.items ++ more) (notation.fields_read (chars l.rest));
 }
 
-abbrev pub decreases-loop-fields : goal.decreases-loop-fields
-decreases-loop-fields g l = length l.rest
+abbrev pub decreases-loop-field : goal.decreases-loop-field
+decreases-loop-field g l = length l.rest
