@@ -123,6 +123,8 @@ fn alias_of<A: Allocator>(fields: &mut VecDeque<Field<'_, A>, A>) -> Option<yaml
 }
 
 /// A scalar, where each of its parts has a reading.
+// A call hands its event over in memory, and most lines give scalars.
+#[inline(always)]
 fn scalar_with<A: Allocator>(
     style: Option<yaml_scalar_style_t>,
     plain_implicit: Option<bool>,
@@ -144,6 +146,7 @@ fn scalar_with<A: Allocator>(
 }
 
 /// `=VAL`: a style, the plain and the quoted flag, an anchor, a tag, a value.
+#[inline(always)]
 fn scalar_of<A: Allocator>(fields: &mut VecDeque<Field<'_, A>, A>) -> Option<yaml_event_t<A>>
     ensures { option_map seen_event result ≡ notation.scalar_of (map seen_field fields.old.items) }
 {
