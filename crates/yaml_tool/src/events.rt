@@ -59,9 +59,9 @@ fn last_word<'a, A: Allocator>(fields: &mut VecDeque<Field<'a, A>, A>) -> Option
 /// An event without any field.
 fn alone<A: Allocator>(
     event: yaml_event_t<A>,
-    fields: &mut VecDeque<Field<'_, A>, A>,
+    fields: &VecDeque<Field<'_, A>, A>,
 ) -> Option<yaml_event_t<A>>
-    ensures { option_map seen_event result ≡ notation.alone (seen_event event) (map seen_field fields.old.items) }
+    ensures { option_map seen_event result ≡ notation.alone (seen_event event) (map seen_field fields.now.items) }
 {
     if fields.is_empty() { Some(event) } else { None }
 }
