@@ -1,0 +1,271 @@
+-- The nodes that a walk meets again, one more step at a time.
+use Rattle.std.proofs.Common.{◌≡◌, ◌≢◌, ℕ, zero, suc, ◌+◌, ◌-◌, ◌==◌, ◌<◌, ◌≤◌, ◌&&◌, ◌||◌, nat_lt, Bool, true, false, cond, not, Option, None, Some, option_map, unwrap_or, List, [], ◌∷◌, ◌++◌, length, get_or, set, refl, sym, ap, ◌∙◌, arith, length-append, add-one, map, take, drop, nat_le, subst}
+use Rattle.std.specs.List.{list_any, filter, filter_map, position, position_or_len, cons_option}
+use Rattle.std.proofs.lemmas.Bool.Decides.{nat_tests}
+use Rattle.std.proofs.Math.Seq.{take-append_seam}
+use Rattle.std.proofs.lemmas.List.{length-map, append-nil, get_or-set_same, get_or-set_other, length-set, take_more, map-append, get_or-map}
+use Rattle.std.proofs.lemmas.List.Elements.{filter-append, filter_map-append}
+use Rattle.std.proofs.lemmas.List.Folds.{position_or_len_push, list_all-map}
+use Rattle.std.proofs.lemmas.List.Sums.{prefix_len-le-length, AllPass-from_list_all}
+use Rattle.yaml_base.specs.Meetings.{Step, enters, leaves, meets_again, first_of_each, node_met_again, shared_nodes, anchor_of, numbered_name}
+use Rattle.yaml_dump.specs.declared.steps.Step as declared
+use Rattle.yaml_dump.specs.declared.steps.Step.TheVariants.{Enters, Leaves, MeetsAgain}
+use Rattle.yaml_dump.specs.Steps.{seen_step}
+use Rattle.yaml_dump.specs.Events.{IsPlaced}
+use Rattle.yaml_dump.specs.Anchors.{HasPlaces, is_numbered, IsNumbered, place_in, anchor_of_place, Places}
+use Rattle.yaml_dump.specs.Named.{number_in}
+
+-- a list has a number
+abbrev pub has : ℕ → List ℕ → Bool
+has number xs = list_any (λ other. other == number) xs
+
+one_without : (b : Bool) (number y : ℕ) (ys : List ℕ) → (b ≡ true → (y == number) ≡ false) → has number (cond (not b) (y ∷ ys) ys) ≡ (y == number || has number ys)
+one_without false number y ys h = refl
+one_without true number y ys h = ap (λ (t : Bool). t || has number ys) (sym (h refl))
+
+-- without x, a list has what it had beside x
+has_without : (number x : ℕ) (xs : List ℕ) → (x == number) ≡ false → has number (filter (λ other. not (other == x)) xs) ≡ has number xs
+has_without number x [] differs = refl
+has_without number x (y ∷ xs) differs =
+    let apart : (y == x) ≡ true → (y == number) ≡ false = λ same. grind (arith, nat_tests) in
+    one_without (y == x) number y (filter (λ other. not (other == x)) xs) apart ∙ ap (λ (t : Bool). y == number || t) (has_without number x xs differs)
+
+either_same : (b a c : Bool) → (b ≡ false → a ≡ c) → (b || a) ≡ (b || c)
+either_same true a c h = refl
+either_same false a c h = h refl
+
+-- the first of each number are the same numbers
+has_first : (number : ℕ) (xs : List ℕ) → has number (first_of_each xs) ≡ has number xs
+has_first number [] = refl
+has_first number (x ∷ xs) =
+    either_same (x == number) (has number (filter (λ other. not (other == x)) (first_of_each xs))) (has number xs)
+    (λ differs. has_without number x (first_of_each xs) differs ∙ has_first number xs)
+
+kept_once : (b c : Bool) (number : ℕ) → cond (not b) (number ∷ []) [] ≡ cond (b || false) [] (number ∷ [])
+kept_once true c number = refl
+kept_once false c number = refl
+
+always : (b : Bool) (number : ℕ) → [] ≡ cond (b || true) [] (number ∷ [])
+always true number = refl
+always false number = refl
+
+equal_either_way : (x y : ℕ) → (x == y) ≡ (y == x)
+equal_either_way x y = grind (arith, nat_tests)
+
+one_kept : (b : Bool) (number x : ℕ) → filter (λ other. not (other == x)) (cond b [] (number ∷ [])) ≡ cond (x == number || b) [] (number ∷ [])
+one_kept true number x = always (x == number) number
+one_kept false number x = kept_once (number == x) false number ∙ ap (λ (t : Bool). cond (t || false) [] (number ∷ [])) (equal_either_way number x)
+
+-- one more number
+pub first_of_more : (xs : List ℕ) (number : ℕ) → first_of_each (xs ++ number ∷ []) ≡ first_of_each xs ++ cond (has number xs) [] (number ∷ [])
+first_of_more [] number = refl
+first_of_more (x ∷ xs) number =
+    let others = λ (ys : List ℕ). filter (λ other. not (other == x)) ys in
+    ap (λ (ys : List ℕ). x ∷ others ys) (first_of_more xs number)
+    ∙ ap (λ (ys : List ℕ). x ∷ ys) (filter-append (λ other. not (other == x)) (first_of_each xs) (cond (has number xs) [] (number ∷ [])))
+    ∙ ap (λ (ys : List ℕ). x ∷ (others (first_of_each xs) ++ ys)) (one_kept (has number xs) number x)
+
+-- a step that meets no node again changes nothing, and any other adds its node where it isn't there yet
+pub shared_more : (walk : List Step) (number : ℕ) → shared_nodes (walk ++ meets_again number ∷ []) ≡ shared_nodes walk ++ cond (has number (shared_nodes walk)) [] (number ∷ [])
+shared_more walk number =
+    let met = filter_map node_met_again walk in
+    ap first_of_each (filter_map-append node_met_again walk (meets_again number ∷ []))
+    ∙ first_of_more met number
+    ∙ ap (λ (b : Bool). first_of_each met ++ cond b [] (number ∷ [])) (sym (has_first number met))
+
+pub shared_same : (walk : List Step) (step : Step) → node_met_again step ≡ None → shared_nodes (walk ++ step ∷ []) ≡ shared_nodes walk
+shared_same walk (enters number) none =
+    ap first_of_each (filter_map-append node_met_again walk (enters number ∷ []) ∙ append-nil (filter_map node_met_again walk))
+shared_same walk (leaves number) none =
+    ap first_of_each (filter_map-append node_met_again walk (leaves number ∷ []) ∙ append-nil (filter_map node_met_again walk))
+shared_same walk (meets_again number) none = cc
+
+-- every other step meets none again
+pub meets_none : (step : declared.Step) → ((number : ℕ) → step ≢ MeetsAgain number) → node_met_again (seen_step step) ≡ None
+meets_none (Enters number) other = refl
+meets_none (Leaves number) other = refl
+meets_none (MeetsAgain number) other = absurd (other number refl)
+
+-- ---- places
+
+place_of_position : (b : Bool) (k : ℕ) → unwrap_or (option_map (λ place. place + 1) (cond b (Some k) None)) 0 ≡ cond b (k + 1) 0
+place_of_position true k = refl
+place_of_position false k = refl
+
+place_is : (xs : List ℕ) (number : ℕ) → place_in xs number ≡ cond (nat_lt (position_or_len (λ other. other == number) xs) (length xs)) (position_or_len (λ other. other == number) xs + 1) 0
+place_is xs number = place_of_position (nat_lt (position_or_len (λ other. other == number) xs) (length xs)) (position_or_len (λ other. other == number) xs)
+
+-- that a list has a number is that it first stands before the end
+one_position : (b a : Bool) (k l : ℕ) → a ≡ nat_lt k l → (b || a) ≡ nat_lt (cond (not b) (1 + k) 0) (suc l)
+one_position true a k l is = grind (arith, nat_tests)
+one_position false a k l is = is ∙ grind (arith, nat_tests)
+
+has_position : (number : ℕ) (xs : List ℕ) → has number xs ≡ nat_lt (position_or_len (λ other. other == number) xs) (length xs)
+has_position number [] = refl
+has_position number (x ∷ xs) = one_position (x == number) (has number xs) (position_or_len (λ other. other == number) xs) (length xs) (has_position number xs)
+
+within : (number : ℕ) (xs : List ℕ) → position_or_len (λ other. other == number) xs ≤ length xs
+within number xs = prefix_len-le-length (λ other. not (other == number)) xs
+
+none_at : (b : Bool) (k : ℕ) → cond b (k + 1) 0 ≡ 0 → b ≡ false
+none_at true k is = absurd (omega arith)
+none_at false k is = refl
+
+some_at : (b : Bool) (k : ℕ) → cond b (k + 1) 0 ≢ 0 → b ≡ true
+some_at true k is = refl
+some_at false k is = absurd (is refl)
+
+-- a number without a place isn't there, and one with a place is
+pub not_there : (xs : List ℕ) (number : ℕ) → place_in xs number ≡ 0 → has number xs ≡ false
+not_there xs number is =
+    let k = position_or_len (λ other. other == number) xs in
+    has_position number xs ∙ none_at (nat_lt k (length xs)) k (sym (place_is xs number) ∙ is)
+
+pub is_there : (xs : List ℕ) (number : ℕ) → place_in xs number ≢ 0 → has number xs ≡ true
+is_there xs number is =
+    let k = position_or_len (λ other. other == number) xs in
+    has_position number xs ∙ some_at (nat_lt k (length xs)) k (λ none. is (place_is xs number ∙ none))
+
+new_at : (k l after whole : ℕ) (same : Bool) → k ≤ l → nat_lt k l ≡ false → after ≡ cond (k == l) (l + cond same 0 1) k → same ≡ true → whole ≡ l + 1 → cond (nat_lt after whole) (after + 1) 0 ≡ l + 1
+new_at k l after whole true in_it past is same long = grind (arith, nat_tests)
+new_at k l after whole false in_it past is same long = cc
+
+old_at : (k l after whole : ℕ) (same : Bool) → k ≤ l → after ≡ cond (k == l) (l + cond same 0 1) k → same ≡ false → whole ≡ l + 1 → cond (nat_lt after whole) (after + 1) 0 ≡ cond (nat_lt k l) (k + 1) 0
+old_at k l after whole true in_it is same long = cc
+old_at k l after whole false in_it is same long = grind (arith, nat_tests)
+
+one_longer : (xs : List ℕ) (number : ℕ) → length (xs ++ number ∷ []) ≡ length xs + 1
+one_longer xs number = length-append xs (number ∷ [])
+
+-- a new number comes last
+pub new_place : (xs : List ℕ) (number : ℕ) → has number xs ≡ false → place_in (xs ++ number ∷ []) number ≡ length xs + 1
+new_place xs number none =
+    place_is (xs ++ number ∷ []) number
+    ∙ new_at (position_or_len (λ other. other == number) xs) (length xs) (position_or_len (λ other. other == number) (xs ++ number ∷ [])) (length (xs ++ number ∷ [])) (number == number)
+    (within number xs) (sym (has_position number xs) ∙ none) (position_or_len_push (λ other. other == number) xs number) (grind (arith, nat_tests)) (one_longer xs number)
+
+-- and leaves the others' places as they are
+pub old_place : (xs : List ℕ) (number last : ℕ) → number ≢ last → place_in (xs ++ last ∷ []) number ≡ place_in xs number
+old_place xs number last differs =
+    place_is (xs ++ last ∷ []) number
+    ∙ old_at (position_or_len (λ other. other == number) xs) (length xs) (position_or_len (λ other. other == number) (xs ++ last ∷ [])) (length (xs ++ last ∷ [])) (last == number)
+    (within number xs) (position_or_len_push (λ other. other == number) xs last) (grind (arith, nat_tests)) (one_longer xs last)
+    ∙ sym (place_is xs number)
+
+-- a step that meets no node again gives none
+pub other_step : (walk : List Step) (step : Step) (shared : ℕ) (places : List ℕ) → node_met_again step ≡ None → Places walk shared places → Places (walk ++ step ∷ []) shared places
+other_step walk step shared places none before =
+    let same = shared_same walk step none in record {
+      counted = before.counted ∙ ap length (sym same);
+      given = record { placed = λ number first last. before.given.placed number first last ∙ ap (λ (numbers : List ℕ). place_in numbers number) (sym same) };
+    }
+
+-- nor does one that meets a node of a place
+pub met_before : (walk : List Step) (met shared : ℕ) (places : List ℕ) → 1 ≤ met → met ≤ length places → get_or places (met - 1) 0 ≢ 0 → Places walk shared places → Places (walk ++ meets_again met ∷ []) shared places
+met_before walk met shared places first last is before =
+    let numbers = shared_nodes walk in
+    let there : has met numbers ≡ true = is_there numbers met (λ none. is (before.given.placed met first last ∙ none)) in
+    let same : shared_nodes (walk ++ meets_again met ∷ []) ≡ numbers = shared_more walk met ∙ ap (λ (b : Bool). numbers ++ cond b [] (met ∷ [])) there ∙ append-nil numbers in record {
+      counted = before.counted ∙ ap length (sym same);
+      given = record { placed = λ number low high. before.given.placed number low high ∙ ap (λ (all : List ℕ). place_in all number) (sym same) };
+    }
+
+-- each place, once a node has the next
+one_placed : (same : Bool) (numbers places : List ℕ) (met shared number : ℕ) → (number == met) ≡ same → 1 ≤ met → met ≤ length places → 1 ≤ number
+    → has met numbers ≡ false → shared ≡ length numbers → get_or places (number - 1) 0 ≡ place_in numbers number
+    → get_or (set places (met - 1) (shared + 1)) (number - 1) 0 ≡ place_in (numbers ++ met ∷ []) number
+one_placed true numbers places met shared number same first last low none counted given =
+    let is : number ≡ met = grind (arith, nat_tests) in
+    let inside : met - 1 < length places = omega arith in
+    rw is (get_or-set_same places (met - 1) (shared + 1) 0 inside ∙ ap (λ (n : ℕ). n + 1) counted ∙ sym (new_place numbers met none))
+one_placed false numbers places met shared number differs first last low none counted given =
+    let other : number ≢ met = grind (arith, nat_tests) in
+    let elsewhere : number - 1 ≢ met - 1 = omega arith in
+    get_or-set_other places (met - 1) (number - 1) (shared + 1) 0 elsewhere ∙ given ∙ sym (old_place numbers number met other)
+
+-- a node without a place gets the next
+pub met_first : (walk : List Step) (met shared : ℕ) (places : List ℕ) → 1 ≤ met → met ≤ length places → get_or places (met - 1) 0 ≡ 0 → Places walk shared places
+    → Places (walk ++ meets_again met ∷ []) (shared + 1) (set places (met - 1) (shared + 1))
+met_first walk met shared places first last is before =
+    let numbers = shared_nodes walk in
+    let none : has met numbers ≡ false = not_there numbers met (sym (before.given.placed met first last) ∙ is) in
+    let more : shared_nodes (walk ++ meets_again met ∷ []) ≡ numbers ++ met ∷ [] = shared_more walk met ∙ ap (λ (b : Bool). numbers ++ cond b [] (met ∷ [])) none in record {
+      counted = ap (λ (n : ℕ). n + 1) before.counted ∙ sym (ap length more ∙ one_longer numbers met);
+      given = record {
+        placed = λ number low high.
+            let inside : number ≤ length places = omega (arith, length-set places (met - 1) (shared + 1)) in
+            one_placed (number == met) numbers places met shared number refl first last low none before.counted (before.given.placed number low inside)
+            ∙ ap (λ (all : List ℕ). place_in all number) (sym more);
+      };
+    }
+
+option_anchor : (found : Option ℕ) → option_map (λ place. numbered_name (place + 1)) found ≡ anchor_of_place (unwrap_or (option_map (λ place. place + 1) found) 0)
+option_anchor None = refl
+option_anchor (Some place) = rw add-one
+
+-- a node's anchor is that of its place
+pub anchor_placed : (walk : List Step) (number : ℕ) → anchor_of walk number ≡ anchor_of_place (place_in (shared_nodes walk) number)
+anchor_placed walk number = option_anchor (position (λ other. other == number) (shared_nodes walk))
+
+-- ---- numbers
+
+bounds : (count number : ℕ) → (nat_le 1 number && nat_le number count) ≡ true → (1 ≤ number) × (number ≤ count)
+bounds count number is = grind (arith, nat_tests)
+
+-- each step of a numbered walk is numbered
+pub step_numbered : (walk : List declared.Step) (count index size : ℕ) (default : declared.Step) → is_numbered count (map seen_step walk) ≡ true → index < length walk → size ≡ count
+    → IsNumbered size (seen_step (get_or walk index default))
+step_numbered walk count index size default is inside same =
+    let test = λ (step : Step). nat_le 1 (number_in step) && nat_le (number_in step) count in
+    let each = AllPass-from_list_all (λ (step : declared.Step). test (seen_step step)) walk (sym (list_all-map test seen_step walk) ∙ is) index default inside in
+    let both : (1 ≤ number_in (seen_step (get_or walk index default))) × (number_in (seen_step (get_or walk index default)) ≤ count) = bounds count (number_in (seen_step (get_or walk index default))) each in
+    record { first = both.0; last = omega (arith, both.1) }
+
+-- one more step of a walk
+pub seen_more : (walk : List declared.Step) (index : ℕ) (default : declared.Step) → index < length walk → map seen_step (take (index + 1) walk) ≡ map seen_step (take index walk) ++ seen_step (get_or walk index default) ∷ []
+seen_more walk index default inside = ap (map seen_step) (take_more walk index default inside) ∙ map-append seen_step (take index walk) (get_or walk index default ∷ [])
+
+-- a slice that keeps its length is all of what it came from
+pub whole_slice : (len : ℕ) (written old : List ℕ) → len ≡ length written → take len (written ++ drop (length written) old) ≡ written
+whole_slice len written old same = ap (λ (n : ℕ). take n (written ++ drop (length written) old)) same ∙ take-append_seam written (drop (length written) old)
+
+-- ---- what a walk meets again is shared
+
+has_behind : (first : Option ℕ) (number : ℕ) (rest : List ℕ) → has number rest ≡ true → has number (cons_option first rest) ≡ true
+has_behind None number rest is = is
+has_behind (Some other) number rest is = grind (arith, nat_tests)
+
+has_met : (walk : List Step) (index number : ℕ) (default : Step) → index < length walk → get_or walk index default ≡ meets_again number → has number (filter_map node_met_again walk) ≡ true
+has_met [] index number default inside is = absurd (omega arith)
+has_met (step ∷ walk) zero number default inside is =
+    let first : has number (number ∷ filter_map node_met_again walk) ≡ true = grind (arith, nat_tests) in
+    subst (λ (met : Step). has number (filter_map node_met_again (met ∷ walk)) ≡ true) (sym is) first
+has_met (step ∷ walk) (suc index) number default inside is =
+    has_behind (node_met_again step) number (filter_map node_met_again walk) (has_met walk index number default (omega arith) is)
+
+some_place : (b : Bool) (k : ℕ) → b ≡ true → 0 < cond b (k + 1) 0
+some_place true k is = omega arith
+some_place false k is = cc
+
+has_place : (numbers : List ℕ) (number : ℕ) → has number numbers ≡ true → 0 < place_in numbers number
+has_place numbers number is =
+    let k = position_or_len (λ other. other == number) numbers in
+    subst (λ (n : ℕ). 0 < n) (sym (place_is numbers number)) (some_place (nat_lt k (length numbers)) k (sym (has_position number numbers) ∙ is))
+
+-- a node that is met again has a place
+pub met_has_place : (walk : List Step) (index number : ℕ) (default : Step) → index < length walk → get_or walk index default ≡ meets_again number → 0 < place_in (shared_nodes walk) number
+met_has_place walk index number default inside is =
+    has_place (shared_nodes walk) number (has_first number (filter_map node_met_again walk) ∙ has_met walk index number default inside is)
+
+-- each step of a walk is numbered, and its node has a place where it is met again
+pub step_placed : (walk : List declared.Step) (count index : ℕ) (places : List ℕ) (default : declared.Step) → is_numbered count (map seen_step walk) ≡ true → index < length walk → length places ≡ count → HasPlaces (map seen_step walk) places
+    → IsPlaced places (seen_step (get_or walk index default))
+step_placed walk count index places default is inside same has_places =
+    let numbered = step_numbered walk count index (length places) default is inside same in record {
+      numbered = numbered;
+      shared = λ number again.
+          let bounds = subst (λ step. IsNumbered (length places) step) again numbered in
+          let within : index < length (map seen_step walk) = omega (arith, length-map walk seen_step) in
+          let met : get_or (map seen_step walk) index (seen_step default) ≡ meets_again number = get_or-map seen_step walk index default (seen_step default) inside ∙ again in
+          subst (λ (place : ℕ). 0 < place) (sym (has_places.placed number bounds.first bounds.last)) (met_has_place (map seen_step walk) index number (seen_step default) within met);
+    }

@@ -1,0 +1,95 @@
+-- Children by their places: pairs take two places each, and whole graphs name their nodes.
+use Rattle.std.proofs.Common.{◌≡◌, ℕ, zero, suc, ◌+◌, ◌<◌, ◌≤◌, ◌/◌, ◌%◌, Bool, true, false, Option, None, Some, List, [], ◌∷◌, map, length, get_or, refl, sym, ap, ◌∙◌, arith}
+use Rattle.std.specs.Prelude.{IfSome, nat_le, ◌&&◌, ◌^◌}
+use Rattle.std.specs.List.{slice_get, list_all}
+use Rattle.std.proofs.lemmas.Bool.{leb-true}
+use Rattle.std.proofs.lemmas.Option.{slice_get_past, slice_get_within}
+use Rattle.yaml_base.specs.Meetings.{Graph, GraphNode, numbers_held, numbers_in, children}
+use Rattle.yaml_base.specs.SeenNodes.{seen_number, seen_pair, is_whole}
+use Rattle.yaml_base.specs.declared.nodes.yaml_node_pair_t.{yaml_node_pair_t}
+use Rattle.yaml_dump.specs.Standing.{pair_numbers}
+use Rattle.yaml_dump.specs.Named.{IsNamed}
+
+-- the numbers that are seen in pairs
+numbers_seen : List yaml_node_pair_t → List ℕ
+numbers_seen pairs = pair_numbers (map seen_pair pairs)
+
+-- two for each pair
+length-numbers_seen : (pairs : List yaml_node_pair_t) → length (numbers_seen pairs) ≡ length pairs + length pairs
+unfolding numbers_seen
+length-numbers_seen [] = omega arith
+length-numbers_seen (pair ∷ pairs) = omega (arith, length-numbers_seen pairs)
+
+-- behind the last pair
+pub none_behind : (pairs : List yaml_node_pair_t) (place : ℕ) → length pairs ≤ place / 2 → slice_get (pair_numbers (map seen_pair pairs)) place ≡ None
+unfolding numbers_seen
+none_behind pairs place behind = slice_get_past (numbers_seen pairs) place (omega (arith, length-numbers_seen pairs))
+
+-- the key of a pair stands at twice its place
+key_at : (pairs : List yaml_node_pair_t) (half : ℕ) (default : yaml_node_pair_t) → half < length pairs → slice_get (numbers_seen pairs) (half + half) ≡ Some (seen_number (get_or pairs half default).key)
+unfolding numbers_seen
+key_at [] half default within = absurd (omega arith)
+key_at (pair ∷ pairs) zero default within = refl
+key_at (pair ∷ pairs) (suc half) default within =
+    let two : suc half + suc half ≡ suc (suc (half + half)) = omega arith in
+    ap (slice_get (seen_number pair.key ∷ seen_number pair.value ∷ numbers_seen pairs)) two ∙ key_at pairs half default (omega arith)
+
+-- and its value behind it
+value_at : (pairs : List yaml_node_pair_t) (half : ℕ) (default : yaml_node_pair_t) → half < length pairs → slice_get (numbers_seen pairs) (suc (half + half)) ≡ Some (seen_number (get_or pairs half default).value)
+unfolding numbers_seen
+value_at [] half default within = absurd (omega arith)
+value_at (pair ∷ pairs) zero default within = refl
+value_at (pair ∷ pairs) (suc half) default within =
+    let two : suc (suc half + suc half) ≡ suc (suc (suc (half + half))) = omega arith in
+    ap (slice_get (seen_number pair.key ∷ seen_number pair.value ∷ numbers_seen pairs)) two ∙ value_at pairs half default (omega arith)
+
+-- at an even place
+pub key_seen : (pairs : List yaml_node_pair_t) (place : ℕ) (pair : yaml_node_pair_t) → place / 2 < length pairs → pair ≡ get_or pairs (place / 2) pair → place % 2 ≡ 0
+    → slice_get (pair_numbers (map seen_pair pairs)) place ≡ Some (seen_number pair.key)
+unfolding numbers_seen
+key_seen pairs place pair within is even =
+    let halves : place ≡ place / 2 + place / 2 = omega arith in
+    ap (slice_get (numbers_seen pairs)) halves ∙ key_at pairs (place / 2) pair within ∙ ap (λ (p : yaml_node_pair_t). Some (seen_number p.key)) (sym is)
+
+-- at an odd one
+pub value_seen : (pairs : List yaml_node_pair_t) (place : ℕ) (pair : yaml_node_pair_t) → place / 2 < length pairs → pair ≡ get_or pairs (place / 2) pair → (place % 2 ≡ 0 → ⊥)
+    → slice_get (pair_numbers (map seen_pair pairs)) place ≡ Some (seen_number pair.value)
+unfolding numbers_seen
+value_seen pairs place pair within is odd =
+    let halves : place ≡ suc (place / 2 + place / 2) = omega arith in
+    ap (slice_get (numbers_seen pairs)) halves ∙ value_at pairs (place / 2) pair within ∙ ap (λ (p : yaml_node_pair_t). Some (seen_number p.value)) (sym is)
+
+-- a place that can be counted on from: a list of pairs fits in memory
+pub pairs_countable : (pairs : List yaml_node_pair_t) (place : ℕ) (found : Option ℕ) → length pairs < 2 ^ 63 → found ≡ slice_get (pair_numbers (map seen_pair pairs)) place → IfSome found (λ _. place + 1 < 2 ^ 64)
+unfolding numbers_seen
+pairs_countable pairs place None small is = tt
+pairs_countable pairs place (Some number) small is =
+    let within : place < length (numbers_seen pairs) = slice_get_within (numbers_seen pairs) place number (sym is) in
+    omega (arith, length-numbers_seen pairs)
+
+-- the parts of a test
+both_true : (a b : Bool) → (a && b) ≡ true → (a ≡ true) × (b ≡ true)
+both_true true b both = (refl, both)
+both_true false b both = cc
+
+-- what a test of all elements tells of the one at a place
+all_found : {X : Type 0} (test : X → Bool) (xs : List X) (place : ℕ) (x : X) → list_all test xs ≡ true → slice_get xs place ≡ Some x → test x ≡ true
+all_found test [] place x all is = cc
+all_found test (first ∷ xs) zero x all is = let same : first ≡ x = cc in ap test (sym same) ∙ (both_true (test first) (list_all test xs) all).0
+all_found test (first ∷ xs) (suc place) x all is = all_found test xs place x (both_true (test first) (list_all test xs) all).1 is
+
+-- a number that a node of a whole graph holds
+number_named : (graph : Graph) (before place child : ℕ) (found : Option GraphNode) → is_whole graph ≡ true → slice_get graph.nodes before ≡ found → Some child ≡ slice_get (numbers_in found) place
+    → IsNamed (length graph.nodes) child
+number_named graph before place child None whole known is = cc
+number_named graph before place child (Some node) whole known is =
+    let within = λ (number : ℕ). nat_le 1 number && nat_le number (length graph.nodes) in
+    let held = all_found (λ (other : GraphNode). list_all within (numbers_held other.held)) graph.nodes before node whole known in
+    let both = both_true (nat_le 1 child) (nat_le child (length graph.nodes)) (all_found within (numbers_held node.held) place child held (sym is)) in
+    record { first = leb-true 1 child both.0; last = leb-true child (length graph.nodes) both.1 }
+
+-- children of a whole graph's nodes are nodes of it
+pub child_named : (graph : Graph) (number place : ℕ) (found : Option ℕ) → is_whole graph ≡ true → found ≡ slice_get (children graph number) place → IfSome found (λ child. IsNamed (length graph.nodes) child)
+child_named graph number place None whole is = tt
+child_named graph zero place (Some child) whole is = cc
+child_named graph (suc before) place (Some child) whole is = number_named graph before place child (slice_get graph.nodes before) whole refl is

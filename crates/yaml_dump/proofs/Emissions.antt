@@ -1,0 +1,174 @@
+-- Events emitted one after another.
+use Rattle.std.proofs.Common.{◌≡◌, refl, sym, ap, ◌∙◌, subst, append_assoc, append-nil}
+use Rattle.std.proofs.Math.Bool.{or-true}
+use Rattle.std.proofs.lemmas.Bool.{false≢true}
+use Rattle.std.proofs.lemmas.List.{map-append}
+use Rattle.std.specs.Prelude.{Bool, true, false, Option, None, Some, Result, Ok, Err, IsErr, IsErrAnd, OnOk, ◌||◌, List, [], ◌∷◌, ◌++◌, map, if◌then◌else◌}
+use Rattle.yaml_base.specs.Settings.{Settings}
+use Rattle.yaml_base.specs.Event.{Event}
+use Rattle.yaml_base.specs.Seen.{seen_event}
+use Rattle.yaml_base.specs.declared.errors.yaml_error_t.{yaml_error_t}
+use Rattle.yaml_base.specs.declared.events.yaml_event_t.{yaml_event_t}
+use Rattle.yaml_pen.specs.Page.{told}
+use Rattle.yaml_pen.proofs.Writing.{none_from_told}
+use Rattle.yaml_emitter.specs.State.{State, KeepsSet}
+use Rattle.yaml_emitter.specs.StandsAfter.{StandsAfter}
+use Rattle.yaml_emitter.specs.Promises.{Promised}
+use Rattle.yaml_emitter.proofs.Promising.{promised}
+use Rattle.yaml_dump.specs.Dumps.{EmitsAll, EmitsEach, FailsAt, closing}
+
+-- what the caller set stays, but for whether the stream was begun
+abbrev pub KeepsButStart : State → State → Type 0
+KeepsButStart before after = KeepsSet (record before { started = after.started }) after
+
+pub keeps_same : (state : State) → KeepsButStart state state
+keeps_same state = record { given = refl; started = refl; has_output = refl; opened = refl; closed = refl }
+
+-- one more call
+pub keeps_more : (before middle after : State) → KeepsButStart before middle → KeepsSet (record middle { started = true }) after → KeepsButStart before after
+keeps_more before middle after kept more =
+    record {
+      given = more.given ∙ kept.given;
+      started = refl;
+      has_output = more.has_output ∙ kept.has_output;
+      opened = more.opened ∙ kept.opened;
+      closed = more.closed ∙ kept.closed;
+    }
+
+-- an error that was told
+pub some_told : (given : Option yaml_error_t) (error : yaml_error_t) → Err error ≡ told given → given ≡ Some error
+some_told None error is = cc
+some_told (Some other) error is = cc
+
+-- one more event
+pub events_more : {A : Type 0} (all : List Event) (emitted : List (yaml_event_t A)) (next : yaml_event_t A)
+    → (all ++ map seen_event emitted) ++ seen_event next ∷ [] ≡ all ++ map seen_event (emitted ++ next ∷ [])
+events_more all emitted next =
+    append_assoc all (map seen_event emitted) (seen_event next ∷ [])
+    ∙ ap (λ events. all ++ events) (sym (map-append seen_event emitted (next ∷ [])))
+
+pub parts_more : {A : Type 0} (emitted : List (yaml_event_t A)) (next : yaml_event_t A) (rest left all : List (yaml_event_t A)) → emitted ++ left ≡ all → left ≡ next ∷ rest → (emitted ++ next ∷ []) ++ rest ≡ all
+parts_more emitted next rest left all parts is =
+    append_assoc emitted (next ∷ []) rest ∙ ap (λ left. emitted ++ left) (sym is) ∙ parts
+
+-- the call that was given an event failed
+pub failed_at : {A : Type 0} (given : Settings) (all : List Event) (emitted : List (yaml_event_t A)) (next : yaml_event_t A) (rest left events : List (yaml_event_t A)) (error : yaml_error_t) (earlier state : State)
+    → emitted ++ left ≡ events → left ≡ next ∷ rest → earlier.error ≡ None → StandsAfter given (all ++ map seen_event emitted) earlier → state.error ≡ Some error
+    → StandsAfter given ((all ++ map seen_event emitted) ++ seen_event next ∷ []) state → Promised given ((all ++ map seen_event emitted) ++ seen_event next ∷ []) state
+    → FailsAt given all (map seen_event events) error state
+failed_at given all emitted next rest left events error earlier state parts is none stood failed stands kept =
+    record {
+      before = map seen_event emitted;
+      event = seen_event next;
+      later = map seen_event rest;
+      parts = sym (map-append seen_event emitted (next ∷ rest)) ∙ ap (λ left. map seen_event (emitted ++ left)) (sym is) ∙ ap (map seen_event) parts;
+      earlier = earlier;
+      stood = stood;
+      no_error = none;
+      stands = stands;
+      promised = kept;
+      failed = failed;
+    }
+
+-- no event
+pub emits_nothing : (given : Settings) (all : List Event) (state : State) → StandsAfter given all state → state.error ≡ None → EmitsAll given all [] state
+emits_nothing given all state stands none =
+    let stood = subst (λ events. StandsAfter given events state) (sym (append-nil all)) stands in
+    record { stands = stood; promised = promised given (all ++ []) state stood; no_error = none }
+
+-- one event
+pub emits_one : (given : Settings) (all : List Event) (event : Event) (before after : State) (answer : Result (Unit {0}) yaml_error_t) → before.error ≡ None → StandsAfter given all before
+    → StandsAfter given (all ++ event ∷ []) after → answer ≡ told after.error → EmitsEach given all (event ∷ []) answer after
+emits_one given all event before after (Ok _) none stood stands is =
+    record { stands = stands; promised = promised given (all ++ event ∷ []) after stands; no_error = none_from_told after.error is }
+emits_one given all event before after (Err error) none stood stands is =
+    let now = subst (λ events. StandsAfter given (events ++ event ∷ []) after) (sym (append-nil all)) stands in
+    record {
+      before = [];
+      event = event;
+      later = [];
+      parts = refl;
+      earlier = before;
+      stood = subst (λ events. StandsAfter given events before) (sym (append-nil all)) stood;
+      no_error = none;
+      stands = now;
+      promised = promised given ((all ++ []) ++ event ∷ []) after now;
+      failed = some_told after.error error is;
+    }
+
+-- more events after some
+pub emits_then : (given : Settings) (all first second : List Event) (middle after : State) (answer : Result (Unit {0}) yaml_error_t) → EmitsAll given all first middle
+    → EmitsEach given (all ++ first) second answer after → EmitsEach given all (first ++ second) answer after
+emits_then given all first second middle after (Ok _) begun more =
+    let joined = append_assoc all first second in
+    record {
+      stands = subst (λ events. StandsAfter given events after) joined more.stands;
+      promised = subst (λ events. Promised given events after) joined more.promised;
+      no_error = more.no_error;
+    }
+emits_then given all first second middle after (Err error) begun more =
+    let joined = append_assoc all first more.before in
+    record {
+      before = first ++ more.before;
+      event = more.event;
+      later = more.later;
+      parts = append_assoc first more.before (more.event ∷ more.later) ∙ ap (λ events. first ++ events) more.parts;
+      earlier = more.earlier;
+      stood = subst (λ events. StandsAfter given events more.earlier) joined more.stood;
+      no_error = more.no_error;
+      stands = subst (λ events. StandsAfter given (events ++ more.event ∷ []) after) joined more.stands;
+      promised = subst (λ events. Promised given (events ++ more.event ∷ []) after) joined more.promised;
+      failed = more.failed;
+    }
+
+-- a failure before others
+pub emits_failed : (given : Settings) (all first second : List Event) (error : yaml_error_t) (after : State) → FailsAt given all first error after → FailsAt given all (first ++ second) error after
+emits_failed given all first second error after h =
+    record {
+      before = h.before;
+      event = h.event;
+      later = h.later ++ second;
+      parts = sym (append_assoc h.before (h.event ∷ h.later) second) ∙ ap (λ events. events ++ second) h.parts;
+      earlier = h.earlier;
+      stood = h.stood;
+      no_error = h.no_error;
+      stands = h.stands;
+      promised = h.promised;
+      failed = h.failed;
+    }
+
+-- what is passed on
+pub exit_emits : (given : Settings) (all events : List Event) (error : yaml_error_t) (answer : Result (Unit {0}) yaml_error_t) (after : State) → FailsAt given all events error after
+    → IsErr answer × IsErrAnd answer (λ told. told ≡ error) → EmitsEach given all events answer after
+exit_emits given all events error (Ok _) after h is = absurd (false≢true is.0)
+exit_emits given all events error (Err other) after h is = subst (λ (e : yaml_error_t). FailsAt given all events e after) (sym is.1) h
+
+-- a document without nodes, and one with nodes
+abbrev chosen : Bool → (empty events : List Event) → List Event
+chosen b empty events = if b then empty else events
+
+pub emits_closing : (given : Settings) (all first events : List Event) (closed empty : Bool) (middle after : State) (answer : Result (Unit {0}) yaml_error_t) → middle.closed ≡ closed → empty ≡ true
+    → EmitsAll given all first middle → EmitsEach given (all ++ first) (closing middle.closed) answer after
+    → EmitsEach given all (first ++ chosen empty (closing closed) events) answer after
+emits_closing given all first events closed empty middle after answer same is begun more =
+    subst (λ (b : Bool). EmitsEach given all (first ++ chosen b (closing closed) events) answer after) (sym is)
+    (subst (λ (b : Bool). EmitsEach given all (first ++ closing b) answer after) same
+    (emits_then given all first (closing middle.closed) middle after answer begun more))
+
+pub emits_events : (given : Settings) (all first ending events emitted : List Event) (empty : Bool) (middle after : State) (answer : Result (Unit {0}) yaml_error_t) → emitted ≡ events → empty ≡ false
+    → EmitsAll given all first middle → EmitsEach given (all ++ first) emitted answer after
+    → EmitsEach given all (first ++ chosen empty ending events) answer after
+emits_events given all first ending events emitted empty middle after answer same is begun more =
+    subst (λ (b : Bool). EmitsEach given all (first ++ chosen b ending events) answer after) (sym is)
+    (subst (λ (list : List Event). EmitsEach given all (first ++ list) answer after) same
+    (emits_then given all first emitted middle after answer begun more))
+
+-- whatever is answered
+pub on_ok : {P : Type 0} (answer : Result (Unit {0}) yaml_error_t) → P → OnOk answer P
+on_ok (Ok _) p = p
+on_ok (Err error) p = tt
+
+-- a stream is closed that was, or that a document without nodes closes
+pub closed_by : (answer : Result (Unit {0}) yaml_error_t) (closed was empty : Bool) → empty ≡ true → OnOk answer (closed ≡ true) → OnOk answer (closed ≡ (was || empty))
+closed_by (Ok _) closed was empty is h = h ∙ sym (ap (λ b. was || b) is ∙ or-true was)
+closed_by (Err error) closed was empty is h = tt

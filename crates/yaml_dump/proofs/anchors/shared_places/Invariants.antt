@@ -1,0 +1,11 @@
+use Rattle.std.proofs.Common.{◌≡◌, ◌≤◌, map, length, take}
+use Rattle.yaml_dump.specs.Anchors.{Places}
+use Rattle.yaml_dump.specs.Steps.{seen_step}
+use Rattle.yaml_dump.proofs.anchors.shared_places.Given as goal
+
+abbrev pub invariant-loop-step : goal.invariant-loop-step
+invariant-loop-step g l = record {
+  each : length l.places.items ≡ l.count;
+  few : l.shared ≤ l.step-index;
+  placed : Places (map seen_step (take l.step-index l.walk)) l.shared l.places.items;
+}

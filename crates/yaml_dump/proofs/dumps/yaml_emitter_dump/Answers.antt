@@ -1,0 +1,60 @@
+use Rattle.std.proofs.Common.{◌==◌, ◌||◌, ◌++◌, sym, ap, inr, length, map, ◌∙◌}
+use Rattle.std.proofs.Math.Bool.{or-false}
+use Rattle.yaml_base.specs.Documents.{graph_of}
+use Rattle.yaml_base.specs.Meetings.{document_event_list}
+use Rattle.yaml_base.specs.Seen.{seen_event}
+use Rattle.yaml_pen.proofs.Writing.{none_from_told}
+use Rattle.yaml_dump.specs.Dumps.{closing, opening}
+use Rattle.yaml_dump.proofs.Emissions.{on_ok, closed_by, emits_failed, exit_emits, emits_closing, emits_events}
+use Rattle.yaml_dump.proofs.dumps.yaml_emitter_dump.Goals as goal
+
+pub returns-in_err-open_if_needed-clause-dumps : goal.returns-in_err-open_if_needed-clause-dumps
+returns-in_err-open_if_needed-clause-dumps g c none =
+    inr
+    (λ given all stands.
+    exit_emits given all _ c.in_err-open_if_needed.field-0.0 c.from_residual-in_err-open_if_needed.result c.open_if_needed.new.emitter
+    (emits_failed given all (opening c.args.emitter.now.opened) _ c.in_err-open_if_needed.field-0.0 c.open_if_needed.new.emitter (c.in_err-open_if_needed.ensures.emits given all stands))
+    c.from_residual-in_err-open_if_needed.ensures)
+
+pub close_if_needed-requires-clause-no_error : goal.close_if_needed-requires-clause-no_error
+close_if_needed-requires-clause-no_error g c = none_from_told c.open_if_needed.new.emitter.error c.in_ok-open_if_needed.ensures.answered
+
+pub emit_each-requires-clause-no_error : goal.emit_each-requires-clause-no_error
+emit_each-requires-clause-no_error g c = none_from_told c.open_if_needed.new.emitter.error c.in_ok-open_if_needed.ensures.answered
+
+pub returns-then-is_empty-clause-dumps : goal.returns-then-is_empty-clause-dumps
+returns-then-is_empty-clause-dumps g c none =
+    let graph = graph_of c.args.document in
+    inr
+    (λ given all stands.
+    let begun = c.in_ok-open_if_needed.ensures.emits given all stands in
+    emits_closing given all (opening c.args.emitter.now.opened) (document_event_list graph) c.args.emitter.now.closed (length graph.nodes == 0) c.open_if_needed.new.emitter c.close_if_needed.new.emitter c.close_if_needed.result
+    c.open_if_needed.ensures.closed (sym c.is_empty.ensures ∙ c.if-is_empty.true) begun
+    (c.close_if_needed.ensures.emits given (all ++ opening c.args.emitter.now.opened) begun.stands))
+
+pub returns-clause-dumps : goal.returns-clause-dumps
+returns-clause-dumps g c none =
+    let graph = graph_of c.args.document in
+    inr
+    (λ given all stands.
+    let begun = c.in_ok-open_if_needed.ensures.emits given all stands in
+    emits_events given all (opening c.args.emitter.now.opened) (closing c.args.emitter.now.closed) (document_event_list graph) (map seen_event c.in_ok-events.events.items) (length graph.nodes == 0) c.open_if_needed.new.emitter c.emit_each.new.emitter c.emit_each.result
+    c.in_ok-events.ensures.events (sym c.is_empty.ensures ∙ c.if-is_empty.false) begun
+    (c.emit_each.ensures.emits given (all ++ opening c.args.emitter.now.opened) begun.stands))
+
+pub returns-then-is_empty-clause-opened : goal.returns-then-is_empty-clause-opened
+returns-then-is_empty-clause-opened g c = on_ok c.close_if_needed.result c.close_if_needed.ensures.opened
+
+pub returns-then-is_empty-clause-closed : goal.returns-then-is_empty-clause-closed
+returns-then-is_empty-clause-closed g c =
+    closed_by c.close_if_needed.result c.close_if_needed.new.emitter.closed c.args.emitter.now.closed (length (graph_of c.args.document).nodes == 0)
+    (sym c.is_empty.ensures ∙ c.if-is_empty.true) c.close_if_needed.ensures.closed
+
+pub returns-clause-opened : goal.returns-clause-opened
+returns-clause-opened g c = on_ok c.emit_each.result (c.emit_each.ensures.set.opened ∙ c.in_ok-open_if_needed.ensures.opened)
+
+pub returns-clause-closed : goal.returns-clause-closed
+returns-clause-closed g c =
+    on_ok c.emit_each.result
+    (c.emit_each.ensures.set.closed ∙ c.open_if_needed.ensures.closed
+    ∙ sym (ap (λ empty. c.args.emitter.now.closed || empty) (sym c.is_empty.ensures ∙ c.if-is_empty.false) ∙ or-false c.args.emitter.now.closed))

@@ -1,0 +1,42 @@
+use Rattle.std.proofs.Common.{◌++◌, map, sym, ap, ◌∙◌, subst}
+use Rattle.std.proofs.lemmas.Iterator.Adapters.{YieldsList-from_vec}
+use Rattle.std.proofs.lemmas.Iterator.Consumers.{YieldsList-end}
+use Rattle.std.proofs.lemmas.List.{map-id}
+use Rattle.std.specs.Vec.Iter.{into_iter_items}
+use Rattle.yaml_base.specs.Seen.{seen_event}
+use Rattle.yaml_pen.proofs.Writing.{none_from_told}
+use Rattle.yaml_emitter.specs.StandsAfter.{StandsAfter}
+use Rattle.yaml_emitter.proofs.Promising.{promised}
+use Rattle.yaml_dump.proofs.Emissions.{keeps_more, some_told, events_more, parts_more, failed_at}
+use Rattle.yaml_dump.proofs.emitting.emit_each.Goals as goal
+
+pub returns-in-Err-clause-emits : goal.returns-in-Err-clause-emits
+returns-in-Err-clause-emits g c given all stands =
+    let now = c.loop-event in
+    let stood = now.invariant.5 given all stands in
+    failed_at given all now.yielded c.in-Some.event (into_iter_items c.next.new.self) (into_iter_items now.event-iterator) c.args.events.items c.in-Err.error now.emitter c.yaml_emitter_emit.new.emitter
+    now.invariant.4 c.in-Some.ensures.steps.0 now.invariant.3 stood (some_told c.yaml_emitter_emit.new.emitter.error c.in-Err.error c.in-Err.ensures.answered)
+    (c.yaml_emitter_emit.ensures.stands given (all ++ map seen_event now.yielded) stood)
+    (c.yaml_emitter_emit.ensures.promised given (all ++ map seen_event now.yielded) stood)
+
+pub loop-event-preserved : goal.loop-event-preserved
+loop-event-preserved g c =
+    let now = c.loop-event in (
+      tt,
+      tt,
+      c.yaml_emitter_emit.ensures.output,
+      none_from_told c.yaml_emitter_emit.new.emitter.error c.in_default.ensures.answered,
+      parts_more now.yielded c.in-Some.event (into_iter_items c.next.new.self) (into_iter_items now.event-iterator) c.args.events.items now.invariant.4 c.in-Some.ensures.steps.0,
+      λ given all stands.
+          subst (λ events. StandsAfter given events c.yaml_emitter_emit.new.emitter) (events_more all now.yielded c.in-Some.event)
+          (c.yaml_emitter_emit.ensures.stands given (all ++ map seen_event now.yielded) (now.invariant.5 given all stands)),
+      keeps_more c.args.emitter.now now.emitter c.yaml_emitter_emit.new.emitter now.invariant.6 c.yaml_emitter_emit.ensures.set,
+    )
+
+pub returns-clause-emits : goal.returns-clause-emits
+returns-clause-emits g c given all stands =
+    let now = c.loop-event in
+    let road = YieldsList-from_vec {s = c.into_iter-event-iterator.result} c.args.events.items c.into_iter-event-iterator.ensures.into_iter_gives.0 (c.into_iter-event-iterator.ensures.into_iter_gives.1 ∙ c.args.events.ok.0) in
+    let whole = ap (map seen_event) (sym (map-id now.yielded) ∙ (YieldsList-end road now.yielded now.event-iterator now.yielded_by c.next.result c.next.new.self c.in-None.is c.next.ensures.steps).0) in
+    let stands = subst (λ events. StandsAfter given (all ++ events) now.emitter) whole (now.invariant.5 given all stands) in
+    record { stands = stands; promised = promised given _ now.emitter stands; no_error = now.invariant.3 }

@@ -1,0 +1,19 @@
+use Rattle.std.proofs.Common.{◌≡◌, length, subst, sym}
+use Rattle.std.proofs.lemmas.Result.{IfOk-weaker}
+use Rattle.yaml_base.specs.Documents.{graph_of}
+use Rattle.yaml_base.specs.Meetings.{step_events}
+use Rattle.yaml_dump.specs.Anchors.{IsNumbered}
+use Rattle.yaml_dump.specs.Events.{seen_events_of}
+use Rattle.yaml_dump.specs.Steps.{seen_step}
+use Rattle.yaml_dump.proofs.EventLemmas.{entered}
+use Rattle.yaml_dump.proofs.events.step_event.Goals as goal
+
+pub returns-in-Enters : goal.returns-in-Enters
+returns-in-Enters g c =
+    let graph = graph_of c.args.document.now in
+    let places = c.args.places.now in
+    let numbered = subst (λ step. IsNumbered (length places) (seen_step step)) c.in-Enters.is c.requires.placed.numbered in
+    IfOk-weaker c.beginning_at.result _ _
+    (λ event is walk has_places.
+    subst (λ step. seen_events_of event ≡ step_events graph walk (seen_step step)) (sym c.in-Enters.is) (entered graph walk places c.in-Enters.number (seen_events_of event) numbered has_places is))
+    c.beginning_at.ensures

@@ -1,0 +1,46 @@
+use Rattle.std.proofs.Common.{length, reverse, ap, arith, rules, FitsSigned, w32}
+use Rattle.std.proofs.Math.IntN.{nat_abs}
+use Rattle.std.proofs.lemmas.Bool.{eqb-false}
+use Rattle.std.proofs.lemmas.Int.{to_z-of_z}
+use Rattle.std.proofs.lemmas.List.{nil_from_length}
+use Rattle.yaml_base.specs.Documents.{graph_of}
+use Rattle.yaml_dump.specs.Standing.{seen_walker}
+use Rattle.yaml_dump.proofs.StandingLemmas.{stands_first, stands_popped, stands_behind, steps_fewer, steps_whole, innermost_named, walk_named}
+use Rattle.yaml_dump.proofs.walk.walk.Goals as goal
+
+pub loop-visit-init : goal.loop-visit-init
+loop-visit-init g c =
+    let nodes = (graph_of c.args.document.now).nodes in
+    let nonempty = eqb-false (length nodes) 0 c.requires.nonempty in
+    let fits : FitsSigned w32 c.node_count.result = search rules in
+    let count = simp to_z-of_z at c.in_ok-walker.ensures in
+    stands_first (graph_of c.args.document.now) _ (seen_walker c.in_ok-walker.walker) (seen_walker c.meet.new.self) (omega (arith, nonempty)) (ap nat_abs c.node_count.ensures) count c.in_ok-meet.ensures
+
+pub go_on-requires-clause-named : goal.go_on-requires-clause-named
+go_on-requires-clause-named g c =
+    let walker = c.loop-visit.walker in
+    innermost_named (graph_of c.args.document.now) c.in-Some.visit (seen_walker (record walker { visits = c.pop.new.self }))
+    (stands_popped (graph_of c.args.document.now) walker c.pop.new.self c.in-Some.visit c.in-Some.ensures.items c.loop-visit.invariant)
+
+pub loop-visit-smaller : goal.loop-visit-smaller
+loop-visit-smaller g c =
+    let walker = c.loop-visit.walker in
+    steps_fewer (graph_of c.args.document.now) c.in-Some.visit (seen_walker (record walker { visits = c.pop.new.self })) (seen_walker c.go_on.new.self) c.numbers_name_nodes.ensures
+    (stands_popped (graph_of c.args.document.now) walker c.pop.new.self c.in-Some.visit c.in-Some.ensures.items c.loop-visit.invariant)
+    c.in_ok-go_on.ensures
+
+pub loop-visit-preserved : goal.loop-visit-preserved
+loop-visit-preserved g c =
+    let walker = c.loop-visit.walker in
+    stands_behind (graph_of c.args.document.now) c.in-Some.visit (seen_walker (record walker { visits = c.pop.new.self })) (seen_walker c.go_on.new.self) c.numbers_name_nodes.ensures
+    (stands_popped (graph_of c.args.document.now) walker c.pop.new.self c.in-Some.visit c.in-Some.ensures.items c.loop-visit.invariant)
+    c.in_ok-go_on.ensures
+
+pub returns-clause-walked : goal.returns-clause-walked
+returns-clause-walked g c =
+    let visits = c.loop-visit.walker.visits in
+    let none = nil_from_length visits.items (omega (arith, c.in_default.ensures.cases, visits.ok)) in
+    steps_whole (graph_of c.args.document.now) (seen_walker c.loop-visit.walker) (ap reverse none) c.loop-visit.invariant
+
+pub returns-clause-named : goal.returns-clause-named
+returns-clause-named g c = walk_named (length (graph_of c.args.document.now).nodes) c.loop-visit.walker.steps.items c.loop-visit.invariant.sound.steps_named

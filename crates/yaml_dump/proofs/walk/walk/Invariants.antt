@@ -1,0 +1,12 @@
+use Rattle.std.proofs.Common.{◌-◌, length}
+use Rattle.yaml_base.specs.Meetings as meetings
+use Rattle.yaml_base.specs.Documents.{graph_of}
+use Rattle.yaml_dump.specs.Standing.{seen_walker}
+use Rattle.yaml_dump.proofs.StandingLemmas.{Stands}
+use Rattle.yaml_dump.proofs.walk.walk.Given as goal
+
+abbrev pub invariant-loop-visit : goal.invariant-loop-visit
+invariant-loop-visit g l = Stands (graph_of l.document) (seen_walker l.walker)
+
+abbrev pub decreases-loop-visit : goal.decreases-loop-visit
+decreases-loop-visit g l = length (meetings.steps (graph_of l.document)) - length (seen_walker l.walker).steps

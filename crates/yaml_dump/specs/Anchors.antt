@@ -1,0 +1,32 @@
+-- The anchors of shared nodes, as the code keeps them: for each node its place among the shared ones.
+use Rattle.std.specs.Prelude.{ℕ, zero, suc, ◌+◌, ◌-◌, ◌≤◌, ◌≡◌, ◌==◌, ◌&&◌, Bool, nat_le, Option, None, Some, List, length, position, option_map, unwrap_or, slice_index}
+use Rattle.std.specs.List.{list_all}
+use Rattle.yaml_base.specs.Characters.{Text}
+use Rattle.yaml_base.specs.Meetings.{Step, shared_nodes, numbered_name}
+use Rattle.yaml_dump.specs.Named.{IsNamed, number_in}
+
+-- a step is about one of so many nodes
+abbrev pub IsNumbered : ℕ → Step → Type 0
+IsNumbered count step = IsNamed count (number_in step)
+
+-- each step of a walk is about one of so many nodes
+abbrev pub is_numbered : ℕ → List Step → Bool
+is_numbered count walk = list_all (λ step. nat_le 1 (number_in step) && nat_le (number_in step) count) walk
+
+-- where a number first stands in a list, from 1 on; 0 where it doesn't
+abbrev pub place_in : List ℕ → ℕ → ℕ
+place_in numbers number = unwrap_or (option_map (λ place. place + 1) (position (λ other. other == number) numbers)) 0
+
+-- the anchor of the shared node of a place; the place 0 has none
+abbrev pub anchor_of_place : ℕ → Option Text
+anchor_of_place zero = None
+anchor_of_place (suc before) = Some (numbered_name (suc before))
+
+-- for each node its place among those that a walk meets again
+pub record HasPlaces (walk : List Step) (places : List ℕ) : Type 0 where
+  pub placed : (number : ℕ) → 1 ≤ number → number ≤ length places → slice_index places (number - 1) ≡ place_in (shared_nodes walk) number
+
+-- a walk so far has met so many nodes again, and gave each its place
+pub record Places (walk : List Step) (shared : ℕ) (places : List ℕ) : Type 0 where
+  pub counted : shared ≡ length (shared_nodes walk)
+  pub given : HasPlaces walk places

@@ -1,0 +1,54 @@
+-- What it means that events are emitted in order.
+use Rattle.std.specs.Prelude.{◌≡◌, ◌⊎◌, ◌==◌, Bool, None, Some, Result, Ok, Err, List, [], ◌∷◌, ◌++◌, length, if◌then◌else◌}
+use Rattle.yaml_base.specs.Settings.{Settings}
+use Rattle.yaml_base.specs.Event.{Event, stream_start, stream_end}
+use Rattle.yaml_base.specs.Meetings.{Graph, document_event_list}
+use Rattle.yaml_base.specs.declared.errors.yaml_error_t.{yaml_error_t}
+use Rattle.yaml_base.specs.declared.errors.yaml_error_t.TheVariants.{Memory}
+use Rattle.yaml_emitter.specs.State.{State}
+use Rattle.yaml_emitter.specs.StandsAfter.{StandsAfter}
+use Rattle.yaml_emitter.specs.Promises.{Promised}
+
+-- all of them, without an error
+pub record EmitsAll (given : Settings) (all events : List Event) (state : State) : Type 0 where
+  pub stands : StandsAfter given (all ++ events) state
+  pub promised : Promised given (all ++ events) state
+  pub no_error : state.error ≡ None
+
+-- up to the first whose call answered an error, this one; none after it was given
+pub record FailsAt (given : Settings) (all events : List Event) (error : yaml_error_t) (state : State) : Type 0 where
+  pub before : List Event
+  pub event : Event
+  pub later : List Event
+  pub parts : before ++ event ∷ later ≡ events
+  pub earlier : State
+  pub stood : StandsAfter given (all ++ before) earlier
+  pub no_error : earlier.error ≡ None
+  pub stands : StandsAfter given (all ++ before ++ event ∷ []) state
+  pub promised : Promised given (all ++ before ++ event ∷ []) state
+  pub failed : state.error ≡ Some error
+
+-- events are emitted in order, after those that were given before, up to the first error
+abbrev pub EmitsEach : Settings → (all events : List Event) → Result (Unit {0}) yaml_error_t → State → Type 0
+EmitsEach given all events (Ok _) state = EmitsAll given all events state
+EmitsEach given all events (Err error) state = FailsAt given all events error state
+
+-- what opens a stream that isn't opened
+abbrev pub opening : Bool → List Event
+opening opened = if opened then [] else stream_start None ∷ []
+
+-- what a document without nodes emits: the stream's end, where it isn't closed
+abbrev pub closing : Bool → List Event
+closing closed = if closed then [] else stream_end ∷ []
+
+-- what a dump emits: the document's events, after the stream's start where it isn't opened; a document without nodes
+-- closes the stream
+abbrev pub dumped_events : State → Graph → List Event
+dumped_events state graph =
+    opening state.opened ++ (if length graph.nodes == 0 then closing state.closed else document_event_list graph)
+
+-- a dump on an emitter without an error: its list of events found no room, and nothing was done; or they were emitted
+abbrev pub Dumps : Graph → State → Result (Unit {0}) yaml_error_t → State → Type 0
+Dumps graph before answer after =
+    ((answer ≡ Err Memory) × (after ≡ before))
+    ⊎ ((given : Settings) (all : List Event) → StandsAfter given all before → EmitsEach given all (dumped_events before graph) answer after)

@@ -1,0 +1,21 @@
+-- Numbers in a walk's steps that name nodes.
+use Rattle.std.specs.Prelude.{ℕ, ◌≤◌, List, All}
+use Rattle.yaml_base.specs.Meetings as meetings
+use Rattle.yaml_base.specs.Meetings.{enters, leaves, meets_again}
+use Rattle.yaml_dump.specs.Steps.{seen_step}
+use Rattle.yaml_dump.specs.declared.steps.Step.{Step}
+
+-- one of so many nodes has this number
+pub record IsNamed (count number : ℕ) : Type 0 where
+  pub first : 1 ≤ number
+  pub last : number ≤ count
+
+-- the node that a step speaks of
+abbrev pub number_in : meetings.Step → ℕ
+number_in (enters number) = number
+number_in (leaves number) = number
+number_in (meets_again number) = number
+
+-- each step speaks of one of so many nodes
+abbrev pub AreNamed : ℕ → List Step → Type 0
+AreNamed count walk = All (λ step. IsNamed count (number_in (seen_step step))) walk

@@ -1,0 +1,54 @@
+-- Where a walk over a document's nodes stands.
+use Rattle.std.specs.Prelude.{ℕ, ◌+◌, ◌-◌, Bool, true, false, Option, None, Some, List, [], ◌∷◌, ◌++◌, flat_map, map, replicate, reverse, slice_get, slice_index_or, slice_set}
+use Rattle.yaml_base.specs.Meetings as meetings
+use Rattle.yaml_base.specs.Meetings.{Graph, children, enters, leaves, meets_again}
+use Rattle.yaml_dump.specs.Steps.{seen_step}
+use Rattle.yaml_dump.specs.declared.walk.Visit.{Visit}
+use Rattle.yaml_dump.specs.declared.walk.Walker.{Walker}
+
+-- the steps so far, whether each node was entered (that of number 1 first), and the visits, the innermost first
+pub record Standing : Type 0 where
+  pub steps : List meetings.Step
+  pub entered : List Bool
+  pub visits : List Visit
+
+abbrev pub seen_walker : {A : Type 0} → Walker A → Standing
+seen_walker walker = record { steps = map seen_step walker.steps.items; entered = walker.entered.items; visits = reverse walker.visits.items }
+
+-- before the first of so many nodes is met
+abbrev pub at_start : ℕ → Standing
+at_start count = record { steps = []; entered = replicate count false; visits = [] }
+
+-- behind a step
+abbrev pub with_step : meetings.Step → Standing → Standing
+with_step step standing = record standing { steps = standing.steps ++ step ∷ [] }
+
+-- in a visit, the innermost
+abbrev pub with_visit : Visit → Standing → Standing
+with_visit visit standing = record standing { visits = visit ∷ standing.visits }
+
+-- behind the meeting of a node that was entered or not
+abbrev pub with_node : Bool → ℕ → Standing → Standing
+with_node true number standing = with_step (meets_again number) standing
+with_node false number standing = with_visit (record { number = number; met = 0 }) (with_step (enters number) (record standing { entered = slice_set standing.entered (number - 1) true }))
+
+-- behind the meeting of a node
+abbrev pub with_meeting : ℕ → Standing → Standing
+with_meeting number standing = with_node (slice_index_or standing.entered (number - 1) false) number standing
+
+-- the child that a visit meets next, if there is one
+abbrev pub child_of : Graph → Visit → Option ℕ
+child_of graph visit = slice_get (children graph visit.number) visit.met
+
+-- a visit goes on with its next child, or its node is left
+abbrev pub with_child : Visit → Option ℕ → Standing → Standing
+with_child visit None standing = with_step (leaves visit.number) standing
+with_child visit (Some child) standing = with_meeting child (with_visit (record { number = visit.number; met = visit.met + 1 }) standing)
+
+-- behind a turn of a visit that was taken out
+abbrev pub with_turn : Graph → Visit → Standing → Standing
+with_turn graph visit standing = with_child visit (child_of graph visit) standing
+
+-- the numbers of pairs, keys before values
+abbrev pub pair_numbers : List meetings.NumberPair → List ℕ
+pair_numbers pairs = flat_map (λ pair. pair.key ∷ pair.value ∷ []) pairs

@@ -1,0 +1,11 @@
+-- What contracts see of a walk's steps.
+use Rattle.yaml_base.specs.Meetings as meetings
+use Rattle.yaml_base.specs.Meetings.{enters, leaves, meets_again}
+use Rattle.yaml_dump.specs.declared.steps.Step.{Step}
+use Rattle.yaml_dump.specs.declared.steps.Step.TheVariants.{Enters, Leaves, MeetsAgain}
+
+-- a step
+abbrev pub seen_step : Step → meetings.Step
+seen_step (Enters number) = enters number
+seen_step (Leaves number) = leaves number
+seen_step (MeetsAgain number) = meets_again number

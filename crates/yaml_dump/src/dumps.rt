@@ -1,0 +1,115 @@
+//! Documents dumped: their events, emitted.
+
+ghost use Rattle.std.specs.Prelude.{◌≡◌, ◌⊎◌, ◌||◌, ◌==◌, true, false, None, Some, Ok, Err, List, length, map, IfOk, IfErr, OnOk, OnErr, IsSome};
+ghost use Rattle.yaml_base.specs.Documents.{graph_of};
+ghost use Rattle.yaml_base.specs.Event.{Event};
+ghost use Rattle.yaml_base.specs.Meetings.{document_event_list};
+ghost use Rattle.yaml_base.specs.Seen.{seen_event};
+ghost use Rattle.yaml_base.specs.Settings.{Settings};
+ghost use Rattle.yaml_pen.specs.Page.{told};
+ghost use Rattle.yaml_dump.specs.Dumps.{Dumps, EmitsEach, closing, opening};
+ghost use Rattle.yaml_emitter.specs.StandsAfter.{StandsAfter};
+
+use crate::emitting::emit_each;
+use crate::events::events_of_walk;
+use crate::streams::{yaml_emitter_close, yaml_emitter_open};
+use crate::walk::walk;
+use std::alloc::{AllocError, Allocator};
+use yaml_base::{yaml_document_t, yaml_error_t, yaml_event_t};
+use yaml_emitter::yaml_emitter_t;
+
+/// The events of a document, from its start to its end; none where it has no nodes.
+///
+/// Each node that is reached from node 1 is written where it is first met, and stands as an alias elsewhere; nodes that
+/// are met more than once have anchors, numbered in the order of their second meetings (`id001`).
+///
+/// # Errors
+/// `Memory` where a growth was refused.
+pub fn document_events<A: Allocator + Copy>(
+    alloc: A,
+    document: &yaml_document_t<A>,
+) -> Result<Vec<yaml_event_t<A>, A>, yaml_error_t>
+    ensures events { IfOk result (λ events. map seen_event events.items ≡ document_event_list (graph_of document.now)) }
+    ensures memory { IfErr result (λ error. error ≡ yaml_error_t.Memory) }
+{
+    if document.is_empty() {
+        return Ok(Vec::new(alloc));
+    }
+    events_of_nodes(alloc, document).map_err(|_| yaml_error_t::Memory)
+}
+
+/// Those of a document that has nodes.
+fn events_of_nodes<A: Allocator + Copy>(
+    alloc: A,
+    document: &yaml_document_t<A>,
+) -> Result<Vec<yaml_event_t<A>, A>, AllocError>
+    requires nonempty { (length (graph_of document.now).nodes == 0) ≡ false }
+    ensures { IfOk result (λ events. map seen_event events.items ≡ document_event_list (graph_of document.now)) }
+{
+    let walk = walk(alloc, document)?;
+    events_of_walk(alloc, document, walk.as_slice())
+}
+
+/// Opens the stream where it isn't opened.
+fn open_if_needed<A: Allocator + Copy>(emitter: &mut yaml_emitter_t<A>) -> Result<(), yaml_error_t>
+    requires output { emitter.old.has_output ≡ true }
+    requires no_error { emitter.old.error ≡ None }
+    ensures emits { (given : Settings) (all : List Event) → StandsAfter given all emitter.old → EmitsEach given all (opening emitter.old.opened) result emitter.new }
+    ensures opened { OnOk result (emitter.new.opened ≡ true) }
+    ensures closed { emitter.new.closed ≡ emitter.old.closed }
+    ensures given { emitter.new.given ≡ emitter.old.given }
+    ensures output { emitter.new.has_output ≡ true }
+    ensures answered { result ≡ told emitter.new.error }
+{
+    if emitter.is_opened() {
+        return Ok(());
+    }
+    yaml_emitter_open(emitter)
+}
+
+/// Closes an opened stream where it isn't closed.
+fn close_if_needed<A: Allocator + Copy>(emitter: &mut yaml_emitter_t<A>) -> Result<(), yaml_error_t>
+    requires opened { emitter.old.opened ≡ true }
+    requires output { emitter.old.has_output ≡ true }
+    requires no_error { emitter.old.error ≡ None }
+    ensures emits { (given : Settings) (all : List Event) → StandsAfter given all emitter.old → EmitsEach given all (closing emitter.old.closed) result emitter.new }
+    ensures opened { emitter.new.opened ≡ true }
+    ensures closed { OnOk result (emitter.new.closed ≡ true) }
+    ensures given { emitter.new.given ≡ emitter.old.given }
+    ensures output { emitter.new.has_output ≡ true }
+{
+    if emitter.is_closed() {
+        return Ok(());
+    }
+    yaml_emitter_close(emitter)
+}
+
+/// Emits a document's events, after opening the stream where it isn't opened; a document without nodes closes the
+/// stream. The document is taken in each case.
+///
+/// # Errors
+/// The first error that there was, in this call or before. Where the list of events finds no room, `Memory` is answered
+/// and the emitter is as before.
+pub fn yaml_emitter_dump<A: Allocator + Copy>(
+    alloc: A,
+    emitter: &mut yaml_emitter_t<A>,
+    document: yaml_document_t<A>,
+) -> Result<(), yaml_error_t>
+    requires { emitter.old.has_output ≡ true }
+    ensures failed { IsSome emitter.old.error → (emitter.new ≡ emitter.old) × (result ≡ told emitter.old.error) }
+    ensures dumps { emitter.old.error ≡ None → Dumps (graph_of document) emitter.old result emitter.new }
+    ensures opened { OnOk result (emitter.new.opened ≡ true) }
+    ensures closed { OnOk result (emitter.new.closed ≡ (emitter.old.closed || length (graph_of document).nodes == 0)) }
+    ensures given { emitter.new.given ≡ emitter.old.given }
+    ensures output { emitter.new.has_output ≡ true }
+{
+    if let Some(error) = emitter.error() {
+        return Err(error);
+    }
+    let events = document_events(alloc, &document)?;
+    open_if_needed(emitter)?;
+    if document.is_empty() {
+        return close_if_needed(emitter);
+    }
+    emit_each(emitter, events)
+}

@@ -1,0 +1,277 @@
+//! Documents dumped: texts worked out by hand, and dumps in wrong moments.
+use super::{document, mapping, scalar, sequence, text};
+use crate::{document_events, yaml_emitter_close, yaml_emitter_dump, yaml_emitter_open};
+use std::alloc::{AllocError, Global};
+use std::process::Abort;
+use std::test::Fail;
+use yaml_base::{
+    YAML_ANY_ENCODING, YAML_STREAM_END_EVENT, YAML_STREAM_START_EVENT, yaml_document_t,
+    yaml_error_t, yaml_event_t, yaml_node_t,
+};
+use yaml_emitter::{
+    yaml_emitter_emit, yaml_emitter_initialize, yaml_emitter_set_canonical,
+    yaml_emitter_set_output_string, yaml_emitter_set_width, yaml_emitter_t,
+};
+
+fn begun(alloc: Global) -> Result<yaml_emitter_t<Global>, yaml_error_t> {
+    let mut emitter = yaml_emitter_initialize(alloc)?;
+    yaml_emitter_set_output_string(&mut emitter, usize::MAX);
+    Ok(emitter)
+}
+
+fn dump(
+    rt: &impl Abort,
+    alloc: Global,
+    emitter: &mut yaml_emitter_t<Global>,
+    document: yaml_document_t<Global>,
+) -> Result<(), yaml_error_t> {
+    assert!(rt; emitter.has_output());
+    yaml_emitter_dump(alloc, emitter, document)
+}
+
+fn close(rt: &impl Abort, emitter: &mut yaml_emitter_t<Global>) -> Result<(), yaml_error_t> {
+    assert!(rt; emitter.is_opened());
+    yaml_emitter_close(emitter)
+}
+
+fn emit(
+    rt: &impl Abort,
+    emitter: &mut yaml_emitter_t<Global>,
+    event: yaml_event_t<Global>,
+) -> Result<(), yaml_error_t> {
+    assert!(rt; emitter.has_output());
+    yaml_emitter_emit(emitter, event)
+}
+
+// A dump of these nodes and a close give this text.
+fn check_text(
+    rt: &impl Abort,
+    alloc: Global,
+    nodes: Vec<yaml_node_t<Global>>,
+    expected: &str,
+) -> Result<(), Fail> {
+    let mut emitter = begun(alloc)?;
+    let answer = dump(rt, alloc, &mut emitter, document(rt, alloc, nodes));
+    assert_eq!(rt; answer, Ok(()));
+    assert_eq!(rt; emitter.held(), 0);
+    assert_eq!(rt; close(rt, &mut emitter), Ok(()));
+    assert!(rt; emitter.is_closed());
+    assert_eq!(rt; emitter.output(), expected.as_bytes());
+    Ok(())
+}
+
+/// A sequence that holds one string twice.
+fn shared_string(alloc: Global) -> Result<Vec<yaml_node_t<Global>>, AllocError> {
+    Ok(vec![in alloc; sequence(alloc, &[2, 2])?, text(alloc, "a")?]?)
+}
+
+#[test]
+fn a_shared_node_is_written_once(rt: HostRuntime) -> Result<(), Fail> {
+    let alloc = rt.alloc();
+    check_text(&rt, alloc, shared_string(alloc)?, "- &id001 a\n- *id001\n")
+}
+
+#[test]
+fn anchors_are_numbered_by_second_meetings(rt: HostRuntime) -> Result<(), Fail> {
+    let alloc = rt.alloc();
+    let nodes = vec![in alloc;
+        sequence(alloc, &[2, 2])?,
+        sequence(alloc, &[3, 3])?,
+        text(alloc, "a")?,
+    ]?;
+    check_text(
+        &rt,
+        alloc,
+        nodes,
+        "- &id002\n  - &id001 a\n  - *id001\n- *id002\n",
+    )
+}
+
+#[test]
+fn a_mapping_may_hold_itself(rt: HostRuntime) -> Result<(), Fail> {
+    let alloc = rt.alloc();
+    let nodes = vec![in alloc; mapping(alloc, 2, 1)?, text(alloc, "k")?]?;
+    check_text(&rt, alloc, nodes, "&id001\nk: *id001\n")
+}
+
+#[test]
+fn another_tag_than_that_of_strings_is_written(rt: HostRuntime) -> Result<(), Fail> {
+    let alloc = rt.alloc();
+    let nodes = vec![in alloc; scalar(alloc, "tag:yaml.org,2002:int", "5")?]?;
+    check_text(&rt, alloc, nodes, "!!int 5\n")?;
+    let mut emitter = begun(alloc)?;
+    let untagged = document(&rt, alloc, vec![in alloc; scalar(alloc, "", "5")?]?);
+    let answer = dump(&rt, alloc, &mut emitter, untagged);
+    assert_eq!(rt; answer, Err(yaml_error_t::TagEmpty));
+    Ok(())
+}
+
+#[test]
+fn a_node_beside_the_root_is_left_out(rt: HostRuntime) -> Result<(), Fail> {
+    let alloc = rt.alloc();
+    let mut emitter = begun(alloc)?;
+    assert!(rt; emitter.has_output());
+    assert!(rt; !emitter.is_opened());
+    assert_eq!(rt; yaml_emitter_open(&mut emitter), Ok(()));
+    let nodes = vec![in alloc; text(alloc, "a")?, text(alloc, "b")?]?;
+    let answer = dump(&rt, alloc, &mut emitter, document(&rt, alloc, nodes));
+    assert_eq!(rt; answer, Ok(()));
+    assert_eq!(rt; close(&rt, &mut emitter), Ok(()));
+    assert_eq!(rt; emitter.output(), b"a\n".as_slice());
+    Ok(())
+}
+
+#[test]
+fn a_document_may_be_dumped_twice(rt: HostRuntime) -> Result<(), Fail> {
+    let alloc = rt.alloc();
+    let mut emitter = begun(alloc)?;
+    for _ in 0..2 {
+        let again = document(&rt, alloc, shared_string(alloc)?);
+        assert_eq!(rt; dump(&rt, alloc, &mut emitter, again), Ok(()));
+    }
+    assert_eq!(rt; close(&rt, &mut emitter), Ok(()));
+    assert_eq!(rt;
+        emitter.output(),
+        b"- &id001 a\n- *id001\n---\n- &id001 a\n- *id001\n".as_slice()
+    );
+    Ok(())
+}
+
+#[test]
+fn canonical_text_has_every_tag_and_anchor(rt: HostRuntime) -> Result<(), Fail> {
+    let alloc = rt.alloc();
+    let mut emitter = yaml_emitter_initialize(alloc)?;
+    yaml_emitter_set_output_string(&mut emitter, usize::MAX);
+    yaml_emitter_set_canonical(&mut emitter, true);
+    yaml_emitter_set_width(&mut emitter, -1);
+    let nodes = vec![in alloc; mapping(alloc, 2, 1)?, text(alloc, "k")?]?;
+    let answer = dump(&rt, alloc, &mut emitter, document(&rt, alloc, nodes));
+    assert_eq!(rt; answer, Ok(()));
+    assert_eq!(rt; close(&rt, &mut emitter), Ok(()));
+    assert_eq!(rt;
+        emitter.output(),
+        b"---\n&id001 !!map {\n  ? !!str \"k\"\n  : *id001,\n}\n".as_slice()
+    );
+    Ok(())
+}
+
+#[test]
+fn a_document_without_nodes_closes_the_stream(rt: HostRuntime) -> Result<(), Fail> {
+    let alloc = rt.alloc();
+    let mut emitter = begun(alloc)?;
+    let empty = document(&rt, alloc, Vec::new(alloc));
+    assert_eq!(rt; dump(&rt, alloc, &mut emitter, empty), Ok(()));
+    assert!(rt; emitter.is_closed());
+    assert_eq!(rt; emitter.output(), b"".as_slice());
+    let empty = document(&rt, alloc, Vec::new(alloc));
+    assert_eq!(rt; dump(&rt, alloc, &mut emitter, empty), Ok(()));
+    assert_eq!(rt; emitter.error(), None);
+    Ok(())
+}
+
+#[test]
+fn a_closed_stream_takes_no_document(rt: HostRuntime) -> Result<(), Fail> {
+    let alloc = rt.alloc();
+    let mut emitter = begun(alloc)?;
+    let first = document(&rt, alloc, shared_string(alloc)?);
+    assert_eq!(rt; dump(&rt, alloc, &mut emitter, first), Ok(()));
+    assert_eq!(rt; close(&rt, &mut emitter), Ok(()));
+    let second = document(&rt, alloc, shared_string(alloc)?);
+    let answer = dump(&rt, alloc, &mut emitter, second);
+    assert_eq!(rt; answer, Err(yaml_error_t::ExpectedNothing));
+    assert_eq!(rt; emitter.output(), b"- &id001 a\n- *id001\n".as_slice());
+    Ok(())
+}
+
+// The stream was begun by an event, so the dump's own start is refused.
+#[test]
+fn a_stream_is_opened_once(rt: HostRuntime) -> Result<(), Fail> {
+    let alloc = rt.alloc();
+    let mut emitter = begun(alloc)?;
+    let start = YAML_STREAM_START_EVENT {
+        encoding: YAML_ANY_ENCODING,
+    };
+    assert_eq!(rt; emit(&rt, &mut emitter, start), Ok(()));
+    let nodes = document(&rt, alloc, shared_string(alloc)?);
+    let answer = dump(&rt, alloc, &mut emitter, nodes);
+    assert_eq!(rt; answer, Err(yaml_error_t::ExpectedDocumentStart));
+    assert!(rt; !emitter.is_opened());
+    Ok(())
+}
+
+#[test]
+fn the_first_error_is_answered(rt: HostRuntime) -> Result<(), Fail> {
+    let alloc = rt.alloc();
+    let error = Err(yaml_error_t::ExpectedStreamStart);
+    let mut emitter = begun(alloc)?;
+    assert_eq!(rt; emit(&rt, &mut emitter, YAML_STREAM_END_EVENT), error);
+    let nodes = document(&rt, alloc, shared_string(alloc)?);
+    assert_eq!(rt; dump(&rt, alloc, &mut emitter, nodes), error);
+    Ok(())
+}
+
+// Forty sequences, each of which holds the next twice, and a string: 80 starts and ends, the string once, and an alias
+// for each second meeting.
+#[test]
+fn shared_nodes_in_each_other_are_written_once(rt: HostRuntime) -> Result<(), Fail> {
+    let alloc = rt.alloc();
+    let mut nodes = Vec::new(alloc);
+    for number in 1..=40 {
+        nodes.push(sequence(alloc, &[number + 1, number + 1])?)?;
+    }
+    nodes.push(text(alloc, "a")?)?;
+    let nested = document(&rt, alloc, nodes);
+    assert_eq!(rt; document_events(alloc, &nested)?.len(), 123);
+    let mut emitter = begun(alloc)?;
+    assert_eq!(rt; dump(&rt, alloc, &mut emitter, nested), Ok(()));
+    assert_eq!(rt; emitter.held(), 0);
+    Ok(())
+}
+
+#[test]
+fn anchors_past_999_have_four_digits(rt: HostRuntime) -> Result<(), Fail> {
+    let alloc = rt.alloc();
+    let mut items = Vec::new(alloc);
+    for _ in 0..2 {
+        for number in 2..=1_001 {
+            items.push(number)?;
+        }
+    }
+    let mut nodes = vec![in alloc; sequence(alloc, items.as_slice())?]?;
+    for _ in 0..1_000 {
+        nodes.push(text(alloc, "x")?)?;
+    }
+    let mut emitter = begun(alloc)?;
+    let answer = dump(&rt, alloc, &mut emitter, document(&rt, alloc, nodes));
+    assert_eq!(rt; answer, Ok(()));
+    let output = str::from_utf8(emitter.output())?;
+    let mut lines = 0;
+    for line in output.lines() {
+        lines += 1;
+        if lines == 1_000 {
+            assert_eq!(rt; line, "- &id1000 x");
+        }
+        if lines == 2_000 {
+            assert_eq!(rt; line, "- *id1000");
+        }
+    }
+    assert_eq!(rt; lines, 2_000);
+    Ok(())
+}
+
+// A million and one sequences, each the one item of the one before.
+#[test]
+fn too_many_nodes_in_each_other_are_refused(rt: HostRuntime) -> Result<(), Fail> {
+    let alloc = rt.alloc();
+    let mut nodes = Vec::new(alloc);
+    for number in 1..=1_000_000 {
+        nodes.push(sequence(alloc, &[number + 1])?)?;
+    }
+    nodes.push(sequence(alloc, &[])?)?;
+    let mut emitter = yaml_emitter_initialize(alloc)?;
+    yaml_emitter_set_output_string(&mut emitter, usize::MAX);
+    yaml_emitter_set_width(&mut emitter, -1);
+    let answer = dump(&rt, alloc, &mut emitter, document(&rt, alloc, nodes));
+    assert_eq!(rt; answer, Err(yaml_error_t::TooDeep));
+    Ok(())
+}
