@@ -245,9 +245,9 @@ fn anchors_past_999_have_four_digits(rt: HostRuntime) -> Result<(), Fail> {
     let answer = dump(&rt, alloc, &mut emitter, document(&rt, alloc, nodes));
     assert_eq!(rt; answer, Ok(()));
     let output = str::from_utf8(emitter.output())?;
-    let mut lines = 0;
+    let mut lines = 0usize;
     for line in output.lines() {
-        lines += 1;
+        lines = lines.saturating_add(1);
         if lines == 1_000 {
             assert_eq!(rt; line, "- &id1000 x");
         }
