@@ -95,6 +95,23 @@ def contents(documents):
     return optional(documents, lambda ds: several(
         record(version=optional(v, version), directives=several(map(directive, tags)), root=content(root)) for v, tags, root in ds))
 
+STOOD = {"plain": "stood_plain", "quoted": "stood_quoted", "bare": "stood_bare"}
+
+def tree(node):
+    kind = node[0]
+    if kind == "alias": return "(alias_tree (%s))" % text(node[1])
+    if kind == "scalar":
+        tag = "(without_tag %s)" % STOOD[node[3]] if node[2] is None else "(with_tag (%s))" % text(node[2])
+        return "(scalar_tree %s %s (%s))" % (optional(node[1], text), tag, text(node[4]))
+    held = "no_trees" if kind == "seq" else "no_tree_pairs"
+    for entry in node[3]:
+        held = "(trees_and %s %s)" % (held, tree(entry)) if kind == "seq" else "(tree_pairs_and %s %s %s)" % (held, tree(entry[0]), tree(entry[1]))
+    return "(%s %s %s %s)" % ("sequence_tree" if kind == "seq" else "mapping_tree", optional(node[1], text), optional(node[2], text), held)
+
+def trees(documents):
+    return optional(documents, lambda ds: several(
+        record(version=optional(v, version), directives=several(map(directive, tags)), root=tree(root)) for v, tags, root in ds))
+
 def graph_node(node):
     kind, tag, held, style = node
     if kind == "scalar": held = "scalar_held (%s) %s" % (text(held), SCALAR[style])
@@ -126,7 +143,9 @@ def lemmas_of_list(case, n):
     laid = "bodies (%s) (list_layout (%s) (completion %s))" % (s, s, events)
     yield "bodies", laid, several(map(body, case["bodies"]))
     yield "read_back", "read_back (%s) (%s)" % (s, laid), several("Some (%s)" % text(b[2]) for b in case["bodies"])
+    yield "tidy", "tidy_bodies (%s) (list_layout (%s) (completion %s))" % (s, s, events), several(map(flag, case["tidy"]))
     if "output" in case:
+        yield "agrees", "agrees %s %s (stream_trees %s (output_of %s %s))" % (canonical, events, flag(case["settings"]["breaks12"]), given, events), flag(case["agrees"])
         yield "output", "output_of %s %s" % (given, events), octets(case["output"])
     if "content" in case:
         yield "content", "content_of " + events, contents(case["content"])
@@ -140,6 +159,9 @@ def lemmas_of_text(case, n):
 def lemmas_of_bytes(case, n):
     yield "content", "canonical_content %s (%s)" % (flag(case["breaks12"]), octets(case["bytes"])), contents(case["content"])
 
+def lemmas_of_stream(case, n):
+    yield "trees", "stream_trees %s (%s)" % (flag(case["breaks12"]), octets(case["bytes"])), trees(case["trees"])
+
 def lemmas_of_script(case, n):
     if "bad" in case: said = "bad_line %d" % case["bad"]
     else: said = "understood %s %s" % (settings(case["settings"]), several(record(line=e["line"], event=event(e["event"])) for e in case["events"]))
@@ -149,7 +171,7 @@ def lemmas_of_document(case, n):
     graph = record(start=record(version="None", directives="[]", implicit=flag(case["start"])), nodes=several(map(graph_node, case["nodes"])), end_implicit=flag(case["end"]))
     yield "events", "document_event_list %s" % graph, several(map(event, case["events"]))
 
-LEMMAS = dict(list=lemmas_of_list, text=lemmas_of_text, bytes=lemmas_of_bytes, script=lemmas_of_script, document=lemmas_of_document)
+LEMMAS = dict(list=lemmas_of_list, text=lemmas_of_text, bytes=lemmas_of_bytes, stream=lemmas_of_stream, script=lemmas_of_script, document=lemmas_of_document)
 
 # ---- files
 
@@ -165,9 +187,11 @@ use Rattle.yaml_base.specs.Pieces.{completion, list_layout, pieces}
 use Rattle.yaml_base.specs.Output.{settings_for, output_of}
 use Rattle.yaml_base.specs.Content.{DocumentContent, tagged, untagged, alias_content, scalar_content, sequence_content, mapping_content, no_contents, contents_and, no_content_pairs, content_pairs_and, content_of}
 use Rattle.yaml_base.specs.CanonicalReader.{canonical_content}
+use Rattle.yaml_base.specs.StreamContent.{DocumentTree, stood_plain, stood_quoted, stood_bare, with_tag, without_tag, alias_tree, scalar_tree, sequence_tree, mapping_tree, no_trees, trees_and, no_tree_pairs, tree_pairs_and, agrees}
+use Rattle.yaml_base.specs.StreamReader.{stream_trees}
 use Rattle.yaml_base.specs.Meetings.{GraphNode, Graph, scalar_held, sequence_held, mapping_held, document_event_list}
 use Rattle.yaml_base.specs.Script.{Script, bad_line, understood, script_of}
-use Rattle.yaml_base.proofs.ComparedCommon.{written_after_each, refusals_after, texts, bodies, read_by, read_back}
+use Rattle.yaml_base.proofs.ComparedCommon.{written_after_each, refusals_after, texts, bodies, tidy_bodies, read_by, read_back}
 """
 
 def lemma(name, computed, expected):

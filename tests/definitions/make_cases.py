@@ -1,19 +1,22 @@
 #!/usr/bin/env python3
 """Random cases with what a model makes of them, as JSON lines: make_cases.py MODEL [FIRST [COUNT]]
 
-MODEL is a folder with the plain model of the library in Python (layout.py, readers.py, cases.py, gen.py, compare.py).
-The model was written from the rules alone and shares nothing with the definitions. A case is one of four kinds, by its seed:
+MODEL is a folder with the plain model of the library in Python (layout.py, readers.py, cases.py, gen.py, compare.py,
+stream_reader.py, lines_reader.py, scalar_bodies.py, content.py).
+The model was written from the rules alone and shares nothing with the definitions. A case is one of these kinds, by its seed:
 
   list      settings and events: effective settings, how many events are ready after each front, the first refusal or
-            the completion, the pieces (also of two fronts), the scalars' bodies, the output, the content
+            the completion, the pieces (also of two fronts), the scalars' bodies, which of them are tidy, the output, the
+            content, and whether the whole stream reads back with it
   text      a text for one of the readers, and its reading or null
   bytes     canonical bytes, most of them spoiled, and their content or null
+  stream    bytes in any mode, half of them spoiled, and the documents in them or null
   script    a script, many of them spoiled, and what it says
   document  nodes, and the events of their document
 """
-import dataclasses, json, random, sys
+import dataclasses, json, random, re, sys
 
-KINDS = ["list"] * 5 + ["text"] * 2 + ["bytes", "script", "document"]
+KINDS = ["list"] * 5 + ["text"] * 2 + ["bytes", "script", "document"] + ["stream"] * 4
 
 
 def of_list(seed):
@@ -24,7 +27,42 @@ def of_list(seed):
         eff = layout.effective(readers.Settings(**case["settings"]), first_encoding(events))
         ks = sorted({r.randrange(len(events) + 1), r.randrange(len(events) + 1)})
         case["fronts"] = [dict(k=k, pieces=layout.pieces(eff, events, k)) for k in ks]
+        whole = layout.layout_of(eff, layout.completion(events)).bodies
+        case["tidy"] = [is_tidy(eff.breaks12, *body) for body in whole]
+        if "output" in case:
+            case["agrees"] = content.agrees(eff, events, stream_read(bytes.fromhex(case["output"]), eff.breaks12))
     return case
+
+
+def breaks_of(breaks12):
+    return "\n" if breaks12 else "\n\u2028\u2029"
+
+
+def is_tidy(breaks12, style, text, value, in_flow, column):
+    """The strict reader of a style reads a body as its value, where it stands."""
+    breaks = breaks_of(breaks12)
+    text = readers.normalize(text)
+    lines = re.split("[" + breaks + "]", text)[1:]
+    if any(line != "" and not line.startswith(" " * (max(column, 0) + 1)) for line in lines): return False
+    if style == "plain": return scalar_bodies.read_plain(text, in_flow, breaks) == value
+    if style == "single": return scalar_bodies.read_single(text, breaks) == value
+    if style == "double": return scalar_bodies.read_double(text, breaks) == value
+    return scalar_bodies.read_block(text, None if column < 0 else column, breaks) == value
+
+
+def strict_reader():
+    """The model's reader, which reads any flow collection as a simple key, confined to `[]` and `{}`."""
+    class Strict(stream_reader.Reader):
+        def colon(self, i, end, key):
+            stream_reader.need(key[0] not in ("seq", "map") or (key[3] == [] and self.t[end - 2:end] in ("[]", "{}")))
+            return super().colon(i, end, key)
+    return Strict
+
+
+def stream_read(data, breaks12):
+    """The documents in some bytes, or None; 'differs' where the model's two readers don't agree."""
+    one, other = stream_reader.read(data, breaks_of(breaks12)), lines_reader.read(data, breaks_of(breaks12))
+    return one if one == other else "differs"
 
 
 def first_encoding(events):
@@ -97,6 +135,31 @@ def of_bytes(seed):
     return dict(bytes=data.hex(), breaks12=breaks12, content=readers.canonical_read(data, breaks12))
 
 
+SIGNS = ["- ", "-", "? ", ": ", ":", ",", "[", "]", "{", "}", "&a ", "*a", "!t ", "! ", "!!str ", "--- ", "---\n", "...\n", "\n", "\n  ", "  ", " ", "#", " # ",
+         "\t", "'", '"', "|\n", ">-\n", "%YAML 1.1\n", "%TAG !e! x\n", "\\", "a", "k: ", "[]: "]
+
+
+def of_stream(seed):
+    r = random.Random(seed)
+    s, events = gen.settings(r), gen.events(r)
+    s.breaks12, s.portable = r.random() < 0.2, r.random() < 0.5
+    if r.random() < 0.8: s.canonical = False
+    eff = layout.effective(s, first_encoding(events))
+    text = "".join(layout.layout_of(eff, events).pieces)
+    if r.random() < 0.5:
+        for _ in range(r.choice([1, 1, 1, 2, 3])):
+            i, k = r.randrange(len(text) + 1), r.random()
+            if k < 0.3: text = text[:i] + text[i + 1:]
+            elif k < 0.75: text = text[:i] + r.choice(SIGNS) + text[i:]
+            elif k < 0.85: text = text[:i]
+            else:
+                lines = text.split("\n"); j = r.randrange(len(lines))
+                lines[j] = r.choice([lines[j][1:], " " + lines[j], lines[j] + "\n" + lines[j], lines[j].strip(), ""])
+                text = "\n".join(lines)
+    data = layout.encode(eff.encoding, text)
+    return dict(bytes=data.hex(), breaks12=s.breaks12, trees=stream_read(data, s.breaks12))
+
+
 def of_script(seed):
     data = compare.script_of(seed)
     if seed % 3 > 0: data = compare.spoiled(random.Random(seed), data)
@@ -124,7 +187,7 @@ def of_document(seed):
 
 def case_of(seed):
     kind = KINDS[seed % len(KINDS)]
-    return dict(dict(list=of_list, text=of_text, bytes=of_bytes, script=of_script, document=of_document)[kind](seed), what=kind, seed=seed)
+    return dict(dict(list=of_list, text=of_text, bytes=of_bytes, stream=of_stream, script=of_script, document=of_document)[kind](seed), what=kind, seed=seed)
 
 
 def is_small(case):
@@ -135,10 +198,11 @@ def is_small(case):
 if __name__ == "__main__":
     sys.path.insert(0, sys.argv[1])
     sys.setrecursionlimit(100000)
-    import cases, compare, gen, layout, readers
+    import cases, compare, content, gen, layout, lines_reader, readers, scalar_bodies, stream_reader
+    stream_reader.Reader = lines_reader.Reader = strict_reader()
     first, count = (int(x) for x in (sys.argv[2:] + ["0", "300"][len(sys.argv) - 2:]))
     seed = first
     while count > 0:
         case = case_of(seed)
-        if is_small(case): print(json.dumps(case)); count -= 1
+        if is_small(case) and "differs" not in (case.get("trees"), case.get("agrees")): print(json.dumps(case)); count -= 1
         seed += 1

@@ -31,3 +31,8 @@ pub mod RowsCanonical
 pub mod RowsUnfolding
 pub mod Literals
 pub mod NumbersOutside
+pub mod StreamTrees
+pub mod RowsStreamNodes
+pub mod RowsStreamDocuments
+pub mod RowsStreamRefused
+pub mod RowsTidy

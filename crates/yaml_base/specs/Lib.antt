@@ -40,3 +40,15 @@ pub mod Unfolding
 pub mod SeenNodes
 pub mod Documents
 pub mod Script
+pub mod ReadPercent
+pub mod ReadTags
+pub mod TidyBodies
+pub mod StreamContent
+pub mod StreamLines
+pub mod StreamScalars
+pub mod StreamTokens
+pub mod StreamFlow
+pub mod StreamNodes
+pub mod StreamDocuments
+pub mod StreamReader
+pub mod StreamLaw

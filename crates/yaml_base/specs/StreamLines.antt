@@ -1,0 +1,117 @@
+-- A text by lines and columns: which lines belong to an entry above them, and a block's lines cut into its entries. What a
+-- collection has read of a line becomes spaces, so that each entry is again a text of its own, with the columns it had.
+use Rattle.std.specs.Prelude.{ℕ, zero, suc, Bool, true, false, Option, None, Some, List, [], ◌∷◌, ◌++◌, ◌==◌, ◌||◌, ◌&&◌, not, replicate, if◌then◌else◌}
+use Rattle.yaml_base.specs.Characters.{Text, space}
+use Rattle.yaml_base.specs.LineBreaks.{is_read_break}
+
+-- a line and the break that ends it; the last line of a text may have none
+pub record Line : Type 0 where
+  pub text : Text
+  pub ending : Text
+
+-- a character before some lines begins the first of them
+abbrev pub extending : ℕ → List Line → List Line
+extending c [] = record { text = c ∷ []; ending = [] } ∷ []
+extending c (line ∷ rest) = record { text = c ∷ line.text; ending = line.ending } ∷ rest
+
+-- a break or another character before some lines
+abbrev pub character_before : (is_break : Bool) → ℕ → List Line → List Line
+character_before true c rest = record { text = []; ending = c ∷ [] } ∷ rest
+character_before false c rest = extending c rest
+
+-- the lines of a text, whose line breaks are read
+abbrev pub lines_of : Bool → Text → List Line
+lines_of breaks12 [] = []
+lines_of breaks12 (c ∷ rest) = character_before (is_read_break breaks12 c) c (lines_of breaks12 rest)
+
+-- the text of some lines
+abbrev pub text_of_lines : List Line → Text
+text_of_lines [] = []
+text_of_lines (line ∷ rest) = line.text ++ (line.ending ++ text_of_lines rest)
+
+-- nothing but spaces, or nothing
+abbrev pub is_spaces : Text → Bool
+is_spaces [] = true
+is_spaces (c ∷ rest) = c == space && is_spaces rest
+
+-- the lines after blank ones
+abbrev pub without_blank_lines : List Line → List Line
+without_blank_lines [] = []
+without_blank_lines (line ∷ rest) = if is_spaces line.text then without_blank_lines rest else line ∷ rest
+
+-- the first of some lines is blank
+abbrev pub begins_blank : List Line → Bool
+begins_blank [] = false
+begins_blank (line ∷ rest) = is_spaces line.text
+
+-- all lines are blank
+abbrev pub all_blank : List Line → Bool
+all_blank [] = true
+all_blank (line ∷ rest) = is_spaces line.text && all_blank rest
+
+-- a sign stands before a space or the end of its line
+abbrev pub ends_sign : Text → Bool
+ends_sign [] = true
+ends_sign (c ∷ rest) = c == space
+
+-- a line begins with this sign
+abbrev pub begins_with_sign : ℕ → Text → Bool
+begins_with_sign sign [] = false
+begins_with_sign sign (c ∷ rest) = c == sign && ends_sign rest
+
+-- a line belongs to the entry above it at a column: it is blank or deeper; a `-` at the column of a mapping is too
+abbrev pub is_inside : (in_sequence : Bool) → ℕ → Text → Bool
+is_inside in_sequence column [] = true
+is_inside in_sequence zero (c ∷ rest) = c == space || (not in_sequence && begins_with_sign 0x2D (c ∷ rest))
+is_inside in_sequence (suc column) (c ∷ rest) = c == space && is_inside in_sequence column rest
+
+-- the entries of a collection, each with the lines that belong to it, and the lines before them
+pub record Entries : Type 0 where
+  pub before : List Line
+  pub entries : List (List Line)
+
+-- a line before some entries belongs to the entry above it, or begins one
+abbrev pub line_before : (inside : Bool) → Line → Entries → Entries
+line_before true line after = record { before = line ∷ after.before; entries = after.entries }
+line_before false line after = record { before = []; entries = (line ∷ after.before) ∷ after.entries }
+
+-- the lines of a collection at a column, cut into its entries
+abbrev pub entries_at : (in_sequence : Bool) → ℕ → List Line → Entries
+entries_at in_sequence column [] = record { before = []; entries = [] }
+entries_at in_sequence column (line ∷ rest) =
+    line_before (is_inside in_sequence column line.text) line (entries_at in_sequence column rest)
+
+-- each line is blank or deeper than the column; at the root any line is
+abbrev pub all_deeper : Option ℕ → List Line → Bool
+all_deeper None lines = true
+all_deeper (Some column) [] = true
+all_deeper (Some column) (line ∷ rest) = is_inside true column line.text && all_deeper (Some column) rest
+
+-- a line's text after its indentation, and the column where it stands
+pub record Indented : Type 0 where
+  pub column : ℕ
+  pub text : Text
+
+-- a space before such a text moves it; any other character stands at column 0
+abbrev pub indented_step : (is_space : Bool) → Text → Indented → Indented
+indented_step true text after = record { column = suc after.column; text = after.text }
+indented_step false text after = record { column = 0; text = text }
+
+-- where a line's first character that is no space stands, and the line from there on
+abbrev pub indented : Text → Indented
+indented [] = record { column = 0; text = [] }
+indented (c ∷ rest) = indented_step (c == space) (c ∷ rest) (indented rest)
+
+-- what stands at a column, after spaces alone
+abbrev pub past_column : ℕ → Text → Option Text
+past_column zero text = Some text
+past_column (suc column) [] = None
+past_column (suc column) (c ∷ rest) = if c == space then past_column column rest else None
+
+-- some spaces
+abbrev pub spaces : ℕ → Text
+spaces count = replicate count space
+
+-- a line whose text before a column was read: spaces stand there
+abbrev pub blanked : ℕ → Text → Text → Line
+blanked column text ending = record { text = spaces column ++ text; ending = ending }
