@@ -29,6 +29,7 @@ pub mod RowsScript
 pub mod RowsMeetings
 pub mod RowsCanonical
 pub mod RowsUnfolding
+pub mod RowsTyped
 pub mod Literals
 pub mod NumbersOutside
 pub mod StreamTrees

@@ -52,3 +52,4 @@ pub mod StreamNodes
 pub mod StreamDocuments
 pub mod StreamReader
 pub mod StreamLaw
+pub mod TypedValues
