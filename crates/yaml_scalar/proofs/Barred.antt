@@ -1,15 +1,15 @@
 -- All styles are looked at in one loop over a value's characters.
 use Rattle.std.proofs.Common.{◌≡◌, refl, sym, ap, ◌∙◌, IsUtf8, chars}
+use Rattle.std.proofs.lemmas.Bool.{and_left, and_parts, and_right, eqb-true, not-true, or_from, or_parts}
 use Rattle.std.proofs.lemmas.List.{nil_from_length}
 use Rattle.std.proofs.lemmas.Str.{chars-nil, chars_past_char}
 use Rattle.std.specs.Char.{encode_utf8}
-use Rattle.std.specs.Prelude.{ℕ, Bool, true, false, List, ◌++◌, ◌||◌, length}
-use Rattle.yaml_base.specs.Analysis.{Charset}
-use Rattle.yaml_scalar.specs.Barred.{Barred, barred_by, barred_in, either}
-
--- nothing is barred
-abbrev pub none_barred : Barred
-none_barred = record { multiline = false; flow_plain = false; block_plain = false; single_quoted = false; block = false }
+use Rattle.std.specs.List.{list_all}
+use Rattle.std.specs.Prelude.{ℕ, Bool, true, false, List, [], ◌∷◌, ◌++◌, ◌==◌, ◌||◌, ◌&&◌, codes, length, if◌then◌else◌}
+use Rattle.yaml_base.specs.Analysis.{Charset, begins_with, ends_word, is_empty, is_key_or_comment, is_special, is_trailing_space}
+use Rattle.yaml_base.specs.Characters.{Text, is_among, is_break, is_space, space, tab}
+use Rattle.yaml_scalar.specs.Barred.{Barred, barred_by, barred_by_space, barred_in, either, is_quiet, none_barred}
+use Rattle.yaml_scalar.specs.WholeRuns.{last_from}
 
 or_none : (b : Bool) → (b || false) ≡ b
 or_none true = refl
@@ -32,7 +32,7 @@ same {a} {b} m f p s k =
 pub either_none : (a : Barred) → either a none_barred ≡ a
 either_none a = same (or_none a.multiline) (or_none a.flow_plain) (or_none a.block_plain) (or_none a.single_quoted) (or_none a.block)
 
-either_more : (a b c : Barred) → either a (either b c) ≡ either (either a b) c
+pub either_more : (a b c : Barred) → either a (either b c) ≡ either (either a b) c
 either_more a b c =
     same (or_more a.multiline b.multiline c.multiline) (or_more a.flow_plain b.flow_plain c.flow_plain) (or_more a.block_plain b.block_plain c.block_plain)
     (or_more a.single_quoted b.single_quoted c.single_quoted) (or_more a.block b.block c.block)
@@ -52,3 +52,75 @@ barred_more charset whole found {after} old new rest c is_text e follows h more 
 pub barred_whole : (charset : Charset) (whole found : Barred) (old : List ℕ) → length old ≡ 0 → whole ≡ either found (barred_in charset (chars old)) → found ≡ whole
 barred_whole charset whole found old e h =
     sym (h ∙ ap (λ t. either found (barred_in charset t)) (ap chars (nil_from_length old e) ∙ chars-nil) ∙ either_none found)
+
+-- What characters bar that are quiet: each passes the tests that look at it alone.
+record Quiet (charset : Charset) (c : ℕ) : Type 0 where
+  pub special : is_special charset c ≡ false
+  pub broken : is_break c ≡ false
+  pub tabbed : (c == tab) ≡ false
+  pub nul : (c == 0) ≡ false
+  pub hash : (c == 35) ≡ false
+  pub sign : is_among (codes ",?:[]{}") c ≡ false
+
+quiet_parts : (charset : Charset) (c : ℕ) → is_quiet charset c ≡ true → Quiet charset c
+quiet_parts charset c h =
+    let p = or_parts (is_special charset c || is_break c || c == tab || c == 0 || c == 35) (is_among (codes ",?:[]{}") c) (not-true _ h) in
+    let q = or_parts (is_special charset c || is_break c || c == tab || c == 0) (c == 35) p.0 in
+    let r = or_parts (is_special charset c || is_break c || c == tab) (c == 0) q.0 in
+    let s = or_parts (is_special charset c || is_break c) (c == tab) r.0 in
+    let t = or_parts (is_special charset c) (is_break c) s.0 in
+    record { special = t.0; broken = t.1; tabbed = s.1; nul = r.1; hash = q.1; sign = p.1 }
+
+no_colon : (a b c rest : Bool) → (a || (b || (c || rest))) ≡ false → c ≡ false
+no_colon true b c rest h = cc
+no_colon false true c rest h = cc
+no_colon false false true rest h = cc
+no_colon false false false rest h = refl
+
+gap_before : (spaced tabbed broken nul hash : Bool) → tabbed ≡ false → broken ≡ false → nul ≡ false → (spaced && hash) ≡ false
+    → ((spaced || tabbed || broken || nul) && hash) ≡ false
+gap_before true tabbed broken nul hash e f g h = h
+gap_before false tabbed broken nul hash e f g h = rw (e, f, g)
+
+-- nor any test that looks at what follows
+quiet_bars : (charset : Charset) (c : ℕ) (rest : Text) → Quiet charset c → (is_space c && is_empty rest) ≡ false
+    → (is_space c && begins_with (λ d. d == 35) rest) ≡ false → (is_space c && begins_with is_break rest) ≡ false
+    → barred_by charset c rest ≡ none_barred
+quiet_bars charset c rest quiet ends hash breaks =
+    let colon : (c == 58) ≡ false = no_colon (c == 44) (c == 63) (c == 58) _ quiet.sign in
+    let key : is_key_or_comment c rest ≡ false = or_from _ _ (and_left _ (ends_word rest) colon) (gap_before (c == space) (c == tab) (is_break c) (c == 0) _ quiet.tabbed quiet.broken quiet.nul hash) in
+    let plain : (is_special charset c || is_break c || (is_space c && is_empty rest) || is_key_or_comment c rest) ≡ false =
+    or_from _ _ (or_from _ _ (or_from _ _ quiet.special quiet.broken) ends) key in
+    let trailing : (is_special charset c || is_trailing_space c rest) ≡ false = or_from _ _ quiet.special breaks in
+    same quiet.broken (or_from _ _ plain quiet.sign) (or_from _ _ plain refl)
+    (or_from _ _ trailing (and_left _ (begins_with is_space rest) quiet.broken)) (or_from _ _ trailing ends)
+
+-- before another one it bars nothing; and before any it does so only where it is a space
+quiet_next : (charset : Charset) (c d : ℕ) (rest : Text) → Quiet charset c → Quiet charset d → barred_by charset c (d ∷ rest) ≡ none_barred
+quiet_next charset c d rest quiet next =
+    quiet_bars charset c (d ∷ rest) quiet (and_right (is_space c) false refl) (and_right (is_space c) (d == 35) next.hash) (and_right (is_space c) (is_break d) next.broken)
+
+quiet_last_by : (charset : Charset) (c : ℕ) (rest : Text) → Quiet charset c → (spaced : Bool) → is_space c ≡ spaced
+    → barred_by charset c rest ≡ (if spaced then barred_by charset space rest else none_barred)
+quiet_last_by charset c rest quiet true e = ap (λ k. barred_by charset k rest) (eqb-true c space e)
+quiet_last_by charset c rest quiet false e =
+    quiet_bars charset c rest quiet (and_left _ (is_empty rest) e) (and_left _ (begins_with (λ d. d == 35) rest) e) (and_left _ (begins_with is_break rest) e)
+
+-- so a run of them bars what its last space does
+pub quiet_run : (charset : Charset) (front rest : Text) → list_all (is_quiet charset) front ≡ true
+    → barred_in charset (front ++ rest) ≡ either (barred_by_space charset (last_from 0 front) rest) (barred_in charset rest)
+quiet_run charset [] rest h = refl
+quiet_run charset (c ∷ []) rest h =
+    let p = and_parts (is_quiet charset c) _ h in
+    ap (λ (b : Barred). either b (barred_in charset rest)) (quiet_last_by charset c rest (quiet_parts charset c p.0) (is_space c) refl)
+quiet_run charset (c ∷ d ∷ front) rest h =
+    let p = and_parts (is_quiet charset c) (list_all (is_quiet charset) (d ∷ front)) h in
+    let q = and_parts (is_quiet charset d) (list_all (is_quiet charset) front) p.1 in
+    ap (λ (b : Barred). either b (barred_in charset (d ∷ (front ++ rest)))) (quiet_next charset c d (front ++ rest) (quiet_parts charset c p.0) (quiet_parts charset d q.0))
+    ∙ quiet_run charset (d ∷ front) rest p.1
+
+-- where all styles are barred only breaks matter
+pub all_barred : (found more : Barred) → found.flow_plain ≡ true → found.block_plain ≡ true → found.single_quoted ≡ true → found.block ≡ true
+    → either found more ≡ record found { multiline = found.multiline || more.multiline }
+all_barred found more f p s k =
+    same refl (ap (λ b. b || more.flow_plain) f ∙ sym f) (ap (λ b. b || more.block_plain) p ∙ sym p) (ap (λ b. b || more.single_quoted) s ∙ sym s) (ap (λ b. b || more.block) k ∙ sym k)

@@ -13,6 +13,7 @@ pub mod LineIndents
 pub mod SingleReads
 pub mod BlockSteps
 pub mod Barred
+pub mod ByteRuns
 pub mod FirstCharacters
 pub mod PlainStarts
 pub mod PlainReads

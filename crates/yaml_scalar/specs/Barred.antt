@@ -1,8 +1,8 @@
 -- What the characters of a value bar, all styles seen at once.
-use Rattle.std.specs.Prelude.{ℕ, Bool, true, false, ◌||◌}
+use Rattle.std.specs.Prelude.{ℕ, Bool, true, false, ◌==◌, ◌||◌, not, codes, if◌then◌else◌}
 use Rattle.std.specs.List.{list_any}
-use Rattle.yaml_base.specs.Analysis.{Charset, bars_block, bars_plain, bars_single_quoted, somewhere}
-use Rattle.yaml_base.specs.Characters.{Text, is_between, is_break}
+use Rattle.yaml_base.specs.Analysis.{Charset, bars_block, bars_plain, bars_single_quoted, is_special, somewhere}
+use Rattle.yaml_base.specs.Characters.{Text, is_among, is_between, is_break, is_space, space, tab}
 use Rattle.yaml_scalar.specs.declared.analysis.barred_t.{barred_t}
 
 -- whether there is a break, and a character that no text of a kind holds
@@ -46,6 +46,10 @@ barred_in charset value =
       block = somewhere (bars_block charset) value;
     }
 
+-- nothing is barred
+abbrev pub none_barred : Barred
+none_barred = record { multiline = false; flow_plain = false; block_plain = false; single_quoted = false; block = false }
+
 -- what one of two bars
 abbrev pub either : Barred → Barred → Barred
 either a b =
@@ -60,3 +64,12 @@ either a b =
 -- a letter or a digit of ASCII
 abbrev pub is_ordinary : ℕ → Bool
 is_ordinary c = is_between 97 122 c || is_between 65 90 c || is_between 48 57 c
+
+-- it bars nothing by itself, nor before or after another such character, unless it is a space
+abbrev pub is_quiet : Charset → ℕ → Bool
+is_quiet charset c =
+    not (is_special charset c || is_break c || c == tab || c == 0 || c == 35 || is_among (codes ",?:[]{}") c)
+
+-- what a character bars before the rest, where it is a space
+abbrev pub barred_by_space : Charset → ℕ → Text → Barred
+barred_by_space charset c rest = if is_space c then barred_by charset space rest else none_barred

@@ -6,3 +6,4 @@ pub mod LineSteps
 pub mod BlockCode
 pub mod BlockSteps
 pub mod WholeRuns
+pub mod ByteClasses

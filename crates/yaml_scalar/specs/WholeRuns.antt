@@ -10,18 +10,18 @@ abbrev pub has_limit : Option ℕ → Bool
 has_limit None = false
 has_limit (Some _) = true
 
--- between double quotes a character is written as itself, and never becomes a fold
+-- between double quotes a character is written as itself, and never becomes a fold, where a space may or not
+abbrev pub stays_where : (unicode folds : Bool) → ℕ → Bool
+stays_where unicode folds c = not (needs_escape unicode c) && not (is_space c && folds)
+
+-- spaces may where there is a width
 abbrev pub stays : (unicode : Bool) → (limit : Option ℕ) → ℕ → Bool
-stays unicode limit c = not (needs_escape unicode c) && not (is_space c && has_limit limit)
+stays unicode limit c = stays_where unicode (has_limit limit) c
 
 -- in a line of any other style a character is written as itself, where a space may become a fold or not, and
 -- a `'` is doubled or not
 abbrev pub stays_in_line : (folds quotes : Bool) → ℕ → Bool
 stays_in_line folds quotes c = not (is_break c || (is_space c && folds) || (quotes && c == 39))
-
--- what a test of characters answers
-abbrev pub Decides : (ℕ → Bool → Type 0) → (ℕ → Bool) → Type 0
-Decides answers test = (c : ℕ) (answer : Bool) → answers c answer → answer ≡ test c
 
 -- the last character of a text, or the one before it where it is empty
 abbrev pub last_from : ℕ → Text → ℕ

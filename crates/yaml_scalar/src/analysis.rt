@@ -1,11 +1,14 @@
 //! Which styles a scalar's value allows.
-ghost use Rattle.std.specs.Prelude.{◌≡◌, ◌==◌, ◌||◌, ◌&&◌, not, codes};
-ghost use Rattle.std.specs.Str.{chars};
+ghost use Rattle.std.specs.List.{list_any};
+ghost use Rattle.std.specs.Prelude.{◌≡◌, ◌≤◌, ◌==◌, ◌||◌, ◌&&◌, not, codes, length};
+ghost use Rattle.std.specs.Str.{IsUtf8, chars};
 ghost use Rattle.yaml_base.specs.Analysis as spec;
 ghost use Rattle.yaml_base.specs.Characters as class;
-ghost use Rattle.yaml_scalar.specs.Barred.{barred_by, barred_in, either, is_ordinary, seen_barred};
+ghost use Rattle.yaml_scalar.specs.Barred.{barred_by, barred_by_space, barred_in, either, is_ordinary, is_quiet, seen_barred};
+ghost use Rattle.yaml_scalar.specs.ByteClasses.{Tells};
 ghost use Rattle.yaml_scalar.specs.ScalarData.{seen_charset, seen_data};
 
+use crate::classes::{BREAK, SIGN, UNPRINTABLE, WIDE, free_length, last_of};
 use yaml_base::{is_ascii, is_blank, is_break, is_printable, is_space};
 
 /// The styles that a scalar's value allows.
@@ -39,6 +42,14 @@ struct barred_t {
     single_quoted: bool,
     block: bool,
 }
+
+const NOTHING_BARRED: barred_t = barred_t {
+    multiline: false,
+    flow_plain: false,
+    block_plain: false,
+    single_quoted: false,
+    block: false,
+};
 
 /// Analyses a scalar's value. With `unicode` all printable characters may stand as themselves, else
 /// those of ASCII alone; with `breaks12` U+2028 and U+2029 may not, as YAML 1.2 takes them for no breaks.
@@ -230,7 +241,7 @@ fn bars_block(c: char, rest: &str, charset: charset_t) -> bool
 }
 
 /// A letter or a digit, which every text may hold.
-pub(crate) fn is_ordinary(c: char) -> bool
+fn is_ordinary(c: char) -> bool
     ensures { result ≡ is_ordinary c }
 {
     matches!(c, 'a'..='z' | 'A'..='Z' | '0'..='9')
@@ -252,20 +263,97 @@ fn with_next(barred: barred_t, c: char, rest: &str, charset: charset_t) -> barre
     }
 }
 
+/// The classes of bytes at which a value is looked at closely.
+fn loud_classes(charset: charset_t) -> u8
+    ensures { Tells result (is_quiet (seen_charset charset)) }
+{
+    if charset.unicode {
+        BREAK | UNPRINTABLE | SIGN
+    } else {
+        BREAK | UNPRINTABLE | SIGN | WIDE
+    }
+}
+
+/// What was read, and a space, if this is one, before the rest.
+fn with_space(barred: barred_t, last: char, rest: &str, charset: charset_t) -> barred_t
+    ensures { seen_barred result ≡ either (seen_barred barred) (barred_by_space (seen_charset charset) last (chars rest.now)) }
+{
+    if is_space(last) {
+        with_next(barred, ' ', rest, charset)
+    } else {
+        barred
+    }
+}
+
+/// What was read, and the next characters that bar nothing, unless the last of them is a space; and what
+/// follows them.
+fn past_quiet(barred: barred_t, text: &str, charset: charset_t) -> (barred_t, &str)
+    ensures same { either (seen_barred barred) (barred_in (seen_charset charset) (chars text.now)) ≡ either (seen_barred result.0) (barred_in (seen_charset charset) (chars result.1.now)) }
+    ensures is_text { IsUtf8 result.1.now }
+    ensures shorter { length result.1.now ≤ length text.now }
+{
+    let (quiet, rest) = text.split_at(free_length(text, loud_classes(charset)));
+    (
+        with_space(barred, last_of('\0', quiet), rest, charset),
+        rest,
+    )
+}
+
+/// Only double quotes can write what was read.
+fn bars_all(barred: barred_t) -> bool
+    ensures { result ≡ (barred.flow_plain && barred.block_plain && barred.single_quoted && barred.block) }
+{
+    barred.flow_plain && barred.block_plain && barred.single_quoted && barred.block
+}
+
+/// The text after the next characters none of which is a break.
+fn past_unbroken(text: &str) -> &str
+    ensures same { list_any class.is_break (chars text.now) ≡ list_any class.is_break (chars result.now) }
+    ensures shorter { length result.now ≤ length text.now }
+{
+    let (_, rest) = text.split_at(free_length(text, BREAK));
+    rest
+}
+
+/// Some character is a break.
+fn holds_break(text: &str) -> bool
+    ensures { result ≡ list_any class.is_break (chars text.now) }
+{
+    let mut chars = past_unbroken(text).chars();
+    while let Some(c) = chars.next() {
+        if is_break(c) {
+            return true;
+        }
+        chars = past_unbroken(chars.as_str()).chars();
+    }
+    false
+}
+
+/// What was read, which bars all, and whether a break follows.
+fn with_break(barred: barred_t, rest: &str) -> barred_t
+    ensures { seen_barred result ≡ record (seen_barred barred) { multiline = barred.multiline || list_any class.is_break (chars rest.now) } }
+{
+    barred_t {
+        multiline: barred.multiline || holds_break(rest),
+        ..barred
+    }
+}
+
 /// What the characters of a value bar.
 fn barred_in(value: &str, charset: charset_t) -> barred_t
     ensures { seen_barred result ≡ barred_in (seen_charset charset) (chars value.now) }
 {
-    let mut barred = barred_t {
-        multiline: false,
-        flow_plain: false,
-        block_plain: false,
-        single_quoted: false,
-        block: false,
-    };
-    let mut chars = value.chars();
+    let (mut barred, first) = past_quiet(NOTHING_BARRED, value, charset);
+    let mut chars = first.chars();
     while let Some(c) = chars.next() {
-        barred = with_next(barred, c, chars.as_str(), charset);
+        let rest = chars.as_str();
+        let more = with_next(barred, c, rest, charset);
+        if bars_all(more) {
+            return with_break(more, rest);
+        }
+        let (read, after) = past_quiet(more, rest, charset);
+        barred = read;
+        chars = after.chars();
     }
     barred
 }

@@ -14,7 +14,7 @@ ghost use Rattle.yaml_scalar.specs.WholeRuns.{IsRun, stays_in_line};
 ghost use Rattle.yaml_scalar.specs.Width.{limit_of};
 
 use crate::analysis::begins_with_space;
-use crate::runs::{RunEnds, line_run_after, run_t};
+use crate::runs::{Run, RunEnds, line_run_after};
 use crate::steps::{go_on, has_limit};
 use crate::width::is_past_width;
 use std::alloc::Allocator;
@@ -176,11 +176,11 @@ fn entered(folded: bool, first: char) -> Place
 
 /// The run that follows a character, seen from where it stands: none where a line begins; a space ends it
 /// where it may become a fold.
-fn run_after(character: char, rest: &str, place: Place, width: i32) -> run_t
+fn run_after(character: char, rest: &str, place: Place, width: i32) -> Run
     ensures { IsRun (step.stays_at (limit_of width) place) character rest.now result.length result.last }
 {
     match place {
-        Place::LineStart => run_t {
+        Place::LineStart => Run {
             length: 0,
             last: character,
         },
@@ -189,7 +189,7 @@ fn run_after(character: char, rest: &str, place: Place, width: i32) -> run_t
     }
 }
 
-fn run_within(character: char, rest: &str, folds: bool) -> run_t
+fn run_within(character: char, rest: &str, folds: bool) -> Run
     ensures { IsRun (stays_in_line folds false) character rest.now result.length result.last }
 {
     let ends = RunEnds {

@@ -7,12 +7,13 @@ ghost use Rattle.yaml_base.specs.DoubleQuoted as spec;
 ghost use Rattle.yaml_base.specs.ReadDouble.{read_double};
 ghost use Rattle.yaml_pen.specs.Page.{IsReady, natural};
 ghost use Rattle.yaml_pen.specs.Wrote.{Wrote};
+ghost use Rattle.yaml_scalar.specs.ByteClasses.{Tells};
 ghost use Rattle.yaml_scalar.specs.ReadsBack.{ReadsBack};
-ghost use Rattle.yaml_scalar.specs.WholeRuns.{IsRun, stays};
+ghost use Rattle.yaml_scalar.specs.WholeRuns.{IsRun, stays, stays_where};
 ghost use Rattle.yaml_scalar.specs.Width.{limit_where};
 
-use crate::analysis::is_ordinary;
-use crate::runs::{run_t, run_where};
+use crate::classes::{BREAK, ESCAPED, SPACE, UNPRINTABLE, WIDE};
+use crate::runs::{Run, run_up_to};
 use crate::steps::{go_on, has_limit, may_fold_here};
 use std::alloc::Allocator;
 use yaml_base::{is_ascii, is_break, is_printable, is_space, yaml_error_t};
@@ -273,20 +274,31 @@ fn write_next<A: Allocator>(
     }
 }
 
-/// A character that is written as itself and never becomes a fold.
-fn stays(c: char, quoting: quoting_t) -> bool
-    ensures { result ≡ stays quoting.unicode (limit_where quoting.allow_breaks quoting.width) c }
+/// The classes of bytes that end a run: those of what is escaped, and the space where it may become a fold.
+fn ending_classes(unicode: bool, folds: bool) -> u8
+    ensures { Tells result (stays_where unicode folds) }
 {
-    is_ordinary(c)
-        || (!needs_escape(c, quoting.unicode)
-            && !(is_space(c) && has_limit(quoting.allow_breaks, quoting.width)))
+    match (unicode, folds) {
+        (true, false) => BREAK | UNPRINTABLE | ESCAPED,
+        (true, true) => BREAK | UNPRINTABLE | ESCAPED | SPACE,
+        (false, false) => BREAK | UNPRINTABLE | ESCAPED | WIDE,
+        (false, true) => BREAK | UNPRINTABLE | ESCAPED | WIDE | SPACE,
+    }
 }
 
-/// The longest front of a text whose characters are written as themselves and never become folds.
-fn run_after(before: char, text: &str, quoting: quoting_t) -> run_t
+/// A front of a text whose characters are written as themselves and never become folds.
+fn run_where(before: char, text: &str, unicode: bool, folds: bool) -> Run
+    ensures { IsRun (stays_where unicode folds) before text.now result.length result.last }
+{
+    run_up_to(before, text, ending_classes(unicode, folds))
+}
+
+/// The same, where a space may become a fold if there is a width.
+fn run_after(before: char, text: &str, quoting: quoting_t) -> Run
     ensures { IsRun (stays quoting.unicode (limit_where quoting.allow_breaks quoting.width)) before text.now result.length result.last }
 {
-    run_where(before, text, |c| stays(c, quoting))
+    let folds = has_limit(quoting.allow_breaks, quoting.width);
+    run_where(before, text, quoting.unicode, folds)
 }
 
 /// What stands between the quotes: a character, and the run that follows it, in turn.

@@ -4,6 +4,7 @@
 mod analysis;
 mod block_header;
 mod block_lines;
+mod classes;
 mod double_quoted;
 mod folded;
 mod lines;

@@ -13,7 +13,7 @@ ghost use Rattle.yaml_scalar.specs.WholeRuns.{IsRun, has_limit, stays_in_line};
 ghost use Rattle.yaml_scalar.specs.Width.{limit_where};
 
 use crate::analysis::is_at_end;
-use crate::runs::{RunEnds, line_run_after, run_t};
+use crate::runs::{Run, RunEnds, line_run_after};
 use crate::steps::{go_on, has_limit, may_fold_here};
 use std::alloc::Allocator;
 use yaml_base::{is_break, is_space, yaml_error_t};
@@ -220,7 +220,7 @@ fn write_step<A: Allocator>(
 }
 
 // A space ends a run where it may become a fold, and a `'` where it is doubled.
-fn run_after(character: char, rest: &str, lines: Lines) -> run_t
+fn run_after(character: char, rest: &str, lines: Lines) -> Run
     ensures { IsRun (stays_in_line (has_limit (limit_where lines.allow_breaks lines.width)) lines.quoted) character rest.now result.length result.last }
 {
     let ends = RunEnds {

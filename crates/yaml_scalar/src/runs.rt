@@ -1,13 +1,13 @@
 //! Runs of characters that are handed to the pen at once.
 ghost use Rattle.std.specs.Prelude.{◌≡◌, ℕ, Bool};
-ghost use Rattle.yaml_scalar.specs.WholeRuns.{Decides, IsRun, stays_in_line};
+ghost use Rattle.yaml_scalar.specs.ByteClasses.{Tells};
+ghost use Rattle.yaml_scalar.specs.WholeRuns.{IsRun, stays_in_line};
 
-use crate::analysis::is_ordinary;
-use yaml_base::{is_break, is_space};
+use crate::classes::{APOSTROPHE, BREAK, SPACE, free_length, last_of};
 
 /// The run that follows a character: its bytes, and the last character up to its end.
 #[derive(Clone, Copy)]
-pub(crate) struct run_t {
+pub(crate) struct Run {
     pub(crate) length: usize,
     pub(crate) last: char,
 }
@@ -19,34 +19,33 @@ pub(crate) struct RunEnds {
     pub(crate) quote: bool,
 }
 
-/// A character that ends no run.
-fn stays_in_line(c: char, ends: RunEnds) -> bool
-    ensures { result ≡ stays_in_line ends.space ends.quote c }
+/// The classes of bytes that end a run.
+fn ending_classes(ends: RunEnds) -> u8
+    ensures { Tells result (stays_in_line ends.space ends.quote) }
 {
-    is_ordinary(c) || !(is_break(c) || (is_space(c) && ends.space) || (ends.quote && c == '\''))
-}
-
-/// The longest front of a text whose characters all stay in the run.
-pub(crate) fn run_where<F: Fn(char) -> bool>(before: char, text: &str, stays: F) -> run_t
-    requires { F.IsAlwaysCallable stays }
-    ensures { (test : ℕ → Bool) → Decides (F.post stays) test → IsRun test before text.now result.length result.last }
-{
-    let mut length = 0;
-    let mut last = before;
-    let mut chars = text.chars();
-    while let Some(c) = chars.next() {
-        if !stays(c) {
-            return run_t { length, last };
-        }
-        length += c.len_utf8();
-        last = c;
+    match (ends.space, ends.quote) {
+        (false, false) => BREAK,
+        (false, true) => BREAK | APOSTROPHE,
+        (true, false) => BREAK | SPACE,
+        (true, true) => BREAK | SPACE | APOSTROPHE,
     }
-    run_t { length, last }
 }
 
-/// The longest front of a text that nothing ends.
-pub(crate) fn line_run_after(before: char, text: &str, ends: RunEnds) -> run_t
+/// The run up to the first byte of some classes, which may end it early.
+pub(crate) fn run_up_to(before: char, text: &str, classes: u8) -> Run
+    ensures { (test : ℕ → Bool) → Tells classes test → IsRun test before text.now result.length result.last }
+{
+    let length = free_length(text, classes);
+    let (run, _) = text.split_at(length);
+    Run {
+        length,
+        last: last_of(before, run),
+    }
+}
+
+/// A front of a text that nothing ends.
+pub(crate) fn line_run_after(before: char, text: &str, ends: RunEnds) -> Run
     ensures { IsRun (stays_in_line ends.space ends.quote) before text.now result.length result.last }
 {
-    run_where(before, text, |c| stays_in_line(c, ends))
+    run_up_to(before, text, ending_classes(ends))
 }

@@ -1,4 +1,4 @@
-use Rattle.std.proofs.Common.{◌≡◌, IsUtf8, chars}
+use Rattle.std.proofs.Common.{◌≡◌, IsUtf8, chars, length}
 use Rattle.std.specs.Str.Iter.{chars_rest}
 use Rattle.yaml_scalar.specs.Barred.{barred_in, either, seen_barred}
 use Rattle.yaml_scalar.specs.ScalarData.{seen_charset}
@@ -10,3 +10,6 @@ invariant-loop-c l =
       is_text : IsUtf8 (chars_rest l.chars);
       so_far : barred_in (seen_charset l.fn.charset) (chars l.fn.value) ≡ either (seen_barred l.barred) (barred_in (seen_charset l.fn.charset) (chars (chars_rest l.chars)));
     }
+
+abbrev pub decreases-loop-c : goal.decreases-loop-c
+decreases-loop-c l = length (chars_rest l.chars)

@@ -1,0 +1,204 @@
+-- Runs of bytes of no class are runs of characters that pass a test.
+use Rattle.std.proofs.Common.{◌≡◌, refl, sym, ap, subst, ◌∙◌, arith, inl, inr, true≢false, IsUtf8}
+use Rattle.std.proofs.lemmas.Bool.{agree_below, agree_below_at, and_from, and_parts, cases_lt, eqb-true, le-ltb, lt-ltb}
+use Rattle.std.proofs.lemmas.Bool.Decides.{nat_tests}
+use Rattle.std.proofs.lemmas.List.Folds.{list_all-append}
+use Rattle.std.proofs.lemmas.Str.{IsUtf8-take, chars_from_encodes, encode_ascii}
+use Rattle.std.specs.Int.Bits.{bit_and}
+use Rattle.std.specs.List.{list_all}
+use Rattle.std.specs.Prelude.{ℕ, Bool, true, false, List, [], ◌∷◌, ◌++◌, ◌==◌, ◌||◌, ◌&&◌, not, ◌+◌, ◌-◌, ◌/◌, ◌%◌, ◌<◌, ◌≤◌, ◌⊎◌, codes, length, slice_index, take}
+use Rattle.std.specs.Str.{IsCharBoundary, chars}
+use lib.Utf8.{scalar, scalars, encode, encodes, next, scalar_cases}
+use Rattle.yaml_base.specs.Characters.{Text, is_among, is_break, is_printable, is_space}
+use Rattle.yaml_scalar.specs.Barred.{is_quiet}
+use Rattle.yaml_scalar.specs.declared.classes.TheConstants.{CLASSES}
+use Rattle.yaml_scalar.specs.ByteClasses.{IsFreeRun, Tells, is_free}
+use Rattle.yaml_scalar.specs.WholeRuns.{IsRun, last_from, stays_in_line, stays_where}
+
+-- a byte that goes on with a character is of no class
+inside_free : (classes b : ℕ) → 128 ≤ b → b < 192 → is_free classes b ≡ true
+inside_free classes b low high =
+    let at : b - 128 + 128 ≡ b = omega arith in
+    let none : slice_index CLASSES b ≡ 0 =
+    eqb-true _ _ (subst (λ k. (slice_index CLASSES k == 0) ≡ true) at (agree_below_at (λ k. slice_index CLASSES (k + 128) == 0) (λ k. true) 64 (b - 128) refl (omega arith))) in
+    ap (λ n. bit_and n classes == 0) none
+
+-- so such a run ends between characters
+pub run_boundary : {classes : ℕ} {text : List ℕ} {size : ℕ} → IsFreeRun classes text size → IsCharBoundary text size
+run_boundary {classes} {text} {size} is = (
+  is.within,
+  λ below wide. elim (cases_lt (slice_index text size) 192) [
+    | inl inside ↦ absurd (true≢false (sym (inside_free classes (slice_index text size) wide inside) ∙ is.stops below))
+    | inr first ↦ first
+  ],
+)
+
+all_pass : (classes : ℕ) (test : ℕ → Bool) → Tells classes test → (text : Text) → scalars text ≡ true → list_all (is_free classes) (encodes text) ≡ true → list_all test text ≡ true
+all_pass classes test tells [] s h = refl
+all_pass classes test tells (c ∷ rest) s h =
+    let p = and_parts (scalar c) (scalars rest) s in
+    let q = and_parts _ _ (sym (list_all-append (is_free classes) (encode c) (encodes rest)) ∙ h) in
+    and_from _ _ (tells c p.0 q.0) (all_pass classes test tells rest p.1 q.1)
+
+-- the characters of such a run pass
+pub free_passes : {classes : ℕ} {test : ℕ → Bool} {text : List ℕ} {size : ℕ} → Tells classes test → IsUtf8 text → IsFreeRun classes text size → list_all test (chars (take size text)) ≡ true
+free_passes {classes} {test} {text} {size} tells is_text free =
+    let u = IsUtf8-take text size is_text (run_boundary free) in
+    ap (list_all test) (sym (chars_from_encodes u.0 (take size text) u u.1.1))
+    ∙ all_pass classes test tells u.0 u.1.0 (ap (list_all (is_free classes)) u.1.1 ∙ free.all)
+
+pub free_run : {classes : ℕ} {test : ℕ → Bool} {before : ℕ} {text : List ℕ} {size last : ℕ} → Tells classes test → IsUtf8 text → IsFreeRun classes text size
+    → last ≡ last_from before (chars (take size text)) → IsRun test before text size last
+free_run tells is_text free last_is = record { boundary = run_boundary free; all = free_passes tells is_text free; last_is = last_is }
+
+-- What the classes say of characters: of those of ASCII by computing.
+pub ascii_tells : (classes : ℕ) (test : ℕ → Bool) → agree_below (λ b. not (is_free classes b) || test b) (λ b. true) 128 ≡ true
+    → (c : ℕ) → c < 128 → list_all (is_free classes) (encode c) ≡ true → test c ≡ true
+ascii_tells classes test computed c low free =
+    let one = and_parts _ _ (ap (list_all (is_free classes)) (sym (encode_ascii c low)) ∙ free) in
+    sym (ap (λ b. not b || test c) one.0) ∙ agree_below_at (λ b. not (is_free classes b) || test b) (λ b. true) 128 c computed low
+
+-- a character past ASCII by the first of its bytes
+false_unless : (b : Bool) → (b ≡ true → ⊥) → b ≡ false
+false_unless true h = absurd (h refl)
+false_unless false h = refl
+
+first_is_free : (classes first : ℕ) (rest : List ℕ) → list_all (is_free classes) (first ∷ rest) ≡ true → is_free classes first ≡ false → ⊥
+first_is_free classes first rest free not_free = true≢false (sym (and_parts _ _ free).0 ∙ not_free)
+
+is_other_than : (classes c k first : ℕ) (rest : List ℕ) → encode k ≡ first ∷ rest → is_free classes first ≡ false → list_all (is_free classes) (encode c) ≡ true → (c == k) ≡ false
+is_other_than classes c k first rest is not_free free =
+    false_unless _ (λ same. first_is_free classes first rest (ap (list_all (is_free classes)) (sym is) ∙ ap (λ d. list_all (is_free classes) (encode d)) (sym (eqb-true c k same)) ∙ free) not_free)
+
+-- no break
+pub record Unbroken (c : ℕ) : Type 0 where
+  pub next_line : (c == 0x85) ≡ false
+  pub line_separator : (c == 0x2028) ≡ false
+  pub paragraph_separator : (c == 0x2029) ≡ false
+
+pub wide_unbroken : (classes c : ℕ) → is_free classes 0xC2 ≡ false → is_free classes 0xE2 ≡ false → list_all (is_free classes) (encode c) ≡ true → Unbroken c
+unfolding encode
+wide_unbroken classes c two three free =
+    record {
+      next_line = is_other_than classes c 0x85 0xC2 _ refl two free;
+      line_separator = is_other_than classes c 0x2028 0xE2 _ refl three free;
+      paragraph_separator = is_other_than classes c 0x2029 0xE2 _ refl three free;
+    }
+
+pub wide_no_break : (c : ℕ) → 128 ≤ c → Unbroken c → is_break c ≡ false
+wide_no_break c wide is =
+    let lf : (c == 0xA) ≡ false = grind (arith, nat_tests) in
+    let cr : (c == 0xD) ≡ false = grind (arith, nat_tests) in
+    rw (lf, cr, is.next_line, is.line_separator, is.paragraph_separator)
+
+-- printable
+below_two : (c : ℕ) → 128 ≤ c → c < 160 → encode c ≡ 0xC2 ∷ (128 + c % 64) ∷ []
+unfolding encode
+below_two c low high =
+    let first : 192 + c / 64 ≡ 0xC2 = omega arith in
+    rw (le-ltb c 128 low, lt-ltb c 2048 (omega arith), first)
+
+below_last : (c : ℕ) → 0xF000 ≤ c → c < 0x10000 → encode c ≡ 0xEF ∷ (128 + (c / 64) % 64) ∷ (128 + c % 64) ∷ []
+unfolding encode
+below_last c low high =
+    let first : 224 + c / 4096 ≡ 0xEF = omega arith in
+    rw (le-ltb c 128 (omega arith), le-ltb c 2048 (omega arith), lt-ltb c 65536 high, first)
+
+printable_where : (c : ℕ) → scalar c ≡ true → 160 ≤ c → (c < 0xF000) ⊎ (0x10000 ≤ c) → is_printable c ≡ true
+printable_where c s low near = elim (scalar_cases c s) [
+  | inl below ↦ grind (arith, nat_tests)
+  | inr above ↦ elim near [ inl first ↦ grind (arith, nat_tests) | inr last ↦ grind (arith, nat_tests) ]
+]
+
+pub wide_printable : (classes c : ℕ) → is_free classes 0xC2 ≡ false → is_free classes 0xEF ≡ false → 128 ≤ c → scalar c ≡ true
+    → list_all (is_free classes) (encode c) ≡ true → is_printable c ≡ true
+wide_printable classes c two three wide s free =
+    let past : 160 ≤ c = elim (cases_lt c 160) [
+      | inl below ↦ absurd (first_is_free classes 0xC2 ((128 + c % 64) ∷ []) (ap (list_all (is_free classes)) (sym (below_two c wide below)) ∙ free) two)
+      | inr above ↦ above
+    ] in
+    let near : (c < 0xF000) ⊎ (0x10000 ≤ c) = elim (cases_lt c 0xF000) [
+      | inl below ↦ inl below
+      | inr above ↦ elim (cases_lt c 0x10000) [
+        | inl within ↦ absurd (first_is_free classes 0xEF ((128 + (c / 64) % 64) ∷ (128 + c % 64) ∷ []) (ap (list_all (is_free classes)) (sym (below_last c above within)) ∙ free) three)
+        | inr past ↦ inr past
+      ]
+    ] in
+    printable_where c s past near
+
+-- none is free of the class of all first bytes past ASCII
+pub wide_never : (classes c : ℕ) → agree_below (λ k. is_free classes (k + 192)) (λ k. false) 64 ≡ true → 128 ≤ c → scalar c ≡ true → list_all (is_free classes) (encode c) ≡ true → ⊥
+unfolding encode
+wide_never classes c none wide s free =
+    let at : (b : ℕ) → 192 ≤ b → b < 256 → is_free classes b ≡ false =
+    λ b low high. let same : b - 192 + 192 ≡ b = omega arith in
+    subst (λ k. is_free classes k ≡ false) same (agree_below_at (λ k. is_free classes (k + 192)) (λ k. false) 64 (b - 192) none (omega arith)) in
+    let all : c < 0x110000 = elim (scalar_cases c s) [ inl below ↦ omega arith | inr above ↦ above.1 ] in
+    elim (cases_lt c 2048) [
+      | inl two ↦ first_is_free classes (192 + c / 64) (next c ∷ []) (rw (le-ltb c 128 wide, lt-ltb c 2048 two) at free) (at (192 + c / 64) (omega arith) (omega arith))
+      | inr more ↦ elim (cases_lt c 65536) [
+        | inl three ↦ first_is_free classes (224 + c / 4096) (next (c / 64) ∷ next c ∷ []) (rw (le-ltb c 128 wide, le-ltb c 2048 more, lt-ltb c 65536 three) at free) (at (224 + c / 4096) (omega arith) (omega arith))
+        | inr four ↦ first_is_free classes (240 + c / 262144) (next (c / 4096) ∷ next (c / 64) ∷ next c ∷ []) (rw (le-ltb c 128 wide, le-ltb c 2048 more, le-ltb c 65536 four) at free) (at (240 + c / 262144) (omega arith) (omega arith))
+      ]
+    ]
+
+-- a test by what it says of ASCII and of what is past it
+pub tells_by : (classes : ℕ) (test : ℕ → Bool) → agree_below (λ b. not (is_free classes b) || test b) (λ b. true) 128 ≡ true
+    → ((c : ℕ) → 128 ≤ c → scalar c ≡ true → list_all (is_free classes) (encode c) ≡ true → test c ≡ true) → Tells classes test
+tells_by classes test computed past c s free = elim (cases_lt c 128) [
+  | inl low ↦ ascii_tells classes test computed c low free
+  | inr wide ↦ past c wide s free
+]
+
+and-false : (b : Bool) → (b && false) ≡ false
+and-false true = refl
+and-false false = refl
+
+other_than : (c k : ℕ) → 128 ≤ c → k < 128 → (c == k) ≡ false
+other_than c k wide below = grind (arith, nat_tests)
+
+other_than_signs : (c : ℕ) → 128 ≤ c → is_among (codes ",?:[]{}") c ≡ false
+other_than_signs c wide =
+    let differs : (k : ℕ) → k < 128 → (c == k) ≡ false = λ k below. other_than c k wide below in
+    rw (differs 44 (omega arith), differs 63 (omega arith), differs 58 (omega arith), differs 91 (omega arith), differs 93 (omega arith), differs 123 (omega arith), differs 125 (omega arith))
+
+-- The tests of the runs of a line,
+pub line_tells : (classes : ℕ) (folds quotes : Bool) → agree_below (λ b. not (is_free classes b) || stays_in_line folds quotes b) (λ b. true) 128 ≡ true
+    → is_free classes 0xC2 ≡ false → is_free classes 0xE2 ≡ false → Tells classes (stays_in_line folds quotes)
+line_tells classes folds quotes computed two three =
+    tells_by classes (stays_in_line folds quotes) computed
+    (λ c wide s free. let broken = wide_no_break c wide (wide_unbroken classes c two three free) in
+    let spaced : (c == 0x20) ≡ false = grind (arith, nat_tests) in
+    let quoted : (c == 39) ≡ false = grind (arith, nat_tests) in
+    rw (broken, spaced, quoted, and-false quotes))
+
+-- of those between double quotes,
+pub unicode_tells : (classes : ℕ) (folds : Bool) → agree_below (λ b. not (is_free classes b) || stays_where true folds b) (λ b. true) 128 ≡ true
+    → is_free classes 0xC2 ≡ false → is_free classes 0xE2 ≡ false → is_free classes 0xEF ≡ false → Tells classes (stays_where true folds)
+unicode_tells classes folds computed two three four =
+    tells_by classes (stays_where true folds) computed
+    (λ c wide s free. let broken = wide_no_break c wide (wide_unbroken classes c two three free) in
+    let printed = wide_printable classes c two four wide s free in
+    let spaced : (c == 0x20) ≡ false = grind (arith, nat_tests) in
+    let quoted : (c == 0x22) ≡ false = grind (arith, nat_tests) in
+    let escaped : (c == 0x5C) ≡ false = grind (arith, nat_tests) in
+    rw (printed, broken, spaced, quoted, escaped))
+
+pub ascii_only_tells : (classes : ℕ) (test : ℕ → Bool) → agree_below (λ b. not (is_free classes b) || test b) (λ b. true) 128 ≡ true
+    → agree_below (λ k. is_free classes (k + 192)) (λ k. false) 64 ≡ true → Tells classes test
+ascii_only_tells classes test computed none =
+    tells_by classes test computed (λ c wide s free. absurd (wide_never classes c none wide s free))
+
+-- and of those that an analysis passes over
+pub quiet_tells : (classes : ℕ) (breaks12 : Bool) → agree_below (λ b. not (is_free classes b) || is_quiet (record { unicode = true; breaks12 = breaks12 }) b) (λ b. true) 128 ≡ true
+    → is_free classes 0xC2 ≡ false → is_free classes 0xE2 ≡ false → is_free classes 0xEF ≡ false → Tells classes (is_quiet (record { unicode = true; breaks12 = breaks12 }))
+quiet_tells classes breaks12 computed two three four =
+    tells_by classes (is_quiet (record { unicode = true; breaks12 = breaks12 })) computed
+    (λ c wide s free. let no_break = wide_unbroken classes c two three free in
+    let broken = wide_no_break c wide no_break in
+    let printed = wide_printable classes c two four wide s free in
+    let tabbed : (c == 9) ≡ false = grind (arith, nat_tests) in
+    let nul : (c == 0) ≡ false = grind (arith, nat_tests) in
+    let hash : (c == 35) ≡ false = grind (arith, nat_tests) in
+    let signed = other_than_signs c wide in
+    rw (printed, broken, no_break.line_separator, no_break.paragraph_separator, and-false breaks12, tabbed, nul, hash, signed))
