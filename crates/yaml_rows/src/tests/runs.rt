@@ -11,6 +11,7 @@ mod limits;
 mod places;
 mod refusals;
 mod scalars;
+mod settings;
 
 use std::alloc::{AllocError, Global};
 use std::process::Abort;

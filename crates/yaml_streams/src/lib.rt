@@ -1,5 +1,0 @@
-//! Whole streams through the emitter: tests alone.
-#![tactic(auto)]
-
-#[cfg(test)]
-mod tests;
