@@ -1,4 +1,6 @@
 //! Streams, event by event.
+ghost use Rattle.std.specs.Prelude.{◌≡◌, true};
+
 use std::alloc::{AllocError, Global};
 use std::test::Fail;
 use yaml_dump::{
@@ -46,6 +48,7 @@ fn emit_all(
     events: Vec<yaml_event_t<Global>>,
 ) -> Result<(), yaml_error_t>
     requires { emitter.old.has_output ≡ true }
+    ensures { emitter.new.has_output ≡ true }
 {
     for event in events {
         yaml_emitter_emit(emitter, event)?;
@@ -75,7 +78,6 @@ fn bytes_appear_at_a_documents_end(rt: HostRuntime) -> Result<(), Fail> {
     // The sequence's start is still queued: it awaits one more event.
     assert_eq!(rt; emitter.held(), 2);
     assert_eq!(rt; emitter.output(), b"".as_slice());
-    assert!(rt; emitter.has_output());
     let rest = vec![in alloc;
         scalar(alloc, "b")?,
         YAML_SEQUENCE_END_EVENT,
@@ -84,7 +86,6 @@ fn bytes_appear_at_a_documents_end(rt: HostRuntime) -> Result<(), Fail> {
     emit_all(&mut emitter, rest)?;
     assert_eq!(rt; emitter.held(), 0);
     assert_eq!(rt; emitter.output(), b"[a, b]\n".as_slice());
-    assert!(rt; emitter.has_output());
     yaml_emitter_emit(&mut emitter, YAML_STREAM_END_EVENT)?;
     assert_eq!(rt; emitter.output(), b"[a, b]\n".as_slice());
     Ok(())
@@ -104,7 +105,6 @@ fn a_flush_writes_what_is_ready(rt: HostRuntime) -> Result<(), Fail> {
     ]?;
     emit_all(&mut emitter, started)?;
     assert_eq!(rt; emitter.output(), b"".as_slice());
-    assert!(rt; emitter.has_output());
     yaml_emitter_flush(&mut emitter)?;
     assert_eq!(rt; emitter.output(), b"[a, b".as_slice());
     Ok(())
