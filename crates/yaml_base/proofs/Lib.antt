@@ -30,6 +30,7 @@ pub mod RowsMeetings
 pub mod RowsCanonical
 pub mod RowsUnfolding
 pub mod RowsTyped
+pub mod RowsSpoiledTrees
 pub mod Literals
 pub mod NumbersOutside
 pub mod StreamTrees
@@ -37,3 +38,9 @@ pub mod RowsStreamNodes
 pub mod RowsStreamDocuments
 pub mod RowsStreamRefused
 pub mod RowsTidy
+pub mod UnfoldSteps
+pub mod UnfoldTrees
+pub mod UnfoldEvents
+pub mod SharedNodes
+pub mod DocumentsUnfold
+pub mod ContentsUnfold

@@ -1,11 +1,10 @@
 -- Documents of nodes, computed: their meetings and their events.
 use Rattle.std.specs.Prelude.{◌≡◌, ℕ, zero, suc, true, false, Option, None, Some, List, [], ◌∷◌, ◌++◌, length, filter_map, flat_map, codes, refl, slice_get}
 use Rattle.std.specs.Char.{encode_utf8}
-use Rattle.std.specs.Fmt.{digits}
 use Rattle.yaml_base.specs.Characters.{Text}
 use Rattle.yaml_base.specs.Event.{Event, DocumentStart, document_start, document_end, alias, scalar, sequence_start, sequence_end, mapping_start, mapping_end, any_style, block}
 use Rattle.yaml_base.specs.Settings.{Settings}
-use Rattle.yaml_base.specs.Meetings.{NumberPair, GraphNode, Graph, scalar_held, sequence_held, mapping_held, string_tag, sequence_tag, mapping_tag, meetings, document_event_list}
+use Rattle.yaml_base.specs.Meetings.{NumberPair, GraphNode, Graph, decimal_digits, scalar_held, sequence_held, mapping_held, string_tag, sequence_tag, mapping_tag, meetings, document_event_list}
 use Rattle.yaml_base.proofs.RowEvents.{plain_settings, canonical_settings, stream_of, laid_under}
 
 -- nodes with the tags of their kinds, in a document without directives whose marks are implicit
@@ -36,13 +35,13 @@ shared_below : (meetings (graph_of (sequence_of (2 ∷ []) ∷ sequence_of (3 �
     × (document_event_list (graph_of (sequence_of (2 ∷ []) ∷ sequence_of (3 ∷ 3 ∷ []) ∷ string_of (codes "a") ∷ []))
     ≡ document_start start ∷ a_sequence None ∷ a_sequence None ∷ a_string (Some (codes "id001")) (codes "a") ∷ alias (codes "id001")
     ∷ sequence_end ∷ sequence_end ∷ document_end true ∷ [])
-unfolding digits
+unfolding decimal_digits
 shared_below = (refl, refl)
 
 -- a sequence that is its own item
 holds_itself : document_event_list (graph_of (sequence_of (1 ∷ []) ∷ []))
     ≡ document_start start ∷ a_sequence (Some (codes "id001")) ∷ alias (codes "id001") ∷ sequence_end ∷ document_end true ∷ []
-unfolding digits
+unfolding decimal_digits
 holds_itself = refl
 
 -- anchors are numbered by second meetings: the inner node's comes first
@@ -50,14 +49,14 @@ shared_twice : (meetings (graph_of (sequence_of (2 ∷ 2 ∷ []) ∷ sequence_of
     × (document_event_list (graph_of (sequence_of (2 ∷ 2 ∷ []) ∷ sequence_of (3 ∷ 3 ∷ []) ∷ string_of (codes "a") ∷ []))
     ≡ document_start start ∷ a_sequence None ∷ a_sequence (Some (codes "id002")) ∷ a_string (Some (codes "id001")) (codes "a") ∷ alias (codes "id001")
     ∷ sequence_end ∷ alias (codes "id002") ∷ sequence_end ∷ document_end true ∷ [])
-unfolding digits
+unfolding decimal_digits
 shared_twice = (refl, refl)
 
 -- a mapping that is a value of its own
 mapping_within_itself : document_event_list (graph_of (mapping_of (record { key = 2; value = 1 } ∷ []) ∷ string_of (codes "k") ∷ []))
     ≡ document_start start ∷ mapping_start (record { anchor = Some (codes "id001"); tag = Some mapping_tag; implicit = true; style = block })
     ∷ a_string None (codes "k") ∷ alias (codes "id001") ∷ mapping_end ∷ document_end true ∷ []
-unfolding digits
+unfolding decimal_digits
 mapping_within_itself = refl
 
 -- a scalar with another tag has its flags off; a node that isn't reached is left out; no nodes have no events
@@ -81,7 +80,7 @@ alias_in _ = None
 doubled_forty_times : (length (document_event_list (graph_of (doubling 40 1))) ≡ 123)
     × (length (filter_map alias_in (document_event_list (graph_of (doubling 40 1)))) ≡ 40)
     × (length (meetings (graph_of (doubling 40 1))) ≡ 81)
-unfolding digits
+unfolding decimal_digits
 doubled_forty_times = (refl, refl, refl)
 
 -- a sequence of so many strings from a number on
@@ -98,7 +97,7 @@ many_shared : (slice_get (document_event_list (graph_of (sequence_of (numbers_fr
     ≡ Some (a_string (Some (codes "id100")) (codes "x")))
     × (slice_get (document_event_list (graph_of (sequence_of (numbers_from 2 100 ++ numbers_from 2 100) ∷ strings 100))) 201
     ≡ Some (alias (codes "id100")))
-unfolding digits
+unfolding decimal_digits
 many_shared = (refl, refl)
 
 -- ---- the text of documents in a stream
@@ -110,47 +109,47 @@ abbrev dumped_alone : List GraphNode → Text
 dumped_alone nodes = dumped plain_settings (nodes ∷ [])
 
 shared_items : dumped_alone (sequence_of (2 ∷ 2 ∷ []) ∷ string_of (codes "a") ∷ []) ≡ codes "- &id001 a\n- *id001\n"
-unfolding digits encode_utf8
+unfolding decimal_digits encode_utf8
 shared_items = refl
 
 shared_below_text : dumped_alone (sequence_of (2 ∷ []) ∷ sequence_of (3 ∷ 3 ∷ []) ∷ string_of (codes "a") ∷ []) ≡ codes "- - &id001 a\n  - *id001\n"
-unfolding digits encode_utf8
+unfolding decimal_digits encode_utf8
 shared_below_text = refl
 
 holds_itself_text : dumped_alone (sequence_of (1 ∷ []) ∷ []) ≡ codes "&id001\n- *id001\n"
-unfolding digits encode_utf8
+unfolding decimal_digits encode_utf8
 holds_itself_text = refl
 
 shared_twice_text : dumped_alone (sequence_of (2 ∷ 2 ∷ []) ∷ sequence_of (3 ∷ 3 ∷ []) ∷ string_of (codes "a") ∷ [])
     ≡ codes "- &id002\n  - &id001 a\n  - *id001\n- *id002\n"
-unfolding digits encode_utf8
+unfolding decimal_digits encode_utf8
 shared_twice_text = refl
 
 mapping_within_itself_text : dumped_alone (mapping_of (record { key = 2; value = 1 } ∷ []) ∷ string_of (codes "k") ∷ []) ≡ codes "&id001\nk: *id001\n"
-unfolding digits encode_utf8
+unfolding decimal_digits encode_utf8
 mapping_within_itself_text = refl
 
 unreached_text : dumped_alone (string_of (codes "a") ∷ string_of (codes "b") ∷ []) ≡ codes "a\n"
-unfolding digits encode_utf8
+unfolding decimal_digits encode_utf8
 unreached_text = refl
 
 other_tag_text : dumped_alone (record { tag = codes "tag:yaml.org,2002:int"; held = scalar_held (codes "5") any_style } ∷ []) ≡ codes "!!int 5\n"
-unfolding digits encode_utf8
+unfolding decimal_digits encode_utf8
 other_tag_text = refl
 
 -- numbers begin anew in each document
 dumped_twice : (let nodes = sequence_of (2 ∷ 2 ∷ []) ∷ string_of (codes "a") ∷ [] in dumped plain_settings (nodes ∷ nodes ∷ []))
     ≡ codes "- &id001 a\n- *id001\n---\n- &id001 a\n- *id001\n"
-unfolding digits encode_utf8
+unfolding decimal_digits encode_utf8
 dumped_twice = refl
 
 mapping_within_itself_canonical : dumped canonical_settings ((mapping_of (record { key = 2; value = 1 } ∷ []) ∷ string_of (codes "k") ∷ []) ∷ [])
     ≡ codes "---\n&id001 !!map {\n  ? !!str \"k\"\n  : *id001,\n}\n"
-unfolding digits encode_utf8
+unfolding decimal_digits encode_utf8
 mapping_within_itself_canonical = refl
 
 -- the numbers of nodes don't show: nodes 2 and 3 exchanged
 exchanged : dumped canonical_settings ((sequence_of (2 ∷ 2 ∷ []) ∷ sequence_of (3 ∷ 3 ∷ []) ∷ string_of (codes "a") ∷ []) ∷ [])
     ≡ dumped canonical_settings ((sequence_of (3 ∷ 3 ∷ []) ∷ string_of (codes "a") ∷ sequence_of (2 ∷ 2 ∷ []) ∷ []) ∷ [])
-unfolding digits encode_utf8
+unfolding decimal_digits encode_utf8
 exchanged = refl

@@ -3,9 +3,9 @@ use Rattle.std.proofs.Common.{◌≡◌, ◌⊎◌, inl, inr, subst, ap, refl, a
 use Rattle.std.proofs.lemmas.Bool.Decides.{nat_tests}
 use Rattle.std.specs.Prelude.{ℕ, zero, suc, true, None, Some, [], ◌∷◌, slice_index, Contains, count_by, codes}
 use Rattle.yaml_base.specs.Event.{any_style, block}
-use Rattle.yaml_base.specs.Grammar.{Node, alias_node, scalar_node, sequence_node, mapping_node, no_nodes, nodes_and, no_pairs, pairs_and}
+use Rattle.yaml_base.specs.Grammar.{Node, alias_node, scalar_node, sequence_node, mapping_node, no_nodes, nodes_and, no_pairs, pairs_and, document_events}
 use Rattle.yaml_base.specs.Content.{node_content}
-use Rattle.yaml_base.specs.Meetings.{Graph, scalar_held, sequence_held, mapping_held, string_tag, sequence_tag, mapping_tag, children}
+use Rattle.yaml_base.specs.Meetings.{Graph, scalar_held, sequence_held, mapping_held, string_tag, sequence_tag, mapping_tag, children, decimal_digits, document_event_list}
 use Rattle.yaml_base.specs.Unfolding.{TreeUnfolds, ContentUnfolds, HasShape, node_shape_of, number_at, node_place, alias_place, IsReached, first_reached, child_reached, Placed, is_place_of, places, alias_placed, node_placed, none_placed, placed_and}
 
 -- a mapping whose one key is a string, and whose value is the mapping
@@ -25,6 +25,11 @@ tree =
     (pairs_and no_pairs
     (scalar_node (record { anchor = None; tag = Some string_tag; value = codes "k"; plain_implicit = true; quoted_implicit = true; style = any_style }))
     (alias_node (codes "id001")))
+
+-- its events are those of the document
+its_events : document_events (record { start = graph.start; root = tree; end_implicit = graph.end_implicit }) ≡ document_event_list graph
+unfolding decimal_digits
+its_events = refl
 
 -- only nodes 1 and 2 are reached
 held_by_one : (child : ℕ) → Contains (2 ∷ 1 ∷ []) child → (child ≡ 1) ⊎ (child ≡ 2)

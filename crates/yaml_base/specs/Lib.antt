@@ -37,6 +37,7 @@ pub mod Content
 pub mod CanonicalReader
 pub mod Meetings
 pub mod Unfolding
+pub mod Dumped
 pub mod SeenNodes
 pub mod Documents
 pub mod Script

@@ -1,7 +1,8 @@
 -- A document as a graph of numbered nodes, the walk over it, and its events (libyaml's dumper; here a shared node gets
 -- its anchor however deep it lies).
-use Rattle.std.specs.Prelude.{ℕ, zero, suc, Bool, true, false, Option, None, Some, List, [], ◌∷◌, ◌++◌, ◌==◌, ◌+◌, ◌-◌, not, length, replicate, filter, filter_map, flat_map, fold, position, decimal, codes, bytes_eq, slice_get, option_map, unwrap_or, if◌then◌else◌}
-use Rattle.std.specs.List.{list_any}
+use Rattle.std.specs.Prelude.{ℕ, zero, suc, Bool, true, false, Option, None, Some, List, [], ◌∷◌, ◌++◌, ◌==◌, ◌+◌, ◌-◌, ◌&&◌, nat_le, not, length, replicate, filter, filter_map, flat_map, fold, position, codes, bytes_eq, slice_get, option_map, unwrap_or, if◌then◌else◌}
+use Rattle.std.specs.List.{list_any, list_all}
+use Rattle.std.specs.Fmt.{digits_onto}
 use Rattle.yaml_base.specs.Characters.{Text}
 use Rattle.yaml_base.specs.Event.{Event, DocumentStart, ScalarStyle, CollectionStyle, document_start, document_end, alias, scalar, sequence_start, sequence_end, mapping_start, mapping_end}
 
@@ -48,6 +49,10 @@ numbers_in (Some node) = numbers_held node.held
 -- the children of the node of a number
 abbrev pub children : Graph → ℕ → List ℕ
 children graph number = numbers_in (node_numbered graph number)
+
+-- each number that a node of the graph holds names a node of it
+abbrev pub is_whole : Graph → Bool
+is_whole graph = list_all (λ node. list_all (λ number. nat_le 1 number && nat_le number (length graph.nodes)) (numbers_held node.held)) graph.nodes
 
 -- ---- the walk
 
@@ -101,9 +106,13 @@ first_of_each (number ∷ rest) = number ∷ filter (λ other. not (other == num
 abbrev pub shared_nodes : List Step → List ℕ
 shared_nodes walk = first_of_each (filter_map node_met_again walk)
 
+-- the decimal digits of a number, however many they are
+unfoldable pub decimal_digits : ℕ → Text
+decimal_digits number = digits_onto (suc number) 10 false number []
+
 -- `id` and a number of at least three digits
 abbrev pub numbered_name : ℕ → Text
-numbered_name number = codes "id" ++ replicate (3 - length (decimal number)) 0x30 ++ decimal number
+numbered_name number = codes "id" ++ replicate (3 - length (decimal_digits number)) 0x30 ++ decimal_digits number
 
 -- the anchor of a node: shared nodes are numbered from 1
 abbrev pub anchor_of : List Step → ℕ → Option Text

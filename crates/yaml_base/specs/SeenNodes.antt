@@ -1,7 +1,7 @@
 -- What contracts see of nodes and documents: numbered nodes as plain data, no capacity and no allocator.
-use Rattle.std.specs.Prelude.{ℕ, ℤ, pos, negsuc, Bool, false, ◌&&◌, nat_le, not, Option, List, [], ◌∷◌, map, option_map, find, length}
-use Rattle.std.specs.List.{flat_map, list_all}
-use Rattle.yaml_base.specs.Meetings.{NumberPair, Held, scalar_held, sequence_held, mapping_held, numbers_held, GraphNode, Graph}
+use Rattle.std.specs.Prelude.{ℕ, ℤ, pos, negsuc, Bool, false, ◌&&◌, nat_le, not, Option, List, [], ◌∷◌, map, option_map, find}
+use Rattle.std.specs.List.{flat_map}
+use Rattle.yaml_base.specs.Meetings.{NumberPair, Held, scalar_held, sequence_held, mapping_held, GraphNode, Graph}
 use Rattle.yaml_base.specs.Seen.{seen_text, seen_scalar_style, seen_sequence_style, seen_mapping_style, seen_version, seen_directive}
 use Rattle.yaml_base.specs.declared.directives.yaml_version_directive_t.{yaml_version_directive_t}
 use Rattle.yaml_base.specs.declared.directives.yaml_tag_directive_t.{yaml_tag_directive_t}
@@ -59,7 +59,3 @@ all_numbers nodes = flat_map (λ node. numbers_of node.contents) nodes
 -- the first number that names none of so many nodes
 abbrev pub first_outside : ℕ → List ℤ → Option ℤ
 first_outside count numbers = find (λ number. not (names_node count number)) numbers
-
--- each number that a node of the graph holds names a node of it
-abbrev pub is_whole : Graph → Bool
-is_whole graph = list_all (λ node. list_all (λ number. nat_le 1 number && nat_le number (length graph.nodes)) (numbers_held node.held)) graph.nodes

@@ -1,11 +1,11 @@
 -- What it means that a tree unfolds a document's graph (YAML 1.1, section 3.2.2, from the graph's side: each alias stands
 -- for the node that carries its anchor).
-use Rattle.std.specs.Prelude.{◌≡◌, ℕ, Bool, true, false, Option, None, Some, List, [], ◌∷◌, ◌++◌, ◌==◌, Contains, count_by, bytes_eq, option_map, ⊤, if◌then◌else◌}
+use Rattle.std.specs.Prelude.{◌≡◌, ℕ, Bool, true, false, Option, None, Some, List, [], ◌∷◌, ◌++◌, ◌==◌, Contains, count_by, bytes_eq, option_map, length, ⊤, if◌then◌else◌}
 use Rattle.yaml_base.specs.Characters.{Text}
-use Rattle.yaml_base.specs.Event.{ScalarStyle, CollectionStyle}
-use Rattle.yaml_base.specs.Grammar.{Node, alias_node, scalar_node, sequence_node, mapping_node, Nodes, no_nodes, nodes_and, Pairs, no_pairs, pairs_and}
+use Rattle.yaml_base.specs.Event.{ScalarStyle, CollectionStyle, Event}
+use Rattle.yaml_base.specs.Grammar.{Node, alias_node, scalar_node, sequence_node, mapping_node, Nodes, no_nodes, nodes_and, Pairs, no_pairs, pairs_and, Document, document_events}
 use Rattle.yaml_base.specs.Content.{ScalarTag, tagged, untagged, Content, alias_content, scalar_content, sequence_content, mapping_content, Contents, no_contents, contents_and, ContentPairs, no_content_pairs, content_pairs_and}
-use Rattle.yaml_base.specs.Meetings.{Held, scalar_held, sequence_held, mapping_held, GraphNode, Graph, node_numbered, children}
+use Rattle.yaml_base.specs.Meetings.{Held, scalar_held, sequence_held, mapping_held, GraphNode, Graph, is_whole, node_numbered, children, document_event_list}
 
 -- ---- what trees of events and contents have in common
 
@@ -185,3 +185,22 @@ TreeUnfolds graph tree = Unfolds true graph (node_shape_of tree)
 -- a content unfolds a graph but for its styles
 abbrev pub ContentUnfolds : Graph → Content → Type 0
 ContentUnfolds graph content = Unfolds false graph (content_shape content)
+
+-- ---- documents
+
+-- events are those of a document whose tree unfolds the graph
+pub record EventsUnfold (graph : Graph) (events : List Event) : Type 0 where
+  pub document : Document
+  pub is_document : document_events document ≡ events
+  pub start : document.start ≡ graph.start
+  pub end_implicit : document.end_implicit ≡ graph.end_implicit
+  pub unfolds : TreeUnfolds graph document.root
+
+-- a graph with nodes, each of whose numbers names one of them
+pub record IsDocument (graph : Graph) : Type 0 where
+  pub whole : is_whole graph ≡ true
+  pub has_nodes : (length graph.nodes == 0) ≡ false
+
+-- the events of each such graph are those of a document that unfolds it
+abbrev pub DocumentsUnfold : Type 0
+DocumentsUnfold = (graph : Graph) → IsDocument graph → EventsUnfold graph (document_event_list graph)

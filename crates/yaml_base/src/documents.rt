@@ -2,7 +2,8 @@
 ghost use Rattle.std.specs.Prelude.{true, ◌≡◌, ◌≤◌, None, Some, pos, map, option_map, length, vec_len, slice_get, is_none, IsTrue, MatchResult, IfOk, ◌==◌};
 ghost use Rattle.yaml_base.specs.Meetings.{node_numbered};
 ghost use Rattle.yaml_base.specs.Seen.{seen_version, seen_directive};
-ghost use Rattle.yaml_base.specs.SeenNodes.{seen_number, seen_node, seen_document, names_node as is_named, numbers_of, numbers_of_pairs, all_numbers, first_outside, is_whole};
+ghost use Rattle.yaml_base.specs.Meetings.{is_whole};
+ghost use Rattle.yaml_base.specs.SeenNodes.{seen_number, seen_node, seen_document, names_node as is_named, numbers_of, numbers_of_pairs, all_numbers, first_outside};
 
 use crate::directives::{yaml_tag_directive_t, yaml_version_directive_t};
 use crate::nodes::{yaml_node_data_t, yaml_node_pair_t, yaml_node_t};

@@ -5,6 +5,7 @@ ghost use Rattle.yaml_base.specs.Layout.{OnePieceEach};
 ghost use Rattle.yaml_base.specs.Pieces.{PiecesStand};
 ghost use Rattle.yaml_base.specs.Ready.{ReadyStays, WholeStreamIsReady};
 ghost use Rattle.yaml_base.specs.Refusal.{RefusedExactly};
+ghost use Rattle.yaml_base.specs.Unfolding.{DocumentsUnfold};
 
 /// A list of events is the events of at most one tree.
 pub fn list_has_one_tree()
@@ -40,4 +41,9 @@ pub fn refused_exactly()
 /// All events of a whole stream are ready.
 pub fn whole_stream_is_ready()
     ensures { WholeStreamIsReady }
+{}
+
+/// The events of a graph that has nodes, each of whose numbers names one, are those of a document whose tree unfolds it.
+pub fn documents_unfold()
+    ensures { DocumentsUnfold }
 {}

@@ -28,7 +28,7 @@ pub use events::yaml_event_t::{
     YAML_SEQUENCE_START_EVENT, YAML_STREAM_END_EVENT, YAML_STREAM_START_EVENT,
 };
 pub use laws::{
-    bytes_have_one_text, layout_has_one_piece_each, list_has_one_tree, pieces_stand,
+    bytes_have_one_text, documents_unfold, layout_has_one_piece_each, list_has_one_tree, pieces_stand,
     ready_events_stay_ready, refused_exactly, whole_stream_is_ready,
 };
 pub use nodes::{yaml_node_data_t, yaml_node_pair_t, yaml_node_t};

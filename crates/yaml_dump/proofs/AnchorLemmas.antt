@@ -1,6 +1,6 @@
 -- The nodes that a walk meets again, one more step at a time.
 use Rattle.std.proofs.Common.{◌≡◌, ◌≢◌, ℕ, zero, suc, ◌+◌, ◌-◌, ◌==◌, ◌<◌, ◌≤◌, ◌&&◌, ◌||◌, nat_lt, Bool, true, false, cond, not, Option, None, Some, option_map, unwrap_or, List, [], ◌∷◌, ◌++◌, length, get_or, set, refl, sym, ap, ◌∙◌, arith, length-append, add-one, map, take, drop, nat_le, subst}
-use Rattle.std.specs.List.{list_any, filter, filter_map, position, position_or_len, cons_option}
+use Rattle.std.specs.List.{filter, filter_map, position, position_or_len, cons_option}
 use Rattle.std.proofs.lemmas.Bool.Decides.{nat_tests}
 use Rattle.std.proofs.Math.Seq.{take-append_seam}
 use Rattle.std.proofs.lemmas.List.{length-map, append-nil, get_or-set_same, get_or-set_other, length-set, take_more, map-append, get_or-map}
@@ -8,38 +8,13 @@ use Rattle.std.proofs.lemmas.List.Elements.{filter-append, filter_map-append}
 use Rattle.std.proofs.lemmas.List.Folds.{position_or_len_push, list_all-map}
 use Rattle.std.proofs.lemmas.List.Sums.{prefix_len-le-length, AllPass-from_list_all}
 use Rattle.yaml_base.specs.Meetings.{Step, enters, leaves, meets_again, first_of_each, node_met_again, shared_nodes, anchor_of, numbered_name}
+use Rattle.yaml_base.proofs.SharedNodes.{has, has_first, has_position}
 use Rattle.yaml_dump.specs.declared.steps.Step as declared
 use Rattle.yaml_dump.specs.declared.steps.Step.TheVariants.{Enters, Leaves, MeetsAgain}
 use Rattle.yaml_dump.specs.Steps.{seen_step}
 use Rattle.yaml_dump.specs.Events.{IsPlaced}
 use Rattle.yaml_dump.specs.Anchors.{HasPlaces, is_numbered, IsNumbered, place_in, anchor_of_place, Places}
 use Rattle.yaml_dump.specs.Named.{number_in}
-
--- a list has a number
-abbrev pub has : ℕ → List ℕ → Bool
-has number xs = list_any (λ other. other == number) xs
-
-one_without : (b : Bool) (number y : ℕ) (ys : List ℕ) → (b ≡ true → (y == number) ≡ false) → has number (cond (not b) (y ∷ ys) ys) ≡ (y == number || has number ys)
-one_without false number y ys h = refl
-one_without true number y ys h = ap (λ (t : Bool). t || has number ys) (sym (h refl))
-
--- without x, a list has what it had beside x
-has_without : (number x : ℕ) (xs : List ℕ) → (x == number) ≡ false → has number (filter (λ other. not (other == x)) xs) ≡ has number xs
-has_without number x [] differs = refl
-has_without number x (y ∷ xs) differs =
-    let apart : (y == x) ≡ true → (y == number) ≡ false = λ same. grind (arith, nat_tests) in
-    one_without (y == x) number y (filter (λ other. not (other == x)) xs) apart ∙ ap (λ (t : Bool). y == number || t) (has_without number x xs differs)
-
-either_same : (b a c : Bool) → (b ≡ false → a ≡ c) → (b || a) ≡ (b || c)
-either_same true a c h = refl
-either_same false a c h = h refl
-
--- the first of each number are the same numbers
-has_first : (number : ℕ) (xs : List ℕ) → has number (first_of_each xs) ≡ has number xs
-has_first number [] = refl
-has_first number (x ∷ xs) =
-    either_same (x == number) (has number (filter (λ other. not (other == x)) (first_of_each xs))) (has number xs)
-    (λ differs. has_without number x (first_of_each xs) differs ∙ has_first number xs)
 
 kept_once : (b c : Bool) (number : ℕ) → cond (not b) (number ∷ []) [] ≡ cond (b || false) [] (number ∷ [])
 kept_once true c number = refl
@@ -94,15 +69,6 @@ place_of_position false k = refl
 
 place_is : (xs : List ℕ) (number : ℕ) → place_in xs number ≡ cond (nat_lt (position_or_len (λ other. other == number) xs) (length xs)) (position_or_len (λ other. other == number) xs + 1) 0
 place_is xs number = place_of_position (nat_lt (position_or_len (λ other. other == number) xs) (length xs)) (position_or_len (λ other. other == number) xs)
-
--- that a list has a number is that it first stands before the end
-one_position : (b a : Bool) (k l : ℕ) → a ≡ nat_lt k l → (b || a) ≡ nat_lt (cond (not b) (1 + k) 0) (suc l)
-one_position true a k l is = grind (arith, nat_tests)
-one_position false a k l is = is ∙ grind (arith, nat_tests)
-
-has_position : (number : ℕ) (xs : List ℕ) → has number xs ≡ nat_lt (position_or_len (λ other. other == number) xs) (length xs)
-has_position number [] = refl
-has_position number (x ∷ xs) = one_position (x == number) (has number xs) (position_or_len (λ other. other == number) xs) (length xs) (has_position number xs)
 
 within : (number : ℕ) (xs : List ℕ) → position_or_len (λ other. other == number) xs ≤ length xs
 within number xs = prefix_len-le-length (λ other. not (other == number)) xs

@@ -1,12 +1,13 @@
 -- Children by their places: pairs take two places each, and whole graphs name their nodes.
-use Rattle.std.proofs.Common.{◌≡◌, ℕ, zero, suc, ◌+◌, ◌<◌, ◌≤◌, ◌/◌, ◌%◌, Bool, true, false, Option, None, Some, List, [], ◌∷◌, map, length, get_or, refl, sym, ap, ◌∙◌, arith}
+use Rattle.std.proofs.Common.{◌≡◌, ℕ, zero, suc, ◌+◌, ◌<◌, ◌≤◌, ◌/◌, ◌%◌, Bool, true, Option, None, Some, List, [], ◌∷◌, map, length, get_or, refl, sym, ap, ◌∙◌, arith}
 use Rattle.std.specs.Prelude.{IfSome, nat_le, ◌&&◌, ◌^◌}
 use Rattle.std.specs.List.{slice_get, list_all}
 use Rattle.std.proofs.lemmas.Bool.{leb-true}
 use Rattle.std.proofs.lemmas.Option.{slice_get_past, slice_get_within}
-use Rattle.yaml_base.specs.Meetings.{Graph, GraphNode, numbers_held, numbers_in, children}
-use Rattle.yaml_base.specs.SeenNodes.{seen_number, seen_pair, is_whole}
+use Rattle.yaml_base.specs.Meetings.{Graph, GraphNode, numbers_held, numbers_in, children, is_whole}
+use Rattle.yaml_base.specs.SeenNodes.{seen_number, seen_pair}
 use Rattle.yaml_base.specs.declared.nodes.yaml_node_pair_t.{yaml_node_pair_t}
+use Rattle.yaml_base.proofs.UnfoldTrees.{both_true}
 use Rattle.yaml_dump.specs.Standing.{pair_numbers}
 use Rattle.yaml_dump.specs.Named.{IsNamed}
 
@@ -66,11 +67,6 @@ pairs_countable pairs place None small is = tt
 pairs_countable pairs place (Some number) small is =
     let within : place < length (numbers_seen pairs) = slice_get_within (numbers_seen pairs) place number (sym is) in
     omega (arith, length-numbers_seen pairs)
-
--- the parts of a test
-both_true : (a b : Bool) → (a && b) ≡ true → (a ≡ true) × (b ≡ true)
-both_true true b both = (refl, both)
-both_true false b both = cc
 
 -- what a test of all elements tells of the one at a place
 all_found : {X : Type 0} (test : X → Bool) (xs : List X) (place : ℕ) (x : X) → list_all test xs ≡ true → slice_get xs place ≡ Some x → test x ≡ true

@@ -1,20 +1,19 @@
 -- What holds of a standing of a walk, and that each turn keeps it.
-use Rattle.std.proofs.Common.{◌≡◌, ◌≢◌, ℕ, suc, ◌+◌, ◌-◌, ◌<◌, ◌≤◌, Bool, true, false, cond, ◌||◌, Option, None, Some, List, [], ◌∷◌, ◌++◌, All, length, set, get_or, replicate, ◌⊎◌, inl, inr, refl, sym, ap, ◌∙◌, arith, eq-eqb, ne_eqb, subst, reverse, map}
+use Rattle.std.proofs.Common.{◌≡◌, ◌≢◌, ℕ, suc, ◌+◌, ◌-◌, ◌<◌, ◌≤◌, Bool, true, false, cond, Option, None, Some, List, [], ◌∷◌, ◌++◌, All, length, set, get_or, replicate, ◌⊎◌, inl, inr, refl, sym, ap, ◌∙◌, arith, eq-eqb, ne_eqb, subst, reverse, map}
 use Rattle.std.specs.Prelude.{IfSome, Vec}
 use Rattle.std.specs.List.{list_any, sum_by}
-use Rattle.std.proofs.Math.Bool.{or-false, or-true}
 use Rattle.std.proofs.lemmas.Bool.{cases_eq}
 use Rattle.std.proofs.lemmas.List.{get_or-map, length-map, reverse-append, length_push, length-set, get_or-set_same, get_or-set_other, get_or-replicate, length-replicate}
 use Rattle.std.proofs.lemmas.List.Elements.{All-nil, All-cons, All-head, All-tail, All-push}
-use Rattle.std.proofs.lemmas.List.Folds.{list_any-append, sum_by-replicate}
+use Rattle.std.proofs.lemmas.List.Folds.{sum_by-replicate}
 use Rattle.std.proofs.lemmas.List.Sums.{sum_by-set}
 use Rattle.yaml_base.specs.Meetings as meetings
-use Rattle.yaml_base.specs.Meetings.{Graph, children, enters, leaves, meets_again, is_entry_of, steps_from, steps}
+use Rattle.yaml_base.specs.Meetings.{Graph, enters, leaves, meets_again, is_entry_of, steps_from, steps, is_whole}
 use Rattle.yaml_dump.specs.Standing.{Standing, seen_walker, at_start, with_step, with_visit, with_node, with_meeting, with_child, child_of, with_turn}
 use Rattle.yaml_dump.specs.Named.{IsNamed, AreNamed, number_in}
 use Rattle.yaml_dump.specs.Steps.{seen_step}
 use Rattle.yaml_dump.specs.declared.steps.Step.{Step}
-use Rattle.yaml_base.specs.SeenNodes.{is_whole}
+use Rattle.yaml_base.proofs.UnfoldSteps.{none_added, one_added}
 use Rattle.yaml_dump.proofs.ChildLemmas.{child_named}
 use Rattle.yaml_dump.specs.declared.walk.Visit.{Visit}
 use Rattle.yaml_dump.specs.declared.walk.Walker.{Walker}
@@ -48,18 +47,6 @@ pub record Meets (graph : Graph) (number : ℕ) (standing : Standing) : Type 0 w
   pub sound : IsSound graph standing
 
 -- ---- one more step
-
--- a test of the steps so far and of the new one
-any_added : (test : meetings.Step → Bool) (before : List meetings.Step) (step : meetings.Step) → list_any test (before ++ step ∷ []) ≡ (list_any test before || test step)
-any_added test before step = list_any-append test before (step ∷ []) ∙ ap (λ (b : Bool). list_any test before || b) (or-false (test step))
-
--- where the new one fails
-none_added : (test : meetings.Step → Bool) (before : List meetings.Step) (step : meetings.Step) → test step ≡ false → list_any test (before ++ step ∷ []) ≡ list_any test before
-none_added test before step is = any_added test before step ∙ ap (λ (b : Bool). list_any test before || b) is ∙ or-false (list_any test before)
-
--- where it passes
-one_added : (test : meetings.Step → Bool) (before : List meetings.Step) (step : meetings.Step) → test step ≡ true → list_any test (before ++ step ∷ []) ≡ true
-one_added test before step is = any_added test before step ∙ ap (λ (b : Bool). list_any test before || b) is ∙ or-true (list_any test before)
 
 -- a step that enters none
 sound_step : (graph : Graph) (standing : Standing) (step : meetings.Step) → IsSound graph standing → ((number : ℕ) → is_entry_of number step ≡ false) → IsNamed (length graph.nodes) (number_in step)

@@ -2,7 +2,8 @@
 use Rattle.std.proofs.Common.{◌≡◌, ℕ, zero, suc, ◌≤◌, Bool, true, false, None, Some, List, [], ◌∷◌, ◌++◌, length, drop, refl, ap, ◌∙◌, arith, length-append}
 use Rattle.std.specs.List.{list_any, fold, slice_get}
 use Rattle.yaml_base.specs.Meetings as meetings
-use Rattle.yaml_base.specs.Meetings.{Graph, children, enters, leaves, meets_again, is_entry_of, steps_from, steps}
+use Rattle.yaml_base.specs.Meetings.{Graph, children, enters, leaves, meets_again, is_entry_of, steps_from}
+use Rattle.yaml_base.proofs.UnfoldSteps.{from_node}
 use Rattle.yaml_dump.specs.declared.walk.Visit.{Visit}
 
 -- steps, and then those of visits that are gone on with to their ends, the innermost first; its children are met at most so many nodes deep
@@ -21,11 +22,6 @@ fold_longer : (step : List meetings.Step → ℕ → List meetings.Step) → ((b
     → (before : List meetings.Step) (numbers : List ℕ) → length before ≤ length (fold step before numbers)
 fold_longer step longer before [] = omega arith
 fold_longer step longer before (number ∷ numbers) = omega (arith, longer before number, fold_longer step longer (step before number) numbers)
-
--- the steps from a node that was entered before or not
-abbrev from_node : ℕ → Graph → List meetings.Step → ℕ → Bool → List meetings.Step
-from_node depth graph before number true = before ++ meets_again number ∷ []
-from_node depth graph before number false = fold (steps_from depth graph) (before ++ enters number ∷ []) (children graph number) ++ leaves number ∷ []
 
 steps_longer : (depth : ℕ) (graph : Graph) (before : List meetings.Step) (number : ℕ) → length before ≤ length (steps_from depth graph before number)
 steps_longer zero graph before number = omega arith

@@ -1,0 +1,163 @@
+-- The content of a tree that unfolds a graph unfolds it but for its styles; graphs dumped one after another are a stream
+-- of such documents.
+use Rattle.std.proofs.Common.{◌≡◌, Option, None, Some, option_map, List, [], ◌∷◌, ◌++◌, refl, sym, ap, ◌∙◌, append_assoc, append-nil, All}
+use Rattle.std.specs.Prelude.{Bool, true, false, flat_map}
+use Rattle.std.proofs.lemmas.List.Elements.{All-head, All-tail}
+use Rattle.yaml_base.specs.Characters.{Text}
+use Rattle.yaml_base.specs.Event.{Event, stream_start, stream_end}
+use Rattle.yaml_base.specs.Grammar.{Node, alias_node, scalar_node, sequence_node, mapping_node, Nodes, no_nodes, nodes_and, Pairs, no_pairs, pairs_and, Documents, no_documents, documents_and, Stream, document_events, documents_events, stream_events}
+use Rattle.yaml_base.specs.Content.{DocumentContent, scalar_tag, node_content, nodes_content, pairs_content, document_content, documents_content, content_of}
+use Rattle.yaml_base.specs.Meetings.{Graph, GraphNode, Held, scalar_held, sequence_held, mapping_held, node_numbered, document_event_list}
+use Rattle.yaml_base.specs.Unfolding.{Kind, scalar_kind, sequence_kind, mapping_kind, Label, Placed, alias_placed, node_placed, PlacedAll, none_placed, placed_and, kind_held, label_of, tag_told, HasShape, HaveShapes, node_shape_of, nodes_shapes, pairs_shapes, content_shape, contents_shapes, content_pairs_shapes, TreeUnfolds, ContentUnfolds, IsDocument}
+use Rattle.yaml_base.specs.Dumped.{AreDumped, ContentsUnfold}
+use Rattle.yaml_base.proofs.Trees.{tree_of-stream_events}
+use Rattle.yaml_base.proofs.DocumentsUnfold.{document_unfolds}
+
+-- ---- without styles
+
+abbrev unstyled_kind : Kind → Kind
+unstyled_kind (scalar_kind value style) = scalar_kind value None
+unstyled_kind (sequence_kind style) = sequence_kind None
+unstyled_kind (mapping_kind style) = mapping_kind None
+
+abbrev unstyled : Label → Label
+unstyled label = record { tag = label.tag; kind = unstyled_kind label.kind }
+
+kind_unstyled : (held : Held) → kind_held false held ≡ unstyled_kind (kind_held true held)
+kind_unstyled (scalar_held value style) = refl
+kind_unstyled (sequence_held items style) = refl
+kind_unstyled (mapping_held pairs style) = refl
+
+label_unstyled : (found : Option GraphNode) → option_map (label_of false) found ≡ option_map unstyled (option_map (label_of true) found)
+label_unstyled None = refl
+label_unstyled (Some node) = ap (λ (kind : Kind). Some (record { tag = Some node.tag; kind = kind })) (kind_unstyled node.held)
+
+-- a label without its style, from the label
+labels_same : (found : Option GraphNode) (label : Label) → option_map (label_of true) found ≡ Some label → option_map (label_of false) found ≡ Some (unstyled label)
+labels_same found label is = label_unstyled found ∙ ap (option_map unstyled) is
+
+-- a node of a graph has a tag, so it is told
+tag_in : Option Label → Option Text
+tag_in None = None
+tag_in (Some label) = label.tag
+
+told_some : (tag : Option Text) (text : Text) (implicit : Bool) → Some text ≡ tag → tag ≡ tag_told (scalar_tag tag implicit)
+told_some None text implicit is = cc
+told_some (Some other) text implicit is = refl
+
+tag_kept : (found : Option GraphNode) (label : Label) (implicit : Bool) → option_map (label_of true) found ≡ Some label → label.tag ≡ tag_told (scalar_tag label.tag implicit)
+unfolding tag_in
+tag_kept None label implicit is = cc
+tag_kept (Some node) label implicit is = told_some label.tag node.tag implicit (ap tag_in is)
+
+scalar_label : (found : Option GraphNode) (label : Label) (implicit : Bool) → option_map (label_of true) found ≡ Some label
+    → option_map (label_of false) found ≡ Some (record { tag = tag_told (scalar_tag label.tag implicit); kind = unstyled_kind label.kind })
+scalar_label found label implicit is =
+    labels_same found label is ∙ ap (λ (tag : Option Text). Some (record { tag = tag; kind = unstyled_kind label.kind })) (tag_kept found label implicit is)
+
+mutual
+  content_fits : (graph : Graph) (tree : Node) (placed : Placed) → HasShape true graph placed (node_shape_of tree) → HasShape false graph placed (content_shape (node_content tree))
+  content_fits graph (alias_node name) (alias_placed told number) fits = fits
+  content_fits graph (alias_node name) (node_placed anchor number below) fits = fits
+  content_fits graph (scalar_node content) (alias_placed told number) fits = fits
+  content_fits graph (scalar_node content) (node_placed anchor number none_placed) fits =
+      ( fits.0
+      , scalar_label (node_numbered graph number) (record { tag = content.tag; kind = scalar_kind content.value (Some content.style) }) content.quoted_implicit fits.1
+      , fits.2
+      , fits.3)
+  content_fits graph (scalar_node content) (node_placed anchor number (placed_and before last)) fits = absurd fits.3
+  content_fits graph (sequence_node start items) (alias_placed told number) fits = fits
+  content_fits graph (sequence_node start items) (node_placed anchor number below) fits =
+      ( fits.0
+      , labels_same (node_numbered graph number) (record { tag = start.tag; kind = sequence_kind (Some start.style) }) fits.1
+      , fits.2
+      , contents_fit graph items below fits.3)
+  content_fits graph (mapping_node start pairs) (alias_placed told number) fits = fits
+  content_fits graph (mapping_node start pairs) (node_placed anchor number below) fits =
+      ( fits.0
+      , labels_same (node_numbered graph number) (record { tag = start.tag; kind = mapping_kind (Some start.style) }) fits.1
+      , fits.2
+      , content_pairs_fit graph pairs below fits.3)
+
+  contents_fit : (graph : Graph) (items : Nodes) (below : PlacedAll) → HaveShapes true graph below (nodes_shapes items) → HaveShapes false graph below (contents_shapes (nodes_content items))
+  contents_fit graph no_nodes none_placed fit = fit
+  contents_fit graph no_nodes (placed_and before last) fit = fit
+  contents_fit graph (nodes_and items item) none_placed fit = fit
+  contents_fit graph (nodes_and items item) (placed_and before last) fit = (contents_fit graph items before fit.0, content_fits graph item last fit.1)
+
+  content_pairs_fit : (graph : Graph) (pairs : Pairs) (below : PlacedAll) → HaveShapes true graph below (pairs_shapes pairs) → HaveShapes false graph below (content_pairs_shapes (pairs_content pairs))
+  content_pairs_fit graph no_pairs none_placed fit = fit
+  content_pairs_fit graph no_pairs (placed_and before last) fit = fit
+  content_pairs_fit graph (pairs_and pairs key value) none_placed fit = fit
+  content_pairs_fit graph (pairs_and pairs key value) (placed_and none_placed last) fit = absurd fit.0
+  content_pairs_fit graph (pairs_and pairs key value) (placed_and (placed_and before other) last) fit =
+      ((content_pairs_fit graph pairs before fit.0.0, content_fits graph key other fit.0.1), content_fits graph value last fit.1)
+
+-- a tree's content unfolds what the tree does
+pub content_unfolds : (graph : Graph) (tree : Node) → TreeUnfolds graph tree → ContentUnfolds graph (node_content tree)
+content_unfolds graph tree unfolds =
+    record {
+      placed = unfolds.placed;
+      root = unfolds.root;
+      fits = content_fits graph tree unfolds.placed unfolds.fits;
+      named = unfolds.named;
+      once = unfolds.once;
+      no_other = unfolds.no_other;
+    }
+
+-- ---- documents one after another
+
+-- documents after others; their events follow, and their contents unfold the graphs
+record Follow (graphs : List Graph) (before : Documents) : Type 0 where
+  all : Documents
+  contents : List DocumentContent
+  events : documents_events all ≡ documents_events before ++ flat_map document_event_list graphs
+  content : documents_content all ≡ documents_content before ++ contents
+  unfolds : ContentsUnfold graphs contents
+
+follow : (graphs : List Graph) (before : Documents) → All IsDocument graphs → Follow graphs before
+follow [] before are =
+    record { all = before; contents = []; events = sym (append-nil (documents_events before)); content = sym (append-nil (documents_content before)); unfolds = tt }
+follow (graph ∷ graphs) before are =
+    let first = document_unfolds graph (All-head IsDocument graph graphs are) in
+    let rest = follow graphs (documents_and before first.document) (All-tail IsDocument graph graphs are) in
+    record {
+      all = rest.all;
+      contents = document_content first.document ∷ rest.contents;
+      events =
+          rest.events ∙ append_assoc (documents_events before) (document_events first.document) (flat_map document_event_list graphs)
+          ∙ ap (λ (events : List Event). documents_events before ++ (events ++ flat_map document_event_list graphs)) first.is_document;
+      content = rest.content ∙ append_assoc (documents_content before) (document_content first.document ∷ []) rest.contents;
+      unfolds =
+          ( record {
+              version = ap (λ start. start.version) first.start;
+              directives = ap (λ start. start.directives) first.start;
+              unfolds = content_unfolds graph first.document.root first.unfolds;
+            }
+          , rest.unfolds);
+    }
+
+-- the events of dumped graphs are a stream's, whose contents unfold them
+pub record DumpedStream (graphs : List Graph) (events : List Event) : Type 0 where
+  pub stream : Stream
+  pub is : stream_events stream ≡ events
+  pub contents : List DocumentContent
+  pub content : content_of events ≡ Some contents
+  pub unfolds : ContentsUnfold graphs contents
+
+pub dumped_stream : (graphs : List Graph) (events : List Event) → AreDumped graphs events → DumpedStream graphs events
+dumped_stream graphs events dumped =
+    let documents = follow graphs no_documents dumped.documents in
+    let stream : Stream = record { encoding = dumped.encoding; documents = documents.all } in
+    let is : stream_events stream ≡ events =
+        ap (λ (inside : List Event). stream_start dumped.encoding ∷ (inside ++ stream_end ∷ [])) documents.events ∙ dumped.parts in
+    record {
+      stream = stream;
+      is = is;
+      contents = documents.contents;
+      content =
+          ap content_of (sym is)
+          ∙ ap (option_map (λ (tree : Stream). documents_content tree.documents)) (tree_of-stream_events stream)
+          ∙ ap (λ (contents : List DocumentContent). Some contents) documents.content;
+      unfolds = documents.unfolds;
+    }

@@ -1,0 +1,161 @@
+-- Trees that don't unfold their graphs: an alias before its node, children exchanged, a style changed, an alias of a node
+-- without an anchor, a node written twice.
+use Rattle.std.proofs.Common.{◌≡◌, subst, sym, ap, refl, arith, ◌∙◌}
+use Rattle.std.specs.Prelude.{ℕ, zero, suc, Bool, true, false, Option, None, Some, List, [], ◌∷◌, slice_index, Contains, count_by, option_map, codes}
+use Rattle.yaml_base.specs.Characters.{Text}
+use Rattle.yaml_base.specs.Event.{ScalarStyle, any_style, double_quoted, block}
+use Rattle.yaml_base.specs.Grammar.{Node, alias_node, scalar_node, sequence_node, no_nodes, nodes_and}
+use Rattle.yaml_base.specs.Meetings.{Graph, GraphNode, scalar_held, sequence_held, string_tag, sequence_tag, node_numbered, children}
+use Rattle.yaml_base.specs.Unfolding.{TreeUnfolds, HasShape, node_shape_of, Label, Kind, scalar_kind, sequence_kind, mapping_kind, label_of, AreNamed, Place, alias_place, node_place, carries, is_place_of, number_at, places, IsReached, first_reached, child_reached, Placed, alias_placed, node_placed, none_placed, placed_and}
+
+abbrev string_of : Text → GraphNode
+string_of value = record { tag = string_tag; held = scalar_held value any_style }
+
+abbrev sequence_of : List ℕ → GraphNode
+sequence_of items = record { tag = sequence_tag; held = sequence_held items block }
+
+abbrev graph_of : List GraphNode → Graph
+graph_of nodes = record { start = record { version = None; directives = []; implicit = true }; nodes = nodes; end_implicit = true }
+
+abbrev a_string : Option Text → Text → ScalarStyle → Node
+a_string anchor value style = scalar_node (record { anchor = anchor; tag = Some string_tag; value = value; plain_implicit = true; quoted_implicit = true; style = style })
+
+abbrev a_sequence : Option Text → Node → Node → Node
+a_sequence anchor first second = sequence_node (record { anchor = anchor; tag = Some sequence_tag; implicit = true; style = block }) (nodes_and (nodes_and no_nodes first) second)
+
+-- ---- an alias before its node
+
+abbrev shared : Graph
+shared = graph_of (sequence_of (2 ∷ 2 ∷ []) ∷ string_of (codes "a") ∷ [])
+
+abbrev alias_first : Node
+alias_first = a_sequence None (alias_node (codes "id001")) (a_string (Some (codes "id001")) (codes "a") any_style)
+
+abbrev anchor_told : Place → Option Text
+anchor_told (alias_place name number) = None
+anchor_told (node_place anchor number) = anchor
+
+not_before : (anchor : Option Text) (number other : ℕ) (name : Text) → anchor ≡ None → Contains (node_place anchor number ∷ []) (node_place (Some name) other) → ⊥
+not_before anchor number other name none (zero, within, is) = let both : None ≡ Some name = sym none ∙ ap anchor_told is in cc
+not_before anchor number other name none (suc k, within, is) = omega (arith, within)
+
+alias_first_fails : (p : Placed) → HasShape true shared p (node_shape_of alias_first) → AreNamed (places p) [] (places p) → ⊥
+alias_first_fails (node_placed anchor number (placed_and (placed_and none_placed (alias_placed name first)) (node_placed given second none_placed))) fits named =
+    not_before anchor number first name fits.0 named.1.0.1
+alias_first_fails p fits named = absurd assumption
+
+alias_first_refused : TreeUnfolds shared alias_first → ⊥
+alias_first_refused u = alias_first_fails u.placed u.fits u.named
+
+-- ---- children exchanged
+
+abbrev two_strings : Graph
+two_strings = graph_of (sequence_of (2 ∷ 3 ∷ []) ∷ string_of (codes "a") ∷ string_of (codes "b") ∷ [])
+
+abbrev exchanged : Node
+exchanged = a_sequence None (a_string None (codes "b") any_style) (a_string None (codes "a") any_style)
+
+abbrev value_in : Kind → Text
+value_in (scalar_kind value style) = value
+value_in (sequence_kind style) = []
+value_in (mapping_kind style) = []
+
+abbrev value_told : Option Label → Text
+value_told None = []
+value_told (Some label) = value_in label.kind
+
+first_differs : (number first second : ℕ) → number ≡ 1 → first ∷ second ∷ [] ≡ children two_strings number → value_told (option_map (label_of true) (node_numbered two_strings first)) ≡ codes "b" → ⊥
+first_differs number first second root numbers told =
+    let at_root : first ∷ second ∷ [] ≡ 2 ∷ 3 ∷ [] = subst (λ n. first ∷ second ∷ [] ≡ children two_strings n) root numbers in
+    let first_is : first ≡ 2 = ap (λ xs. slice_index xs 0) at_root in
+    let is : codes "a" ≡ codes "b" = subst (λ n. value_told (option_map (label_of true) (node_numbered two_strings n)) ≡ codes "b") first_is told in
+    omega (arith, ap (λ text. slice_index text 0) is)
+
+exchanged_fails : (p : Placed) → number_at p ≡ 1 → HasShape true two_strings p (node_shape_of exchanged) → ⊥
+exchanged_fails (node_placed anchor number (placed_and (placed_and none_placed (node_placed given first none_placed)) (node_placed other second none_placed))) root fits =
+    first_differs number first second root fits.2 (ap value_told fits.3.0.1.1)
+exchanged_fails p root fits = absurd assumption
+
+exchanged_refused : TreeUnfolds two_strings exchanged → ⊥
+exchanged_refused u = exchanged_fails u.placed u.root u.fits
+
+-- ---- a style changed
+
+abbrev one_string : Graph
+one_string = graph_of (string_of (codes "a") ∷ [])
+
+abbrev quoted : Node
+quoted = a_string None (codes "a") double_quoted
+
+abbrev is_quoted : Option ScalarStyle → Bool
+is_quoted (Some double_quoted) = true
+is_quoted _ = false
+
+abbrev quotes_in : Kind → Bool
+quotes_in (scalar_kind value style) = is_quoted style
+quotes_in _ = false
+
+abbrev quotes_told : Option Label → Bool
+quotes_told None = false
+quotes_told (Some label) = quotes_in label.kind
+
+style_differs : (number : ℕ) → number ≡ 1 → quotes_told (option_map (label_of true) (node_numbered one_string number)) ≡ true → ⊥
+style_differs number root told = let is : false ≡ true = subst (λ n. quotes_told (option_map (label_of true) (node_numbered one_string n)) ≡ true) root told in cc
+
+quoted_fails : (p : Placed) → number_at p ≡ 1 → HasShape true one_string p (node_shape_of quoted) → ⊥
+quoted_fails (node_placed anchor number none_placed) root fits = style_differs number root (ap quotes_told fits.1)
+quoted_fails p root fits = absurd assumption
+
+quoted_refused : TreeUnfolds one_string quoted → ⊥
+quoted_refused u = quoted_fails u.placed u.root u.fits
+
+-- ---- anchors counted at the root's children alone: the string that is shared two levels down has none
+
+abbrev shared_below : Graph
+shared_below = graph_of (sequence_of (2 ∷ []) ∷ sequence_of (3 ∷ 3 ∷ []) ∷ string_of (codes "a") ∷ [])
+
+abbrev a_sequence_of_one : Node → Node
+a_sequence_of_one item = sequence_node (record { anchor = None; tag = Some sequence_tag; implicit = true; style = block }) (nodes_and no_nodes item)
+
+abbrev without_anchor : Node
+without_anchor = a_sequence_of_one (a_sequence None (a_string None (codes "a") any_style) (alias_node []))
+
+none_carries : (a b c : Option Text) (w x y z : ℕ) (name : Text) → a ≡ None → b ≡ None → c ≡ None → count_by (carries name) (node_place a w ∷ node_place b x ∷ node_place c y ∷ alias_place name z ∷ []) ≡ 1 → ⊥
+none_carries a b c w x y z name is_a is_b is_c counted =
+    let one = subst (λ o. count_by (carries name) (node_place o w ∷ node_place b x ∷ node_place c y ∷ alias_place name z ∷ []) ≡ 1) is_a counted in
+    let two = subst (λ o. count_by (carries name) (node_place None w ∷ node_place o x ∷ node_place c y ∷ alias_place name z ∷ []) ≡ 1) is_b one in
+    let three : 0 ≡ 1 = subst (λ o. count_by (carries name) (node_place None w ∷ node_place None x ∷ node_place o y ∷ alias_place name z ∷ []) ≡ 1) is_c two in
+    omega (arith, three)
+
+without_anchor_fails : (p : Placed) → HasShape true shared_below p (node_shape_of without_anchor) → AreNamed (places p) [] (places p) → ⊥
+without_anchor_fails (node_placed a w (placed_and none_placed (node_placed b x (placed_and (placed_and none_placed (node_placed c y none_placed)) (alias_placed name z))))) fits named =
+    none_carries a b c w x y z name fits.0 fits.3.1.0 fits.3.1.3.0.1.0 named.1.1.1.0.0
+without_anchor_fails p fits named = absurd assumption
+
+without_anchor_refused : TreeUnfolds shared_below without_anchor → ⊥
+without_anchor_refused u = without_anchor_fails u.placed u.fits u.named
+
+-- ---- a node written wherever it is met
+
+abbrev written_twice : Node
+written_twice = a_sequence None (a_string None (codes "a") any_style) (a_string None (codes "a") any_style)
+
+second_reached : IsReached shared 2
+second_reached = child_reached first_reached (0, omega arith, refl)
+
+counted_twice : (a b c : Option Text) (number first second : ℕ) → number ≡ 1 → first ∷ second ∷ [] ≡ children shared number
+    → count_by (is_place_of 2) (node_place a number ∷ node_place b first ∷ node_place c second ∷ []) ≡ 1 → ⊥
+counted_twice a b c number first second root numbers once =
+    let at_root : first ∷ second ∷ [] ≡ 2 ∷ 2 ∷ [] = subst (λ n. first ∷ second ∷ [] ≡ children shared n) root numbers in
+    let one = subst (λ n. count_by (is_place_of 2) (node_place a n ∷ node_place b first ∷ node_place c second ∷ []) ≡ 1) root once in
+    let two = subst (λ n. count_by (is_place_of 2) (node_place a 1 ∷ node_place b n ∷ node_place c second ∷ []) ≡ 1) (ap (λ xs. slice_index xs 0) at_root) one in
+    let three : 2 ≡ 1 = subst (λ n. count_by (is_place_of 2) (node_place a 1 ∷ node_place b 2 ∷ node_place c n ∷ []) ≡ 1) (ap (λ xs. slice_index xs 1) at_root) two in
+    omega (arith, three)
+
+written_twice_fails : (p : Placed) → number_at p ≡ 1 → HasShape true shared p (node_shape_of written_twice) → count_by (is_place_of 2) (places p) ≡ 1 → ⊥
+written_twice_fails (node_placed a number (placed_and (placed_and none_placed (node_placed b first none_placed)) (node_placed c second none_placed))) root fits once =
+    counted_twice a b c number first second root fits.2 once
+written_twice_fails p root fits once = absurd assumption
+
+written_twice_refused : TreeUnfolds shared written_twice → ⊥
+written_twice_refused u = written_twice_fails u.placed u.root u.fits (u.once 2 second_reached)

@@ -1,0 +1,123 @@
+-- The numbers that a list has, each where it first stands; the names of shared nodes, and that they differ.
+use Rattle.std.proofs.Common.{◌≡◌, ℕ, zero, suc, ◌+◌, ◌-◌, ◌*◌, ◌/◌, ◌%◌, ◌==◌, ◌<◌, ◌||◌, nat_lt, Bool, true, false, cond, not, Option, None, Some, option_map, List, [], ◌∷◌, ◌++◌, length, get_or, replicate, refl, sym, ap, ◌∙◌, arith}
+use Rattle.std.specs.Fmt.{digits_onto, digit_glyph}
+use Rattle.std.specs.Char.{digit_value}
+use Rattle.std.specs.Str.Parse.{digits_value_after}
+use Rattle.std.specs.List.{list_any, filter, filter_map, position, position_or_len}
+use Rattle.std.proofs.lemmas.Bool.{eqb-true}
+use Rattle.std.proofs.lemmas.Bool.Decides.{nat_tests}
+use Rattle.std.proofs.lemmas.List.Quantifiers.{position-Some}
+use Rattle.std.proofs.lemmas.Str.{digit_value_digit}
+use Rattle.yaml_base.specs.Characters.{Text}
+use Rattle.yaml_base.specs.Meetings.{Step, node_met_again, first_of_each, shared_nodes, decimal_digits, numbered_name, anchor_of}
+
+-- a list has a number
+abbrev pub has : ℕ → List ℕ → Bool
+has number xs = list_any (λ other. other == number) xs
+
+one_without : (b : Bool) (number y : ℕ) (ys : List ℕ) → (b ≡ true → (y == number) ≡ false) → has number (cond (not b) (y ∷ ys) ys) ≡ (y == number || has number ys)
+one_without false number y ys h = refl
+one_without true number y ys h = ap (λ (t : Bool). t || has number ys) (sym (h refl))
+
+-- without x, a list has what it had beside x
+has_without : (number x : ℕ) (xs : List ℕ) → (x == number) ≡ false → has number (filter (λ other. not (other == x)) xs) ≡ has number xs
+has_without number x [] differs = refl
+has_without number x (y ∷ xs) differs =
+    let apart : (y == x) ≡ true → (y == number) ≡ false = λ same. grind (arith, nat_tests) in
+    one_without (y == x) number y (filter (λ other. not (other == x)) xs) apart ∙ ap (λ (t : Bool). y == number || t) (has_without number x xs differs)
+
+either_same : (b a c : Bool) → (b ≡ false → a ≡ c) → (b || a) ≡ (b || c)
+either_same true a c h = refl
+either_same false a c h = h refl
+
+-- the first of each number are the same numbers
+pub has_first : (number : ℕ) (xs : List ℕ) → has number (first_of_each xs) ≡ has number xs
+has_first number [] = refl
+has_first number (x ∷ xs) =
+    either_same (x == number) (has number (filter (λ other. not (other == x)) (first_of_each xs))) (has number xs)
+    (λ differs. has_without number x (first_of_each xs) differs ∙ has_first number xs)
+
+-- that a list has a number is that it first stands before the end
+one_position : (b a : Bool) (k l : ℕ) → a ≡ nat_lt k l → (b || a) ≡ nat_lt (cond (not b) (1 + k) 0) (suc l)
+one_position true a k l is = grind (arith, nat_tests)
+one_position false a k l is = is ∙ grind (arith, nat_tests)
+
+pub has_position : (number : ℕ) (xs : List ℕ) → has number xs ≡ nat_lt (position_or_len (λ other. other == number) xs) (length xs)
+has_position number [] = refl
+has_position number (x ∷ xs) = one_position (x == number) (has number xs) (position_or_len (λ other. other == number) xs) (length xs) (has_position number xs)
+
+-- ---- a name tells its number
+
+-- a digit's value
+value_of_digit : (digit : ℕ) → digit < 10 → digit_value (digit_glyph false digit) ≡ digit
+value_of_digit digit small =
+    let glyph : digit_glyph false digit ≡ 48 + digit = grind (arith, nat_tests) in
+    let value = digit_value_digit (48 + digit) (omega arith, omega arith) in
+    ap digit_value glyph ∙ omega (arith, value)
+
+-- digits that were written tell their number, before those that follow
+digits_value : (room number : ℕ) (rest : List ℕ) → number < room → digits_value_after 10 0 (digits_onto room 10 false number rest) ≡ digits_value_after 10 number rest
+digits_value zero number rest small = absurd (omega (arith, small))
+digits_value (suc room) number rest small =
+    let last = value_of_digit (number % 10) (omega arith) in
+    let glyph = digit_glyph false (number % 10) in
+    (elim (number / 10 == 0) as (λ one. (number / 10 == 0) ≡ one → digits_value_after 10 0 (cond one (glyph ∷ rest) (digits_onto room 10 false (number / 10) (glyph ∷ rest))) ≡ digits_value_after 10 number rest) [
+      | true ↦ λ is.
+          let none = eqb-true (number / 10) 0 is in
+          let same : 0 * 10 + digit_value glyph ≡ number = omega (arith, last, none) in
+          ap (λ (n : ℕ). digits_value_after 10 n rest) same
+      | false ↦ λ is.
+          let less : number / 10 < room = grind (arith, nat_tests, small, is) in
+          let same : (number / 10) * 10 + digit_value glyph ≡ number = omega (arith, last) in
+          digits_value room (number / 10) (glyph ∷ rest) less ∙ ap (λ (n : ℕ). digits_value_after 10 n rest) same
+    ]) refl
+
+-- leading zeros don't count
+zeros_value : (count : ℕ) (digits : List ℕ) → digits_value_after 10 0 (replicate count 0x30 ++ digits) ≡ digits_value_after 10 0 digits
+zeros_value zero digits = refl
+zeros_value (suc count) digits = zeros_value count digits
+
+-- what follows the first two characters
+behind_two : Text → Text
+behind_two [] = []
+behind_two (a ∷ []) = []
+behind_two (a ∷ b ∷ rest) = rest
+
+name_value : (number : ℕ) → digits_value_after 10 0 (behind_two (numbered_name number)) ≡ number
+unfolding behind_two decimal_digits
+name_value number =
+    zeros_value (3 - length (digits_onto (suc number) 10 false number [])) (digits_onto (suc number) 10 false number [])
+    ∙ digits_value (suc number) number [] (omega arith)
+
+-- different numbers have different names
+pub names_differ : (number other : ℕ) → numbered_name number ≡ numbered_name other → number ≡ other
+names_differ number other same = sym (name_value number) ∙ ap (λ (name : Text). digits_value_after 10 0 (behind_two name)) same ∙ name_value other
+
+-- ---- anchors
+
+-- a node that a walk meets again has an anchor
+pub shared_named : (walk : List Step) (number : ℕ) → has number (filter_map node_met_again walk) ≡ true → (name : Text) × (anchor_of walk number ≡ Some name)
+shared_named walk number met =
+    let shared = shared_nodes walk in
+    let place = position_or_len (λ other. other == number) shared in
+    let there : nat_lt place (length shared) ≡ true = sym (has_position number shared) ∙ has_first number (filter_map node_met_again walk) ∙ met in
+    (numbered_name (place + 1), ap (λ (b : Bool). option_map (λ first. numbered_name (first + 1)) (cond b (Some place) None)) there)
+
+-- what was mapped
+some_mapped : (f : ℕ → Text) (found : Option ℕ) (name : Text) → option_map f found ≡ Some name → (place : ℕ) × (found ≡ Some place) × (f place ≡ name)
+some_mapped f None name is = cc
+some_mapped f (Some place) name is = (place, refl, let same : f place ≡ name = cc in same)
+
+-- the node of a place
+at_place : (numbers : List ℕ) (number place : ℕ) → position (λ other. other == number) numbers ≡ Some place → get_or numbers place 0 ≡ number
+at_place numbers number place is = eqb-true (get_or numbers place 0) number (position-Some (λ other. other == number) numbers place 0 is).1
+
+-- nodes of the same anchor are the same node
+pub anchors_differ : (walk : List Step) (number other : ℕ) (name : Text) → anchor_of walk number ≡ Some name → anchor_of walk other ≡ Some name → number ≡ other
+anchors_differ walk number other name is also =
+    let shared = shared_nodes walk in
+    let first = some_mapped (λ place. numbered_name (place + 1)) (position (λ n. n == number) shared) name is in
+    let second = some_mapped (λ place. numbered_name (place + 1)) (position (λ n. n == other) shared) name also in
+    let same : first.0 + 1 ≡ second.0 + 1 = names_differ (first.0 + 1) (second.0 + 1) (first.2 ∙ sym second.2) in
+    let place : first.0 ≡ second.0 = omega (arith, same) in
+    sym (at_place shared number first.0 first.1) ∙ ap (λ (n : ℕ). get_or shared n 0) place ∙ at_place shared other second.0 second.1
