@@ -1,9 +1,9 @@
 -- Events emitted one after another.
-use Rattle.std.proofs.Common.{◌≡◌, refl, sym, ap, ◌∙◌, subst, append_assoc, append-nil}
+use Rattle.std.proofs.Common.{◌≡◌, ◌≤◌, refl, sym, ap, ◌∙◌, subst, append_assoc, append-nil, length, length-append, arith}
 use Rattle.std.proofs.Math.Bool.{or-true}
 use Rattle.std.proofs.lemmas.Bool.{false≢true}
 use Rattle.std.proofs.lemmas.List.{map-append}
-use Rattle.std.specs.Prelude.{Bool, true, false, Option, None, Some, Result, Ok, Err, IsErr, IsErrAnd, OnOk, ◌||◌, List, [], ◌∷◌, ◌++◌, map, if◌then◌else◌}
+use Rattle.std.specs.Prelude.{Bool, true, false, Option, None, Some, Result, Ok, Err, IsErr, IsErrAnd, OnOk, OnErr, ◌||◌, List, [], ◌∷◌, ◌++◌, map, if◌then◌else◌}
 use Rattle.yaml_base.specs.Settings.{Settings}
 use Rattle.yaml_base.specs.Event.{Event}
 use Rattle.yaml_base.specs.Seen.{seen_event}
@@ -15,7 +15,7 @@ use Rattle.yaml_emitter.specs.State.{State, KeepsSet}
 use Rattle.yaml_emitter.specs.StandsAfter.{StandsAfter}
 use Rattle.yaml_emitter.specs.Promises.{Promised}
 use Rattle.yaml_emitter.proofs.Promising.{promised}
-use Rattle.yaml_dump.specs.Dumps.{EmitsAll, EmitsEach, FailsAt, closing}
+use Rattle.yaml_dump.specs.Dumps.{EmitsAll, EmitsEach, FailsAt, EmitsDump, FailsDump, has_some, opening, closing}
 
 -- what the caller set stays, but for whether the stream was begun
 abbrev pub KeepsButStart : State → State → Type 0
@@ -137,32 +137,6 @@ emits_failed given all first second error after h =
       failed = h.failed;
     }
 
--- what is passed on
-pub exit_emits : (given : Settings) (all events : List Event) (error : yaml_error_t) (answer : Result (Unit {0}) yaml_error_t) (after : State) → FailsAt given all events error after
-    → IsErr answer × IsErrAnd answer (λ told. told ≡ error) → EmitsEach given all events answer after
-exit_emits given all events error (Ok _) after h is = absurd (false≢true is.0)
-exit_emits given all events error (Err other) after h is = subst (λ (e : yaml_error_t). FailsAt given all events e after) (sym is.1) h
-
--- a document without nodes, and one with nodes
-abbrev chosen : Bool → (empty events : List Event) → List Event
-chosen b empty events = if b then empty else events
-
-pub emits_closing : (given : Settings) (all first events : List Event) (closed empty : Bool) (middle after : State) (answer : Result (Unit {0}) yaml_error_t) → middle.closed ≡ closed → empty ≡ true
-    → EmitsAll given all first middle → EmitsEach given (all ++ first) (closing middle.closed) answer after
-    → EmitsEach given all (first ++ chosen empty (closing closed) events) answer after
-emits_closing given all first events closed empty middle after answer same is begun more =
-    subst (λ (b : Bool). EmitsEach given all (first ++ chosen b (closing closed) events) answer after) (sym is)
-    (subst (λ (b : Bool). EmitsEach given all (first ++ closing b) answer after) same
-    (emits_then given all first (closing middle.closed) middle after answer begun more))
-
-pub emits_events : (given : Settings) (all first ending events emitted : List Event) (empty : Bool) (middle after : State) (answer : Result (Unit {0}) yaml_error_t) → emitted ≡ events → empty ≡ false
-    → EmitsAll given all first middle → EmitsEach given (all ++ first) emitted answer after
-    → EmitsEach given all (first ++ chosen empty ending events) answer after
-emits_events given all first ending events emitted empty middle after answer same is begun more =
-    subst (λ (b : Bool). EmitsEach given all (first ++ chosen b ending events) answer after) (sym is)
-    (subst (λ (list : List Event). EmitsEach given all (first ++ list) answer after) same
-    (emits_then given all first emitted middle after answer begun more))
-
 -- whatever is answered
 pub on_ok : {P : Type 0} (answer : Result (Unit {0}) yaml_error_t) → P → OnOk answer P
 on_ok (Ok _) p = p
@@ -172,3 +146,72 @@ on_ok (Err error) p = tt
 pub closed_by : (answer : Result (Unit {0}) yaml_error_t) (closed was empty : Bool) → empty ≡ true → OnOk answer (closed ≡ true) → OnOk answer (closed ≡ (was || empty))
 closed_by (Ok _) closed was empty is h = h ∙ sym (ap (λ b. was || b) is ∙ or-true was)
 closed_by (Err error) closed was empty is h = tt
+
+-- ---- what is opened after an error
+
+-- where the start is the first event, it is opened once an event was emitted
+opened_some : (opened now : Bool) (more : List Event) → now ≡ true → now ≡ (opened || has_some (opening opened ++ more))
+opened_some true now more is = is
+opened_some false now more is = is
+
+-- a dump's events behind the start
+dumps_then : (given : Settings) (all : List Event) (opened : Bool) (more : List Event) (middle after : State) (answer : Result (Unit {0}) yaml_error_t) → after.opened ≡ true
+    → EmitsAll given all (opening opened) middle → EmitsEach given (all ++ opening opened) more answer after → EmitsDump opened given all (opening opened ++ more) answer after
+unfolding emits_then
+dumps_then given all opened more middle after (Ok done) now begun emitted = emits_then given all (opening opened) more middle after (Ok done) begun emitted
+dumps_then given all opened more middle after (Err error) now begun emitted =
+    record {
+      fails = emits_then given all (opening opened) more middle after (Err error) begun emitted;
+      opened_before = opened_some opened after.opened emitted.before now;
+    }
+
+-- the start is the only event that opens a stream
+none_before : (before : List Event) (event : Event) (later only : List Event) → length only ≤ 1 → before ++ event ∷ later ≡ only → has_some before ≡ false
+none_before [] event later only one parts = refl
+none_before (first ∷ before) event later only one parts = absurd (omega (arith, ap length parts, length-append before (event ∷ later)))
+
+opening_one : (opened : Bool) → length (opening opened) ≤ 1
+opening_one true = omega arith
+opening_one false = omega arith
+
+-- the start failed
+dumps_failed : (given : Settings) (all : List Event) (opened : Bool) (more : List Event) (error : yaml_error_t) (after : State) → opened ≡ false → after.opened ≡ false
+    → FailsAt given all (opening opened) error after → FailsDump opened given all (opening opened ++ more) error after
+unfolding emits_failed
+dumps_failed given all opened more error after was now h =
+    record {
+      fails = emits_failed given all (opening opened) more error after h;
+      opened_before = now ∙ sym (ap (λ b. b || has_some h.before) was ∙ none_before h.before h.event h.later (opening opened) (opening_one opened) h.parts);
+    }
+
+-- its error is passed on
+pub exit_dumps : (given : Settings) (all : List Event) (opened : Bool) (more : List Event) (error : yaml_error_t) (answer : Result (Unit {0}) yaml_error_t) (after : State) → (opened ≡ false) × (after.opened ≡ false)
+    → FailsAt given all (opening opened) error after → IsErr answer × IsErrAnd answer (λ told. told ≡ error) → EmitsDump opened given all (opening opened ++ more) answer after
+exit_dumps given all opened more error (Ok _) after unopened h is = absurd (false≢true is.0)
+exit_dumps given all opened more error (Err other) after unopened h is =
+    subst (λ (e : yaml_error_t). FailsDump opened given all (opening opened ++ more) e after) (sym is.1) (dumps_failed given all opened more error after unopened.0 unopened.1 h)
+
+-- a document without nodes, and one with nodes
+abbrev chosen : Bool → (empty events : List Event) → List Event
+chosen b empty events = if b then empty else events
+
+pub dumps_closing : (given : Settings) (all : List Event) (opened : Bool) (events : List Event) (closed empty : Bool) (middle after : State) (answer : Result (Unit {0}) yaml_error_t) → middle.closed ≡ closed → empty ≡ true → after.opened ≡ true
+    → EmitsAll given all (opening opened) middle → EmitsEach given (all ++ opening opened) (closing middle.closed) answer after
+    → EmitsDump opened given all (opening opened ++ chosen empty (closing closed) events) answer after
+dumps_closing given all opened events closed empty middle after answer same is now begun more =
+    subst (λ (b : Bool). EmitsDump opened given all (opening opened ++ chosen b (closing closed) events) answer after) (sym is)
+    (subst (λ (b : Bool). EmitsDump opened given all (opening opened ++ closing b) answer after) same
+    (dumps_then given all opened (closing middle.closed) middle after answer now begun more))
+
+pub dumps_events : (given : Settings) (all : List Event) (opened : Bool) (ending events emitted : List Event) (empty : Bool) (middle after : State) (answer : Result (Unit {0}) yaml_error_t) → emitted ≡ events → empty ≡ false → after.opened ≡ true
+    → EmitsAll given all (opening opened) middle → EmitsEach given (all ++ opening opened) emitted answer after
+    → EmitsDump opened given all (opening opened ++ chosen empty ending events) answer after
+dumps_events given all opened ending events emitted empty middle after answer same is now begun more =
+    subst (λ (b : Bool). EmitsDump opened given all (opening opened ++ chosen b ending events) answer after) (sym is)
+    (subst (λ (list : List Event). EmitsDump opened given all (opening opened ++ list) answer after) same
+    (dumps_then given all opened emitted middle after answer now begun more))
+
+-- after an error the stream is closed only where it was
+pub on_err : {P : Type 0} (answer : Result (Unit {0}) yaml_error_t) → P → OnErr answer P
+on_err (Ok _) p = tt
+on_err (Err error) p = p

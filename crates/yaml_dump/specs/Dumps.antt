@@ -1,5 +1,5 @@
 -- What it means that events are emitted in order.
-use Rattle.std.specs.Prelude.{◌≡◌, ◌⊎◌, ◌==◌, Bool, None, Some, Result, Ok, Err, List, [], ◌∷◌, ◌++◌, length, if◌then◌else◌}
+use Rattle.std.specs.Prelude.{◌≡◌, ◌⊎◌, ◌==◌, ◌||◌, Bool, true, false, None, Some, Result, Ok, Err, List, [], ◌∷◌, ◌++◌, length, if◌then◌else◌}
 use Rattle.yaml_base.specs.Settings.{Settings}
 use Rattle.yaml_base.specs.Event.{Event, stream_start, stream_end}
 use Rattle.yaml_base.specs.Meetings.{Graph, document_event_list}
@@ -33,6 +33,21 @@ abbrev pub EmitsEach : Settings → (all events : List Event) → Result (Unit {
 EmitsEach given all events (Ok _) state = EmitsAll given all events state
 EmitsEach given all events (Err error) state = FailsAt given all events error state
 
+-- there are events
+abbrev pub has_some : List Event → Bool
+has_some [] = false
+has_some (event ∷ rest) = true
+
+-- a dump that fails leaves the stream opened where it was, or where an event before the failing one opened it
+pub record FailsDump (opened : Bool) (given : Settings) (all events : List Event) (error : yaml_error_t) (state : State) : Type 0 where
+  pub fails : FailsAt given all events error state
+  pub opened_before : state.opened ≡ (opened || has_some fails.before)
+
+-- events are emitted in order, the first of which opens the stream where it isn't opened
+abbrev pub EmitsDump : Bool → Settings → (all events : List Event) → Result (Unit {0}) yaml_error_t → State → Type 0
+EmitsDump opened given all events (Ok _) state = EmitsAll given all events state
+EmitsDump opened given all events (Err error) state = FailsDump opened given all events error state
+
 -- what opens a stream that isn't opened
 abbrev pub opening : Bool → List Event
 opening opened = if opened then [] else stream_start None ∷ []
@@ -51,4 +66,4 @@ dumped_events state graph =
 abbrev pub Dumps : Graph → State → Result (Unit {0}) yaml_error_t → State → Type 0
 Dumps graph before answer after =
     ((answer ≡ Err Memory) × (after ≡ before))
-    ⊎ ((given : Settings) (all : List Event) → StandsAfter given all before → EmitsEach given all (dumped_events before graph) answer after)
+    ⊎ ((given : Settings) (all : List Event) → StandsAfter given all before → EmitsDump before.opened given all (dumped_events before graph) answer after)

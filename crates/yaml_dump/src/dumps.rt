@@ -6,6 +6,7 @@ ghost use Rattle.yaml_base.specs.Event.{Event};
 ghost use Rattle.yaml_base.specs.Meetings.{document_event_list};
 ghost use Rattle.yaml_base.specs.Seen.{seen_event};
 ghost use Rattle.yaml_base.specs.Settings.{Settings};
+ghost use Rattle.yaml_base.specs.Unfolding.{EventsUnfold};
 ghost use Rattle.yaml_pen.specs.Page.{told};
 ghost use Rattle.yaml_dump.specs.Dumps.{Dumps, EmitsEach, closing, opening};
 ghost use Rattle.yaml_emitter.specs.StandsAfter.{StandsAfter};
@@ -21,7 +22,8 @@ use yaml_emitter::yaml_emitter_t;
 /// The events of a document, from its start to its end; none where it has no nodes.
 ///
 /// Each node that is reached from node 1 is written where it is first met, and stands as an alias elsewhere; nodes that
-/// are met more than once have anchors, numbered in the order of their second meetings (`id001`).
+/// are met more than once have anchors, numbered in the order of their second meetings (`id001`). The events of a document
+/// that has nodes are those of a tree that unfolds its graph.
 ///
 /// # Errors
 /// `Memory` where a growth was refused.
@@ -30,6 +32,7 @@ pub fn document_events<A: Allocator + Copy>(
     document: &yaml_document_t<A>,
 ) -> Result<Vec<yaml_event_t<A>, A>, yaml_error_t>
     ensures events { IfOk result (λ events. map seen_event events.items ≡ document_event_list (graph_of document.now)) }
+    ensures unfolds { (length (graph_of document.now).nodes == 0) ≡ false → IfOk result (λ events. EventsUnfold (graph_of document.now) (map seen_event events.items)) }
     ensures memory { IfErr result (λ error. error ≡ yaml_error_t.Memory) }
 {
     if document.is_empty() {
@@ -44,8 +47,11 @@ fn events_of_nodes<A: Allocator + Copy>(
     document: &yaml_document_t<A>,
 ) -> Result<Vec<yaml_event_t<A>, A>, AllocError>
     requires nonempty { (length (graph_of document.now).nodes == 0) ≡ false }
-    ensures { IfOk result (λ events. map seen_event events.items ≡ document_event_list (graph_of document.now)) }
+    ensures events { IfOk result (λ events. map seen_event events.items ≡ document_event_list (graph_of document.now)) }
+    ensures unfolds { IfOk result (λ events. EventsUnfold (graph_of document.now) (map seen_event events.items)) }
 {
+    // A law: what the nodes hold are numbers of nodes.
+    document.numbers_name_nodes();
     let walk = walk(alloc, document)?;
     events_of_walk(alloc, document, walk.as_slice())
 }
@@ -56,6 +62,7 @@ fn open_if_needed<A: Allocator + Copy>(emitter: &mut yaml_emitter_t<A>) -> Resul
     requires no_error { emitter.old.error ≡ None }
     ensures emits { (given : Settings) (all : List Event) → StandsAfter given all emitter.old → EmitsEach given all (opening emitter.old.opened) result emitter.new }
     ensures opened { OnOk result (emitter.new.opened ≡ true) }
+    ensures unopened { OnErr result ((emitter.old.opened ≡ false) × (emitter.new.opened ≡ false)) }
     ensures closed { emitter.new.closed ≡ emitter.old.closed }
     ensures given { emitter.new.given ≡ emitter.old.given }
     ensures output { emitter.new.has_output ≡ true }
@@ -75,6 +82,7 @@ fn close_if_needed<A: Allocator + Copy>(emitter: &mut yaml_emitter_t<A>) -> Resu
     ensures emits { (given : Settings) (all : List Event) → StandsAfter given all emitter.old → EmitsEach given all (closing emitter.old.closed) result emitter.new }
     ensures opened { emitter.new.opened ≡ true }
     ensures closed { OnOk result (emitter.new.closed ≡ true) }
+    ensures unclosed { OnErr result (emitter.new.closed ≡ emitter.old.closed) }
     ensures given { emitter.new.given ≡ emitter.old.given }
     ensures output { emitter.new.has_output ≡ true }
 {
@@ -88,8 +96,9 @@ fn close_if_needed<A: Allocator + Copy>(emitter: &mut yaml_emitter_t<A>) -> Resu
 /// stream. The document is taken in each case.
 ///
 /// # Errors
-/// The first error that there was, in this call or before. Where the list of events finds no room, `Memory` is answered
-/// and the emitter is as before.
+/// The first error that there was, in this call or before. Where the list of events can't be allocated, `Memory` is
+/// returned and the emitter is as before. After an error the stream is opened where it was, or where its start was
+/// emitted, and closed only where it was.
 pub fn yaml_emitter_dump<A: Allocator + Copy>(
     alloc: A,
     emitter: &mut yaml_emitter_t<A>,
@@ -98,7 +107,9 @@ pub fn yaml_emitter_dump<A: Allocator + Copy>(
     requires { emitter.old.has_output ≡ true }
     ensures failed { IsSome emitter.old.error → (emitter.new ≡ emitter.old) × (result ≡ told emitter.old.error) }
     ensures dumps { emitter.old.error ≡ None → Dumps (graph_of document) emitter.old result emitter.new }
+    ensures unfolds { OnOk result ((length (graph_of document).nodes == 0) ≡ false → EventsUnfold (graph_of document) (document_event_list (graph_of document))) }
     ensures opened { OnOk result (emitter.new.opened ≡ true) }
+    ensures unclosed { OnErr result (emitter.new.closed ≡ emitter.old.closed) }
     ensures closed { OnOk result (emitter.new.closed ≡ (emitter.old.closed || length (graph_of document).nodes == 0)) }
     ensures given { emitter.new.given ≡ emitter.old.given }
     ensures output { emitter.new.has_output ≡ true }
@@ -106,6 +117,8 @@ pub fn yaml_emitter_dump<A: Allocator + Copy>(
     if let Some(error) = emitter.error() {
         return Err(error);
     }
+    // A law: what the nodes hold are numbers of nodes.
+    document.numbers_name_nodes();
     let events = document_events(alloc, &document)?;
     open_if_needed(emitter)?;
     if document.is_empty() {

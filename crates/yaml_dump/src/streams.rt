@@ -1,12 +1,15 @@
 //! Streams opened and closed as a whole.
 
-ghost use Rattle.std.specs.Prelude.{◌≡◌, true, false, None, List, [], ◌∷◌, ◌++◌, IsSome, is_ok, IsOk, Result, Ok, Err};
+ghost use Rattle.std.specs.Prelude.{◌≡◌, true, false, None, List, [], ◌∷◌, ◌++◌, IsSome, OnOk, is_ok, IsOk, Result, Ok, Err};
 ghost use Rattle.yaml_base.specs.Event.{Event, stream_start, stream_end};
+ghost use Rattle.yaml_base.specs.Dumped.{AreDumped, GraphsRead};
+ghost use Rattle.yaml_base.specs.Meetings.{Graph};
 ghost use Rattle.yaml_base.specs.Settings.{Settings};
 ghost use Rattle.yaml_pen.specs.Page.{told};
 ghost use Rattle.yaml_emitter.specs.Promises.{Promised};
 ghost use Rattle.yaml_emitter.specs.StandsAfter.{StandsAfter};
 ghost use Rattle.yaml_emitter.specs.State.{KeepsSet};
+ghost use Rattle.yaml_emitter.specs.Uncut.{IsUncut};
 
 use std::alloc::Allocator;
 use yaml_base::{YAML_ANY_ENCODING, YAML_STREAM_END_EVENT, YAML_STREAM_START_EVENT, yaml_error_t};
@@ -39,6 +42,9 @@ pub fn yaml_emitter_open<A: Allocator + Copy>(
 
 /// Closes a stream that was opened: emits its end. Where it is closed already nothing is done, and no memory is needed.
 ///
+/// Where documents were dumped in canonical mode, and no limit cuts the output, the canonical reader finds in it contents
+/// that unfold their graphs, document by document, with each document's version and directives.
+///
 /// # Errors
 /// Those of `yaml_emitter_emit`; the stream is then not closed.
 pub fn yaml_emitter_close<A: Allocator + Copy>(
@@ -51,6 +57,7 @@ pub fn yaml_emitter_close<A: Allocator + Copy>(
     ensures set { emitter.old.closed ≡ false → KeepsSet (record emitter.old { started = true; closed = is_ok result }) emitter.new }
     ensures kept { emitter.old.closed ≡ false → IsSome emitter.old.error → emitter.new ≡ record emitter.old { started = true } }
     ensures answered { emitter.old.closed ≡ false → result ≡ told emitter.new.error }
+    ensures graphs { emitter.old.closed ≡ false → OnOk result ((given : Settings) (all : List Event) (graphs : List Graph) → StandsAfter given all emitter.old → given.canonical ≡ true → IsUncut given (all ++ stream_end ∷ []) → AreDumped graphs (all ++ stream_end ∷ []) → GraphsRead given.breaks12 graphs emitter.new.page.output) }
 {
     if emitter.is_closed() || !emitter.is_opened() {
         return Ok(());

@@ -5,12 +5,12 @@ use std::alloc::{AllocError, Global};
 use std::process::Abort;
 use std::test::Fail;
 use yaml_base::{
-    YAML_ANY_ENCODING, YAML_STREAM_END_EVENT, YAML_STREAM_START_EVENT, yaml_document_t,
-    yaml_error_t, yaml_event_t, yaml_node_t,
+    YAML_ANY_ENCODING, YAML_STREAM_END_EVENT, YAML_STREAM_START_EVENT, YAML_UTF16BE_ENCODING,
+    yaml_document_t, yaml_error_t, yaml_event_t, yaml_node_t,
 };
 use yaml_emitter::{
     yaml_emitter_emit, yaml_emitter_initialize, yaml_emitter_set_canonical,
-    yaml_emitter_set_output_string, yaml_emitter_set_width, yaml_emitter_t,
+    yaml_emitter_set_encoding, yaml_emitter_set_output_string, yaml_emitter_set_width, yaml_emitter_t,
 };
 
 fn begun(alloc: Global) -> Result<yaml_emitter_t<Global>, yaml_error_t> {
@@ -137,22 +137,49 @@ fn a_document_may_be_dumped_twice(rt: HostRuntime) -> Result<(), Fail> {
     Ok(())
 }
 
-#[test]
-fn canonical_text_has_every_tag_and_anchor(rt: HostRuntime) -> Result<(), Fail> {
-    let alloc = rt.alloc();
+/// A canonical dump of these nodes and a close give this text.
+fn check_canonical_text(
+    rt: &impl Abort,
+    alloc: Global,
+    nodes: Vec<yaml_node_t<Global>>,
+    expected: &str,
+) -> Result<(), Fail> {
     let mut emitter = yaml_emitter_initialize(alloc)?;
     yaml_emitter_set_output_string(&mut emitter, usize::MAX);
     yaml_emitter_set_canonical(&mut emitter, true);
     yaml_emitter_set_width(&mut emitter, -1);
-    let nodes = vec![in alloc; mapping(alloc, 2, 1)?, text(alloc, "k")?]?;
-    let answer = dump(&rt, alloc, &mut emitter, document(&rt, alloc, nodes));
+    let answer = dump(rt, alloc, &mut emitter, document(rt, alloc, nodes));
     assert_eq!(rt; answer, Ok(()));
-    assert_eq!(rt; close(&rt, &mut emitter), Ok(()));
-    assert_eq!(rt;
-        emitter.output(),
-        b"---\n&id001 !!map {\n  ? !!str \"k\"\n  : *id001,\n}\n".as_slice()
-    );
+    assert_eq!(rt; close(rt, &mut emitter), Ok(()));
+    assert_eq!(rt; emitter.output(), expected.as_bytes());
     Ok(())
+}
+
+#[test]
+fn canonical_text_has_every_tag_and_anchor(rt: HostRuntime) -> Result<(), Fail> {
+    let alloc = rt.alloc();
+    let nodes = vec![in alloc; mapping(alloc, 2, 1)?, text(alloc, "k")?]?;
+    let expected = "---\n&id001 !!map {\n  ? !!str \"k\"\n  : *id001,\n}\n";
+    check_canonical_text(&rt, alloc, nodes, expected)
+}
+
+// The inner sequence is node 2 in the one document and node 3 in the other.
+#[test]
+fn the_numbers_of_nodes_do_not_show(rt: HostRuntime) -> Result<(), Fail> {
+    let alloc = rt.alloc();
+    let expected = "---\n!!seq [\n  &id002 !!seq [\n    &id001 !!str \"a\",\n    *id001,\n  ],\n  *id002,\n]\n";
+    let nodes = vec![in alloc;
+        sequence(alloc, &[2, 2])?,
+        sequence(alloc, &[3, 3])?,
+        text(alloc, "a")?,
+    ]?;
+    check_canonical_text(&rt, alloc, nodes, expected)?;
+    let exchanged = vec![in alloc;
+        sequence(alloc, &[3, 3])?,
+        text(alloc, "a")?,
+        sequence(alloc, &[2, 2])?,
+    ]?;
+    check_canonical_text(&rt, alloc, exchanged, expected)
 }
 
 #[test]
@@ -166,6 +193,24 @@ fn a_document_without_nodes_closes_the_stream(rt: HostRuntime) -> Result<(), Fai
     let empty = document(&rt, alloc, Vec::new(alloc));
     assert_eq!(rt; dump(&rt, alloc, &mut emitter, empty), Ok(()));
     assert_eq!(rt; emitter.error(), None);
+    Ok(())
+}
+
+// The limit leaves no room for the byte order mark, which the stream's end writes.
+#[test]
+fn a_dump_that_fails_to_close_leaves_the_stream_open(rt: HostRuntime) -> Result<(), Fail> {
+    let alloc = rt.alloc();
+    let mut emitter = yaml_emitter_initialize(alloc)?;
+    yaml_emitter_set_output_string(&mut emitter, 1);
+    yaml_emitter_set_encoding(&mut emitter, YAML_UTF16BE_ENCODING);
+    for _ in 0..2 {
+        let empty = document(&rt, alloc, Vec::new(alloc));
+        let answer = dump(&rt, alloc, &mut emitter, empty);
+        assert_eq!(rt; answer, Err(yaml_error_t::WriteError));
+        assert!(rt; emitter.is_opened());
+        assert!(rt; !emitter.is_closed());
+    }
+    assert_eq!(rt; close(&rt, &mut emitter), Err(yaml_error_t::WriteError));
     Ok(())
 }
 

@@ -3,18 +3,18 @@ use Rattle.std.proofs.Math.Bool.{or-false}
 use Rattle.yaml_base.specs.Documents.{graph_of}
 use Rattle.yaml_base.specs.Meetings.{document_event_list}
 use Rattle.yaml_base.specs.Seen.{seen_event}
+use Rattle.yaml_base.proofs.DocumentsUnfold.{document_unfolds}
 use Rattle.yaml_pen.proofs.Writing.{none_from_told}
 use Rattle.yaml_dump.specs.Dumps.{closing, opening}
-use Rattle.yaml_dump.proofs.Emissions.{on_ok, closed_by, emits_failed, exit_emits, emits_closing, emits_events}
+use Rattle.yaml_dump.proofs.Emissions.{on_ok, on_err, closed_by, exit_dumps, dumps_closing, dumps_events}
 use Rattle.yaml_dump.proofs.dumps.yaml_emitter_dump.Goals as goal
 
 pub returns-in_err-open_if_needed-clause-dumps : goal.returns-in_err-open_if_needed-clause-dumps
 returns-in_err-open_if_needed-clause-dumps g c none =
     inr
     (λ given all stands.
-    exit_emits given all _ c.in_err-open_if_needed.field-0.0 c.from_residual-in_err-open_if_needed.result c.open_if_needed.new.emitter
-    (emits_failed given all (opening c.args.emitter.now.opened) _ c.in_err-open_if_needed.field-0.0 c.open_if_needed.new.emitter (c.in_err-open_if_needed.ensures.emits given all stands))
-    c.from_residual-in_err-open_if_needed.ensures)
+    exit_dumps given all c.args.emitter.now.opened _ c.in_err-open_if_needed.field-0.0 c.from_residual-in_err-open_if_needed.result c.open_if_needed.new.emitter
+    c.in_err-open_if_needed.ensures.unopened (c.in_err-open_if_needed.ensures.emits given all stands) c.from_residual-in_err-open_if_needed.ensures)
 
 pub close_if_needed-requires-clause-no_error : goal.close_if_needed-requires-clause-no_error
 close_if_needed-requires-clause-no_error g c = none_from_told c.open_if_needed.new.emitter.error c.in_ok-open_if_needed.ensures.answered
@@ -28,8 +28,8 @@ returns-then-is_empty-clause-dumps g c none =
     inr
     (λ given all stands.
     let begun = c.in_ok-open_if_needed.ensures.emits given all stands in
-    emits_closing given all (opening c.args.emitter.now.opened) (document_event_list graph) c.args.emitter.now.closed (length graph.nodes == 0) c.open_if_needed.new.emitter c.close_if_needed.new.emitter c.close_if_needed.result
-    c.open_if_needed.ensures.closed (sym c.is_empty.ensures ∙ c.if-is_empty.true) begun
+    dumps_closing given all c.args.emitter.now.opened (document_event_list graph) c.args.emitter.now.closed (length graph.nodes == 0) c.open_if_needed.new.emitter c.close_if_needed.new.emitter c.close_if_needed.result
+    c.open_if_needed.ensures.closed (sym c.is_empty.ensures ∙ c.if-is_empty.true) c.close_if_needed.ensures.opened begun
     (c.close_if_needed.ensures.emits given (all ++ opening c.args.emitter.now.opened) begun.stands))
 
 pub returns-clause-dumps : goal.returns-clause-dumps
@@ -38,8 +38,8 @@ returns-clause-dumps g c none =
     inr
     (λ given all stands.
     let begun = c.in_ok-open_if_needed.ensures.emits given all stands in
-    emits_events given all (opening c.args.emitter.now.opened) (closing c.args.emitter.now.closed) (document_event_list graph) (map seen_event c.in_ok-events.events.items) (length graph.nodes == 0) c.open_if_needed.new.emitter c.emit_each.new.emitter c.emit_each.result
-    c.in_ok-events.ensures.events (sym c.is_empty.ensures ∙ c.if-is_empty.false) begun
+    dumps_events given all c.args.emitter.now.opened (closing c.args.emitter.now.closed) (document_event_list graph) (map seen_event c.in_ok-events.events.items) (length graph.nodes == 0) c.open_if_needed.new.emitter c.emit_each.new.emitter c.emit_each.result
+    c.in_ok-events.ensures.events (sym c.is_empty.ensures ∙ c.if-is_empty.false) (c.emit_each.ensures.set.opened ∙ c.in_ok-open_if_needed.ensures.opened) begun
     (c.emit_each.ensures.emits given (all ++ opening c.args.emitter.now.opened) begun.stands))
 
 pub returns-then-is_empty-clause-opened : goal.returns-then-is_empty-clause-opened
@@ -58,3 +58,14 @@ returns-clause-closed g c =
     on_ok c.emit_each.result
     (c.emit_each.ensures.set.closed ∙ c.open_if_needed.ensures.closed
     ∙ sym (ap (λ empty. c.args.emitter.now.closed || empty) (sym c.is_empty.ensures ∙ c.if-is_empty.false) ∙ or-false c.args.emitter.now.closed))
+
+pub returns-clause-unclosed : goal.returns-clause-unclosed
+returns-clause-unclosed g c = on_err c.emit_each.result (c.emit_each.ensures.set.closed ∙ c.open_if_needed.ensures.closed)
+
+pub returns-then-is_empty-clause-unfolds : goal.returns-then-is_empty-clause-unfolds
+returns-then-is_empty-clause-unfolds g c =
+    on_ok c.close_if_needed.result (λ some. document_unfolds (graph_of c.args.document) (record { whole = c.numbers_name_nodes.ensures; has_nodes = some }))
+
+pub returns-clause-unfolds : goal.returns-clause-unfolds
+returns-clause-unfolds g c =
+    on_ok c.emit_each.result (λ some. document_unfolds (graph_of c.args.document) (record { whole = c.numbers_name_nodes.ensures; has_nodes = some }))

@@ -1,4 +1,14 @@
+use Rattle.std.proofs.Common.{ap, ◌∙◌}
+use Rattle.yaml_pen.proofs.Writing.{none_from_told}
+use Rattle.yaml_emitter.specs.State.{State}
+use Rattle.yaml_dump.proofs.GraphLemmas.{graphs_read}
 use Rattle.yaml_dump.proofs.streams.yaml_emitter_close.Goals as goal
 
 pub returns-clause-promised : goal.returns-clause-promised
 returns-clause-promised g c running given all stands = c.mark_closed.ensures.promised given _ (c.in_ok-yaml_emitter_emit.ensures.stands given all stands)
+
+pub returns-clause-graphs : goal.returns-clause-graphs
+returns-clause-graphs g c running given all graphs stands canonical uncut dumped =
+    graphs_read given all graphs _ (c.mark_closed.ensures.promised given _ (c.in_ok-yaml_emitter_emit.ensures.stands given all stands))
+    (ap (λ (state : State). state.error) c.mark_closed.ensures.set ∙ none_from_told c.yaml_emitter_emit.new.emitter.error c.in_ok-yaml_emitter_emit.ensures.answered)
+    canonical uncut dumped

@@ -1,0 +1,53 @@
+-- A document's events unfold its graph, and so does what is read back of them.
+use Rattle.std.proofs.Common.{◌≡◌, refl, sym, ap, ◌∙◌, subst, Bool, true, None, List, [], ◌∷◌, ◌++◌, length, drop, map}
+use Rattle.std.specs.Prelude.{Result, Ok, Err, IfOk, Vec, if◌then◌else◌}
+use Rattle.std.proofs.Math.Seq.{drop-length}
+use Rattle.yaml_base.specs.Settings.{Settings}
+use Rattle.yaml_base.specs.Event.{Event, stream_end}
+use Rattle.yaml_base.specs.Ready.{written}
+use Rattle.yaml_base.specs.Seen.{seen_event, seen_events}
+use Rattle.yaml_base.specs.Meetings.{Graph, Step, steps, document_event_list}
+use Rattle.yaml_base.specs.Unfolding.{IsDocument, EventsUnfold}
+use Rattle.yaml_base.specs.Dumped.{AreDumped, GraphsRead}
+use Rattle.yaml_base.specs.declared.events.yaml_event_t.{yaml_event_t}
+use Rattle.yaml_base.proofs.QueueLaws.{stream_written}
+use Rattle.yaml_base.proofs.DocumentsUnfold.{document_unfolds}
+use Rattle.yaml_base.proofs.ContentsUnfold.{dumped_stream}
+use Rattle.yaml_dump.specs.Events.{walk_events}
+use Rattle.yaml_emitter.specs.State.{State}
+use Rattle.yaml_emitter.specs.Uncut.{IsUncut}
+use Rattle.yaml_emitter.specs.Promises.{ends_stream, HasRoom, Promised}
+
+-- the events of a document's walk
+pub walk_unfolds : {A E : Type 0} (graph : Graph) (answer : Result (Vec (yaml_event_t A) A) E) (walk : List Step) → IsDocument graph → walk ≡ steps graph
+    → IfOk answer (λ events. seen_events events.items ≡ walk_events graph walk) → IfOk answer (λ events. EventsUnfold graph (map seen_event events.items))
+walk_unfolds graph (Ok events) walk is whole same =
+    let events_are : map seen_event events.items ≡ document_event_list graph =
+        same ∙ ap (walk_events graph) whole ∙ sym (ap (λ (none : Bool). if none then [] else walk_events graph (steps graph)) is.has_nodes) in
+    subst (EventsUnfold graph) (sym events_are) (document_unfolds graph is)
+walk_unfolds graph (Err error) walk is whole same = tt
+
+-- the stream's end ends a stream
+ends_later : (event next : Event) (rest : List Event) → ends_stream (event ∷ next ∷ rest) ≡ ends_stream (next ∷ rest)
+ends_later stream_end next rest = refl
+ends_later event next rest = refl
+
+ends_last : (events : List Event) → ends_stream (events ++ stream_end ∷ []) ≡ true
+ends_last [] = refl
+ends_last (event ∷ []) = ends_later event stream_end []
+ends_last (event ∷ next ∷ rest) = ends_later event next (rest ++ stream_end ∷ []) ∙ ends_last (next ∷ rest)
+
+-- graphs that were dumped whole in canonical mode are read back
+pub graphs_read : (given : Settings) (before : List Event) (graphs : List Graph) (state : State) → Promised given (before ++ stream_end ∷ []) state → state.error ≡ None → given.canonical ≡ true
+    → IsUncut given (before ++ stream_end ∷ []) → AreDumped graphs (before ++ stream_end ∷ []) → GraphsRead given.breaks12 graphs state.page.output
+graphs_read given before graphs state promised none canonical uncut dumped =
+    let all = before ++ stream_end ∷ [] in
+    let read = dumped_stream graphs all dumped in
+    let whole : written all ≡ length all = subst (λ (events : List Event). written events ≡ length events) read.is (stream_written read.stream) in
+    let held : state.held ≡ [] = (promised.held none).held ∙ ap (λ count. drop count all) whole ∙ drop-length all in
+    let accepted = (promised.ends (ends_last before) (subst HasRoom (sym none) tt)).1 (none, held) in
+    record {
+      contents = read.contents;
+      read = (promised.whole none accepted).reads canonical uncut ∙ read.content;
+      unfolds = read.unfolds;
+    }
