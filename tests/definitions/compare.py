@@ -189,13 +189,13 @@ use Rattle.yaml_base.specs.Content.{DocumentContent, tagged, untagged, alias_con
 use Rattle.yaml_base.specs.CanonicalReader.{canonical_content}
 use Rattle.yaml_base.specs.StreamContent.{DocumentTree, stood_plain, stood_quoted, stood_bare, with_tag, without_tag, alias_tree, scalar_tree, sequence_tree, mapping_tree, no_trees, trees_and, no_tree_pairs, tree_pairs_and, agrees}
 use Rattle.yaml_base.specs.StreamReader.{stream_trees}
-use Rattle.yaml_base.specs.Meetings.{GraphNode, Graph, scalar_held, sequence_held, mapping_held, document_event_list}
+use Rattle.yaml_base.specs.Meetings.{GraphNode, Graph, decimal_digits, scalar_held, sequence_held, mapping_held, document_event_list}
 use Rattle.yaml_base.specs.Script.{Script, bad_line, understood, script_of}
 use Rattle.yaml_base.proofs.ComparedCommon.{written_after_each, refusals_after, texts, bodies, tidy_bodies, read_by, read_back}
 """
 
 def lemma(name, computed, expected):
-    return "%s : %s ≡ %s\nunfolding chars is_utf8 encode_utf8 digits\n%s = refl\n" % (name, computed, expected, name)
+    return "%s : %s ≡ %s\nunfolding chars is_utf8 encode_utf8 digits decimal_digits\n%s = refl\n" % (name, computed, expected, name)
 
 def file_of(cases, spoil):
     """The text of one file, the names of its lemmas and of those that were spoiled."""
