@@ -1,3 +1,4 @@
+pub mod Prefixes
 pub mod Stages
 pub mod Progress
 pub mod QueueLaws

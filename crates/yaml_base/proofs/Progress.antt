@@ -5,9 +5,9 @@ use Rattle.yaml_base.specs.Settings.{Effective}
 use Rattle.yaml_base.specs.Event.{Event}
 use Rattle.yaml_base.specs.Grammar.{Partial, partial_of}
 use Rattle.yaml_base.specs.Refusal.{ends_collection}
-use Rattle.yaml_base.specs.Ready.{is_ready, written}
+use Rattle.yaml_base.specs.Ready.{is_ready, written, held_back}
 use Rattle.yaml_base.specs.Layout.{Standing}
-use Rattle.yaml_base.specs.Steps.{Stage, step, ends_next, then_steps, steps, joined_steps, held_back, ready_steps, progress}
+use Rattle.yaml_base.specs.Steps.{Stage, step, ends_next, then_steps, steps, joined_steps, ready_steps, progress}
 use Rattle.yaml_base.specs.Pieces.{begins_last, ends_first, list_layout, completion, pieces}
 use Rattle.yaml_base.proofs.ReadyLaws.{ready_stays}
 use Rattle.yaml_base.proofs.QueueLaws.{written_within, open_at_written, no_end_held}

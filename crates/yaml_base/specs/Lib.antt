@@ -1,6 +1,7 @@
 pub mod Characters
 pub mod Settings
 pub mod LineBreaks
+pub mod Prefix
 pub mod Cursor
 pub mod Event
 pub mod Errors

@@ -1,10 +1,10 @@
 -- What an accepted list comes to under its caller's settings: text and bytes.
-use Rattle.std.specs.Prelude.{ℕ, Option, None, Some, List, ◌∷◌}
+use Rattle.std.specs.Prelude.{ℕ, Bool, true, false, Option, None, Some, List, [], ◌∷◌}
 use Rattle.yaml_base.specs.Characters.{Text}
 use Rattle.yaml_base.specs.Settings.{Encoding, Settings, Effective, effective}
 use Rattle.yaml_base.specs.LineBreaks.{with_breaks_written}
 use Rattle.yaml_base.specs.Encoding.{encode, cut}
-use Rattle.yaml_base.specs.Event.{Event, stream_start}
+use Rattle.yaml_base.specs.Event.{Event, stream_start, stream_end, document_end}
 use Rattle.yaml_base.specs.Layout.{Piece, text_of}
 use Rattle.yaml_base.specs.Pieces.{list_layout}
 
@@ -30,3 +30,15 @@ abbrev pub output_of : Settings → List Event → List ℕ
 output_of given events =
     let s = settings_for given events in
     cut s.limit (bytes_written s (list_layout s events))
+
+-- the ends of documents and of the stream hand out all that is written
+abbrev pub hands_out : Event → Bool
+hands_out (document_end implicit) = true
+hands_out stream_end = true
+hands_out event = false
+
+-- the last of some events hands out all that is written
+abbrev pub hands_out_last : List Event → Bool
+hands_out_last [] = false
+hands_out_last (event ∷ []) = hands_out event
+hands_out_last (event ∷ next ∷ more) = hands_out_last (next ∷ more)

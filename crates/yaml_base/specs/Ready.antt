@@ -1,5 +1,5 @@
 -- Which events of a list are ready to be written (libyaml's own rule).
-use Rattle.std.specs.Prelude.{◌≡◌, ℕ, suc, ◌≤◌, Bool, true, false, List, [], ◌∷◌, ◌++◌, ◌==◌, ◌||◌, nat_lt, map, length, count_by, if◌then◌else◌}
+use Rattle.std.specs.Prelude.{◌≡◌, ℕ, suc, ◌≤◌, Bool, true, false, List, [], ◌∷◌, ◌++◌, ◌==◌, ◌||◌, nat_lt, map, length, drop, count_by, if◌then◌else◌}
 use Rattle.std.specs.List.{list_any}
 use Rattle.yaml_base.specs.Event.{Event, stream_start, stream_end, document_start, document_end, sequence_start, sequence_end, mapping_start, mapping_end}
 use Rattle.yaml_base.specs.Grammar.{Stream, stream_events}
@@ -46,6 +46,10 @@ is_ready event rest =
 abbrev pub written : List Event → ℕ
 written [] = 0
 written (event ∷ rest) = if is_ready event rest then suc (written rest) else 0
+
+-- the events of a list from the first that isn't ready
+abbrev pub held_back : List Event → List Event
+held_back events = drop (written events) events
 
 -- as a list grows, no event that was ready waits again
 abbrev pub ReadyStays : Type 0

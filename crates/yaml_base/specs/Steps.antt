@@ -1,6 +1,6 @@
 -- The same pieces, event by event, for contracts of code that writes them so: an event's piece needs the places that
 -- are open and, at a collection's start, whether its end follows at once. A law says that these are the layout's pieces.
-use Rattle.std.specs.Prelude.{ℕ, Bool, true, false, Option, List, [], ◌∷◌, ◌++◌, ◌&&◌, not, nat_lt, length, take, drop}
+use Rattle.std.specs.Prelude.{ℕ, Bool, true, false, Option, List, [], ◌∷◌, ◌++◌, ◌&&◌, not, nat_lt, length, take}
 use Rattle.std.specs.Option.{option_or}
 use Rattle.yaml_base.specs.Settings.{Effective}
 use Rattle.yaml_base.specs.Cursor.{nothing_laid}
@@ -204,10 +204,6 @@ stage_refusal canonical stage event =
     (fault_if (begins_collection event && not (nat_lt (open_frames stage) most_open)) too_deep)))
 
 -- Lists with events that wait
-
--- the events that are held back
-abbrev pub held_back : List Event → List Event
-held_back events = drop (written events) events
 
 -- the steps of the events that are ready
 abbrev pub ready_steps : Effective → List Event → Stage → Standing → Steps

@@ -8,6 +8,7 @@ ghost use Rattle.yaml_base.specs.Seen.{seen_event};
 ghost use Rattle.yaml_base.specs.Settings.{Settings};
 ghost use Rattle.yaml_base.specs.Unfolding.{EventsUnfold};
 ghost use Rattle.yaml_pen.specs.Page.{told};
+ghost use Rattle.yaml_pen.specs.Wrote.{Grows};
 ghost use Rattle.yaml_dump.specs.Dumps.{Dumps, EmitsEach, closing, opening};
 ghost use Rattle.yaml_emitter.specs.StandsAfter.{StandsAfter};
 
@@ -64,6 +65,7 @@ fn open_if_needed<A: Allocator + Copy>(emitter: &mut yaml_emitter_t<A>) -> Resul
     ensures opened { OnOk result (emitter.new.opened ≡ true) }
     ensures unopened { OnErr result ((emitter.old.opened ≡ false) × (emitter.new.opened ≡ false)) }
     ensures closed { emitter.new.closed ≡ emitter.old.closed }
+    ensures grows { Grows emitter.old.page emitter.new.page }
     ensures given { emitter.new.given ≡ emitter.old.given }
     ensures output { emitter.new.has_output ≡ true }
     ensures answered { result ≡ told emitter.new.error }
@@ -83,6 +85,7 @@ fn close_if_needed<A: Allocator + Copy>(emitter: &mut yaml_emitter_t<A>) -> Resu
     ensures opened { emitter.new.opened ≡ true }
     ensures closed { OnOk result (emitter.new.closed ≡ true) }
     ensures unclosed { OnErr result (emitter.new.closed ≡ emitter.old.closed) }
+    ensures grows { Grows emitter.old.page emitter.new.page }
     ensures given { emitter.new.given ≡ emitter.old.given }
     ensures output { emitter.new.has_output ≡ true }
 {
@@ -111,6 +114,7 @@ pub fn yaml_emitter_dump<A: Allocator + Copy>(
     ensures opened { OnOk result (emitter.new.opened ≡ true) }
     ensures unclosed { OnErr result (emitter.new.closed ≡ emitter.old.closed) }
     ensures closed { OnOk result (emitter.new.closed ≡ (emitter.old.closed || length (graph_of document).nodes == 0)) }
+    ensures grows { Grows emitter.old.page emitter.new.page }
     ensures given { emitter.new.given ≡ emitter.old.given }
     ensures output { emitter.new.has_output ≡ true }
 {

@@ -5,6 +5,7 @@ ghost use Rattle.yaml_base.specs.Event.{Event};
 ghost use Rattle.yaml_base.specs.Seen.{seen_event};
 ghost use Rattle.yaml_base.specs.Settings.{Settings};
 ghost use Rattle.yaml_pen.specs.Page.{told};
+ghost use Rattle.yaml_pen.specs.Wrote.{Grows};
 ghost use Rattle.yaml_dump.specs.Dumps.{EmitsEach};
 ghost use Rattle.yaml_emitter.specs.StandsAfter.{StandsAfter};
 ghost use Rattle.yaml_emitter.specs.State.{KeepsSet};
@@ -21,6 +22,7 @@ pub(crate) fn emit_each<A: Allocator + Copy>(
     requires output { emitter.old.has_output ≡ true }
     requires no_error { emitter.old.error ≡ None }
     ensures emits { (given : Settings) (all : List Event) → StandsAfter given all emitter.old → EmitsEach given all (map seen_event events.items) result emitter.new }
+    ensures grows { Grows emitter.old.page emitter.new.page }
     ensures set { KeepsSet (record emitter.old { started = emitter.new.started }) emitter.new }
     ensures answered { result ≡ told emitter.new.error }
     ensures output { emitter.new.has_output ≡ true }

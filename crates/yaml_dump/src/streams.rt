@@ -6,6 +6,7 @@ ghost use Rattle.yaml_base.specs.Dumped.{AreDumped, GraphsRead};
 ghost use Rattle.yaml_base.specs.Meetings.{Graph};
 ghost use Rattle.yaml_base.specs.Settings.{Settings};
 ghost use Rattle.yaml_pen.specs.Page.{told};
+ghost use Rattle.yaml_pen.specs.Wrote.{Grows};
 ghost use Rattle.yaml_emitter.specs.Promises.{Promised};
 ghost use Rattle.yaml_emitter.specs.StandsAfter.{StandsAfter};
 ghost use Rattle.yaml_emitter.specs.State.{KeepsSet};
@@ -26,6 +27,7 @@ pub fn yaml_emitter_open<A: Allocator + Copy>(
     requires not_opened { emitter.old.opened ≡ false }
     ensures stands { (given : Settings) (all : List Event) → StandsAfter given all emitter.old → StandsAfter given (all ++ stream_start None ∷ []) emitter.new }
     ensures promised { (given : Settings) (all : List Event) → StandsAfter given all emitter.old → Promised given (all ++ stream_start None ∷ []) emitter.new }
+    ensures grows { Grows emitter.old.page emitter.new.page }
     ensures set { KeepsSet (record emitter.old { started = true; opened = is_ok result }) emitter.new }
     ensures kept { IsSome emitter.old.error → emitter.new ≡ record emitter.old { started = true } }
     ensures answered { result ≡ told emitter.new.error }
@@ -54,6 +56,7 @@ pub fn yaml_emitter_close<A: Allocator + Copy>(
     ensures closed { emitter.old.closed ≡ true → (result ≡ Ok tt) × (emitter.new ≡ emitter.old) }
     ensures stands { emitter.old.closed ≡ false → (given : Settings) (all : List Event) → StandsAfter given all emitter.old → StandsAfter given (all ++ stream_end ∷ []) emitter.new }
     ensures promised { emitter.old.closed ≡ false → (given : Settings) (all : List Event) → StandsAfter given all emitter.old → Promised given (all ++ stream_end ∷ []) emitter.new }
+    ensures grows { Grows emitter.old.page emitter.new.page }
     ensures set { emitter.old.closed ≡ false → KeepsSet (record emitter.old { started = true; closed = is_ok result }) emitter.new }
     ensures kept { emitter.old.closed ≡ false → IsSome emitter.old.error → emitter.new ≡ record emitter.old { started = true } }
     ensures answered { emitter.old.closed ≡ false → result ≡ told emitter.new.error }

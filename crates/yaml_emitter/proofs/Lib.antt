@@ -40,4 +40,5 @@ pub mod StandingSet
 pub mod SeenTexts
 pub mod Promising
 pub mod KeepsSet
+pub mod Growing
 pub mod StandingMarked

@@ -10,6 +10,7 @@ use Rattle.yaml_base.specs.Layout.{Place, Brackets, is_key, is_simple_alias, is_
 use Rattle.yaml_base.specs.Refusal.{name_or_tag_fault, scalar_tag, collection_tag, fault_if, expected_node, no_tag_nor_implicit, too_deep, most_open}
 use Rattle.yaml_base.specs.Style.{lacks_tag_and_flags}
 use Rattle.yaml_base.specs.Tags.{alias_fault, anchor_fault, tag_fault}
+use Rattle.yaml_base.specs.Output.{hands_out}
 use Rattle.yaml_base.specs.Steps.{Frame, Stage, at_node, next_place, stage_after, stage_refusal, step, node_allowed, is_first}
 use Rattle.yaml_base.specs.declared.errors.yaml_error_t.{yaml_error_t}
 use Rattle.yaml_pen.specs.Page.{Page, IsReady}
@@ -20,7 +21,7 @@ use Rattle.yaml_emitter.specs.Inside.{IsEmitter, state_of}
 use Rattle.yaml_emitter.specs.NodeEvents.{is_at_node, start_event, end_event, brackets_of, first_entry, is_undented}
 use Rattle.yaml_emitter.specs.Signs.{name_breaks}
 use Rattle.yaml_emitter.specs.WrittenPieces.{piece_at}
-use Rattle.yaml_emitter.specs.Processing.{Processed, hands_out}
+use Rattle.yaml_emitter.specs.Processing.{Processed}
 use Rattle.yaml_pen.specs.Page.{encoded, told}
 use Rattle.yaml_emitter.specs.declared.stage.Stage as stage
 use Rattle.yaml_emitter.specs.declared.stage.Stage.TheVariants.{Stream, Document, Node, DocumentEnd, Nothing}

@@ -4,6 +4,7 @@ use Rattle.std.specs.Prelude.{◌⊎◌, IsErr, IsErrAnd}
 use Rattle.std.proofs.lemmas.Result.{err_from_is_err_and}
 use Rattle.yaml_base.specs.Errors.{refusal_number}
 use Rattle.yaml_base.specs.Event.{Event, stream_start}
+use Rattle.yaml_base.specs.Output.{hands_out}
 use Rattle.yaml_base.specs.Steps.{Stage, stage_refusal, step}
 use Rattle.yaml_base.specs.declared.errors.yaml_error_t.{yaml_error_t}
 use Rattle.yaml_base.specs.declared.errors.yaml_error_t.TheVariants.{WriteError, Memory}
@@ -11,7 +12,7 @@ use Rattle.yaml_pen.specs.Page.{told, encoded}
 use Rattle.yaml_pen.specs.Wrote.{Wrote}
 use Rattle.yaml_emitter.specs.State.{State, standing_of}
 use Rattle.yaml_emitter.specs.Promises.{IsRefusal}
-use Rattle.yaml_emitter.specs.Processing.{Processed, CutShort, Keeps, WritesPage, refusal_now, event_laid, event_stepped, hands_out}
+use Rattle.yaml_emitter.specs.Processing.{Processed, CutShort, unwritten, partly_written, Keeps, WritesPage, refusal_now, event_laid, event_stepped}
 use Rattle.yaml_emitter.specs.WrittenPieces.{piece_at}
 
 -- a refused event changes nothing
@@ -60,7 +61,15 @@ cut error event empty before after kept settings accepted wrote failed =
     record {
       kept = kept;
       settings = settings;
-      page = inr (accepted, (λ is. some_same (sym failed ∙ is)), (λ is. failed ∙ ap (λ (e : yaml_error_t). Some e) is), (Err error, wrote));
+      page =
+          partly_written
+          (record {
+            accepted = accepted;
+            passed = λ is. some_same (sym failed ∙ is);
+            failed = λ is. failed ∙ ap (λ (e : yaml_error_t). Some e) is;
+            answer = Err error;
+            wrote = wrote;
+          });
     }
 
 told_failed : (given : Option yaml_error_t) (error : yaml_error_t) → Err error ≡ told given → given ≡ Some error
@@ -101,7 +110,7 @@ processed_cut event empty before after error kept settings accepted wrote =
 pub processed_unwritten : (event : Event) (empty : Bool) (before after : State) → Keeps before after → after.settings ≡ before.settings
     → after.page ≡ before.page → Processed event empty before after (Err Memory)
 processed_unwritten event empty before after kept settings page =
-    record { kept = kept; settings = settings; page = inl (refl, page) }
+    record { kept = kept; settings = settings; page = unwritten refl page }
 
 -- The same where the stage is known by an equation.
 laid_at : (before after : State) (event : Event) (empty : Bool) (stage : Stage) (answer : Result (Unit {0}) yaml_error_t) → before.stage ≡ stage
@@ -154,7 +163,15 @@ processed_after_writing event empty before after stage at kept settings accepted
     record {
       kept = kept;
       settings = settings;
-      page = inr (ap (λ st. stage_refusal before.given.canonical st event) at ∙ accepted, (λ is. cc), (λ is. cc), (Ok tt, laid_at before after event empty stage (Ok tt) at wrote));
+      page =
+          partly_written
+          (record {
+            accepted = ap (λ st. stage_refusal before.given.canonical st event) at ∙ accepted;
+            passed = λ is. cc;
+            failed = λ is. cc;
+            answer = Ok tt;
+            wrote = laid_at before after event empty stage (Ok tt) at wrote;
+          });
     }
 
 -- at an exit by `?` of a call that fails by memory alone

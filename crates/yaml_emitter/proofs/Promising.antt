@@ -12,7 +12,7 @@ use Rattle.yaml_base.specs.Ready.{written}
 use Rattle.yaml_base.specs.Layout.{Piece}
 use Rattle.yaml_base.specs.Pieces.{pieces}
 use Rattle.yaml_base.specs.Steps.{progress}
-use Rattle.yaml_base.specs.Output.{encoding_asked, settings_for, text_written}
+use Rattle.yaml_base.specs.Output.{encoding_asked, settings_for, text_written, hands_out_last}
 use Rattle.yaml_base.specs.CanonicalReader.{canonical_content}
 use Rattle.yaml_base.specs.Meaning.{has_scalar_texts}
 use Rattle.yaml_base.specs.Seen.{seen_event}
@@ -23,9 +23,9 @@ use Rattle.yaml_base.proofs.QueueLaws.{written_within}
 use Rattle.yaml_pen.specs.Page.{Page, encoded, told}
 use Rattle.yaml_pen.proofs.Writing.{none_from_told}
 use Rattle.yaml_emitter.specs.State.{State}
-use Rattle.yaml_emitter.specs.StandsAfter.{HoldsPieces, hands_out_last, StandsWell, StandsBy, StandsSo, StandsAfter}
+use Rattle.yaml_emitter.specs.StandsAfter.{HoldsPieces, StandsWell, StandsBy, StandsSo, StandsAfter}
 use Rattle.yaml_emitter.specs.Promises.{bytes_of_some, HasAllBytes, ends_stream, EndsExactly, IsWritten, Promised}
-use Rattle.yaml_emitter.proofs.StandingPromises.{take-length, stands_well, promises_text, promises_held, promises_refusal, promises_output, promises_full, promises_end, all_written, whole_text}
+use Rattle.yaml_emitter.proofs.StandingPromises.{take-length, stands_well, promises_text, promises_held, promises_refusal, promises_output, promises_within, promises_full, promises_end, all_written, whole_text}
 use Rattle.yaml_emitter.proofs.Meaning.{meaning_is_kept}
 use Rattle.yaml_emitter.proofs.CanonicalOutput.{output_reads}
 use Rattle.yaml_emitter.proofs.SeenTexts.{seen_scalars, texts_more, values_of_texts}
@@ -104,6 +104,7 @@ promised given all state h =
       dropped = dropped_by state.error given all state h.so;
       refused = λ error. promises_refusal given all state error h.so;
       output = promises_output given all state h.so;
+      within = promises_within given all state h.so;
       full = promises_full given all state h.so;
       handed_out = λ none hands. promises_bytes given all state h.so none ((stands_well given all state h.so none).taken.handed_out hands);
       ends = promises_ends given all state h.so;
@@ -125,3 +126,28 @@ pub flushed_all : (answer : Result (Unit {0}) yaml_error_t) (before after : Stat
     → OnOk answer ((given : Settings) (all : List Event) → StandsAfter given all before → HasAllBytes given all after)
 flushed_all (Ok _) before after is handed stands = λ given all h. promises_bytes given all after (stands given all h.so) (none_from_told after.error is) handed
 flushed_all (Err error) before after is handed stands = tt
+
+-- Where all bytes of the pieces are handed out, so are all of the text, and the page has no error.
+page_encoded : (front : List Event) (n : ℕ) (s : Effective) (laid : List Piece) (text : Text) (page : Page) → length front ≡ n → HoldsPieces s front laid page
+    → page.text ≡ text → page.output ≡ bytes_of_some n (encode (Some s.encoding) text) → page.output ≡ encoded page
+page_encoded [] zero s laid text page count h is all = all ∙ sym (ap (λ (p : Page). encoded p) h)
+page_encoded [] (suc n) s laid text page count h is all = cc
+page_encoded (event ∷ front) zero s laid text page count h is all = cc
+page_encoded (event ∷ front) (suc n) s laid text page count h is all =
+    all ∙ sym (ap (λ e. encode e page.text) h.0.encoding ∙ ap (encode (Some s.encoding)) is)
+
+page_unfailed : (front : List Event) (s : Effective) (laid : List Piece) (page : Page) → HoldsPieces s front laid page → page.error ≡ None
+page_unfailed [] s laid page h = ap (λ (p : Page). p.error) h
+page_unfailed (event ∷ front) s laid page h = h.2
+
+pub stands_unfailed : (given : Settings) (all : List Event) (state : State) → StandsSo given all state → state.error ≡ None → state.page.error ≡ None
+stands_unfailed given all state h none =
+    let well : StandsWell given all state = stands_well given all state h none in
+    page_unfailed (take (written all) all) (settings_for given all) (progress (settings_for given all) all).pieces state.page well.taken.page
+
+pub stands_encoded : (given : Settings) (all : List Event) (state : State) → StandsSo given all state → state.error ≡ None → HasAllBytes given all state → state.page.output ≡ encoded state.page
+stands_encoded given all state h none bytes =
+    let s = settings_for given all in
+    let well : StandsWell given all state = stands_well given all state h none in
+    page_encoded (take (written all) all) (written all) s (progress s all).pieces (text_written s (pieces s all (written all))) state.page
+    (length-take-le (written all) all (written_within all)) well.taken.page (promises_text given all state h none) bytes

@@ -9,11 +9,11 @@ use Rattle.yaml_base.specs.Cursor.{Cursor, Laid}
 use Rattle.yaml_base.specs.Event.{Event, stream_start, document_start, sequence_start, sequence_end, mapping_start, mapping_end}
 use Rattle.yaml_base.specs.Grammar.{at_item, at_key, at_value, Partial, before_stream, within_document, push, pushed, partial_of}
 use Rattle.yaml_base.specs.Refusal.{begins_collection, ends_collection, BeginsAccepted, refusal}
-use Rattle.yaml_base.specs.Ready.{is_ready, written, awaited}
+use Rattle.yaml_base.specs.Ready.{is_ready, written, awaited, held_back}
 use Rattle.yaml_base.specs.Layout.{Piece, Standing, first_standing, piece_text, text_of, stream_start_piece}
-use Rattle.yaml_base.specs.Steps.{at_stream, Stepped, Steps, step, steps, progress, held_back, stage_refusal}
+use Rattle.yaml_base.specs.Steps.{at_stream, Stepped, Steps, step, steps, progress, stage_refusal}
 use Rattle.yaml_base.specs.Pieces.{begins_last, ends_first}
-use Rattle.yaml_base.specs.Output.{encoding_asked, settings_for, text_written}
+use Rattle.yaml_base.specs.Output.{encoding_asked, settings_for, text_written, hands_out, hands_out_last}
 use Rattle.yaml_base.specs.declared.errors.yaml_error_t.{yaml_error_t}
 use Rattle.yaml_base.proofs.Accepted.{stands_from_begins, refused_exactly}
 use Rattle.yaml_base.proofs.Completions.{pushed-append}
@@ -27,8 +27,8 @@ use Rattle.yaml_pen.specs.Wrote.{Wrote, named_text}
 use Rattle.yaml_pen.proofs.Composing.{with_breaks_written-append, wrote_all, wrote_no_error}
 use Rattle.yaml_emitter.specs.State.{State, standing_of}
 use Rattle.yaml_emitter.specs.Queue.{is_head_ready}
-use Rattle.yaml_emitter.specs.Processing.{closes_at_once, event_stepped, event_laid, refusal_now, WritesPage, hands_out, Written, Processed}
-use Rattle.yaml_emitter.specs.StandsAfter.{IsPage, HoldsPieces, IsSettled, hands_out_last, HasTaken, StandsWell, closes_last, Reached}
+use Rattle.yaml_emitter.specs.Processing.{closes_at_once, event_stepped, event_laid, refusal_now, WritesPage, Written, Processed}
+use Rattle.yaml_emitter.specs.StandsAfter.{IsPage, HoldsPieces, IsSettled, HasTaken, StandsWell, closes_last, Reached}
 
 -- Settings are those of the first event.
 asked_more : (event : Event) (rest more : List Event) → encoding_asked (event ∷ (rest ++ more)) ≡ encoding_asked (event ∷ rest)

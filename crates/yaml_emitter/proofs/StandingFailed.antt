@@ -4,6 +4,7 @@ use Rattle.std.proofs.lemmas.Bool.{false≢true}
 use Rattle.std.specs.Prelude.{ℕ, suc, Bool, true, false, Option, None, Some, IsSome, Result, Err, List, [], ◌∷◌, ◌++◌, option_and_then, if◌then◌else◌}
 use Rattle.yaml_base.specs.Errors.{refusal_number}
 use Rattle.yaml_base.specs.Settings.{Settings}
+use Rattle.yaml_base.specs.Prefix.{IsPrefix}
 use Rattle.yaml_base.specs.Event.{Event, sequence_start, sequence_end, mapping_start, mapping_end}
 use Rattle.yaml_base.specs.Grammar.{Partial, before_stream, within_document, no_nodes, no_pairs, at_item, at_key, push, pushed}
 use Rattle.yaml_base.specs.Refusal.{BeginsAccepted, refusal_at, refusal}
@@ -17,8 +18,8 @@ use Rattle.yaml_base.proofs.Accepted.{stands_from_begins}
 use Rattle.yaml_pen.specs.Page.{Page}
 use Rattle.yaml_pen.specs.Wrote.{Wrote}
 use Rattle.yaml_emitter.specs.State.{State}
-use Rattle.yaml_emitter.specs.Processing.{closes_at_once, event_stepped, event_laid, CutShort, Refused, Processed}
-use Rattle.yaml_emitter.specs.StandsAfter.{IsPage, HoldsPieces, HasTaken, FailedAt, closes_last, StandsRefused, IsFront, StandsCut, StandsSo, Reached, failed_by}
+use Rattle.yaml_emitter.specs.Processing.{closes_at_once, event_stepped, event_laid, CutShort, unwritten, partly_written, Refused, Processed}
+use Rattle.yaml_emitter.specs.StandsAfter.{IsPage, HoldsPieces, HasTaken, FailedAt, closes_last, StandsRefused, holds_before, holds_part, StandsCut, StandsSo, Reached, failed_by}
 use Rattle.yaml_emitter.proofs.Standing.{taken_same, refusal_same, accepted_next, stepped_steps, named_more, is_page_wrote}
 
 failed_at : (given : Settings) (all front rest : List Event) (event : Event) (before : State) → Reached given all front (event ∷ rest) before → is_ready event rest ≡ true → FailedAt all front event rest
@@ -79,14 +80,14 @@ refused_stands given all front rest event error before after h is done =
       refusal = refused;
     }
 
--- An event that is cut short adds a front of its piece.
+-- An event that is cut short adds a prefix of its piece.
 cut_page : (front rest : List Event) (given : Settings) (all : List Event) (event : Event) (before after : State) (answer : Result (Unit {0}) yaml_error_t)
     → HasTaken given all front (steps (settings_for given all) (closes_last front (event ∷ rest)) front at_stream first_standing) before
     → BeginsAccepted given.canonical (front ++ event ∷ [])
     → Wrote (event_laid before event (closes_at_once event rest)) before.page after.page answer
     → IsPage (settings_for given all) after.page
-    × IsFront (text_written (settings_for given all) (steps (settings_for given all) (closes_last front (event ∷ rest)) front at_stream first_standing).pieces) after.page.text
-    × IsFront after.page.text (text_written (settings_for given all) (steps (settings_for given all) (closes_at_once event rest) (front ++ event ∷ []) at_stream first_standing).pieces)
+    × IsPrefix (text_written (settings_for given all) (steps (settings_for given all) (closes_last front (event ∷ rest)) front at_stream first_standing).pieces) after.page.text
+    × IsPrefix after.page.text (text_written (settings_for given all) (steps (settings_for given all) (closes_at_once event rest) (front ++ event ∷ []) at_stream first_standing).pieces)
 cut_page [] rest given all event before after answer h begun wrote =
     let none : after.page.encoding ≡ None = wrote.settings.encoding ∙ ap (λ (p : Page). p.encoding) h.page in
     absurd (false≢true (subst (λ o. IsSome o) none wrote.ready.begun))
@@ -126,11 +127,12 @@ cut_stands given all front rest event error before after h is done =
       given_kept = ap (λ (s : State). s.given) done.kept ∙ h.taken.given_kept;
       stands = h.taken.stands;
       page = elim done.page [
-        | inl unwritten ↦ inl (unwritten.0, subst (λ page. HoldsPieces s front (steps s follows front at_stream first_standing).pieces page) (sym unwritten.1) taken.page)
-        | inr begun ↦
-            let accepted = accepted_next given all front event follows s now taken begun.0 in
-            let cut = cut_page front rest given all event now after begun.3.0 taken accepted begun.3.1 in
-            inr (accepted, cut.0, begun.2, cut.1, cut.2)
+        | unwritten memory same ↦
+            holds_before memory (subst (λ page. HoldsPieces s front (steps s follows front at_stream first_standing).pieces page) (sym same) taken.page)
+        | partly_written part ↦
+            let accepted = accepted_next given all front event follows s now taken part.accepted in
+            let cut = cut_page front rest given all event now after part.answer taken accepted part.wrote in
+            holds_part accepted cut.0 part.failed cut.1 cut.2
       ];
     }
 

@@ -20,7 +20,7 @@ use Rattle.yaml_pen.specs.Wrote.{Flushed}
 use Rattle.yaml_pen.proofs.Writing.{none_from_told}
 use Rattle.yaml_emitter.specs.State.{State}
 use Rattle.yaml_emitter.specs.Processing.{closes_at_once}
-use Rattle.yaml_emitter.specs.StandsAfter.{IsPage, HoldsPieces, HoldsPiecesWith, StandsWell, FailedAt, closes_last, StandsRefused, IsFront, StandsCut, StandsUnflushed, StandsStopped, StandsFailed, StandsBy, StandsSo, failed_by}
+use Rattle.yaml_emitter.specs.StandsAfter.{IsPage, HoldsPieces, HoldsPiecesWith, StandsWell, FailedAt, closes_last, StandsRefused, HoldsCut, StandsCut, StandsUnflushed, StandsStopped, StandsFailed, StandsBy, StandsSo, failed_by}
 use Rattle.yaml_emitter.proofs.Standing.{settings_grown, settled_same, taken_same, taken_grown}
 
 -- two states differ in what was begun, set, opened and closed alone
@@ -86,16 +86,6 @@ refused_grown given all more error before after same h =
       refusal = h.refusal;
     }
 
--- what a page holds of an event that was cut short
-abbrev CutPage : Settings → Effective → (front : List Event) (event : Event) → (at_front at_event : Bool) → yaml_error_t → Page → Type 0
-CutPage given s front event at_front at_event error page =
-    ((error ≡ Memory) × HoldsPieces s front (steps s at_front front at_stream first_standing).pieces page)
-    ⊎ (BeginsAccepted given.canonical (front ++ event ∷ [])
-    × IsPage s page
-    × (error ≡ WriteError → page.error ≡ Some WriteError)
-    × IsFront (text_written s (steps s at_front front at_stream first_standing).pieces) page.text
-    × IsFront page.text (text_written s (steps s at_event (front ++ event ∷ []) at_stream first_standing).pieces))
-
 cut_grown : (given : Settings) (all more : List Event) (error : yaml_error_t) (before after : State) → AreFlags before after → StandsCut given all error before → StandsCut given (all ++ more) error after
 cut_grown given all more error before after same h =
     let settings = sym (settings_failed h.front given all h.event h.later more h.failed.parts) in
@@ -103,6 +93,8 @@ cut_grown given all more error before after same h =
     let at_front = sym (closes_last_grown h.front h.event h.later more) in
     let at_event = sym (closes_grown h.event h.later more ready) in
     let is_page = sym (ap (λ (s : State). s.page) same) in
+    let CutBy : Effective → Bool → Bool → Page → Type 0 = λ s at_front at_event page.
+    HoldsCut given s h.front h.event (steps s at_front h.front at_stream first_standing) (steps s at_event (h.front ++ h.event ∷ []) at_stream first_standing) error page in
     record {
       front = h.front;
       event = h.event;
@@ -111,10 +103,10 @@ cut_grown given all more error before after same h =
       given_kept = ap (λ (s : State). s.given) same ∙ h.given_kept;
       stands = h.stands;
       page =
-          subst (λ s. CutPage given s h.front h.event (closes_last h.front (h.event ∷ (h.later ++ more))) (closes_at_once h.event (h.later ++ more)) error after.page) settings
-          (subst (λ b. CutPage given (settings_for given all) h.front h.event b (closes_at_once h.event (h.later ++ more)) error after.page) at_front
-          (subst (λ b. CutPage given (settings_for given all) h.front h.event (closes_last h.front (h.event ∷ h.later)) b error after.page) at_event
-          (subst (λ page. CutPage given (settings_for given all) h.front h.event (closes_last h.front (h.event ∷ h.later)) (closes_at_once h.event h.later) error page) is_page h.page)));
+          subst (λ s. CutBy s (closes_last h.front (h.event ∷ (h.later ++ more))) (closes_at_once h.event (h.later ++ more)) after.page) settings
+          (subst (λ b. CutBy (settings_for given all) b (closes_at_once h.event (h.later ++ more)) after.page) at_front
+          (subst (λ b. CutBy (settings_for given all) (closes_last h.front (h.event ∷ h.later)) b after.page) at_event
+          (subst (λ page. CutBy (settings_for given all) (closes_last h.front (h.event ∷ h.later)) (closes_at_once h.event h.later) page) is_page h.page)));
     }
 
 holds_grown : (front : List Event) (given : Settings) (all rest more : List Event) (error : Option yaml_error_t) (page : Page) → front ++ rest ≡ all
@@ -257,7 +249,7 @@ flushed_stands given all state page h flushed =
       held = h.held;
     }
 
-some_from_told : (given : Option yaml_error_t) (error : yaml_error_t) → Err error ≡ told given → given ≡ Some error
+pub some_from_told : (given : Option yaml_error_t) (error : yaml_error_t) → Err error ≡ told given → given ≡ Some error
 some_from_told None error is = cc
 some_from_told (Some other) error is = cc
 

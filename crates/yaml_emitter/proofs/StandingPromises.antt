@@ -5,12 +5,13 @@ use Rattle.std.proofs.lemmas.Bool.{false≢true}
 use Rattle.std.specs.Prelude.{ℕ, zero, suc, ◌<◌, ◌≤◌, Bool, true, false, ◌&&◌, Option, None, Some, List, [], ◌∷◌, ◌++◌, length, take, drop, option_and_then}
 use Rattle.yaml_base.specs.Settings.{Settings, Effective}
 use Rattle.yaml_base.specs.Encoding.{encode, cut}
+use Rattle.yaml_base.specs.Prefix.{IsPrefix}
 use Rattle.yaml_base.specs.Event.{Event, stream_end, document_start, sequence_start, sequence_end, mapping_start, mapping_end}
 use Rattle.yaml_base.specs.Grammar.{at_item, at_key, at_value, Stream, stream_events, Partial, before_stream, between_documents, within_document, after_stream, pushed, partial_of}
 use Rattle.yaml_base.specs.Refusal.{begins_collection, ends_collection, IsAccepted, BeginsAccepted, refusal_at, refusal}
-use Rattle.yaml_base.specs.Ready.{is_ready, written}
-use Rattle.yaml_base.specs.Layout.{first_standing}
-use Rattle.yaml_base.specs.Steps.{Steps, at_stream, ends_next, steps, held_back}
+use Rattle.yaml_base.specs.Ready.{is_ready, written, held_back}
+use Rattle.yaml_base.specs.Layout.{Piece, first_standing}
+use Rattle.yaml_base.specs.Steps.{Steps, at_stream, ends_next, steps}
 use Rattle.yaml_base.specs.Pieces.{list_layout, pieces, begins_last, ends_first}
 use Rattle.yaml_base.specs.Pieces as closes
 use Rattle.yaml_base.specs.Output.{settings_for, text_written, bytes_written, output_of}
@@ -18,6 +19,7 @@ use Rattle.yaml_base.specs.declared.errors.yaml_error_t.{yaml_error_t}
 use Rattle.yaml_base.specs.declared.errors.yaml_error_t.TheVariants.{WriteError, Memory}
 use Rattle.yaml_base.proofs.Accepted.{stands_from_begins, refused_exactly}
 use Rattle.yaml_base.proofs.Completions.{front_begins, pushed-append}
+use Rattle.yaml_base.proofs.Prefixes.{prefix_same, prefix_then}
 use Rattle.yaml_base.proofs.Trees.{stream_pushed}
 use Rattle.yaml_base.proofs.PieceLaws.{steps_count, steps-append, steps_same, front_layout, list_layout_steps}
 use Rattle.yaml_base.proofs.Progress.{progress_pieces}
@@ -26,12 +28,12 @@ use Rattle.yaml_pen.specs.Page.{Page, encoded, IsHandedOut}
 use Rattle.yaml_emitter.specs.State.{State}
 use Rattle.yaml_emitter.specs.Queue.{is_head_ready}
 use Rattle.yaml_emitter.specs.Processing.{closes_at_once}
-use Rattle.yaml_emitter.specs.StandsAfter.{HoldsPiecesWith, StandsWell, closes_last, StandsRefused, IsFront, StandsCut, StandsUnflushed, StandsStopped, StandsFailed, StandsBy, StandsSo}
-use Rattle.yaml_emitter.specs.Promises.{HasText, begins_with_start, most_held, HoldsWaiting, RefusedAt, BeginsOutput, OutputBegins, FillsLimit, IsRefusal, HasRoom, EndsExactly}
+use Rattle.yaml_emitter.specs.StandsAfter.{HoldsPiecesWith, StandsWell, closes_last, StandsRefused, holds_before, holds_part, StandsCut, StandsUnflushed, StandsStopped, StandsFailed, StandsBy, StandsSo}
+use Rattle.yaml_emitter.specs.Promises.{HasText, begins_with_start, most_held, HoldsWaiting, RefusedAt, BeginsOutput, StopsWriting, stops_before, stops_within, OutputBegins, FillsLimit, IsRefusal, HasRoom, EndsExactly}
 use Rattle.yaml_emitter.proofs.Standing.{awaits_few, open_last, own_end, end_next, closes_last-append, settings_grown}
 use Rattle.yaml_emitter.proofs.StandingFailed.{own_accepted}
 use Rattle.yaml_emitter.proofs.StandingMore.{ready_at, settings_failed}
-use Rattle.yaml_emitter.proofs.StandingTexts.{holds_text, pieces_front, BeginPieces, begin_taken, begin_take, begin_longer, front_longer, front_itself, GoesOn, goes_on, output_begins, output_fills, holds_output}
+use Rattle.yaml_emitter.proofs.StandingTexts.{holds_text, pieces_front, begin_taken, begin_take, front_longer, GoesOn, goes_on, output_begins, output_fills, holds_output}
 
 pub stands_well : (given : Settings) (all : List Event) (state : State) → StandsSo given all state → state.error ≡ None → StandsWell given all state
 stands_well given all state h none = subst (λ e. StandsBy given all e state) none h
@@ -122,8 +124,8 @@ output_by_pieces given all front later follows error state parts h on =
       parts = parts;
       more = on.more;
       accepted = on.accepted;
-      least = front_itself (text_written s (take (length front) whole)) state.page.text (sym text);
-      most = front_itself state.page.text (text_written s (take (length front) whole)) text;
+      least = prefix_same (text_written s (take (length front) whole)) state.page.text (sym text);
+      most = prefix_same state.page.text (text_written s (take (length front) whole)) text;
       output = holds_output front s follows error state.page whole h on.begins;
     }
 
@@ -135,7 +137,7 @@ output_from given all front later error state parts begins h =
 
 -- The steps of a front begin those of the whole.
 steps_begin : (front rest : List Event) (s : Effective) (follows : Bool)
-    → BeginPieces (steps s (ends_next rest follows) front at_stream first_standing).pieces (steps s follows (front ++ rest) at_stream first_standing).pieces
+    → IsPrefix (steps s (ends_next rest follows) front at_stream first_standing).pieces (steps s follows (front ++ rest) at_stream first_standing).pieces
 steps_begin front rest s follows =
     let before = steps s (ends_next rest follows) front at_stream first_standing in
     record {
@@ -172,81 +174,72 @@ closing_more canonical s front (next ∷ later) true is begins =
     let longer = (refused_exactly canonical front next begins).0 none in
     let on = goes_on canonical s (front ++ next ∷ []) longer in
     let ends : ends_collection next ≡ closes_last front (next ∷ later) = ends_if front next later is ∙ sym is in
-    let first : BeginPieces (steps s (ends_collection next) front at_stream first_standing).pieces (steps s false (front ++ next ∷ []) at_stream first_standing).pieces =
+    let first : IsPrefix (steps s (ends_collection next) front at_stream first_standing).pieces (steps s false (front ++ next ∷ []) at_stream first_standing).pieces =
     steps_begin front (next ∷ []) s false in
     let same = append_assoc front (next ∷ []) on.more in
     record {
       more = next ∷ on.more;
       accepted = subst (IsAccepted canonical) same on.accepted;
       begins =
-          subst (λ follows. BeginPieces (steps s follows front at_stream first_standing).pieces (list_layout s (front ++ next ∷ on.more))) ends
-          (subst (λ events. BeginPieces (steps s (ends_collection next) front at_stream first_standing).pieces (list_layout s events)) same
-          (begin_longer (steps s (ends_collection next) front at_stream first_standing).pieces (steps s false (front ++ next ∷ []) at_stream first_standing).pieces (list_layout s ((front ++ next ∷ []) ++ on.more)) first on.begins));
+          subst (λ follows. IsPrefix (steps s follows front at_stream first_standing).pieces (list_layout s (front ++ next ∷ on.more))) ends
+          (subst (λ events. IsPrefix (steps s (ends_collection next) front at_stream first_standing).pieces (list_layout s events)) same
+          (prefix_then first on.begins));
     }
 
--- after an error: the last of the events may be written in part
-abbrev OutputOf : Settings → List Event → State → Type 0
-OutputOf given all state = (front : List Event) × (count : ℕ) × (length front ≤ suc count) × BeginsOutput given all front count state
-
-all_of : (given : Settings) (all front : List Event) (state : State) → BeginsOutput given all front (length front) state → OutputOf given all state
-all_of given all front state h = (front, length front, omega arith, h)
-
-cut_output : (given : Settings) (all : List Event) (error : yaml_error_t) (state : State) → StandsCut given all error state → OutputOf given all state
+-- After an error.
+cut_output : (given : Settings) (all : List Event) (error : yaml_error_t) (state : State) → StandsCut given all error state → StopsWriting given all state
 cut_output given all error state h =
     let s = settings_for given all in
     elim h.page [
-      | inl unwritten ↦
+      | holds_before memory page ↦
           let follows = closes_last h.front (h.event ∷ h.later) in
-          all_of given all h.front state
-          (output_by_pieces given all h.front (h.event ∷ h.later) follows None state h.failed.parts unwritten.1
+          stops_before h.front
+          (output_by_pieces given all h.front (h.event ∷ h.later) follows None state h.failed.parts page
           (closing_more given.canonical s h.front (h.event ∷ h.later) follows refl h.stands))
-      | inr begun ↦
+      | holds_part begun page failed least most ↦
           let longer = h.front ++ h.event ∷ [] in
           let empty = closes_at_once h.event h.later in
           let pieces = (steps s empty longer at_stream first_standing).pieces in
           let last = closes_last-append h.front h.later h.event in
           let on : GoesOn given.canonical s longer pieces =
           subst (λ follows. GoesOn given.canonical s longer (steps s follows longer at_stream first_standing).pieces) last
-          (closing_more given.canonical s longer h.later (closes_last longer h.later) refl begun.0) in
+          (closing_more given.canonical s longer h.later (closes_last longer h.later) refl begun) in
           let whole = list_layout s (longer ++ on.more) in
-          let stands = stands_from_begins given.canonical longer begun.0 in
+          let stands = stands_from_begins given.canonical longer begun in
           let shorter = (steps s (ends_collection h.event) h.front at_stream first_standing).pieces in
           let first : take (length h.front) whole ≡ shorter =
-          begin_take (length h.front) shorter whole (begin_longer shorter pieces whole (steps_begin h.front (h.event ∷ []) s empty) on.begins)
+          begin_take (length h.front) shorter whole (prefix_then (steps_begin h.front (h.event ∷ []) s empty) on.begins)
           (steps_count h.front s (ends_collection h.event) at_stream first_standing) in
           let same : take (length h.front) whole ≡ (steps s (closes_last h.front (h.event ∷ h.later)) h.front at_stream first_standing).pieces =
-          first ∙ ap (λ (made : Steps). made.pieces) (end_next h.front h.later h.event stands.partial s (begins_last h.front) refl stands.is_partial) in (
-            longer,
-            length h.front,
-            omega (arith, length-append h.front (h.event ∷ [])),
-            record {
-              later = h.later;
-              parts = append_assoc h.front (h.event ∷ []) h.later ∙ h.failed.parts;
-              more = on.more;
-              accepted = on.accepted;
-              least = subst (λ pieces. IsFront (text_written s pieces) state.page.text) (sym same) begun.3;
-              most = subst (λ pieces. IsFront state.page.text (text_written s pieces)) (sym (begin_take (length longer) pieces whole on.begins (steps_count longer s empty at_stream first_standing))) begun.4;
-              output = output_begins s state.page whole begun.1 (front_longer s state.page.text pieces whole begun.4 on.begins);
-            },
-          )
+          first ∙ ap (λ (made : Steps). made.pieces) (end_next h.front h.later h.event stands.partial s (begins_last h.front) refl stands.is_partial) in
+          stops_within h.front h.event
+          (record {
+            later = h.later;
+            parts = append_assoc h.front (h.event ∷ []) h.later ∙ h.failed.parts;
+            more = on.more;
+            accepted = on.accepted;
+            least = subst (λ pieces. IsPrefix (text_written s pieces) state.page.text) (sym same) least;
+            most = subst (λ pieces. IsPrefix state.page.text (text_written s pieces)) (sym (begin_take (length longer) pieces whole on.begins (steps_count longer s empty at_stream first_standing))) most;
+            output = output_begins s state.page whole page (front_longer s state.page.text pieces whole most on.begins);
+          })
     ]
 
-unflushed_output : (given : Settings) (all : List Event) (error : yaml_error_t) (state : State) → StandsUnflushed given all error state → OutputOf given all state
+unflushed_output : (given : Settings) (all : List Event) (error : yaml_error_t) (state : State) → StandsUnflushed given all error state → StopsWriting given all state
 unflushed_output given all error state h =
     let front = take (written h.before) h.before in
     let rest = drop (written h.before) h.before in
     let whole : front ++ (rest ++ h.later) ≡ all =
     sym (append_assoc front rest h.later) ∙ ap (λ events. events ++ h.later) (take-append-drop (written h.before) h.before) ∙ h.parts in
-    all_of given all front state (output_from given all front (rest ++ h.later) (Some error) state whole h.stands h.page)
+    stops_before front (output_from given all front (rest ++ h.later) (Some error) state whole h.stands h.page)
 
-refused_output : (given : Settings) (all : List Event) (error : yaml_error_t) (state : State) → StandsRefused given all error state → OutputOf given all state
+refused_output : (given : Settings) (all : List Event) (error : yaml_error_t) (state : State) → StandsRefused given all error state → StopsWriting given all state
 refused_output given all error state h =
-    all_of given all h.front state (output_from given all h.front (h.event ∷ h.later) None state h.failed.parts h.taken.stands h.taken.page)
+    stops_before h.front (output_from given all h.front (h.event ∷ h.later) None state h.failed.parts h.taken.stands h.taken.page)
 
-stopped_output : (given : Settings) (all : List Event) (error : yaml_error_t) (state : State) → StandsStopped given all error state → OutputOf given all state
+stopped_output : (given : Settings) (all : List Event) (error : yaml_error_t) (state : State) → StandsStopped given all error state → StopsWriting given all state
 stopped_output given all error state h = elim h [ inl cut ↦ cut_output given all error state cut | inr other ↦ unflushed_output given all error state other ]
 
-failed_output : (error : yaml_error_t) (given : Settings) (all : List Event) (state : State) → StandsFailed given all error state → OutputOf given all state
+failed_output : (error : yaml_error_t) (given : Settings) (all : List Event) (state : State) → StandsFailed given all error state → StopsWriting given all state
 failed_output WriteError given all state h = stopped_output given all WriteError state h
 failed_output Memory given all state h = stopped_output given all Memory state h
 failed_output error given all state h = refused_output given all error state h
@@ -260,6 +253,37 @@ output_by (Some error) given all state h = failed_output error given all state h
 -- After every call the output begins that of an accepted list, which begins with the events written so far.
 pub promises_output : (given : Settings) (all : List Event) (state : State) → StandsSo given all state → OutputBegins given all state.error state
 promises_output given all state h = output_by state.error given all state h
+
+-- The output is within its limit.
+holds_within : (front : List Event) (s : Effective) (pieces : List Piece) (error : Option yaml_error_t) (page : Page) → HoldsPiecesWith error s front pieces page → length page.output ≤ s.limit
+holds_within [] s pieces error page h = omega (arith, ap (λ (p : Page). length p.output) h)
+holds_within (x ∷ front) s pieces error page h = omega (arith, h.0.handed.within, h.0.limit)
+
+cut_within : (given : Settings) (all : List Event) (error : yaml_error_t) (state : State) → StandsCut given all error state → length state.page.output ≤ given.limit
+cut_within given all error state h =
+    elim h.page [
+      | holds_before memory page ↦ holds_within h.front (settings_for given all) _ None state.page page
+      | holds_part begun page failed least most ↦ omega (arith, page.handed.within, page.limit)
+    ]
+
+stopped_within : (given : Settings) (all : List Event) (error : yaml_error_t) (state : State) → StandsStopped given all error state → length state.page.output ≤ given.limit
+stopped_within given all error state h =
+    elim h [
+      | inl cut ↦ cut_within given all error state cut
+      | inr other ↦ holds_within (take (written other.before) other.before) (settings_for given all) _ (Some error) state.page other.page
+    ]
+
+failed_within : (error : yaml_error_t) (given : Settings) (all : List Event) (state : State) → StandsFailed given all error state → length state.page.output ≤ given.limit
+failed_within WriteError given all state h = stopped_within given all WriteError state h
+failed_within Memory given all state h = stopped_within given all Memory state h
+failed_within error given all state h = holds_within h.front (settings_for given all) _ None state.page h.taken.page
+
+within_by : (error : Option yaml_error_t) (given : Settings) (all : List Event) (state : State) → StandsBy given all error state → length state.page.output ≤ given.limit
+within_by None given all state h = holds_within (take (written all) all) (settings_for given all) _ None state.page h.taken.page
+within_by (Some error) given all state h = failed_within error given all state h.1
+
+pub promises_within : (given : Settings) (all : List Event) (state : State) → StandsSo given all state → length state.page.output ≤ given.limit
+promises_within given all state h = within_by state.error given all state h
 
 -- The output's limit.
 not_memory : WriteError ≡ Memory → ⊥
@@ -297,9 +321,9 @@ follows_ready front (next ∷ rest) more event s true is ready q h =
     ap (λ follows. (steps s follows longer at_stream first_standing).pieces)
     (sym (own_end longer next rest before_stream begun.0 begun.1 (begins_last-append front event ∙ is)) ∙ closes_last-append front (next ∷ rest) event)
 
-layout_begins : (canonical : Bool) (s : Effective) (front rest : List Event) → IsAccepted canonical (front ++ rest) → BeginPieces (steps s (ends_next rest false) front at_stream first_standing).pieces (list_layout s (front ++ rest))
+layout_begins : (canonical : Bool) (s : Effective) (front rest : List Event) → IsAccepted canonical (front ++ rest) → IsPrefix (steps s (ends_next rest false) front at_stream first_standing).pieces (list_layout s (front ++ rest))
 layout_begins canonical s front rest accepted =
-    subst (BeginPieces (steps s (ends_next rest false) front at_stream first_standing).pieces)
+    subst (IsPrefix (steps s (ends_next rest false) front at_stream first_standing).pieces)
     (sym (list_layout_steps (front ++ rest) accepted.stream s (ap partial_of (sym accepted.is_stream) ∙ stream_pushed accepted.stream)))
     (steps_begin front rest s false)
 
@@ -315,23 +339,23 @@ cut_fills given all state h =
     let parts : longer ++ h.later ≡ all = append_assoc h.front (h.event ∷ []) h.later ∙ h.failed.parts in
     let ready = ready_at h.front h.event h.later (subst (λ events. length h.front < written events) (sym h.failed.parts) h.failed.became_ready) in
     elim h.page [
-      | inl unwritten ↦ let wrong : WriteError ≡ Memory = unwritten.0 in absurd (not_memory wrong)
-      | inr begun ↦
-          let failed = begun.2 refl in
+      | holds_before memory page ↦ absurd (not_memory memory)
+      | holds_part begun page told least most ↦
+          let failed = told refl in
           record {
-            passed = passes given.limit state.page begun.1.limit (begun.1.handed.full failed).0;
-            full = (output_fills s state.page begun_pieces begun.1 begun.4 failed).0;
+            passed = passes given.limit state.page page.limit (page.handed.full failed).0;
+            full = (output_fills s state.page begun_pieces page most failed).0;
             output = (λ more accepted.
                 let whole : longer ++ (h.later ++ more) ≡ all ++ more = sym (append_assoc longer h.later more) ∙ ap (λ events. events ++ more) parts in
                 let pushes : partial_of ((longer ++ h.later) ++ more) ≡ Some (after_stream accepted.stream) =
                 ap (λ events. partial_of (events ++ more)) parts ∙ ap partial_of (sym accepted.is_stream) ∙ stream_pushed accepted.stream in
                 let same : (steps s (ends_next (h.later ++ more) false) longer at_stream first_standing).pieces ≡ begun_pieces =
                 follows_ready h.front h.later more h.event s (begins_collection h.event) refl ready (after_stream accepted.stream) pushes in
-                let begins : BeginPieces begun_pieces (list_layout s (all ++ more)) =
-                subst (λ pieces. BeginPieces pieces (list_layout s (all ++ more))) same
-                (subst (λ events. BeginPieces (steps s (ends_next (h.later ++ more) false) longer at_stream first_standing).pieces (list_layout s events)) whole
+                let begins : IsPrefix begun_pieces (list_layout s (all ++ more)) =
+                subst (λ pieces. IsPrefix pieces (list_layout s (all ++ more))) same
+                (subst (λ events. IsPrefix (steps s (ends_next (h.later ++ more) false) longer at_stream first_standing).pieces (list_layout s events)) whole
                 (layout_begins given.canonical s longer (h.later ++ more) (subst (IsAccepted given.canonical) (sym whole) accepted))) in
-                (output_fills s state.page (list_layout s (all ++ more)) begun.1 (front_longer s state.page.text begun_pieces (list_layout s (all ++ more)) begun.4 begins) failed).1
+                (output_fills s state.page (list_layout s (all ++ more)) page (front_longer s state.page.text begun_pieces (list_layout s (all ++ more)) most begins) failed).1
                 ∙ ap (λ (s : Effective). cut s.limit (bytes_written s (list_layout s (all ++ more)))) (sym (settings_failed h.front given all h.event h.later more h.failed.parts)));
           }
     ]
@@ -348,7 +372,7 @@ between_fills [] rest given all state parts h handed opens =
 between_fills (x ∷ front) rest given all state parts h handed opens =
     let s = settings_for given all in
     let begun_pieces = (steps s false (x ∷ front) at_stream first_standing).pieces in
-    let text = front_itself state.page.text (text_written s begun_pieces) h.1 in
+    let text = prefix_same state.page.text (text_written s begun_pieces) h.1 in
     record {
       passed = passes given.limit state.page h.0.limit (h.0.handed.full h.2).0;
       full = (output_fills s state.page begun_pieces h.0 text h.2).0;
@@ -356,8 +380,8 @@ between_fills (x ∷ front) rest given all state parts h handed opens =
           let whole : (x ∷ front) ++ (rest ++ more) ≡ all ++ more = sym (append_assoc (x ∷ front) rest more) ∙ ap (λ events. events ++ more) parts in
           let pushes : partial_of ((x ∷ front) ++ (rest ++ more)) ≡ Some (after_stream accepted.stream) =
           ap partial_of whole ∙ ap partial_of (sym accepted.is_stream) ∙ stream_pushed accepted.stream in
-          let begins : BeginPieces begun_pieces (list_layout s (all ++ more)) =
-          subst (λ events. BeginPieces begun_pieces (list_layout s events)) whole
+          let begins : IsPrefix begun_pieces (list_layout s (all ++ more)) =
+          subst (λ events. IsPrefix begun_pieces (list_layout s events)) whole
           (begin_taken (length (x ∷ front)) begun_pieces (list_layout s ((x ∷ front) ++ (rest ++ more)))
           (front_layout (x ∷ front) (rest ++ more) accepted.stream s pushes (opens more))) in
           (output_fills s state.page (list_layout s (all ++ more)) h.0 (front_longer s state.page.text begun_pieces (list_layout s (all ++ more)) text begins) h.2).1

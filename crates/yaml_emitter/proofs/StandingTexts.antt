@@ -5,6 +5,7 @@ use Rattle.std.specs.Prelude.{ℕ, zero, suc, ◌≤◌, Bool, true, false, ◌&
 use Rattle.yaml_base.specs.Characters.{Text}
 use Rattle.yaml_base.specs.Settings.{Effective}
 use Rattle.yaml_base.specs.Encoding.{encode, cut, text_bytes}
+use Rattle.yaml_base.specs.Prefix.{IsPrefix}
 use Rattle.yaml_base.specs.Event.{Event, sequence_start, mapping_start}
 use Rattle.yaml_base.specs.Grammar.{no_nodes, no_pairs, at_item, at_key, Partial, before_stream, within_document, after_stream, push, pushed, partial_of}
 use Rattle.yaml_base.specs.Refusal.{refusal_at, refusal, IsAccepted, BeginsAccepted}
@@ -15,11 +16,12 @@ use Rattle.yaml_base.specs.Output.{text_written, bytes_written}
 use Rattle.yaml_base.specs.declared.errors.yaml_error_t.{yaml_error_t}
 use Rattle.yaml_base.specs.declared.errors.yaml_error_t.TheVariants.{WriteError}
 use Rattle.yaml_base.proofs.Accepted.{stands_from_begins, refused_exactly}
+use Rattle.yaml_base.proofs.Prefixes.{prefix_same}
 use Rattle.yaml_base.proofs.Trees.{stream_pushed}
 use Rattle.yaml_base.proofs.PieceLaws.{begun_pieces, front_layout}
 use Rattle.yaml_pen.specs.Page.{Page, encoded}
 use Rattle.yaml_pen.proofs.Adding.{encode-append}
-use Rattle.yaml_emitter.specs.StandsAfter.{IsPage, HoldsPiecesWith, IsFront}
+use Rattle.yaml_emitter.specs.StandsAfter.{IsPage, HoldsPiecesWith}
 use Rattle.yaml_emitter.proofs.Standing.{text_written-append}
 
 -- A page's text is that of its pieces.
@@ -36,22 +38,13 @@ pieces_front front rest all s p parts is =
     let first : take (length front) all ≡ front = ap (take (length front)) (sym parts) ∙ take_at front rest (length front) refl in
     ap (λ events. take (length front) (list_layout s (completion events))) first ∙ begun_pieces front p s is
 
--- pieces that others begin with
-pub record BeginPieces (front whole : List Piece) : Type 0 where
-  pub rest : List Piece
-  pub parts : front ++ rest ≡ whole
-
-pub begin_taken : (n : ℕ) (front whole : List Piece) → take n whole ≡ front → BeginPieces front whole
+pub begin_taken : (n : ℕ) (front whole : List Piece) → take n whole ≡ front → IsPrefix front whole
 begin_taken n front whole is = record { rest = drop n whole; parts = ap (λ pieces. pieces ++ drop n whole) (sym is) ∙ take-append-drop n whole }
 
-pub begin_take : (n : ℕ) (front whole : List Piece) → BeginPieces front whole → length front ≡ n → take n whole ≡ front
+pub begin_take : (n : ℕ) (front whole : List Piece) → IsPrefix front whole → length front ≡ n → take n whole ≡ front
 begin_take n front whole h is = ap (take n) (sym h.parts) ∙ take_at front h.rest n is
 
-pub begin_longer : (a b c : List Piece) → BeginPieces a b → BeginPieces b c → BeginPieces a c
-begin_longer a b c h k =
-    record { rest = h.rest ++ k.rest; parts = sym (append_assoc a h.rest k.rest) ∙ ap (λ pieces. pieces ++ k.rest) h.parts ∙ k.parts }
-
-pub front_longer : (s : Effective) (text : Text) (front whole : List Piece) → IsFront text (text_written s front) → BeginPieces front whole → IsFront text (text_written s whole)
+pub front_longer : (s : Effective) (text : Text) (front whole : List Piece) → IsPrefix text (text_written s front) → IsPrefix front whole → IsPrefix text (text_written s whole)
 front_longer s text front whole h begins =
     record {
       rest = h.rest ++ text_written s begins.rest;
@@ -62,14 +55,11 @@ front_longer s text front whole h begins =
           ∙ ap (text_written s) begins.parts;
     }
 
-pub front_itself : (text whole : Text) → text ≡ whole → IsFront text whole
-front_itself text whole is = record { rest = []; parts = append-nil text ∙ is }
-
 -- An accepted list that goes on from events as they stand, with their pieces.
 pub record GoesOn (canonical : Bool) (s : Effective) (front : List Event) (begun : List Piece) : Type 0 where
   pub more : List Event
   pub accepted : IsAccepted canonical (front ++ more)
-  pub begins : BeginPieces begun (list_layout s (front ++ more))
+  pub begins : IsPrefix begun (list_layout s (front ++ more))
 
 goes_on_with : (canonical : Bool) (s : Effective) (front more : List Event) → IsAccepted canonical (front ++ more) → closes_at_once front more ≡ false
     → GoesOn canonical s front (steps s false front at_stream first_standing).pieces
@@ -139,13 +129,13 @@ taken_within zero a h = omega arith
 taken_within (suc n) [] h = absurd (omega (arith, h))
 taken_within (suc n) (x ∷ a) h = let less = taken_within n a (omega (arith, h)) in omega (arith, less)
 
-page_bytes : (s : Effective) (page : Page) (whole : List Piece) → IsPage s page → (front : IsFront page.text (text_written s whole)) → bytes_written s whole ≡ encoded page ++ text_bytes s.encoding front.rest
+page_bytes : (s : Effective) (page : Page) (whole : List Piece) → IsPage s page → (front : IsPrefix page.text (text_written s whole)) → bytes_written s whole ≡ encoded page ++ text_bytes s.encoding front.rest
 page_bytes s page whole h front =
     ap (encode (Some s.encoding)) (sym front.parts)
     ∙ encode-append s.encoding page.text front.rest
     ∙ ap (λ e. encode e page.text ++ text_bytes s.encoding front.rest) (sym h.encoding)
 
-pub output_begins : (s : Effective) (page : Page) (whole : List Piece) → IsPage s page → IsFront page.text (text_written s whole) → page.output ≡ cut (length page.output) (bytes_written s whole)
+pub output_begins : (s : Effective) (page : Page) (whole : List Piece) → IsPage s page → IsPrefix page.text (text_written s whole) → page.output ≡ cut (length page.output) (bytes_written s whole)
 output_begins s page whole h front =
     let n = length page.output in
     let within : n ≤ length (encoded page) = taken_within n (encoded page) (sym (ap length h.handed.beginning)) in
@@ -153,7 +143,7 @@ output_begins s page whole h front =
     ∙ sym (take_longer n (encoded page) (text_bytes s.encoding front.rest) within)
     ∙ ap (take n) (sym (page_bytes s page whole h front))
 
-pub output_fills : (s : Effective) (page : Page) (whole : List Piece) → IsPage s page → IsFront page.text (text_written s whole) → page.error ≡ Some WriteError
+pub output_fills : (s : Effective) (page : Page) (whole : List Piece) → IsPage s page → IsPrefix page.text (text_written s whole) → page.error ≡ Some WriteError
     → (length page.output ≡ s.limit) × (page.output ≡ cut s.limit (bytes_written s whole))
 output_fills s page whole h front failed =
     let full = h.handed.full failed in
@@ -166,7 +156,7 @@ output_fills s page whole h front failed =
 -- A page's output is a beginning of the bytes of each list with its pieces.
 pub holds_output : (front : List Event) (s : Effective) (follows : Bool) (error : Option yaml_error_t) (page : Page) (whole : List Piece)
     → HoldsPiecesWith error s front (steps s follows front at_stream first_standing).pieces page
-    → BeginPieces (steps s follows front at_stream first_standing).pieces whole
+    → IsPrefix (steps s follows front at_stream first_standing).pieces whole
     → page.output ≡ cut (length page.output) (bytes_written s whole)
 holds_output [] s follows error page whole h begins =
     let none : page.output ≡ [] = ap (λ (p : Page). p.output) h in
@@ -174,4 +164,4 @@ holds_output [] s follows error page whole h begins =
 holds_output (x ∷ front) s follows error page whole h begins =
     output_begins s page whole h.0
     (front_longer s page.text (steps s follows (x ∷ front) at_stream first_standing).pieces whole
-    (front_itself page.text (text_written s (steps s follows (x ∷ front) at_stream first_standing).pieces) h.1) begins)
+    (prefix_same page.text (text_written s (steps s follows (x ∷ front) at_stream first_standing).pieces) h.1) begins)

@@ -1,9 +1,10 @@
 -- What one event does to an emitter.
-use Rattle.std.specs.Prelude.{◌≡◌, ◌⊎◌, ℕ, Bool, true, false, Option, None, Some, Result, Ok, Err, List, ◌∷◌}
+use Rattle.std.specs.Prelude.{◌≡◌, ℕ, Bool, true, false, Option, None, Some, Result, Ok, Err, List, ◌∷◌}
 use Rattle.yaml_base.specs.Errors.{refusal_number}
 use Rattle.yaml_base.specs.Settings.{effective}
 use Rattle.yaml_base.specs.Cursor.{Cursor, Laid}
-use Rattle.yaml_base.specs.Event.{Event, stream_start, stream_end, document_end, sequence_start, sequence_end, mapping_start, mapping_end}
+use Rattle.yaml_base.specs.Event.{Event, stream_start, sequence_start, sequence_end, mapping_start, mapping_end}
+use Rattle.yaml_base.specs.Output.{hands_out}
 use Rattle.yaml_base.specs.Steps.{Stepped, step, stage_refusal}
 use Rattle.yaml_base.specs.declared.errors.yaml_error_t.{yaml_error_t}
 use Rattle.yaml_base.specs.declared.errors.yaml_error_t.TheVariants.{WriteError, Memory}
@@ -56,12 +57,6 @@ WritesPage (stream_start encoding) empty before after =
 WritesPage event empty before after =
     (after.settings ≡ before.settings) × Wrote (event_laid before event empty) before.page after.page (Ok tt)
 
--- the ends of documents and of the stream hand out all that is written
-abbrev pub hands_out : Event → Bool
-hands_out (document_end implicit) = true
-hands_out stream_end = true
-hands_out event = false
-
 -- an event that is written
 pub record Written (event : Event) (empty : Bool) (before after : State) : Type 0 where
   pub kept : Keeps before after
@@ -71,16 +66,24 @@ pub record Written (event : Event) (empty : Bool) (before after : State) : Type 
   pub page : WritesPage event empty before after
   pub handed_out : hands_out event ≡ true → after.page.output ≡ encoded after.page
 
--- an event in whose work the output's limit or memory gave out: nothing of it is written, or a front of its piece
+-- a prefix of an event's piece is written, all of it where memory is refused after it
+pub record WrotePart (error : yaml_error_t) (event : Event) (empty : Bool) (before after : State) : Type 0 where
+  pub accepted : refusal_now before event ≡ None
+  pub passed : after.page.error ≡ Some WriteError → error ≡ WriteError
+  pub failed : error ≡ WriteError → after.page.error ≡ Some WriteError
+  pub answer : Result (Unit {0}) yaml_error_t
+  pub wrote : Wrote (event_laid before event empty) before.page after.page answer
+
+-- what is written of an event that is cut short: nothing, where memory is refused before; or a prefix of its piece
+pub data CutPage (error : yaml_error_t) (event : Event) (empty : Bool) (before after : State) : Type 0 where
+  unwritten : error ≡ Memory → after.page ≡ before.page → CutPage error event empty before after
+  partly_written : WrotePart error event empty before after → CutPage error event empty before after
+
+-- an event in whose work the output passes its limit, or memory is refused
 pub record CutShort (error : yaml_error_t) (event : Event) (empty : Bool) (before after : State) : Type 0 where
   pub kept : Keeps before after
   pub settings : after.settings ≡ before.settings
-  pub page :
-      ((error ≡ Memory) × (after.page ≡ before.page))
-      ⊎ ((refusal_now before event ≡ None)
-      × (after.page.error ≡ Some WriteError → error ≡ WriteError)
-      × (error ≡ WriteError → after.page.error ≡ Some WriteError)
-      × ((answer : Result (Unit {0}) yaml_error_t) × Wrote (event_laid before event empty) before.page after.page answer))
+  pub page : CutPage error event empty before after
 
 -- an event that is refused changes nothing
 pub record Refused (error : yaml_error_t) (event : Event) (before after : State) : Type 0 where

@@ -2,15 +2,15 @@
 use Rattle.std.specs.Prelude.{◌≡◌, ◌↔◌, ℕ, zero, suc, ◌<◌, ◌≤◌, Bool, true, false, Option, None, Some, IsSome, List, [], ◌∷◌, ◌++◌, length, take}
 use Rattle.std.specs.List.{All}
 use Rattle.yaml_base.specs.Errors.{refusal_number}
+use Rattle.yaml_base.specs.Prefix.{IsPrefix}
 use Rattle.yaml_base.specs.Settings.{Settings}
 use Rattle.yaml_base.specs.Encoding.{cut}
 use Rattle.yaml_base.specs.Event.{Event, stream_end, document_start, sequence_start, mapping_start}
 use Rattle.yaml_base.specs.Refusal.{IsAccepted, BeginsAccepted, refusal}
-use Rattle.yaml_base.specs.Ready.{awaited, written}
-use Rattle.yaml_base.specs.Steps.{held_back}
+use Rattle.yaml_base.specs.Ready.{awaited, written, held_back}
 use Rattle.yaml_base.specs.NodeLayout.{bodies_of}
 use Rattle.yaml_base.specs.Pieces.{list_layout, pieces}
-use Rattle.yaml_base.specs.Output.{settings_for, text_written, bytes_written, output_of}
+use Rattle.yaml_base.specs.Output.{settings_for, text_written, bytes_written, output_of, hands_out_last}
 use Rattle.yaml_base.specs.Meaning.{BodyMeans}
 use Rattle.yaml_base.specs.Content.{content_of}
 use Rattle.yaml_base.specs.CanonicalReader.{canonical_content}
@@ -18,7 +18,6 @@ use Rattle.yaml_base.specs.declared.errors.yaml_error_t.{yaml_error_t}
 use Rattle.yaml_base.specs.declared.errors.yaml_error_t.TheVariants.{WriteError, Memory}
 use Rattle.yaml_pen.specs.Page.{encoded}
 use Rattle.yaml_emitter.specs.State.{State}
-use Rattle.yaml_emitter.specs.StandsAfter.{IsFront, hands_out_last}
 use Rattle.yaml_emitter.specs.Uncut.{IsUncut}
 
 -- the text so far is that of the first so many pieces
@@ -58,8 +57,8 @@ pub record RefusedAt (given : Settings) (all : List Event) (error : yaml_error_t
   pub ends : BeginsAccepted given.canonical (front ++ event ∷ []) → ⊥
   pub text : HasText given all (length front) state
 
--- an accepted list begins with these events: the text so far has the first so many pieces of its layout, and goes no
--- further than those of these events; its bytes begin with the output
+-- an accepted list begins with these events: the text of the first so many pieces of its layout is a prefix of the text so
+-- far, which is a prefix of that of these events' pieces; the output is a prefix of its bytes
 pub record BeginsOutput (given : Settings) (all front : List Event) (count : ℕ) (state : State) : Type 0 where
   pub later : List Event
   pub parts : front ++ later ≡ all
@@ -67,19 +66,23 @@ pub record BeginsOutput (given : Settings) (all front : List Event) (count : ℕ
   pub accepted : IsAccepted given.canonical (front ++ more)
   pub least :
       let s = settings_for given all in
-      IsFront (text_written s (take count (list_layout s (front ++ more)))) state.page.text
+      IsPrefix (text_written s (take count (list_layout s (front ++ more)))) state.page.text
   pub most :
       let s = settings_for given all in
-      IsFront state.page.text (text_written s (take (length front) (list_layout s (front ++ more))))
+      IsPrefix state.page.text (text_written s (take (length front) (list_layout s (front ++ more))))
   pub output :
       let s = settings_for given all in
       state.page.output ≡ cut (length state.page.output) (bytes_written s (list_layout s (front ++ more)))
 
--- without an error those events are all that are ready; after one the last of them may be written in part
+-- after an error: the events before the one in work are written whole; of its own piece nothing is, or a prefix
+pub data StopsWriting (given : Settings) (all : List Event) (state : State) : Type 0 where
+  stops_before : (front : List Event) → BeginsOutput given all front (length front) state → StopsWriting given all state
+  stops_within : (front : List Event) (event : Event) → BeginsOutput given all (front ++ event ∷ []) (length front) state → StopsWriting given all state
+
+-- without an error the events that are written are all that are ready
 abbrev pub OutputBegins : Settings → List Event → Option yaml_error_t → State → Type 0
 OutputBegins given all None state = BeginsOutput given all (take (written all) all) (written all) state
-OutputBegins given all (Some error) state =
-    (front : List Event) × (count : ℕ) × (length front ≤ suc count) × BeginsOutput given all front count state
+OutputBegins given all (Some error) state = StopsWriting given all state
 
 -- the bytes of the text pass the limit, and the output is full: it is that of every accepted list that begins with all
 -- events
@@ -140,6 +143,7 @@ pub record Promised (given : Settings) (all : List Event) (state : State) : Type
   pub dropped : IsSome state.error → state.held ≡ []
   pub refused : (error : yaml_error_t) → state.error ≡ Some error → IsRefusal error → RefusedAt given all error state
   pub output : OutputBegins given all state.error state
+  pub within : length state.page.output ≤ given.limit
   pub full : state.error ≡ Some WriteError → FillsLimit given all state
   pub handed_out : state.error ≡ None → hands_out_last (take (written all) all) ≡ true → HasAllBytes given all state
   pub ends : ends_stream all ≡ true → EndsExactly given all state

@@ -1,21 +1,22 @@
--- An emitter stands after the events that it was given.
+-- An emitter stands after the events that it was given: what its state must be, for the proofs. What its caller may rely on
+-- is in `Promises`; of the words here contracts name `StandsAfter` alone.
 use Rattle.std.specs.Prelude.{◌≡◌, ◌⊎◌, ◌+◌, ◌<◌, Bool, true, false, Option, None, Some, Result, List, [], ◌∷◌, ◌++◌, length, take}
 use Rattle.std.specs.List.{list_all}
 use Rattle.yaml_base.specs.Errors.{refusal_number}
 use Rattle.yaml_base.specs.Settings.{Settings, Effective}
-use Rattle.yaml_base.specs.Characters.{Text}
 use Rattle.yaml_base.specs.Event.{Event}
+use Rattle.yaml_base.specs.Prefix.{IsPrefix}
 use Rattle.yaml_base.specs.Refusal.{BeginsAccepted, refusal}
-use Rattle.yaml_base.specs.Ready.{written}
+use Rattle.yaml_base.specs.Ready.{written, held_back}
 use Rattle.yaml_base.specs.Layout.{Piece, first_standing}
-use Rattle.yaml_base.specs.Steps.{at_stream, Steps, steps, progress, held_back}
-use Rattle.yaml_base.specs.Output.{settings_for, text_written}
+use Rattle.yaml_base.specs.Steps.{at_stream, Steps, steps, progress}
+use Rattle.yaml_base.specs.Output.{settings_for, text_written, hands_out_last}
 use Rattle.yaml_base.specs.Meaning.{has_scalar_texts}
 use Rattle.yaml_base.specs.declared.errors.yaml_error_t.{yaml_error_t}
 use Rattle.yaml_base.specs.declared.errors.yaml_error_t.TheVariants.{WriteError, Memory}
 use Rattle.yaml_pen.specs.Page.{Page, new_page, encoded, IsHandedOut}
 use Rattle.yaml_emitter.specs.State.{State, standing_of}
-use Rattle.yaml_emitter.specs.Processing.{Processed, closes_at_once, hands_out}
+use Rattle.yaml_emitter.specs.Processing.{Processed, closes_at_once}
 
 -- a page of a stream that was begun, with its settings, and this text
 pub record IsPage (s : Effective) (page : Page) : Type 0 where
@@ -39,12 +40,6 @@ HoldsPieces s events pieces page = HoldsPiecesWith None s events pieces page
 abbrev pub IsSettled : Effective → List Event → State → Type 0
 IsSettled s [] state = Unit {0}
 IsSettled s (event ∷ events) state = state.settings ≡ s
-
--- the last of some events hands out all that is written
-abbrev pub hands_out_last : List Event → Bool
-hands_out_last [] = false
-hands_out_last (event ∷ []) = hands_out event
-hands_out_last (event ∷ next ∷ more) = hands_out_last (next ∷ more)
 
 -- the state after some steps over a front of the events
 pub record HasTaken (given : Settings) (all front : List Event) (taken : Steps) (state : State) : Type 0 where
@@ -81,13 +76,18 @@ pub record StandsRefused (given : Settings) (all : List Event) (error : yaml_err
   pub taken : HasTaken given all front (steps (settings_for given all) false front at_stream first_standing) state
   pub refusal : refusal given.canonical front event ≡ Some (refusal_number error)
 
--- a text is a front of another
-pub record IsFront (front whole : Text) : Type 0 where
-  pub rest : Text
-  pub parts : front ++ rest ≡ whole
+-- what a page holds of an event that was cut short, with the steps of the events before it, and with it: the text of
+-- those before, where memory was refused before it; or that text and a prefix of the event's own piece
+pub data HoldsCut (given : Settings) (s : Effective) (front : List Event) (event : Event) (before with_event : Steps) (error : yaml_error_t) (page : Page) : Type 0 where
+  holds_before : error ≡ Memory → HoldsPieces s front before.pieces page → HoldsCut given s front event before with_event error page
+  holds_part :
+      BeginsAccepted given.canonical (front ++ event ∷ []) → IsPage s page
+      → (error ≡ WriteError → page.error ≡ Some WriteError)
+      → IsPrefix (text_written s before.pieces) page.text
+      → IsPrefix page.text (text_written s with_event.pieces)
+      → HoldsCut given s front event before with_event error page
 
--- the output's limit or memory gave out at an event: what was written is what was before, or that with a front of
--- the event's own piece
+-- the output's limit was passed, or memory refused, at an event
 pub record StandsCut (given : Settings) (all : List Event) (error : yaml_error_t) (state : State) : Type 0 where
   pub front : List Event
   pub event : Event
@@ -96,15 +96,13 @@ pub record StandsCut (given : Settings) (all : List Event) (error : yaml_error_t
   pub given_kept : state.given ≡ given
   pub stands : BeginsAccepted given.canonical front
   pub page :
-      ((error ≡ Memory) × HoldsPieces (settings_for given all) front (steps (settings_for given all) (closes_last front (event ∷ later)) front at_stream first_standing).pieces state.page)
-      ⊎ (BeginsAccepted given.canonical (front ++ event ∷ [])
-      × IsPage (settings_for given all) state.page
-      × (error ≡ WriteError → state.page.error ≡ Some WriteError)
-      × IsFront (text_written (settings_for given all) (steps (settings_for given all) (closes_last front (event ∷ later)) front at_stream first_standing).pieces) state.page.text
-      × IsFront state.page.text
-      (text_written (settings_for given all) (steps (settings_for given all) (closes_at_once event later) (front ++ event ∷ []) at_stream first_standing).pieces))
+      let s = settings_for given all in
+      let before = steps s (closes_last front (event ∷ later)) front at_stream first_standing in
+      let with_event = steps s (closes_at_once event later) (front ++ event ∷ []) at_stream first_standing in
+      HoldsCut given s front event before with_event error state.page
 
--- the output's limit or memory gave out between events: all that were ready were written, more may have been given since
+-- the output's limit was passed, or memory refused, by a flush between events: all that were ready were written, more may
+-- have been given since
 pub record StandsUnflushed (given : Settings) (all : List Event) (error : yaml_error_t) (state : State) : Type 0 where
   pub before : List Event
   pub later : List Event
@@ -116,7 +114,7 @@ pub record StandsUnflushed (given : Settings) (all : List Event) (error : yaml_e
       (progress (settings_for given all) before).pieces state.page
   pub handed : IsHandedOut (encoded state.page) state.page.output state.page.limit state.page.error
 
--- the output's limit or memory gave out, at an event or between two
+-- the output's limit was passed, or memory refused, at an event or between two
 abbrev pub StandsStopped : Settings → List Event → yaml_error_t → State → Type 0
 StandsStopped given all error state = StandsCut given all error state ⊎ StandsUnflushed given all error state
 

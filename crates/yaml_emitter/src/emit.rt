@@ -1,11 +1,12 @@
 //! Events that wait are written where they are ready.
 
-ghost use Rattle.std.specs.Prelude.{◌≡◌, ◌≤◌, ◌<◌, true, false, None, List, [], ◌∷◌, ◌++◌, length, OnOk, OnErr, IsOk, IsSome};
+ghost use Rattle.std.specs.Prelude.{◌≡◌, ◌≤◌, ◌<◌, true, false, None, List, [], ◌∷◌, ◌++◌, length, OnOk, OnErr, IsOk, IsSome, Err};
 ghost use Rattle.yaml_base.specs.Event.{Event};
 ghost use Rattle.yaml_base.specs.Seen.{seen_event};
 ghost use Rattle.yaml_base.specs.Ready.{written};
 ghost use Rattle.yaml_base.specs.Settings.{Settings};
 ghost use Rattle.yaml_pen.specs.Page.{told, encoded};
+ghost use Rattle.yaml_pen.specs.Wrote.{Grows};
 ghost use Rattle.yaml_emitter.specs.Promises.{HasAllBytes, Promised};
 ghost use Rattle.yaml_emitter.specs.Processing as processing;
 ghost use Rattle.yaml_emitter.specs.Processing.{Processed};
@@ -32,6 +33,7 @@ pub fn yaml_emitter_emit<A: Allocator + Copy>(
     requires { emitter.old.has_output ≡ true }
     ensures stands { (given : Settings) (all : List Event) → StandsAfter given all emitter.old → StandsAfter given (all ++ seen_event event ∷ []) emitter.new }
     ensures promised { (given : Settings) (all : List Event) → StandsAfter given all emitter.old → Promised given (all ++ seen_event event ∷ []) emitter.new }
+    ensures grows { Grows emitter.old.page emitter.new.page }
     ensures waits { (given : Settings) (all : List Event) → StandsAfter given all emitter.old → emitter.old.error ≡ None → written (all ++ seen_event event ∷ []) ≡ written all → IsOk result }
     ensures kept { IsSome emitter.old.error → emitter.new ≡ record emitter.old { started = true } }
     ensures set { KeepsSet (record emitter.old { started = true }) emitter.new }
@@ -49,14 +51,18 @@ pub fn yaml_emitter_emit<A: Allocator + Copy>(
 /// Hands out all that is written; what waits goes on waiting.
 ///
 /// Answers the first error that there was, in this call or before: `WriteError` where the text's bytes pass the
-/// output's limit, `Memory` where the output found no room; after an error nothing waits.
+/// output's limit, `Memory` where the output found no room, which is then as it was; after an error nothing waits.
+/// Where all is handed out, nothing changes and no memory is needed.
 pub fn yaml_emitter_flush<A: Allocator + Copy>(
     emitter: &mut yaml_emitter_t<A>,
 ) -> Result<(), yaml_error_t>
     requires output { emitter.old.has_output ≡ true }
     ensures stands { (given : Settings) (all : List Event) → StandsAfter given all emitter.old → StandsAfter given all emitter.new }
     ensures promised { (given : Settings) (all : List Event) → StandsAfter given all emitter.old → Promised given all emitter.new }
+    ensures grows { Grows emitter.old.page emitter.new.page }
     ensures flushed { OnOk result ((given : Settings) (all : List Event) → StandsAfter given all emitter.old → HasAllBytes given all emitter.new) }
+    ensures unflushed { result ≡ Err yaml_error_t.Memory → emitter.new.page.output ≡ emitter.old.page.output }
+    ensures empty { (given : Settings) (all : List Event) → StandsAfter given all emitter.old → emitter.old.error ≡ None → HasAllBytes given all emitter.old → emitter.new ≡ emitter.old }
     ensures kept { IsSome emitter.old.error → emitter.new ≡ emitter.old }
     ensures set { KeepsSet emitter.old emitter.new }
     ensures answered { result ≡ told emitter.new.error }
@@ -75,6 +81,7 @@ impl<A: Allocator + Copy> yaml_emitter_t<A> {
         requires no_error { self.old.error ≡ None }
         ensures taken { OnOk result (self.new ≡ record self.old { held = self.old.held ++ seen_event event ∷ [] }) }
         ensures room { length self.old.held ≤ 3 → IsOk result }
+        ensures page { self.new.page ≡ self.old.page }
         ensures set { KeepsSet self.old self.new }
         ensures answered { result ≡ told self.new.error }
         ensures output { self.new.has_output ≡ true }
@@ -95,6 +102,9 @@ impl<A: Allocator + Copy> yaml_emitter_t<A> {
         ensures answered { result ≡ told self.new.error }
         ensures output { self.new.has_output ≡ true }
         ensures handed_out { OnOk result (self.new.page.output ≡ encoded self.new.page) }
+        ensures grows { Grows self.old.page self.new.page }
+        ensures unflushed { result ≡ Err yaml_error_t.Memory → self.new.page.output ≡ self.old.page.output }
+        ensures empty { self.old.page.error ≡ None → self.old.page.output ≡ encoded self.old.page → self.new ≡ self.old }
     {
         match self.pen.flush() {
             Ok(()) => Ok(()),
@@ -125,6 +135,7 @@ impl<A: Allocator + Copy> yaml_emitter_t<A> {
         requires output { self.old.has_output ≡ true }
         requires no_error { self.old.error ≡ None }
         ensures stands { (given : Settings) (all front : List Event) → Reached given all front self.old.held self.old → StandsSo given all self.new }
+        ensures grows { Grows self.old.page self.new.page }
         ensures waits { is_head_ready self.old.held ≡ false → IsOk result }
         ensures set { KeepsSet self.old self.new }
         ensures answered { result ≡ told self.new.error }
@@ -143,6 +154,7 @@ impl<A: Allocator + Copy> yaml_emitter_t<A> {
         requires ready { is_head_ready self.old.held ≡ true }
         ensures next { OnOk result (ReachedOn self.old self.new) }
         ensures failed { OnErr result ((given : Settings) (all front : List Event) → Reached given all front self.old.held self.old → StandsSo given all self.new) }
+        ensures grows { Grows self.old.page self.new.page }
         ensures shorter { OnOk result (length self.new.held < length self.old.held) }
         ensures set { KeepsSet self.old self.new }
         ensures answered { result ≡ told self.new.error }

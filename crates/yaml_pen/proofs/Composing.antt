@@ -6,9 +6,10 @@ use Rattle.yaml_base.specs.Characters.{Text, line_feed}
 use Rattle.yaml_base.specs.Settings.{Encoding, LineBreak}
 use Rattle.yaml_base.specs.LineBreaks.{with_breaks_written, break_text}
 use Rattle.yaml_base.specs.Cursor.{Cursor, Laid, then_laid, nothing_laid, text_laid}
+use Rattle.yaml_base.proofs.Prefixes.{prefix_itself, prefix_then, prefix_same}
 use Rattle.yaml_base.specs.declared.errors.yaml_error_t.{yaml_error_t}
 use Rattle.yaml_pen.specs.Page.{Page, IsReady, IsHandedOut, encoded, told}
-use Rattle.yaml_pen.specs.Wrote.{Wrote, WroteAll, Flushed, named_text}
+use Rattle.yaml_pen.specs.Wrote.{Wrote, WroteAll, Flushed, Grows, named_text}
 use Rattle.yaml_pen.proofs.Writing.{none_from_told, column_after-append}
 
 -- line breaks are written part by part
@@ -64,6 +65,7 @@ wrote_then {first} {next} {before} {between} {after} {answer} one two =
         parts = named ∙ ap (λ l. named_text first before ++ l) two.grew.parts ∙ sym (append_assoc (named_text first before) two.grew.front two.grew.rest);
         grown = two.grew.grown ∙ ap (λ l. l ++ two.grew.front) whole.text ∙ append_assoc before.text (named_text first before) two.grew.front;
       };
+      output = prefix_then one.output two.output;
       all = λ none.
           let last = two.all none in
           record {
@@ -93,6 +95,7 @@ wrote_failed {first} next {before} {after} {error} one =
             ∙ ap (λ l. l ++ second) one.grew.parts ∙ append_assoc one.grew.front one.grew.rest second;
         grown = one.grew.grown;
       };
+      output = one.output;
       all = λ none. error_from_told after.error error one.answered none;
       stopped = one.stopped;
     }
@@ -107,6 +110,7 @@ wrote_nothing {page} ready none handed =
       settings = record { encoding = refl; line_break = refl; limit = refl };
       handed = handed;
       grew = record { front = []; rest = []; parts = refl; grown = sym (append-nil page.text) };
+      output = prefix_itself page.output;
       all = λ _. record { no_error = none; text = sym (append-nil page.text); cursor = refl };
       stopped = λ _. refl;
     }
@@ -121,6 +125,7 @@ wrote_stopped lay {page} {error} ready some handed =
       settings = record { encoding = refl; line_break = refl; limit = refl };
       handed = handed;
       grew = record { front = []; rest = named_text lay page; parts = refl; grown = sym (append-nil page.text) };
+      output = prefix_itself page.output;
       all = λ none. error_from_told page.error error (sym (ap told some)) none;
       stopped = λ _. refl;
     }
@@ -136,6 +141,7 @@ wrote_as {lay} other {before} {after} {answer} same wrote =
       settings = wrote.settings;
       handed = wrote.handed;
       grew = record { front = wrote.grew.front; rest = wrote.grew.rest; parts = sym text ∙ wrote.grew.parts; grown = wrote.grew.grown };
+      output = wrote.output;
       all = λ none.
           let whole = wrote.all none in
           record {
@@ -159,6 +165,7 @@ wrote_changing {lay} change {before} {between} {after} wrote is =
       settings = record { encoding = wrote.settings.encoding; line_break = wrote.settings.line_break; limit = wrote.settings.limit };
       handed = wrote.handed;
       grew = wrote.grew;
+      output = wrote.output;
       all = λ _. record { no_error = whole.no_error; text = whole.text; cursor = ap change whole.cursor };
       stopped = λ some. absurd (false≢true (subst (λ (o : Option yaml_error_t). IsSome o) whole.no_error some));
     } in
@@ -177,6 +184,7 @@ changed_wrote {lay} change {before} {between} {after} {answer} is wrote =
       settings = record { encoding = changed.settings.encoding; line_break = changed.settings.line_break; limit = changed.settings.limit };
       handed = changed.handed;
       grew = changed.grew;
+      output = changed.output;
       all = λ none. let whole = changed.all none in record { no_error = whole.no_error; text = whole.text; cursor = whole.cursor };
       stopped = changed.stopped;
     }
@@ -193,9 +201,25 @@ flushed_wrote {before} {after} {answer} ready flushed =
       settings = record { encoding = encoding; line_break = ap (λ (p : Page). p.line_break) flushed.kept; limit = ap (λ (p : Page). p.limit) flushed.kept };
       handed = flushed.handed;
       grew = record { front = []; rest = []; parts = refl; grown = text ∙ sym (append-nil before.text) };
+      output = flushed.output;
       all = λ none. record { no_error = (flushed.all none).0; text = text ∙ sym (append-nil before.text); cursor = ap (λ (p : Page). p.cursor) flushed.kept };
       stopped = λ some. flushed.stopped some ∙ ap (λ (c : Cursor). let p : Page = record before { cursor = c } in p) (sym (ap (λ (p : Page). p.cursor) flushed.kept));
     }
+
+-- nothing that was written is lost by a call that writes, or by a flush
+pub wrote_grows : {lay : Cursor → Laid} {before after : Page} {answer : Result (Unit {0}) yaml_error_t} → Wrote lay before after answer → Grows before after
+wrote_grows wrote = record { text = record { rest = wrote.grew.front; parts = sym wrote.grew.grown }; output = wrote.output }
+
+pub flushed_grows : {before after : Page} {answer : Result (Unit {0}) yaml_error_t} → Flushed before after answer → Grows before after
+flushed_grows {before} {after} flushed =
+    record { text = prefix_same before.text after.text (sym (ap (λ (p : Page). p.text) flushed.kept)); output = flushed.output }
+
+-- pages that grow, one after another
+pub grows_itself : (page : Page) → Grows page page
+grows_itself page = record { text = prefix_itself page.text; output = prefix_itself page.output }
+
+pub grows_then : {before between after : Page} → Grows before between → Grows between after → Grows before after
+grows_then first next = record { text = prefix_then first.text next.text; output = prefix_then first.output next.output }
 
 -- two texts, one after another
 pub text_laid-append : (xs ys : Text) (cursor : Cursor) → then_laid (text_laid xs cursor) (text_laid ys) ≡ text_laid (xs ++ ys) cursor
@@ -240,6 +264,7 @@ wrote_cut {lay} other rest {before} {after} {error} is one =
             ∙ ap (λ l. l ++ with_breaks_written setting rest) one.grew.parts ∙ append_assoc one.grew.front one.grew.rest (with_breaks_written setting rest);
         grown = one.grew.grown;
       };
+      output = one.output;
       all = λ none. error_from_told after.error error one.answered none;
       stopped = one.stopped;
     }

@@ -1,3 +1,4 @@
+pub mod Outlets
 pub mod Adding
 pub mod Starting
 pub mod Writing

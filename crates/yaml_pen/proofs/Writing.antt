@@ -10,6 +10,7 @@ use Rattle.yaml_base.specs.Settings.{Encoding, utf8, utf16_little, utf16_big, Li
 use Rattle.yaml_base.specs.Encoding.{encode, character_bytes, text_bytes}
 use Rattle.yaml_base.specs.LineBreaks.{break_text, with_breaks_written}
 use Rattle.yaml_base.specs.Cursor.{Cursor, Laid, column_after, next_column, text_laid}
+use Rattle.yaml_base.specs.Prefix.{IsPrefix}
 use Rattle.yaml_base.specs.Seen.{seen_encoding, seen_break}
 use Rattle.yaml_base.specs.declared.encodings.yaml_encoding_t.{yaml_encoding_t}
 use Rattle.yaml_base.specs.declared.encodings.yaml_break_t.{yaml_break_t}
@@ -42,6 +43,7 @@ pub record Adds (e : Encoding) (raw : Text) (before after : Bytes) : Type 0 wher
   pub no_error : before.error ≡ None
   pub unfailed : after.error ≡ None
   pub limit : after.limit ≡ before.limit
+  pub output : IsPrefix before.output after.output
   pub sound : IsSound after
 
 pub Adds-appended : (e : Encoding) (raw : Text) (bytes : List ℕ) (before after : Bytes)
@@ -53,6 +55,7 @@ Adds-appended e raw bytes before after appended is =
       no_error = (appended.whole none).0;
       unfailed = none;
       limit = appended.limit;
+      output = appended.output;
       sound = appended.handed;
     }
 
@@ -114,6 +117,7 @@ Wrote-page e raw encoding line_break before after whitespace indention due colum
       settings = record { encoding = refl; line_break = refl; limit = adds.limit };
       handed = subst (λ (b : List ℕ). IsHandedOut b after.output after.limit after.error) bytes adds.sound;
       grew = record { front = raw; rest = []; parts = names.text ∙ sym (append-nil raw); grown = text };
+      output = adds.output;
       all = λ _. record {
         no_error = adds.no_error;
         text = text ∙ ap (λ l. decode (seen_encoding encoding) before.all ++ l) (sym names.text);

@@ -1,6 +1,7 @@
 -- The bytes behind a pen: those handed out, and those in the buffer.
 use Rattle.std.specs.Prelude.{◌≡◌, ℕ, ◌<◌, ◌≤◌, Option, None, Some, Result, Ok, Err, List, ◌++◌, IsSome, length, take}
 use Rattle.yaml_base.specs.Encoding.{cut}
+use Rattle.yaml_base.specs.Prefix.{IsPrefix}
 use Rattle.yaml_base.specs.declared.errors.yaml_error_t.{yaml_error_t}
 use Rattle.yaml_base.specs.declared.errors.yaml_error_t.TheVariants.{WriteError, Memory}
 use Rattle.yaml_pen.specs.Page.{IsHandedOut, told}
@@ -42,6 +43,7 @@ pub record Emptied (before after : Bytes) (answer : Result (Unit {0}) yaml_error
 pub record Appended (bytes : List ℕ) (before after : Bytes) (answer : Result (Unit {0}) yaml_error_t) : Type 0 where
   pub answered : answer ≡ told after.error
   pub limit : after.limit ≡ before.limit
+  pub output : IsPrefix before.output after.output
   pub handed : IsSound after
   pub whole : after.error ≡ None → (before.error ≡ None) × (after.all ≡ before.all ++ bytes)
   pub none : IsSome after.error → after.all ≡ before.all

@@ -1,5 +1,6 @@
 //! Bytes on their way out: a buffer, and the output that it is flushed to, within a limit.
 ghost use Rattle.std.specs.Prelude.{◌≡◌, ◌≤◌, [], length, IfOk};
+ghost use Rattle.yaml_base.specs.Prefix.{IsPrefix};
 ghost use Rattle.yaml_pen.specs.Outlet.{Appended, Emptied, HandsOut, IsSound};
 
 use arrayvec::ArrayVec;
@@ -69,6 +70,7 @@ impl<A: Allocator> Outlet<A> {
     /// Empties the buffer into the output.
     pub(crate) fn flush(&mut self) -> Result<(), yaml_error_t>
         ensures emptied { Emptied self.old self.new result }
+        ensures output { IsPrefix self.old.output self.new.output }
         ensures empty { self.old.error ≡ None → self.old.output ≡ self.old.all → self.new ≡ self.old }
     {
         match self.error {

@@ -8,6 +8,7 @@ use Rattle.yaml_base.specs.Seen.{seen_event}
 use Rattle.yaml_base.specs.Script.{Numbered, Script, script_of}
 use Rattle.yaml_base.specs.declared.errors.yaml_error_t.{yaml_error_t}
 use Rattle.yaml_pen.specs.Page.{told}
+use Rattle.yaml_pen.specs.Wrote.{Grows}
 use Rattle.yaml_emitter.specs.State.{State}
 use Rattle.yaml_emitter.specs.StandsAfter.{StandsAfter}
 use Rattle.yaml_emitter.specs.Promises.{HasAllBytes}
@@ -44,9 +45,9 @@ ends_more given next =
 -- the call that was given an event failed
 pub refused_at : {A : Type 0} (set : Settings) (given : List (NumberedEvent A)) (next : NumberedEvent A) (rest left all : List (NumberedEvent A)) (error : yaml_error_t) (earlier state : State)
     → given ++ left ≡ all → left ≡ next ∷ rest → earlier.error ≡ None → StandsAfter set (events_in (map seen_numbered given)) earlier → state.error ≡ Some error
-    → StandsAfter set (events_in (map seen_numbered given) ++ seen_event next.event ∷ []) state
+    → StandsAfter set (events_in (map seen_numbered given) ++ seen_event next.event ∷ []) state → Grows earlier.page state.page
     → RefusesAt set (map seen_numbered all) next.line error state
-refused_at set given next rest left all error earlier state parts is none stood failed stands =
+refused_at set given next rest left all error earlier state parts is none stood failed stands grew =
     record {
       before = map seen_numbered given;
       event = seen_event next.event;
@@ -57,6 +58,7 @@ refused_at set given next rest left all error earlier state parts is none stood 
       no_error = none;
       stands = stands;
       promised = promised set (events_in (map seen_numbered given) ++ seen_event next.event ∷ []) state stands;
+      grew = grew;
       failed = failed;
     }
 
@@ -75,8 +77,10 @@ flushed_last set all line (Refused told error) before after stood none ends h =
       earlier = before;
       stood = stood;
       no_error = none;
-      stands = (h.2 set (events_in all) stood).0;
-      promised = (h.2 set (events_in all) stood).1;
+      stands = (h.4 set (events_in all) stood).0;
+      promised = (h.4 set (events_in all) stood).1;
+      grew = h.2;
+      unflushed = h.3;
       failed = h.1;
     })
 flushed_last set all line (BadLine number) before after stood none ends h = h

@@ -5,6 +5,8 @@ use Rattle.yaml_base.specs.Settings.{Settings}
 use Rattle.yaml_base.specs.Event.{Event}
 use Rattle.yaml_base.specs.Script.{Numbered, Script, bad_line, understood}
 use Rattle.yaml_base.specs.declared.errors.yaml_error_t.{yaml_error_t}
+use Rattle.yaml_base.specs.declared.errors.yaml_error_t.TheVariants.{Memory}
+use Rattle.yaml_pen.specs.Wrote.{Grows}
 use Rattle.yaml_emitter.specs.State.{State}
 use Rattle.yaml_emitter.specs.StandsAfter.{StandsAfter}
 use Rattle.yaml_emitter.specs.Promises.{HasAllBytes, Promised}
@@ -24,7 +26,8 @@ pub record EmitsAll (given : Settings) (all : List Numbered) (state : State) : T
   pub no_error : state.error ≡ None
   pub handed_out : HasAllBytes given (events_in all) state
 
--- the call that was given this line's event is the first that answered an error, this one, and no event after it was given
+-- the call that was given this line's event is the first that answered an error, this one, and no event after it was given;
+-- nothing that was written before it is lost
 pub record RefusesAt (given : Settings) (all : List Numbered) (line : ℕ) (error : yaml_error_t) (state : State) : Type 0 where
   pub before : List Numbered
   pub event : Event
@@ -35,9 +38,11 @@ pub record RefusesAt (given : Settings) (all : List Numbered) (line : ℕ) (erro
   pub no_error : earlier.error ≡ None
   pub stands : StandsAfter given (events_in before ++ event ∷ []) state
   pub promised : Promised given (events_in before ++ event ∷ []) state
+  pub grew : Grows earlier.page state.page
   pub failed : state.error ≡ Some error
 
--- every event was taken without an error, and the flush after the last, of this line, answered this one
+-- every event was taken without an error, and the flush after the last, of this line, answered this one; nothing is lost, and
+-- where memory was refused the output is as it was
 pub record FlushFails (given : Settings) (all : List Numbered) (line : ℕ) (error : yaml_error_t) (state : State) : Type 0 where
   pub before : List Numbered
   pub event : Event
@@ -47,6 +52,8 @@ pub record FlushFails (given : Settings) (all : List Numbered) (line : ℕ) (err
   pub no_error : earlier.error ≡ None
   pub stands : StandsAfter given (events_in all) state
   pub promised : Promised given (events_in all) state
+  pub grew : Grows earlier.page state.page
+  pub unflushed : error ≡ Memory → state.page.output ≡ earlier.page.output
   pub failed : state.error ≡ Some error
 
 -- what an answer says of the emitter
@@ -119,5 +126,6 @@ abbrev pub FlushesLast : ℕ → State → run_answer_t → State → Type 0
 FlushesLast line before Done after =
     (after.error ≡ None) × ((given : Settings) (all : List Event) → StandsAfter given all before → StandsAfter given all after × Promised given all after × HasAllBytes given all after)
 FlushesLast line before (Refused told error) after =
-    (told ≡ line) × (after.error ≡ Some error) × ((given : Settings) (all : List Event) → StandsAfter given all before → StandsAfter given all after × Promised given all after)
+    (told ≡ line) × (after.error ≡ Some error) × Grows before.page after.page × (error ≡ Memory → after.page.output ≡ before.page.output)
+    × ((given : Settings) (all : List Event) → StandsAfter given all before → StandsAfter given all after × Promised given all after)
 FlushesLast line before answer after = ⊥

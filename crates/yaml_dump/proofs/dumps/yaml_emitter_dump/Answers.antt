@@ -4,6 +4,7 @@ use Rattle.yaml_base.specs.Documents.{graph_of}
 use Rattle.yaml_base.specs.Meetings.{document_event_list}
 use Rattle.yaml_base.specs.Seen.{seen_event}
 use Rattle.yaml_base.proofs.DocumentsUnfold.{document_unfolds}
+use Rattle.yaml_pen.proofs.Composing.{grows_then}
 use Rattle.yaml_pen.proofs.Writing.{none_from_told}
 use Rattle.yaml_dump.specs.Dumps.{closing, opening}
 use Rattle.yaml_dump.proofs.Emissions.{on_ok, on_err, closed_by, exit_dumps, dumps_closing, dumps_events}
@@ -69,3 +70,9 @@ returns-then-is_empty-clause-unfolds g c =
 pub returns-clause-unfolds : goal.returns-clause-unfolds
 returns-clause-unfolds g c =
     on_ok c.emit_each.result (λ some. document_unfolds (graph_of c.args.document) (record { whole = c.numbers_name_nodes.ensures; has_nodes = some }))
+
+pub returns-then-is_empty-clause-grows : goal.returns-then-is_empty-clause-grows
+returns-then-is_empty-clause-grows g c = grows_then c.open_if_needed.ensures.grows c.close_if_needed.ensures.grows
+
+pub returns-clause-grows : goal.returns-clause-grows
+returns-clause-grows g c = grows_then c.open_if_needed.ensures.grows c.emit_each.ensures.grows

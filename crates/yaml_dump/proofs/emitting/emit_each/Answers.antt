@@ -1,13 +1,14 @@
-use Rattle.std.proofs.Common.{◌++◌, map, sym, ap, ◌∙◌, subst}
+use Rattle.std.proofs.Common.{◌++◌, map, sym, ap, ◌∙◌, subst, append-nil, rules}
 use Rattle.std.proofs.lemmas.Iterator.Adapters.{YieldsList-from_vec}
 use Rattle.std.proofs.lemmas.Iterator.Consumers.{YieldsList-end}
 use Rattle.std.proofs.lemmas.List.{map-id}
 use Rattle.std.specs.Vec.Iter.{into_iter_items}
 use Rattle.yaml_base.specs.Seen.{seen_event}
+use Rattle.yaml_pen.proofs.Composing.{grows_itself, grows_then}
 use Rattle.yaml_pen.proofs.Writing.{none_from_told}
 use Rattle.yaml_emitter.specs.StandsAfter.{StandsAfter}
 use Rattle.yaml_emitter.proofs.Promising.{promised}
-use Rattle.yaml_dump.proofs.Emissions.{keeps_more, some_told, events_more, parts_more, failed_at}
+use Rattle.yaml_dump.proofs.Emissions.{keeps_same, keeps_more, some_told, events_more, parts_more, failed_at}
 use Rattle.yaml_dump.proofs.emitting.emit_each.Goals as goal
 
 pub returns-in-Err-clause-emits : goal.returns-in-Err-clause-emits
@@ -31,6 +32,7 @@ loop-event-preserved g c =
           subst (λ events. StandsAfter given events c.yaml_emitter_emit.new.emitter) (events_more all now.yielded c.in-Some.event)
           (c.yaml_emitter_emit.ensures.stands given (all ++ map seen_event now.yielded) (now.invariant.5 given all stands)),
       keeps_more c.args.emitter.now now.emitter c.yaml_emitter_emit.new.emitter now.invariant.6 c.yaml_emitter_emit.ensures.set,
+      grows_then now.invariant.7 c.yaml_emitter_emit.ensures.grows,
     )
 
 pub returns-clause-emits : goal.returns-clause-emits
@@ -40,3 +42,18 @@ returns-clause-emits g c given all stands =
     let whole = ap (map seen_event) (sym (map-id now.yielded) ∙ (YieldsList-end road now.yielded now.event-iterator now.yielded_by c.next.result c.next.new.self c.in-None.is c.next.ensures.steps).0) in
     let stands = subst (λ events. StandsAfter given (all ++ events) now.emitter) whole (now.invariant.5 given all stands) in
     record { stands = stands; promised = promised given _ now.emitter stands; no_error = now.invariant.3 }
+
+pub returns-in-Err-clause-grows : goal.returns-in-Err-clause-grows
+returns-in-Err-clause-grows g c = grows_then c.loop-event.invariant.7 c.yaml_emitter_emit.ensures.grows
+
+pub loop-event-init : goal.loop-event-init
+loop-event-init g c = (
+  tt,
+  tt,
+  c.requires.output,
+  c.requires.no_error,
+  search rules,
+  λ given all stands. subst (λ events. StandsAfter given events c.args.emitter.now) (sym (append-nil all)) stands,
+  keeps_same c.args.emitter.now,
+  grows_itself c.args.emitter.now.page,
+)

@@ -4,6 +4,7 @@ use Rattle.yaml_base.specs.Event.{Event}
 use Rattle.yaml_base.specs.Seen.{seen_event}
 use Rattle.yaml_base.specs.Settings.{Settings}
 use Rattle.yaml_dump.proofs.Emissions.{KeepsButStart}
+use Rattle.yaml_pen.specs.Wrote.{Grows}
 use Rattle.yaml_emitter.specs.StandsAfter.{StandsAfter}
 use Rattle.yaml_dump.proofs.emitting.emit_each.Given as goal
 
@@ -16,3 +17,4 @@ invariant-loop-event g l =
     × (l.yielded ++ into_iter_items l.event-iterator ≡ l.fn.events.items)
     × ((given : Settings) (all : List Event) → StandsAfter given all l.initial.emitter → StandsAfter given (all ++ map seen_event l.yielded) l.emitter)
     × KeepsButStart l.initial.emitter l.emitter
+    × Grows l.initial.emitter.page l.emitter.page

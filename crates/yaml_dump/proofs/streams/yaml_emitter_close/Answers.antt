@@ -1,7 +1,8 @@
-use Rattle.std.proofs.Common.{ap, ◌∙◌}
+use Rattle.std.proofs.Common.{ap, ◌∙◌, sym, subst}
 use Rattle.yaml_pen.proofs.Writing.{none_from_told}
 use Rattle.yaml_emitter.specs.State.{State}
 use Rattle.yaml_dump.proofs.GraphLemmas.{graphs_read}
+use Rattle.yaml_pen.specs.Wrote.{Grows}
 use Rattle.yaml_dump.proofs.streams.yaml_emitter_close.Goals as goal
 
 pub returns-clause-promised : goal.returns-clause-promised
@@ -12,3 +13,7 @@ returns-clause-graphs g c running given all graphs stands canonical uncut dumped
     graphs_read given all graphs _ (c.mark_closed.ensures.promised given _ (c.in_ok-yaml_emitter_emit.ensures.stands given all stands))
     (ap (λ (state : State). state.error) c.mark_closed.ensures.set ∙ none_from_told c.yaml_emitter_emit.new.emitter.error c.in_ok-yaml_emitter_emit.ensures.answered)
     canonical uncut dumped
+
+pub returns-clause-grows : goal.returns-clause-grows
+returns-clause-grows g c =
+    subst (λ (s : State). Grows c.args.emitter.now.page s.page) (sym c.mark_closed.ensures.set) c.in_ok-yaml_emitter_emit.ensures.grows

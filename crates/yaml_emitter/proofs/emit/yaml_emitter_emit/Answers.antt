@@ -1,12 +1,15 @@
-use Rattle.std.proofs.Common.{◌++◌, ◌∷◌, [], take, sym, subst, ◌≡◌, false}
+use Rattle.std.proofs.Common.{◌++◌, ◌∷◌, [], take, sym, subst, ap, ◌∙◌, ◌≡◌, false}
 use Rattle.std.proofs.lemmas.Bool.{false≢true}
 use Rattle.yaml_base.specs.Ready.{written}
 use Rattle.yaml_base.specs.Seen.{seen_event}
+use Rattle.yaml_pen.specs.Page.{Page}
+use Rattle.yaml_pen.specs.Wrote.{Grows}
 use Rattle.yaml_emitter.specs.Inside.{state_of}
 use Rattle.yaml_emitter.specs.Queue.{is_head_ready}
 use Rattle.yaml_emitter.specs.State.{State}
 use Rattle.yaml_emitter.specs.StandsAfter.{StandsAfter}
 use Rattle.yaml_emitter.proofs.Emitting.{none_became_ready, stands_few, reached_taken}
+use Rattle.yaml_emitter.proofs.Growing.{grows_page}
 use Rattle.yaml_emitter.proofs.Promising.{promised, stands_with}
 use Rattle.yaml_emitter.proofs.StandingMore.{failed_more}
 use Rattle.yaml_emitter.proofs.emit.yaml_emitter_emit.Goals as goal
@@ -54,3 +57,14 @@ returns-clause-waits g c given all stands none same =
     c.settle.ensures.waits
     (subst (λ (s : State). is_head_ready s.held ≡ false) (sym c.in_ok-take.ensures.taken)
     (none_became_ready given all (seen_event c.args.event) (state_of c.emitter.inside) h.so c.in_default.is same))
+
+pub returns-in-Some-clause-grows : goal.returns-in-Some-clause-grows
+returns-in-Some-clause-grows g c = grows_page c.args.emitter.now.page c.emitter.inside.pen (ap (λ (s : State). s.page) c.emitter.view_is)
+
+pub returns-in_err-take-clause-grows : goal.returns-in_err-take-clause-grows
+returns-in_err-take-clause-grows g c =
+    grows_page c.args.emitter.now.page c.take.new.self.page (c.take.ensures.page ∙ ap (λ (s : State). s.page) c.emitter.view_is)
+
+pub returns-clause-grows : goal.returns-clause-grows
+returns-clause-grows g c =
+    subst (λ (p : Page). Grows p c.settle.new.self.page) (c.take.ensures.page ∙ ap (λ (s : State). s.page) c.emitter.view_is) c.settle.ensures.grows

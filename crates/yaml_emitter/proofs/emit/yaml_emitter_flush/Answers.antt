@@ -2,7 +2,7 @@ use Rattle.std.proofs.Common.{List}
 use Rattle.yaml_base.specs.Event.{Event}
 use Rattle.yaml_base.specs.Settings.{Settings}
 use Rattle.yaml_emitter.specs.StandsAfter.{StandsAfter}
-use Rattle.yaml_emitter.proofs.Promising.{flushed_all, promised, stands_on}
+use Rattle.yaml_emitter.proofs.Promising.{flushed_all, promised, stands_encoded, stands_on, stands_unfailed}
 use Rattle.yaml_emitter.proofs.emit.yaml_emitter_flush.Goals as goal
 
 pub returns-in-Some-clause-promised : goal.returns-in-Some-clause-promised
@@ -21,3 +21,8 @@ returns-clause-promised g c given all stands = promised given all c.hand_out.new
 pub returns-clause-flushed : goal.returns-clause-flushed
 returns-clause-flushed g c =
     flushed_all c.hand_out.result c.args.emitter.now c.hand_out.new.self c.hand_out.ensures.answered c.hand_out.ensures.handed_out c.hand_out.ensures.stands
+
+pub returns-clause-empty : goal.returns-clause-empty
+returns-clause-empty g c given all stands none bytes =
+    let state = c.args.emitter.now in
+    c.hand_out.ensures.empty (stands_unfailed given all state stands.so none) (stands_encoded given all state stands.so none bytes)

@@ -17,7 +17,7 @@ returns-in-Err g c given stands =
     inl
     (refused_at given now.yielded c.in-Some.numbered (into_iter_items c.next.new.self) (into_iter_items now.numbered-iterator) c.args.events.items c.in-Err.error now.emitter c.yaml_emitter_emit.new.emitter
     now.invariant.4 c.in-Some.ensures.steps.0 now.invariant.3 stood (some_told c.yaml_emitter_emit.new.emitter.error c.in-Err.error c.in-Err.ensures.answered)
-    (c.yaml_emitter_emit.ensures.stands given (events_in (map seen_numbered now.yielded)) stood))
+    (c.yaml_emitter_emit.ensures.stands given (events_in (map seen_numbered now.yielded)) stood) c.yaml_emitter_emit.ensures.grows)
 
 pub loop-numbered-preserved : goal.loop-numbered-preserved
 loop-numbered-preserved g c =

@@ -8,6 +8,7 @@ use Rattle.yaml_emitter.specs.State.{State}
 use Rattle.yaml_emitter.specs.Queue.{is_head_ready}
 use Rattle.yaml_emitter.specs.StandsAfter.{StandsBy}
 use Rattle.yaml_pen.proofs.Writing.{none_from_told}
+use Rattle.yaml_pen.proofs.Composing.{grows_then}
 use Rattle.yaml_emitter.proofs.Emitting.{reached_on}
 use Rattle.yaml_emitter.proofs.KeepsSet.{keeps_set_then}
 use Rattle.yaml_emitter.proofs.Standing.{reached_end}
@@ -35,8 +36,12 @@ loop-self-preserved g c =
       no_error = none_from_told c.write_next.new.self.error c.in_ok-write_next.ensures.answered;
       reached = reached_on c.args.self.now c.loop-self.self c.write_next.new.self c.loop-self.invariant.reached c.in_ok-write_next.ensures.next;
       set = keeps_set_then c.args.self.now c.loop-self.self c.write_next.new.self c.loop-self.invariant.set c.write_next.ensures.set;
+      grows = grows_then c.loop-self.invariant.grows c.write_next.ensures.grows;
       waits = λ none. absurd (false≢true (sym (c.loop-self.invariant.waits none) ∙ ready_inside c.self.inside c.self.view_is c.as_slice.ensures.value c.is_next_ready.ensures c.loop-self-test.true));
     }
 
 pub returns-in_err-write_next-clause-waits : goal.returns-in_err-write_next-clause-waits
 returns-in_err-write_next-clause-waits g c none = absurd (false≢true (sym (c.loop-self.invariant.waits none) ∙ ready_inside c.self.inside c.self.view_is c.as_slice.ensures.value c.is_next_ready.ensures c.loop-self-test.true))
+
+pub returns-in_err-write_next-clause-grows : goal.returns-in_err-write_next-clause-grows
+returns-in_err-write_next-clause-grows g c = grows_then c.loop-self.invariant.grows c.write_next.ensures.grows

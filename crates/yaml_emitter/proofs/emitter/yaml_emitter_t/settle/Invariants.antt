@@ -1,4 +1,5 @@
 use Rattle.std.proofs.Common.{◌≡◌, true, false, None, length}
+use Rattle.yaml_pen.specs.Wrote.{Grows}
 use Rattle.yaml_emitter.specs.State.{KeepsSet}
 use Rattle.yaml_emitter.specs.Queue.{is_head_ready}
 use Rattle.yaml_emitter.specs.StandsAfter.{ReachedOn}
@@ -11,6 +12,7 @@ invariant-loop-self g l =
       no_error : l.self.error ≡ None;
       reached : ReachedOn l.initial.self l.self;
       set : KeepsSet l.initial.self l.self;
+      grows : Grows l.initial.self.page l.self.page;
       waits : is_head_ready l.initial.self.held ≡ false → is_head_ready l.self.held ≡ false;
     }
 
