@@ -3,6 +3,7 @@ pub mod Settings
 pub mod LineBreaks
 pub mod Prefix
 pub mod Cursor
+pub mod Indicators
 pub mod Event
 pub mod Errors
 pub mod Seen

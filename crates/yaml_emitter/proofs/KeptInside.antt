@@ -27,9 +27,9 @@ pub kept_writing : {A : Type 0} (e : Inside A) (pen : Page) (after : stage.Stage
     → FitsPage (seen_stage after e.directives frames) pen → IsEmitter (record e { pen = pen; stage = after; frames = frames; mark = mark })
 kept_writing e pen after frames mark kept output fits =
     record {
-      in_force = kept.in_force;
       room = kept.room;
       untouched = λ none. cc;
+      begun = λ begun. output;
       opened = λ opened. output;
       handles = kept.handles;
       canonical = kept.canonical;
@@ -41,9 +41,9 @@ pub kept_beginning : {A : Type 0} (e : Inside A) (pen : Page) (after : stage.Sta
     → IsEmitter (record e { pen = pen; stage = after; directives = directives; frames = frames; mark = mark })
 kept_beginning e pen after directives frames mark kept output handles fits =
     record {
-      in_force = kept.in_force;
       room = kept.room;
       untouched = λ none. cc;
+      begun = λ begun. output;
       opened = λ opened. output;
       handles = handles;
       canonical = kept.canonical;
@@ -71,9 +71,9 @@ seen_without e directives first at = ap (λ (st : Stage). record (state_of e) { 
 pub kept_without : {A : Type 0} (e : Inside A) (directives : List TagDirective) (first : Bool) → directives ≡ [] → (state_of e).stage ≡ at_document first → IsEmitter e → IsEmitter (record e { directives = directives })
 kept_without e directives first none at kept =
     record {
-      in_force = kept.in_force;
       room = kept.room;
       untouched = kept.untouched;
+      begun = λ begun. kept.begun (ap is_at_stream (sym (unseen e.stage e.directives directives e.frames first at)) ∙ begun);
       opened = kept.opened;
       handles = ap some_handle_breaks none;
       canonical = kept.canonical;
@@ -83,6 +83,10 @@ kept_without e directives first none at kept =
 -- what is seen of an emitter, of its fields
 pub has_output_inside : {A : Type 0} (e : Inside A) {seen : State} → state_of e ≡ seen → seen.has_output ≡ true → e.has_output ≡ true
 has_output_inside e is output = ap (λ (s : State). s.has_output) is ∙ output
+
+-- an output is set before the stream begins
+pub output_behind : {A : Type 0} (e : Inside A) → IsEmitter e → is_at_stream (state_of e).stage ≡ false → e.has_output ≡ true
+output_behind e kept behind = kept.begun behind
 
 pub error_inside : {A : Type 0} (e : Inside A) {seen : State} → state_of e ≡ seen → seen.error ≡ None → (state_of e).error ≡ None
 error_inside e is none = ap (λ (s : State). s.error) is ∙ none

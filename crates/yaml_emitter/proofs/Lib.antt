@@ -9,6 +9,7 @@ pub mod StandingMore
 pub mod StandingTexts
 pub mod StandingPromises
 pub mod WritingPieces
+pub mod SignsWritten
 pub mod WritingDirectives
 pub mod WritingTags
 pub mod MeaningStyles

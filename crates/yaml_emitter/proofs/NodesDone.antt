@@ -50,6 +50,9 @@ seen_at_node e at = ap (λ (st : stage.Stage). seen_stage st e.directives e.fram
 pub ready_inside : {A : Type 0} (e : Inside A) → IsEmitter e → e.stage ≡ Node → IsReady e.pen
 ready_inside e kept at = subst (λ (st : stage.Stage). FitsPage (seen_stage st e.directives e.frames) e.pen) at kept.page
 
+pub output_at_node : {A : Type 0} (e : Inside A) → IsEmitter e → e.stage ≡ Node → e.has_output ≡ true
+output_at_node e kept at = kept.begun (ap (λ (st : stage.Stage). is_at_stream (seen_stage st e.directives e.frames)) at)
+
 pub names_inside : {A : Type 0} (e : Inside A) {seen : State} → state_of e ≡ seen → (event : Event) → name_or_tag_fault seen.given.canonical event ≡ None
     → name_or_tag_fault (state_of e).given.canonical event ≡ None
 names_inside e is event none = ap (λ (s : State). name_or_tag_fault s.given.canonical event) is ∙ none

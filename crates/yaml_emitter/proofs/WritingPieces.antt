@@ -1,14 +1,14 @@
 -- A piece without a body is its lead; the pieces of documents as their parts.
-use Rattle.std.proofs.Common.{◌≡◌, ℕ, Bool, true, false, not, ◌&&◌, ◌==◌, ◌∙◌, Result, refl, sym, ap, append-nil}
+use Rattle.std.proofs.Common.{◌≡◌, ℕ, Bool, true, false, not, ◌&&◌, ◌==◌, ◌∙◌, Result, refl, sym, ap, append-nil, append_assoc, codes, if◌then◌else◌}
 use Rattle.yaml_base.specs.Characters.{Text}
 use Rattle.yaml_base.specs.Cursor.{Cursor, Laid, then_laid, new_line}
 use Rattle.yaml_base.specs.Event.{DocumentStart}
-use Rattle.yaml_base.specs.Layout.{has_directives, is_explicit, document_start_laid, document_start_piece, lead_alone, laid_if, closing_mark_laid, document_end_piece}
+use Rattle.yaml_base.specs.Layout.{has_directives, is_explicit, document_start_laid, document_start_piece, lead_alone, closing_mark_laid, sign_laid, document_end_piece}
 use Rattle.yaml_base.specs.declared.errors.yaml_error_t.{yaml_error_t}
 use Rattle.yaml_pen.specs.Page.{Page}
 use Rattle.yaml_pen.specs.Wrote.{Wrote}
 use Rattle.yaml_pen.proofs.Composing.{wrote_as}
-use Rattle.yaml_emitter.specs.WrittenPieces.{laid_of, piece_at, document_head_laid}
+use Rattle.yaml_emitter.specs.WrittenPieces.{laid_of, piece_at, document_end_laid, document_head_laid}
 
 -- a lead by itself is what is laid
 pub lead-laid : (mark : ℕ) (laid : Laid) → laid ≡ laid_of (lead_alone mark laid)
@@ -19,14 +19,18 @@ pub wrote_lead : (lay : Cursor → Laid) (mark : ℕ) {before after : Page} {ans
     → Wrote lay before after answer → Wrote (λ cursor. laid_of (lead_alone mark (lay cursor))) before after answer
 wrote_lead lay mark {before} wrote = wrote_as (λ cursor. laid_of (lead_alone mark (lay cursor))) (lead-laid mark (lay before.cursor)) wrote
 
-document_end-laid : (implicit : Bool) (mark : ℕ) (cursor : Cursor)
-    → then_laid (new_line 0 cursor) (laid_if (not implicit) closing_mark_laid) ≡ piece_at (document_end_piece implicit) mark cursor
-document_end-laid true mark cursor = refl
-document_end-laid false mark cursor = lead-laid 0 (then_laid (new_line 0 cursor) closing_mark_laid)
+document_end-laid : (implicit : Bool) (mark : ℕ) (cursor : Cursor) → document_end_laid implicit cursor ≡ piece_at (document_end_piece implicit) mark cursor
+document_end-laid true mark cursor = lead-laid (if mark == 0 then 1 else mark) (new_line 0 cursor)
+document_end-laid false mark cursor =
+    let line = new_line 0 cursor in
+    let dots = sign_laid (codes "...") line.cursor in
+    let last = new_line 0 dots.cursor in
+    ap (λ (text : Text). let l : Laid = record { text = text; cursor = last.cursor } in l) (append_assoc line.text dots.text last.text)
+    ∙ lead-laid 0 (then_laid line closing_mark_laid)
 
--- a document's end: a line's end, and the mark where it is explicit
+-- a document's end as a piece
 pub wrote_document_end : (implicit : Bool) (mark : ℕ) {before after : Page} {answer : Result (Unit {0}) yaml_error_t}
-    → Wrote (λ cursor. then_laid (new_line 0 cursor) (laid_if (not implicit) closing_mark_laid)) before after answer
+    → Wrote (document_end_laid implicit) before after answer
     → Wrote (piece_at (document_end_piece implicit) mark) before after answer
 wrote_document_end implicit mark {before} wrote =
     wrote_as (piece_at (document_end_piece implicit) mark) (document_end-laid implicit mark before.cursor) wrote

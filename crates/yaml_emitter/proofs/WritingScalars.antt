@@ -4,6 +4,7 @@ use Rattle.std.proofs.Common.{◌≡◌, ℕ, ℤ, pos, negsuc, ◌≤ℤ◌, Bo
 use Rattle.std.proofs.lemmas.Int.{ints}
 use Rattle.std.specs.Str.{chars, IsUtf8}
 use Rattle.std.specs.Result.{IfOk, MatchResult}
+use Rattle.std.specs.Prelude.{option_map}
 use Rattle.std.proofs.lemmas.Bool.{and_parts, cases_Bool}
 use Rattle.std.proofs.lemmas.Result.{err_from_is_err_and}
 use Rattle.yaml_base.specs.Analysis.{Allowances, is_empty, allows_block, somewhere, bars_block, allowances, Charset}
@@ -12,22 +13,25 @@ use Rattle.yaml_base.specs.Cursor.{Cursor, Laid, then_laid}
 use Rattle.yaml_base.specs.DoubleQuoted.{double_quoted_laid}
 use Rattle.yaml_base.specs.Event.{ScalarStyle, any_style, plain, single_quoted, double_quoted, literal, folded, Scalar, TagDirective}
 use Rattle.yaml_base.specs.Folded.{folded_laid}
-use Rattle.yaml_base.specs.Layout.{Place, place_laid, properties_laid, choice_of, deeper, scalar_piece, separation_laid, body_laid}
+use Rattle.yaml_base.specs.Layout.{Place, anchor_laid, place_laid, properties_laid, choice_of, deeper, scalar_piece, separation_laid, body_laid}
 use Rattle.yaml_base.specs.Plain.{plain_laid}
 use Rattle.yaml_base.specs.Refusal.{scalar_tag}
 use Rattle.yaml_base.specs.Settings.{Effective}
 use Rattle.yaml_base.specs.SingleQuoted.{single_quoted_laid}
 use Rattle.yaml_base.specs.Style.{Choice, style_fitting, style_quoted}
+use Rattle.yaml_base.specs.Tags.{Spelling, spelling}
 use Rattle.yaml_base.specs.declared.errors.yaml_error_t.{yaml_error_t}
 use Rattle.yaml_pen.specs.Page.{Page, natural}
 use Rattle.yaml_pen.specs.Wrote.{Wrote}
 use Rattle.yaml_pen.proofs.Composing.{wrote_as}
 use Rattle.yaml_mark.proofs.HandleFacts.{no_characters, characters_begin}
 use Rattle.yaml_scalar.specs.Width.{limit_of, limit_where}
-use Rattle.yaml_emitter.specs.declared.settings.EffectiveSettings.{EffectiveSettings}
+use Rattle.yaml_emitter.specs.declared.effective.EffectiveSettings.{EffectiveSettings}
 use Rattle.yaml_emitter.specs.Given.{seen_effective, seen_width}
 use Rattle.yaml_emitter.specs.ScalarTexts.{scalar_text_laid, style_fits, without_answer}
 use Rattle.yaml_emitter.specs.WrittenPieces.{piece_at}
+use Rattle.yaml_emitter.specs.WrittenSigns.{spelled_tag_laid}
+use Rattle.yaml_emitter.proofs.SignsWritten.{lead-spelled}
 
 -- the exit of a `?` tells the error of the call that failed
 pub wrote_exit_from : {T : Type 0} {lay : Cursor → Laid} {before after : Page} {error : yaml_error_t} (answer : Result T yaml_error_t)
@@ -131,31 +135,32 @@ chosen_fits s place simple content =
     (not_either (is_empty content.value) (somewhere (bars_block charset) content.value)))
 
 module _ (s : Effective) (directives : List TagDirective) (place : Place) (simple : Bool) (content : Scalar) where
-  -- what stands before a scalar's text, and the text
-  abbrev pub scalar_laid : Choice → Option Text → Cursor → Laid
+  -- what stands before a scalar's text, its tag as it is spelled, and the text
+  abbrev pub scalar_laid : Choice → Option Spelling → Cursor → Laid
   scalar_laid choice tag cursor =
-      then_laid (then_laid (place_laid s place simple cursor) (properties_laid directives content.anchor tag choice.bare))
+      then_laid
+      (then_laid (place_laid s place simple cursor) (λ between. then_laid (anchor_laid content.anchor between) (spelled_tag_laid tag choice.bare)))
       (scalar_text_laid choice.style s place.in_flow simple (deeper s.indent place.column) content.value)
 
-  whole_laid : (mark : ℕ) (cursor : Cursor)
-      → scalar_laid (choice_of s place simple content) (scalar_tag s.canonical content) cursor ≡ piece_at (scalar_piece s directives place simple content) mark cursor
-  whole_laid mark cursor =
+  whole_laid : (mark : ℕ) (tag : Option Spelling) (cursor : Cursor) → tag ≡ option_map (spelling directives) (scalar_tag s.canonical content)
+      → scalar_laid (choice_of s place simple content) tag cursor ≡ piece_at (scalar_piece s directives place simple content) mark cursor
+  whole_laid mark tag cursor is =
       let choice = choice_of s place simple content in
+      let text = scalar_text_laid choice.style s place.in_flow simple (deeper s.indent place.column) content.value in
       let whole = piece_at (scalar_piece s directives place simple content) mark cursor in
       let lead = then_laid (place_laid s place simple cursor) (properties_laid directives content.anchor (scalar_tag s.canonical content) choice.bare) in
       let separation = separation_laid choice.style place.in_flow content.value lead.cursor in
       let body = body_laid choice.style s (if simple then None else s.width) (deeper s.indent place.column) content.value separation.cursor in
-      ap (λ (text : Text). let l : Laid = record { text = text; cursor = whole.cursor } in l) (sym (append_assoc lead.text separation.text body.text))
+      ap (λ (l : Laid). then_laid l text) (lead-spelled s directives place simple content.anchor (scalar_tag s.canonical content) tag choice.bare cursor is)
+      ∙ ap (λ (text : Text). let l : Laid = record { text = text; cursor = whole.cursor } in l) (sym (append_assoc lead.text separation.text body.text))
 
-  pub wrote_scalar : (mark : ℕ) {choice : Choice} {tag : Option Text} {before after : Page} {answer : Result (Unit {0}) yaml_error_t}
-      → choice ≡ choice_of s place simple content → tag ≡ scalar_tag s.canonical content
+  pub wrote_scalar : (mark : ℕ) {choice : Choice} {tag : Option Spelling} {before after : Page} {answer : Result (Unit {0}) yaml_error_t}
+      → choice ≡ choice_of s place simple content → tag ≡ option_map (spelling directives) (scalar_tag s.canonical content)
       → Wrote (scalar_laid choice tag) before after answer
       → Wrote (piece_at (scalar_piece s directives place simple content) mark) before after answer
   wrote_scalar mark {choice} {tag} {before} is tag_is wrote =
       wrote_as (piece_at (scalar_piece s directives place simple content) mark)
-      (ap (λ (c : Choice). scalar_laid c tag before.cursor) is
-      ∙ ap (λ (t : Option Text). scalar_laid (choice_of s place simple content) t before.cursor) tag_is
-      ∙ whole_laid mark before.cursor)
+      (ap (λ (c : Choice). scalar_laid c tag before.cursor) is ∙ whole_laid mark tag before.cursor tag_is)
       wrote
 
 -- what holds of an answer by its kind holds where it is Ok

@@ -7,6 +7,8 @@ use Rattle.yaml_base.specs.Event.{TagDirective}
 use Rattle.yaml_base.specs.Layout.{is_short}
 use Rattle.yaml_base.specs.Tags.{Spelling, shorthand, verbatim, spelling, spelling_by, behind, tag_fault}
 use Rattle.yaml_emitter.specs.Signs.{some_handle_breaks}
+use Rattle.yaml_emitter.specs.WrittenSigns.{spelling_breaks}
+use Rattle.std.specs.Prelude.{option_map}
 
 nothing_behind : (prefix : Text) → behind prefix [] ≡ None
 nothing_behind [] = refl
@@ -23,25 +25,22 @@ pub refused_spelled : (directives : List TagDirective) (tag : Text) (fault : ℕ
 refused_spelled directives [] fault is = empty_spelled directives
 refused_spelled directives (c ∷ rest) fault is = cc
 
--- the handle of a spelling, where it has one, holds no break
-abbrev spelled_breaks : Spelling → Bool
-spelled_breaks (shorthand handle suffix) = list_any is_break handle
-spelled_breaks (verbatim tag) = false
-
 by_breaks : (handle : Text) (suffix : Option Text) (otherwise : Spelling)
-    → list_any is_break handle ≡ false → spelled_breaks otherwise ≡ false → spelled_breaks (spelling_by handle suffix otherwise) ≡ false
+    → list_any is_break handle ≡ false → spelling_breaks (Some otherwise) ≡ false → spelling_breaks (Some (spelling_by handle suffix otherwise)) ≡ false
 by_breaks handle None otherwise here there = there
 by_breaks handle (Some suffix) otherwise here there = here
 
-spelling_breaks : (directives : List TagDirective) (tag : Text) → some_handle_breaks directives ≡ false → spelled_breaks (spelling directives tag) ≡ false
-spelling_breaks [] tag none = refl
-spelling_breaks (directive ∷ rest) tag none =
+-- a tag's handle is one of those in force
+spelled_sound : (directives : List TagDirective) (tag : Text) → some_handle_breaks directives ≡ false → spelling_breaks (Some (spelling directives tag)) ≡ false
+spelled_sound [] tag none = refl
+spelled_sound (directive ∷ rest) tag none =
     let parts = or_parts (list_any is_break directive.handle) (some_handle_breaks rest) none in
-    by_breaks directive.handle (behind directive.prefix tag) (spelling rest tag) parts.0 (spelling_breaks rest tag parts.1)
+    by_breaks directive.handle (behind directive.prefix tag) (spelling rest tag) parts.0 (spelled_sound rest tag parts.1)
 
-pub spelled_handle : (directives : List TagDirective) (tag handle suffix : Text)
-    → shorthand handle suffix ≡ spelling directives tag → some_handle_breaks directives ≡ false → list_any is_break handle ≡ false
-spelled_handle directives tag handle suffix is none = ap spelled_breaks is ∙ spelling_breaks directives tag none
+pub spelled_handle : (directives : List TagDirective) (tag : Option Text) (spelled : Option Spelling)
+    → spelled ≡ option_map (spelling directives) tag → some_handle_breaks directives ≡ false → spelling_breaks spelled ≡ false
+spelled_handle directives None spelled is none = ap spelling_breaks is
+spelled_handle directives (Some tag) spelled is none = ap spelling_breaks is ∙ spelled_sound directives tag none
 
 -- without a value nothing is added
 pub short_collection : {empty : Bool} (name tag : ℕ) → empty ≡ true → is_short (0 + name + tag) ≡ (empty && is_short (name + tag))

@@ -3,7 +3,7 @@ use Rattle.std.specs.Prelude.{ℕ, ℤ, pos, negsuc, false, Option, None, Some, 
 use Rattle.yaml_base.specs.Settings.{Settings, Effective, utf8, line_feed_break}
 use Rattle.yaml_base.specs.Seen.{seen_encoding, seen_break}
 use Rattle.yaml_emitter.specs.declared.settings.GivenSettings.{GivenSettings}
-use Rattle.yaml_emitter.specs.declared.settings.EffectiveSettings.{EffectiveSettings}
+use Rattle.yaml_emitter.specs.declared.effective.EffectiveSettings.{EffectiveSettings}
 
 -- what the setters were given
 abbrev pub seen_given : GivenSettings → Settings

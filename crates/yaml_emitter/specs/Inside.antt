@@ -3,10 +3,9 @@ use Rattle.std.specs.Prelude.{◌≡◌, ◌≤◌, false, true, vec_capacity}
 use Rattle.yaml_base.specs.Seen.{seen_events}
 use Rattle.yaml_pen.specs.Page.{IsUntouched}
 use Rattle.yaml_emitter.specs.Given.{seen_given, seen_effective}
-use Rattle.yaml_emitter.specs.Reach.{IsInForce}
 use Rattle.yaml_emitter.specs.Stages.{seen_stage}
 use Rattle.yaml_emitter.specs.Signs.{some_handle_breaks}
-use Rattle.yaml_emitter.specs.State.{State, FitsPage}
+use Rattle.yaml_emitter.specs.State.{State, FitsPage, is_at_stream}
 use Rattle.yaml_emitter.specs.WrittenPieces.{seen_mark}
 use Rattle.yaml_emitter.specs.declared.emitter.yaml_emitter_t.TheInside.{Inside}
 
@@ -27,12 +26,12 @@ state_of e =
       error = e.error;
     }
 
--- the settings in force are in range, four events find room, nothing is written or opened before an output is set, no
--- handle in force holds a break, and the page was begun with the stream
+-- four events find room, nothing is written, begun or opened before an output is set, no handle in force holds a break,
+-- and the page was begun with the stream
 pub record IsEmitter {A : Type 0} (e : Inside A) : Type 0 where
-  pub in_force : IsInForce e.settings
   pub room : 4 ≤ vec_capacity e.queue
   pub untouched : e.has_output ≡ false → IsUntouched e.pen
+  pub begun : is_at_stream (seen_stage e.stage e.directives e.frames) ≡ false → e.has_output ≡ true
   pub opened : e.opened ≡ true → e.has_output ≡ true
   pub handles : some_handle_breaks e.directives ≡ false
   pub canonical : e.settings.canonical ≡ e.given.canonical

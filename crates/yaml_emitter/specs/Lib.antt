@@ -9,6 +9,7 @@ pub mod Stages
 pub mod InForce
 pub mod Nesting
 pub mod WrittenPieces
+pub mod WrittenSigns
 pub mod State
 pub mod Inside
 pub mod Processing

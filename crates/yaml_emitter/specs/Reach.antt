@@ -1,14 +1,11 @@
--- How far in a document goes, and what its settings come to: the emitter's own bounds.
-use Rattle.std.specs.Prelude.{ℕ, pos, ◌≤◌, ◌≤ℤ◌, Option}
+-- How far in a document goes.
+use Rattle.std.specs.Prelude.{ℕ, ◌≤◌, Option}
 use Rattle.yaml_base.specs.Layout.{line_column}
-use Rattle.yaml_emitter.specs.declared.settings.EffectiveSettings.{EffectiveSettings}
 
--- entries stand at this column at most: a million open collections, each at most nine further in
+-- a million collections may be open, each at most nine columns further in than the one around it
+abbrev pub most_column : ℕ
+most_column = 9000000
+
+-- entries stand at this column
 abbrev pub IsWithinReach : Option ℕ → Type 0
-IsWithinReach column = line_column column ≤ 9000000
-
--- settings as they come to at a stream's start
-pub record IsInForce (settings : EffectiveSettings) : Type 0 where
-  pub low : 2 ≤ settings.indent
-  pub high : settings.indent ≤ 9
-  pub width : pos 0 ≤ℤ settings.width
+IsWithinReach column = line_column column ≤ most_column

@@ -6,6 +6,7 @@ ghost use Rattle.yaml_base.specs.Refusal.{name_or_tag_fault, properties_fault};
 ghost use Rattle.yaml_base.specs.Seen.{seen_event, seen_text};
 ghost use Rattle.yaml_base.specs.Tags.{anchor_fault, tag_fault};
 
+use crate::writing::{writes_collection_tag, writes_scalar_tag};
 use std::alloc::Allocator;
 use yaml_base::{
     YAML_ALIAS_EVENT, YAML_MAPPING_START_EVENT, YAML_SCALAR_EVENT, YAML_SEQUENCE_START_EVENT,
@@ -29,7 +30,7 @@ pub(crate) fn check_names<A: Allocator>(
             quoted_implicit,
             ..
         } => {
-            let written = canonical || (!*plain_implicit && !*quoted_implicit);
+            let written = writes_scalar_tag(canonical, *plain_implicit, *quoted_implicit);
             check_properties(anchor, tag, written)
         }
         YAML_SEQUENCE_START_EVENT {
@@ -43,7 +44,7 @@ pub(crate) fn check_names<A: Allocator>(
             tag,
             implicit,
             ..
-        } => check_properties(anchor, tag, canonical || !*implicit),
+        } => check_properties(anchor, tag, writes_collection_tag(canonical, *implicit)),
         _ => Ok(()),
     }
 }

@@ -6,8 +6,9 @@ ghost use Rattle.yaml_emitter.specs.Given.{nothing_given};
 ghost use Rattle.yaml_emitter.specs.StandsAfter.{StandsAfter};
 ghost use Rattle.yaml_emitter.specs.State.{State, new_state};
 
+use crate::effective::EffectiveSettings;
 use crate::frames::Frames;
-use crate::settings::{EffectiveSettings, GivenSettings};
+use crate::settings::GivenSettings;
 use crate::stage::Stage;
 use crate::writing::OpenMark;
 use std::alloc::Allocator;

@@ -8,7 +8,6 @@ ghost use Rattle.yaml_emitter.specs.Places.{seen_frame, seen_place};
 ghost use Rattle.yaml_base.specs.Refusal.{most_open};
 ghost use Rattle.yaml_emitter.specs.Nesting.{advanced};
 ghost use Rattle.yaml_emitter.specs.NodeEvents.{end_event};
-ghost use Rattle.yaml_emitter.specs.Reach.{IsWithinReach};
 ghost use Rattle.yaml_emitter.specs.Stages.{seen_stage};
 
 use crate::place::{Frame, Place};
@@ -63,7 +62,6 @@ impl<A: Allocator> Frames<A> {
     pub(crate) fn next_place(&self) -> Place
         ensures place { seen_place result ≡ steps.next_place self.now }
         ensures nested { line_column (seen_place result).column ≤ 9 * length self.now }
-        ensures reach { IsWithinReach result.column }
     {
         match self.innermost {
             Some(frame) => frame.place,

@@ -3,6 +3,7 @@
 
 mod check;
 mod directives;
+mod effective;
 mod emit;
 mod emitter;
 mod frames;

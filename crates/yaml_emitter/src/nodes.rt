@@ -15,16 +15,15 @@ ghost use Rattle.yaml_emitter.specs.Given.{seen_effective};
 ghost use Rattle.yaml_emitter.specs.NodeEvents.{brackets_of, end_event, first_entry, is_at_node, is_undented, start_event};
 ghost use Rattle.yaml_emitter.specs.Places.{seen_frame, seen_place, seen_role};
 ghost use Rattle.yaml_emitter.specs.Processing.{Processed};
-ghost use Rattle.yaml_emitter.specs.Reach.{IsInForce, IsWithinReach};
+ghost use Rattle.yaml_emitter.specs.Reach.{most_column};
 ghost use Rattle.yaml_emitter.specs.WrittenPieces.{piece_at};
 
 use crate::emitter::yaml_emitter_t;
 use crate::place::{Frame, Place, Role};
-use crate::settings::EffectiveSettings;
 use crate::writing::{
-    CollectionContent, ScalarContent, borrowed_text, entries_column, is_simple_alias_key,
-    is_simple_collection_key, is_simple_scalar_key, is_written_in_flow, write_alias,
-    write_collection_start, write_mapping_end, write_scalar, write_sequence_end,
+    CollectionContent, ScalarContent, Site, borrowed_text, entries_column, is_simple_alias_key,
+    is_simple_collection_key, is_simple_scalar_key, is_written_in_flow, spell, write_alias,
+    write_collection_end, write_collection_start, write_scalar, written_collection_tag,
     written_scalar_tag,
 };
 use std::alloc::Allocator;
@@ -43,7 +42,6 @@ impl<A: Allocator + Copy> yaml_emitter_t<A> {
         event: &yaml_event_t<A>,
         empty: bool,
     ) -> Result<(), yaml_error_t>
-        requires output { self.old.has_output ≡ true }
         requires stage { is_at_node self.old.stage ≡ true }
         requires names { name_or_tag_fault self.old.given.canonical (seen_event event.now) ≡ None }
         ensures { Processed (seen_event event.now) empty self.old self.new result }
@@ -61,8 +59,7 @@ impl<A: Allocator + Copy> yaml_emitter_t<A> {
                 anchor,
                 tag,
                 value,
-                *plain_implicit,
-                *quoted_implicit,
+                (*plain_implicit, *quoted_implicit),
                 *style,
             )),
             YAML_SEQUENCE_START_EVENT {
@@ -90,20 +87,23 @@ impl<A: Allocator + Copy> yaml_emitter_t<A> {
     }
 
     fn put_alias(&mut self, name: &str) -> Result<(), yaml_error_t>
-        requires output { self.old.has_output ≡ true }
         requires stage { is_at_node self.old.stage ≡ true }
         requires names { name_or_tag_fault self.old.given.canonical (alias (chars name.now)) ≡ None }
         ensures { (empty : Bool) → Processed (alias (chars name.now)) empty self.old self.new result }
     {
         let place = self.frames.next_place();
         let simple = is_simple_alias_key(&self.settings, &place, name);
-        write_alias(&mut self.pen, &self.settings, &place, simple, name)?;
+        let site = Site {
+            settings: &self.settings,
+            place,
+            simple,
+        };
+        write_alias(&mut self.pen, &site, name)?;
         self.stage = self.frames.advance(simple);
         Ok(())
     }
 
     fn put_scalar(&mut self, content: &ScalarContent) -> Result<(), yaml_error_t>
-        requires output { self.old.has_output ≡ true }
         requires stage { is_at_node self.old.stage ≡ true }
         requires names { name_or_tag_fault self.old.given.canonical (scalar (seen_scalar content.now)) ≡ None }
         ensures { (empty : Bool) → Processed (scalar (seen_scalar content.now)) empty self.old self.new result }
@@ -112,16 +112,15 @@ impl<A: Allocator + Copy> yaml_emitter_t<A> {
             return Err(yaml_error_t::NoTagNorImplicit);
         }
         let place = self.frames.next_place();
-        let simple = is_simple_scalar_key(&self.settings, &self.directives, &place, content);
-        self.mark = write_scalar(
-            &mut self.pen,
-            &self.settings,
-            &self.directives,
-            &place,
+        let written = written_scalar_tag(content, self.settings.canonical);
+        let tag = spell(written, &self.directives);
+        let simple = is_simple_scalar_key(&self.settings, &place, content, tag);
+        let site = Site {
+            settings: &self.settings,
+            place,
             simple,
-            content,
-            self.mark,
-        )?;
+        };
+        self.mark = write_scalar(&mut self.pen, &site, content, tag, self.mark)?;
         self.stage = self.frames.advance(simple);
         Ok(())
     }
@@ -134,7 +133,6 @@ impl<A: Allocator + Copy> yaml_emitter_t<A> {
         flow_asked: bool,
         empty: bool,
     ) -> Result<(), yaml_error_t>
-        requires output { self.old.has_output ≡ true }
         requires stage { is_at_node self.old.stage ≡ true }
         requires names { name_or_tag_fault self.old.given.canonical (start_event mapping (seen_collection content.now any_layout)) ≡ None }
         ensures { (style : CollectionStyle) → asks_flow style ≡ flow_asked → Processed (start_event mapping (seen_collection content.now style)) empty self.old self.new result }
@@ -150,7 +148,6 @@ impl<A: Allocator + Copy> yaml_emitter_t<A> {
         flow_asked: bool,
         empty: bool,
     ) -> Result<(), yaml_error_t>
-        requires output { self.old.has_output ≡ true }
         requires stage { is_at_node self.old.stage ≡ true }
         requires names { name_or_tag_fault self.old.given.canonical (start_event mapping (seen_collection content.now any_layout)) ≡ None }
         ensures { (style : CollectionStyle) → asks_flow style ≡ flow_asked → Processed (start_event mapping (seen_collection content.now style)) empty self.old self.new result }
@@ -159,29 +156,22 @@ impl<A: Allocator + Copy> yaml_emitter_t<A> {
             return Err(yaml_error_t::TooDeep);
         }
         let place = self.frames.next_place();
-        let simple = is_simple_collection_key(
-            &self.settings,
-            &self.directives,
-            &place,
-            content,
-            empty,
-        );
-        write_collection_start(
-            &mut self.pen,
-            &self.settings,
-            &self.directives,
-            &place,
+        let written = written_collection_tag(content, self.settings.canonical);
+        let tag = spell(written, &self.directives);
+        let simple = is_simple_collection_key(&self.settings, &place, content, tag, empty);
+        let site = Site {
+            settings: &self.settings,
+            place,
             simple,
-            content,
-        )?;
-        let in_flow = is_written_in_flow(&self.settings, &place, flow_asked, empty);
-        let frame = opened_frame(&self.pen, &self.settings, &place, mapping, in_flow, simple);
+        };
+        write_collection_start(&mut self.pen, &site, content, tag)?;
+        let in_flow = is_written_in_flow(&site, flow_asked, empty);
+        let frame = opened_frame(&self.pen, &site, mapping, in_flow);
         self.frames.push(frame)?;
         Ok(())
     }
 
     fn end_collection(&mut self, mapping: bool) -> Result<(), yaml_error_t>
-        requires output { self.old.has_output ≡ true }
         requires stage { is_at_node self.old.stage ≡ true }
         ensures { (empty : Bool) → Processed (end_event mapping) empty self.old self.new result }
     {
@@ -191,8 +181,13 @@ impl<A: Allocator + Copy> yaml_emitter_t<A> {
         match self.frames.pop() {
             None => Err(yaml_error_t::ExpectedNode),
             Some(frame) => {
-                let outer = self.frames.next_place();
-                write_collection_end(&mut self.pen, &self.settings, &outer, &frame, mapping)?;
+                let around = self.frames.next_place();
+                let outer = Site {
+                    settings: &self.settings,
+                    place: around,
+                    simple: frame.simple,
+                };
+                write_collection_end(&mut self.pen, &outer, &frame, mapping)?;
                 self.stage = self.frames.advance(frame.simple);
                 Ok(())
             }
@@ -205,15 +200,15 @@ fn lacks_tag_and_flags(content: &ScalarContent, canonical: bool) -> bool
     ensures { result ≡ style.lacks_tag_and_flags (is_some (scalar_tag canonical (seen_scalar content.now))) content.now.plain_implicit content.now.quoted_implicit }
 {
     let tag = written_scalar_tag(content, canonical);
-    !tag.is_some() && !content.plain_implicit && !content.quoted_implicit
+    tag.is_none() && !content.plain_implicit && !content.quoted_implicit
 }
 
+/// What a scalar's event holds; its tag may be left out in plain style, and in others.
 fn scalar_content<'a, A: Allocator>(
     anchor: &'a Option<String<A>>,
     tag: &'a Option<String<A>>,
     value: &'a String<A>,
-    plain_implicit: bool,
-    quoted_implicit: bool,
+    implicit: (bool, bool),
     style: yaml_scalar_style_t,
 ) -> ScalarContent<'a>
     ensures { seen_scalar result
@@ -221,8 +216,8 @@ fn scalar_content<'a, A: Allocator>(
           anchor = option_map seen_text anchor.now;
           tag = option_map seen_text tag.now;
           value = seen_text value.now;
-          plain_implicit = plain_implicit;
-          quoted_implicit = quoted_implicit;
+          plain_implicit = implicit.0;
+          quoted_implicit = implicit.1;
           style = seen_scalar_style style;
         } }
 {
@@ -230,8 +225,8 @@ fn scalar_content<'a, A: Allocator>(
         anchor: borrowed_text(anchor),
         tag: borrowed_text(tag),
         value: value.as_str(),
-        plain_implicit,
-        quoted_implicit,
+        plain_implicit: implicit.0,
+        quoted_implicit: implicit.1,
         style,
     }
 }
@@ -265,30 +260,27 @@ fn collection_content<'a, A: Allocator>(
 /// The frame of a collection whose start is written.
 fn opened_frame<A: Allocator>(
     pen: &Pen<A>,
-    settings: &EffectiveSettings,
-    place: &Place,
+    site: &Site,
     mapping: bool,
     in_flow: bool,
-    simple: bool,
 ) -> Frame
-    requires settings { IsInForce settings.now }
-    requires reach { IsWithinReach place.now.column }
+    requires { line_column site.now.place.column + 9 ≤ most_column }
     ensures frame { seen_frame result
         ≡ record {
-          place = entry_place in_flow (first_entry mapping) (layout.entries_column in_flow (is_undented mapping (seen_role place.now.role)) settings.now.indent place.now.column pen.now.cursor);
-          simple = simple;
+          place = entry_place in_flow (first_entry mapping) (layout.entries_column in_flow (is_undented mapping (seen_role site.now.place.role)) site.now.settings.now.indent site.now.place.column pen.now.cursor);
+          simple = site.now.simple;
         } }
-    ensures nested { line_column (seen_frame result).place.column ≤ line_column place.now.column + 9 }
+    ensures nested { line_column (seen_frame result).place.column ≤ line_column site.now.place.column + 9 }
 {
-    let undented = !mapping && place.role.is_in_mapping();
-    let column = entries_column(pen, settings, place, in_flow, undented);
+    let undented = !mapping && site.place.role.is_in_mapping();
+    let column = entries_column(pen, site.settings, &site.place, in_flow, undented);
     Frame {
         place: Place {
             in_flow,
             role: first_entry(mapping),
             column: Some(column),
         },
-        simple,
+        simple: site.simple,
     }
 }
 
@@ -299,24 +291,5 @@ fn first_entry(mapping: bool) -> Role
         Role::Key { first: true }
     } else {
         Role::Item { first: true }
-    }
-}
-
-fn write_collection_end<A: Allocator>(
-    pen: &mut Pen<A>,
-    settings: &EffectiveSettings,
-    outer: &Place,
-    frame: &Frame,
-    mapping: bool,
-) -> Result<(), yaml_error_t>
-    requires ready { IsReady pen.old }
-    requires reach { IsWithinReach outer.now.column }
-    ensures { (mark : ℕ) → Wrote (piece_at (end_piece (seen_effective settings.now) (brackets_of mapping) frame.now.place.in_flow (is_first (seen_role frame.now.place.role)) outer.now.column) mark) pen.old pen.new result }
-{
-    let empty = frame.place.role.is_first();
-    if mapping {
-        write_mapping_end(pen, settings, outer, frame.place.in_flow, empty)
-    } else {
-        write_sequence_end(pen, settings, outer, frame.place.in_flow, empty)
     }
 }

@@ -1,9 +1,6 @@
 //! Where a node stands, and the collections that are open around it.
 
-ghost use Rattle.std.specs.Prelude.{◌≡◌, ◌+◌, ◌≤◌, ◌^◌, ◌<◌, if◌then◌else◌};
-ghost use Rattle.yaml_base.specs.Layout.{deeper, is_in_mapping, is_key, line_column, root_place};
-ghost use Rattle.yaml_base.specs.Steps.{is_first, is_item, place_after, role_after};
-ghost use Rattle.yaml_emitter.specs.Places.{seen_role, seen_place, seen_frame};
+ghost use Rattle.yaml_emitter.specs.Reach.{IsWithinReach};
 
 /// What a node is. The first item or key of a flow collection writes its bracket; a value knows
 /// whether its key is simple.
@@ -22,6 +19,7 @@ pub(crate) struct Place {
     pub role: Role,
     /// In characters; none at the root.
     pub column: Option<u32>,
+    ghost reach: { IsWithinReach column },
 }
 
 /// An open collection: where its next entry stands, and whether it is itself a simple key.
@@ -32,6 +30,11 @@ pub(crate) struct Frame {
 }
 
 impl Role {
+    ghost use Rattle.std.specs.Prelude.{◌≡◌, if◌then◌else◌};
+    ghost use Rattle.yaml_base.specs.Layout.{is_in_mapping, is_key};
+    ghost use Rattle.yaml_base.specs.Steps.{is_first, is_item, role_after};
+    ghost use Rattle.yaml_emitter.specs.Places.{seen_role};
+
     pub(crate) fn is_key(self) -> bool
         ensures { result ≡ is_key (seen_role self) }
     {
@@ -79,6 +82,11 @@ impl Role {
 }
 
 impl Place {
+    ghost use Rattle.std.specs.Prelude.{◌≡◌, ◌≤◌, ◌+◌};
+    ghost use Rattle.yaml_base.specs.Layout.{deeper, line_column, root_place};
+    ghost use Rattle.yaml_emitter.specs.Places.{seen_place};
+    ghost use Rattle.yaml_emitter.specs.Reach.{most_column};
+
     pub(crate) fn root() -> Place
         ensures { seen_place result ≡ root_place }
     {
@@ -91,21 +99,27 @@ impl Place {
 
     /// Where a new line begins here.
     pub(crate) fn line_column(&self) -> u32
-        ensures { result ≡ line_column (seen_place self.now).column }
+        ensures value { result ≡ line_column (seen_place self.now).column }
+        ensures within { result ≤ most_column }
     {
         self.column.unwrap_or(0)
     }
 
     /// One indent further in.
     pub(crate) fn deeper(&self, indent: u32) -> u32
-        requires { deeper indent (seen_place self.now).column < 2 ^ 32 }
-        ensures { result ≡ deeper indent (seen_place self.now).column }
+        requires { indent ≤ 9 }
+        ensures value { result ≡ deeper indent (seen_place self.now).column }
+        ensures within { result ≤ most_column + 9 }
     {
         self.line_column() + indent
     }
 }
 
 impl Frame {
+    ghost use Rattle.std.specs.Prelude.{◌≡◌};
+    ghost use Rattle.yaml_base.specs.Steps.{place_after};
+    ghost use Rattle.yaml_emitter.specs.Places.{seen_frame};
+
     /// After a node of the collection, which may have been a simple key.
     pub(crate) fn after(self, simple: bool) -> Frame
         ensures { seen_frame result ≡ record (seen_frame self) { place = place_after (seen_frame self).place simple } }

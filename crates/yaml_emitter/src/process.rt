@@ -13,9 +13,10 @@ ghost use Rattle.yaml_emitter.specs.Processing.{Processed};
 ghost use Rattle.yaml_emitter.specs.WrittenPieces.{piece_at, seen_mark};
 
 use crate::directives::next_directives;
+use crate::effective::EffectiveSettings;
 use crate::emitter::yaml_emitter_t;
 use crate::stage::Stage;
-use crate::writing::{OpenMark, write_document_end, write_document_start, write_stream_end};
+use crate::writing::{OpenMark, StartContent, write_document_end, write_document_start, write_stream_end};
 use std::alloc::Allocator;
 use std::mem;
 use yaml_base::{
@@ -49,7 +50,6 @@ impl<A: Allocator + Copy> yaml_emitter_t<A> {
         first: bool,
         event: &yaml_event_t<A>,
     ) -> Result<(), yaml_error_t>
-        requires output { self.old.has_output ≡ true }
         requires stage { self.old.stage ≡ at_document first }
         requires names { name_or_tag_fault self.old.given.canonical (seen_event event.now) ≡ None }
         ensures { (empty : Bool) → Processed (seen_event event.now) empty self.old self.new result }
@@ -75,7 +75,6 @@ impl<A: Allocator + Copy> yaml_emitter_t<A> {
         &mut self,
         event: &yaml_event_t<A>,
     ) -> Result<(), yaml_error_t>
-        requires output { self.old.has_output ≡ true }
         requires stage { self.old.stage ≡ at_document_end }
         requires names { name_or_tag_fault self.old.given.canonical (seen_event event.now) ≡ None }
         ensures { (empty : Bool) → Processed (seen_event event.now) empty self.old self.new result }
@@ -88,7 +87,6 @@ impl<A: Allocator + Copy> yaml_emitter_t<A> {
 
     /// Behind the stream's end.
     pub(crate) fn expect_nothing(&mut self, event: &yaml_event_t<A>) -> Result<(), yaml_error_t>
-        requires output { self.old.has_output ≡ true }
         requires stage { self.old.stage ≡ at_nothing }
         requires names { name_or_tag_fault self.old.given.canonical (seen_event event.now) ≡ None }
         ensures { (empty : Bool) → Processed (seen_event event.now) empty self.old self.new result }
@@ -120,7 +118,6 @@ impl<A: Allocator + Copy> yaml_emitter_t<A> {
         own: &[yaml_tag_directive_t<A>],
         implicit: bool,
     ) -> Result<(), yaml_error_t>
-        requires output { self.old.has_output ≡ true }
         requires stage { self.old.stage ≡ at_document first }
         ensures { (empty : Bool) → Processed
             (document_start (record { version = option_map seen_version version; directives = map seen_directive own.now; implicit = implicit }))
@@ -128,15 +125,12 @@ impl<A: Allocator + Copy> yaml_emitter_t<A> {
     {
         let before = mem::replace(&mut self.directives, Directives::new(self.alloc));
         let directives = next_directives(self.alloc, before, version, own)?;
-        write_document_start(
-            &mut self.pen,
-            self.settings.canonical,
-            first,
+        let start = StartContent {
             version,
-            own,
+            directives: own,
             implicit,
-            self.mark,
-        )?;
+        };
+        write_document_start(&mut self.pen, &self.settings, first, &start, self.mark)?;
         self.directives = directives;
         self.frames.clear();
         self.mark = OpenMark::Closed;
@@ -146,11 +140,10 @@ impl<A: Allocator + Copy> yaml_emitter_t<A> {
 
     /// A document's end, with `...` where it isn't implicit.
     fn end_document(&mut self, implicit: bool) -> Result<(), yaml_error_t>
-        requires output { self.old.has_output ≡ true }
         requires stage { self.old.stage ≡ at_document_end }
         ensures { (empty : Bool) → Processed (document_end implicit) empty self.old self.new result }
     {
-        hand_out_document_end(&mut self.pen, implicit)?;
+        hand_out_document_end(&mut self.pen, &self.settings, implicit)?;
         self.mark = self.mark.after_document(implicit);
         self.stage = Stage::Document { first: false };
         Ok(())
@@ -158,31 +151,38 @@ impl<A: Allocator + Copy> yaml_emitter_t<A> {
 
     /// The stream's end.
     fn end_stream(&mut self, first: bool) -> Result<(), yaml_error_t>
-        requires output { self.old.has_output ≡ true }
         requires stage { self.old.stage ≡ at_document first }
         ensures { (empty : Bool) → Processed stream_end empty self.old self.new result }
     {
-        hand_out_stream_end(&mut self.pen, self.mark)?;
+        hand_out_stream_end(&mut self.pen, &self.settings, self.mark)?;
         self.stage = Stage::Nothing;
         Ok(())
     }
 }
 
-fn hand_out_document_end<A: Allocator>(pen: &mut Pen<A>, implicit: bool) -> Result<(), yaml_error_t>
+fn hand_out_document_end<A: Allocator>(
+    pen: &mut Pen<A>,
+    settings: &EffectiveSettings,
+    implicit: bool,
+) -> Result<(), yaml_error_t>
     requires { IsReady pen.old }
     ensures written { (mark : ℕ) → Wrote (piece_at (document_end_piece implicit) mark) pen.old pen.new result }
     ensures handed_out { OnOk result (pen.new.output ≡ encoded pen.new) }
 {
-    write_document_end(pen, implicit)?;
+    write_document_end(pen, settings, implicit)?;
     pen.flush()
 }
 
-fn hand_out_stream_end<A: Allocator>(pen: &mut Pen<A>, mark: OpenMark) -> Result<(), yaml_error_t>
+fn hand_out_stream_end<A: Allocator>(
+    pen: &mut Pen<A>,
+    settings: &EffectiveSettings,
+    mark: OpenMark,
+) -> Result<(), yaml_error_t>
     requires { IsReady pen.old }
     ensures written { Wrote (piece_at stream_end_piece (seen_mark mark)) pen.old pen.new result }
     ensures handed_out { OnOk result (pen.new.output ≡ encoded pen.new) }
 {
-    write_stream_end(pen, mark)?;
+    write_stream_end(pen, settings, mark)?;
     pen.flush()
 }
 

@@ -4,8 +4,8 @@ ghost use Rattle.std.specs.Prelude.{◌≡◌, ◌≤◌, pos, ◌≤ℤ◌, IsS
 ghost use Rattle.yaml_base.specs.Settings.{effective, effective_encoding, effective_indent, effective_width, line_feed_break};
 ghost use Rattle.yaml_base.specs.Seen.{seen_encoding, seen_break};
 ghost use Rattle.yaml_emitter.specs.Given.{nothing_given, seen_width, seen_given, seen_effective};
-ghost use Rattle.yaml_emitter.specs.Reach.{IsInForce};
 
+use crate::effective::EffectiveSettings;
 use yaml_base::{
     YAML_ANY_BREAK, YAML_ANY_ENCODING, YAML_LN_BREAK, YAML_UTF8_ENCODING, yaml_break_t,
     yaml_encoding_t,
@@ -19,21 +19,6 @@ pub(crate) struct GivenSettings {
     pub unicode: bool,
     pub indent: Option<i32>,
     pub width: Option<i32>,
-    pub line_break: yaml_break_t,
-    pub breaks12: bool,
-    pub limit: usize,
-}
-
-/// What the layout goes by. Neither the encoding nor the break is ANY.
-#[derive(Clone, Copy)]
-pub(crate) struct EffectiveSettings {
-    pub encoding: yaml_encoding_t,
-    pub canonical: bool,
-    pub unicode: bool,
-    /// In columns, 2 to 9.
-    pub indent: u32,
-    /// In characters; `i32::MAX` for no limit.
-    pub width: i32,
     pub line_break: yaml_break_t,
     pub breaks12: bool,
     pub limit: usize,
@@ -109,7 +94,6 @@ impl GivenSettings {
     /// What the settings come to for a stream that begins with this encoding.
     pub(crate) fn effective(&self, of_stream: yaml_encoding_t) -> EffectiveSettings
         ensures gives { seen_effective result ≡ effective (seen_given self.now) (seen_encoding of_stream) }
-        ensures in_force { IsInForce result }
         ensures encoding { IsSome (seen_encoding result.encoding) }
         ensures line_break { IsSome (seen_break result.line_break) }
     {

@@ -1,23 +1,32 @@
 //! What events write, put through the pen piece by piece.
 mod contents;
-mod counts;
 mod directives;
 mod documents;
+mod indicators;
 mod marks;
 mod nodes;
 mod places;
 mod properties;
 mod scalars;
+mod signs;
+mod simple_keys;
+mod site;
 mod spelling;
 mod styles;
 
-pub(crate) use contents::{CollectionContent, ScalarContent, borrowed_text, written_scalar_tag};
-pub(crate) use counts::{is_simple_alias_key, is_simple_collection_key, is_simple_scalar_key};
-pub(crate) use directives::write_document_start;
+pub(crate) use contents::{
+    CollectionContent, ScalarContent, borrowed_text, writes_collection_tag, writes_scalar_tag,
+    written_collection_tag, written_scalar_tag,
+};
+pub(crate) use directives::{StartContent, write_document_start};
 pub(crate) use documents::{write_document_end, write_stream_end};
 pub(crate) use marks::OpenMark;
 pub(crate) use nodes::{
-    entries_column, is_written_in_flow, write_alias, write_collection_start, write_mapping_end,
-    write_sequence_end,
+    entries_column, is_written_in_flow, write_alias, write_collection_end, write_collection_start,
 };
 pub(crate) use scalars::write_scalar;
+pub(crate) use simple_keys::{
+    is_simple_alias_key, is_simple_collection_key, is_simple_scalar_key,
+};
+pub(crate) use site::Site;
+pub(crate) use spelling::{SpelledTag, spell};

@@ -1,6 +1,6 @@
 //! What events hold, borrowed.
 
-ghost use Rattle.std.specs.Prelude.{◌≡◌, option_map};
+ghost use Rattle.std.specs.Prelude.{◌≡◌, ◌||◌, ◌&&◌, not, option_map};
 ghost use Rattle.yaml_base.specs.Event.{CollectionStyle};
 ghost use Rattle.yaml_base.specs.Refusal.{scalar_tag, collection_tag};
 ghost use Rattle.yaml_base.specs.Seen.{seen_text};
@@ -28,28 +28,46 @@ pub(crate) struct CollectionContent<'a> {
     pub implicit: bool,
 }
 
-/// The tag that a scalar is written with: none where a flag lets it be left out.
+/// A scalar's tag is written in canonical mode, and where no flag lets it be left out.
+pub(crate) fn writes_scalar_tag(
+    canonical: bool,
+    plain_implicit: bool,
+    quoted_implicit: bool,
+) -> bool
+    ensures { result ≡ (canonical || (not plain_implicit && not quoted_implicit)) }
+{
+    canonical || (!plain_implicit && !quoted_implicit)
+}
+
+/// A collection's tag is written in canonical mode, and where its flag doesn't let it be left out.
+pub(crate) fn writes_collection_tag(canonical: bool, implicit: bool) -> bool
+    ensures { result ≡ (canonical || not implicit) }
+{
+    canonical || !implicit
+}
+
+/// The tag that a scalar is written with, where there is one.
 pub(crate) fn written_scalar_tag<'a>(
     content: &ScalarContent<'a>,
     canonical: bool,
 ) -> Option<&'a str>
     ensures { seen_name result ≡ scalar_tag canonical (seen_scalar content.now) }
 {
-    if canonical || (!content.plain_implicit && !content.quoted_implicit) {
+    if writes_scalar_tag(canonical, content.plain_implicit, content.quoted_implicit) {
         content.tag
     } else {
         None
     }
 }
 
-/// The tag that a collection is written with: none where the flag lets it be left out.
+/// The tag that a collection is written with, where there is one.
 pub(crate) fn written_collection_tag<'a>(
     content: &CollectionContent<'a>,
     canonical: bool,
 ) -> Option<&'a str>
     ensures { (style : CollectionStyle) → seen_name result ≡ collection_tag canonical (seen_collection content.now style) }
 {
-    if canonical || !content.implicit {
+    if writes_collection_tag(canonical, content.implicit) {
         content.tag
     } else {
         None

@@ -3,54 +3,61 @@
 ghost use Rattle.std.specs.Prelude.{◌≡◌, ◌==◌, ◌||◌, ◌&&◌, option_map, is_some, map, length, chars, not, false};
 ghost use Rattle.std.specs.List.{list_any};
 ghost use Rattle.yaml_base.specs.Characters.{is_break};
-ghost use Rattle.yaml_base.specs.Layout.{document_start_piece, tag_directive_laid, tag_directives_laid};
+ghost use Rattle.yaml_base.specs.Layout.{document_start_piece, root_place, tag_directive_laid, tag_directives_laid};
+ghost use Rattle.yaml_base.specs.Cursor.{Cursor};
+ghost use Rattle.yaml_base.specs.Settings.{Effective};
 ghost use Rattle.yaml_base.specs.Seen.{seen_directive, seen_version, seen_text};
 ghost use Rattle.yaml_pen.specs.Page.{IsReady};
 ghost use Rattle.yaml_pen.specs.Wrote.{Wrote};
 ghost use Rattle.yaml_emitter.specs.Signs.{some_handle_breaks};
-ghost use Rattle.yaml_emitter.specs.WrittenPieces.{document_head_laid, piece_at, seen_mark};
+ghost use Rattle.yaml_emitter.specs.WrittenPieces.{document_head_laid, piece_at, seen_mark, tag_words_laid};
+ghost use Rattle.yaml_emitter.specs.WrittenSigns.{signs_laid, some_sign_breaks};
 
+use crate::effective::EffectiveSettings;
 use crate::writing::documents::{
-    write_closing_mark, write_document_mark, write_line_end, write_version, write_word,
+    LINE, write_closing_mark, write_document_mark, write_outside, write_version,
 };
+use crate::writing::indicators::Indicator;
 use crate::writing::marks::OpenMark;
-use crate::writing::places::write_nothing;
+use crate::writing::signs::{Sign, Signs, write_nothing};
 use std::alloc::Allocator;
 use yaml_base::{yaml_error_t, yaml_tag_directive_t, yaml_version_directive_t};
-use yaml_mark::{write_tag_content, write_tag_handle};
 use yaml_pen::Pen;
+
+/// What a document's start holds.
+#[derive(Clone, Copy)]
+pub(crate) struct StartContent<'a, A: Allocator> {
+    pub version: Option<yaml_version_directive_t>,
+    pub directives: &'a [yaml_tag_directive_t<A>],
+    pub implicit: bool,
+}
 
 /// Writes the start of a document, the stream's first or another.
 pub(crate) fn write_document_start<A: Allocator>(
     pen: &mut Pen<A>,
-    canonical: bool,
+    settings: &EffectiveSettings,
     first: bool,
-    version: Option<yaml_version_directive_t>,
-    directives: &[yaml_tag_directive_t<A>],
-    implicit: bool,
+    start: &StartContent<A>,
     mark: OpenMark,
 ) -> Result<(), yaml_error_t>
     requires ready { IsReady pen.old }
-    requires handles { some_handle_breaks (map seen_directive directives.now) ≡ false }
+    requires handles { some_handle_breaks (map seen_directive start.now.directives.now) ≡ false }
     ensures { Wrote
         (piece_at
-        (document_start_piece canonical first record { version = option_map seen_version version; directives = map seen_directive directives.now; implicit = implicit })
+        (document_start_piece settings.now.canonical first record { version = option_map seen_version start.now.version; directives = map seen_directive start.now.directives.now; implicit = start.now.implicit })
         (seen_mark mark))
         pen.old pen.new result }
 {
-    let directed = has_directives(version, directives);
-    let explicit = is_explicit(canonical, first, implicit, directed);
+    let directed = has_directives(start);
+    let explicit = is_explicit(settings.canonical, first, start.implicit, directed);
     let closes = closes_before(directed, mark);
-    write_document_head(pen, canonical, closes, version, directives, explicit)
+    write_document_head(pen, settings, closes, start, explicit)
 }
 
-fn has_directives<A: Allocator>(
-    version: Option<yaml_version_directive_t>,
-    directives: &[yaml_tag_directive_t<A>],
-) -> bool
-    ensures { result ≡ (is_some (option_map seen_version version) || not (length (map seen_directive directives.now) == 0)) }
+fn has_directives<A: Allocator>(start: &StartContent<A>) -> bool
+    ensures { result ≡ (is_some (option_map seen_version start.now.version) || not (length (map seen_directive start.now.directives.now) == 0)) }
 {
-    version.is_some() || directives.len() != 0
+    start.version.is_some() || start.directives.len() != 0
 }
 
 /// `---` is written where the event asks for it, after another document, in canonical mode, and after directives.
@@ -69,27 +76,27 @@ fn closes_before(directed: bool, mark: OpenMark) -> bool
 
 fn write_document_head<A: Allocator>(
     pen: &mut Pen<A>,
-    canonical: bool,
+    settings: &EffectiveSettings,
     closes: bool,
-    version: Option<yaml_version_directive_t>,
-    directives: &[yaml_tag_directive_t<A>],
+    start: &StartContent<A>,
     explicit: bool,
 ) -> Result<(), yaml_error_t>
     requires ready { IsReady pen.old }
-    requires handles { some_handle_breaks (map seen_directive directives.now) ≡ false }
+    requires handles { some_handle_breaks (map seen_directive start.now.directives.now) ≡ false }
     ensures { Wrote
-        (document_head_laid canonical closes (option_map seen_version version) (map seen_directive directives.now) explicit)
+        (document_head_laid settings.now.canonical closes (option_map seen_version start.now.version) (map seen_directive start.now.directives.now) explicit)
         pen.old pen.new result }
 {
-    write_closing_mark(pen, closes)?;
-    write_version(pen, version)?;
-    write_tag_directives(pen, directives)?;
-    write_document_mark(pen, canonical, explicit)
+    write_closing_mark(pen, settings, closes)?;
+    write_version(pen, settings, start.version)?;
+    write_tag_directives(pen, settings, start.directives)?;
+    write_document_mark(pen, settings, explicit)
 }
 
 /// `%TAG` lines, one for each directive.
 fn write_tag_directives<A: Allocator>(
     pen: &mut Pen<A>,
+    settings: &EffectiveSettings,
     directives: &[yaml_tag_directive_t<A>],
 ) -> Result<(), yaml_error_t>
     requires ready { IsReady pen.old }
@@ -98,26 +105,33 @@ fn write_tag_directives<A: Allocator>(
 {
     write_nothing(pen)?;
     for directive in directives {
-        write_tag_directive(pen, directive)?;
+        write_tag_directive(pen, settings, directive)?;
     }
     Ok(())
 }
 
 fn write_tag_directive<A: Allocator>(
     pen: &mut Pen<A>,
+    settings: &EffectiveSettings,
     directive: &yaml_tag_directive_t<A>,
 ) -> Result<(), yaml_error_t>
     requires ready { IsReady pen.old }
     requires no_break { list_any is_break (seen_text directive.now.handle) ≡ false }
     ensures { Wrote (tag_directive_laid (seen_directive directive.now)) pen.old pen.new result }
 {
-    write_tag_line(pen, directive.handle.as_str(), directive.prefix.as_str())
+    write_tag_line(
+        pen,
+        settings,
+        directive.handle.as_str(),
+        directive.prefix.as_str(),
+    )
 }
 
-fn write_tag_line<A: Allocator>(
+fn write_tag_line<'a, A: Allocator>(
     pen: &mut Pen<A>,
-    handle: &str,
-    prefix: &str,
+    settings: &EffectiveSettings,
+    handle: &'a str,
+    prefix: &'a str,
 ) -> Result<(), yaml_error_t>
     requires ready { IsReady pen.old }
     requires no_break { list_any is_break (chars handle.now) ≡ false }
@@ -125,8 +139,15 @@ fn write_tag_line<A: Allocator>(
         (tag_directive_laid (record { handle = chars handle.now; prefix = chars prefix.now }))
         pen.old pen.new result }
 {
-    write_word(pen, "%TAG")?;
-    write_tag_handle(pen, handle)?;
-    write_tag_content(pen, prefix, true)?;
-    write_line_end(pen)
+    write_outside(pen, settings, tag_directive_signs(handle, prefix))?;
+    write_outside(pen, settings, LINE)
+}
+
+fn tag_directive_signs<'a>(handle: &'a str, prefix: &'a str) -> Signs<'a>
+    requires { list_any is_break (chars handle.now) ≡ false }
+    ensures whole { some_sign_breaks result ≡ false }
+    ensures laid { (s : Effective) (cursor : Cursor) → signs_laid s root_place result cursor ≡ tag_words_laid (record { handle = chars handle.now; prefix = chars prefix.now }) cursor }
+{
+    use Sign::*;
+    (Mark(Indicator::TagDirective), Handle(handle), Prefix(prefix))
 }

@@ -1,147 +1,105 @@
 //! Aliases, and the starts and ends of collections (YAML 1.1, chapter 10).
 
-ghost use Rattle.std.specs.Prelude.{◌≡◌, ℕ, true, false, chars, codes, if◌then◌else◌};
+ghost use Rattle.std.specs.Prelude.{◌≡◌, ◌≤◌, ◌+◌, ℕ, List, false, chars, option_map};
 ghost use Rattle.std.specs.List.{list_any};
 ghost use Rattle.yaml_base.specs.Characters.{is_break};
-ghost use Rattle.yaml_base.specs.Cursor.{then_laid, text_laid, indicator, new_line};
-ghost use Rattle.yaml_base.specs.Event.{Collection, CollectionStyle};
+ghost use Rattle.yaml_base.specs.Cursor.{then_laid};
+ghost use Rattle.yaml_base.specs.Event.{Collection, CollectionStyle, TagDirective};
 ghost use Rattle.yaml_base.specs.Layout as layout;
-ghost use Rattle.yaml_base.specs.Layout.{alias_laid, alias_piece, start_piece, end_piece, end_laid, empty_or_comma, square, curly, place_laid, properties_laid, asks_flow, line_column};
+ghost use Rattle.yaml_base.specs.Layout.{alias_piece, anchor_laid, end_piece, line_column, place_laid, start_piece, asks_flow};
+ghost use Rattle.yaml_base.specs.Refusal.{collection_tag};
+ghost use Rattle.yaml_base.specs.Steps.{is_first};
+ghost use Rattle.yaml_base.specs.Tags.{spelling};
 ghost use Rattle.yaml_pen.specs.Page.{IsReady};
 ghost use Rattle.yaml_pen.specs.Wrote.{Wrote};
 ghost use Rattle.yaml_emitter.specs.BorrowedTexts.{seen_name, seen_collection};
 ghost use Rattle.yaml_emitter.specs.Given.{seen_effective};
-ghost use Rattle.yaml_emitter.specs.Places.{seen_place};
-ghost use Rattle.yaml_emitter.specs.Reach.{IsInForce, IsWithinReach};
-ghost use Rattle.yaml_emitter.specs.Signs.{is_sign, name_breaks, some_handle_breaks};
+ghost use Rattle.yaml_emitter.specs.NodeEvents.{brackets_of};
+ghost use Rattle.yaml_emitter.specs.Places.{seen_place, seen_role};
+ghost use Rattle.yaml_emitter.specs.Signs.{name_breaks};
 ghost use Rattle.yaml_emitter.specs.WrittenPieces.{piece_at};
+ghost use Rattle.yaml_emitter.specs.WrittenSigns.{seen_tag, spelled_tag_laid, spelling_breaks};
 
-use crate::place::Place;
-use crate::settings::EffectiveSettings;
-use crate::writing::contents::{CollectionContent, written_collection_tag};
-use crate::writing::places::{write_line, write_nothing, write_place, write_sign};
-use crate::writing::properties::{write_properties, write_signed_name};
+use crate::effective::EffectiveSettings;
+use crate::place::{Frame, Place};
+use crate::writing::places::{flow_end_signs, write_place};
+use crate::writing::contents::CollectionContent;
+use crate::writing::properties::{alias_signs, has_properties, write_properties};
+use crate::writing::signs::{write_nothing, write_signs};
+use crate::writing::site::Site;
+use crate::writing::spelling::SpelledTag;
 use std::alloc::Allocator;
 use yaml_base::yaml_error_t;
-use yaml_mark::Directives;
 use yaml_pen::Pen;
 
-/// Writes an alias at its place; as a simple key it is followed by a space.
+/// Writes an alias at its place.
 pub(crate) fn write_alias<A: Allocator>(
     pen: &mut Pen<A>,
-    settings: &EffectiveSettings,
-    place: &Place,
-    simple: bool,
+    site: &Site,
     name: &str,
 ) -> Result<(), yaml_error_t>
     requires ready { IsReady pen.old }
-    requires settings { IsInForce settings.now }
-    requires reach { IsWithinReach place.now.column }
     requires name { list_any is_break (chars name.now) ≡ false }
     ensures { (mark : ℕ)
         → Wrote
-        (piece_at (alias_piece (seen_effective settings.now) (seen_place place.now) simple (chars name.now)) mark)
+        (piece_at (alias_piece (seen_effective site.now.settings.now) (seen_place site.now.place) site.now.simple (chars name.now)) mark)
         pen.old pen.new result }
 {
-    write_place(pen, settings, place, simple)?;
-    write_alias_name(pen, name, simple)
+    write_place(pen, site)?;
+    write_signs(pen, site, alias_signs(name, site.simple))
 }
 
-fn write_alias_name<A: Allocator>(
+/// Writes what stands before a node, its anchor and its tag.
+pub(crate) fn write_lead<A: Allocator>(
     pen: &mut Pen<A>,
-    name: &str,
-    simple: bool,
-) -> Result<(), yaml_error_t>
-    requires ready { IsReady pen.old }
-    requires name { list_any is_break (chars name.now) ≡ false }
-    ensures { Wrote (alias_laid (chars name.now) simple) pen.old pen.new result }
-{
-    write_signed_name(pen, "*", name)?;
-    write_space(pen, simple)
-}
-
-fn write_space<A: Allocator>(pen: &mut Pen<A>, asked: bool) -> Result<(), yaml_error_t>
-    requires { IsReady pen.old }
-    ensures { Wrote (text_laid (if asked then codes " " else codes "")) pen.old pen.new result }
-{
-    if asked {
-        pen.put(b' ')
-    } else {
-        write_nothing(pen)
-    }
-}
-
-/// Writes a collection's start at its place; its brackets come with the next event.
-pub(crate) fn write_collection_start<A: Allocator>(
-    pen: &mut Pen<A>,
-    settings: &EffectiveSettings,
-    directives: &Directives<A>,
-    place: &Place,
-    simple: bool,
-    content: &CollectionContent,
-) -> Result<(), yaml_error_t>
-    requires ready { IsReady pen.old }
-    requires settings { IsInForce settings.now }
-    requires reach { IsWithinReach place.now.column }
-    requires anchor { name_breaks (seen_name content.now.anchor) ≡ false }
-    requires handles { some_handle_breaks directives.now ≡ false }
-    ensures { (style : CollectionStyle) (mark : ℕ)
-        → Wrote
-        (piece_at
-        (start_piece (seen_effective settings.now) directives.now (seen_place place.now) simple (seen_collection content.now style))
-        mark)
-        pen.old pen.new result }
-{
-    let tag = written_collection_tag(content, settings.canonical);
-    write_node_lead(
-        pen,
-        settings,
-        directives,
-        place,
-        simple,
-        content.anchor,
-        tag,
-        false,
-    )
-}
-
-/// What stands before a node, its anchor and its tag.
-pub(crate) fn write_node_lead<A: Allocator>(
-    pen: &mut Pen<A>,
-    settings: &EffectiveSettings,
-    directives: &Directives<A>,
-    place: &Place,
-    simple: bool,
+    site: &Site,
     anchor: Option<&str>,
-    tag: Option<&str>,
+    tag: Option<SpelledTag>,
     bare: bool,
 ) -> Result<(), yaml_error_t>
     requires ready { IsReady pen.old }
-    requires settings { IsInForce settings.now }
-    requires reach { IsWithinReach place.now.column }
     requires anchor { name_breaks (seen_name anchor) ≡ false }
-    requires handles { some_handle_breaks directives.now ≡ false }
+    requires handle { spelling_breaks (seen_tag tag) ≡ false }
     ensures { Wrote
         (λ cursor. then_laid
-        (place_laid (seen_effective settings.now) (seen_place place.now) simple cursor)
-        (properties_laid directives.now (seen_name anchor.entry) (seen_name tag.entry) bare))
+        (place_laid (seen_effective site.now.settings.now) (seen_place site.now.place) site.now.simple cursor)
+        (λ between. then_laid (anchor_laid (seen_name anchor.entry) between) (spelled_tag_laid (seen_tag tag.entry) bare)))
         pen.old pen.new result }
 {
-    write_place(pen, settings, place, simple)?;
-    write_properties(pen, directives, anchor, tag, bare)
+    write_place(pen, site)?;
+    if has_properties(anchor, tag, bare) {
+        write_properties(pen, site, anchor, tag, bare)
+    } else {
+        Ok(())
+    }
+}
+
+/// Writes a collection's start at its place, its tag spelled so; its brackets come with the next event.
+pub(crate) fn write_collection_start<A: Allocator>(
+    pen: &mut Pen<A>,
+    site: &Site,
+    content: &CollectionContent,
+    tag: Option<SpelledTag>,
+) -> Result<(), yaml_error_t>
+    requires ready { IsReady pen.old }
+    requires anchor { name_breaks (seen_name content.now.anchor) ≡ false }
+    requires handle { spelling_breaks (seen_tag tag) ≡ false }
+    ensures written { (directives : List TagDirective) (style : CollectionStyle) (mark : ℕ)
+        → seen_tag tag.entry ≡ option_map (spelling directives) (collection_tag site.now.settings.now.canonical (seen_collection content.now style))
+        → Wrote
+        (piece_at (start_piece (seen_effective site.now.settings.now) directives (seen_place site.now.place) site.now.simple (seen_collection content.now style)) mark)
+        pen.old pen.new result }
+    ensures ready { IsReady pen.new }
+{
+    write_lead(pen, site, content.anchor, tag, false)
 }
 
 /// A collection is written in flow where it stands in flow, in canonical mode, by its style, or where it is empty.
-pub(crate) fn is_written_in_flow(
-    settings: &EffectiveSettings,
-    place: &Place,
-    flow_asked: bool,
-    empty: bool,
-) -> bool
+pub(crate) fn is_written_in_flow(site: &Site, flow_asked: bool, empty: bool) -> bool
     ensures { (start : Collection)
-        → asks_flow start.style ≡ flow_asked → result ≡ layout.is_written_in_flow (seen_effective settings.now) (seen_place place.now) start empty }
+        → asks_flow start.style ≡ flow_asked → result ≡ layout.is_written_in_flow (seen_effective site.now.settings.now) (seen_place site.now.place) start empty }
 {
-    place.in_flow || settings.canonical || flow_asked || empty
+    site.place.in_flow || site.settings.canonical || flow_asked || empty
 }
 
 /// Where the entries of a collection stand whose start has been written.
@@ -152,9 +110,8 @@ pub(crate) fn entries_column<A: Allocator>(
     in_flow: bool,
     undented: bool,
 ) -> u32
-    requires settings { IsInForce settings.now }
-    requires reach { IsWithinReach place.now.column }
-    ensures { result ≡ layout.entries_column in_flow undented settings.now.indent place.now.column pen.now.cursor }
+    ensures value { result ≡ layout.entries_column in_flow undented settings.now.indent place.now.column pen.now.cursor }
+    ensures within { result ≤ line_column place.now.column + 9 }
 {
     match place.column {
         None if !in_flow => 0,
@@ -163,121 +120,20 @@ pub(crate) fn entries_column<A: Allocator>(
     }
 }
 
-/// Writes a sequence's end; that of one in a block is nothing.
-pub(crate) fn write_sequence_end<A: Allocator>(
+/// Writes a collection's end, at the place of the collection around it; that of one in a block is nothing.
+pub(crate) fn write_collection_end<A: Allocator>(
     pen: &mut Pen<A>,
-    settings: &EffectiveSettings,
-    outer: &Place,
-    in_flow: bool,
-    empty: bool,
+    outer: &Site,
+    frame: &Frame,
+    mapping: bool,
 ) -> Result<(), yaml_error_t>
-    requires ready { IsReady pen.old }
-    requires reach { IsWithinReach outer.now.column }
-    ensures { (mark : ℕ)
-        → Wrote
-        (piece_at (end_piece (seen_effective settings.now) square in_flow empty outer.now.column) mark)
-        pen.old pen.new result }
+    requires { IsReady pen.old }
+    ensures { (mark : ℕ) → Wrote (piece_at (end_piece (seen_effective outer.now.settings.now) (brackets_of mapping) frame.now.place.in_flow (is_first (seen_role frame.now.place.role)) outer.now.place.column) mark) pen.old pen.new result }
 {
-    write_end(pen, settings, outer, in_flow, empty, "[", "]")
-}
-
-/// Writes a mapping's end; that of one in a block is nothing.
-pub(crate) fn write_mapping_end<A: Allocator>(
-    pen: &mut Pen<A>,
-    settings: &EffectiveSettings,
-    outer: &Place,
-    in_flow: bool,
-    empty: bool,
-) -> Result<(), yaml_error_t>
-    requires ready { IsReady pen.old }
-    requires reach { IsWithinReach outer.now.column }
-    ensures { (mark : ℕ)
-        → Wrote
-        (piece_at (end_piece (seen_effective settings.now) curly in_flow empty outer.now.column) mark)
-        pen.old pen.new result }
-{
-    write_end(pen, settings, outer, in_flow, empty, "{", "}")
-}
-
-fn write_end<A: Allocator>(
-    pen: &mut Pen<A>,
-    settings: &EffectiveSettings,
-    outer: &Place,
-    in_flow: bool,
-    empty: bool,
-    opening: &str,
-    closing: &str,
-) -> Result<(), yaml_error_t>
-    requires ready { IsReady pen.old }
-    requires reach { IsWithinReach outer.now.column }
-    requires opening { is_sign opening.now ≡ true }
-    requires closing { is_sign closing.now ≡ true }
-    ensures { Wrote
-        (end_laid (seen_effective settings.now) record { opening = opening.now; closing = closing.now } in_flow empty outer.now.column)
-        pen.old pen.new result }
-{
-    if in_flow {
-        write_flow_end(pen, settings, outer, empty, opening, closing)
+    let empty = frame.place.role.is_first();
+    if frame.place.in_flow {
+        write_signs(pen, outer, flow_end_signs(mapping, empty, outer.settings.canonical))
     } else {
         write_nothing(pen)
     }
-}
-
-fn write_flow_end<A: Allocator>(
-    pen: &mut Pen<A>,
-    settings: &EffectiveSettings,
-    outer: &Place,
-    empty: bool,
-    opening: &str,
-    closing: &str,
-) -> Result<(), yaml_error_t>
-    requires ready { IsReady pen.old }
-    requires reach { IsWithinReach outer.now.column }
-    requires opening { is_sign opening.now ≡ true }
-    requires closing { is_sign closing.now ≡ true }
-    ensures { Wrote
-        (λ cursor. then_laid
-        (empty_or_comma (seen_effective settings.now) opening.now empty outer.now.column cursor)
-        (indicator closing.now false false false))
-        pen.old pen.new result }
-{
-    write_empty_or_comma(pen, settings, outer, opening, empty)?;
-    write_sign(pen, closing, false, false, false)
-}
-
-/// Where nothing stands between the brackets, the opening one; in canonical mode the last comma.
-fn write_empty_or_comma<A: Allocator>(
-    pen: &mut Pen<A>,
-    settings: &EffectiveSettings,
-    outer: &Place,
-    opening: &str,
-    empty: bool,
-) -> Result<(), yaml_error_t>
-    requires ready { IsReady pen.old }
-    requires reach { IsWithinReach outer.now.column }
-    requires opening { is_sign opening.now ≡ true }
-    ensures { Wrote
-        (empty_or_comma (seen_effective settings.now) opening.now empty outer.now.column)
-        pen.old pen.new result }
-{
-    if empty {
-        write_sign(pen, opening, true, true, false)
-    } else if settings.canonical {
-        write_last_comma(pen, outer)
-    } else {
-        write_nothing(pen)
-    }
-}
-
-fn write_last_comma<A: Allocator>(pen: &mut Pen<A>, outer: &Place) -> Result<(), yaml_error_t>
-    requires ready { IsReady pen.old }
-    requires reach { IsWithinReach outer.now.column }
-    ensures { Wrote
-        (λ cursor. then_laid
-        (indicator (codes ",") false false false cursor)
-        (new_line (line_column outer.now.column)))
-        pen.old pen.new result }
-{
-    write_sign(pen, ",", false, false, false)?;
-    write_line(pen, outer)
 }

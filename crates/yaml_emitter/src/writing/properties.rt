@@ -1,123 +1,105 @@
 //! Anchors, aliases and tags (YAML 1.1, sections 8.1 and 8.3).
 
-ghost use Rattle.std.specs.Prelude.{◌≡◌, Some, chars, true, false};
-ghost use Rattle.std.specs.List.{list_any};
-ghost use Rattle.yaml_base.specs.Characters.{is_break};
-ghost use Rattle.yaml_base.specs.Cursor.{then_laid, indicator, name_laid};
-ghost use Rattle.yaml_base.specs.Layout.{anchor_laid, spelling_laid, tag_laid, properties_laid};
-ghost use Rattle.yaml_base.specs.Tags.{shorthand, verbatim, spelling};
+ghost use Rattle.std.specs.Prelude.{◌≡◌, Some, None, chars, false, ◌&&◌};
+ghost use Rattle.yaml_base.specs.Cursor.{Cursor, nothing_laid, then_laid};
+ghost use Rattle.yaml_base.specs.Layout.{Place, anchor_laid, alias_laid};
+ghost use Rattle.yaml_base.specs.Settings.{Effective};
 ghost use Rattle.yaml_pen.specs.Page.{IsReady};
 ghost use Rattle.yaml_pen.specs.Wrote.{Wrote};
+ghost use Rattle.std.specs.List.{list_any};
+ghost use Rattle.yaml_base.specs.Characters.{is_break};
 ghost use Rattle.yaml_emitter.specs.BorrowedTexts.{seen_name};
-ghost use Rattle.yaml_emitter.specs.Signs.{is_sign, name_breaks, some_handle_breaks};
+ghost use Rattle.yaml_emitter.specs.Signs.{name_breaks};
+ghost use Rattle.yaml_emitter.specs.WrittenSigns.{seen_tag, signs_laid, some_sign_breaks, spelled_tag_laid, spelling_breaks};
 
-use crate::writing::places::{write_nothing, write_sign};
-use crate::writing::spelling::{SpelledTag, spell};
+use crate::writing::indicators::Indicator;
+use crate::writing::signs::{Sign, Signs, write_signs};
+use crate::writing::site::Site;
+use crate::writing::spelling::SpelledTag;
 use std::alloc::Allocator;
 use yaml_base::yaml_error_t;
-use yaml_mark::{Directives, write_anchor, write_tag_content, write_tag_handle};
 use yaml_pen::Pen;
+
+/// Whether an anchor, a tag or the bare tag is written.
+pub(crate) fn has_properties(anchor: Option<&str>, tag: Option<SpelledTag>, bare: bool) -> bool
+    ensures { result ≡ false → (cursor : Cursor) → then_laid (anchor_laid (seen_name anchor.entry) cursor) (spelled_tag_laid (seen_tag tag.entry) bare) ≡ nothing_laid cursor }
+{
+    match anchor {
+        Some(_) => true,
+        None => match tag {
+            Some(_) => true,
+            None => bare,
+        },
+    }
+}
 
 /// Writes a node's anchor and its tag, or the bare tag.
 pub(crate) fn write_properties<A: Allocator>(
     pen: &mut Pen<A>,
-    directives: &Directives<A>,
+    site: &Site,
     anchor: Option<&str>,
-    tag: Option<&str>,
+    tag: Option<SpelledTag>,
     bare: bool,
 ) -> Result<(), yaml_error_t>
     requires ready { IsReady pen.old }
     requires anchor { name_breaks (seen_name anchor) ≡ false }
-    requires handles { some_handle_breaks directives.now ≡ false }
+    requires handle { spelling_breaks (seen_tag tag) ≡ false }
     ensures { Wrote
-        (properties_laid directives.now (seen_name anchor.entry) (seen_name tag.entry) bare)
+        (λ cursor. then_laid (anchor_laid (seen_name anchor.entry) cursor) (spelled_tag_laid (seen_tag tag.entry) bare))
         pen.old pen.new result }
 {
-    write_anchor_name(pen, anchor)?;
-    write_tag(pen, directives, tag, bare)
+    write_signs(pen, site, anchor_signs(anchor))?;
+    write_signs(pen, site, tag_signs(tag, bare))
 }
 
-fn write_anchor_name<A: Allocator>(
-    pen: &mut Pen<A>,
-    anchor: Option<&str>,
-) -> Result<(), yaml_error_t>
-    requires ready { IsReady pen.old }
-    requires anchor { name_breaks (seen_name anchor) ≡ false }
-    ensures { Wrote (anchor_laid (seen_name anchor.entry)) pen.old pen.new result }
+fn anchor_signs(anchor: Option<&str>) -> Signs
+    requires { name_breaks (seen_name anchor) ≡ false }
+    ensures whole { some_sign_breaks result ≡ false }
+    ensures laid { (s : Effective) (place : Place) (cursor : Cursor) → signs_laid s place result cursor ≡ anchor_laid (seen_name anchor.entry) cursor }
 {
+    use Sign::*;
     match anchor {
-        Some(name) => write_signed_name(pen, "&", name),
-        None => write_nothing(pen),
+        Some(name) => (Nothing, Mark(Indicator::Anchor), Name(name)),
+        None => (Nothing, Nothing, Nothing),
     }
 }
 
-/// `&` or `*`, and a name.
-pub(crate) fn write_signed_name<A: Allocator>(
-    pen: &mut Pen<A>,
-    sign: &str,
-    name: &str,
-) -> Result<(), yaml_error_t>
-    requires ready { IsReady pen.old }
-    requires sign { is_sign sign.now ≡ true }
-    requires name { list_any is_break (chars name.now) ≡ false }
-    ensures { Wrote
-        (λ cursor. then_laid (indicator sign.now true false false cursor) (name_laid (chars name.now)))
-        pen.old pen.new result }
+fn tag_signs(tag: Option<SpelledTag>, bare: bool) -> Signs
+    requires { spelling_breaks (seen_tag tag) ≡ false }
+    ensures whole { some_sign_breaks result ≡ false }
+    ensures laid { (s : Effective) (place : Place) (cursor : Cursor) → signs_laid s place result cursor ≡ spelled_tag_laid (seen_tag tag.entry) bare cursor }
 {
-    write_sign(pen, sign, true, false, false)?;
-    write_anchor(pen, name)
-}
-
-fn write_tag<A: Allocator>(
-    pen: &mut Pen<A>,
-    directives: &Directives<A>,
-    tag: Option<&str>,
-    bare: bool,
-) -> Result<(), yaml_error_t>
-    requires ready { IsReady pen.old }
-    requires handles { some_handle_breaks directives.now ≡ false }
-    ensures { Wrote (tag_laid directives.now (seen_name tag.entry) bare) pen.old pen.new result }
-{
+    use Indicator::*;
+    use Sign::*;
     match tag {
-        Some(tag) => write_spelled(pen, directives, tag),
-        None if bare => write_sign(pen, "!", true, false, false),
-        None => write_nothing(pen),
+        Some(SpelledTag::Shorthand { handle, suffix }) => (Nothing, Handle(handle), TagText(suffix)),
+        Some(SpelledTag::Verbatim { tag }) => (Mark(VerbatimStart), TagText(tag), Mark(VerbatimEnd)),
+        None => bare_tag_signs(bare),
     }
 }
 
-fn write_spelled<A: Allocator>(
-    pen: &mut Pen<A>,
-    directives: &Directives<A>,
-    tag: &str,
-) -> Result<(), yaml_error_t>
-    requires ready { IsReady pen.old }
-    requires handles { some_handle_breaks directives.now ≡ false }
-    ensures { Wrote (spelling_laid (spelling directives.now (chars tag.now))) pen.old pen.new result }
+fn bare_tag_signs(bare: bool) -> Signs<'static>
+    ensures whole { some_sign_breaks result ≡ false }
+    ensures laid { (s : Effective) (place : Place) (cursor : Cursor) → signs_laid s place result cursor ≡ spelled_tag_laid None bare cursor }
 {
-    match spell(tag, directives) {
-        SpelledTag::Shorthand { handle, suffix } => write_shorthand(pen, handle, suffix),
-        SpelledTag::Verbatim { tag } => write_verbatim(pen, tag),
+    use Sign::*;
+    if bare {
+        (Nothing, Nothing, Handle("!"))
+    } else {
+        (Nothing, Nothing, Nothing)
     }
 }
 
-fn write_shorthand<A: Allocator>(
-    pen: &mut Pen<A>,
-    handle: &str,
-    suffix: &str,
-) -> Result<(), yaml_error_t>
-    requires ready { IsReady pen.old }
-    requires handle { list_any is_break (chars handle.now) ≡ false }
-    ensures { Wrote (spelling_laid (shorthand (chars handle.now) (chars suffix.now))) pen.old pen.new result }
+/// The signs of an alias; as a simple key it is followed by a space.
+pub(crate) fn alias_signs(name: &str, simple: bool) -> Signs
+    requires { list_any is_break (chars name.now) ≡ false }
+    ensures whole { some_sign_breaks result ≡ false }
+    ensures laid { (s : Effective) (place : Place) (cursor : Cursor) → signs_laid s place result cursor ≡ alias_laid (chars name.now) simple cursor }
 {
-    write_tag_handle(pen, handle)?;
-    write_tag_content(pen, suffix, false)
-}
-
-fn write_verbatim<A: Allocator>(pen: &mut Pen<A>, tag: &str) -> Result<(), yaml_error_t>
-    requires ready { IsReady pen.old }
-    ensures { Wrote (spelling_laid (verbatim (chars tag.now))) pen.old pen.new result }
-{
-    write_sign(pen, "!<", true, false, false)?;
-    write_tag_content(pen, tag, false)?;
-    write_sign(pen, ">", false, false, false)
+    use Sign::*;
+    if simple {
+        (Mark(Indicator::Alias), Name(name), Space)
+    } else {
+        (Mark(Indicator::Alias), Name(name), Nothing)
+    }
 }

@@ -1,22 +1,35 @@
 //! How a tag is spelled by the directives in force (YAML 1.1, section 8.1.1).
 
-ghost use Rattle.std.specs.Prelude.{◌≡◌, chars};
+ghost use Rattle.std.specs.Prelude.{◌≡◌, chars, option_map};
 ghost use Rattle.yaml_base.specs.Tags.{spelling};
 ghost use Rattle.yaml_mark.specs.Spelled.{StandsFor};
-ghost use Rattle.yaml_emitter.specs.BorrowedTexts.{seen_spelling};
+ghost use Rattle.yaml_emitter.specs.BorrowedTexts.{seen_name, seen_spelling};
+ghost use Rattle.yaml_emitter.specs.WrittenSigns.{seen_tag};
 
 use std::alloc::Allocator;
 use yaml_mark::{Directives, analyze_tag, tag_t};
 
-/// A tag as a handle and what stands behind the handle's prefix, or as it is.
+/// A tag as a handle and what stands after the handle's prefix, or as it is.
 #[derive(Clone, Copy)]
 pub(crate) enum SpelledTag<'a> {
     Shorthand { handle: &'a str, suffix: &'a str },
     Verbatim { tag: &'a str },
 }
 
-/// Spells a tag by the first directive whose prefix it begins with and goes on from.
-pub(crate) fn spell<'a, A: Allocator>(tag: &'a str, directives: &'a Directives<A>) -> SpelledTag<'a>
+/// Spells a tag that is written by the first directive whose prefix it begins with and goes on from.
+pub(crate) fn spell<'a, A: Allocator>(
+    tag: Option<&'a str>,
+    directives: &'a Directives<A>,
+) -> Option<SpelledTag<'a>>
+    ensures { seen_tag result ≡ option_map (spelling directives.now) (seen_name tag.entry) }
+{
+    match tag {
+        Some(tag) => Some(spell_text(tag, directives)),
+        None => None,
+    }
+}
+
+fn spell_text<'a, A: Allocator>(tag: &'a str, directives: &'a Directives<A>) -> SpelledTag<'a>
     ensures { seen_spelling result ≡ spelling directives.now (chars tag.now) }
 {
     match analyze_tag(tag, directives) {

@@ -1,7 +1,7 @@
 use Rattle.std.proofs.Common.{refl}
 use Rattle.yaml_base.specs.Event.{stream_end}
 use Rattle.yaml_emitter.specs.Inside.{state_of}
-use Rattle.yaml_emitter.proofs.KeptInside.{fits_ready, kept_writing, has_output_inside, stage_inside, behind_start}
+use Rattle.yaml_emitter.proofs.KeptInside.{fits_ready, kept_writing, output_behind, stage_inside, behind_start}
 use Rattle.yaml_emitter.proofs.ProcessedBy.{processed_exit}
 use Rattle.yaml_emitter.proofs.EventsDone.{stream_cut, stream_ended}
 use Rattle.yaml_emitter.proofs.emitter.yaml_emitter_t.end_stream.Goals as goal
@@ -9,7 +9,7 @@ use Rattle.yaml_emitter.proofs.emitter.yaml_emitter_t.end_stream.Goals as goal
 pub invariant_of-self : goal.invariant_of-self
 invariant_of-self g c =
     kept_writing c.self.inside c.hand_out_stream_end.new.pen c.self.inside.stage c.self.inside.frames c.self.inside.mark c.self.invariant
-    (has_output_inside c.self.inside c.self.view_is c.requires.output)
+    (output_behind c.self.inside c.self.invariant (behind_start (stage_inside c.self.inside c.self.view_is c.requires.stage) refl))
     (fits_ready (state_of c.self.inside).stage c.hand_out_stream_end.new.pen (behind_start (stage_inside c.self.inside c.self.view_is c.requires.stage) refl) c.in_err-hand_out_stream_end.ensures.written.ready)
 
 pub returns-in_err-hand_out_stream_end : goal.returns-in_err-hand_out_stream_end
@@ -22,7 +22,7 @@ returns-in_err-hand_out_stream_end g c = λ empty.
 pub invariant_of-self-2 : goal.invariant_of-self-2
 invariant_of-self-2 g c =
     kept_writing c.self.inside c.hand_out_stream_end.new.pen _ c.self.inside.frames c.self.inside.mark c.self.invariant
-    (has_output_inside c.self.inside c.self.view_is c.requires.output) c.in_ok-hand_out_stream_end.ensures.written.ready
+    (output_behind c.self.inside c.self.invariant (behind_start (stage_inside c.self.inside c.self.view_is c.requires.stage) refl)) c.in_ok-hand_out_stream_end.ensures.written.ready
 
 pub returns : goal.returns
 returns g c = λ empty.

@@ -1,10 +1,9 @@
 use Rattle.std.specs.Prelude.{chars}
 use Rattle.yaml_base.specs.Event.{alias}
 use Rattle.yaml_emitter.specs.Inside.{state_of}
-use Rattle.yaml_emitter.proofs.KeptInside.{has_output_inside}
 use Rattle.yaml_emitter.proofs.ProcessedBy.{processed_exit}
 use Rattle.yaml_emitter.proofs.WritingNames.{sound_alias}
-use Rattle.yaml_emitter.proofs.NodesDone.{at_node_inside, seen_at_node, ready_inside, kept_at_node, kept_advancing, alias_cut, alias_written}
+use Rattle.yaml_emitter.proofs.NodesDone.{at_node_inside, output_at_node, seen_at_node, ready_inside, kept_at_node, kept_advancing, alias_cut, alias_written}
 use Rattle.yaml_emitter.proofs.emitter.yaml_emitter_t.put_alias.Goals as goal
 
 pub write_alias-requires-clause-ready : goal.write_alias-requires-clause-ready
@@ -17,7 +16,7 @@ write_alias-requires-clause-name g c = sound_alias (chars c.args.name.now) c.req
 pub invariant_of-self : goal.invariant_of-self
 invariant_of-self g c =
     kept_at_node c.self.inside c.write_alias.new.pen c.self.inside.frames c.self.inside.mark c.self.invariant
-    (has_output_inside c.self.inside c.self.view_is c.requires.output)
+    (output_at_node c.self.inside c.self.invariant (at_node_inside c.self.inside c.self.view_is c.requires.stage))
     (at_node_inside c.self.inside c.self.view_is c.requires.stage) (c.write_alias.ensures 0).ready
 
 pub returns-in_err-write_alias : goal.returns-in_err-write_alias
@@ -31,7 +30,7 @@ returns-in_err-write_alias g c = λ empty.
 pub invariant_of-self-2 : goal.invariant_of-self-2
 invariant_of-self-2 g c =
     kept_advancing c.self.inside c.write_alias.new.pen c.advance-self-inside.result c.advance-self-inside.new.self c.self.inside.frames c.is_simple_alias_key-simple.result c.self.inside.mark c.self.invariant
-    (has_output_inside c.self.inside c.self.view_is c.requires.output) (c.advance-self-inside.ensures.stage c.self.inside.directives) (c.in_ok-write_alias.ensures 0).ready
+    (output_at_node c.self.inside c.self.invariant (at_node_inside c.self.inside c.self.view_is c.requires.stage)) (c.advance-self-inside.ensures.stage c.self.inside.directives) (c.in_ok-write_alias.ensures 0).ready
 
 pub returns : goal.returns
 returns g c = λ empty.

@@ -1,11 +1,15 @@
-use Rattle.std.proofs.Common.{true, false}
+use Rattle.std.proofs.Common.{◌≡◌, true, false, ap, ◌∙◌, option_map}
+use Rattle.yaml_base.specs.Refusal.{scalar_tag}
+use Rattle.yaml_base.specs.Tags.{spelling}
+use Rattle.yaml_emitter.specs.WrittenSigns.{seen_tag}
+use Rattle.yaml_emitter.proofs.SignsWritten.{written_is_some}
+use Rattle.yaml_emitter.proofs.WritingTags.{spelled_handle}
 use Rattle.yaml_base.specs.Event.{scalar}
 use Rattle.yaml_emitter.specs.BorrowedTexts.{seen_scalar}
 use Rattle.yaml_emitter.specs.Inside.{state_of}
 use Rattle.yaml_emitter.specs.Places.{seen_place}
-use Rattle.yaml_emitter.proofs.KeptInside.{has_output_inside}
 use Rattle.yaml_emitter.proofs.ProcessedBy.{processed_exit}
-use Rattle.yaml_emitter.proofs.NodesDone.{at_node_inside, seen_at_node, kept_at_node, kept_advancing, lacks_given, names_inside, scalar_anchor, scalar_refused, scalar_cut, scalar_written}
+use Rattle.yaml_emitter.proofs.NodesDone.{at_node_inside, ready_inside, output_at_node, seen_at_node, kept_at_node, kept_advancing, lacks_given, names_inside, scalar_anchor, scalar_refused, scalar_cut, scalar_written}
 use Rattle.yaml_emitter.proofs.emitter.yaml_emitter_t.put_scalar.Goals as goal
 
 pub returns-then-lacks_tag_and_flags : goal.returns-then-lacks_tag_and_flags
@@ -17,14 +21,26 @@ returns-then-lacks_tag_and_flags g c = λ empty.
     (lacks_given (seen_scalar c.args.content.now) c.lacks_tag_and_flags.result c.self.inside.settings.canonical c.self.inside.given.canonical true c.self.invariant.canonical
     c.if-lacks_tag_and_flags.true c.lacks_tag_and_flags.ensures))
 
+pub write_scalar-requires-clause-ready : goal.write_scalar-requires-clause-ready
+write_scalar-requires-clause-ready g c =
+    ready_inside c.self.inside c.self.invariant (at_node_inside c.self.inside c.self.view_is c.requires.stage)
+
+pub write_scalar-requires-clause-handle : goal.write_scalar-requires-clause-handle
+write_scalar-requires-clause-handle g c =
+    spelled_handle c.self.inside.directives (scalar_tag c.self.inside.settings.canonical (seen_scalar c.args.content.now)) (seen_tag c.spell-tag.result) (c.spell-tag.ensures ∙ ap (option_map (spelling c.self.inside.directives)) c.written_scalar_tag-written.ensures) c.self.invariant.handles
+
+pub write_scalar-requires-clause-tag : goal.write_scalar-requires-clause-tag
+write_scalar-requires-clause-tag g c =
+    written_is_some c.self.inside.directives (scalar_tag c.self.inside.settings.canonical (seen_scalar c.args.content.now)) c.spell-tag.result (c.spell-tag.ensures ∙ ap (option_map (spelling c.self.inside.directives)) c.written_scalar_tag-written.ensures)
+
 pub write_scalar-requires-clause-anchor : goal.write_scalar-requires-clause-anchor
 write_scalar-requires-clause-anchor g c = scalar_anchor c.args.self.now.given.canonical (seen_scalar c.args.content.now) c.requires.names
 
 pub invariant_of-self : goal.invariant_of-self
 invariant_of-self g c =
     kept_at_node c.self.inside c.write_scalar.new.pen c.self.inside.frames c.self.inside.mark c.self.invariant
-    (has_output_inside c.self.inside c.self.view_is c.requires.output)
-    (at_node_inside c.self.inside c.self.view_is c.requires.stage) c.in_err-self-inside.ensures.written.ready
+    (output_at_node c.self.inside c.self.invariant (at_node_inside c.self.inside c.self.view_is c.requires.stage))
+    (at_node_inside c.self.inside c.self.view_is c.requires.stage) c.in_err-self-inside.ensures.ready
 
 pub returns-in_err-self-inside : goal.returns-in_err-self-inside
 returns-in_err-self-inside g c = λ empty.
@@ -35,13 +51,13 @@ returns-in_err-self-inside g c = λ empty.
     (names_inside c.self.inside c.self.view_is (scalar (seen_scalar c.args.content.now)) c.requires.names)
     (lacks_given (seen_scalar c.args.content.now) c.lacks_tag_and_flags.result c.self.inside.settings.canonical c.self.inside.given.canonical false c.self.invariant.canonical
     c.if-lacks_tag_and_flags.false c.lacks_tag_and_flags.ensures)
-    c.next_place-place.ensures.place c.is_simple_scalar_key-simple.ensures
-    c.in_err-self-inside.ensures.written))
+    c.next_place-place.ensures.place (c.is_simple_scalar_key-simple.ensures c.self.inside.directives (c.spell-tag.ensures ∙ ap (option_map (spelling c.self.inside.directives)) c.written_scalar_tag-written.ensures))
+    (c.in_err-self-inside.ensures.written c.self.inside.directives (c.spell-tag.ensures ∙ ap (option_map (spelling c.self.inside.directives)) c.written_scalar_tag-written.ensures))))
 
 pub invariant_of-self-2 : goal.invariant_of-self-2
 invariant_of-self-2 g c =
     kept_advancing c.self.inside c.write_scalar.new.pen c.advance-self-inside.result c.advance-self-inside.new.self c.self.inside.frames c.is_simple_scalar_key-simple.result c.in_ok-self-inside.field-0 c.self.invariant
-    (has_output_inside c.self.inside c.self.view_is c.requires.output) (c.advance-self-inside.ensures.stage c.self.inside.directives) c.in_ok-self-inside.ensures.written.ready
+    (output_at_node c.self.inside c.self.invariant (at_node_inside c.self.inside c.self.view_is c.requires.stage)) (c.advance-self-inside.ensures.stage c.self.inside.directives) c.in_ok-self-inside.ensures.ready
 
 pub returns : goal.returns
 returns g c = λ empty.
@@ -51,7 +67,7 @@ returns g c = λ empty.
     (names_inside c.self.inside c.self.view_is (scalar (seen_scalar c.args.content.now)) c.requires.names)
     (lacks_given (seen_scalar c.args.content.now) c.lacks_tag_and_flags.result c.self.inside.settings.canonical c.self.inside.given.canonical false c.self.invariant.canonical
     c.if-lacks_tag_and_flags.false c.lacks_tag_and_flags.ensures)
-    c.next_place-place.ensures.place c.is_simple_scalar_key-simple.ensures
+    c.next_place-place.ensures.place (c.is_simple_scalar_key-simple.ensures c.self.inside.directives (c.spell-tag.ensures ∙ ap (option_map (spelling c.self.inside.directives)) c.written_scalar_tag-written.ensures))
     (c.advance-self-inside.ensures.stage c.self.inside.directives)
     c.in_ok-self-inside.ensures.mark
-    c.in_ok-self-inside.ensures.written)
+    (c.in_ok-self-inside.ensures.written c.self.inside.directives (c.spell-tag.ensures ∙ ap (option_map (spelling c.self.inside.directives)) c.written_scalar_tag-written.ensures)))

@@ -7,7 +7,7 @@ use Rattle.yaml_emitter.specs.Signs.{some_handle_breaks}
 use Rattle.yaml_emitter.specs.Inside.{state_of}
 use Rattle.yaml_emitter.specs.Processing.{Processed}
 use Rattle.yaml_emitter.specs.State.{State}
-use Rattle.yaml_emitter.proofs.KeptInside.{kept_without, seen_without, fits_ready, kept_writing, kept_beginning, has_output_inside, stage_inside, behind_start}
+use Rattle.yaml_emitter.proofs.KeptInside.{kept_without, seen_without, fits_ready, kept_writing, kept_beginning, output_behind, stage_inside, behind_start}
 use Rattle.yaml_emitter.proofs.ProcessedBy.{processed_exit}
 use Rattle.yaml_emitter.proofs.DocumentsDone.{document_refused, document_start_cut, document_begun, none_behind}
 use Rattle.yaml_emitter.proofs.WritingNames.{sound_handles, sound_in_force}
@@ -37,7 +37,7 @@ invariant_of-self-in_err-write_document_start g c =
     let at = stage_inside c.self.inside c.self.view_is c.requires.stage in
     kept_writing emptied c.write_document_start.new.pen c.self.inside.stage c.self.inside.frames c.self.inside.mark
     (kept_without c.self.inside c.replace-before.new.dest c.args.first (c.replace-before.ensures.after ∙ c.new.ensures) at c.self.invariant)
-    (has_output_inside c.self.inside c.self.view_is c.requires.output)
+    (output_behind c.self.inside c.self.invariant (behind_start (stage_inside c.self.inside c.self.view_is c.requires.stage) refl))
     (fits_ready (state_of emptied).stage c.write_document_start.new.pen
     (behind_start (ap (λ (s : State). s.stage) (seen_without c.self.inside c.replace-before.new.dest c.args.first at) ∙ at) refl) c.write_document_start.ensures.ready)
 
@@ -57,7 +57,7 @@ pub invariant_of-self-2 : goal.invariant_of-self-2
 invariant_of-self-2 g c =
     let own = map seen_directive c.args.own.now in
     kept_beginning c.self.inside c.write_document_start.new.pen _ c.in_ok-directives.directives c.clear.new.self _ c.self.invariant
-    (has_output_inside c.self.inside c.self.view_is c.requires.output)
+    (output_behind c.self.inside c.self.invariant (behind_start (stage_inside c.self.inside c.self.view_is c.requires.stage) refl))
     (ap some_handle_breaks c.in_ok-directives.ensures.in_force
     ∙ sound_in_force own
     (sound_handles own

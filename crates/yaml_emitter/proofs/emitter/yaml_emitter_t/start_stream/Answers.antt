@@ -12,9 +12,9 @@ pub invariant_of-self : goal.invariant_of-self
 invariant_of-self g c =
     let output = has_output_inside c.self.inside c.self.view_is c.requires.output in
     record {
-      in_force = c.effective-self-inside.ensures.in_force;
       room = c.self.invariant.room;
       untouched = λ none. cc;
+      begun = λ begun. output;
       opened = c.self.invariant.opened;
       handles = c.self.invariant.handles;
       canonical = ap (λ (s : Effective). s.canonical) c.effective-self-inside.ensures.gives;

@@ -1,20 +1,22 @@
-use Rattle.std.proofs.Common.{subst, Option, false}
-use Rattle.yaml_base.specs.Characters.{Text}
-use Rattle.yaml_base.specs.Cursor.{Cursor, Laid, then_laid}
+use Rattle.std.proofs.Common.{false}
+use Rattle.yaml_base.specs.Cursor.{Cursor, then_laid}
 use Rattle.yaml_base.specs.Layout.{place_laid, properties_laid}
 use Rattle.yaml_base.specs.Refusal.{collection_tag}
-use Rattle.yaml_pen.specs.Wrote.{Wrote}
+use Rattle.yaml_pen.proofs.Composing.{wrote_as}
 use Rattle.yaml_emitter.specs.BorrowedTexts.{seen_name, seen_collection}
 use Rattle.yaml_emitter.specs.Given.{seen_effective}
 use Rattle.yaml_emitter.specs.Places.{seen_place}
+use Rattle.yaml_emitter.specs.WrittenSigns.{seen_tag}
+use Rattle.yaml_emitter.proofs.SignsWritten.{lead-spelled}
 use Rattle.yaml_emitter.proofs.WritingPieces.{wrote_lead}
 use Rattle.yaml_emitter.proofs.writing.nodes.write_collection_start.Goals as goal
 
-pub returns : goal.returns
-returns g c = λ style mark.
-    let lead : Option Text → Cursor → Laid = λ tag cursor.
-    then_laid (place_laid (seen_effective c.args.settings.now) (seen_place c.args.place.now) c.args.simple cursor)
-    (properties_laid c.args.directives.now (seen_name c.args.content.now.anchor) tag false) in
-    wrote_lead (lead (collection_tag c.args.settings.now.canonical (seen_collection c.args.content.now style))) mark
-    (subst (λ (tag : Option Text). Wrote (lead tag) c.args.pen.now c.write_node_lead.new.pen c.write_node_lead.result)
-    (c.written_collection_tag-tag.ensures style) c.write_node_lead.ensures)
+pub returns-clause-written : goal.returns-clause-written
+returns-clause-written g c = λ directives style mark spelled.
+    let site = c.args.site.now in
+    let s = seen_effective site.settings.now in
+    let anchor = seen_name c.args.content.now.anchor in
+    let tag = collection_tag s.canonical (seen_collection c.args.content.now style) in
+    let lead = λ (cursor : Cursor). then_laid (place_laid s (seen_place site.place) site.simple cursor) (properties_laid directives anchor tag false) in
+    wrote_lead lead mark
+    (wrote_as lead (lead-spelled s directives (seen_place site.place) site.simple anchor tag (seen_tag c.args.tag) false c.args.pen.now.cursor spelled) c.write_lead.ensures)

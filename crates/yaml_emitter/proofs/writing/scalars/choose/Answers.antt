@@ -8,13 +8,13 @@ use Rattle.yaml_emitter.proofs.writing.scalars.choose.Goals as goal
 pub returns-clause-choice : goal.returns-clause-choice
 returns-clause-choice c =
     let content = seen_scalar c.args.content.now in
-    let allowed = allowances (record { unicode = c.args.settings.now.unicode; breaks12 = c.args.settings.now.breaks12 }) content.value in
-    let flow = c.args.place.now.in_flow in
-    let canonical = c.args.settings.now.canonical in
+    let allowed = allowances (record { unicode = c.args.site.now.settings.now.unicode; breaks12 = c.args.site.now.settings.now.breaks12 }) content.value in
+    let flow = c.args.site.now.place.in_flow in
+    let canonical = c.args.site.now.settings.now.canonical in
     if_ok_from _ _ _ c.select_scalar_style.result
     (λ given holds.
     holds.1
-    ∙ ap (λ (a : Allowances). chosen a content.style c.is_empty_value.result c.args.tag_written content.plain_implicit content.quoted_implicit flow c.args.simple canonical) c.analyze_scalar-data.ensures
-    ∙ ap (λ (e : Bool). chosen allowed content.style e c.args.tag_written content.plain_implicit content.quoted_implicit flow c.args.simple canonical) c.is_empty_value.ensures
-    ∙ ap (λ (t : Bool). chosen allowed content.style (is_empty content.value) t content.plain_implicit content.quoted_implicit flow c.args.simple canonical) c.requires.tag)
+    ∙ ap (λ (a : Allowances). chosen a content.style c.is_empty_value.result c.args.tag_written content.plain_implicit content.quoted_implicit flow c.args.site.now.simple canonical) c.analyze_scalar-data.ensures
+    ∙ ap (λ (e : Bool). chosen allowed content.style e c.args.tag_written content.plain_implicit content.quoted_implicit flow c.args.site.now.simple canonical) c.is_empty_value.ensures
+    ∙ ap (λ (t : Bool). chosen allowed content.style (is_empty content.value) t content.plain_implicit content.quoted_implicit flow c.args.site.now.simple canonical) c.requires.tag)
     c.select_scalar_style.ensures

@@ -2,14 +2,24 @@ use Rattle.std.proofs.Common.{◌≡◌, pos, rules, arith, false, refl, ◌∙�
 use Rattle.std.specs.Str.{chars}
 use Rattle.std.proofs.lemmas.Int.{to_z-of_z, ints}
 use mir.Val.{SFits}
-use Rattle.yaml_emitter.proofs.WritingScalars.{wrote_folded}
+use Rattle.yaml_emitter.proofs.WritingScalars.{wrote_exit_from, wrote_folded}
 use Rattle.yaml_emitter.proofs.writing.styles.write_folded.Goals as goal
+
+pub returns-in_err-mark-clause-written : goal.returns-in_err-mark-clause-written
+returns-in_err-mark-clause-written g c =
+    let fits : SFits w32 c.args.site.now.settings.now.width = search rules in
+    let indent_fits : SFits w32 c.line_indent-indent.result = search rules in
+    let best : to_z w32 c.args.site.now.settings.now.indent ≡ pos c.args.site.now.settings.now.indent = omega (arith, ints, c.args.site.now.settings.now.indents_within) in
+    wrote_exit_from c.from_residual.result c.from_residual.ensures
+    (wrote_folded c.args.site.now.settings.now c.args.site.now.place.in_flow false (chars c.args.value.now)
+    (to_z-of_z w32 c.line_indent-indent.result indent_fits ∙ c.line_indent-indent.ensures.value) (to_z-of_z w32 c.args.site.now.settings.now.width fits) c.args.site.now.settings.now.counts
+    best refl c.in_err-mark.ensures.written)
 
 pub returns-clause-written : goal.returns-clause-written
 returns-clause-written g c =
-    let fits : SFits w32 c.args.settings.now.width = search rules in
+    let fits : SFits w32 c.args.site.now.settings.now.width = search rules in
     let indent_fits : SFits w32 c.line_indent-indent.result = search rules in
-    let best : to_z w32 c.args.settings.now.indent ≡ pos c.args.settings.now.indent = omega (arith, ints, c.requires.settings.high) in
-    wrote_folded c.args.settings.now c.args.place.now.in_flow false (chars c.args.value.now)
-    (to_z-of_z w32 c.line_indent-indent.result indent_fits ∙ c.line_indent-indent.ensures.value) (to_z-of_z w32 c.args.settings.now.width fits) c.requires.settings.width
+    let best : to_z w32 c.args.site.now.settings.now.indent ≡ pos c.args.site.now.settings.now.indent = omega (arith, ints, c.args.site.now.settings.now.indents_within) in
+    wrote_folded c.args.site.now.settings.now c.args.site.now.place.in_flow false (chars c.args.value.now)
+    (to_z-of_z w32 c.line_indent-indent.result indent_fits ∙ c.line_indent-indent.ensures.value) (to_z-of_z w32 c.args.site.now.settings.now.width fits) c.args.site.now.settings.now.counts
     best refl c.in_ok-mark.ensures.written

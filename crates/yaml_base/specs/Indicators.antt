@@ -1,0 +1,105 @@
+-- Indicators: signs of punctuation and words of lines of their own, and what each asks of the cursor and leaves behind
+-- (YAML 1.1, section 5.3, for the signs; libyaml's own rules for the rest).
+use Rattle.std.specs.Prelude.{Bool, true, false, codes}
+use Rattle.yaml_base.specs.Characters.{Text}
+use Rattle.yaml_base.specs.Cursor.{Cursor, Laid, indicator}
+
+-- a sign, whether it needs white space before it, whether it counts as white space itself, and whether indentation
+-- goes on after it
+pub record Indicator : Type 0 where
+  pub text : Text
+  pub needs_space : Bool
+  pub leaves_space : Bool
+  pub keeps_indention : Bool
+
+-- an indicator at a cursor
+abbrev pub indicator_laid : Indicator → Cursor → Laid
+indicator_laid sign cursor = indicator sign.text sign.needs_space sign.leaves_space sign.keeps_indention cursor
+
+-- a space before it, none after it
+abbrev pub spaced : Text → Indicator
+spaced text = record { text = text; needs_space = true; leaves_space = false; keeps_indention = false }
+
+-- a bracket that opens
+abbrev pub opening : Text → Indicator
+opening text = record { text = text; needs_space = true; leaves_space = true; keeps_indention = false }
+
+-- no space before it
+abbrev pub tight : Text → Indicator
+tight text = record { text = text; needs_space = false; leaves_space = false; keeps_indention = false }
+
+-- the sign of an entry in a block, which may stand in indentation
+abbrev pub indented : Text → Indicator
+indented text = record { text = text; needs_space = true; leaves_space = false; keeps_indention = true }
+
+-- Documents
+
+abbrev pub document_start : Indicator
+document_start = spaced (codes "---")
+
+abbrev pub document_end : Indicator
+document_end = spaced (codes "...")
+
+abbrev pub yaml_directive : Indicator
+yaml_directive = spaced (codes "%YAML")
+
+abbrev pub version_1_1 : Indicator
+version_1_1 = spaced (codes "1.1")
+
+abbrev pub version_1_2 : Indicator
+version_1_2 = spaced (codes "1.2")
+
+abbrev pub tag_directive : Indicator
+tag_directive = spaced (codes "%TAG")
+
+-- Collections in flow
+
+abbrev pub flow_sequence_start : Indicator
+flow_sequence_start = opening (codes "[")
+
+abbrev pub flow_sequence_end : Indicator
+flow_sequence_end = tight (codes "]")
+
+abbrev pub flow_mapping_start : Indicator
+flow_mapping_start = opening (codes "{")
+
+abbrev pub flow_mapping_end : Indicator
+flow_mapping_end = tight (codes "}")
+
+abbrev pub flow_entry : Indicator
+flow_entry = tight (codes ",")
+
+abbrev pub flow_key : Indicator
+flow_key = spaced (codes "?")
+
+abbrev pub flow_value : Indicator
+flow_value = spaced (codes ":")
+
+-- Collections in blocks
+
+abbrev pub block_entry : Indicator
+block_entry = indented (codes "-")
+
+abbrev pub block_key : Indicator
+block_key = indented (codes "?")
+
+abbrev pub block_value : Indicator
+block_value = indented (codes ":")
+
+-- after a simple key, in flow and in blocks
+abbrev pub simple_value : Indicator
+simple_value = tight (codes ":")
+
+-- Names and tags
+
+abbrev pub anchor : Indicator
+anchor = spaced (codes "&")
+
+abbrev pub alias : Indicator
+alias = spaced (codes "*")
+
+abbrev pub verbatim_start : Indicator
+verbatim_start = spaced (codes "!<")
+
+abbrev pub verbatim_end : Indicator
+verbatim_end = tight (codes ">")

@@ -1,0 +1,20 @@
+use Rattle.std.proofs.Common.{◌≡◌, true, false, ap, ◌∙◌, ◌+◌, ℕ}
+use Rattle.yaml_base.specs.Layout.{is_key, is_short, name_count, tag_count}
+use Rattle.yaml_base.specs.Refusal.{collection_tag}
+use Rattle.yaml_emitter.specs.BorrowedTexts.{seen_collection}
+use Rattle.yaml_emitter.specs.Places.{seen_role}
+use Rattle.yaml_emitter.specs.WrittenSigns.{spelled_count}
+use Rattle.yaml_emitter.proofs.SignsWritten.{tag_count-spelled}
+use Rattle.yaml_emitter.proofs.WritingTags.{short_collection, simple_where}
+use Rattle.yaml_emitter.proofs.writing.simple_keys.is_simple_collection_key.Goals as goal
+
+pub returns-then-empty : goal.returns-then-empty
+returns-then-empty c = λ directives style spelled.
+    let key : is_key (seen_role c.args.place.now.role) ≡ true = cc in
+    let plain : c.args.settings.now.canonical ≡ false = cc in
+    let start = seen_collection c.args.content.now style in
+    let tag = collection_tag c.args.settings.now.canonical start in
+    c.is_short.ensures
+    ∙ ap (λ (n : ℕ). is_short (0 + name_count start.anchor + n)) (ap spelled_count spelled ∙ tag_count-spelled directives tag)
+    ∙ short_collection (name_count start.anchor) (tag_count directives tag) (cc)
+    ∙ simple_where (is_key (seen_role c.args.place.now.role)) c.args.settings.now.canonical key plain
