@@ -7,3 +7,5 @@ pub mod Fronts
 pub mod Cuts
 pub mod NewLines
 pub mod Columns
+pub mod CharacterStarts
+pub mod AsciiRuns

@@ -1,5 +1,6 @@
 //! Columns as the pen keeps them: `u32::MAX` stands for that and all above.
 ghost use Rattle.std.specs.Prelude.{◌≡◌, ◌≤◌, ℕ, length, min};
+ghost use Rattle.std.specs.Fmt.{is_char_start};
 ghost use Rattle.std.specs.Str.{chars};
 ghost use Rattle.yaml_base.specs.Cursor.{next_column};
 
@@ -16,10 +17,25 @@ pub(crate) fn next_column(character: char, column: u32) -> u32
     }
 }
 
-/// How many characters a text has that fits the buffer.
+/// The byte is the first one of a character.
+#[inline]
+fn begins_character(byte: u8) -> bool
+    ensures { result ≡ is_char_start byte }
+{
+    byte < 0x80 || byte >= 0xC0
+}
+
+/// How many characters a text has that fits the buffer: as many as bytes that begin one.
 pub(crate) fn character_count(text: &str) -> u32
     requires { length text.now ≤ 16384 }
     ensures { result ≡ length (chars text.now) }
 {
-    text.chars().count() as u32
+    let bytes = text.as_bytes();
+    let mut count = 0;
+    let mut place = 0;
+    while place < bytes.len() {
+        count += begins_character(bytes[place]) as u32;
+        place += 1;
+    }
+    count
 }

@@ -49,6 +49,10 @@ fn utf8_bytes(character: char) -> CharacterBytes
     ensures { result.items ≡ encode_utf8 character }
 {
     let mut bytes = CharacterBytes::new();
+    if character <= '\u{7F}' {
+        bytes.push(character as u8);
+        return bytes;
+    }
     let mut room = [0; 4];
     let _ = bytes.try_extend_from_slice(character.encode_utf8(&mut room).as_bytes());
     bytes

@@ -1,5 +1,5 @@
 //! Bytes on their way out: a buffer, and the output that it is flushed to, within a limit.
-ghost use Rattle.std.specs.Prelude.{◌≡◌, ◌≤◌, [], length, IfOk};
+ghost use Rattle.std.specs.Prelude.{◌≡◌, ◌≤◌, [], ◌∷◌, length, IfOk};
 ghost use Rattle.yaml_base.specs.Prefix.{IsPrefix};
 ghost use Rattle.yaml_pen.specs.Outlet.{Appended, Emptied, HandsOut, IsSound};
 
@@ -107,7 +107,19 @@ impl<A: Allocator> Outlet<A> {
     }
 
     /// Appends bytes whole, or none of them where the flush that makes room for them fails.
+    #[inline]
     pub(crate) fn append(&mut self, bytes: &[u8]) -> Result<(), yaml_error_t>
+        requires { length bytes.now ≤ 16384 }
+        ensures { Appended bytes.now self.old self.new result }
+    {
+        if bytes.len() == 1 {
+            self.push(bytes[0])
+        } else {
+            self.append_all(bytes)
+        }
+    }
+
+    fn append_all(&mut self, bytes: &[u8]) -> Result<(), yaml_error_t>
         requires { length bytes.now ≤ 16384 }
         ensures { Appended bytes.now self.old self.new result }
     {
@@ -119,6 +131,22 @@ impl<A: Allocator> Outlet<A> {
             self.flush()?;
         }
         let _ = self.buffer.try_extend_from_slice(bytes);
+        Ok(())
+    }
+
+    // One byte is a store.
+    #[inline]
+    fn push(&mut self, byte: u8) -> Result<(), yaml_error_t>
+        ensures { Appended (byte ∷ []) self.old self.new result }
+    {
+        match self.error {
+            Some(error) => return Err(error),
+            None => {}
+        }
+        if self.buffer.is_full() {
+            self.flush()?;
+        }
+        let _ = self.buffer.try_push(byte);
         Ok(())
     }
 }

@@ -1,6 +1,6 @@
 //! A pen writes text: it keeps the cursor, encodes, and hands its bytes out within a limit.
 ghost use Rattle.std.specs.Prelude.{◌≡◌, ℕ, ◌==◌, ◌&&◌, pos, ◌≤ℤ◌, ◌<◌, ◌≤◌, ◌++◌, length, [], ◌∷◌, false, true, min, not, Option, IsOk, IsSome, IfOk, IfErr, Some, None, codes, unwrap_or, replicate};
-ghost use Rattle.std.specs.Str.{chars};
+ghost use Rattle.std.specs.Str.{IsAscii, chars};
 ghost use Rattle.std.specs.List.{list_any};
 ghost use Rattle.yaml_base.specs.Characters.{is_break, line_feed, space};
 ghost use Rattle.yaml_base.specs.Cursor.{text_laid, nothing_laid, breaks_line, new_line, space_if, indicator};
@@ -198,6 +198,22 @@ impl<A: Allocator> Pen<A> {
         }
     }
 
+    /// Writes characters of ASCII none of which is a break, at most as many as the buffer holds.
+    pub fn write_ascii(&mut self, text: &[u8]) -> Result<(), yaml_error_t>
+        requires ready { IsReady self.old }
+        requires ascii { IsAscii text.now }
+        requires no_break { list_any is_break text.now ≡ false }
+        requires fits { length text.now ≤ 16384 }
+        ensures written { Wrote (text_laid text.now) self.old self.new result }
+        ensures stays { IsSome self.old.error → self.new ≡ self.old }
+    {
+        if !has_mark(self.encoding) {
+            self.write_ascii_bytes(text)
+        } else {
+            self.write_ascii_characters(text)
+        }
+    }
+
     /// Writes a line break, as the setting says.
     pub fn put_break(&mut self) -> Result<(), yaml_error_t>
         requires ready { IsReady self.old }
@@ -380,6 +396,35 @@ impl<A: Allocator> Pen<A> {
     {
         self.outlet.append(text.as_bytes())?;
         self.column = self.column.saturating_add(character_count(text));
+        Ok(())
+    }
+
+    // In UTF-16.
+    fn write_ascii_characters(&mut self, text: &[u8]) -> Result<(), yaml_error_t>
+        requires ready { IsReady self.old }
+        requires ascii { IsAscii text.now }
+        requires no_break { list_any is_break text.now ≡ false }
+        ensures written { Wrote (text_laid text.now) self.old self.new result }
+        ensures stays { IsSome self.old.error → self.new ≡ self.old }
+    {
+        match str::from_utf8(text) {
+            Ok(characters) => self.write_characters(characters),
+            Err(_) => self.go_on(),
+        }
+    }
+
+    // In UTF-8 each is its byte.
+    fn write_ascii_bytes(&mut self, text: &[u8]) -> Result<(), yaml_error_t>
+        requires ready { IsReady self.old }
+        requires unmarked { has_mark self.old.encoding ≡ false }
+        requires ascii { IsAscii text.now }
+        requires no_break { list_any is_break text.now ≡ false }
+        requires fits { length text.now ≤ 16384 }
+        ensures written { Wrote (text_laid text.now) self.old self.new result }
+        ensures stays { IsSome self.old.error → self.new ≡ self.old }
+    {
+        self.outlet.append(text)?;
+        self.column = self.column.saturating_add(text.len() as u32);
         Ok(())
     }
 

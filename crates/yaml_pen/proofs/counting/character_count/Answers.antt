@@ -1,6 +1,21 @@
-use Rattle.std.proofs.Common.{rules}
-use Rattle.std.proofs.lemmas.Str.{chars_from_encodes}
+use Rattle.std.proofs.Common.{ap, ◌∙◌, arith, List, ℕ, ◌≡◌, get_or}
+use Rattle.std.proofs.lemmas.List.{take_all}
+use Rattle.std.specs.Fmt.{is_char_start}
+use Rattle.yaml_pen.proofs.CharacterStarts.{bool_byte_most, starts, starts-chars, starts_step}
 use Rattle.yaml_pen.proofs.counting.character_count.Goals as goal
 
+pub loop-place-preserved : goal.loop-place-preserved
+loop-place-preserved c =
+    let so_far = c.loop-place.invariant in
+    let begins = c.begins_character.ensures ∙ ap (λ (l : List ℕ). is_char_start (get_or l c.loop-place.place 0)) c.as_bytes-bytes.ensures.value in
+    record {
+      within = omega (arith, c.loop-place-test.true);
+      counted = starts_step c.args.text.now c.loop-place.place c.loop-place.count c.begins_character.result (omega (arith, c.loop-place-test.true)) so_far.counted begins;
+      few = omega (arith, so_far.few, bool_byte_most c.begins_character.result);
+    }
+
 pub returns : goal.returns
-returns c = search (rules, chars_from_encodes)
+returns c =
+    c.loop-place.invariant.counted
+    ∙ ap starts (take_all c.loop-place.place c.args.text.now (omega arith))
+    ∙ starts-chars c.args.text.now c.utf8.text

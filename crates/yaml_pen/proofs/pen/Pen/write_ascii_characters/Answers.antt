@@ -1,0 +1,20 @@
+use Rattle.std.proofs.Common.{◌≡◌, ap, subst, ◌∙◌, ℕ, List}
+use Rattle.std.specs.List.{list_any}
+use Rattle.std.specs.Str.{chars}
+use Rattle.std.proofs.lemmas.Str.{IsUtf8-from_ascii, chars-IsAscii}
+use Rattle.yaml_base.specs.Characters.{Text, is_break}
+use Rattle.yaml_base.specs.Cursor.{text_laid}
+use Rattle.yaml_pen.specs.Wrote.{Wrote}
+use Rattle.yaml_pen.proofs.pen.Pen.write_ascii_characters.Goals as goal
+
+pub write_characters-requires-clause-no_break : goal.write_characters-requires-clause-no_break
+write_characters-requires-clause-no_break g c =
+    ap (λ (l : List ℕ). list_any is_break (chars l)) c.in-Ok.ensures.cases.0 ∙ ap (list_any is_break) (chars-IsAscii c.args.text.now c.requires.ascii) ∙ c.requires.no_break
+
+pub returns-in-Ok-clause-written : goal.returns-in-Ok-clause-written
+returns-in-Ok-clause-written g c =
+    subst (λ (t : Text). Wrote (text_laid t) c.args.self.now c.write_characters.new.self c.write_characters.result)
+    (ap chars c.in-Ok.ensures.cases.0 ∙ chars-IsAscii c.args.text.now c.requires.ascii) c.write_characters.ensures.written
+
+pub returns-in-Err-clause-written : goal.returns-in-Err-clause-written
+returns-in-Err-clause-written g c = absurd (c.in-Err.ensures.cases.0 (IsUtf8-from_ascii c.args.text.now c.requires.ascii))
