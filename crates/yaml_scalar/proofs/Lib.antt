@@ -5,6 +5,7 @@ pub mod LineRuns
 pub mod BlockReads
 pub mod BlockLines
 pub mod EscapesRead
+pub mod EscapeBytes
 pub mod Unbroken
 pub mod DoubleReads
 pub mod LineTexts
@@ -20,7 +21,6 @@ pub mod PlainReads
 pub mod StillToWrite
 pub mod LinesWritten
 pub mod LinesReadBack
-pub mod Escapes
 pub mod WholeRuns
 pub mod RunsWritten
 pub mod StaysInLine

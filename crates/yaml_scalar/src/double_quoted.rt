@@ -1,7 +1,7 @@
 //! Scalars between double quotes.
 ghost use Rattle.std.specs.Prelude.{◌≡◌, pos, ◌≤ℤ◌, ◌≤◌, ◌<◌, ◌==◌, ◌||◌, ◌&&◌, ◌∷◌, [], true, false, not, Option, None, Some, Bool, IfOk};
 ghost use Rattle.std.specs.Str.{chars};
-ghost use Rattle.yaml_base.specs.Characters.{hex_digit, hex_digits, is_break, is_space};
+ghost use Rattle.yaml_base.specs.Characters.{is_space};
 ghost use Rattle.yaml_base.specs.Cursor.{is_past_width, text_laid};
 ghost use Rattle.yaml_base.specs.DoubleQuoted as spec;
 ghost use Rattle.yaml_base.specs.ReadDouble.{read_double};
@@ -13,6 +13,7 @@ ghost use Rattle.yaml_scalar.specs.WholeRuns.{IsRun, stays, stays_where};
 ghost use Rattle.yaml_scalar.specs.Width.{limit_where};
 
 use crate::classes::{BREAK, ESCAPED, SPACE, UNPRINTABLE, WIDE};
+use crate::escapes::escape_of;
 use crate::runs::{Run, run_up_to};
 use crate::steps::{go_on, has_limit, may_fold_here};
 use std::alloc::Allocator;
@@ -85,103 +86,13 @@ fn needs_escape(c: char, unicode: bool) -> bool
     !is_printable(c) || (!unicode && !is_ascii(c)) || is_break(c) || c == '"' || c == '\\'
 }
 
-/// The letter of a character that has an escape of one letter (YAML 1.1, section 5.6).
-fn short_letter(c: char) -> Option<u8>
-    ensures { result ≡ spec.letter_among spec.short_escapes c }
-{
-    let letter = match c {
-        '\0' => b'0',
-        '\u{7}' => b'a',
-        '\u{8}' => b'b',
-        '\t' => b't',
-        '\n' => b'n',
-        '\u{B}' => b'v',
-        '\u{C}' => b'f',
-        '\r' => b'r',
-        '\u{1B}' => b'e',
-        '"' => b'"',
-        '\\' => b'\\',
-        '\u{85}' => b'N',
-        '\u{A0}' => b'_',
-        '\u{2028}' => b'L',
-        '\u{2029}' => b'P',
-        _ => return None,
-    };
-    Some(letter)
-}
-
-/// An upper-case hexadecimal digit.
-fn hex_digit(digit: u32) -> u8
-    requires { digit ≤ 15 }
-    ensures { result ≡ hex_digit digit }
-{
-    if digit < 10 {
-        b'0' + digit as u8
-    } else {
-        b'A' + (digit - 10) as u8
-    }
-}
-
-/// The last so many hexadecimal digits of a number.
-fn write_digits<A: Allocator>(pen: &mut Pen<A>, count: u32, n: u32) -> Result<(), yaml_error_t>
-    requires { IsReady pen.old }
-    ensures { Wrote (text_laid (hex_digits count n)) pen.old pen.new result }
-{
-    if count == 0 {
-        return go_on(pen);
-    }
-    write_digits(pen, count - 1, n / 16)?;
-    pen.put(hex_digit(n % 16))
-}
-
-/// What follows the backslash of an escape by number: `x`, `u` or `U`, and two, four or eight digits.
-fn write_number<A: Allocator>(pen: &mut Pen<A>, c: char) -> Result<(), yaml_error_t>
-    requires { IsReady pen.old }
-    ensures { Wrote (text_laid (spec.escape_after_backslash None c)) pen.old pen.new result }
-{
-    if c <= '\u{FF}' {
-        write_lettered(pen, b'x', 2, c)
-    } else if c <= '\u{FFFF}' {
-        write_lettered(pen, b'u', 4, c)
-    } else {
-        write_lettered(pen, b'U', 8, c)
-    }
-}
-
-/// A letter and so many digits.
-fn write_lettered<A: Allocator>(
-    pen: &mut Pen<A>,
-    letter: u8,
-    count: u32,
-    c: char,
-) -> Result<(), yaml_error_t>
-    requires ready { IsReady pen.old }
-    requires ascii { letter < 128 }
-    requires no_break { is_break letter ≡ false }
-    ensures { Wrote (text_laid (letter ∷ hex_digits count c)) pen.old pen.new result }
-{
-    pen.put(letter)?;
-    write_digits(pen, count, c as u32)
-}
-
-/// A letter where there is one, else the character's number.
-fn write_after_backslash<A: Allocator>(pen: &mut Pen<A>, c: char) -> Result<(), yaml_error_t>
-    requires { IsReady pen.old }
-    ensures { Wrote (text_laid (spec.escape_after_backslash (spec.letter_among spec.short_escapes c) c)) pen.old pen.new result }
-{
-    match short_letter(c) {
-        Some(letter) => pen.put(letter),
-        None => write_number(pen, c),
-    }
-}
-
 /// A character as its escape.
 fn write_escape<A: Allocator>(pen: &mut Pen<A>, c: char) -> Result<(), yaml_error_t>
     requires { IsReady pen.old }
     ensures { Wrote (text_laid (spec.escape_text c)) pen.old pen.new result }
 {
-    pen.put(b'\\')?;
-    write_after_backslash(pen, c)
+    let escape = escape_of(c);
+    pen.write_ascii(escape.as_slice())
 }
 
 /// A character as an escape, or as itself.

@@ -6,6 +6,7 @@ mod block_header;
 mod block_lines;
 mod classes;
 mod double_quoted;
+mod escapes;
 mod folded;
 mod lines;
 mod literal;

@@ -1,13 +1,26 @@
-use Rattle.std.proofs.Common.{refl}
-use Rattle.yaml_base.specs.DoubleQuoted.{escape_after_backslash, letter_among, short_escapes}
-use Rattle.yaml_pen.proofs.Composing.{wrote_exit}
-use Rattle.yaml_scalar.proofs.Escapes.{text_failed, text_then}
+use Rattle.std.proofs.Common.{ap, subst, sym, ◌∙◌, arith, length}
+use Rattle.std.specs.List.{list_any}
+use Rattle.std.specs.Str.{IsAscii}
+use Rattle.yaml_base.specs.Characters.{Text, is_break}
+use Rattle.yaml_base.specs.Cursor.{text_laid}
+use Rattle.yaml_base.specs.DoubleQuoted.{escape_text}
+use Rattle.yaml_pen.specs.Wrote.{Wrote}
+use Rattle.yaml_scalar.proofs.EscapeBytes.{escape-plain, escape-short, plain-ascii, plain-unbroken}
 use Rattle.yaml_scalar.proofs.double_quoted.write_escape.Goals as goal
 
-pub returns-in_err-put : goal.returns-in_err-put
-returns-in_err-put g c =
-    wrote_exit c.from_residual.ensures
-    (text_failed (escape_after_backslash (letter_among short_escapes c.args.c) c.args.c) refl c.in_err-put.ensures.written)
+pub write_ascii-requires-clause-ascii : goal.write_ascii-requires-clause-ascii
+write_ascii-requires-clause-ascii g c =
+    subst IsAscii (sym (c.as_slice.ensures.value ∙ c.escape_of-escape.ensures)) (plain-ascii (escape_text c.args.c) (escape-plain c.args.c))
+
+pub write_ascii-requires-clause-no_break : goal.write_ascii-requires-clause-no_break
+write_ascii-requires-clause-no_break g c =
+    ap (list_any is_break) (c.as_slice.ensures.value ∙ c.escape_of-escape.ensures) ∙ plain-unbroken (escape_text c.args.c) (escape-plain c.args.c)
+
+pub write_ascii-requires-clause-fits : goal.write_ascii-requires-clause-fits
+write_ascii-requires-clause-fits g c =
+    omega (arith, ap length (c.as_slice.ensures.value ∙ c.escape_of-escape.ensures), escape-short c.args.c)
 
 pub returns : goal.returns
-returns g c = text_then refl c.in_ok-put.ensures.written c.write_after_backslash.ensures
+returns g c =
+    subst (λ (t : Text). Wrote (text_laid t) c.args.pen.now c.write_ascii.new.self c.write_ascii.result)
+    (c.as_slice.ensures.value ∙ c.escape_of-escape.ensures) c.write_ascii.ensures.written
