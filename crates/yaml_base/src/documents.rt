@@ -8,10 +8,21 @@ ghost use Rattle.yaml_base.specs.SeenNodes.{seen_number, seen_node, seen_documen
 use crate::directives::{yaml_tag_directive_t, yaml_version_directive_t};
 use crate::nodes::{yaml_node_data_t, yaml_node_pair_t, yaml_node_t};
 use std::alloc::Allocator;
+use std::error::Error;
+use std::fmt;
 
 /// A number that a node holds and that names no node of its document.
 #[derive(Clone, Copy, PartialEq, Eq, Debug)]
 pub struct NodeNumber(pub i32);
+
+impl fmt::Display for NodeNumber {
+    fn fmt<W: fmt::Write>(&self, f: &mut fmt::Formatter<W>) -> fmt::Result {
+        write!(f, "no node has the number {}", self.0)
+    }
+}
+
+/// So `?` turns it into a caller's own error.
+impl Error for NodeNumber {}
 
 /// A document: its directives and its nodes, which are numbered from 1. Node 1 is the root.
 #[derive(Drop)]

@@ -2,6 +2,7 @@
 ghost use Rattle.std.specs.Prelude.{◌≡◌, Some};
 ghost use Rattle.yaml_base.specs.Errors.{kind_of, problem_text, display_text};
 
+use std::error::Error;
 use std::fmt;
 
 /// The layer that a refusal comes from.
@@ -119,3 +120,6 @@ impl fmt::Display for yaml_error_t {
         }
     }
 }
+
+/// So `?` turns it into a caller's own error.
+impl Error for yaml_error_t {}

@@ -1,0 +1,32 @@
+//! Errors of the library in a caller that returns `anyhow::Result`.
+use std::alloc::Global;
+use std::test::Fail;
+use yaml_base::{NodeNumber, YAML_STREAM_END_EVENT};
+use yaml_emitter::{yaml_emitter_emit, yaml_emitter_initialize, yaml_emitter_set_output_string};
+
+/// Emits an event that no stream begins with.
+fn emit_the_end(alloc: Global) -> anyhow::Result<()> {
+    let mut emitter = yaml_emitter_initialize(alloc)?;
+    yaml_emitter_set_output_string(&mut emitter, 100);
+    yaml_emitter_emit(&mut emitter, YAML_STREAM_END_EVENT)?;
+    Ok(())
+}
+
+fn outside(number: NodeNumber) -> anyhow::Result<()> {
+    Err(number)?
+}
+
+#[test]
+fn a_caller_passes_errors_on(rt: HostRuntime) -> Result<(), Fail> {
+    let refused = match emit_the_end(rt.alloc()) {
+        Ok(()) => String::new(rt.alloc()),
+        Err(error) => format!(in rt.alloc(); "{error}")?,
+    };
+    assert_eq!(rt; refused.as_str(), "expected STREAM-START");
+    let outside = match outside(NodeNumber(-7)) {
+        Ok(()) => String::new(rt.alloc()),
+        Err(error) => format!(in rt.alloc(); "{error}")?,
+    };
+    assert_eq!(rt; outside.as_str(), "no node has the number -7");
+    Ok(())
+}
