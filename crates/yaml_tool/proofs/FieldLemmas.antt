@@ -1,14 +1,15 @@
--- A line is cut at its first separator, character by character.
-use Rattle.std.proofs.Common.{◌≡◌, ℕ, Bool, true, false, if◌then◌else◌, ◌==◌, ◌≤◌, length, List, [], ◌∷◌, ◌++◌, refl, sym, subst, ap, ◌∙◌, arith}
+-- A line is cut at its first separator, character by character, and read field by field.
+use Rattle.std.proofs.Common.{◌≡◌, ℕ, Bool, true, false, if◌then◌else◌, ◌==◌, ◌≤◌, length, Option, None, Some, option_map, append-nil, List, [], ◌∷◌, ◌++◌, refl, sym, subst, ap, ◌∙◌, arith}
 use Rattle.std.proofs.lemmas.Bool.Decides.{nat_tests}
 use Rattle.std.specs.List.{onto_first}
 use Rattle.std.specs.Str.{chars, IsUtf8}
-use Rattle.yaml_base.specs.Characters.{Text}
+use Rattle.yaml_base.specs.Characters.{Text, space}
 use Rattle.yaml_base.specs.Script as notation
-use Rattle.yaml_base.specs.Script.{outside, inside, escaped, separates, standing_after, cut_before, cut_from}
+use Rattle.yaml_base.specs.Script.{outside, inside, escaped, separates, standing_after, cut_before, cut_from, bare, quoted, text_from, at_character, field_read, field_and, each_field, fields_read, quotation_mark, backslash}
 use Rattle.yaml_tool.specs.Cuts.{IsFree, SkipsTo, front_of}
-use Rattle.yaml_tool.specs.Fields.{attached, RunsTo}
+use Rattle.yaml_tool.specs.Fields.{attached, RunsTo, pieces_after, fields_after, text_begun, led_by, HasField}
 use Rattle.yaml_tool.proofs.CutLemmas.{neither}
+use Rattle.yaml_tool.proofs.TextLemmas.{reads_front}
 use Rattle.yaml_tool.proofs.CharacterLemmas.{Passed, passed_to, ends_in_itself, empty_front, run_front, run_passed}
 
 attached_one : (front : Text) (c : ℕ) (pieces : List Text) → attached (front ++ c ∷ []) pieces ≡ attached front (onto_first c pieces)
@@ -38,6 +39,15 @@ stops_first standing c front text rest begins is =
     let cut : cut_before (separates standing c) c (cut_from (standing_after standing c) rest) ≡ [] ∷ cut_from outside rest =
     subst (λ (b : Bool). cut_before b c (cut_from (standing_after standing c) rest) ≡ [] ∷ cut_from outside rest) (sym is) (ap (λ (s : notation.Standing). [] ∷ cut_from s rest) (behind_separator standing c is)) in
     ap (attached front) (opened ∙ cut) ∙ attached_empty front (cut_from outside rest)
+
+-- after a separator other fields are read
+pub separator_read : (standing : notation.Standing) (c : ℕ) (text rest : Text) → text ≡ c ∷ rest → separates standing c ≡ true → each_field (pieces_after text) ≡ fields_after text
+separator_read standing c text rest begins is = ap (λ t. each_field (pieces_after t)) begins ∙ read standing is ∙ ap fields_after (sym begins)
+  where
+    read : (s : notation.Standing) → separates s c ≡ true → fields_read rest ≡ fields_after (c ∷ rest)
+    read outside h = sym (ap (λ (b : Bool). if b then fields_read rest else None) h)
+    read inside h = cc
+    read escaped h = cc
 
 -- any other character belongs to the first piece
 pub goes_first : (standing : notation.Standing) (c : ℕ) (front grown text rest : Text) → text ≡ c ∷ rest → separates standing c ≡ false → grown ≡ front ++ c ∷ []
@@ -111,3 +121,93 @@ past_run standing line text end passed runs = run_passed line text end passed ru
 -- what follows it is no longer
 pub run_within : (standing : notation.Standing) (text end : List ℕ) → RunsTo standing text end → length end ≤ length text
 run_within standing text end runs = runs.ends.within
+
+-- ---- fields
+
+-- a field that has a reading, before others
+field_leads : (field : notation.Field) (fields : Option (List notation.Field)) → field_and (Some field) fields ≡ led_by field fields
+field_leads field None = refl
+field_leads field (Some others) = refl
+
+-- a line has a field
+pub line_has_field : (line : Text) → HasField (fields_read line)
+line_has_field [] = tt
+line_has_field (c ∷ rest) = go (separates outside c) (cut_from (standing_after outside c) rest)
+  where
+    one : (field : Option notation.Field) (others : Option (List notation.Field)) → HasField (field_and field others)
+    one None others = tt
+    one (Some field) None = tt
+    one (Some field) (Some more) = tt
+
+    go : (b : Bool) (pieces : List Text) → HasField (each_field (cut_before b c pieces))
+    go true pieces = tt
+    go false [] = one (field_read (c ∷ [])) (Some [])
+    go false (piece ∷ pieces) = one (field_read (c ∷ piece)) (each_field pieces)
+
+pub field_left : (text : Text) → ¬ (text ≡ []) → HasField (fields_after text)
+field_left [] some = absurd (some refl)
+field_left (c ∷ rest) some = go (c == space)
+  where
+    go : (b : Bool) → HasField (if b then fields_read rest else None)
+    go true = line_has_field rest
+    go false = tt
+
+-- ---- texts
+
+-- a text whose piece has a reading, before others
+text_leads : (behind piece value : Text) (pieces : List Text) (fields : Option (List notation.Field)) → cut_from inside behind ≡ piece ∷ pieces → each_field pieces ≡ fields → Some value ≡ text_from at_character piece
+    → text_begun behind ≡ led_by (quoted value) fields
+text_leads behind piece value pieces fields cut others read =
+    ap (λ all. each_field (onto_first quotation_mark all)) cut
+    ∙ ap (field_and (option_map quoted (text_from at_character piece))) others
+    ∙ ap (λ text. field_and (option_map quoted text) fields) (sym read)
+    ∙ field_leads (quoted value) fields
+
+attached_onto : (prefix piece : Text) (pieces : List Text) → attached prefix (piece ∷ pieces) ≡ (prefix ++ piece) ∷ pieces
+attached_onto [] piece pieces = refl
+attached_onto (c ∷ prefix) piece pieces = ap (onto_first c) (attached_onto prefix piece pieces)
+
+-- what a text without escapes stands for, and what follows its closing mark
+whole_text : (prefix : Text) → IsFree quotation_mark prefix → IsFree backslash prefix → text_from at_character (prefix ++ quotation_mark ∷ []) ≡ Some prefix
+whole_text prefix no_mark no_backslash = reads_front prefix (quotation_mark ∷ []) no_mark no_backslash ∙ ap (λ (t : Text). Some t) (append-nil prefix)
+
+no_text_whole : (prefix rest : Text) (c : ℕ) → IsFree quotation_mark prefix → IsFree backslash prefix → text_from at_character (prefix ++ quotation_mark ∷ c ∷ rest) ≡ None
+no_text_whole prefix rest c no_mark no_backslash =
+    reads_front prefix (quotation_mark ∷ c ∷ rest) no_mark no_backslash
+    ∙ ap (λ (b : Bool). option_map (λ more. prefix ++ more) (if b then Some [] else None)) more
+  where
+    more : (length (c ∷ rest) == 0) ≡ false
+    more = grind (arith, nat_tests)
+
+one_text : (prefix rest : Text) (pieces : List Text) → IsFree quotation_mark prefix → IsFree backslash prefix → cut_from outside rest ≡ [] ∷ pieces
+    → text_begun (prefix ++ quotation_mark ∷ rest) ≡ led_by (quoted prefix) (each_field pieces)
+one_text prefix rest pieces no_mark no_backslash cut =
+    text_leads (prefix ++ quotation_mark ∷ rest) (prefix ++ quotation_mark ∷ []) prefix pieces (each_field pieces)
+    (run_inside prefix (quotation_mark ∷ rest) no_mark no_backslash ∙ ap (λ all. attached prefix (onto_first quotation_mark all)) cut ∙ attached_onto prefix (quotation_mark ∷ []) pieces)
+    refl
+    (sym (whole_text prefix no_mark no_backslash))
+
+no_text : (prefix rest : Text) (c : ℕ) → IsFree quotation_mark prefix → IsFree backslash prefix → separates outside c ≡ false → text_begun (prefix ++ quotation_mark ∷ c ∷ rest) ≡ None
+no_text prefix rest c no_mark no_backslash is_not = go (cut_from (standing_after outside c) rest) refl
+  where
+    bad : (piece : Text) (pieces : List Text) → cut_from outside (c ∷ rest) ≡ (c ∷ piece) ∷ pieces → text_begun (prefix ++ quotation_mark ∷ c ∷ rest) ≡ None
+    bad piece pieces cut =
+        ap (λ all. each_field (onto_first quotation_mark all))
+        (run_inside prefix (quotation_mark ∷ c ∷ rest) no_mark no_backslash ∙ ap (λ all. attached prefix (onto_first quotation_mark all)) cut ∙ attached_onto prefix (quotation_mark ∷ c ∷ piece) pieces)
+        ∙ ap (λ text. field_and (option_map quoted text) (each_field pieces)) (no_text_whole prefix piece c no_mark no_backslash)
+
+    go : (pieces : List Text) → cut_from (standing_after outside c) rest ≡ pieces → text_begun (prefix ++ quotation_mark ∷ c ∷ rest) ≡ None
+    go [] is = bad [] [] (ap (λ (b : Bool). cut_before b c (cut_from (standing_after outside c) rest)) is_not ∙ ap (onto_first c) is)
+    go (piece ∷ pieces) is = bad piece pieces (ap (λ (b : Bool). cut_before b c (cut_from (standing_after outside c) rest)) is_not ∙ ap (onto_first c) is)
+
+-- a text without escapes is its characters, and after it nothing stands or a separator
+pub plain_text : (prefix rest : Text) → IsFree quotation_mark prefix → IsFree backslash prefix → text_begun (prefix ++ quotation_mark ∷ rest) ≡ led_by (quoted prefix) (fields_after rest)
+plain_text prefix [] no_mark no_backslash = one_text prefix [] [] no_mark no_backslash refl
+plain_text prefix (c ∷ rest) no_mark no_backslash = go (c == space) refl
+  where
+    go : (b : Bool) → (c == space) ≡ b → text_begun (prefix ++ quotation_mark ∷ c ∷ rest) ≡ led_by (quoted prefix) (fields_after (c ∷ rest))
+    go true is =
+        let same : c ≡ space = grind (arith, nat_tests, is) in
+        subst (λ (d : ℕ). text_begun (prefix ++ quotation_mark ∷ d ∷ rest) ≡ led_by (quoted prefix) (fields_after (d ∷ rest))) (sym same)
+        (one_text prefix (space ∷ rest) (cut_from outside rest) no_mark no_backslash refl)
+    go false is = no_text prefix rest c no_mark no_backslash is ∙ ap (λ (b : Bool). led_by (quoted prefix) (if b then fields_read rest else None)) (sym is)

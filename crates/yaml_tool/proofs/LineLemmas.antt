@@ -1,19 +1,84 @@
--- What lines say, by the number of their fields and by their bytes.
-use Rattle.std.proofs.Common.{◌≡◌, ℕ, Bool, true, false, None, List, [], ◌∷◌, map, length, refl, ap, if◌then◌else◌}
+-- What lines say, by their first field and by their bytes.
+use Rattle.std.proofs.Common.{◌≡◌, ℕ, Bool, true, false, Option, None, Some, option_map, option_and_then, List, [], ◌∷◌, refl, ap, sym, ◌∙◌, if◌then◌else◌}
+use Rattle.std.specs.Option.{option_or}
 use Rattle.std.specs.Str.{chars, IsUtf8, is_utf8}
 use Rattle.std.proofs.lemmas.Str.{is_utf8-from_IsUtf8, IsUtf8-from_is_utf8}
-use Rattle.yaml_base.specs.Script.{setting_line, line_read, line_understood}
+use Rattle.yaml_base.specs.Event.{Event}
+use Rattle.yaml_base.specs.Script.{Setting, Field, bare, quoted, sets, gives, setting_of, setting_line, event_of, line_of, line_read, line_understood}
+use Rattle.yaml_tool.specs.Events.{event_word, event_by}
+use Rattle.yaml_tool.specs.Fields.{led_by}
+use Rattle.yaml_tool.specs.declared.words.EventName.{EventName}
+use Rattle.yaml_tool.specs.declared.words.EventName.TheVariants as name
 use Rattle.yaml_base.specs.Characters.{Text}
-use Rattle.yaml_tool.specs.declared.fields.Field as declared
-use Rattle.yaml_tool.specs.declared.fields.Field.TheVariants as field
-use Rattle.yaml_tool.specs.Fields.{seen_field}
 
--- no field behind the name sets nothing, nor do several
-pub others_set_nothing : {A : Type 0} (name : Text) (fields : List (declared.Field A)) → ¬ (length fields ≡ 1) → setting_line name (map seen_field fields) ≡ None
-others_set_nothing name [] others = refl
-others_set_nothing name (first ∷ []) others = absurd (others refl)
-others_set_nothing name (field.Word word ∷ second ∷ rest) others = refl
-others_set_nothing name (field.Text text ∷ second ∷ rest) others = refl
+-- the name of an event sets nothing
+no_setting : (name : EventName) (value : Text) → setting_of (event_word name) value ≡ None
+no_setting name.StreamStart value = refl
+no_setting name.StreamEnd value = refl
+no_setting name.DocumentStart value = refl
+no_setting name.DocumentEnd value = refl
+no_setting name.Alias value = refl
+no_setting name.Scalar value = refl
+no_setting name.SequenceStart value = refl
+no_setting name.SequenceEnd value = refl
+no_setting name.MappingStart value = refl
+no_setting name.MappingEnd value = refl
+
+sets_nothing : (name : EventName) (fields : List Field) → setting_line (event_word name) fields ≡ None
+sets_nothing name [] = refl
+sets_nothing name (bare value ∷ []) = no_setting name value
+sets_nothing name (bare value ∷ other ∷ rest) = refl
+sets_nothing name (quoted text ∷ rest) = refl
+
+-- it gives its event
+gives_event : (name : EventName) (fields : List Field) → event_of (event_word name) fields ≡ event_by name (Some fields)
+gives_event name.StreamStart fields = refl
+gives_event name.StreamEnd fields = refl
+gives_event name.DocumentStart fields = refl
+gives_event name.DocumentEnd fields = refl
+gives_event name.Alias fields = refl
+gives_event name.Scalar fields = refl
+gives_event name.SequenceStart fields = refl
+gives_event name.SequenceEnd fields = refl
+gives_event name.MappingStart fields = refl
+gives_event name.MappingEnd fields = refl
+
+no_fields : (name : EventName) → event_by name None ≡ None
+no_fields name.StreamStart = refl
+no_fields name.StreamEnd = refl
+no_fields name.DocumentStart = refl
+no_fields name.DocumentEnd = refl
+no_fields name.Alias = refl
+no_fields name.Scalar = refl
+no_fields name.SequenceStart = refl
+no_fields name.SequenceEnd = refl
+no_fields name.MappingStart = refl
+no_fields name.MappingEnd = refl
+
+-- so a line that begins with it says that event
+line_said : (name : EventName) (fields : Option (List Field)) → option_map gives (event_by name fields) ≡ option_and_then line_of (led_by (bare (event_word name)) fields)
+line_said name None = ap (option_map gives) (no_fields name)
+line_said name (Some fields) =
+    ap (option_map gives) (sym (gives_event name fields))
+    ∙ ap (λ setting. option_or (option_map sets setting) (option_map gives (event_of (event_word name) fields))) (sym (sets_nothing name fields))
+
+pub event_said : (name : EventName) (word : Text) (line rest : Option (List Field)) (event : Event) → word ≡ event_word name → line ≡ led_by (bare word) rest → Some event ≡ event_by name rest
+    → Some (gives event) ≡ option_and_then line_of line
+event_said name word line rest event is begins given =
+    ap (option_map gives) given ∙ line_said name rest ∙ sym (ap (option_and_then line_of) (begins ∙ ap (λ w. led_by (bare w) rest) is))
+
+-- any other name says what it sets
+pub setting_said : (word : Text) (line rest : Option (List Field)) (setting : Option Setting) → ((fields : List Field) → event_of word fields ≡ None) → line ≡ led_by (bare word) rest
+    → setting ≡ option_and_then (setting_line word) rest → option_map sets setting ≡ option_and_then line_of line
+setting_said word line rest setting no_event begins given = ap (option_map sets) given ∙ go rest ∙ sym (ap (option_and_then line_of) begins)
+  where
+    alone : (x : Option Setting) → option_map sets x ≡ option_or (option_map sets x) None
+    alone None = refl
+    alone (Some x) = refl
+
+    go : (fields : Option (List Field)) → option_map sets (option_and_then (setting_line word) fields) ≡ option_and_then line_of (led_by (bare word) fields)
+    go None = refl
+    go (Some fields) = alone (setting_line word fields) ∙ ap (λ event. option_or (option_map sets (setting_line word fields)) (option_map gives event)) (sym (no_event fields))
 
 -- a line in UTF-8 says what its characters say
 pub characters_said : (bytes : List ℕ) → IsUtf8 bytes → line_understood bytes ≡ line_read (chars bytes)

@@ -1,17 +1,47 @@
 -- What contracts see of the fields of events.
-use Rattle.std.specs.Prelude.{Option, option_map, List, [], ◌∷◌, map, Vec}
-use Rattle.yaml_base.specs.Event.{Version, TagDirective}
-use Rattle.yaml_base.specs.Seen.{seen_version, seen_directive}
+use Rattle.std.specs.Prelude.{Option, Some, option_map, option_and_then, List, [], ◌∷◌, map, Vec, codes}
+use Rattle.std.specs.Str.{chars}
+use Rattle.yaml_base.specs.Characters.{Text}
+use Rattle.yaml_base.specs.Event.{Event, Version, TagDirective, stream_end, sequence_start, sequence_end, mapping_start, mapping_end}
+use Rattle.yaml_base.specs.Seen.{seen_text, seen_version, seen_directive}
 use Rattle.yaml_base.specs.declared.directives.yaml_version_directive_t.{yaml_version_directive_t}
 use Rattle.yaml_base.specs.declared.directives.yaml_tag_directive_t.{yaml_tag_directive_t}
-use Rattle.yaml_base.specs.Script.{Field, bare}
-use Rattle.std.specs.Str.{chars}
-use Rattle.yaml_tool.specs.Fields.{seen_field}
+use Rattle.yaml_base.specs.Script.{Field, bare, stream_start_of, alone, document_start_of, document_end_of, alias_of, scalar_of, collection_of}
+use Rattle.yaml_tool.specs.Fields.{field_of}
 use Rattle.yaml_tool.specs.declared.events.CollectionFields.{CollectionFields}
+use Rattle.yaml_tool.specs.declared.words.EventName.{EventName}
+use Rattle.yaml_tool.specs.declared.words.EventName.TheVariants as name
+
+-- the word that names an event
+abbrev pub event_word : EventName → Text
+event_word name.StreamStart = codes "+STR"
+event_word name.StreamEnd = codes "-STR"
+event_word name.DocumentStart = codes "+DOC"
+event_word name.DocumentEnd = codes "-DOC"
+event_word name.Alias = codes "=ALI"
+event_word name.Scalar = codes "=VAL"
+event_word name.SequenceStart = codes "+SEQ"
+event_word name.SequenceEnd = codes "-SEQ"
+event_word name.MappingStart = codes "+MAP"
+event_word name.MappingEnd = codes "-MAP"
+
+-- the event that a name and its fields give, where these have a reading
+abbrev pub event_by : EventName → Option (List Field) → Option Event
+event_by name.StreamStart fields = option_and_then stream_start_of fields
+event_by name.StreamEnd fields = option_and_then (alone stream_end) fields
+event_by name.DocumentStart fields = option_and_then document_start_of fields
+event_by name.DocumentEnd fields = option_and_then document_end_of fields
+event_by name.Alias fields = option_and_then alias_of fields
+event_by name.Scalar fields = option_and_then scalar_of fields
+event_by name.SequenceStart fields = option_map sequence_start (option_and_then collection_of fields)
+event_by name.SequenceEnd fields = option_and_then (alone sequence_end) fields
+event_by name.MappingStart fields = option_map mapping_start (option_and_then collection_of fields)
+event_by name.MappingEnd fields = option_and_then (alone mapping_end) fields
 
 -- the fields of a collection's start, in order
 abbrev pub four_fields : {A : Type 0} → CollectionFields A → List Field
-four_fields fields = bare (chars fields.style.now) ∷ bare (chars fields.implicit.now) ∷ seen_field fields.anchor ∷ seen_field fields.tag ∷ []
+four_fields fields =
+    bare (chars fields.style.now) ∷ bare (chars fields.implicit.now) ∷ field_of (option_map seen_text fields.anchor) ∷ field_of (option_map seen_text fields.tag) ∷ []
 
 -- a version, or none, where it was read
 abbrev pub seen_versions : Option (Option yaml_version_directive_t) → Option (Option Version)

@@ -1,15 +1,11 @@
--- What contracts see of fields, and how a line is cut at its first separator.
-use Rattle.std.specs.Prelude.{ℕ, ◌≡◌, Option, None, Some, List, [], ◌∷◌, String, option_map}
-use Rattle.std.specs.Borrow.{Bor}
+-- What contracts see of the fields of a line, which are read one after another.
+use Rattle.std.specs.Prelude.{ℕ, ◌≡◌, ⊤, false, Bool, Option, None, Some, List, [], ◌∷◌, ◌==◌, option_map, codes, if◌then◌else◌}
 use Rattle.std.specs.List.{onto_first}
 use Rattle.std.specs.Str.{chars, IsUtf8}
-use Rattle.yaml_base.specs.Characters.{Text}
+use Rattle.yaml_base.specs.Characters.{Text, space}
 use Rattle.yaml_base.specs.Script as notation
-use Rattle.yaml_base.specs.Script.{bare, quoted, outside, inside, escaped, cut_from}
-use Rattle.yaml_base.specs.Seen.{seen_text}
+use Rattle.yaml_base.specs.Script.{bare, quoted, outside, inside, escaped, cut_from, quotation_mark}
 use Rattle.yaml_tool.specs.Cuts.{EndsIn, front_of}
-use Rattle.yaml_tool.specs.declared.fields.Field.{Field}
-use Rattle.yaml_tool.specs.declared.fields.Field.TheVariants as field
 use Rattle.yaml_tool.specs.declared.fields.Standing.{Standing}
 use Rattle.yaml_tool.specs.declared.fields.Standing.TheVariants.{Outside, Inside, Escaped}
 
@@ -19,29 +15,10 @@ seen_standing Outside = outside
 seen_standing Inside = inside
 seen_standing Escaped = escaped
 
--- a word by its characters, a text by what it stands for
-abbrev pub seen_field : {A : Type 0} → Field A → notation.Field
-seen_field (field.Word word) = bare (chars word.now)
-seen_field (field.Text text) = quoted (seen_text text)
-
--- a text, or none, where it was read
-abbrev pub seen_choice : {A : Type 0} → Option (Option (String A)) → Option (Option Text)
-seen_choice choice = option_map (λ text. option_map seen_text text) choice
-
--- a text, where nothing stands behind it
-abbrev pub last_text : List notation.Field → Option Text
-last_text (quoted text ∷ []) = Some text
-last_text _ = None
-
--- a word, where nothing stands behind it
-abbrev pub last_word : List notation.Field → Option Text
-last_word (bare word ∷ []) = Some word
-last_word _ = None
-
 -- characters before the first piece
 abbrev pub attached : Text → List Text → List Text
 attached [] pieces = pieces
-attached (c ∷ front) pieces = onto_first c (attached front pieces)
+attached (c ∷ prefix) pieces = onto_first c (attached prefix pieces)
 
 -- the text ends in a text before which no character separates or changes where the next one stands
 pub record RunsTo (standing : notation.Standing) (text end : List ℕ) : Type 0 where
@@ -49,7 +26,73 @@ pub record RunsTo (standing : notation.Standing) (text end : List ℕ) : Type 0 
   pub is_end : IsUtf8 end
   pub run : cut_from standing (chars text) ≡ attached (chars (front_of text end)) (cut_from standing (chars end))
 
--- the line's pieces are the first and those of what stands behind its separator
-abbrev pub CutsFirst : Text → Text → Option (Bor (List ℕ)) → Type 0
-CutsFirst line first None = cut_from outside line ≡ first ∷ []
-CutsFirst line first (Some others) = cut_from outside line ≡ first ∷ cut_from outside (chars others.now)
+-- ---- the rest of a line
+
+-- the pieces after a piece: none, or those after the separator
+abbrev pub pieces_after : Text → List Text
+pieces_after [] = []
+pieces_after (c ∷ rest) = cut_from outside rest
+
+-- the fields after a field: none, or those after the separator
+abbrev pub fields_after : Text → Option (List notation.Field)
+fields_after [] = Some []
+fields_after (c ∷ rest) = if c == space then notation.fields_read rest else None
+
+-- the fields of a line whose first is a text, without its opening mark
+abbrev pub text_begun : Text → Option (List notation.Field)
+text_begun rest = notation.fields_read (quotation_mark ∷ rest)
+
+-- a field before others, where these have a reading
+abbrev pub led_by : notation.Field → Option (List notation.Field) → Option (List notation.Field)
+led_by field fields = option_map (λ others. field ∷ others) fields
+
+-- ---- the next field
+
+-- there is a field, or no reading
+abbrev pub HasField : Option (List notation.Field) → Type 0
+HasField (Some []) = ⊥
+HasField _ = ⊤
+
+-- there is no field, or no reading
+abbrev pub HasNoField : Option (List notation.Field) → Type 0
+HasNoField (Some (field ∷ rest)) = ⊥
+HasNoField _ = ⊤
+
+-- the first field is no word
+abbrev pub HasNoWord : Option (List notation.Field) → Type 0
+HasNoWord (Some (bare word ∷ rest)) = ⊥
+HasNoWord _ = ⊤
+
+-- the first field is no text
+abbrev pub HasNoText : Option (List notation.Field) → Type 0
+HasNoText (Some (quoted text ∷ rest)) = ⊥
+HasNoText _ = ⊤
+
+-- the field that stands for no text
+abbrev pub no_text : notation.Field
+no_text = bare (codes "-")
+
+-- the field that stands for a text or for none
+abbrev pub field_of : Option Text → notation.Field
+field_of None = no_text
+field_of (Some text) = quoted text
+
+-- the first field doesn't stand for no text
+abbrev pub HasNoDash : Option (List notation.Field) → Type 0
+HasNoDash (Some (bare word ∷ rest)) = notation.is_word word (codes "-") ≡ false
+HasNoDash _ = ⊤
+
+-- the first field stands for no text and for none
+abbrev pub HasNoChoice : Option (List notation.Field) → Type 0
+HasNoChoice (Some (field ∷ rest)) = notation.text_or_none field ≡ None
+HasNoChoice _ = ⊤
+
+-- the only field, where it is a text
+abbrev pub the_text : List notation.Field → Option Text
+the_text (quoted text ∷ []) = Some text
+the_text _ = None
+
+-- the only field, where it is a word
+abbrev pub the_word : List notation.Field → Option Text
+the_word (bare word ∷ []) = Some word
+the_word _ = None

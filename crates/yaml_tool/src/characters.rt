@@ -7,7 +7,7 @@ ghost use Rattle.memchr.specs.Find.{IsFirstByte, is_byte2};
 
 use memchr::memchr2;
 
-/// The first character, and what stands behind it.
+/// The first character, and the text after it.
 pub fn first_character(text: &str) -> Option<(char, &str)>
     ensures characters { MatchOption result (chars text.now ≡ []) (λ parts. chars text.now ≡ parts.0 ∷ chars parts.1.now) }
     ensures bytes { IfSome result (λ parts. text.now ≡ encode_utf8 parts.0 ++ parts.1.now) }
@@ -21,7 +21,7 @@ pub fn first_character(text: &str) -> Option<(char, &str)>
     }
 }
 
-/// What stands before the end of a text.
+/// The text before its end.
 pub fn front_before<'a>(text: &'a str, end: &str) -> &'a str
     requires { EndsIn text.now end.now }
     ensures { result.now ≡ front_of text.now end.now }
@@ -77,7 +77,7 @@ pub fn from_near_sign(first: u8, second: u8, text: &str) -> &str
     )
 }
 
-/// What stands before the first of a character, and what stands behind it.
+/// The text before the first of a character, and the text after it.
 pub fn cut_once(sign: char, text: &str) -> Option<(&str, &str)>
     ensures cut { MatchOption result (IsFree sign (chars text.now)) (λ parts. IsCut sign (chars text.now) (chars parts.0.now) (chars parts.1.now)) }
     ensures shorter { IfSome result (λ parts. length parts.1.now < length text.now) }

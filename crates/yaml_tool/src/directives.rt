@@ -1,17 +1,16 @@
 //! The versions and directives of a script's document starts.
-ghost use Rattle.std.specs.Prelude.{◌≡◌, ◌∷◌, [], map, option_map, pos, IfOk, MatchOption};
+ghost use Rattle.std.specs.Prelude.{◌≡◌, ◌∷◌, [], map, option_map, option_and_then, pos, IfOk, MatchOption};
 ghost use Rattle.std.specs.Str.{chars};
 ghost use Rattle.yaml_base.specs.Script as notation;
 ghost use Rattle.yaml_base.specs.Seen.{seen_version, seen_directive};
 ghost use Rattle.yaml_tool.specs.Cuts.{cut_at};
-ghost use Rattle.yaml_tool.specs.Fields.{seen_field};
+ghost use Rattle.yaml_tool.specs.Fields.{fields_after};
 
 use crate::characters::cut_once;
-use crate::fields::Field;
+use crate::fields::{is_end, text_after};
 use crate::numbers::number_up_to;
 use crate::words::is_word;
 use std::alloc::{AllocError, Allocator};
-use std::collections::VecDeque;
 use yaml_base::{yaml_tag_directive_t, yaml_version_directive_t};
 
 /// A number of a version.
@@ -21,7 +20,7 @@ fn version_number(word: &str) -> Option<i32>
     number_up_to(2_147_483_647, word).map(|number| number as i32)
 }
 
-/// What stands before and behind the only point; none where there is another number of points.
+/// The texts before and after the only point; none where there is another number of points.
 fn two_parts(word: &str) -> Option<(&str, &str)>
     ensures { MatchOption result (notation.version_of (cut_at 0x2E (chars word.now)) ≡ None) (λ parts. cut_at 0x2E (chars word.now) ≡ chars parts.0.now ∷ chars parts.1.now ∷ []) }
 {
@@ -59,21 +58,21 @@ pub fn version_or_none(word: &str) -> Option<Option<yaml_version_directive_t>>
 /// Pairs of texts, each a handle and its prefix; none where a field is no text, or a handle has no prefix.
 pub fn directives_of<A: Allocator + Copy>(
     alloc: A,
-    fields: &mut VecDeque<Field<'_, A>, A>,
+    rest: &str,
 ) -> Result<Option<Vec<yaml_tag_directive_t<A>, A>>, AllocError>
-    ensures { IfOk result (λ directives. option_map (λ all. map seen_directive all.items) directives ≡ notation.directives_of (map seen_field fields.old.items)) }
+    ensures { IfOk result (λ directives. option_map (λ all. map seen_directive all.items) directives ≡ option_and_then notation.directives_of (fields_after (chars rest.now))) }
 {
     let mut directives = Vec::new(alloc);
-    loop {
-        match fields.pop_front() {
-            None => return Ok(Some(directives)),
-            Some(Field::Word(_)) => return Ok(None),
-            Some(Field::Text(handle)) => {
-                let Some(Field::Text(prefix)) = fields.pop_front() else {
-                    return Ok(None);
-                };
-                directives.push(yaml_tag_directive_t { handle, prefix })?;
-            }
-        }
+    let mut left = rest;
+    while !is_end(left) {
+        let Some((handle, others)) = text_after(alloc, left)? else {
+            return Ok(None);
+        };
+        let Some((prefix, others)) = text_after(alloc, others)? else {
+            return Ok(None);
+        };
+        directives.push(yaml_tag_directive_t { handle, prefix })?;
+        left = others;
     }
+    Ok(Some(directives))
 }

@@ -1,23 +1,14 @@
-//! The fields of a script's line.
-ghost use Rattle.std.specs.Prelude.{◌≡◌, ◌<◌, Some, None, IfOk, IfSome, length, map, option_map, if◌then◌else◌};
+//! The fields of a script's line, read one after another.
+ghost use Rattle.std.specs.Prelude.{◌≡◌, ◌<◌, ◌≤◌, true, false, [], ◌∷◌, Some, IfOk, IfSome, MatchOption, length, option_map, option_and_then};
 ghost use Rattle.std.specs.Str.{chars, IsUtf8};
 ghost use Rattle.yaml_base.specs.Script as notation;
-ghost use Rattle.yaml_tool.specs.Fields.{seen_standing, seen_field, CutsFirst, RunsTo};
+ghost use Rattle.yaml_base.specs.Seen.{seen_text};
+ghost use Rattle.yaml_tool.specs.Fields.{seen_standing, RunsTo, pieces_after, fields_after, text_begun, led_by, no_text, field_of, the_word, the_text, HasField, HasNoField, HasNoWord, HasNoText, HasNoDash, HasNoChoice};
 
 use crate::characters::{first_character, from_near_sign, from_sign, front_before};
 use crate::texts::text_behind;
+use crate::words::is_word;
 use std::alloc::{AllocError, Allocator};
-use std::collections::VecDeque;
-
-/// A field of a line.
-#[derive(Drop)]
-#[derive_where(Debug)]
-pub enum Field<'a, A: Allocator> {
-    /// A word as it stands.
-    Word(&'a str),
-    /// What a text between quotation marks stands for.
-    Text(String<A>),
-}
 
 /// Where a character of a line stands.
 #[derive(Clone, Copy)]
@@ -26,7 +17,7 @@ enum Standing {
     Outside,
     /// In a text.
     Inside,
-    /// In a text, behind a backslash.
+    /// In a text, after a backslash.
     Escaped,
 }
 
@@ -38,7 +29,7 @@ impl Standing {
         matches!(self, Standing::Outside) && character == ' '
     }
 
-    /// What stands behind a run of characters that don't separate and after which the next one stands there too.
+    /// The text after the longest run that contains no separator and leaves the lexer state unchanged.
     fn past_run(self, text: &str) -> &str
         ensures { RunsTo (seen_standing self) text.now result.now }
     {
@@ -63,57 +54,158 @@ impl Standing {
     }
 }
 
-/// A line's first piece, and what stands behind its separator; none where there is no separator.
-fn first_piece(line: &str) -> (&str, Option<&str>)
-    ensures cut { CutsFirst (chars line.now) (chars result.0.now) result.1 }
-    ensures shorter { IfSome result.1 (λ others. length others.now < length line.now) }
-    ensures utf8 { IfSome result.1 (λ others. IsUtf8 others.now) }
+/// The first piece of a text that stands there, and what follows it: nothing, or a separator and other pieces.
+fn first_piece(start: Standing, text: &str) -> (&str, &str)
+    ensures cut { notation.cut_from (seen_standing start) (chars text.now) ≡ chars result.0.now ∷ pieces_after (chars result.1.now) }
+    ensures after { notation.each_field (pieces_after (chars result.1.now)) ≡ fields_after (chars result.1.now) }
+    ensures within { length result.1.now ≤ length text.now }
+    ensures utf8 { IsUtf8 result.1.now }
 {
-    let mut standing = Standing::Outside;
-    let mut rest = standing.past_run(line);
-    while let Some((character, behind)) = first_character(rest) {
+    let mut standing = start;
+    let mut rest = standing.past_run(text);
+    while let Some((character, after)) = first_character(rest) {
         if standing.separates(character) {
-            return (front_before(line, rest), Some(behind));
+            return (front_before(text, rest), rest);
         }
         standing = standing.after(character);
-        rest = standing.past_run(behind);
+        rest = standing.past_run(after);
     }
-    (line, None)
+    (text, rest)
 }
 
-/// What a piece is; none where it is no field.
-fn field_read<'a, A: Allocator>(
-    alloc: A,
-    piece: &'a str,
-) -> Result<Option<Field<'a, A>>, AllocError>
-    ensures { IfOk result (λ field. option_map seen_field field ≡ notation.field_read (chars piece.now)) }
+/// What follows the separator that the rest of a line begins with.
+fn past_separator(rest: &str) -> Option<&str>
+    ensures characters { MatchOption result (HasNoField (fields_after (chars rest.now))) (λ line. fields_after (chars rest.now) ≡ notation.fields_read (chars line.now)) }
+    ensures shorter { IfSome result (λ line. length line.now < length rest.now) }
 {
+    match first_character(rest) {
+        Some((' ', line)) => Some(line),
+        _ => None,
+    }
+}
+
+/// Whether no field is left.
+pub fn is_end(rest: &str) -> bool
+    ensures yes { result ≡ true → fields_after (chars rest.now) ≡ Some [] }
+    ensures no { result ≡ false → HasField (fields_after (chars rest.now)) }
+{
+    rest.is_empty()
+}
+
+/// The first field of a line, where it is a word, and the rest of the line after it.
+pub fn first_word(line: &str) -> Option<(&str, &str)>
+    ensures { MatchOption result (HasNoWord (notation.fields_read (chars line.now))) (λ parts. notation.fields_read (chars line.now) ≡ led_by (notation.bare (chars parts.0.now)) (fields_after (chars parts.1.now))) }
+{
+    let (piece, rest) = first_piece(Standing::Outside, line);
     match first_character(piece) {
-        Some(('"', behind)) => Ok(text_behind(alloc, behind)?.map(|text| Field::Text(text))),
-        Some(_) => Ok(Some(Field::Word(piece))),
+        Some(('"', _)) | None => None,
+        Some(_) => Some((piece, rest)),
+    }
+}
+
+/// The next field, where it is a word, and the rest of the line after it.
+pub fn word_after(rest: &str) -> Option<(&str, &str)>
+    ensures { MatchOption result (HasNoWord (fields_after (chars rest.now))) (λ parts. fields_after (chars rest.now) ≡ led_by (notation.bare (chars parts.0.now)) (fields_after (chars parts.1.now))) }
+{
+    first_word(past_separator(rest)?)
+}
+
+/// The next field, where it is a word and the line's last.
+pub fn last_word(rest: &str) -> Option<&str>
+    ensures { option_map (λ word. chars word.now) result ≡ option_and_then the_word (fields_after (chars rest.now)) }
+{
+    let (word, rest) = word_after(rest)?;
+    if is_end(rest) { Some(word) } else { None }
+}
+
+/// What the text after an opening mark stands for, read escape by escape, and the rest of the line after it.
+fn escaped_text<A: Allocator>(
+    alloc: A,
+    behind: &str,
+) -> Result<Option<(String<A>, &str)>, AllocError>
+    ensures read { IfOk result (λ text. MatchOption text (HasNoText (text_begun (chars behind.now))) (λ parts. text_begun (chars behind.now) ≡ led_by (notation.quoted (seen_text parts.0)) (fields_after (chars parts.1.now)))) }
+    ensures within { IfOk result (λ text. IfSome text (λ parts. length parts.1.now ≤ length behind.now)) }
+    ensures utf8 { IfOk result (λ text. IfSome text (λ parts. IsUtf8 parts.1.now)) }
+{
+    let (piece, rest) = first_piece(Standing::Inside, behind);
+    match text_behind(alloc, piece)? {
+        Some(text) => Ok(Some((text, rest))),
         None => Ok(None),
     }
 }
 
-/// Reads the fields of a line, with one space between two, in place of others; answers whether each piece is one.
-pub fn fields_read<'a, A: Allocator + Copy>(
-    alloc: A,
-    line: &'a str,
-    fields: &mut VecDeque<Field<'a, A>, A>,
-) -> Result<bool, AllocError>
-    ensures { IfOk result (λ read. notation.fields_read (chars line.now) ≡ (if read then Some (map seen_field fields.new.items) else None)) }
+/// What the text after an opening mark stands for, and the rest of the line after it. Without an escape it is copied at once.
+fn begun_text<A: Allocator>(alloc: A, behind: &str) -> Result<Option<(String<A>, &str)>, AllocError>
+    ensures read { IfOk result (λ text. MatchOption text (HasNoText (text_begun (chars behind.now))) (λ parts. text_begun (chars behind.now) ≡ led_by (notation.quoted (seen_text parts.0)) (fields_after (chars parts.1.now)))) }
+    ensures within { IfOk result (λ text. IfSome text (λ parts. length parts.1.now ≤ length behind.now)) }
+    ensures utf8 { IfOk result (λ text. IfSome text (λ parts. IsUtf8 parts.1.now)) }
 {
-    fields.clear();
-    let mut rest = line;
-    loop {
-        let (piece, others) = first_piece(rest);
-        match field_read(alloc, piece)? {
-            Some(field) => fields.push_back(field)?,
-            None => return Ok(false),
+    let end = from_sign(b'"', b'\\', behind);
+    match first_character(end) {
+        Some(('"', rest)) => {
+            let text = String::from_str(alloc, front_before(behind, end))?;
+            Ok(Some((text, rest)))
         }
-        match others {
-            Some(others) => rest = others,
-            None => return Ok(true),
-        }
+        _ => escaped_text(alloc, behind),
+    }
+}
+
+/// What follows the opening mark of the next field, where that is a text.
+fn past_mark(rest: &str) -> Option<&str>
+    ensures characters { MatchOption result (HasNoText (fields_after (chars rest.now))) (λ behind. fields_after (chars rest.now) ≡ text_begun (chars behind.now)) }
+    ensures shorter { IfSome result (λ behind. length behind.now < length rest.now) }
+{
+    match first_character(past_separator(rest)?) {
+        Some(('"', behind)) => Some(behind),
+        _ => None,
+    }
+}
+
+/// The next field, where it is a text, and the rest of the line after it.
+pub fn text_after<A: Allocator>(
+    alloc: A,
+    rest: &str,
+) -> Result<Option<(String<A>, &str)>, AllocError>
+    ensures read { IfOk result (λ text. MatchOption text (HasNoText (fields_after (chars rest.now))) (λ parts. fields_after (chars rest.now) ≡ led_by (notation.quoted (seen_text parts.0)) (fields_after (chars parts.1.now)))) }
+    ensures shorter { IfOk result (λ text. IfSome text (λ parts. length parts.1.now < length rest.now)) }
+    ensures utf8 { IfOk result (λ text. IfSome text (λ parts. IsUtf8 parts.1.now)) }
+{
+    match past_mark(rest) {
+        Some(behind) => begun_text(alloc, behind),
+        None => Ok(None),
+    }
+}
+
+/// The next field, where it is a text and the line's last.
+pub fn last_text<A: Allocator>(alloc: A, rest: &str) -> Result<Option<String<A>>, AllocError>
+    ensures { IfOk result (λ text. option_map seen_text text ≡ option_and_then the_text (fields_after (chars rest.now))) }
+{
+    match text_after(alloc, rest)? {
+        Some((text, rest)) => Ok(if is_end(rest) { Some(text) } else { None }),
+        None => Ok(None),
+    }
+}
+
+/// The rest of the line after the next field, where that is `-`.
+fn past_dash(rest: &str) -> Option<&str>
+    ensures { MatchOption result (HasNoDash (fields_after (chars rest.now))) (λ others. fields_after (chars rest.now) ≡ led_by no_text (fields_after (chars others.now))) }
+{
+    let (word, rest) = word_after(rest)?;
+    if is_word(word, "-") { Some(rest) } else { None }
+}
+
+/// The next field, where it is a text or `-` for none, and the rest of the line after it.
+pub fn choice_after<A: Allocator>(
+    alloc: A,
+    rest: &str,
+) -> Result<Option<(Option<String<A>>, &str)>, AllocError>
+    ensures { IfOk result (λ choice. MatchOption choice (HasNoChoice (fields_after (chars rest.now))) (λ parts. fields_after (chars rest.now) ≡ led_by (field_of (option_map seen_text parts.0)) (fields_after (chars parts.1.now)))) }
+{
+    match text_after(alloc, rest)? {
+        Some((text, others)) => Ok(Some((Some(text), others))),
+        None => match past_dash(rest) {
+            Some(others) => Ok(Some((None, others))),
+            None => Ok(None),
+        },
     }
 }

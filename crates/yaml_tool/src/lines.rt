@@ -1,17 +1,17 @@
 //! The lines of a script.
-ghost use Rattle.std.specs.Prelude.{◌≡◌, map, option_map, IfOk};
+ghost use Rattle.std.specs.Prelude.{◌≡◌, option_map, option_and_then, IfOk};
 ghost use Rattle.std.specs.Str.{chars};
 ghost use Rattle.yaml_base.specs.Script as notation;
-ghost use Rattle.yaml_tool.specs.Fields.{seen_field};
+ghost use Rattle.yaml_tool.specs.Fields.{fields_after};
 ghost use Rattle.yaml_tool.specs.Settings.{seen_setting};
 ghost use Rattle.yaml_tool.specs.Lines.{seen_line};
 
 use crate::characters::{cut_once, first_character};
 use crate::events::event_of;
-use crate::fields::{Field, fields_read};
+use crate::fields::{first_word, last_word};
 use crate::settings::{Setting, setting_of};
+use crate::words::event_named;
 use std::alloc::{AllocError, Allocator};
-use std::collections::VecDeque;
 use std::str;
 use yaml_base::yaml_event_t;
 
@@ -27,51 +27,40 @@ pub enum Line<A: Allocator> {
 }
 
 /// A name and one value set something.
-fn setting_in<A: Allocator>(name: &str, fields: &VecDeque<Field<'_, A>, A>) -> Option<Setting>
-    ensures { option_map seen_setting result ≡ notation.setting_line (chars name.now) (map seen_field fields.now.items) }
+fn setting_in(name: &str, rest: &str) -> Option<Setting>
+    ensures { option_map seen_setting result ≡ option_and_then (notation.setting_line (chars name.now)) (fields_after (chars rest.now)) }
 {
-    if fields.len() != 1 {
-        return None;
-    }
-    match fields.front() {
-        Some(Field::Word(value)) => setting_of(name, value),
-        _ => None,
-    }
+    setting_of(name, last_word(rest)?)
 }
 
 /// What a line's fields say: the first is the name of a setting or of an event.
-fn line_of<A: Allocator + Copy>(
-    alloc: A,
-    fields: &mut VecDeque<Field<'_, A>, A>,
-) -> Result<Option<Line<A>>, AllocError>
-    ensures { IfOk result (λ line. option_map seen_line line ≡ notation.line_of (map seen_field fields.old.items)) }
+fn line_of<A: Allocator + Copy>(alloc: A, line: &str) -> Result<Option<Line<A>>, AllocError>
+    ensures { IfOk result (λ read. option_map seen_line read ≡ option_and_then notation.line_of (notation.fields_read (chars line.now))) }
 {
-    let Some(Field::Word(name)) = fields.pop_front() else {
+    let Some((word, rest)) = first_word(line) else {
         return Ok(None);
     };
-    if let Some(setting) = setting_in(name, fields) {
-        return Ok(Some(Line::Sets(setting)));
+    match event_named(word) {
+        Some(name) => match event_of(alloc, name, rest)? {
+            Some(event) => Ok(Some(Line::Gives(event))),
+            None => Ok(None),
+        },
+        None => match setting_in(word, rest) {
+            Some(setting) => Ok(Some(Line::Sets(setting))),
+            None => Ok(None),
+        },
     }
-    let event = event_of(alloc, name, fields)?;
-    Ok(event.map(|event| Line::Gives(event)))
 }
 
 /// What a line says; none where it is bad.
-fn line_read<'a, A: Allocator + Copy>(
-    alloc: A,
-    line: &'a str,
-    fields: &mut VecDeque<Field<'a, A>, A>,
-) -> Result<Option<Line<A>>, AllocError>
+fn line_read<A: Allocator + Copy>(alloc: A, line: &str) -> Result<Option<Line<A>>, AllocError>
     ensures { IfOk result (λ read. option_map seen_line read ≡ notation.line_read (chars line.now)) }
 {
     let Some((first, rest)) = first_character(line) else {
         return Ok(Some(Line::Nothing));
     };
     if first != '#' {
-        if !fields_read(alloc, line, fields)? {
-            return Ok(None);
-        }
-        return line_of(alloc, fields);
+        return line_of(alloc, line);
     }
     match cut_once('\r', rest) {
         None => Ok(Some(Line::Nothing)),
@@ -79,16 +68,15 @@ fn line_read<'a, A: Allocator + Copy>(
     }
 }
 
-/// What a line's bytes say: they have to be UTF-8. Its fields are read in place of others.
-pub fn line_understood<'a, A: Allocator + Copy>(
+/// What a line's bytes say: they have to be UTF-8.
+pub fn line_understood<A: Allocator + Copy>(
     alloc: A,
-    bytes: &'a [u8],
-    fields: &mut VecDeque<Field<'a, A>, A>,
+    bytes: &[u8],
 ) -> Result<Option<Line<A>>, AllocError>
     ensures { IfOk result (λ line. option_map seen_line line ≡ notation.line_understood bytes.now) }
 {
     match str::from_utf8(bytes) {
-        Ok(text) => { line_read(alloc, text, fields) }
+        Ok(text) => line_read(alloc, text),
         Err(_) => Ok(None),
     }
 }

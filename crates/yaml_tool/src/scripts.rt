@@ -5,12 +5,10 @@ ghost use Rattle.yaml_tool.specs.Settings.{seen_setting, seen_settings};
 ghost use Rattle.yaml_tool.specs.Lines.{seen_line};
 ghost use Rattle.yaml_tool.specs.Scripts.{seen_progress, seen_numbered, after_line, CutsLine, IsFaultOf};
 
-use crate::fields::Field;
 use crate::lines::{Line, line_understood};
 use crate::settings::{Setting, Settings, is_set, settings_of};
 use memchr::memchr;
 use std::alloc::{AllocError, Allocator};
-use std::collections::VecDeque;
 use yaml_base::yaml_event_t;
 
 /// An event and the number of its line.
@@ -100,12 +98,11 @@ pub fn read_script<A: Allocator + Copy>(alloc: A, bytes: &[u8]) -> Result<Script
         settings: Vec::new(alloc),
         events: Vec::new(alloc),
     };
-    let mut fields = VecDeque::new(alloc);
     let mut number = 1;
     let mut rest = bytes;
     'lines: loop {
         let (line, others) = first_line(rest);
-        let Ok(is_good) = line_taken(alloc, &mut fields, &mut progress, number, line) else {
+        let Ok(is_good) = line_taken(alloc, &mut progress, number, line) else {
             return Err(ScriptError::OutOfMemory);
         };
         if !is_good {
@@ -127,16 +124,15 @@ pub fn read_script<A: Allocator + Copy>(alloc: A, bytes: &[u8]) -> Result<Script
 }
 
 /// Understands a line and takes it; answers whether it is good.
-fn line_taken<'a, A: Allocator + Copy>(
+fn line_taken<A: Allocator + Copy>(
     alloc: A,
-    fields: &mut VecDeque<Field<'a, A>, A>,
     progress: &mut Progress<A>,
     number: u64,
-    line: &'a [u8],
+    line: &[u8],
 ) -> Result<bool, AllocError>
     ensures { IfOk result (λ taken. after_line number (seen_progress progress.old) line.now ≡ (if taken then Some (seen_progress progress.new) else None)) }
 {
-    match line_understood(alloc, line, fields)? {
+    match line_understood(alloc, line)? {
         Some(line) => progress.take_line(number, line),
         None => Ok(false),
     }

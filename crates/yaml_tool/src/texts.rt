@@ -82,7 +82,7 @@ fn next_turn(behind: &str) -> Turn<'_>
     }
 }
 
-/// The longest front without quotation marks and backslashes, and what stands behind it.
+/// The longest prefix without quotation marks and backslashes, and the text after it.
 fn unescaped_front(text: &str) -> (&str, &str)
     ensures reads { ReadsOn (chars text.now) (chars result.0.now) (chars result.1.now) }
     ensures shorter { length result.1.now ≤ length text.now }
@@ -92,7 +92,7 @@ fn unescaped_front(text: &str) -> (&str, &str)
     (front_before(text, behind), behind)
 }
 
-/// Takes that front over, and answers what stands behind it.
+/// Appends that prefix, and returns the text after it.
 fn push_front<'a, A: Allocator>(
     text: &mut String<A>,
     behind: &'a str,
@@ -106,7 +106,7 @@ fn push_front<'a, A: Allocator>(
     Ok(others)
 }
 
-/// What the characters behind an opening `"` stand for; none where they are no text.
+/// What the characters after an opening `"` stand for; none where they are no text.
 pub fn text_behind<A: Allocator>(alloc: A, behind: &str) -> Result<Option<String<A>>, AllocError>
     ensures { IfOk result (λ text. option_map seen_text text ≡ notation.text_from notation.at_character (chars behind.now)) }
 {

@@ -1,9 +1,10 @@
 //! The words of a script's lines, and what they mean.
-ghost use Rattle.std.specs.Prelude.{◌≡◌, option_map, nat_lt, IsTrue};
+ghost use Rattle.std.specs.Prelude.{◌≡◌, None, List, MatchOption, option_map, nat_lt, IsTrue};
 ghost use Rattle.std.specs.List.{list_all};
 ghost use Rattle.std.specs.Str.{chars};
 ghost use Rattle.yaml_base.specs.Script as notation;
 ghost use Rattle.yaml_base.specs.Seen.{seen_encoding, seen_break, seen_scalar_style, seen_sequence_style, seen_mapping_style};
+ghost use Rattle.yaml_tool.specs.Events.{event_word};
 
 use yaml_base::{
     yaml_break_t, yaml_encoding_t, yaml_mapping_style_t, yaml_scalar_style_t, yaml_sequence_style_t,
@@ -15,6 +16,60 @@ pub fn is_word(word: &str, name: &'static str) -> bool
     ensures { result ≡ notation.is_word (chars word.now) name.now }
 {
     word == name
+}
+
+/// The names of events.
+#[derive(Clone, Copy)]
+pub enum EventName {
+    /// `+STR`.
+    StreamStart,
+    /// `-STR`.
+    StreamEnd,
+    /// `+DOC`.
+    DocumentStart,
+    /// `-DOC`.
+    DocumentEnd,
+    /// `=ALI`.
+    Alias,
+    /// `=VAL`.
+    Scalar,
+    /// `+SEQ`.
+    SequenceStart,
+    /// `-SEQ`.
+    SequenceEnd,
+    /// `+MAP`.
+    MappingStart,
+    /// `-MAP`.
+    MappingEnd,
+}
+
+/// The name of an event. Those that most lines begin with come first.
+pub fn event_named(word: &str) -> Option<EventName>
+    ensures { MatchOption result ((fields : List notation.Field) → notation.event_of (chars word.now) fields ≡ None) (λ name. chars word.now ≡ event_word name) }
+{
+    if is_word(word, "=VAL") {
+        Some(EventName::Scalar)
+    } else if is_word(word, "-MAP") {
+        Some(EventName::MappingEnd)
+    } else if is_word(word, "+MAP") {
+        Some(EventName::MappingStart)
+    } else if is_word(word, "-SEQ") {
+        Some(EventName::SequenceEnd)
+    } else if is_word(word, "+SEQ") {
+        Some(EventName::SequenceStart)
+    } else if is_word(word, "+DOC") {
+        Some(EventName::DocumentStart)
+    } else if is_word(word, "-DOC") {
+        Some(EventName::DocumentEnd)
+    } else if is_word(word, "=ALI") {
+        Some(EventName::Alias)
+    } else if is_word(word, "+STR") {
+        Some(EventName::StreamStart)
+    } else if is_word(word, "-STR") {
+        Some(EventName::StreamEnd)
+    } else {
+        None
+    }
 }
 
 /// `0` or `1`.

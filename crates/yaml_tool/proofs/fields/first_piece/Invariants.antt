@@ -1,6 +1,6 @@
 use Rattle.std.proofs.Common.{◌≡◌, ◌≤◌, length}
 use Rattle.std.specs.Str.{chars}
-use Rattle.yaml_base.specs.Script.{outside, cut_from}
+use Rattle.yaml_base.specs.Script.{cut_from}
 use Rattle.yaml_tool.specs.Cuts.{front_of}
 use Rattle.yaml_tool.specs.Fields.{seen_standing, attached}
 use Rattle.yaml_tool.proofs.CharacterLemmas.{Passed}
@@ -8,9 +8,9 @@ use Rattle.yaml_tool.proofs.fields.first_piece.Given as goal
 
 abbrev pub invariant-loop-character : goal.invariant-loop-character
 invariant-loop-character l = record {
-  passed : Passed l.line l.rest;
-  cut : cut_from outside (chars l.line) ≡ attached (chars (front_of l.line l.rest)) (cut_from (seen_standing l.standing) (chars l.rest));
-  within : length l.rest ≤ length l.line;
+  passed : Passed l.fn.text l.rest;
+  cut : cut_from (seen_standing l.fn.start) (chars l.fn.text) ≡ attached (chars (front_of l.fn.text l.rest)) (cut_from (seen_standing l.standing) (chars l.rest));
+  within : length l.rest ≤ length l.fn.text;
 }
 
 abbrev pub decreases-loop-character : goal.decreases-loop-character
