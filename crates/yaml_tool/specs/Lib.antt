@@ -1,4 +1,5 @@
 pub mod Answers
+pub mod Arguments
 pub mod Cuts
 pub mod Events
 pub mod Fields

@@ -2,12 +2,14 @@
 #![tactic(auto)]
 
 mod answers;
+mod arguments;
 mod characters;
 mod directives;
 mod events;
 mod fields;
 mod lines;
 mod numbers;
+mod program;
 mod runs;
 mod scripts;
 mod settings;
@@ -16,6 +18,8 @@ mod texts;
 mod words;
 
 pub use answers::{run_answer_t, status, write_line};
+pub use arguments::{Task, task_of};
+pub use program::{read_arguments, serve};
 pub use runs::run;
 pub use scripts::{NumberedEvent, Script, ScriptError, read_script};
 pub use settings::Settings;

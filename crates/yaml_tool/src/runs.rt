@@ -42,7 +42,7 @@ pub fn run<A: Allocator + Copy, R: Read, W: Write>(
 }
 
 /// What a script says; its bytes are dropped.
-fn script_in<A: Allocator + Copy, R: Read>(
+pub fn script_in<A: Allocator + Copy, R: Read>(
     alloc: A,
     reader: &mut R,
 ) -> Result<Script<A>, run_answer_t>
@@ -60,7 +60,7 @@ fn script_in<A: Allocator + Copy, R: Read>(
 }
 
 /// Emits a script's events, and writes what came out.
-fn emit_script<A: Allocator + Copy, W: Write>(
+pub fn emit_script<A: Allocator + Copy, W: Write>(
     alloc: A,
     script: Script<A>,
     writer: &mut W,

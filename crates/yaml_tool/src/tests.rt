@@ -1,4 +1,6 @@
 mod devices;
+mod errors;
+mod options;
 
 use super::*;
 use std::alloc::{AllocError, Global};

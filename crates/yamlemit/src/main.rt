@@ -1,13 +1,17 @@
-//! The program: a script of YAML events on standard input, its YAML on standard output.
+//! The program: a script of YAML events, from a file or from standard input, and its YAML.
 #![tactic(auto)]
 
 use std::io;
+use std::io::IsTerminal;
 use std::process::ExitCode;
-use yaml_tool::{run, status, write_line};
+use yaml_tool::{read_arguments, serve};
 
 /// Ends with the run's status, also where what went wrong can't be told.
 fn main(rt: HostRuntime) -> ExitCode {
-    let answer = run(rt.alloc(), &mut rt.reader(), &mut io::writer(&rt));
-    let _told = write_line(&answer, &mut io::writer(&rt.stderr()));
-    ExitCode::from(status(&answer))
+    let Ok(words) = read_arguments(&rt) else {
+        return ExitCode::from(3);
+    };
+    let at_terminal = rt.stdin().is_terminal();
+    let mut faults = io::writer(&rt.stderr());
+    ExitCode::from(serve(&rt, words.as_slice(), at_terminal, &mut faults))
 }
