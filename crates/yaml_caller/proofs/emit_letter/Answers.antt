@@ -26,6 +26,15 @@ returns-in_err-yaml_emitter_emit-clause-memory g c =
     (c.in_err-yaml_emitter_emit.ensures.promised letter_settings [] c.requires.stands) c.in_err-yaml_emitter_emit.ensures.answered)
     c.from_residual.ensures
 
+pub returns-in_err-yaml_emitter_emit-2-clause-memory : goal.returns-in_err-yaml_emitter_emit-2-clause-memory
+returns-in_err-yaml_emitter_emit-2-clause-memory g c =
+    let first = c.yaml_emitter_emit.ensures.stands letter_settings [] c.requires.stands in
+    exit_memory c.in_err-yaml_emitter_emit-2.field-0.0 c.from_residual-in_err-yaml_emitter_emit-2.result
+    (call_memory 2 (map seen_directive c.new.result.items) (codes "a") c.yaml_emitter_emit-2.new.emitter (Err c.in_err-yaml_emitter_emit-2.field-0.0)
+    (ap (map seen_directive) c.new.ensures.items) refl
+    (c.in_err-yaml_emitter_emit-2.ensures.promised letter_settings _ first) c.in_err-yaml_emitter_emit-2.ensures.answered)
+    c.from_residual-in_err-yaml_emitter_emit-2.ensures
+
 pub returns-in_err-yaml_emitter_emit-3-clause-memory : goal.returns-in_err-yaml_emitter_emit-3-clause-memory
 returns-in_err-yaml_emitter_emit-3-clause-memory g c =
     let first = c.yaml_emitter_emit.ensures.stands letter_settings [] c.requires.stands in
