@@ -45,3 +45,15 @@ pub mod UnfoldEvents
 pub mod SharedNodes
 pub mod DocumentsUnfold
 pub mod ContentsUnfold
+pub mod StreamLineLaws
+pub mod StreamInside
+pub mod StreamCuts
+pub mod StreamWords
+pub mod StreamPlainWords
+pub mod StreamSays
+pub mod StreamBytes
+pub mod StreamSections
+pub mod StreamKeys
+pub mod StreamAgrees
+pub mod StreamTidyLaws
+pub mod StreamTakes

@@ -90,9 +90,14 @@ property_turn is_white_blank text c = goes_to (after_property (text ++ c ∷ [])
 property_turn is_white_break text c = completes bad
 property_turn class text c = goes_to (in_property (text ++ c ∷ []))
 
+-- the token of a class of white characters
+abbrev pub white_of_class : FlowClass → FlowToken
+white_of_class is_white_blank = blank
+white_of_class _ = line_end
+
 -- the token of a white character
 abbrev pub white_token : Bool → ℕ → FlowToken
-white_token breaks12 c = if is_blank c then blank else line_end
+white_token breaks12 c = white_of_class (class_of breaks12 c)
 
 -- a word that ended, the white space after it, and the sign that ended it
 abbrev pub word_ends : Bool → Text → Text → FlowTurn → FlowTurn

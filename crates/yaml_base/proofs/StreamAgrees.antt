@@ -1,0 +1,218 @@
+-- The trees that a layout's nodes are to be read as, and that they agree with the events.
+use Rattle.std.proofs.Common.{◌≡◌, refl, sym, ap, ◌∙◌}
+use Rattle.std.proofs.lemmas.Bool.{true≢false, false≢true, and_parts, and_from}
+use Rattle.std.proofs.lemmas.Bool.Decides.{Decides-int_eq}
+use Rattle.std.proofs.lemmas.Slice.Eq.{bytes_eq-Decides}
+use Rattle.std.specs.Ordering.{int_eq}
+use Rattle.std.specs.Prelude.{ℕ, Bool, true, false, Option, None, Some, List, [], ◌∷◌, ◌++◌, ◌||◌, ◌&&◌, not, bytes_eq, is_some, if◌then◌else◌}
+use Rattle.yaml_base.specs.Characters.{Text}
+use Rattle.yaml_base.specs.Settings.{Effective}
+use Rattle.yaml_base.specs.Event.{ScalarStyle, any_style, plain, single_quoted, double_quoted, literal, folded, Version, TagDirective, Scalar, Collection}
+use Rattle.yaml_base.specs.Tags.{directives_in_force}
+use Rattle.yaml_base.specs.Analysis.{Allowances, is_empty, allowances}
+use Rattle.yaml_base.specs.Style.{Choice, lacks_tag_and_flags, is_plain, style_asked, style_quoted, style_fitting, fits_plain, chosen}
+use Rattle.yaml_base.specs.Grammar.{Node, alias_node, scalar_node, sequence_node, mapping_node, Nodes, no_nodes, nodes_and, Pairs, no_pairs, pairs_and, Document}
+use Rattle.yaml_base.specs.Refusal.{scalar_tag, collection_tag}
+use Rattle.yaml_base.specs.Layout.{Role, as_item, as_key, as_value, Place, has_no_nodes, has_no_pairs, is_simple, is_simple_at, choice_of, is_written_in_flow, entry_place, root_place}
+use Rattle.yaml_base.specs.StreamContent.{Standing, stood_plain, stood_quoted, stood_bare, Tagging, with_tag, without_tag, Tree, alias_tree, scalar_tree, sequence_tree, mapping_tree, Trees, no_trees, trees_and, TreePairs, no_tree_pairs, tree_pairs_and, DocumentTree, may_stand, is_same_text, tagging_agrees, tree_agrees, trees_agree, tree_pairs_agree, is_same_version, are_same_directives, document_agrees}
+
+-- how a scalar stands in a style, after the bare tag or not
+abbrev pub standing_in : ScalarStyle → (bare : Bool) → Standing
+standing_in style bare = if bare then stood_bare else if is_plain style then stood_plain else stood_quoted
+
+-- how a scalar is tagged in the style that was chosen
+abbrev pub tagging_in : Option Text → Choice → Tagging
+tagging_in None choice = without_tag (standing_in choice.style choice.bare)
+tagging_in (Some tag) choice = with_tag tag
+
+-- the tree of a node at a place, where the column doesn't matter
+abbrev mutual
+  pub node_tree : Node → Effective → List TagDirective → Place → Tree
+  node_tree (alias_node name) s directives place = alias_tree name
+  node_tree (scalar_node content) s directives place =
+      scalar_tree content.anchor
+      (tagging_in (scalar_tag s.canonical content) (choice_of s place (is_simple_at place s.canonical directives (scalar_node content)) content))
+      content.value
+  node_tree (sequence_node start items) s directives place =
+      sequence_tree start.anchor (collection_tag s.canonical start)
+      (nodes_tree items s directives (is_written_in_flow s place start (has_no_nodes items)))
+  node_tree (mapping_node start pairs) s directives place =
+      mapping_tree start.anchor (collection_tag s.canonical start)
+      (pairs_tree pairs s directives (is_written_in_flow s place start (has_no_pairs pairs)))
+
+  pub nodes_tree : Nodes → Effective → List TagDirective → (in_flow : Bool) → Trees
+  nodes_tree no_nodes s directives in_flow = no_trees
+  nodes_tree (nodes_and items last) s directives in_flow =
+      trees_and (nodes_tree items s directives in_flow)
+      (node_tree last s directives (entry_place in_flow (as_item (has_no_nodes items)) 0))
+
+  pub pairs_tree : Pairs → Effective → List TagDirective → (in_flow : Bool) → TreePairs
+  pairs_tree no_pairs s directives in_flow = no_tree_pairs
+  pairs_tree (pairs_and pairs last_key last_value) s directives in_flow =
+      tree_pairs_and (pairs_tree pairs s directives in_flow)
+      (node_tree last_key s directives (entry_place in_flow (as_key (has_no_pairs pairs)) 0))
+      (node_tree last_value s directives (entry_place in_flow (as_value (is_simple s.canonical directives last_key)) 0))
+
+-- the tree of a document
+abbrev pub document_tree : Effective → Document → DocumentTree
+document_tree s document =
+    record {
+      version = document.start.version;
+      directives = document.start.directives;
+      root = node_tree document.root s (directives_in_force document.start.directives) root_place;
+    }
+
+-- each scalar of a tree has a tag that is written, or a flag
+abbrev mutual
+  pub node_is_tagged : Bool → Node → Bool
+  node_is_tagged canonical (alias_node name) = true
+  node_is_tagged canonical (scalar_node content) =
+      not (lacks_tag_and_flags (is_some (scalar_tag canonical content)) content.plain_implicit content.quoted_implicit)
+  node_is_tagged canonical (sequence_node start items) = nodes_are_tagged canonical items
+  node_is_tagged canonical (mapping_node start pairs) = pairs_are_tagged canonical pairs
+
+  pub nodes_are_tagged : Bool → Nodes → Bool
+  nodes_are_tagged canonical no_nodes = true
+  nodes_are_tagged canonical (nodes_and items last) = nodes_are_tagged canonical items && node_is_tagged canonical last
+
+  pub pairs_are_tagged : Bool → Pairs → Bool
+  pairs_are_tagged canonical no_pairs = true
+  pairs_are_tagged canonical (pairs_and pairs key value) =
+      pairs_are_tagged canonical pairs && node_is_tagged canonical key && node_is_tagged canonical value
+
+same_text : (text : Text) → bytes_eq text text ≡ true
+same_text text = (bytes_eq-Decides text text).1 refl
+
+same_option : (text : Option Text) → is_same_text text text ≡ true
+same_option None = refl
+same_option (Some text) = same_text text
+
+-- plain is chosen only where it fits
+quoted_not_plain : (allowed : Allowances) → is_plain (style_quoted allowed) ≡ false
+quoted_not_plain allowed = by allowed.single_quoted
+  where
+    by : (x : Bool) → is_plain (if x then single_quoted else double_quoted) ≡ false
+    by true = refl
+    by false = refl
+
+plain_fits : (allowed : Allowances) (fits block_fits : Bool) (style : ScalarStyle) → is_plain (style_fitting allowed fits block_fits style) ≡ true → fits ≡ true
+plain_fits allowed true block_fits style h = refl
+plain_fits allowed false block_fits plain h = absurd (false≢true (sym (quoted_not_plain allowed) ∙ h))
+plain_fits allowed false block_fits single_quoted h = absurd (false≢true (sym (quoted_not_plain allowed) ∙ h))
+plain_fits allowed false true literal h = absurd (false≢true h)
+plain_fits allowed false false literal h = absurd (false≢true h)
+plain_fits allowed false true folded h = absurd (false≢true h)
+plain_fits allowed false false folded h = absurd (false≢true h)
+plain_fits allowed false block_fits any_style h = absurd (false≢true h)
+plain_fits allowed false block_fits double_quoted h = absurd (false≢true h)
+
+-- a scalar without a written tag stands as its flags let it
+stands : (content : Scalar) (style : ScalarStyle) → (is_plain style ≡ true → content.plain_implicit ≡ true)
+    → not (lacks_tag_and_flags false content.plain_implicit content.quoted_implicit) ≡ true
+    → may_stand content (standing_in style (not false && not content.quoted_implicit && not (is_plain style))) ≡ true
+stands content style fits flags = by (is_plain style) content.quoted_implicit content.plain_implicit refl refl (λ e. fits e) flags
+  where
+    by : (x q p : Bool) → content.quoted_implicit ≡ q → content.plain_implicit ≡ p → (x ≡ true → content.plain_implicit ≡ true)
+        → not (lacks_tag_and_flags false p q) ≡ true
+        → may_stand content (if not false && not q && not x then stood_bare else if x then stood_plain else stood_quoted) ≡ true
+    by true true p e f fits h = fits refl
+    by true false p e f fits h = fits refl
+    by false true p e f fits h = e
+    by false false true e f fits h = and_from content.plain_implicit (not content.quoted_implicit) f (ap not e)
+    by false false false e f fits h = absurd (false≢true h)
+
+tagging_is : (s : Effective) (place : Place) (simple : Bool) (content : Scalar) (tag : Option Text)
+    → scalar_tag s.canonical content ≡ tag
+    → not (lacks_tag_and_flags (is_some tag) content.plain_implicit content.quoted_implicit) ≡ true
+    → tagging_agrees content tag (tagging_in tag (choice_of s place simple content)) ≡ true
+tagging_is s place simple content (Some tag) e flags = same_text tag
+tagging_is s place simple content None e flags =
+    ap (λ t. may_stand content (standing_in (style t) (not (is_some t) && not content.quoted_implicit && not (is_plain (style t))))) e
+    ∙ stands content (style None) fits flags
+  where
+    allowed : Allowances
+    allowed = allowances (record { unicode = s.unicode; breaks12 = s.breaks12 }) content.value
+
+    fit : Option Text → Bool
+    fit t = fits_plain allowed (is_empty content.value) (is_some t) content.plain_implicit place.in_flow simple
+
+    style : Option Text → ScalarStyle
+    style t =
+        style_fitting allowed (fit t) (allowed.block && not place.in_flow && not simple)
+        (style_asked (s.canonical || (simple && allowed.multiline)) content.style)
+
+    fits : is_plain (style None) ≡ true → content.plain_implicit ≡ true
+    fits h =
+        (and_parts ((if place.in_flow then allowed.flow_plain else allowed.block_plain) && not (is_empty content.value && (place.in_flow || simple)))
+        (false || content.plain_implicit)
+        (plain_fits allowed (fit None) (allowed.block && not place.in_flow && not simple)
+        (style_asked (s.canonical || (simple && allowed.multiline)) content.style) h)).1
+
+-- the tree of a node agrees with it
+mutual
+  pub node_agrees : (n : Node) (s : Effective) (directives : List TagDirective) (place : Place) → node_is_tagged s.canonical n ≡ true
+      → tree_agrees s.canonical n (node_tree n s directives place) ≡ true
+  node_agrees (alias_node name) s directives place h = same_text name
+  node_agrees (scalar_node content) s directives place h =
+      let simple = is_simple_at place s.canonical directives (scalar_node content) in
+      let tag = scalar_tag s.canonical content in
+      let tagging = tagging_in tag (choice_of s place simple content) in
+      and_from (is_same_text content.anchor content.anchor && tagging_agrees content tag tagging) (bytes_eq content.value content.value)
+      (and_from (is_same_text content.anchor content.anchor) (tagging_agrees content tag tagging) (same_option content.anchor) (tagging_is s place simple content tag refl h))
+      (same_text content.value)
+  node_agrees (sequence_node start items) s directives place h =
+      let in_flow = is_written_in_flow s place start (has_no_nodes items) in
+      let tag = collection_tag s.canonical start in
+      and_from (is_same_text start.anchor start.anchor && is_same_text tag tag) (trees_agree s.canonical items (nodes_tree items s directives in_flow))
+      (and_from (is_same_text start.anchor start.anchor) (is_same_text tag tag) (same_option start.anchor) (same_option tag))
+      (nodes_agree items s directives in_flow h)
+  node_agrees (mapping_node start pairs) s directives place h =
+      let in_flow = is_written_in_flow s place start (has_no_pairs pairs) in
+      let tag = collection_tag s.canonical start in
+      and_from (is_same_text start.anchor start.anchor && is_same_text tag tag) (tree_pairs_agree s.canonical pairs (pairs_tree pairs s directives in_flow))
+      (and_from (is_same_text start.anchor start.anchor) (is_same_text tag tag) (same_option start.anchor) (same_option tag))
+      (pairs_agree pairs s directives in_flow h)
+
+  pub nodes_agree : (items : Nodes) (s : Effective) (directives : List TagDirective) (in_flow : Bool) → nodes_are_tagged s.canonical items ≡ true
+      → trees_agree s.canonical items (nodes_tree items s directives in_flow) ≡ true
+  nodes_agree no_nodes s directives in_flow h = refl
+  nodes_agree (nodes_and items last) s directives in_flow h =
+      let parts = and_parts (nodes_are_tagged s.canonical items) (node_is_tagged s.canonical last) h in
+      let place = entry_place in_flow (as_item (has_no_nodes items)) 0 in
+      and_from (trees_agree s.canonical items (nodes_tree items s directives in_flow)) (tree_agrees s.canonical last (node_tree last s directives place))
+      (nodes_agree items s directives in_flow parts.0) (node_agrees last s directives place parts.1)
+
+  pub pairs_agree : (pairs : Pairs) (s : Effective) (directives : List TagDirective) (in_flow : Bool) → pairs_are_tagged s.canonical pairs ≡ true
+      → tree_pairs_agree s.canonical pairs (pairs_tree pairs s directives in_flow) ≡ true
+  pairs_agree no_pairs s directives in_flow h = refl
+  pairs_agree (pairs_and pairs key value) s directives in_flow h =
+      let parts = and_parts (pairs_are_tagged s.canonical pairs && node_is_tagged s.canonical key) (node_is_tagged s.canonical value) h in
+      let before = and_parts (pairs_are_tagged s.canonical pairs) (node_is_tagged s.canonical key) parts.0 in
+      let key_place = entry_place in_flow (as_key (has_no_pairs pairs)) 0 in
+      let value_place = entry_place in_flow (as_value (is_simple s.canonical directives key)) 0 in
+      and_from (tree_pairs_agree s.canonical pairs (pairs_tree pairs s directives in_flow) && tree_agrees s.canonical key (node_tree key s directives key_place))
+      (tree_agrees s.canonical value (node_tree value s directives value_place))
+      (and_from (tree_pairs_agree s.canonical pairs (pairs_tree pairs s directives in_flow)) (tree_agrees s.canonical key (node_tree key s directives key_place))
+      (pairs_agree pairs s directives in_flow before.0) (node_agrees key s directives key_place before.1))
+      (node_agrees value s directives value_place parts.1)
+
+same_version : (version : Option Version) → is_same_version version version ≡ true
+same_version None = refl
+same_version (Some v) = and_from (int_eq v.major v.major) (int_eq v.minor v.minor) ((Decides-int_eq v.major v.major).1 refl) ((Decides-int_eq v.minor v.minor).1 refl)
+
+same_directives : (directives : List TagDirective) → are_same_directives directives directives ≡ true
+same_directives [] = refl
+same_directives (d ∷ rest) =
+    and_from (bytes_eq d.handle d.handle && bytes_eq d.prefix d.prefix) (are_same_directives rest rest)
+    (and_from (bytes_eq d.handle d.handle) (bytes_eq d.prefix d.prefix) (same_text d.handle) (same_text d.prefix)) (same_directives rest)
+
+-- the tree of a document agrees with it
+pub document_tree_agrees : (s : Effective) (document : Document) → node_is_tagged s.canonical document.root ≡ true
+    → document_agrees s.canonical document (document_tree s document) ≡ true
+document_tree_agrees s document h =
+    let directives = directives_in_force document.start.directives in
+    and_from (is_same_version document.start.version document.start.version && are_same_directives document.start.directives document.start.directives)
+    (tree_agrees s.canonical document.root (node_tree document.root s directives root_place))
+    (and_from (is_same_version document.start.version document.start.version) (are_same_directives document.start.directives document.start.directives)
+    (same_version document.start.version) (same_directives document.start.directives))
+    (node_agrees document.root s directives root_place h)

@@ -1,0 +1,61 @@
+-- A printable text, however its line breaks are written, is read as its documents.
+use Rattle.std.proofs.Common.{◌≡◌, refl, sym, ap, ◌∙◌}
+use Rattle.std.proofs.lemmas.Bool.{true≢false, false≢true, eqb-true, and_parts, and_from, or_right}
+use Rattle.std.proofs.lemmas.List.Folds.{list_all-append}
+use Rattle.std.specs.List.{list_all}
+use Rattle.std.specs.Prelude.{ℕ, Bool, true, false, None, Some, List, [], ◌∷◌, ◌++◌, ◌==◌, ◌||◌, ◌&&◌, not, option_and_then, if◌then◌else◌}
+use Rattle.yaml_base.specs.Characters.{Text, carriage_return, next_line, line_feed, is_printable}
+use Rattle.yaml_base.specs.Settings.{LineBreak, carriage_return_break, line_feed_break, both_break}
+use Rattle.yaml_base.specs.LineBreaks.{break_text, is_laid_text, with_breaks_written, with_line_breaks_read}
+use Rattle.yaml_base.specs.CanonicalReader.{characters_read}
+use Rattle.yaml_base.specs.StreamDocuments.{documents_of}
+use Rattle.yaml_base.specs.StreamReader.{may_stand_raw, text_trees, stream_trees}
+use Rattle.yaml_base.proofs.BreakLaws.{breaks-round}
+
+-- a character that isn't printable is none of a printable text
+other_than : (c n : ℕ) → is_printable n ≡ false → is_printable c ≡ true → (c == n) ≡ false
+other_than c n none h = by (c == n) refl
+  where
+    by : (x : Bool) → (c == n) ≡ x → x ≡ false
+    by true e = absurd (false≢true (sym none ∙ ap is_printable (sym (eqb-true c n e)) ∙ h))
+    by false e = refl
+
+-- a printable text has no CR and no U+0085
+pub printable_laid : (text : Text) → list_all is_printable text ≡ true → is_laid_text text ≡ true
+printable_laid [] h = refl
+printable_laid (c ∷ rest) h =
+    let parts = and_parts (is_printable c) (list_all is_printable rest) h in
+    ap (λ x. not (x || (c == next_line)) && is_laid_text rest) (other_than c carriage_return refl parts.0)
+    ∙ ap (λ x. not x && is_laid_text rest) (other_than c next_line refl parts.0)
+    ∙ printable_laid rest parts.1
+
+break_raw : (setting : LineBreak) → list_all may_stand_raw (break_text setting) ≡ true
+break_raw carriage_return_break = refl
+break_raw line_feed_break = refl
+break_raw both_break = refl
+
+-- however its breaks are written, a printable text may stand raw
+pub printable_raw : (setting : LineBreak) (text : Text) → list_all is_printable text ≡ true → list_all may_stand_raw (with_breaks_written setting text) ≡ true
+printable_raw setting [] h = refl
+printable_raw setting (c ∷ rest) h =
+    let parts = and_parts (is_printable c) (list_all is_printable rest) h in
+    list_all-append may_stand_raw (if c == line_feed then break_text setting else c ∷ []) (with_breaks_written setting rest)
+    ∙ and_from (list_all may_stand_raw (if c == line_feed then break_text setting else c ∷ [])) (list_all may_stand_raw (with_breaks_written setting rest))
+    (by (c == line_feed) parts.0) (printable_raw setting rest parts.1)
+  where
+    by : (x : Bool) → is_printable c ≡ true → list_all may_stand_raw (if x then break_text setting else c ∷ []) ≡ true
+    by true p = break_raw setting
+    by false p = ap (λ x. x && true) (or_right (c == carriage_return) (is_printable c) p)
+
+-- a printable text with its breaks written reads as the documents of the text
+pub trees_of_text : (breaks12 : Bool) (setting : LineBreak) (text : Text) → list_all is_printable text ≡ true
+    → text_trees breaks12 (with_breaks_written setting text) ≡ documents_of breaks12 text
+trees_of_text breaks12 setting text h =
+    ap (λ x. if x then documents_of breaks12 (with_line_breaks_read (with_breaks_written setting text)) else None) (printable_raw setting text h)
+    ∙ ap (documents_of breaks12) (breaks-round setting text (printable_laid text h))
+
+-- so do its bytes, from which its characters are read
+pub trees_of_bytes : (breaks12 : Bool) (setting : LineBreak) (text : Text) (bytes : List ℕ) → list_all is_printable text ≡ true
+    → characters_read bytes ≡ Some (with_breaks_written setting text) → stream_trees breaks12 bytes ≡ documents_of breaks12 text
+trees_of_bytes breaks12 setting text bytes h read =
+    ap (option_and_then (text_trees breaks12)) read ∙ trees_of_text breaks12 setting text h

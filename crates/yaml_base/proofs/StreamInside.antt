@@ -1,0 +1,127 @@
+-- Which lines lie inside a column, and lines that are the entries of a collection whatever entries follow them.
+use Rattle.std.proofs.Common.{◌≡◌, zero, suc, ◌<◌, ◌≤◌, refl, sym, ap, ◌∙◌, append_assoc, append-nil, arith}
+use Rattle.std.proofs.lemmas.Bool.{and_parts, and_from, true≢false, false≢true}
+use Rattle.std.specs.List.{list_all}
+use Rattle.std.specs.Prelude.{ℕ, Bool, true, false, Some, List, [], ◌∷◌, ◌++◌, ◌&&◌, ◌||◌, ◌==◌, not}
+use Rattle.yaml_base.specs.Characters.{Text, space}
+use Rattle.yaml_base.specs.StreamLines.{Line, ends_sign, begins_with_sign, is_inside, Entries, line_before, entries_at, all_deeper, spaces, is_spaces, past_column, indented, Indented, indented_step}
+
+-- a line deeper than a column is inside it
+pub inside_deeper : (s : Bool) (d e : ℕ) (t : Text) → d < e → is_inside s d (spaces e ++ t) ≡ true
+inside_deeper s d zero t h = absurd (omega arith)
+inside_deeper s zero (suc e) t h = refl
+inside_deeper s (suc d) (suc e) t h = inside_deeper s d e t (omega arith)
+
+-- a `-` at the column of a mapping is inside it
+pub inside_dash : (e : ℕ) (t : Text) → ends_sign t ≡ true → is_inside false e (spaces e ++ (0x2D ∷ t)) ≡ true
+inside_dash zero t h = h
+inside_dash (suc e) t h = inside_dash e t h
+
+-- a blank line is inside any column
+pub inside_blank : (s : Bool) (d k : ℕ) → is_inside s d (spaces k) ≡ true
+inside_blank s d zero = refl
+inside_blank s zero (suc k) = refl
+inside_blank s (suc d) (suc k) = inside_blank s d k
+
+-- what begins an entry: no space, and in a mapping no `-`
+abbrev pub begins_entry : (in_sequence : Bool) → Text → Bool
+begins_entry s [] = false
+begins_entry s (c ∷ t) = not (c == space) && (s || not (begins_with_sign 0x2D (c ∷ t)))
+
+-- an entry's first line is not inside its column
+pub outside : (s : Bool) (e : ℕ) (t : Text) → begins_entry s t ≡ true → is_inside s e (spaces e ++ t) ≡ false
+outside s e [] h = absurd (false≢true h)
+outside s zero (c ∷ t) h = by (c == space) s (begins_with_sign 0x2D (c ∷ t)) h
+  where
+    by : (x s y : Bool) → (not x && (s || not y)) ≡ true → (x || (not s && y)) ≡ false
+    by true s y h = absurd (false≢true h)
+    by false true y h = refl
+    by false false true h = absurd (false≢true h)
+    by false false false h = refl
+outside s (suc e) (c ∷ t) h = outside s e (c ∷ t) h
+
+-- what stands at a column after spaces
+pub past_spaces : (e : ℕ) (t : Text) → past_column e (spaces e ++ t) ≡ Some t
+past_spaces zero t = refl
+past_spaces (suc e) t = past_spaces e t
+
+-- a text that begins with no space stands where the spaces before it end
+pub indented_spaces : (e c : ℕ) (t : Text) → (c == space) ≡ false → indented (spaces e ++ (c ∷ t)) ≡ record { column = e; text = c ∷ t }
+indented_spaces zero c t h = ap (λ b. indented_step b (c ∷ t) (indented t)) h
+indented_spaces (suc e) c t h = ap (λ l. record { column = suc l.column; text = l.text }) (indented_spaces e c t h)
+
+-- a line isn't blank where something stands after its spaces
+pub not_blank : (e c : ℕ) (t : Text) → (c == space) ≡ false → is_spaces (spaces e ++ (c ∷ t)) ≡ false
+not_blank zero c t h = ap (λ b. b && is_spaces t) h
+not_blank (suc e) c t h = not_blank e c t h
+
+-- spaces are blank
+pub blank_spaces : (e : ℕ) → is_spaces (spaces e) ≡ true
+blank_spaces zero = refl
+blank_spaces (suc e) = blank_spaces e
+
+-- each of some lines is inside a column
+abbrev pub AllInside : Bool → ℕ → List Line → Type 0
+AllInside s column lines = list_all (λ line. is_inside s column line.text) lines ≡ true
+
+-- inside a column of a sequence is inside it for a mapping
+pub inside_mapping : (s : Bool) (d : ℕ) (t : Text) → is_inside true d t ≡ true → is_inside s d t ≡ true
+inside_mapping s d [] h = refl
+inside_mapping s zero (c ∷ t) h = by (c == space) h
+  where
+    by : (x : Bool) → (x || false) ≡ true → (x || (not s && begins_with_sign 0x2D (c ∷ t))) ≡ true
+    by true h = refl
+    by false h = absurd (false≢true h)
+inside_mapping s (suc d) (c ∷ t) h =
+    let parts = and_parts (c == space) (is_inside true d t) h in
+    and_from (c == space) (is_inside s d t) parts.0 (inside_mapping s d t parts.1)
+
+-- lines inside a sequence's column are deeper than it
+pub deeper_inside : (column : ℕ) (lines : List Line) → AllInside true column lines → all_deeper (Some column) lines ≡ true
+deeper_inside column [] h = refl
+deeper_inside column (line ∷ rest) h =
+    let parts = and_parts (is_inside true column line.text) (list_all (λ line. is_inside true column line.text) rest) h in
+    and_from (is_inside true column line.text) (all_deeper (Some column) rest) parts.0 (deeper_inside column rest parts.1)
+
+-- lines that are these entries, whatever entries follow them
+pub record Splits (s : Bool) (e : ℕ) (lines : List Line) (entries : List (List Line)) : Type 0 where
+  pub splits : (rest : List Line) → (entries_at s e rest).before ≡ []
+      → entries_at s e (lines ++ rest) ≡ record { before = []; entries = entries ++ (entries_at s e rest).entries }
+
+-- no lines
+pub splits_none : (s : Bool) (e : ℕ) → Splits s e [] []
+splits_none s e = record { splits = λ rest h. ap (λ b. record { before = b; entries = (entries_at s e rest).entries }) h }
+
+-- lines, and then others
+pub splits_both : (s : Bool) (e : ℕ) (a b : List Line) (x y : List (List Line)) → Splits s e a x → Splits s e b y → Splits s e (a ++ b) (x ++ y)
+splits_both s e a b x y one two = record {
+    splits = λ rest h.
+        let after = two.splits rest h in
+        ap (entries_at s e) (append_assoc a b rest) ∙ one.splits (b ++ rest) (ap (λ g. g.before) after)
+        ∙ ap (λ g. record { before = []; entries = x ++ g.entries }) after
+        ∙ ap (λ g. record { before = []; entries = g }) (sym (append_assoc x y (entries_at s e rest).entries));
+  }
+
+-- lines inside the column belong to the entry before them
+pub passes : (s : Bool) (e : ℕ) (rest lines : List Line) → AllInside s e rest
+    → entries_at s e (rest ++ lines) ≡ record { before = rest ++ (entries_at s e lines).before; entries = (entries_at s e lines).entries }
+passes s e [] lines h = refl
+passes s e (line ∷ rest) lines h =
+    let parts = and_parts (is_inside s e line.text) (list_all (λ line. is_inside s e line.text) rest) h in
+    ap (λ x. line_before x line (entries_at s e (rest ++ lines))) parts.0 ∙ ap (line_before true line) (passes s e rest lines parts.1)
+
+-- one entry: a first line at the column, and lines inside it
+pub splits_one : (s : Bool) (e : ℕ) (line : Line) (rest : List Line) → is_inside s e line.text ≡ false → AllInside s e rest
+    → Splits s e (line ∷ rest) ((line ∷ rest) ∷ [])
+splits_one s e line rest out inside = record {
+    splits = λ lines h.
+        ap (λ x. line_before x line (entries_at s e (rest ++ lines))) out ∙ ap (line_before false line) (passes s e rest lines inside)
+        ∙ ap (λ b. record { before = []; entries = (line ∷ (rest ++ b)) ∷ (entries_at s e lines).entries }) h
+        ∙ ap (λ r. record { before = []; entries = (line ∷ r) ∷ (entries_at s e lines).entries }) (append-nil rest);
+  }
+
+-- the entries of lines that split, and nothing after them
+pub splits_alone : (s : Bool) (e : ℕ) (lines : List Line) (entries : List (List Line)) → Splits s e lines entries
+    → entries_at s e lines ≡ record { before = []; entries = entries }
+splits_alone s e lines entries all =
+    ap (entries_at s e) (sym (append-nil lines)) ∙ all.splits [] refl ∙ ap (λ t. record { before = []; entries = t }) (append-nil entries)
