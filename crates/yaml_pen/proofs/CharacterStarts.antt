@@ -28,8 +28,8 @@ starts_more bytes place below =
 
 pub starts_step : (bytes : List ℕ) (place count : ℕ) (begins : Bool) → place < length bytes → count ≡ starts (take place bytes)
     → begins ≡ is_char_start (get_or bytes place 0) → count + bool_byte begins ≡ starts (take (place + 1) bytes)
-starts_step bytes place count true below h e = omega (arith, h, starts_more bytes place below, ap (λ b. if b then 1 else 0) e)
-starts_step bytes place count false below h e = omega (arith, h, starts_more bytes place below, ap (λ b. if b then 1 else 0) e)
+starts_step bytes place count true below h e = omega (arith, h, starts_more bytes place below, ap {B = ℕ} (λ b. if b then 1 else 0) e)
+starts_step bytes place count false below h e = omega (arith, h, starts_more bytes place below, ap {B = ℕ} (λ b. if b then 1 else 0) e)
 
 pub bool_byte_most : (b : Bool) → bool_byte b ≤ 1
 bool_byte_most true = omega arith
