@@ -1,6 +1,5 @@
 -- A line's fields, read one after another, are those that the notation asks for.
 use Rattle.std.proofs.Common.{◌≡◌, ◌++◌, append_assoc, Bool, Option, None, Some, option_map, option_and_then, List, [], ◌∷◌, map, refl, sym, ap, ◌∙◌}
-use Rattle.std.specs.Prelude.{String}
 use Rattle.std.proofs.lemmas.List.{map-append}
 use Rattle.yaml_base.specs.Characters.{Text}
 use Rattle.yaml_base.specs.Event.{Event, TagDirective, ScalarStyle}

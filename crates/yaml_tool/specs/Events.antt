@@ -1,5 +1,5 @@
 -- What contracts see of the fields of events.
-use Rattle.std.specs.Prelude.{Option, Some, option_map, option_and_then, List, [], ◌∷◌, map, Vec, codes}
+use Rattle.std.specs.Prelude.{Option, option_map, option_and_then, List, [], ◌∷◌, map, Vec, codes}
 use Rattle.std.specs.Str.{chars}
 use Rattle.yaml_base.specs.Characters.{Text}
 use Rattle.yaml_base.specs.Event.{Event, Version, TagDirective, stream_end, sequence_start, sequence_end, mapping_start, mapping_end}

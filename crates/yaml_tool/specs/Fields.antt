@@ -1,5 +1,5 @@
 -- What contracts see of the fields of a line, which are read one after another.
-use Rattle.std.specs.Prelude.{ℕ, ◌≡◌, ⊤, false, Bool, Option, None, Some, List, [], ◌∷◌, ◌==◌, option_map, codes, if◌then◌else◌}
+use Rattle.std.specs.Prelude.{ℕ, ◌≡◌, ⊤, false, Option, None, Some, List, [], ◌∷◌, ◌==◌, option_map, codes, if◌then◌else◌}
 use Rattle.std.specs.List.{onto_first}
 use Rattle.std.specs.Str.{chars, IsUtf8}
 use Rattle.yaml_base.specs.Characters.{Text, space}

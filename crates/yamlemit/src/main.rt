@@ -12,6 +12,7 @@ fn main(rt: HostRuntime) -> ExitCode {
         return ExitCode::from(3);
     };
     let at_terminal = rt.stdin().is_terminal();
-    let mut faults = io::writer(&rt.stderr());
-    ExitCode::from(serve(&rt, words.as_slice(), at_terminal, &mut faults))
+    let stderr = rt.stderr();
+    let status = serve(&rt, words.as_slice(), at_terminal, &mut io::writer(&stderr));
+    ExitCode::from(status)
 }

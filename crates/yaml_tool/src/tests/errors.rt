@@ -12,21 +12,24 @@ fn emit_the_end(alloc: Global) -> anyhow::Result<()> {
     Ok(())
 }
 
+/// Fails by that number, as `yaml_document_t::from_nodes` does.
 fn outside(number: NodeNumber) -> anyhow::Result<()> {
-    Err(number)?
+    let found: Result<(), NodeNumber> = Err(number);
+    found?;
+    Ok(())
 }
 
 #[test]
 fn a_caller_passes_errors_on(rt: HostRuntime) -> Result<(), Fail> {
-    let refused = match emit_the_end(rt.alloc()) {
+    let told = match emit_the_end(rt.alloc()) {
         Ok(()) => String::new(rt.alloc()),
         Err(error) => format!(in rt.alloc(); "{error}")?,
     };
-    assert_eq!(rt; refused.as_str(), "expected STREAM-START");
-    let outside = match outside(NodeNumber(-7)) {
+    assert_eq!(rt; told.as_str(), "expected STREAM-START");
+    let told = match outside(NodeNumber(-7)) {
         Ok(()) => String::new(rt.alloc()),
         Err(error) => format!(in rt.alloc(); "{error}")?,
     };
-    assert_eq!(rt; outside.as_str(), "no node has the number -7");
+    assert_eq!(rt; told.as_str(), "no node has the number -7");
     Ok(())
 }

@@ -1,8 +1,8 @@
-use Rattle.std.proofs.Common.{◌≡◌, Some, option_map, option_and_then, ap, sym, ◌∙◌}
+use Rattle.std.proofs.Common.{option_map, ap, sym, ◌∙◌}
 use Rattle.std.proofs.lemmas.Option.{MatchOption-at_some}
 use Rattle.std.specs.Str.{chars}
 use Rattle.yaml_base.specs.Seen.{seen_text, seen_event, seen_scalar_style}
-use Rattle.yaml_tool.specs.Fields.{fields_after, the_text}
+use Rattle.yaml_tool.specs.Fields.{fields_after}
 use Rattle.yaml_tool.proofs.EventLemmas.{scalar_joined}
 use Rattle.yaml_tool.proofs.events.scalar_of.Goals as goal
 
