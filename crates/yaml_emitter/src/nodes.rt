@@ -258,12 +258,7 @@ fn collection_content<'a, A: Allocator>(
 }
 
 /// The frame of a collection whose start is written.
-fn opened_frame<A: Allocator>(
-    pen: &Pen<A>,
-    site: &Site,
-    mapping: bool,
-    in_flow: bool,
-) -> Frame
+fn opened_frame<A: Allocator>(pen: &Pen<A>, site: &Site, mapping: bool, in_flow: bool) -> Frame
     requires { line_column site.now.place.column + 9 ≤ most_column }
     ensures frame { seen_frame result
         ≡ record {

@@ -16,7 +16,9 @@ use crate::directives::next_directives;
 use crate::effective::EffectiveSettings;
 use crate::emitter::yaml_emitter_t;
 use crate::stage::Stage;
-use crate::writing::{OpenMark, StartContent, write_document_end, write_document_start, write_stream_end};
+use crate::writing::{
+    OpenMark, StartContent, write_document_end, write_document_start, write_stream_end,
+};
 use std::alloc::Allocator;
 use std::mem;
 use yaml_base::{

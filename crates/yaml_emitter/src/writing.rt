@@ -25,8 +25,6 @@ pub(crate) use nodes::{
     entries_column, is_written_in_flow, write_alias, write_collection_end, write_collection_start,
 };
 pub(crate) use scalars::write_scalar;
-pub(crate) use simple_keys::{
-    is_simple_alias_key, is_simple_collection_key, is_simple_scalar_key,
-};
+pub(crate) use simple_keys::{is_simple_alias_key, is_simple_collection_key, is_simple_scalar_key};
 pub(crate) use site::Site;
 pub(crate) use spelling::{SpelledTag, spell};

@@ -149,5 +149,9 @@ fn tag_directive_signs<'a>(handle: &'a str, prefix: &'a str) -> Signs<'a>
     ensures laid { (s : Effective) (cursor : Cursor) → signs_laid s root_place result cursor ≡ tag_words_laid (record { handle = chars handle.now; prefix = chars prefix.now }) cursor }
 {
     use Sign::*;
-    (Mark(Indicator::TagDirective), Handle(handle), Prefix(prefix))
+    (
+        Mark(Indicator::TagDirective),
+        Handle(handle),
+        Prefix(prefix),
+    )
 }

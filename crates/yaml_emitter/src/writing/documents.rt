@@ -91,7 +91,11 @@ fn closing_signs(asked: bool) -> Signs<'static>
     ensures laid { (s : Effective) (cursor : Cursor) → signs_laid s root_place result cursor ≡ laid_if asked closing_mark_laid cursor }
 {
     if asked {
-        (Sign::Nothing, Sign::Mark(Indicator::DocumentEnd), Sign::Line)
+        (
+            Sign::Nothing,
+            Sign::Mark(Indicator::DocumentEnd),
+            Sign::Line,
+        )
     } else {
         NOTHING
     }
@@ -115,7 +119,11 @@ fn start_signs(asked: bool, canonical: bool) -> Signs<'static>
 {
     match (asked, canonical) {
         (true, true) => (Sign::Line, Sign::Mark(Indicator::DocumentStart), Sign::Line),
-        (true, false) => (Sign::Line, Sign::Mark(Indicator::DocumentStart), Sign::Nothing),
+        (true, false) => (
+            Sign::Line,
+            Sign::Mark(Indicator::DocumentStart),
+            Sign::Nothing,
+        ),
         (false, _) => NOTHING,
     }
 }

@@ -84,26 +84,74 @@ impl Indicator {
         ensures sign { is_sign result.text.now ≡ true }
     {
         match self {
-            Indicator::DocumentStart => Row { text: "---", ..SPACED },
-            Indicator::DocumentEnd => Row { text: "...", ..SPACED },
-            Indicator::YamlDirective => Row { text: "%YAML", ..SPACED },
-            Indicator::Version11 => Row { text: "1.1", ..SPACED },
-            Indicator::Version12 => Row { text: "1.2", ..SPACED },
-            Indicator::TagDirective => Row { text: "%TAG", ..SPACED },
-            Indicator::FlowSequenceStart => Row { text: "[", ..OPENING },
+            Indicator::DocumentStart => Row {
+                text: "---",
+                ..SPACED
+            },
+            Indicator::DocumentEnd => Row {
+                text: "...",
+                ..SPACED
+            },
+            Indicator::YamlDirective => Row {
+                text: "%YAML",
+                ..SPACED
+            },
+            Indicator::Version11 => Row {
+                text: "1.1",
+                ..SPACED
+            },
+            Indicator::Version12 => Row {
+                text: "1.2",
+                ..SPACED
+            },
+            Indicator::TagDirective => Row {
+                text: "%TAG",
+                ..SPACED
+            },
+            Indicator::FlowSequenceStart => Row {
+                text: "[",
+                ..OPENING
+            },
             Indicator::FlowSequenceEnd => Row { text: "]", ..TIGHT },
-            Indicator::FlowMappingStart => Row { text: "{", ..OPENING },
+            Indicator::FlowMappingStart => Row {
+                text: "{",
+                ..OPENING
+            },
             Indicator::FlowMappingEnd => Row { text: "}", ..TIGHT },
             Indicator::FlowEntry => Row { text: ",", ..TIGHT },
-            Indicator::FlowKey => Row { text: "?", ..SPACED },
-            Indicator::FlowValue => Row { text: ":", ..SPACED },
-            Indicator::BlockEntry => Row { text: "-", ..INDENTED },
-            Indicator::BlockKey => Row { text: "?", ..INDENTED },
-            Indicator::BlockValue => Row { text: ":", ..INDENTED },
+            Indicator::FlowKey => Row {
+                text: "?",
+                ..SPACED
+            },
+            Indicator::FlowValue => Row {
+                text: ":",
+                ..SPACED
+            },
+            Indicator::BlockEntry => Row {
+                text: "-",
+                ..INDENTED
+            },
+            Indicator::BlockKey => Row {
+                text: "?",
+                ..INDENTED
+            },
+            Indicator::BlockValue => Row {
+                text: ":",
+                ..INDENTED
+            },
             Indicator::SimpleValue => Row { text: ":", ..TIGHT },
-            Indicator::Anchor => Row { text: "&", ..SPACED },
-            Indicator::Alias => Row { text: "*", ..SPACED },
-            Indicator::VerbatimStart => Row { text: "!<", ..SPACED },
+            Indicator::Anchor => Row {
+                text: "&",
+                ..SPACED
+            },
+            Indicator::Alias => Row {
+                text: "*",
+                ..SPACED
+            },
+            Indicator::VerbatimStart => Row {
+                text: "!<",
+                ..SPACED
+            },
             Indicator::VerbatimEnd => Row { text: ">", ..TIGHT },
         }
     }

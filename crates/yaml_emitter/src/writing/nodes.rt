@@ -22,8 +22,8 @@ ghost use Rattle.yaml_emitter.specs.WrittenSigns.{seen_tag, spelled_tag_laid, sp
 
 use crate::effective::EffectiveSettings;
 use crate::place::{Frame, Place};
-use crate::writing::places::{flow_end_signs, write_place};
 use crate::writing::contents::CollectionContent;
+use crate::writing::places::{flow_end_signs, write_place};
 use crate::writing::properties::{alias_signs, has_properties, write_properties};
 use crate::writing::signs::{write_nothing, write_signs};
 use crate::writing::site::Site;
@@ -132,7 +132,11 @@ pub(crate) fn write_collection_end<A: Allocator>(
 {
     let empty = frame.place.role.is_first();
     if frame.place.in_flow {
-        write_signs(pen, outer, flow_end_signs(mapping, empty, outer.settings.canonical))
+        write_signs(
+            pen,
+            outer,
+            flow_end_signs(mapping, empty, outer.settings.canonical),
+        )
     } else {
         write_nothing(pen)
     }

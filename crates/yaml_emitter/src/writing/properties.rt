@@ -72,8 +72,16 @@ fn tag_signs(tag: Option<SpelledTag>, bare: bool) -> Signs
     use Indicator::*;
     use Sign::*;
     match tag {
-        Some(SpelledTag::Shorthand { handle, suffix }) => (Nothing, Handle(handle), TagText(suffix)),
-        Some(SpelledTag::Verbatim { tag }) => (Mark(VerbatimStart), TagText(tag), Mark(VerbatimEnd)),
+        Some(SpelledTag::Shorthand { handle, suffix }) => (
+            Nothing,
+            Handle(handle),
+            TagText(suffix),
+        ),
+        Some(SpelledTag::Verbatim { tag }) => (
+            Mark(VerbatimStart),
+            TagText(tag),
+            Mark(VerbatimEnd),
+        ),
         None => bare_tag_signs(bare),
     }
 }

@@ -57,11 +57,7 @@ pub(crate) fn write_signs<A: Allocator>(
     write_sign(pen, site, signs.2)
 }
 
-fn write_sign<A: Allocator>(
-    pen: &mut Pen<A>,
-    site: &Site,
-    sign: Sign,
-) -> Result<(), yaml_error_t>
+fn write_sign<A: Allocator>(pen: &mut Pen<A>, site: &Site, sign: Sign) -> Result<(), yaml_error_t>
     requires ready { IsReady pen.old }
     requires no_break { sign_breaks sign ≡ false }
     ensures { Wrote (sign_laid (seen_effective site.now.settings.now) (seen_place site.now.place) sign.entry) pen.old pen.new result }

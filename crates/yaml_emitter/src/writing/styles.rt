@@ -67,7 +67,14 @@ fn write_plain<A: Allocator>(
 {
     let settings = site.settings;
     let indent = line_indent(settings, &site.place);
-    write_plain_scalar(pen, value, !site.simple, site.place.in_flow, indent, settings.width)?;
+    write_plain_scalar(
+        pen,
+        value,
+        !site.simple,
+        site.place.in_flow,
+        indent,
+        settings.width,
+    )?;
     Ok(mark)
 }
 

@@ -20,5 +20,5 @@ returns-then-not-settings c = λ directives spelled.
     let tag = scalar_tag c.args.settings.now.canonical content in
     c.is_simple_scalar.ensures
     ∙ ap (λ (n : ℕ). not (list_any is_break content.value) && is_short (byte_count content.value + name_count content.anchor + n))
-      (ap spelled_count spelled ∙ tag_count-spelled directives tag)
+    (ap spelled_count spelled ∙ tag_count-spelled directives tag)
     ∙ simple_where (is_key (seen_role c.args.place.now.role)) c.args.settings.now.canonical key plain
