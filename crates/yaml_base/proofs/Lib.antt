@@ -57,3 +57,4 @@ pub mod StreamKeys
 pub mod StreamAgrees
 pub mod StreamTidyLaws
 pub mod StreamTakes
+pub mod CallerLaws

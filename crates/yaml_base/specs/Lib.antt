@@ -56,3 +56,4 @@ pub mod StreamDocuments
 pub mod StreamReader
 pub mod StreamLaw
 pub mod TypedValues
+pub mod Laws

@@ -1,6 +1,7 @@
 //! Laws of the definitions, each the contract of a function that does nothing: what they promise together.
 ghost use Rattle.yaml_base.specs.Encoding.{OneText};
 ghost use Rattle.yaml_base.specs.Grammar.{OneTree};
+ghost use Rattle.yaml_base.specs.Laws.{EncodingsAgree, LimitCuts, PlainHoldsNoSign, TreeIsFound};
 ghost use Rattle.yaml_base.specs.Layout.{OnePieceEach};
 ghost use Rattle.yaml_base.specs.Pieces.{PiecesStand};
 ghost use Rattle.yaml_base.specs.Ready.{ReadyStays, WholeStreamIsReady};
@@ -46,4 +47,26 @@ pub fn whole_stream_is_ready()
 /// The events of a graph that has nodes, each of whose numbers names one, are those of a document whose tree unfolds it.
 pub fn documents_unfold()
     ensures { DocumentsUnfold }
+{}
+
+/// The tree of a whole stream's events is found.
+pub fn tree_is_found()
+    ensures { TreeIsFound }
+{}
+
+/// A text that reads as a plain scalar holds no `:` before a blank, a break or its end, and no `#` after a blank or a
+/// break; in flow none of `,` `?` `:` `[` `]` `{` `}` (YAML 1.1, section 9.1.3).
+pub fn plain_holds_no_sign()
+    ensures { PlainHoldsNoSign }
+{}
+
+/// Under settings that differ in the limit alone, the output under the smaller limit is the first bytes of the other.
+pub fn limit_cuts_the_output()
+    ensures { LimitCuts }
+{}
+
+/// Under settings that differ in the encoding alone, the bytes of a layout are one text: decoded without their mark they
+/// give the same characters, where these are Unicode scalar values.
+pub fn encodings_agree()
+    ensures { EncodingsAgree }
 {}

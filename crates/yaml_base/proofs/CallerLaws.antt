@@ -1,0 +1,199 @@
+-- Laws of the definitions that serve callers.
+use Rattle.std.proofs.Common.{◌≡◌, refl, sym, ap, ◌∙◌}
+use Rattle.std.proofs.lemmas.Bool.{or_parts}
+use Rattle.std.proofs.lemmas.List.{take-take}
+use Rattle.std.specs.Prelude.{ℕ, Bool, true, false, ◌&&◌, ◌||◌, ◌==◌, not, Option, None, Some, List, [], ◌∷◌, ◌++◌, option_map, unwrap_or, codes, if◌then◌else◌}
+use Rattle.yaml_base.specs.Characters.{Text, is_among}
+use Rattle.yaml_base.specs.Settings.{Encoding, Effective}
+use Rattle.yaml_base.specs.Encoding.{encode, cut}
+use Rattle.yaml_base.specs.Decode.{decode}
+use Rattle.yaml_base.specs.Cursor.{Cursor, Laid, then_laid}
+use Rattle.yaml_base.specs.Event.{ScalarStyle, any_style, plain, single_quoted, double_quoted, literal, folded, TagDirective, Scalar, Collection, Event, stream_start, stream_end, document_start, document_end, alias, scalar, sequence_start, sequence_end, mapping_start, mapping_end}
+use Rattle.yaml_base.specs.Refusal.{scalar_tag, collection_tag}
+use Rattle.yaml_base.specs.Style.{Choice}
+use Rattle.yaml_base.specs.Grammar.{Stream, stream_events, tree_of}
+use Rattle.yaml_base.specs.ReadPlain.{is_read_white, begins_white, begins_no_plain, begins_with_hash, holds_no_plain, read_plain}
+use Rattle.yaml_base.specs.Layout.{Role, as_root, as_item, as_key, as_value, Place, is_key, is_in_mapping, deeper, is_simple_alias, is_simple_scalar, is_simple_collection, flow_place_laid, block_place_laid, place_laid, Piece, Standing, PieceLaid, lead_alone, properties_laid, separation_laid, alias_laid, body_laid, mark_after, choice_of, body_at, scalar_piece, is_written_in_flow, Brackets, square, curly, end_laid, first_standing, layout}
+use Rattle.yaml_base.specs.Steps.{Frame, Stage, at_stream, at_document, at_node, at_document_end, next_place, stage_after, is_first, Stepped, leaf_step, frame_opened, start_step, end_step, node_step, step, ends_next, Steps, then_steps, steps}
+use Rattle.yaml_base.specs.Pieces.{list_layout}
+use Rattle.yaml_base.specs.Output.{settings_for, text_written, bytes_written}
+use Rattle.yaml_base.specs.Laws.{TreeIsFound, IsPlainInside, PlainHoldsNoSign, LimitCuts, EncodingsAgree}
+use Rattle.yaml_base.proofs.Decoding.{decode-encode}
+use Rattle.yaml_base.proofs.StepLaws.{stream_steps}
+use Rattle.yaml_base.proofs.Trees.{tree_of-stream_events}
+
+pub tree_found : TreeIsFound
+tree_found stream events is = ap tree_of (sym is) ∙ tree_of-stream_events stream
+
+-- Plain texts.
+then_false : (a b : Bool) → a ≡ true → a && b ≡ false → b ≡ false
+then_false true b is h = h
+then_false false b is h = cc
+
+inside_here : (breaks12 flow : Bool) (before : Text) (c : ℕ) (rest : Text) → holds_no_plain breaks12 flow (before ++ c ∷ rest) ≡ false → IsPlainInside breaks12 flow c rest
+inside_here breaks12 flow [] c rest h =
+    let parts = or_parts _ _ (or_parts _ _ h).0 in
+    let first = or_parts _ _ parts.0 in
+    record {
+      no_key = λ is. then_false (c == 58) (begins_white breaks12 rest) (ap (λ n. n == 58) is) first.0;
+      no_comment = λ is. then_false (is_read_white breaks12 c) (begins_with_hash rest) is first.1;
+      no_flow_sign = λ is. then_false flow (is_among (codes ",?:[]{}") c) is parts.1;
+    }
+inside_here breaks12 flow (x ∷ before) c rest h = inside_here breaks12 flow before c rest (or_parts _ _ h).1
+
+read_if : (a b : Bool) (read value : Text) → (if a || b then None else Some read) ≡ Some value → b ≡ false
+read_if true b read value h = cc
+read_if false true read value h = cc
+read_if false false read value h = refl
+
+read_holds : (breaks12 flow : Bool) (c : ℕ) (rest value : Text) → read_plain breaks12 flow (c ∷ rest) ≡ Some value → holds_no_plain breaks12 flow (c ∷ rest) ≡ false
+read_holds breaks12 flow c rest value h = read_if (begins_no_plain breaks12 (c ∷ rest)) (holds_no_plain breaks12 flow (c ∷ rest)) _ value h
+
+pub plain_holds_no_sign : PlainHoldsNoSign
+plain_holds_no_sign breaks12 flow [] c rest value h = inside_here breaks12 flow [] c rest (read_holds breaks12 flow c rest value h)
+plain_holds_no_sign breaks12 flow (x ∷ before) c rest value h =
+    inside_here breaks12 flow (x ∷ before) c rest (read_holds breaks12 flow x (before ++ c ∷ rest) value h)
+
+-- No layout goes by the encoding or the limit.
+abbrev other : Effective → Encoding → ℕ → Effective
+other s e limit = record s { encoding = e; limit = limit }
+
+flow_place_other : (s : Effective) (e : Encoding) (limit : ℕ) (role : Role) (simple : Bool) (column : Option ℕ) (cursor : Cursor)
+    → flow_place_laid (other s e limit) role simple column cursor ≡ flow_place_laid s role simple column cursor
+flow_place_other s e limit as_root simple column cursor = refl
+flow_place_other s e limit (as_item first) simple column cursor = refl
+flow_place_other s e limit (as_key first) simple column cursor = refl
+flow_place_other s e limit (as_value true) simple column cursor = refl
+flow_place_other s e limit (as_value false) simple column cursor = refl
+
+place_other : (s : Effective) (e : Encoding) (limit : ℕ) (place : Place) (simple : Bool) (cursor : Cursor) → place_laid (other s e limit) place simple cursor ≡ place_laid s place simple cursor
+place_other s e limit place simple cursor =
+    ap (λ (laid : Laid). if place.in_flow then laid else block_place_laid place.role simple place.column cursor)
+    (flow_place_other s e limit place.role simple place.column cursor)
+
+body_other : (style : ScalarStyle) (s : Effective) (e : Encoding) (limit : ℕ) (width : Option ℕ) (indent : ℕ) (value : Text) (cursor : Cursor)
+    → body_laid style (other s e limit) width indent value cursor ≡ body_laid style s width indent value cursor
+body_other any_style s e limit width indent value cursor = refl
+body_other plain s e limit width indent value cursor = refl
+body_other single_quoted s e limit width indent value cursor = refl
+body_other double_quoted s e limit width indent value cursor = refl
+body_other literal s e limit width indent value cursor = refl
+body_other folded s e limit width indent value cursor = refl
+
+-- a scalar's piece after what its place puts, with its body
+abbrev lead_after : Effective → List TagDirective → Place → Choice → Scalar → Laid → Laid
+lead_after s directives place choice content placed =
+    then_laid
+    (then_laid placed (properties_laid directives content.anchor (scalar_tag s.canonical content) choice.bare))
+    (separation_laid choice.style place.in_flow content.value)
+
+abbrev scalar_made : Place → Choice → Scalar → ℕ → (lead body : Laid) → PieceLaid
+scalar_made place choice content mark lead body =
+    record {
+      piece = record { lead = lead.text; body = Some (body_at place choice.style content.value body) };
+      standing = record { cursor = body.cursor; mark = mark_after choice.style content.value mark };
+    }
+
+scalar_other : (s : Effective) (e : Encoding) (limit : ℕ) (directives : List TagDirective) (place : Place) (simple : Bool) (content : Scalar) (standing : Standing)
+    → scalar_piece (other s e limit) directives place simple content standing ≡ scalar_piece s directives place simple content standing
+scalar_other s e limit directives place simple content standing =
+    let choice = choice_of s place simple content in
+    let width : Option ℕ = if simple then None else s.width in
+    let indent = deeper s.indent place.column in
+    let lead = λ (placed : Laid). lead_after s directives place choice content placed in
+    let placed = place_laid s place simple standing.cursor in
+    ap (λ (placed : Laid). scalar_made place choice content standing.mark (lead placed) (body_laid choice.style (other s e limit) width indent content.value (lead placed).cursor))
+    (place_other s e limit place simple standing.cursor)
+    ∙ ap (λ (body : Laid). scalar_made place choice content standing.mark (lead placed) body)
+    (body_other choice.style s e limit width indent content.value (lead placed).cursor)
+
+end_other : (s : Effective) (e : Encoding) (limit : ℕ) (brackets : Brackets) (in_flow empty : Bool) (column : Option ℕ) (cursor : Cursor)
+    → end_laid (other s e limit) brackets in_flow empty column cursor ≡ end_laid s brackets in_flow empty column cursor
+end_other s e limit brackets false empty column cursor = refl
+end_other s e limit brackets true true column cursor = refl
+end_other s e limit brackets true false column cursor = refl
+
+start_other : (s : Effective) (e : Encoding) (limit : ℕ) (directives : List TagDirective) (frames : List Frame) (undented simple empty : Bool) (role : Role) (start : Collection) (standing : Standing)
+    → start_step (other s e limit) directives frames undented simple empty role start standing ≡ start_step s directives frames undented simple empty role start standing
+start_other s e limit directives frames undented simple empty role start standing =
+    let place = next_place frames in
+    ap (λ (placed : Laid).
+    let laid : PieceLaid = lead_alone standing.mark (then_laid placed (properties_laid directives start.anchor (collection_tag s.canonical start) false)) in
+    let made : Stepped = record {
+      laid = laid;
+      stage = at_node directives (frame_opened s place (is_written_in_flow s place start empty) undented simple role laid ∷ frames);
+    } in
+    made)
+    (place_other s e limit place simple standing.cursor)
+
+end_step_other : (s : Effective) (e : Encoding) (limit : ℕ) (brackets : Brackets) (directives : List TagDirective) (frames : List Frame) (standing : Standing)
+    → end_step (other s e limit) brackets directives frames standing ≡ end_step s brackets directives frames standing
+end_step_other s e limit brackets directives [] standing = refl
+end_step_other s e limit brackets directives (frame ∷ outer) standing =
+    ap (λ (laid : Laid).
+    let made : Stepped = record { laid = lead_alone standing.mark laid; stage = stage_after directives outer frame.simple } in
+    made)
+    (end_other s e limit brackets frame.place.in_flow (is_first frame.place.role) (next_place outer).column standing.cursor)
+
+node_other : (s : Effective) (e : Encoding) (limit : ℕ) (directives : List TagDirective) (frames : List Frame) (event : Event) (empty : Bool) (standing : Standing)
+    → node_step (other s e limit) directives frames event empty standing ≡ node_step s directives frames event empty standing
+node_other s e limit directives frames (alias name) empty standing =
+    let simple = is_key (next_place frames).role && (not s.canonical && is_simple_alias name) in
+    ap (λ (placed : Laid). leaf_step directives frames simple (lead_alone standing.mark (then_laid placed (alias_laid name simple))))
+    (place_other s e limit (next_place frames) simple standing.cursor)
+node_other s e limit directives frames (scalar content) empty standing =
+    let simple = is_key (next_place frames).role && (not s.canonical && is_simple_scalar s.canonical directives content) in
+    ap (λ (laid : PieceLaid). leaf_step directives frames simple laid) (scalar_other s e limit directives (next_place frames) simple content standing)
+node_other s e limit directives frames (sequence_start start) empty standing =
+    start_other s e limit directives frames (is_in_mapping (next_place frames).role)
+    (is_key (next_place frames).role && (not s.canonical && is_simple_collection s.canonical directives start empty))
+    empty (as_item true) start standing
+node_other s e limit directives frames (mapping_start start) empty standing =
+    start_other s e limit directives frames false
+    (is_key (next_place frames).role && (not s.canonical && is_simple_collection s.canonical directives start empty))
+    empty (as_key true) start standing
+node_other s e limit directives frames sequence_end empty standing = end_step_other s e limit square directives frames standing
+node_other s e limit directives frames mapping_end empty standing = end_step_other s e limit curly directives frames standing
+node_other s e limit directives frames event empty standing = refl
+
+step_other : (s : Effective) (e : Encoding) (limit : ℕ) (stage : Stage) (event : Event) (empty : Bool) (standing : Standing) → step (other s e limit) stage event empty standing ≡ step s stage event empty standing
+step_other s e limit (at_node directives frames) event empty standing = node_other s e limit directives frames event empty standing
+step_other s e limit at_stream (stream_start encoding) empty standing = refl
+step_other s e limit (at_document first) (document_start start) empty standing = refl
+step_other s e limit (at_document first) stream_end empty standing = refl
+step_other s e limit at_document_end (document_end implicit) empty standing = refl
+step_other s e limit stage event empty standing = refl
+
+steps_other : (events : List Event) (s : Effective) (e : Encoding) (limit : ℕ) (follows : Bool) (stage : Stage) (standing : Standing)
+    → steps (other s e limit) follows events stage standing ≡ steps s follows events stage standing
+steps_other [] s e limit follows stage standing = refl
+steps_other (event ∷ rest) s e limit follows stage standing =
+    let stepped = step s stage event (ends_next rest follows) standing in
+    ap (λ (made : Stepped). then_steps made (steps (other s e limit) follows rest)) (step_other s e limit stage event (ends_next rest follows) standing)
+    ∙ ap (λ (after : Steps). let made : Steps = record { pieces = stepped.laid.piece ∷ after.pieces; standing = after.standing; stage = after.stage } in made)
+    (steps_other rest s e limit follows stepped.stage stepped.laid.standing)
+
+layout_other : (s : Effective) (e : Encoding) (limit : ℕ) (stream : Stream) → layout (other s e limit) stream ≡ layout s stream
+layout_other s e limit stream =
+    sym (stream_steps stream (other s e limit))
+    ∙ ap (λ (made : Steps). made.pieces) (steps_other (stream_events stream) s e limit false at_stream first_standing)
+    ∙ stream_steps stream s
+
+list_other : (s : Effective) (e : Encoding) (limit : ℕ) (events : List Event) → list_layout (other s e limit) events ≡ list_layout s events
+list_other s e limit events = by (tree_of events)
+  where
+    by : (tree : Option Stream) → ◌≡◌ {A = List Piece} (unwrap_or (option_map (layout (other s e limit)) tree) []) (unwrap_or (option_map (layout s) tree) [])
+    by None = refl
+    by (Some stream) = layout_other s e limit stream
+
+pub limit_cuts : LimitCuts
+limit_cuts given limit more events within =
+    let s = settings_for (record given { limit = more }) events in
+    ap (λ (pieces : List Piece). cut limit (bytes_written s pieces)) (list_other s s.encoding limit events)
+    ∙ sym (take-take limit more (bytes_written s (list_layout s events)) within)
+
+pub encodings_agree : EncodingsAgree
+encodings_agree given encoding events scalars =
+    let s = settings_for given events in
+    ap (λ (pieces : List Piece). decode (Some encoding) (encode (Some encoding) (text_written s pieces))) (list_other s encoding given.limit events)
+    ∙ decode-encode encoding (text_written s (list_layout s events)) scalars

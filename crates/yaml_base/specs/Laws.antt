@@ -1,0 +1,45 @@
+-- What follows from the definitions, for callers.
+use Rattle.std.specs.Prelude.{◌≡◌, ℕ, ◌≤◌, Bool, true, false, Some, List, ◌∷◌, ◌++◌, codes}
+use Rattle.std.specs.Str.{all_scalars}
+use Rattle.yaml_base.specs.Characters.{Text, is_among}
+use Rattle.yaml_base.specs.Settings.{Encoding, Settings}
+use Rattle.yaml_base.specs.Encoding.{cut}
+use Rattle.yaml_base.specs.Decode.{decode}
+use Rattle.yaml_base.specs.Event.{Event}
+use Rattle.yaml_base.specs.Grammar.{Stream, stream_events, tree_of}
+use Rattle.yaml_base.specs.ReadPlain.{is_read_white, begins_white, begins_with_hash, read_plain}
+use Rattle.yaml_base.specs.Pieces.{list_layout}
+use Rattle.yaml_base.specs.Output.{settings_for, text_written, bytes_written, output_of}
+
+-- the tree of a whole stream's events is found
+abbrev pub TreeIsFound : Type 0
+TreeIsFound = (stream : Stream) (events : List Event) → stream_events stream ≡ events → tree_of events ≡ Some stream
+
+-- a character of a plain text, before the rest: no `:` before a blank, a break or the end, no blank or break before `#`,
+-- and in flow none of the signs of flow collections
+pub record IsPlainInside (breaks12 flow : Bool) (c : ℕ) (rest : Text) : Type 0 where
+  pub no_key : c ≡ 58 → begins_white breaks12 rest ≡ false
+  pub no_comment : is_read_white breaks12 c ≡ true → begins_with_hash rest ≡ false
+  pub no_flow_sign : flow ≡ true → is_among (codes ",?:[]{}") c ≡ false
+
+-- so is each character of a text that reads as plain
+abbrev pub PlainHoldsNoSign : Type 0
+PlainHoldsNoSign =
+    (breaks12 flow : Bool) (before : Text) (c : ℕ) (rest value : Text)
+    → read_plain breaks12 flow (before ++ c ∷ rest) ≡ Some value → IsPlainInside breaks12 flow c rest
+
+-- under settings that differ in the limit alone the output under the smaller one is the first bytes of the other
+abbrev pub LimitCuts : Type 0
+LimitCuts =
+    (given : Settings) (limit more : ℕ) (events : List Event) → limit ≤ more
+    → output_of (record given { limit = limit }) events ≡ cut limit (output_of (record given { limit = more }) events)
+
+-- under settings that differ in the encoding alone the bytes of a layout, decoded without their mark, are one text, where it
+-- consists of Unicode scalar values
+abbrev pub EncodingsAgree : Type 0
+EncodingsAgree =
+    (given : Settings) (encoding : Encoding) (events : List Event)
+    → let s = settings_for given events in
+    let other = settings_for (record given { encoding = Some encoding }) events in
+    let text = text_written s (list_layout s events) in
+    all_scalars text ≡ true → decode (Some encoding) (bytes_written other (list_layout other events)) ≡ text
