@@ -1,5 +1,5 @@
 #!/usr/bin/env python3
-"""Compares the definitions of yaml_base with a model: compare.py [--model FOLDER] [--first N] [--count N] [--wrong]
+"""Compares the definitions of yaml_base with a model: compare.py [--model FOLDER] [--first N] [--count N] [--kind KIND] [--wrong]
 
 Each case becomes lemmas that hold by computation alone, written into a copy of the crate outside the repository, and the
 checker computes them: it accepts a lemma exactly where the definition gives what the model gave. Without --model the
@@ -228,19 +228,20 @@ def spoiler(r):
 def stored():
     with open(HERE / "sample.jsonl") as f: return [json.loads(line) for line in f]
 
-def modelled(folder, first, count):
-    made = subprocess.run([sys.executable, HERE / "make_cases.py", folder, str(first), str(count)], capture_output=True, text=True, check=True)
+def modelled(folder, first, count, kind):
+    made = subprocess.run([sys.executable, HERE / "make_cases.py", folder, str(first), str(count)] + ([kind] if kind else []), capture_output=True, text=True, check=True)
     return [json.loads(line) for line in made.stdout.splitlines()]
 
 def main():
     p = argparse.ArgumentParser()
     p.add_argument("--model"), p.add_argument("--wrong", action="store_true"), p.add_argument("--keep", action="store_true")
     p.add_argument("--first", type=int, default=0), p.add_argument("--count", type=int, default=300)
+    p.add_argument("--kind", choices=list(LEMMAS))
     p.add_argument("--check", default=os.environ.get("CHECK", "rt check"))
     o = p.parse_args()
     beside = ROOT.parent / "shared" / "oracle"
     model = o.model or (beside if beside.is_dir() else None)
-    cases = modelled(model, o.first, o.count) if model else stored()[:o.count]
+    cases = modelled(model, o.first, o.count, o.kind) if model else stored()[:o.count]
 
     scratch = pathlib.Path(tempfile.mkdtemp(prefix="definitions-"))
     crate = scratch / "crates" / "yaml_base"

@@ -1,5 +1,5 @@
 #!/usr/bin/env python3
-"""Random cases with what a model makes of them, as JSON lines: make_cases.py MODEL [FIRST [COUNT]]
+"""Random cases with what a model makes of them, as JSON lines: make_cases.py MODEL [FIRST [COUNT [KIND]]]
 
 MODEL is a folder with the plain model of the library in Python (layout.py, readers.py, cases.py, gen.py, compare.py,
 stream_reader.py, lines_reader.py, scalar_bodies.py, content.py).
@@ -200,9 +200,11 @@ if __name__ == "__main__":
     sys.setrecursionlimit(100000)
     import cases, compare, content, gen, layout, lines_reader, readers, scalar_bodies, stream_reader
     stream_reader.Reader = lines_reader.Reader = strict_reader()
-    first, count = (int(x) for x in (sys.argv[2:] + ["0", "300"][len(sys.argv) - 2:]))
+    first, count = (int(x) for x in (sys.argv[2:4] + ["0", "300"][len(sys.argv[2:4]):]))
+    kind = sys.argv[4] if len(sys.argv) > 4 else None
     seed = first
     while count > 0:
+        if kind not in (None, KINDS[seed % len(KINDS)]): seed += 1; continue
         case = case_of(seed)
         if is_small(case) and "differs" not in (case.get("trees"), case.get("agrees")): print(json.dumps(case)); count -= 1
         seed += 1

@@ -39,6 +39,7 @@ pub mod RowsStreamNodes
 pub mod RowsStreamDocuments
 pub mod RowsStreamRefused
 pub mod RowsTidy
+pub mod RowsStreamLaw
 pub mod UnfoldSteps
 pub mod UnfoldTrees
 pub mod UnfoldEvents
@@ -54,7 +55,10 @@ pub mod StreamSays
 pub mod StreamBytes
 pub mod StreamSections
 pub mod StreamKeys
+pub mod StreamPlainKeys
+pub mod StreamAliasKeys
 pub mod StreamAgrees
 pub mod StreamTidyLaws
 pub mod StreamTakes
+pub mod StreamWhites
 pub mod CallerLaws

@@ -3,7 +3,7 @@ use Rattle.std.specs.Prelude.{◌≡◌, false, None, Some, [], ◌∷◌, codes
 use Rattle.std.specs.Char.{encode_utf8}
 use Rattle.std.specs.Str.{chars, is_utf8}
 use Rattle.yaml_base.specs.StreamReader.{stream_trees}
-use Rattle.yaml_base.proofs.StreamTrees.{document, only, bare_word, in_quotes, items, pair, pairs}
+use Rattle.yaml_base.proofs.StreamTrees.{only, bare_word, in_quotes, items}
 
 -- entries one column off: too deep, not deep enough, and an item that goes on the text before it
 columns : (stream_trees false (codes "a: b\n c: d\n") ≡ None)

@@ -1,8 +1,7 @@
 -- Tidy texts, computed: each row a text in a style inside a block, and whether it is tidy there.
 use Rattle.std.specs.Prelude.{◌≡◌, ℕ, Bool, true, false, Option, None, Some, List, [], ◌∷◌, codes, refl}
-use Rattle.std.specs.List.{list_all}
 use Rattle.yaml_base.specs.Characters.{Text}
-use Rattle.yaml_base.specs.Event.{ScalarStyle, any_style, plain, single_quoted, double_quoted, literal, folded}
+use Rattle.yaml_base.specs.Event.{any_style, plain, single_quoted, double_quoted, literal, folded}
 use Rattle.yaml_base.specs.TidyBodies.{is_tidy}
 
 -- a text in each of the three flow styles

@@ -1,19 +1,19 @@
 -- The trees that a layout's nodes are to be read as, and that they agree with the events.
 use Rattle.std.proofs.Common.{◌≡◌, refl, sym, ap, ◌∙◌}
-use Rattle.std.proofs.lemmas.Bool.{true≢false, false≢true, and_parts, and_from}
+use Rattle.std.proofs.lemmas.Bool.{false≢true, and_parts, and_from}
 use Rattle.std.proofs.lemmas.Bool.Decides.{Decides-int_eq}
 use Rattle.std.proofs.lemmas.Slice.Eq.{bytes_eq-Decides}
 use Rattle.std.specs.Ordering.{int_eq}
-use Rattle.std.specs.Prelude.{ℕ, Bool, true, false, Option, None, Some, List, [], ◌∷◌, ◌++◌, ◌||◌, ◌&&◌, not, bytes_eq, is_some, if◌then◌else◌}
+use Rattle.std.specs.Prelude.{Bool, true, false, Option, None, Some, List, [], ◌∷◌, ◌||◌, ◌&&◌, not, bytes_eq, is_some, if◌then◌else◌}
 use Rattle.yaml_base.specs.Characters.{Text}
 use Rattle.yaml_base.specs.Settings.{Effective}
-use Rattle.yaml_base.specs.Event.{ScalarStyle, any_style, plain, single_quoted, double_quoted, literal, folded, Version, TagDirective, Scalar, Collection}
+use Rattle.yaml_base.specs.Event.{ScalarStyle, any_style, plain, single_quoted, double_quoted, literal, folded, Version, TagDirective, Scalar}
 use Rattle.yaml_base.specs.Tags.{directives_in_force}
 use Rattle.yaml_base.specs.Analysis.{Allowances, is_empty, allowances}
-use Rattle.yaml_base.specs.Style.{Choice, lacks_tag_and_flags, is_plain, style_asked, style_quoted, style_fitting, fits_plain, chosen}
+use Rattle.yaml_base.specs.Style.{Choice, lacks_tag_and_flags, is_plain, style_asked, style_quoted, style_fitting, fits_plain}
 use Rattle.yaml_base.specs.Grammar.{Node, alias_node, scalar_node, sequence_node, mapping_node, Nodes, no_nodes, nodes_and, Pairs, no_pairs, pairs_and, Document}
 use Rattle.yaml_base.specs.Refusal.{scalar_tag, collection_tag}
-use Rattle.yaml_base.specs.Layout.{Role, as_item, as_key, as_value, Place, has_no_nodes, has_no_pairs, is_simple, is_simple_at, choice_of, is_written_in_flow, entry_place, root_place}
+use Rattle.yaml_base.specs.Layout.{as_item, as_key, as_value, Place, has_no_nodes, has_no_pairs, is_simple, is_simple_at, choice_of, is_written_in_flow, entry_place, root_place}
 use Rattle.yaml_base.specs.StreamContent.{Standing, stood_plain, stood_quoted, stood_bare, Tagging, with_tag, without_tag, Tree, alias_tree, scalar_tree, sequence_tree, mapping_tree, Trees, no_trees, trees_and, TreePairs, no_tree_pairs, tree_pairs_and, DocumentTree, may_stand, is_same_text, tagging_agrees, tree_agrees, trees_agree, tree_pairs_agree, is_same_version, are_same_directives, document_agrees}
 
 -- how a scalar stands in a style, after the bare tag or not

@@ -1,9 +1,9 @@
 -- A printable text, however its line breaks are written, is read as its documents.
 use Rattle.std.proofs.Common.{◌≡◌, refl, sym, ap, ◌∙◌}
-use Rattle.std.proofs.lemmas.Bool.{true≢false, false≢true, eqb-true, and_parts, and_from, or_right}
+use Rattle.std.proofs.lemmas.Bool.{false≢true, eqb-true, and_parts, and_from, or_right}
 use Rattle.std.proofs.lemmas.List.Folds.{list_all-append}
 use Rattle.std.specs.List.{list_all}
-use Rattle.std.specs.Prelude.{ℕ, Bool, true, false, None, Some, List, [], ◌∷◌, ◌++◌, ◌==◌, ◌||◌, ◌&&◌, not, option_and_then, if◌then◌else◌}
+use Rattle.std.specs.Prelude.{ℕ, Bool, true, false, None, Some, List, [], ◌∷◌, ◌==◌, ◌||◌, ◌&&◌, not, option_and_then, if◌then◌else◌}
 use Rattle.yaml_base.specs.Characters.{Text, carriage_return, next_line, line_feed, is_printable}
 use Rattle.yaml_base.specs.Settings.{LineBreak, carriage_return_break, line_feed_break, both_break}
 use Rattle.yaml_base.specs.LineBreaks.{break_text, is_laid_text, with_breaks_written, with_line_breaks_read}

@@ -1,10 +1,10 @@
 -- Which lines lie inside a column, and lines that are the entries of a collection whatever entries follow them.
-use Rattle.std.proofs.Common.{◌≡◌, zero, suc, ◌<◌, ◌≤◌, refl, sym, ap, ◌∙◌, append_assoc, append-nil, arith}
-use Rattle.std.proofs.lemmas.Bool.{and_parts, and_from, true≢false, false≢true}
+use Rattle.std.proofs.Common.{◌≡◌, zero, suc, ◌<◌, refl, sym, ap, ◌∙◌, append_assoc, append-nil, arith}
+use Rattle.std.proofs.lemmas.Bool.{and_parts, and_from, false≢true}
 use Rattle.std.specs.List.{list_all}
 use Rattle.std.specs.Prelude.{ℕ, Bool, true, false, Some, List, [], ◌∷◌, ◌++◌, ◌&&◌, ◌||◌, ◌==◌, not}
 use Rattle.yaml_base.specs.Characters.{Text, space}
-use Rattle.yaml_base.specs.StreamLines.{Line, ends_sign, begins_with_sign, is_inside, Entries, line_before, entries_at, all_deeper, spaces, is_spaces, past_column, indented, Indented, indented_step}
+use Rattle.yaml_base.specs.StreamLines.{Line, ends_sign, begins_with_sign, is_inside, line_before, entries_at, all_deeper, spaces, is_spaces, past_column, indented, indented_step}
 
 -- a line deeper than a column is inside it
 pub inside_deeper : (s : Bool) (d e : ℕ) (t : Text) → d < e → is_inside s d (spaces e ++ t) ≡ true
@@ -95,12 +95,12 @@ splits_none s e = record { splits = λ rest h. ap (λ b. record { before = b; en
 -- lines, and then others
 pub splits_both : (s : Bool) (e : ℕ) (a b : List Line) (x y : List (List Line)) → Splits s e a x → Splits s e b y → Splits s e (a ++ b) (x ++ y)
 splits_both s e a b x y one two = record {
-    splits = λ rest h.
-        let after = two.splits rest h in
-        ap (entries_at s e) (append_assoc a b rest) ∙ one.splits (b ++ rest) (ap (λ g. g.before) after)
-        ∙ ap (λ g. record { before = []; entries = x ++ g.entries }) after
-        ∙ ap (λ g. record { before = []; entries = g }) (sym (append_assoc x y (entries_at s e rest).entries));
-  }
+  splits = λ rest h.
+      let after = two.splits rest h in
+      ap (entries_at s e) (append_assoc a b rest) ∙ one.splits (b ++ rest) (ap (λ g. g.before) after)
+      ∙ ap (λ g. record { before = []; entries = x ++ g.entries }) after
+      ∙ ap (λ g. record { before = []; entries = g }) (sym (append_assoc x y (entries_at s e rest).entries));
+}
 
 -- lines inside the column belong to the entry before them
 pub passes : (s : Bool) (e : ℕ) (rest lines : List Line) → AllInside s e rest
@@ -114,11 +114,11 @@ passes s e (line ∷ rest) lines h =
 pub splits_one : (s : Bool) (e : ℕ) (line : Line) (rest : List Line) → is_inside s e line.text ≡ false → AllInside s e rest
     → Splits s e (line ∷ rest) ((line ∷ rest) ∷ [])
 splits_one s e line rest out inside = record {
-    splits = λ lines h.
-        ap (λ x. line_before x line (entries_at s e (rest ++ lines))) out ∙ ap (line_before false line) (passes s e rest lines inside)
-        ∙ ap (λ b. record { before = []; entries = (line ∷ (rest ++ b)) ∷ (entries_at s e lines).entries }) h
-        ∙ ap (λ r. record { before = []; entries = (line ∷ r) ∷ (entries_at s e lines).entries }) (append-nil rest);
-  }
+  splits = λ lines h.
+      ap (λ x. line_before x line (entries_at s e (rest ++ lines))) out ∙ ap (line_before false line) (passes s e rest lines inside)
+      ∙ ap (λ b. record { before = []; entries = (line ∷ (rest ++ b)) ∷ (entries_at s e lines).entries }) h
+      ∙ ap (λ r. record { before = []; entries = (line ∷ r) ∷ (entries_at s e lines).entries }) (append-nil rest);
+}
 
 -- the entries of lines that split, and nothing after them
 pub splits_alone : (s : Bool) (e : ℕ) (lines : List Line) (entries : List (List Line)) → Splits s e lines entries

@@ -1,13 +1,12 @@
 -- A simple key in quotes is found where its text ends, before the `:` that follows it.
-use Rattle.std.proofs.Common.{◌≡◌, refl, sym, ap, ◌∙◌, subst, append_assoc}
-use Rattle.std.proofs.lemmas.Bool.{true≢false, false≢true, eqb-true, and_parts}
+use Rattle.std.proofs.Common.{◌≡◌, refl, sym, ap, ◌∙◌, append_assoc}
+use Rattle.std.proofs.lemmas.Bool.{false≢true, eqb-true, and_parts}
 use Rattle.std.specs.Option.{option_or}
-use Rattle.std.specs.Prelude.{ℕ, Bool, true, false, Option, None, Some, List, [], ◌∷◌, ◌++◌, ◌==◌, ◌&&◌, nat_le, length, option_map, option_and_then, if◌then◌else◌}
+use Rattle.std.specs.Prelude.{ℕ, Bool, true, false, Option, None, Some, [], ◌∷◌, ◌++◌, ◌==◌, ◌&&◌, nat_le, length, option_map, option_and_then, if◌then◌else◌}
 use Rattle.yaml_base.specs.Characters.{Text, space}
 use Rattle.yaml_base.specs.Event.{single_quoted, double_quoted}
 use Rattle.yaml_base.specs.ReadSingle.{read_single}
 use Rattle.yaml_base.specs.ReadDouble.{read_double}
-use Rattle.yaml_base.specs.ReadTags.{TagSaid}
 use Rattle.yaml_base.specs.TidyBodies.{is_tidy}
 use Rattle.yaml_base.specs.StreamContent.{Standing, stood_quoted, Tagging, without_tag, Tree, scalar_tree}
 use Rattle.yaml_base.specs.StreamLines.{ends_sign}
@@ -51,7 +50,7 @@ key_found rules before (c ∷ t) after key clear read h =
     by false none = refl
 
 -- a scalar is no alias
-scalar_no_alias : (properties : Properties) (standing : Standing) (value : Option Text)
+pub scalar_no_alias : (properties : Properties) (standing : Standing) (value : Option Text)
     → option_and_then (λ tree. if is_alias tree then Some tree else None) (scalar_said properties standing value) ≡ None
 scalar_no_alias properties standing None = refl
 scalar_no_alias properties standing (Some text) = by (tagging_said properties.tag standing)
@@ -62,7 +61,7 @@ scalar_no_alias properties standing (Some text) = by (tagging_said properties.ta
     by (Some tagging) = refl
 
 -- a scalar stays one where aliases are left out
-scalar_but_alias : (properties : Properties) (standing : Standing) (value : Option Text)
+pub scalar_but_alias : (properties : Properties) (standing : Standing) (value : Option Text)
     → option_and_then (λ tree. if is_alias tree then None else Some tree) (scalar_said properties standing value) ≡ scalar_said properties standing value
 scalar_but_alias properties standing None = refl
 scalar_but_alias properties standing (Some text) = by (tagging_said properties.tag standing)
@@ -86,7 +85,7 @@ word_of_single rules flow (c ∷ []) = refl
 word_of_single rules flow (c ∷ d ∷ t) = refl
 
 -- a text that begins with a quote is no alias before a space
-no_alias_before : (rules : Rules) (q : ℕ) (t : Text) → (q == space) ≡ false → ((u : Text) → word_of_alias rules (q ∷ u) ≡ None)
+pub no_alias_before : (rules : Rules) (q : ℕ) (t : Text) → (q == space) ≡ false → ((u : Text) → word_of_alias rules (q ∷ u) ≡ None)
     → option_and_then (word_of_alias rules) (without_last_space (q ∷ t)) ≡ None
 no_alias_before rules q [] other none = ap (λ x. option_and_then (word_of_alias rules) (if x then Some [] else None)) other
 no_alias_before rules q (d ∷ t) other none = by (without_last_space (d ∷ t))
@@ -106,7 +105,7 @@ single_no_alias rules u =
     ∙ scalar_no_alias no_properties stood_quoted (if is_tidy single_quoted rules.breaks12 None (0x27 ∷ u) then read_single rules.breaks12 (0x27 ∷ u) else None)
 
 -- a text is a key where the word is, if no alias stands before its last space
-key_by_word : (rules : Rules) (text : Text) (word : Option Tree) → word_but_alias rules text ≡ word → option_and_then (word_of_alias rules) (without_last_space text) ≡ None
+pub key_by_word : (rules : Rules) (text : Text) (word : Option Tree) → word_but_alias rules text ≡ word → option_and_then (word_of_alias rules) (without_last_space text) ≡ None
     → key_of_text rules text ≡ (if nat_le (length text) longest_key then word else None)
 key_by_word rules text word e none =
     ap (λ x. if nat_le (length text) longest_key then option_or x (option_and_then (word_of_alias rules) (without_last_space text)) else None) e
@@ -169,17 +168,19 @@ single_no_text rules t none =
 
 double_no_key : (rules : Rules) (b t after v : Text) → read_double rules.breaks12 ((0x22 ∷ b) ++ t) ≡ Some v → NoKey rules (0x22 ∷ b) t after
 double_no_key rules b [] after v read = tt
-double_no_key rules b (c ∷ t) after v read =
-    (λ h. double_no_text rules b (double_quoted_whole rules.breaks12 (0x22 ∷ b) c t v read),
-    double_no_key rules (b ++ (c ∷ [])) t after v (ap (read_double rules.breaks12) (append_assoc (0x22 ∷ b) (c ∷ []) t) ∙ read))
+double_no_key rules b (c ∷ t) after v read = (
+  λ h. double_no_text rules b (double_quoted_whole rules.breaks12 (0x22 ∷ b) c t v read),
+  double_no_key rules (b ++ (c ∷ [])) t after v (ap (read_double rules.breaks12) (append_assoc (0x22 ∷ b) (c ∷ []) t) ∙ read),
+)
 
 single_no_key : (rules : Rules) (b t after v : Text) → read_single rules.breaks12 ((0x27 ∷ b) ++ t) ≡ Some v → NoKey rules (0x27 ∷ b) t after
 single_no_key rules b [] after v read = tt
-single_no_key rules b (c ∷ t) after v read =
-    (λ h. single_no_text rules b
-    (single_quoted_whole rules.breaks12 (0x27 ∷ b) c t v
-    (ap (λ n. n == 39) (eqb-true c 0x3A (and_parts (c == 0x3A) (ends_sign (t ++ (0x3A ∷ after))) h).0)) read),
-    single_no_key rules (b ++ (c ∷ [])) t after v (ap (read_single rules.breaks12) (append_assoc (0x27 ∷ b) (c ∷ []) t) ∙ read))
+single_no_key rules b (c ∷ t) after v read = (
+  λ h. single_no_text rules b
+      (single_quoted_whole rules.breaks12 (0x27 ∷ b) c t v
+      (ap (λ n. n == 39) (eqb-true c 0x3A (and_parts (c == 0x3A) (ends_sign (t ++ (0x3A ∷ after))) h).0)) read),
+  single_no_key rules (b ++ (c ∷ [])) t after v (ap (read_single rules.breaks12) (append_assoc (0x27 ∷ b) (c ∷ []) t) ∙ read),
+)
 
 -- the tree of a scalar in quotes
 abbrev pub quoted_tree : Text → Tree

@@ -1,15 +1,13 @@
 -- What a text in flow is to its reader: these tokens, before anything that ends a word.
 use Rattle.std.proofs.Common.{◌≡◌, refl, sym, ap, ◌∙◌, append_assoc}
 use Rattle.std.proofs.lemmas.Bool.{false≢true, eqb-true}
-use Rattle.std.specs.Prelude.{ℕ, zero, suc, Bool, true, false, Option, None, Some, List, [], ◌∷◌, ◌++◌, ◌==◌, if◌then◌else◌}
-use Rattle.yaml_base.specs.Characters.{Text, is_blank}
-use Rattle.yaml_base.specs.LineBreaks.{is_read_break}
+use Rattle.std.specs.Prelude.{ℕ, Bool, true, false, Some, List, [], ◌∷◌, ◌++◌, ◌==◌, if◌then◌else◌}
+use Rattle.yaml_base.specs.Characters.{Text}
 use Rattle.yaml_base.specs.ReadPlain.{read_plain}
 use Rattle.yaml_base.specs.ReadSingle.{read_single}
 use Rattle.yaml_base.specs.ReadDouble.{read_double}
 use Rattle.yaml_base.specs.TidyBodies.{has_clean_edges}
-use Rattle.yaml_base.specs.StreamLines.{spaces}
-use Rattle.yaml_base.specs.StreamTokens.{FlowToken, word, opens, sign, blank, line_end, FlowPlace, free, in_plain, FlowClass, is_white_blank, is_white_break, is_flow_sign, begins_property, begins_double, begins_single, begins_bracket, begins_plain, class_of, FlowTurn, begun, bracket_turn, is_pair, flow_tokens}
+use Rattle.yaml_base.specs.StreamTokens.{FlowToken, word, opens, sign, blank, line_end, free, is_white_blank, is_white_break, is_flow_sign, begins_double, begins_single, begins_bracket, begins_plain, class_of, FlowTurn, begun, bracket_turn, is_pair, flow_tokens}
 use Rattle.yaml_base.proofs.StreamWords.{begins_unquoted, double_quoted_word, single_quoted_word}
 use Rattle.yaml_base.proofs.StreamPlainWords.{ends_by, ends_word, plain_word}
 
@@ -24,10 +22,10 @@ EndsWord breaks12 text = (rest : Text) → ends_word breaks12 rest ≡ true → 
 -- a text, and then one that ends a word
 pub says_both : (breaks12 : Bool) (a b : Text) (j k : List FlowToken) → Says breaks12 a j → Says breaks12 b k → EndsWord breaks12 b → Says breaks12 (a ++ b) (j ++ k)
 says_both breaks12 a b j k one two ends = record {
-    says = λ rest h.
-        ap (flow_tokens breaks12 free) (append_assoc a b rest) ∙ one.says (b ++ rest) (ends rest h)
-        ∙ ap (λ t. j ++ t) (two.says rest h) ∙ sym (append_assoc j k (flow_tokens breaks12 free rest));
-  }
+  says = λ rest h.
+      ap (flow_tokens breaks12 free) (append_assoc a b rest) ∙ one.says (b ++ rest) (ends rest h)
+      ∙ ap (λ t. j ++ t) (two.says rest h) ∙ sym (append_assoc j k (flow_tokens breaks12 free rest));
+}
 
 -- no text
 pub says_nothing : (breaks12 : Bool) → Says breaks12 [] []
@@ -40,20 +38,20 @@ ends_anyhow breaks12 c text h rest k = h (ends_word breaks12 (text ++ rest))
 -- a sign of flow
 pub says_sign : (breaks12 : Bool) (c : ℕ) → class_of breaks12 c ≡ is_flow_sign → Says breaks12 (c ∷ []) (sign c ∷ [])
 says_sign breaks12 c e = record {
-    says = λ rest h. ap (λ class. (let here : FlowTurn = begun class [] c in here.tokens ++ flow_tokens breaks12 here.place rest)) e;
-  }
+  says = λ rest h. ap (λ class. (let here : FlowTurn = begun class [] c in here.tokens ++ flow_tokens breaks12 here.place rest)) e;
+}
 
 -- a blank
 pub says_blank : (breaks12 : Bool) (c : ℕ) → class_of breaks12 c ≡ is_white_blank → Says breaks12 (c ∷ []) (blank ∷ [])
 says_blank breaks12 c e = record {
-    says = λ rest h. ap (λ class. (let here : FlowTurn = begun class [] c in here.tokens ++ flow_tokens breaks12 here.place rest)) e;
-  }
+  says = λ rest h. ap (λ class. (let here : FlowTurn = begun class [] c in here.tokens ++ flow_tokens breaks12 here.place rest)) e;
+}
 
 -- a break
 pub says_break : (breaks12 : Bool) (c : ℕ) → class_of breaks12 c ≡ is_white_break → Says breaks12 (c ∷ []) (line_end ∷ [])
 says_break breaks12 c e = record {
-    says = λ rest h. ap (λ class. (let here : FlowTurn = begun class [] c in here.tokens ++ flow_tokens breaks12 here.place rest)) e;
-  }
+  says = λ rest h. ap (λ class. (let here : FlowTurn = begun class [] c in here.tokens ++ flow_tokens breaks12 here.place rest)) e;
+}
 
 -- The signs of flow, with either rule of breaks
 pub comma_class : (breaks12 : Bool) → class_of breaks12 0x2C ≡ is_flow_sign
@@ -102,27 +100,27 @@ ends_unquoted breaks12 (c ∷ rest) h = by (c == 0x27) refl
 -- a scalar in double quotes
 pub says_double : (breaks12 : Bool) (t v : Text) → read_double breaks12 (0x22 ∷ t) ≡ Some v → Says breaks12 (0x22 ∷ t) (word (0x22 ∷ t) ∷ [])
 says_double breaks12 t v read = record {
-    says = λ rest h.
-        ap (λ class. (let here : FlowTurn = begun class [] 0x22 in here.tokens ++ flow_tokens breaks12 here.place (t ++ rest))) (double_class breaks12)
-        ∙ double_quoted_word breaks12 [] t rest v read;
-  }
+  says = λ rest h.
+      ap (λ class. (let here : FlowTurn = begun class [] 0x22 in here.tokens ++ flow_tokens breaks12 here.place (t ++ rest))) (double_class breaks12)
+      ∙ double_quoted_word breaks12 [] t rest v read;
+}
 
 -- a scalar in single quotes
 pub says_single : (breaks12 : Bool) (t v : Text) → read_single breaks12 (0x27 ∷ t) ≡ Some v → Says breaks12 (0x27 ∷ t) (word (0x27 ∷ t) ∷ [])
 says_single breaks12 t v read = record {
-    says = λ rest h.
-        ap (λ class. (let here : FlowTurn = begun class [] 0x27 in here.tokens ++ flow_tokens breaks12 here.place (t ++ rest))) (single_class breaks12)
-        ∙ single_quoted_word breaks12 [] t rest v read (ends_unquoted breaks12 rest h);
-  }
+  says = λ rest h.
+      ap (λ class. (let here : FlowTurn = begun class [] 0x27 in here.tokens ++ flow_tokens breaks12 here.place (t ++ rest))) (single_class breaks12)
+      ∙ single_quoted_word breaks12 [] t rest v read (ends_unquoted breaks12 rest h);
+}
 
 -- a plain scalar
 pub says_plain : (breaks12 : Bool) (c : ℕ) (t v : Text) → class_of breaks12 c ≡ begins_plain → read_plain breaks12 true (c ∷ t) ≡ Some v
     → has_clean_edges breaks12 (c ∷ t) ≡ true → Says breaks12 (c ∷ t) (word (c ∷ t) ∷ [])
 says_plain breaks12 c t v e read clean = record {
-    says = λ rest h.
-        ap (λ class. (let here : FlowTurn = begun class [] c in here.tokens ++ flow_tokens breaks12 here.place (t ++ rest))) e
-        ∙ plain_word breaks12 [] c t rest v read clean h;
-  }
+  says = λ rest h.
+      ap (λ class. (let here : FlowTurn = begun class [] c in here.tokens ++ flow_tokens breaks12 here.place (t ++ rest))) e
+      ∙ plain_word breaks12 [] c t rest v read clean h;
+}
 
 bracket_class : (breaks12 : Bool) → (class_of breaks12 0x5B ≡ begins_bracket) × (class_of breaks12 0x7B ≡ begins_bracket)
 bracket_class true = (refl, refl)
@@ -138,10 +136,10 @@ opens_before breaks12 b c rest e h =
 -- `[]` and `{}` are words
 pub says_empty_sequence : (breaks12 : Bool) → Says breaks12 (0x5B ∷ 0x5D ∷ []) (word (0x5B ∷ 0x5D ∷ []) ∷ [])
 says_empty_sequence breaks12 = record {
-    says = λ rest h. ap (λ class. (let here : FlowTurn = begun class [] 0x5B in here.tokens ++ flow_tokens breaks12 here.place (0x5D ∷ rest))) (bracket_class breaks12).0;
-  }
+  says = λ rest h. ap (λ class. (let here : FlowTurn = begun class [] 0x5B in here.tokens ++ flow_tokens breaks12 here.place (0x5D ∷ rest))) (bracket_class breaks12).0;
+}
 
 pub says_empty_mapping : (breaks12 : Bool) → Says breaks12 (0x7B ∷ 0x7D ∷ []) (word (0x7B ∷ 0x7D ∷ []) ∷ [])
 says_empty_mapping breaks12 = record {
-    says = λ rest h. ap (λ class. (let here : FlowTurn = begun class [] 0x7B in here.tokens ++ flow_tokens breaks12 here.place (0x7D ∷ rest))) (bracket_class breaks12).1;
-  }
+  says = λ rest h. ap (λ class. (let here : FlowTurn = begun class [] 0x7B in here.tokens ++ flow_tokens breaks12 here.place (0x7D ∷ rest))) (bracket_class breaks12).1;
+}

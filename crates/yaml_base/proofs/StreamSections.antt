@@ -2,7 +2,7 @@
 use Rattle.std.proofs.Common.{◌≡◌, refl, sym, ap, ◌∙◌, append_assoc, append-nil}
 use Rattle.std.proofs.lemmas.Bool.{and_parts, true≢false, false≢true}
 use Rattle.std.specs.List.{list_all}
-use Rattle.std.specs.Prelude.{Bool, true, false, List, [], ◌∷◌, ◌++◌, ◌&&◌}
+use Rattle.std.specs.Prelude.{Bool, true, false, List, [], ◌∷◌, ◌++◌}
 use Rattle.yaml_base.specs.StreamLines.{Line}
 use Rattle.yaml_base.specs.StreamDocuments.{MarkKind, start_mark, end_mark, no_mark, mark_of, Section, Sections, section_before, sections_of}
 
@@ -42,12 +42,12 @@ marks_none = record { marks = λ rest h. ap (λ b. record { before = b; sections
 -- lines, and then others
 pub marks_both : (a b : List Line) (x y : List Section) → Marks a x → Marks b y → Marks (a ++ b) (x ++ y)
 marks_both a b x y one two = record {
-    marks = λ rest h.
-        let after = two.marks rest h in
-        ap sections_of (append_assoc a b rest) ∙ one.marks (b ++ rest) (ap (λ g. g.before) after)
-        ∙ ap (λ g. record { before = []; sections = x ++ g.sections }) after
-        ∙ ap (λ g. record { before = []; sections = g }) (sym (append_assoc x y (sections_of rest).sections));
-  }
+  marks = λ rest h.
+      let after = two.marks rest h in
+      ap sections_of (append_assoc a b rest) ∙ one.marks (b ++ rest) (ap (λ g. g.before) after)
+      ∙ ap (λ g. record { before = []; sections = x ++ g.sections }) after
+      ∙ ap (λ g. record { before = []; sections = g }) (sym (append_assoc x y (sections_of rest).sections));
+}
 
 -- a mark is one
 abbrev pub IsMark : MarkKind → Type 0
@@ -57,12 +57,12 @@ IsMark mark = is_unmarked mark ≡ false
 pub marks_one : (line : Line) (body : List Line) → IsMark (mark_of line.text) → AllUnmarked body
     → Marks (line ∷ body) (record { mark = mark_of line.text; line = line; rest = body } ∷ [])
 marks_one line body is h = record {
-    marks = λ rest none.
-        by (mark_of line.text) is (sections_of (body ++ rest))
-        ∙ ap (λ all. record { before = []; sections = record { mark = mark_of line.text; line = line; rest = all.before } ∷ all.sections }) (unmarked_before body rest h)
-        ∙ ap (λ b. record { before = []; sections = record { mark = mark_of line.text; line = line; rest = body ++ b } ∷ (sections_of rest).sections }) none
-        ∙ ap (λ b. record { before = []; sections = record { mark = mark_of line.text; line = line; rest = b } ∷ (sections_of rest).sections }) (append-nil body);
-  }
+  marks = λ rest none.
+      by (mark_of line.text) is (sections_of (body ++ rest))
+      ∙ ap (λ all. record { before = []; sections = record { mark = mark_of line.text; line = line; rest = all.before } ∷ all.sections }) (unmarked_before body rest h)
+      ∙ ap (λ b. record { before = []; sections = record { mark = mark_of line.text; line = line; rest = body ++ b } ∷ (sections_of rest).sections }) none
+      ∙ ap (λ b. record { before = []; sections = record { mark = mark_of line.text; line = line; rest = b } ∷ (sections_of rest).sections }) (append-nil body);
+}
   where
     by : (mark : MarkKind) → is_unmarked mark ≡ false → (after : Sections)
         → section_before mark line after ≡ record { before = []; sections = record { mark = mark; line = line; rest = after.before } ∷ after.sections }

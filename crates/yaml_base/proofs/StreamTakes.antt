@@ -1,14 +1,13 @@
 -- What a text in flow is to the reader of flow collections: it takes the reader from one reading to another.
-use Rattle.std.proofs.Common.{◌≡◌, refl, sym, ap, ◌∙◌, append_assoc}
-use Rattle.std.proofs.lemmas.Bool.{true≢false, false≢true}
-use Rattle.std.specs.Prelude.{ℕ, Bool, true, false, Option, None, Some, List, [], ◌∷◌, ◌++◌, fold, if◌then◌else◌}
+use Rattle.std.proofs.Common.{◌≡◌, refl, ap, ◌∙◌, append_assoc}
+use Rattle.std.specs.Prelude.{ℕ, true, false, Option, Some, List, [], ◌∷◌, ◌++◌, fold, if◌then◌else◌}
 use Rattle.yaml_base.specs.Characters.{Text}
-use Rattle.yaml_base.specs.StreamContent.{Tree, sequence_tree, mapping_tree, Trees, no_trees, trees_and, TreePairs, no_tree_pairs, tree_pairs_and}
-use Rattle.yaml_base.specs.StreamScalars.{Rules, Properties, no_properties, word_read}
-use Rattle.yaml_base.specs.StreamTokens.{FlowToken, word, opens, sign, blank, line_end, free, is_flow_sign, begins_bracket, is_white_blank, is_white_break, class_of, begun, FlowTurn, is_pair, flow_tokens}
-use Rattle.yaml_base.specs.StreamFlow.{is_key_text, HeldKey, no_key, key_due, key_held, Level, in_sequence, in_mapping, ColonPlace, at_once, after_blank, after_white, Awaited, collection_awaited, entry_awaited, node_awaited, comma_awaited, colon_awaited, FlowReading, failed, done, within, with_tree, with_word, word_step, colon_after, level_opened, flow_step, tree_at_end, flow_read}
+use Rattle.yaml_base.specs.StreamContent.{Tree, sequence_tree, mapping_tree, Trees, trees_and, TreePairs, tree_pairs_and}
+use Rattle.yaml_base.specs.StreamScalars.{Rules, Properties, word_read}
+use Rattle.yaml_base.specs.StreamTokens.{FlowToken, word, sign, free, is_flow_sign, class_of, begun, FlowTurn, flow_tokens}
+use Rattle.yaml_base.specs.StreamFlow.{is_key_text, no_key, key_due, key_held, Level, in_sequence, in_mapping, at_once, after_white, Awaited, collection_awaited, entry_awaited, node_awaited, comma_awaited, colon_awaited, FlowReading, failed, done, within, with_tree, word_step, colon_after, flow_step, tree_at_end, flow_read}
 use Rattle.yaml_base.proofs.StreamPlainWords.{ends_by, ends_word}
-use Rattle.yaml_base.proofs.StreamSays.{Says, EndsWord, says_sign, comma_class, colon_class, question_class, square_class, curly_class, opens_before}
+use Rattle.yaml_base.proofs.StreamSays.{Says, EndsWord, says_sign, comma_class, colon_class, question_class, square_class, curly_class}
 
 -- the readings of some tokens
 abbrev pub steps : Rules → FlowReading → List FlowToken → FlowReading
@@ -27,15 +26,15 @@ steps_both rules from (token ∷ a) b = steps_both rules (flow_step rules from t
 pub takes_tokens : (rules : Rules) (from : FlowReading) (text : Text) (tokens : List FlowToken) → Says rules.breaks12 text tokens
     → Takes rules from text (steps rules from tokens)
 takes_tokens rules from text tokens says = record {
-    takes = λ rest h. ap (steps rules from) (says.says rest h) ∙ steps_both rules from tokens (flow_tokens rules.breaks12 free rest);
-  }
+  takes = λ rest h. ap (steps rules from) (says.says rest h) ∙ steps_both rules from tokens (flow_tokens rules.breaks12 free rest);
+}
 
 -- the same, to a reading that is named
 pub takes_to : (rules : Rules) (from to : FlowReading) (text : Text) (tokens : List FlowToken) → Says rules.breaks12 text tokens
     → steps rules from tokens ≡ to → Takes rules from text to
 takes_to rules from to text tokens says e = record {
-    takes = λ rest h. (takes_tokens rules from text tokens says).takes rest h ∙ ap (λ r. steps rules r (flow_tokens rules.breaks12 free rest)) e;
-  }
+  takes = λ rest h. (takes_tokens rules from text tokens says).takes rest h ∙ ap (λ r. steps rules r (flow_tokens rules.breaks12 free rest)) e;
+}
 
 -- no text
 pub takes_nothing : (rules : Rules) (from : FlowReading) → Takes rules from [] from
@@ -45,10 +44,10 @@ takes_nothing rules from = record { takes = λ rest h. refl }
 pub takes_both : (rules : Rules) (from through to : FlowReading) (a b : Text) → Takes rules from a through → Takes rules through b to
     → EndsWord rules.breaks12 b → Takes rules from (a ++ b) to
 takes_both rules from through to a b one two ends = record {
-    takes = λ rest h.
-        ap (λ t. steps rules from (flow_tokens rules.breaks12 free t)) (append_assoc a b rest)
-        ∙ one.takes (b ++ rest) (ends rest h) ∙ two.takes rest h;
-  }
+  takes = λ rest h.
+      ap (λ t. steps rules from (flow_tokens rules.breaks12 free t)) (append_assoc a b rest)
+      ∙ one.takes (b ++ rest) (ends rest h) ∙ two.takes rest h;
+}
 
 -- Words
 

@@ -1,5 +1,5 @@
 -- Reading written tags and handles (YAML 1.1, sections 7.1.2 and 8.1.1), without any word of what writes them.
-use Rattle.std.specs.Prelude.{ℕ, Bool, true, false, Option, None, Some, List, [], ◌∷◌, ◌++◌, ◌==◌, ◌||◌, ◌&&◌, not, codes, bytes_eq, option_map, if◌then◌else◌}
+use Rattle.std.specs.Prelude.{ℕ, Bool, false, Option, None, Some, List, [], ◌∷◌, ◌++◌, ◌==◌, ◌||◌, ◌&&◌, not, codes, bytes_eq, option_map, if◌then◌else◌}
 use Rattle.std.specs.List.{list_all, list_any}
 use Rattle.yaml_base.specs.Characters.{Text, is_alpha, is_among}
 use Rattle.yaml_base.specs.Event.{TagDirective}

@@ -1,6 +1,6 @@
 -- What a stream in any mode keeps of a list of events: versions, directives, and the trees of kinds, anchors, tags, values
 -- and aliases (the serialization tree of YAML 1.1, section 3.2.2); and when such trees agree with the events.
-use Rattle.std.specs.Prelude.{ℕ, ℤ, Bool, true, false, Option, None, Some, List, [], ◌∷◌, ◌++◌, ◌&&◌, not, bytes_eq, option_map, unwrap_or}
+use Rattle.std.specs.Prelude.{Bool, true, false, Option, None, Some, List, [], ◌∷◌, ◌++◌, ◌&&◌, not, bytes_eq, option_map, unwrap_or}
 use Rattle.std.specs.Ordering.{int_eq}
 use Rattle.yaml_base.specs.Characters.{Text}
 use Rattle.yaml_base.specs.Event.{Version, TagDirective, Scalar, Event}

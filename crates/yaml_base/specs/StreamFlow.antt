@@ -1,14 +1,13 @@
 -- Flow collections, from tokens to a tree (YAML 1.1, sections 10.1.1 and 10.2.1). White space stands after `[`, `{` and
 -- `,`, blanks after `?` and `:`, a blank after an alias that is a key, and anything white after a key with a `?`.
-use Rattle.std.specs.Prelude.{ℕ, suc, Bool, true, false, Option, None, Some, List, [], ◌∷◌, ◌==◌, ◌||◌, ◌&&◌, not, nat_le, length, fold, option_and_then, if◌then◌else◌}
+use Rattle.std.specs.Prelude.{ℕ, suc, Bool, true, false, Option, None, Some, List, [], ◌∷◌, ◌==◌, ◌&&◌, not, nat_le, length, fold, if◌then◌else◌}
 use Rattle.std.specs.List.{list_any}
 use Rattle.yaml_base.specs.Characters.{Text}
 use Rattle.yaml_base.specs.LineBreaks.{is_read_break}
-use Rattle.yaml_base.specs.ReadTags.{TagSaid}
-use Rattle.yaml_base.specs.StreamContent.{Tree, alias_tree, scalar_tree, sequence_tree, mapping_tree, Trees, no_trees, trees_and, TreePairs, no_tree_pairs, tree_pairs_and}
+use Rattle.yaml_base.specs.StreamContent.{Tree, alias_tree, sequence_tree, mapping_tree, Trees, no_trees, trees_and, TreePairs, no_tree_pairs, tree_pairs_and}
 use Rattle.yaml_base.specs.StreamScalars.{Rules, Properties, PropertiesRead, properties_read, collection_tag_said, word_after, word_read}
 use Rattle.yaml_base.specs.StreamLines.{is_spaces}
-use Rattle.yaml_base.specs.StreamTokens.{FlowToken, word, opens, sign, blank, line_end, bad, free, flow_tokens}
+use Rattle.yaml_base.specs.StreamTokens.{FlowToken, word, opens, sign, blank, line_end, free, flow_tokens}
 
 -- Simple keys
 

@@ -2,7 +2,7 @@
 -- reader is strict: it refuses what readers of YAML 1.1 disagree on, tabs, comments and characters that aren't printable
 -- among it, so that a text that it reads means the same to all of them.
 --     stream_trees breaks12 bytes      the documents in some bytes, or nothing
-use Rattle.std.specs.Prelude.{ℕ, Bool, Option, None, Some, List, ◌==◌, ◌||◌, option_and_then, if◌then◌else◌}
+use Rattle.std.specs.Prelude.{ℕ, Bool, Option, None, List, ◌==◌, ◌||◌, option_and_then, if◌then◌else◌}
 use Rattle.std.specs.List.{list_all}
 use Rattle.yaml_base.specs.Characters.{Text, carriage_return, is_printable}
 use Rattle.yaml_base.specs.LineBreaks.{with_line_breaks_read}

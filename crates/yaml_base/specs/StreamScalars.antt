@@ -11,7 +11,7 @@ use Rattle.yaml_base.specs.ReadBlock.{read_block}
 use Rattle.yaml_base.specs.ReadTags.{TagSaid, bare_said, name_said, CutText, tag_said}
 use Rattle.yaml_base.specs.TidyBodies.{is_tidy}
 use Rattle.yaml_base.specs.StreamContent.{Standing, stood_plain, stood_quoted, stood_bare, Tagging, with_tag, without_tag, Tree, alias_tree, scalar_tree, sequence_tree, mapping_tree, no_trees, no_tree_pairs}
-use Rattle.yaml_base.specs.StreamLines.{spaces, Indented, indented}
+use Rattle.yaml_base.specs.StreamLines.{spaces, indented}
 
 -- by what a document's text is read: which characters break lines, and its own directives
 pub record Rules : Type 0 where

@@ -1,12 +1,12 @@
 -- Tidy texts: what every text of a scalar keeps to beside what its style's reader asks, so that it stays where it is put
 -- and means the same to all readers. A strict reader of streams demands it.
-use Rattle.std.specs.Prelude.{◌≡◌, ℕ, zero, suc, Bool, true, false, Option, None, Some, List, [], ◌∷◌, ◌==◌, ◌||◌, ◌&&◌, not, unwrap_or}
+use Rattle.std.specs.Prelude.{◌≡◌, ℕ, zero, suc, Bool, true, false, Option, [], ◌∷◌, ◌==◌, ◌||◌, ◌&&◌, not, unwrap_or}
 use Rattle.std.specs.List.{list_all}
 use Rattle.yaml_base.specs.Characters.{Text, space, is_printable}
 use Rattle.yaml_base.specs.LineBreaks.{is_read_break}
 use Rattle.yaml_base.specs.Settings.{Effective}
 use Rattle.yaml_base.specs.Event.{ScalarStyle, any_style, plain, single_quoted, double_quoted, literal, folded}
-use Rattle.yaml_base.specs.ReadPlain.{is_read_white, begins_white}
+use Rattle.yaml_base.specs.ReadPlain.{is_read_white}
 use Rattle.yaml_base.specs.NodeLayout.{Body}
 
 -- a text is empty, or begins with a break
