@@ -59,6 +59,7 @@ pub use yaml_emitter::analyze_version;
 pub use yaml_emitter::bytes_have_one_text;
 pub use yaml_emitter::canonical_bytes_read;
 pub use yaml_emitter::canonical_output_reads;
+pub use yaml_emitter::documents_unfold;
 pub use yaml_emitter::escaped_text_reads;
 pub use yaml_emitter::is_alpha;
 pub use yaml_emitter::is_ascii;
