@@ -44,6 +44,3 @@ pub use styles::yaml_sequence_style_t::{
     YAML_ANY_SEQUENCE_STYLE, YAML_BLOCK_SEQUENCE_STYLE, YAML_FLOW_SEQUENCE_STYLE,
 };
 pub use styles::{yaml_mapping_style_t, yaml_scalar_style_t, yaml_sequence_style_t};
-
-#[cfg(test)]
-mod tests;

@@ -12,6 +12,3 @@ pub use laws::{escaped_text_reads, written_tag_reads, written_tag_stays_one_word
 pub use names::{analyze_anchor, analyze_tag_directive, analyze_version};
 pub use tags::{analyze_tag, tag_t};
 pub use writing::{write_anchor, write_tag_content, write_tag_handle};
-
-#[cfg(test)]
-mod tests;

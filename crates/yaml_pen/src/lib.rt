@@ -7,6 +7,3 @@ mod outlet;
 mod pen;
 
 pub use pen::Pen;
-
-#[cfg(test)]
-mod tests;

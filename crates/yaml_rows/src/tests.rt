@@ -1,4 +1,8 @@
-//! Examples of calls, emitters call by call, and whole runs of scripts.
+//! Each crate's rows: types, pens, marks, scalars; examples of calls, emitters call by call, whole runs of scripts.
 mod calling;
 mod emitters;
+mod marks;
+mod pens;
 mod runs;
+mod scalars;
+mod types;

@@ -25,6 +25,3 @@ pub use literal::write_literal_scalar;
 pub use plain::write_plain_scalar;
 pub use single_quoted::write_single_quoted_scalar;
 pub use style::select_scalar_style;
-
-#[cfg(test)]
-mod tests;

@@ -1,6 +1,6 @@
 //! Single-quoted scalars.
 use super::{begun, begun_with_returns, begun_within};
-use crate::{analyze_scalar, write_single_quoted_scalar};
+use yaml_scalar::{analyze_scalar, write_single_quoted_scalar};
 use std::alloc::Allocator;
 use std::test::Fail;
 use yaml_base::yaml_error_t;

@@ -1,5 +1,5 @@
 use Rattle.yaml_pen.specs.Page.{IsReady}
-use Rattle.yaml_pen.proofs.tests.put_letters.Given as goal
+use Rattle.yaml_rows.proofs.tests.pens.put_letters.Given as goal
 
 abbrev pub invariant-letters : goal.invariant-letters
 invariant-letters g l = IsReady l.pen

@@ -5,7 +5,7 @@ use Rattle.std.specs.List.{list_any}
 use Rattle.std.specs.Str.{chars}
 use Rattle.std.specs.String.{string_bytes}
 use Rattle.yaml_base.specs.Characters.{is_break}
-use Rattle.yaml_pen.proofs.tests.long_run.Goals as goal
+use Rattle.yaml_rows.proofs.tests.pens.long_run.Goals as goal
 
 pub cycles-init : goal.cycles-init
 cycles-init g c = ap (λ b. list_any is_break (chars b)) c.new-text.ensures.bytes ∙ ap (list_any is_break) chars-nil

@@ -4,7 +4,7 @@ ghost use Rattle.yaml_pen.specs.Page.{IsReady};
 
 use super::begun;
 use super::block::is_allowed;
-use crate::{
+use yaml_scalar::{
     analyze_scalar, select_scalar_style, write_double_quoted_scalar, write_folded_scalar,
     write_literal_scalar, write_plain_scalar, write_single_quoted_scalar,
 };

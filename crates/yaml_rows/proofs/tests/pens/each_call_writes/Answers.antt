@@ -1,6 +1,6 @@
 use Rattle.std.proofs.Common.{refl}
 use Rattle.std.specs.Str.{chars}
-use Rattle.yaml_scalar.proofs.tests.block.items_stand_at_their_indentation.Goals as goal
+use Rattle.yaml_rows.proofs.tests.pens.each_call_writes.Goals as goal
 
 pub write_indicator-requires-clause-no_break : goal.write_indicator-requires-clause-no_break
 unfolding chars

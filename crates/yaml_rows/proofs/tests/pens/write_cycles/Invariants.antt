@@ -1,5 +1,5 @@
 use Rattle.yaml_pen.specs.Page.{IsReady}
-use Rattle.yaml_pen.proofs.tests.write_cycles.Given as goal
+use Rattle.yaml_rows.proofs.tests.pens.write_cycles.Given as goal
 
 abbrev pub invariant-cycles : goal.invariant-cycles
 invariant-cycles g l = IsReady l.pen

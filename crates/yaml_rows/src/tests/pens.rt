@@ -6,7 +6,7 @@ ghost use Rattle.std.specs.String.{string_bytes};
 ghost use Rattle.yaml_base.specs.Characters.{is_break};
 ghost use Rattle.yaml_pen.specs.Page.{IsReady};
 
-use crate::Pen;
+use yaml_pen::Pen;
 use linked_list_allocator::LocalHeap;
 use std::alloc::{AllocError, Allocator};
 use std::test::Fail;

@@ -1,7 +1,7 @@
 //! Short values in each style that they allow.
 use super::block::{folded, literal};
 use super::{begun, short_block, short_quoted};
-use crate::{
+use yaml_scalar::{
     analyze_scalar, write_double_quoted_scalar, write_plain_scalar, write_single_quoted_scalar,
 };
 use std::alloc::Allocator;

@@ -1,6 +1,6 @@
 //! Plain scalars.
 use super::{begun, begun_within};
-use crate::{analyze_scalar, write_plain_scalar};
+use yaml_scalar::{analyze_scalar, write_plain_scalar};
 use std::alloc::Allocator;
 use std::test::Fail;
 use yaml_base::yaml_error_t;

@@ -1,4 +1,4 @@
-use super::*;
+use yaml_base::*;
 use std::alloc::{AllocError, Allocator};
 use std::test::Fail;
 

@@ -3,7 +3,7 @@ use Rattle.std.specs.List.{list_any}
 use Rattle.std.specs.Str.{chars}
 use Rattle.std.specs.String.{string_bytes}
 use Rattle.yaml_base.specs.Characters.{is_break}
-use Rattle.yaml_pen.proofs.tests.long_run.Given as goal
+use Rattle.yaml_rows.proofs.tests.pens.long_run.Given as goal
 
 abbrev pub invariant-cycles : goal.invariant-cycles
 invariant-cycles g l = list_any is_break (chars (string_bytes l.text)) ≡ false
