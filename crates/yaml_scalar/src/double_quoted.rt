@@ -235,6 +235,3 @@ fn write_inside<A: Allocator>(
     }
     go_on(pen)
 }
-
-#[cfg(test)]
-mod tests;

@@ -129,6 +129,3 @@ fn is_bare(tag_written: bool, quoted_implicit: bool, style: yaml_scalar_style_t)
 {
     !tag_written && !quoted_implicit && !matches!(style, YAML_PLAIN_SCALAR_STYLE)
 }
-
-#[cfg(test)]
-mod tests;

@@ -4,11 +4,13 @@ ghost use Rattle.yaml_pen.specs.Page.{IsReady};
 
 mod block;
 mod chosen;
+mod double_quoted;
 mod each_style;
 mod plain;
 mod short_block;
 mod short_quoted;
 mod single_quoted;
+mod styles;
 
 use std::alloc::Allocator;
 use yaml_base::{YAML_CR_BREAK, YAML_CRLN_BREAK, YAML_LN_BREAK, YAML_UTF8_ENCODING, yaml_error_t};

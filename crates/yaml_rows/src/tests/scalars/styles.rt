@@ -1,5 +1,5 @@
 //! Styles that are known from outside, from the value to the choice.
-use crate::{analyze_scalar, select_scalar_style};
+use yaml_scalar::{analyze_scalar, select_scalar_style};
 use std::test::Fail;
 use yaml_base::{
     YAML_ANY_SCALAR_STYLE, YAML_DOUBLE_QUOTED_SCALAR_STYLE, YAML_FOLDED_SCALAR_STYLE,

@@ -2,7 +2,7 @@
 ghost use Rattle.std.specs.Prelude.{IfOk};
 ghost use Rattle.yaml_pen.specs.Page.{IsReady};
 
-use crate::write_double_quoted_scalar;
+use yaml_scalar::write_double_quoted_scalar;
 use std::alloc::Allocator;
 use std::test::Fail;
 use yaml_base::{YAML_CRLN_BREAK, YAML_LN_BREAK, YAML_UTF8_ENCODING, yaml_error_t};
