@@ -23,7 +23,7 @@ pub walk_unfolds : {A E : Type 0} (graph : Graph) (answer : Result (Vec (yaml_ev
     → IfOk answer (λ events. seen_events events.items ≡ walk_events graph walk) → IfOk answer (λ events. EventsUnfold graph (map seen_event events.items))
 walk_unfolds graph (Ok events) walk is whole same =
     let events_are : map seen_event events.items ≡ document_event_list graph =
-        same ∙ ap (walk_events graph) whole ∙ sym (ap (λ (none : Bool). if none then [] else walk_events graph (steps graph)) is.has_nodes) in
+    same ∙ ap (walk_events graph) whole ∙ sym (ap (λ (none : Bool). if none then [] else walk_events graph (steps graph)) is.has_nodes) in
     subst (EventsUnfold graph) (sym events_are) (document_unfolds graph is)
 walk_unfolds graph (Err error) walk is whole same = tt
 

@@ -10,7 +10,8 @@ use yaml_base::{
 };
 use yaml_emitter::{
     yaml_emitter_emit, yaml_emitter_initialize, yaml_emitter_set_canonical,
-    yaml_emitter_set_encoding, yaml_emitter_set_output_string, yaml_emitter_set_width, yaml_emitter_t,
+    yaml_emitter_set_encoding, yaml_emitter_set_output_string, yaml_emitter_set_width,
+    yaml_emitter_t,
 };
 
 fn begun(alloc: Global) -> Result<yaml_emitter_t<Global>, yaml_error_t> {
@@ -167,7 +168,8 @@ fn canonical_text_has_every_tag_and_anchor(rt: HostRuntime) -> Result<(), Fail> 
 #[test]
 fn the_numbers_of_nodes_do_not_show(rt: HostRuntime) -> Result<(), Fail> {
     let alloc = rt.alloc();
-    let expected = "---\n!!seq [\n  &id002 !!seq [\n    &id001 !!str \"a\",\n    *id001,\n  ],\n  *id002,\n]\n";
+    let expected =
+        "---\n!!seq [\n  &id002 !!seq [\n    &id001 !!str \"a\",\n    *id001,\n  ],\n  *id002,\n]\n";
     let nodes = vec![in alloc;
         sequence(alloc, &[2, 2])?,
         sequence(alloc, &[3, 3])?,
