@@ -1,3 +1,7 @@
 //! The examples of `README.md` and `docs/CALLING.md`, with what each gives. They use no crate but the two that a caller
 //! lists, `yaml_dump` and `yaml_tool`.
 mod documents;
+mod events;
+mod parts;
+mod scripts;
+mod settings;
