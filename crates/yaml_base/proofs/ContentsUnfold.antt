@@ -60,24 +60,27 @@ mutual
   content_fits graph (alias_node name) (alias_placed told number) fits = fits
   content_fits graph (alias_node name) (node_placed anchor number below) fits = fits
   content_fits graph (scalar_node content) (alias_placed told number) fits = fits
-  content_fits graph (scalar_node content) (node_placed anchor number none_placed) fits =
-      ( fits.0
-      , scalar_label (node_numbered graph number) (record { tag = content.tag; kind = scalar_kind content.value (Some content.style) }) content.quoted_implicit fits.1
-      , fits.2
-      , fits.3)
+  content_fits graph (scalar_node content) (node_placed anchor number none_placed) fits = (
+    fits.0,
+    scalar_label (node_numbered graph number) (record { tag = content.tag; kind = scalar_kind content.value (Some content.style) }) content.quoted_implicit fits.1,
+    fits.2,
+    fits.3,
+  )
   content_fits graph (scalar_node content) (node_placed anchor number (placed_and before last)) fits = absurd fits.3
   content_fits graph (sequence_node start items) (alias_placed told number) fits = fits
-  content_fits graph (sequence_node start items) (node_placed anchor number below) fits =
-      ( fits.0
-      , labels_same (node_numbered graph number) (record { tag = start.tag; kind = sequence_kind (Some start.style) }) fits.1
-      , fits.2
-      , contents_fit graph items below fits.3)
+  content_fits graph (sequence_node start items) (node_placed anchor number below) fits = (
+    fits.0,
+    labels_same (node_numbered graph number) (record { tag = start.tag; kind = sequence_kind (Some start.style) }) fits.1,
+    fits.2,
+    contents_fit graph items below fits.3,
+  )
   content_fits graph (mapping_node start pairs) (alias_placed told number) fits = fits
-  content_fits graph (mapping_node start pairs) (node_placed anchor number below) fits =
-      ( fits.0
-      , labels_same (node_numbered graph number) (record { tag = start.tag; kind = mapping_kind (Some start.style) }) fits.1
-      , fits.2
-      , content_pairs_fit graph pairs below fits.3)
+  content_fits graph (mapping_node start pairs) (node_placed anchor number below) fits = (
+    fits.0,
+    labels_same (node_numbered graph number) (record { tag = start.tag; kind = mapping_kind (Some start.style) }) fits.1,
+    fits.2,
+    content_pairs_fit graph pairs below fits.3,
+  )
 
   contents_fit : (graph : Graph) (items : Nodes) (below : PlacedAll) → HaveShapes true graph below (nodes_shapes items) → HaveShapes false graph below (contents_shapes (nodes_content items))
   contents_fit graph no_nodes none_placed fit = fit
@@ -128,13 +131,14 @@ follow (graph ∷ graphs) before are =
           rest.events ∙ append_assoc (documents_events before) (document_events first.document) (flat_map document_event_list graphs)
           ∙ ap (λ (events : List Event). documents_events before ++ (events ++ flat_map document_event_list graphs)) first.is_document;
       content = rest.content ∙ append_assoc (documents_content before) (document_content first.document ∷ []) rest.contents;
-      unfolds =
-          ( record {
-              version = ap (λ start. start.version) first.start;
-              directives = ap (λ start. start.directives) first.start;
-              unfolds = content_unfolds graph first.document.root first.unfolds;
-            }
-          , rest.unfolds);
+      unfolds = (
+        record {
+          version = ap (λ start. start.version) first.start;
+          directives = ap (λ start. start.directives) first.start;
+          unfolds = content_unfolds graph first.document.root first.unfolds;
+        },
+        rest.unfolds,
+      );
     }
 
 -- the events of dumped graphs are a stream's, whose contents unfold them
@@ -150,7 +154,7 @@ dumped_stream graphs events dumped =
     let documents = follow graphs no_documents dumped.documents in
     let stream : Stream = record { encoding = dumped.encoding; documents = documents.all } in
     let is : stream_events stream ≡ events =
-        ap (λ (inside : List Event). stream_start dumped.encoding ∷ (inside ++ stream_end ∷ [])) documents.events ∙ dumped.parts in
+    ap (λ (inside : List Event). stream_start dumped.encoding ∷ (inside ++ stream_end ∷ [])) documents.events ∙ dumped.parts in
     record {
       stream = stream;
       is = is;

@@ -50,9 +50,10 @@ carried_by : (walk : List Step) (number : ℕ) (name : Text) → anchor_of walk 
 carried_by walk number name is other None none =
     sym (ne_eqb number other (λ same. let both : Some name ≡ None = sym is ∙ ap (anchor_of walk) same ∙ none in cc))
 carried_by walk number name is other (Some anchor) also =
-    same_from_decides (bytes_eq name anchor) (number == other)
-    ( λ equal. anchors_differ walk number other name is (also ∙ ap (λ (a : Text). Some a) (sym ((bytes_eq-Decides name anchor).0 equal)))
-    , λ same. (bytes_eq-Decides name anchor).1 (let both : Some name ≡ Some anchor = sym is ∙ ap (anchor_of walk) same ∙ also in cc))
+    same_from_decides (bytes_eq name anchor) (number == other) (
+      λ equal. anchors_differ walk number other name is (also ∙ ap (λ (a : Text). Some a) (sym ((bytes_eq-Decides name anchor).0 equal))),
+      λ same. (bytes_eq-Decides name anchor).1 (let both : Some name ≡ Some anchor = sym is ∙ ap (anchor_of walk) same ∙ also in cc),
+    )
     (Decides-eqb number other)
 
 -- a step meets this node again
@@ -127,20 +128,22 @@ all_named : (walk before rest : List Step) → FollowEntries before rest → ((n
     → AreNamed (filter_map (place_of (anchor_of walk)) walk) (filter_map (place_of (anchor_of walk)) before) (filter_map (place_of (anchor_of walk)) rest)
 all_named walk before [] follow names = tt
 all_named walk before (enters number ∷ rest) follow names =
-    let all = filter_map (place_of (anchor_of walk)) walk in
-    ( tt
-    , subst (λ (earlier : List Place). AreNamed all earlier (filter_map (place_of (anchor_of walk)) rest)) (place_more (anchor_of walk) before (enters number))
-    (all_named walk (before ++ enters number ∷ []) rest follow.1 names))
+    let all = filter_map (place_of (anchor_of walk)) walk in (
+      tt,
+      subst (λ (earlier : List Place). AreNamed all earlier (filter_map (place_of (anchor_of walk)) rest)) (place_more (anchor_of walk) before (enters number))
+          (all_named walk (before ++ enters number ∷ []) rest follow.1 names),
+    )
 all_named walk before (leaves number ∷ rest) follow names =
     let all = filter_map (place_of (anchor_of walk)) walk in
     subst (λ (earlier : List Place). AreNamed all earlier (filter_map (place_of (anchor_of walk)) rest)) (place_more (anchor_of walk) before (leaves number) ∙ append-nil (filter_map (place_of (anchor_of walk)) before))
     (all_named walk (before ++ leaves number ∷ []) rest follow.1 names)
 all_named walk before (meets_again number ∷ rest) follow names =
     let all = filter_map (place_of (anchor_of walk)) walk in
-    let has_name = names number (ap (λ (b : Bool). b || list_any (is_again number) rest) ((Decides-eqb number number).1 refl)) in
-    ( alias_named (anchor_of walk) before all number has_name.name has_name.is has_name.once follow.0
-    , subst (λ (earlier : List Place). AreNamed all earlier (filter_map (place_of (anchor_of walk)) rest)) (place_more (anchor_of walk) before (meets_again number))
-    (all_named walk (before ++ meets_again number ∷ []) rest follow.1 (λ other later. names other (ap (λ (b : Bool). number == other || b) later ∙ or-true (number == other)))))
+    let has_name = names number (ap (λ (b : Bool). b || list_any (is_again number) rest) ((Decides-eqb number number).1 refl)) in (
+      alias_named (anchor_of walk) before all number has_name.name has_name.is has_name.once follow.0,
+      subst (λ (earlier : List Place). AreNamed all earlier (filter_map (place_of (anchor_of walk)) rest)) (place_more (anchor_of walk) before (meets_again number))
+          (all_named walk (before ++ meets_again number ∷ []) rest follow.1 (λ other later. names other (ap (λ (b : Bool). number == other || b) later ∙ or-true (number == other)))),
+    )
 
 -- ---- nodes that are reached are entered, and no others
 
@@ -163,7 +166,7 @@ tree_unfolds graph walk made orderly =
     let named = anchor_of walk in
     let at : places made.placed ≡ filter_map (place_of named) walk = places_are named graph made.placed made.fits ∙ ap (filter_map (place_of named)) (sym made.adds) in
     let root : list_any (is_meeting_of 1) walk ≡ true =
-        ap (list_any (is_meeting_of 1)) made.adds ∙ subst (λ (n : ℕ). list_any (is_meeting_of n) (placed_steps made.placed) ≡ true) made.root (root_met made.placed) in
+    ap (list_any (is_meeting_of 1)) made.adds ∙ subst (λ (n : ℕ). list_any (is_meeting_of n) (placed_steps made.placed) ≡ true) made.root (root_met made.placed) in
     let counted = λ (number : ℕ). ap (count_by (is_place_of number)) at ∙ places_counted named (is_place_of number) number (λ other. refl) (λ name other. refl) walk ∙ orderly.once number in
     record {
       placed = made.placed;

@@ -123,10 +123,10 @@ kept graph before step orderly enters_none meets follows =
       once = λ number. once_more (is_entry_of number) before step (orderly.once number) (λ some. enters_none number);
       met = λ number some.
           let was : list_any (is_entry_of number) before ≡ true =
-              elim (or_cases (list_any (is_meeting_of number) before) (is_meeting_of number step) (sym (any_added (is_meeting_of number) before step) ∙ some)) as (λ _. list_any (is_entry_of number) before ≡ true) [
-                | inl earlier ↦ orderly.met number earlier
-                | inr now ↦ meets number now
-              ] in
+          elim (or_cases (list_any (is_meeting_of number) before) (is_meeting_of number step) (sym (any_added (is_meeting_of number) before step) ∙ some)) as (λ _. list_any (is_entry_of number) before ≡ true) [
+            | inl earlier ↦ orderly.met number earlier
+            | inr now ↦ meets number now
+          ] in
           still_any (is_entry_of number) before (step ∷ []) was;
       follow = follow_more [] before step orderly.follow follows;
       reached = λ number some. orderly.reached number (sym (none_added (is_entry_of number) before step (enters_none number)) ∙ some);

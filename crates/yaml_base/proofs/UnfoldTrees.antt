@@ -105,8 +105,8 @@ unentered_grown (suc count) walk more =
 now_entered : (walk : List Step) (number : ℕ) → list_any (is_entry_of number) walk ≡ false → suc (cond (list_any (is_entry_of number) (walk ++ enters number ∷ [])) 0 1) ≤ cond (list_any (is_entry_of number) walk) 0 1
 now_entered walk number none =
     let some : list_any (is_entry_of number) (walk ++ enters number ∷ []) ≡ true =
-        list_any-append (is_entry_of number) walk (enters number ∷ [])
-        ∙ ap (λ (b : Bool). list_any (is_entry_of number) walk || (b || false)) (eq-eqb number number refl) ∙ or-true (list_any (is_entry_of number) walk) in
+    list_any-append (is_entry_of number) walk (enters number ∷ [])
+    ∙ ap (λ (b : Bool). list_any (is_entry_of number) walk || (b || false)) (eq-eqb number number refl) ∙ or-true (list_any (is_entry_of number) walk) in
     omega (arith, ap {B = ℕ} (λ (b : Bool). cond b 0 1) some, ap {B = ℕ} (λ (b : Bool). cond b 0 1) none)
 
 -- an entry leaves one fewer
@@ -117,7 +117,7 @@ unentered_fewer (suc count) walk number names none =
     elim (cases_eq number (suc count)) as (λ _. suc (unentered (suc count) (walk ++ enters number ∷ [])) ≤ unentered (suc count) walk) [
       | inl same ↦
           let now : suc (cond (list_any (is_entry_of (suc count)) (walk ++ enters number ∷ [])) 0 1) ≤ cond (list_any (is_entry_of (suc count)) walk) 0 1 =
-              subst (λ (n : ℕ). suc (cond (list_any (is_entry_of n) (walk ++ enters number ∷ [])) 0 1) ≤ cond (list_any (is_entry_of n) walk) 0 1) same (now_entered walk number none) in
+          subst (λ (n : ℕ). suc (cond (list_any (is_entry_of n) (walk ++ enters number ∷ [])) 0 1) ≤ cond (list_any (is_entry_of n) walk) 0 1) same (now_entered walk number none) in
           omega (arith, unentered_grown count walk (enters number ∷ []), now)
       | inr apart ↦
           let one = no_more (list_any (is_entry_of (suc count)) walk) (list_any (is_entry_of (suc count)) (enters number ∷ [])) (list_any (is_entry_of (suc count)) (walk ++ enters number ∷ [])) (list_any-append (is_entry_of (suc count)) walk (enters number ∷ [])) in
@@ -150,11 +150,11 @@ all_walk named graph step room each [] before from earlier is fit names less =
 all_walk named graph step room each (number ∷ numbers) before from earlier is fit names less =
     let one = each from number less (first_names (length graph.nodes) number numbers names) in
     let now : step from number ≡ before ++ below_steps (placed_and earlier one.placed) =
-        one.adds ∙ ap (λ (steps : List Step). steps ++ placed_steps one.placed) is ∙ append_assoc before (below_steps earlier) (placed_steps one.placed) in
+    one.adds ∙ ap (λ (steps : List Step). steps ++ placed_steps one.placed) is ∙ append_assoc before (below_steps earlier) (placed_steps one.placed) in
     let grown : unentered (length graph.nodes) (step from number) ≤ unentered (length graph.nodes) from =
-        subst (λ (steps : List Step). unentered (length graph.nodes) steps ≤ unentered (length graph.nodes) from) (sym one.adds) (unentered_grown (length graph.nodes) from (placed_steps one.placed)) in
+    subst (λ (steps : List Step). unentered (length graph.nodes) steps ≤ unentered (length graph.nodes) from) (sym one.adds) (unentered_grown (length graph.nodes) from (placed_steps one.placed)) in
     let more = all_walk named graph step room each numbers before (step from number) (placed_and earlier one.placed) now (fit, one.fits)
-        (rest_names (length graph.nodes) number numbers names) (omega (arith, grown, less)) in
+    (rest_names (length graph.nodes) number numbers names) (omega (arith, grown, less)) in
     record {
       placed = more.placed;
       roots = more.roots ∙ append_assoc (numbers_at earlier) (number_at one.placed ∷ []) numbers ∙ ap (λ (n : ℕ). numbers_at earlier ++ n ∷ numbers) one.root;
@@ -182,7 +182,7 @@ walks named graph whole (suc depth) before number room names =
           let at = numbered graph number whole names in
           let fewer = unentered_fewer (length graph.nodes) before number names is in
           let below = all_walk named graph (steps_from depth graph) depth (λ from child less named_child. walks named graph whole depth from child less named_child) (children graph number)
-              (before ++ enters number ∷ []) (before ++ enters number ∷ []) none_placed (sym (append-nil (before ++ enters number ∷ []))) tt at.1 (omega (arith, fewer, room)) in
+          (before ++ enters number ∷ []) (before ++ enters number ∷ []) none_placed (sym (append-nil (before ++ enters number ∷ []))) tt at.1 (omega (arith, fewer, room)) in
           record {
             placed = node_placed (named number) number below.placed;
             root = refl;

@@ -3,7 +3,6 @@ ghost use Rattle.std.specs.List.{list_any};
 ghost use Rattle.yaml_base.specs.Characters as class;
 ghost use Rattle.yaml_pen.specs.Page.{IsReady};
 
-use yaml_mark::*;
 use linked_list_allocator::LocalHeap;
 use std::alloc::{AllocError, Allocator, Global};
 use std::test::Fail;
@@ -11,6 +10,7 @@ use yaml_base::{
     YAML_LN_BREAK, YAML_UTF8_ENCODING, is_break, yaml_error_t, yaml_tag_directive_t,
     yaml_version_directive_t,
 };
+use yaml_mark::*;
 use yaml_pen::Pen;
 
 fn directive<A: Allocator + Copy>(

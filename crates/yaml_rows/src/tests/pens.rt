@@ -6,7 +6,6 @@ ghost use Rattle.std.specs.String.{string_bytes};
 ghost use Rattle.yaml_base.specs.Characters.{is_break};
 ghost use Rattle.yaml_pen.specs.Page.{IsReady};
 
-use yaml_pen::Pen;
 use linked_list_allocator::LocalHeap;
 use std::alloc::{AllocError, Allocator};
 use std::test::Fail;
@@ -14,6 +13,7 @@ use yaml_base::{
     YAML_CRLN_BREAK, YAML_LN_BREAK, YAML_UTF8_ENCODING, YAML_UTF16BE_ENCODING,
     YAML_UTF16LE_ENCODING, yaml_encoding_t, yaml_error_t,
 };
+use yaml_pen::Pen;
 
 // A pen that is ready to write, its lines ended by LF.
 fn begun<A: Allocator + Copy>(

@@ -1,6 +1,6 @@
-use yaml_base::*;
 use std::alloc::{AllocError, Allocator};
 use std::test::Fail;
+use yaml_base::*;
 
 fn text<A: Allocator>(alloc: A, s: &str) -> Result<String<A>, AllocError> {
     String::from_str(alloc, s)

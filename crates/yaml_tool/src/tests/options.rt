@@ -19,7 +19,10 @@ fn arguments_are_understood(rt: HostRuntime) -> Result<(), Fail> {
         ),
         (["-o", "--help", "", ""], Task::Run(None, Some("--help"))),
         (["-o", "", "", ""], Task::NameOutput(None)),
-        (["a.script", "-o", "", ""], Task::NameOutput(Some("a.script"))),
+        (
+            ["a.script", "-o", "", ""],
+            Task::NameOutput(Some("a.script")),
+        ),
         (["--help", "", "", ""], Task::Help),
         (["a.script", "--version", "--unknown", ""], Task::Version),
         (["--unknown", "--help", "", ""], Task::Misuse),

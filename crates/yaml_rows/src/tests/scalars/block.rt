@@ -4,10 +4,12 @@ ghost use Rattle.std.specs.Str.{chars};
 ghost use Rattle.yaml_base.specs.Analysis.{is_empty};
 
 use super::{begun, begun_with_returns, begun_within};
-use yaml_scalar::{analyze_scalar, write_block_scalar_hints, write_folded_scalar, write_literal_scalar};
 use std::alloc::Allocator;
 use std::test::Fail;
 use yaml_base::yaml_error_t;
+use yaml_scalar::{
+    analyze_scalar, write_block_scalar_hints, write_folded_scalar, write_literal_scalar,
+};
 
 /// The block styles are allowed, so the value isn't empty.
 pub(super) fn is_allowed(value: &str) -> bool

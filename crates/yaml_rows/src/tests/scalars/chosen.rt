@@ -4,10 +4,6 @@ ghost use Rattle.yaml_pen.specs.Page.{IsReady};
 
 use super::begun;
 use super::block::is_allowed;
-use yaml_scalar::{
-    analyze_scalar, select_scalar_style, write_double_quoted_scalar, write_folded_scalar,
-    write_literal_scalar, write_plain_scalar, write_single_quoted_scalar,
-};
 use std::alloc::Allocator;
 use std::test::Fail;
 use yaml_base::{
@@ -16,6 +12,10 @@ use yaml_base::{
     yaml_error_t, yaml_scalar_style_t,
 };
 use yaml_pen::Pen;
+use yaml_scalar::{
+    analyze_scalar, select_scalar_style, write_double_quoted_scalar, write_folded_scalar,
+    write_literal_scalar, write_plain_scalar, write_single_quoted_scalar,
+};
 
 // Writes in one style; answers the open mark.
 fn write_in<A: Allocator>(

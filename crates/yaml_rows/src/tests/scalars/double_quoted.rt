@@ -2,11 +2,11 @@
 ghost use Rattle.std.specs.Prelude.{IfOk};
 ghost use Rattle.yaml_pen.specs.Page.{IsReady};
 
-use yaml_scalar::write_double_quoted_scalar;
 use std::alloc::Allocator;
 use std::test::Fail;
 use yaml_base::{YAML_CRLN_BREAK, YAML_LN_BREAK, YAML_UTF8_ENCODING, yaml_error_t};
 use yaml_pen::Pen;
+use yaml_scalar::write_double_quoted_scalar;
 
 const NO_WIDTH: i32 = i32::MAX;
 

@@ -1,12 +1,12 @@
 //! Short values in each style that they allow.
 use super::block::{folded, literal};
 use super::{begun, short_block, short_quoted};
-use yaml_scalar::{
-    analyze_scalar, write_double_quoted_scalar, write_plain_scalar, write_single_quoted_scalar,
-};
 use std::alloc::Allocator;
 use std::test::Fail;
 use yaml_base::yaml_error_t;
+use yaml_scalar::{
+    analyze_scalar, write_double_quoted_scalar, write_plain_scalar, write_single_quoted_scalar,
+};
 
 // What the signs of a table stand for.
 fn meant<A: Allocator>(alloc: A, signs: &str) -> Result<String<A>, yaml_error_t> {

@@ -1,9 +1,9 @@
 //! Plain scalars.
 use super::{begun, begun_within};
-use yaml_scalar::{analyze_scalar, write_plain_scalar};
 use std::alloc::Allocator;
 use std::test::Fail;
 use yaml_base::yaml_error_t;
+use yaml_scalar::{analyze_scalar, write_plain_scalar};
 
 // The text of a root.
 fn root<A: Allocator + Copy>(

@@ -1,11 +1,11 @@
 //! Styles that are known from outside, from the value to the choice.
-use yaml_scalar::{analyze_scalar, select_scalar_style};
 use std::test::Fail;
 use yaml_base::{
     YAML_ANY_SCALAR_STYLE, YAML_DOUBLE_QUOTED_SCALAR_STYLE, YAML_FOLDED_SCALAR_STYLE,
     YAML_LITERAL_SCALAR_STYLE, YAML_PLAIN_SCALAR_STYLE, YAML_SINGLE_QUOTED_SCALAR_STYLE,
     yaml_error_t,
 };
+use yaml_scalar::{analyze_scalar, select_scalar_style};
 
 #[test]
 fn values_are_analysed(rt: HostRuntime) -> Result<(), Fail> {
