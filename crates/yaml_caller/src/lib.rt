@@ -1,12 +1,15 @@
 //! A caller of the emitter: it knows the public contracts and the definitions, and proves the bytes that it gets.
 #![tactic(auto)]
 
+mod values;
+
 ghost use Rattle.std.specs.Prelude.{◌≡◌, IfOk, IfErr, OnOk, true, None, Some, [], codes};
 ghost use Rattle.yaml_base.specs.Seen.{seen_text};
 ghost use Rattle.yaml_emitter.specs.StandsAfter.{StandsAfter};
 ghost use Rattle.yaml_caller.specs.Letter.{letter_settings};
 
 use std::alloc::Allocator;
+pub use values::same_bytes;
 use yaml_base::{
     YAML_ANY_ENCODING, YAML_ANY_SCALAR_STYLE, YAML_DOCUMENT_END_EVENT, YAML_DOCUMENT_START_EVENT,
     YAML_SCALAR_EVENT, YAML_STREAM_END_EVENT, YAML_STREAM_START_EVENT, yaml_error_t,

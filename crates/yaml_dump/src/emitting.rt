@@ -14,8 +14,11 @@ use std::alloc::Allocator;
 use yaml_base::{yaml_error_t, yaml_event_t};
 use yaml_emitter::{yaml_emitter_emit, yaml_emitter_t};
 
-/// Emits events in order, up to the first call that answers an error.
-pub(crate) fn emit_each<A: Allocator + Copy>(
+/// Emits events in order, up to the first call that returns an error.
+///
+/// # Errors
+/// The error of that call; no event after it is given to the emitter.
+pub fn emit_each<A: Allocator + Copy>(
     emitter: &mut yaml_emitter_t<A>,
     events: Vec<yaml_event_t<A>, A>,
 ) -> Result<(), yaml_error_t>

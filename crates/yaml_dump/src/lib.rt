@@ -13,6 +13,7 @@ mod walk;
 
 pub use dumps::document_events;
 pub use dumps::yaml_emitter_dump;
+pub use emitting::emit_each;
 pub use streams::yaml_emitter_close;
 pub use streams::yaml_emitter_open;
 pub use yaml_emitter::Directives;

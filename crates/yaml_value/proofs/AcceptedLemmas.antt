@@ -1,0 +1,150 @@
+-- The events of a value that isn't nested too deep are an accepted list.
+use Rattle.std.proofs.Common.{◌≡◌, refl, sym, ap, ap₂, ◌∙◌, arith, subst, append_assoc}
+use Rattle.std.proofs.Math.Nat.{le-max_left, le-max_right}
+use Rattle.std.proofs.lemmas.List.Folds.{list_all-append}
+use Rattle.std.proofs.lemmas.List.Sums.{sum_by-append}
+use Rattle.std.specs.Prelude.{ℕ, zero, suc, ◌+◌, ◌-◌, ◌≤◌, Bool, true, false, cond, ◌&&◌, max, List, [], ◌∷◌, ◌++◌, count_by}
+use Rattle.std.specs.List.{list_all}
+use Rattle.yaml_base.specs.Event.{Event, stream_end, document_end, sequence_end, mapping_end}
+use Rattle.yaml_base.specs.Grammar.{node_events, nodes_events, pairs_events}
+use Rattle.yaml_base.specs.Refusal.{is_sound, IsAccepted, begins_collection, ends_collection, open_count, most_open}
+use Rattle.yaml_base.specs.TypedValues.{TypedValue, null_value, bool_value, int_value, text_value, list_value, map_value, TypedValues, no_values, values_and, TypedPairs, no_value_pairs, value_pairs_and, nesting, values_nesting, value_pairs_nesting, most_nested, value_node, value_nodes, value_pairs, value_stream, value_events}
+
+-- ---- each event is in order
+
+abbrev sound : List Event → Bool
+sound events = list_all (is_sound true) events
+
+joined : (a b : List Event) → sound a ≡ true → sound b ≡ true → sound (a ++ b) ≡ true
+joined a b first second = list_all-append (is_sound true) a b ∙ ap₂ (λ x y. x && y) first second
+
+mutual
+  node_sound : (value : TypedValue) → sound (node_events (value_node value)) ≡ true
+  node_sound null_value = refl
+  node_sound (bool_value b) = refl
+  node_sound (int_value n) = refl
+  node_sound (text_value text) = refl
+  node_sound (list_value items) = joined (nodes_events (value_nodes items)) (sequence_end ∷ []) (nodes_sound items) refl
+  node_sound (map_value pairs) = joined (pairs_events (value_pairs pairs)) (mapping_end ∷ []) (pairs_sound pairs) refl
+
+  nodes_sound : (items : TypedValues) → sound (nodes_events (value_nodes items)) ≡ true
+  nodes_sound no_values = refl
+  nodes_sound (values_and items item) = joined (nodes_events (value_nodes items)) (node_events (value_node item)) (nodes_sound items) (node_sound item)
+
+  pairs_sound : (pairs : TypedPairs) → sound (pairs_events (value_pairs pairs)) ≡ true
+  pairs_sound no_value_pairs = refl
+  pairs_sound (value_pairs_and pairs key value) =
+      joined (pairs_events (value_pairs pairs)) (node_events (value_node key) ++ node_events (value_node value)) (pairs_sound pairs)
+      (joined (node_events (value_node key)) (node_events (value_node value)) (node_sound key) (node_sound value))
+
+events_sound : (value : TypedValue) → sound (value_events value) ≡ true
+events_sound value =
+    joined (node_events (value_node value) ++ document_end true ∷ []) (stream_end ∷ [])
+    (joined (node_events (value_node value)) (document_end true ∷ []) (node_sound value) refl) refl
+
+-- ---- how many collections are open
+
+-- after an event that begins a collection or doesn't, and ends one or doesn't
+abbrev after_signs : (begins ends : Bool) → ℕ → ℕ
+after_signs true ends now = suc now
+after_signs false true zero = zero
+after_signs false true (suc now) = now
+after_signs false false now = now
+
+abbrev after_event : Event → ℕ → ℕ
+after_event event now = after_signs (begins_collection event) (ends_collection event) now
+
+-- with so many open before some events, no more than the most are open before and after each of them
+abbrev Stays : (most now : ℕ) → List Event → Type 0
+Stays most now [] = now ≤ most
+Stays most now (event ∷ events) = (now ≤ most) × Stays most (after_event event now) events
+
+mutual
+  node_stays : (value : TypedValue) (most now : ℕ) (rest : List Event) → now + nesting value ≤ most → Stays most now rest → Stays most now (node_events (value_node value) ++ rest)
+  node_stays null_value most now rest fits later = (omega (arith, fits), later)
+  node_stays (bool_value b) most now rest fits later = (omega (arith, fits), later)
+  node_stays (int_value n) most now rest fits later = (omega (arith, fits), later)
+  node_stays (text_value text) most now rest fits later = (omega (arith, fits), later)
+  node_stays (list_value items) most now rest fits later =
+      let first : now ≤ most = omega (arith, fits) in
+      let inside : suc now + values_nesting items ≤ most = omega (arith, fits) in
+      let second : suc now ≤ most = omega (arith, fits) in (
+        first,
+        subst (Stays most (suc now)) (sym (append_assoc (nodes_events (value_nodes items)) (sequence_end ∷ []) rest))
+            (nodes_stay items most (suc now) (sequence_end ∷ rest) inside (second, later)),
+      )
+  node_stays (map_value pairs) most now rest fits later =
+      let first : now ≤ most = omega (arith, fits) in
+      let inside : suc now + value_pairs_nesting pairs ≤ most = omega (arith, fits) in
+      let second : suc now ≤ most = omega (arith, fits) in (
+        first,
+        subst (Stays most (suc now)) (sym (append_assoc (pairs_events (value_pairs pairs)) (mapping_end ∷ []) rest))
+            (pairs_stay pairs most (suc now) (mapping_end ∷ rest) inside (second, later)),
+      )
+
+  nodes_stay : (items : TypedValues) (most now : ℕ) (rest : List Event) → now + values_nesting items ≤ most → Stays most now rest → Stays most now (nodes_events (value_nodes items) ++ rest)
+  nodes_stay no_values most now rest fits later = later
+  nodes_stay (values_and items item) most now rest fits later =
+      let left = le-max_left (values_nesting items) (nesting item) in
+      let right = le-max_right (values_nesting items) (nesting item) in
+      subst (Stays most now) (sym (append_assoc (nodes_events (value_nodes items)) (node_events (value_node item)) rest))
+      (nodes_stay items most now (node_events (value_node item) ++ rest) (omega (arith, fits, left))
+      (node_stays item most now rest (omega (arith, fits, right)) later))
+
+  pairs_stay : (pairs : TypedPairs) (most now : ℕ) (rest : List Event) → now + value_pairs_nesting pairs ≤ most → Stays most now rest → Stays most now (pairs_events (value_pairs pairs) ++ rest)
+  pairs_stay no_value_pairs most now rest fits later = later
+  pairs_stay (value_pairs_and pairs key value) most now rest fits later =
+      let both = max (nesting key) (nesting value) in
+      let left = le-max_left (value_pairs_nesting pairs) both in
+      let right = le-max_right (value_pairs_nesting pairs) both in
+      let of_key = le-max_left (nesting key) (nesting value) in
+      let of_value = le-max_right (nesting key) (nesting value) in
+      subst (Stays most now)
+      (sym (append_assoc (pairs_events (value_pairs pairs)) (node_events (value_node key) ++ node_events (value_node value)) rest
+      ∙ ap (λ after. pairs_events (value_pairs pairs) ++ after) (append_assoc (node_events (value_node key)) (node_events (value_node value)) rest)))
+      (pairs_stay pairs most now (node_events (value_node key) ++ (node_events (value_node value) ++ rest)) (omega (arith, fits, left))
+      (node_stays key most now (node_events (value_node value) ++ rest) (omega (arith, fits, right, of_key))
+      (node_stays value most now rest (omega (arith, fits, right, of_value)) later)))
+
+stays_now : (most now : ℕ) (events : List Event) → Stays most now events → now ≤ most
+stays_now most now [] h = h
+stays_now most now (event ∷ events) h = h.0
+
+one_more : (begins ends : Bool) (now others_begin others_end most : ℕ) → (after_signs begins ends now + others_begin) - others_end ≤ most
+    → (now + (cond begins 1 0 + others_begin)) - (cond ends 1 0 + others_end) ≤ most
+one_more true true now b e most h = omega (arith, h)
+one_more true false now b e most h = omega (arith, h)
+one_more false true zero b e most h = omega (arith, h)
+one_more false true (suc now) b e most h = omega (arith, h)
+one_more false false now b e most h = omega (arith, h)
+
+front_stays : (most now : ℕ) (front rest : List Event) → Stays most now (front ++ rest) → (now + count_by begins_collection front) - count_by ends_collection front ≤ most
+front_stays most now [] rest h = let few = stays_now most now rest h in omega (arith, few)
+front_stays most now (event ∷ front) rest h =
+    let begun : count_by begins_collection (event ∷ front) ≡ (0 + cond (begins_collection event) 1 0) + count_by begins_collection front =
+    sum_by-append (λ x. cond (begins_collection x) 1 0) (event ∷ []) front in
+    let ended : count_by ends_collection (event ∷ front) ≡ (0 + cond (ends_collection event) 1 0) + count_by ends_collection front =
+    sum_by-append (λ x. cond (ends_collection x) 1 0) (event ∷ []) front in
+    let more = one_more (begins_collection event) (ends_collection event) now (count_by begins_collection front) (count_by ends_collection front) most (front_stays most (after_event event now) front rest h.1) in
+    omega (arith, begun, ended, more)
+
+events_stay : (value : TypedValue) → nesting value ≤ most_nested → Stays most_nested 0 (value_events value)
+events_stay value fits =
+    let few : 0 ≤ most_nested = omega arith in
+    let fits_whole : 0 + nesting value ≤ most_nested = omega (arith, fits) in (
+      few,
+      (
+        few,
+        subst (Stays most_nested 0) (sym (append_assoc (node_events (value_node value)) (document_end true ∷ []) (stream_end ∷ [])))
+            (node_stays value most_nested 0 (document_end true ∷ stream_end ∷ []) fits_whole (few, (few, few))),
+      ),
+    )
+
+shallow : (value : TypedValue) → nesting value ≤ most_nested → (front rest : List Event) → front ++ rest ≡ value_events value → open_count front ≤ most_open
+shallow value fits front rest is =
+    let stays = front_stays most_nested 0 front rest (subst (Stays most_nested 0) (sym is) (events_stay value fits)) in
+    omega (arith, stays)
+
+pub value_accepted : (value : TypedValue) → nesting value ≤ most_nested → IsAccepted true (value_events value)
+value_accepted value fits =
+    record { stream = value_stream value; is_stream = refl; sound = events_sound value; shallow = shallow value fits }

@@ -1,0 +1,218 @@
+//! The events of a value.
+ghost use Rattle.std.specs.Prelude.{◌≡◌, ◌<◌, ◌^◌, ◌++◌, ◌∷◌, [], None, Some, IfOk, IfErr, OnOk};
+ghost use Rattle.std.specs.Int.Signed.{mag};
+ghost use Rattle.std.specs.Str.{chars};
+ghost use Rattle.yaml_base.specs.Event as seen;
+ghost use Rattle.yaml_base.specs.Grammar.{node_events, pairs_events};
+ghost use Rattle.yaml_base.specs.Meetings.{mapping_tag, sequence_tag};
+ghost use Rattle.yaml_base.specs.Seen.{seen_events, seen_text};
+ghost use Rattle.yaml_base.specs.TypedValues as typed;
+ghost use Rattle.yaml_base.specs.TypedValues.{Has64Bits, Have64Bits, PairsHave64Bits, tagged_node, value_node, value_pairs};
+ghost use Rattle.yaml_value.specs.SeenValues.{seen_value, seen_values, seen_pairs};
+
+use crate::value::Value;
+use std::alloc::{AllocError, Allocator};
+use yaml_base::{
+    YAML_ANY_ENCODING, YAML_ANY_MAPPING_STYLE, YAML_ANY_SCALAR_STYLE, YAML_ANY_SEQUENCE_STYLE,
+    YAML_DOCUMENT_END_EVENT, YAML_DOCUMENT_START_EVENT, YAML_MAPPING_END_EVENT,
+    YAML_MAPPING_START_EVENT, YAML_SCALAR_EVENT, YAML_SEQUENCE_END_EVENT,
+    YAML_SEQUENCE_START_EVENT, YAML_STREAM_END_EVENT, YAML_STREAM_START_EVENT, yaml_error_t,
+    yaml_event_t,
+};
+
+/// The events of a stream of one document that holds the value.
+pub(crate) fn events_of<A: Allocator + Copy>(
+    alloc: A,
+    value: &Value<A>,
+) -> Result<Vec<yaml_event_t<A>, A>, yaml_error_t>
+    ensures events { IfOk result (λ events. seen_events events.items ≡ typed.value_events (seen_value value.now)) }
+    ensures bits { OnOk result (Has64Bits (seen_value value.now)) }
+    ensures memory { IfErr result (λ error. error ≡ yaml_error_t.Memory) }
+{
+    built(alloc, value).map_err(|_| yaml_error_t::Memory)
+}
+
+fn built<A: Allocator + Copy>(
+    alloc: A,
+    value: &Value<A>,
+) -> Result<Vec<yaml_event_t<A>, A>, AllocError>
+    ensures events { IfOk result (λ events. seen_events events.items ≡ typed.value_events (seen_value value.now)) }
+    ensures bits { OnOk result (Has64Bits (seen_value value.now)) }
+{
+    let mut events = Vec::new(alloc);
+    events.push(YAML_STREAM_START_EVENT {
+        encoding: YAML_ANY_ENCODING,
+    })?;
+    events.push(YAML_DOCUMENT_START_EVENT {
+        version_directive: None,
+        tag_directives: Vec::new(alloc),
+        implicit: true,
+    })?;
+    push_value(alloc, &mut events, value)?;
+    events.push(YAML_DOCUMENT_END_EVENT { implicit: true })?;
+    events.push(YAML_STREAM_END_EVENT)?;
+    Ok(events)
+}
+
+/// The events of a value, after others.
+#[cycle(push_value)]
+fn push_value<A: Allocator + Copy>(
+    alloc: A,
+    events: &mut Vec<yaml_event_t<A>, A>,
+    value: &Value<A>,
+) -> Result<(), AllocError>
+    ensures pushed { OnOk result (seen_events events.new.items ≡ seen_events events.old.items ++ node_events (value_node (seen_value value.now))) }
+    ensures bits { OnOk result (Has64Bits (seen_value value.now)) }
+{
+    match value {
+        Value::Null => push_null(alloc, events),
+        Value::Bool(value) => push_bool(alloc, events, *value),
+        Value::Int(value) => push_integer(alloc, events, *value),
+        Value::Text(text) => push_text(alloc, events, text.as_str()),
+        Value::List(items) => push_list(alloc, events, items),
+        Value::Map(pairs) => push_map(alloc, events, pairs),
+    }
+}
+
+#[cycle(push_value)]
+fn push_list<A: Allocator + Copy>(
+    alloc: A,
+    events: &mut Vec<yaml_event_t<A>, A>,
+    items: &Vec<Value<A>, A>,
+) -> Result<(), AllocError>
+    ensures pushed { OnOk result (seen_events events.new.items ≡ seen_events events.old.items ++ node_events (value_node (typed.list_value (seen_values items.now.items)))) }
+    ensures bits { OnOk result (Have64Bits (seen_values items.now.items)) }
+{
+    push_list_start(alloc, events)?;
+    for item in items {
+        push_value(alloc, events, item)?;
+    }
+    events.push(YAML_SEQUENCE_END_EVENT)?;
+    Ok(())
+}
+
+#[cycle(push_value)]
+fn push_map<A: Allocator + Copy>(
+    alloc: A,
+    events: &mut Vec<yaml_event_t<A>, A>,
+    pairs: &Vec<(Value<A>, Value<A>), A>,
+) -> Result<(), AllocError>
+    ensures pushed { OnOk result (seen_events events.new.items ≡ seen_events events.old.items ++ node_events (value_node (typed.map_value (seen_pairs pairs.now.items)))) }
+    ensures bits { OnOk result (PairsHave64Bits (seen_pairs pairs.now.items)) }
+{
+    push_map_start(alloc, events)?;
+    push_pairs(alloc, events, pairs)?;
+    events.push(YAML_MAPPING_END_EVENT)?;
+    Ok(())
+}
+
+#[cycle(push_value)]
+fn push_pairs<A: Allocator + Copy>(
+    alloc: A,
+    events: &mut Vec<yaml_event_t<A>, A>,
+    pairs: &Vec<(Value<A>, Value<A>), A>,
+) -> Result<(), AllocError>
+    ensures pushed { OnOk result (seen_events events.new.items ≡ seen_events events.old.items ++ pairs_events (value_pairs (seen_pairs pairs.now.items))) }
+    ensures bits { OnOk result (PairsHave64Bits (seen_pairs pairs.now.items)) }
+{
+    for (key, value) in pairs {
+        push_value(alloc, events, key)?;
+        push_value(alloc, events, value)?;
+    }
+    Ok(())
+}
+
+fn push_list_start<A: Allocator + Copy>(
+    alloc: A,
+    events: &mut Vec<yaml_event_t<A>, A>,
+) -> Result<(), AllocError>
+    ensures { OnOk result (seen_events events.new.items ≡ seen_events events.old.items ++ seen.sequence_start (typed.tagged_collection sequence_tag) ∷ []) }
+{
+    events.push(YAML_SEQUENCE_START_EVENT {
+        anchor: None,
+        tag: Some(String::from_str(alloc, "tag:yaml.org,2002:seq")?),
+        implicit: false,
+        style: YAML_ANY_SEQUENCE_STYLE,
+    })?;
+    Ok(())
+}
+
+fn push_map_start<A: Allocator + Copy>(
+    alloc: A,
+    events: &mut Vec<yaml_event_t<A>, A>,
+) -> Result<(), AllocError>
+    ensures { OnOk result (seen_events events.new.items ≡ seen_events events.old.items ++ seen.mapping_start (typed.tagged_collection mapping_tag) ∷ []) }
+{
+    events.push(YAML_MAPPING_START_EVENT {
+        anchor: None,
+        tag: Some(String::from_str(alloc, "tag:yaml.org,2002:map")?),
+        implicit: false,
+        style: YAML_ANY_MAPPING_STYLE,
+    })?;
+    Ok(())
+}
+
+fn push_null<A: Allocator + Copy>(
+    alloc: A,
+    events: &mut Vec<yaml_event_t<A>, A>,
+) -> Result<(), AllocError>
+    ensures { OnOk result (seen_events events.new.items ≡ seen_events events.old.items ++ node_events (value_node typed.null_value)) }
+{
+    push_scalar(alloc, events, "tag:yaml.org,2002:null", "null")
+}
+
+fn push_bool<A: Allocator + Copy>(
+    alloc: A,
+    events: &mut Vec<yaml_event_t<A>, A>,
+    value: bool,
+) -> Result<(), AllocError>
+    ensures { OnOk result (seen_events events.new.items ≡ seen_events events.old.items ++ node_events (value_node (typed.bool_value value))) }
+{
+    if value {
+        push_scalar(alloc, events, "tag:yaml.org,2002:bool", "true")
+    } else {
+        push_scalar(alloc, events, "tag:yaml.org,2002:bool", "false")
+    }
+}
+
+fn push_integer<A: Allocator + Copy>(
+    alloc: A,
+    events: &mut Vec<yaml_event_t<A>, A>,
+    value: i64,
+) -> Result<(), AllocError>
+    ensures pushed { OnOk result (seen_events events.new.items ≡ seen_events events.old.items ++ node_events (value_node (typed.int_value value))) }
+    ensures bits { mag value < 2 ^ 63 }
+{
+    let digits = format!(in alloc; "{value}")?;
+    push_scalar(alloc, events, "tag:yaml.org,2002:int", digits.as_str())
+}
+
+fn push_text<A: Allocator + Copy>(
+    alloc: A,
+    events: &mut Vec<yaml_event_t<A>, A>,
+    value: &str,
+) -> Result<(), AllocError>
+    ensures { OnOk result (seen_events events.new.items ≡ seen_events events.old.items ++ node_events (value_node (typed.text_value (chars value.now)))) }
+{
+    push_scalar(alloc, events, "tag:yaml.org,2002:str", value)
+}
+
+/// A scalar with a tag, after others.
+fn push_scalar<A: Allocator + Copy>(
+    alloc: A,
+    events: &mut Vec<yaml_event_t<A>, A>,
+    tag: &str,
+    value: &str,
+) -> Result<(), AllocError>
+    ensures { OnOk result (seen_events events.new.items ≡ seen_events events.old.items ++ node_events (tagged_node (chars tag.now) (chars value.now))) }
+{
+    events.push(YAML_SCALAR_EVENT {
+        anchor: None,
+        tag: Some(String::from_str(alloc, tag)?),
+        value: String::from_str(alloc, value)?,
+        plain_implicit: false,
+        quoted_implicit: false,
+        style: YAML_ANY_SCALAR_STYLE,
+    })?;
+    Ok(())
+}

@@ -1,0 +1,14 @@
+//! Typed values, written as canonical YAML.
+#![tactic(auto)]
+
+mod events;
+mod laws;
+mod size;
+#[cfg(test)]
+mod tests;
+mod value;
+mod writing;
+
+pub use laws::equal_bytes_equal_values;
+pub use value::Value;
+pub use writing::write_canonical;

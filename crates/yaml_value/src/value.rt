@@ -1,0 +1,34 @@
+//! Values of YAML's common types.
+
+ghost use Rattle.std.specs.Prelude.{◌≡◌, min};
+ghost use Rattle.yaml_base.specs.TypedValues.{value_count};
+ghost use Rattle.yaml_value.specs.SeenValues.{seen_value};
+
+use crate::size::count_values;
+use std::alloc::Allocator;
+
+/// A value of one of YAML's common types.
+#[derive(Drop)]
+pub enum Value<A: Allocator> {
+    /// Nothing.
+    Null,
+    /// A truth value.
+    Bool(bool),
+    /// An integer of 64 bits.
+    Int(i64),
+    /// Characters.
+    Text(String<A>),
+    /// Values in order.
+    List(Vec<Value<A>, A>),
+    /// Pairs of a key and its value in order; equal keys may stand more than once.
+    Map(Vec<(Value<A>, Value<A>), A>),
+}
+
+impl<A: Allocator> Value<A> {
+    /// The number of values in this one, itself included; `u64::MAX` where there are more.
+    pub fn count(&self) -> u64
+        ensures { result ≡ min (value_count (seen_value self.now)) 18446744073709551615 }
+    {
+        count_values(self)
+    }
+}
