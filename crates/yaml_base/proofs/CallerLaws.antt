@@ -84,7 +84,7 @@ body_other folded s e limit width indent value cursor = refl
 abbrev lead_after : Effective → List TagDirective → Place → Choice → Scalar → Laid → Laid
 lead_after s directives place choice content placed =
     then_laid
-    (then_laid placed (properties_laid directives content.anchor (scalar_tag s.canonical content) choice.bare))
+    (then_laid placed (properties_laid s.portable directives content.anchor (scalar_tag s.canonical content) choice.bare))
     (separation_laid choice.style place.in_flow content.value)
 
 abbrev scalar_made : Place → Choice → Scalar → ℕ → (lead body : Laid) → PieceLaid
@@ -118,7 +118,7 @@ start_other : (s : Effective) (e : Encoding) (limit : ℕ) (directives : List Ta
 start_other s e limit directives frames undented simple empty role start standing =
     let place = next_place frames in
     ap (λ (placed : Laid).
-    let laid : PieceLaid = lead_alone standing.mark (then_laid placed (properties_laid directives start.anchor (collection_tag s.canonical start) false)) in
+    let laid : PieceLaid = lead_alone standing.mark (then_laid placed (properties_laid s.portable directives start.anchor (collection_tag s.canonical start) false)) in
     let made : Stepped = record {
       laid = laid;
       stage = at_node directives (frame_opened s place (is_written_in_flow s place start empty) undented simple role laid ∷ frames);

@@ -40,6 +40,7 @@ pub mod RowsStreamDocuments
 pub mod RowsStreamRefused
 pub mod RowsTidy
 pub mod RowsStreamLaw
+pub mod RowsPortable
 pub mod UnfoldSteps
 pub mod UnfoldTrees
 pub mod UnfoldEvents

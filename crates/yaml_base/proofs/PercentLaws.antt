@@ -3,14 +3,14 @@ use Rattle.std.proofs.Common.{◌≡◌, ℕ, ◌+◌, ◌*◌, ◌/◌, ◌%◌
 use Rattle.std.proofs.lemmas.Bool.{agree_below_at, eqb-true, ltb-true, ltb-false, lt-ltb, le-ltb, and_parts, and_from, cases_Bool}
 use Rattle.std.proofs.lemmas.Bool.Decides.{nat_tests}
 use Rattle.std.proofs.lemmas.Str.{chars-encodes, is_utf8-from_IsUtf8, length-encode, len_utf8_bounds}
-use Rattle.std.specs.Prelude.{◌==◌, nat_lt, codes, length}
+use Rattle.std.specs.Prelude.{◌==◌, not, nat_lt, codes, length}
 use Rattle.std.specs.Char.{len_utf8}
 use Rattle.std.specs.List.{flat_map, list_all, list_any}
 use Rattle.std.specs.Str.{chars, is_utf8}
 use lib.Utf8.{scalar, scalars, encode, encodes, scalar_cases}
 use Rattle.std.proofs.lemmas.List.Folds.{list_all-append}
 use Rattle.yaml_base.specs.Characters.{Text, hex_digit, hex_digits, is_blank, is_break, is_among, is_alpha}
-use Rattle.yaml_base.specs.Percent.{percent_sign, is_tag_character, byte_escaped, character_escaped, percent_escaped, byte_read, bytes_read_after, percent_decoded}
+use Rattle.yaml_base.specs.Percent.{percent_sign, is_tag_character, byte_escaped, character_written, percent_escaped, is_suffix_character, suffix_escaped, prefix_escaped, byte_read, bytes_read_after, percent_decoded}
 
 abbrev pub are_bytes : List ℕ → Bool
 are_bytes bs = list_all (λ b. nat_lt b 256) bs
@@ -40,26 +40,63 @@ scalar_below c e = ⊎_elim (λ h. omega arith) (λ h. omega arith) (scalar_case
 tag_character_is_no_percent : (c : ℕ) → is_tag_character c ≡ true → (c == percent_sign) ≡ false
 tag_character_is_no_percent c h = grind (arith, nat_tests)
 
-character_read_by : (kept : Bool) (c : ℕ) (rest : Text) → is_tag_character c ≡ kept → scalar c ≡ true → bytes_read_after 0 (cond kept (c ∷ []) (flat_map byte_escaped (encode c)) ++ rest) ≡ encode c ++ bytes_read_after 0 rest
-character_read_by true c rest k h = rw (tag_character_is_no_percent c k) refl
-character_read_by false c rest k h = forms_read (encode c) rest (encode_is_bytes c (scalar_below c h))
+-- a character that stands as itself only where it is no `%` reads as its bytes
+character_read : (stands : Bool) (c : ℕ) (rest : Text) → (stands ≡ true → (c == percent_sign) ≡ false) → scalar c ≡ true → bytes_read_after 0 (character_written stands c ++ rest) ≡ encode c ++ bytes_read_after 0 rest
+character_read true c rest k h = rw (k refl) refl
+character_read false c rest k h = forms_read (encode c) rest (encode_is_bytes c (scalar_below c h))
 
--- a written character reads as its bytes
-character_read : (c : ℕ) (rest : Text) → scalar c ≡ true → bytes_read_after 0 (character_escaped c ++ rest) ≡ encode c ++ bytes_read_after 0 rest
-character_read c rest h = character_read_by (is_tag_character c) c rest refl h
+-- so does a text, whichever of its characters stand as themselves
+text_read_by : (stands : ℕ → Bool) → ((c : ℕ) → stands c ≡ true → (c == percent_sign) ≡ false) → (text : Text) → scalars text ≡ true
+    → bytes_read_after 0 (flat_map (λ c. character_written (stands c) c) text) ≡ encodes text
+text_read_by stands k [] h = refl
+text_read_by stands k (c ∷ text) h =
+    let both = and_parts (scalar c) (scalars text) h in
+    character_read (stands c) c (flat_map (λ d. character_written (stands d) d) text) (k c) both.0
+    ∙ ap (λ x. encode c ++ x) (text_read_by stands k text both.1)
 
 -- a written text reads as its bytes
 pub text_read : (text : Text) → scalars text ≡ true → bytes_read_after 0 (percent_escaped text) ≡ encodes text
-text_read [] h = refl
-text_read (c ∷ text) h =
+text_read text h = text_read_by is_tag_character tag_character_is_no_percent text h
+
+-- what stands after a handle is among what stands in tags
+suffix_in_tags : (portable : Bool) (c : ℕ) → is_suffix_character portable c ≡ true → is_tag_character c ≡ true
+suffix_in_tags portable c h = (and_parts (not (portable && is_among (codes ",[]") c)) (is_tag_character c) h).1
+
+-- a text reads as its bytes after a handle
+suffix_read : (portable : Bool) (text : Text) → scalars text ≡ true → bytes_read_after 0 (suffix_escaped portable text) ≡ encodes text
+suffix_read portable text h =
+    text_read_by (is_suffix_character portable) (λ c k. tag_character_is_no_percent c (suffix_in_tags portable c k)) text h
+
+-- what stands first in a prefix is no `%`
+first_is_no_percent : (portable : Bool) (c : ℕ) → ((portable && c == 0x21) || is_tag_character c) ≡ true → (c == percent_sign) ≡ false
+first_is_no_percent true c h = grind (arith, nat_tests)
+first_is_no_percent false c h = tag_character_is_no_percent c h
+
+-- a prefix reads as its bytes
+prefix_read : (portable : Bool) (text : Text) → scalars text ≡ true → bytes_read_after 0 (prefix_escaped portable text) ≡ encodes text
+prefix_read portable [] h = refl
+prefix_read portable (c ∷ text) h =
     let both = and_parts (scalar c) (scalars text) h in
-    character_read c (percent_escaped text) both.0 ∙ ap (λ x. encode c ++ x) (text_read text both.1)
+    character_read ((portable && c == 0x21) || is_tag_character c) c (percent_escaped text) (first_is_no_percent portable c) both.0
+    ∙ ap (λ x. encode c ++ x) (text_read text both.1)
+
+-- what reads as the bytes of a text is decoded as the text
+decoded_by : (text written : Text) → scalars text ≡ true → bytes_read_after 0 written ≡ encodes text → percent_decoded written ≡ Some text
+decoded_by text written h e =
+    let whole : is_utf8 (encodes text) ≡ true = is_utf8-from_IsUtf8 _ (text, (h, refl)) in
+    rw (e, whole, chars-encodes text h) refl
 
 -- decoding undoes escaping
 pub decoded_escaped : (text : Text) → scalars text ≡ true → percent_decoded (percent_escaped text) ≡ Some text
-decoded_escaped text h =
-    let whole : is_utf8 (encodes text) ≡ true = is_utf8-from_IsUtf8 _ (text, (h, refl)) in
-    rw (text_read text h, whole, chars-encodes text h) refl
+decoded_escaped text h = decoded_by text (percent_escaped text) h (text_read text h)
+
+-- it does so after a handle
+pub decoded_suffix : (portable : Bool) (text : Text) → scalars text ≡ true → percent_decoded (suffix_escaped portable text) ≡ Some text
+decoded_suffix portable text h = decoded_by text (suffix_escaped portable text) h (suffix_read portable text h)
+
+-- and in a prefix
+pub decoded_prefix : (portable : Bool) (text : Text) → scalars text ≡ true → percent_decoded (prefix_escaped portable text) ≡ Some text
+decoded_prefix portable text h = decoded_by text (prefix_escaped portable text) h (prefix_read portable text h)
 
 -- Each character of a written text may stand in a tag, or is of a percent form: no space, no break, no `!`, no `<` and no `>`.
 abbrev pub stands_written : ℕ → Bool
@@ -72,16 +109,25 @@ forms_stand : (bs : List ℕ) → list_all stands_written (flat_map byte_escaped
 forms_stand [] = refl
 forms_stand (b ∷ bs) = rw (digit_stands (b / 16), digit_stands b, forms_stand bs) refl
 
-character_stands_by : (kept : Bool) (c : ℕ) → is_tag_character c ≡ kept → list_all stands_written (cond kept (c ∷ []) (flat_map byte_escaped (encode c))) ≡ true
-character_stands_by true c k = rw k refl
-character_stands_by false c k = forms_stand (encode c)
+character_stands : (kept : Bool) (c : ℕ) → (kept ≡ true → is_tag_character c ≡ true) → list_all stands_written (character_written kept c) ≡ true
+character_stands true c k = rw (k refl) refl
+character_stands false c k = forms_stand (encode c)
+
+-- each character of a text that is written by a test on tags' characters may stand there
+text_stands : (kept : ℕ → Bool) → ((c : ℕ) → kept c ≡ true → is_tag_character c ≡ true) → (text : Text)
+    → list_all stands_written (flat_map (λ c. character_written (kept c) c) text) ≡ true
+text_stands kept k [] = refl
+text_stands kept k (c ∷ text) =
+    list_all-append stands_written (character_written (kept c) c) (flat_map (λ d. character_written (kept d) d) text)
+    ∙ and_from _ _ (character_stands (kept c) c (k c)) (text_stands kept k text)
 
 -- each character of a written text may stand there
 pub escaped_stands : (text : Text) → list_all stands_written (percent_escaped text) ≡ true
-escaped_stands [] = refl
-escaped_stands (c ∷ text) =
-    list_all-append stands_written (character_escaped c) (percent_escaped text)
-    ∙ and_from _ _ (character_stands_by (is_tag_character c) c refl) (escaped_stands text)
+escaped_stands text = text_stands is_tag_character (λ c h. h) text
+
+-- so does each after a handle
+pub suffix_stands : (portable : Bool) (text : Text) → list_all stands_written (suffix_escaped portable text) ≡ true
+suffix_stands portable text = text_stands (is_suffix_character portable) (suffix_in_tags portable) text
 
 -- no such character is a space, a break, `!`, `<` or `>`
 abbrev pub separates : ℕ → Bool
@@ -107,3 +153,11 @@ escaped_begins_by false c (b ∷ bs) rest e = (percent_sign, _, refl)
 
 pub escaped_begins : (c : ℕ) (text : Text) → (d : ℕ) × (more : Text) × (percent_escaped (c ∷ text) ≡ d ∷ more)
 escaped_begins c text = escaped_begins_by (is_tag_character c) c (encode c) (percent_escaped text) (length-encode c)
+
+pub suffix_begins : (portable : Bool) (c : ℕ) (text : Text) → (d : ℕ) × (more : Text) × (suffix_escaped portable (c ∷ text) ≡ d ∷ more)
+suffix_begins portable c text =
+    escaped_begins_by (is_suffix_character portable c) c (encode c) (suffix_escaped portable text) (length-encode c)
+
+pub prefix_begins : (portable : Bool) (c : ℕ) (text : Text) → (d : ℕ) × (more : Text) × (prefix_escaped portable (c ∷ text) ≡ d ∷ more)
+prefix_begins portable c text =
+    escaped_begins_by ((portable && c == 0x21) || is_tag_character c) c (encode c) (percent_escaped text) (length-encode c)

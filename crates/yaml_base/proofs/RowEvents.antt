@@ -17,6 +17,7 @@ plain_settings =
       width = None;
       line_break = None;
       breaks12 = false;
+      portable = false;
       limit = 1000000000;
     }
 

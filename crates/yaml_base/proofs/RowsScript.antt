@@ -18,8 +18,8 @@ unfolding chars is_utf8 encode_utf8
 a_whole_script = refl
 
 -- every setting; comments and empty lines are skipped and counted, zeros in front change nothing
-every_setting : script_of (codes "limit 007\n# c \"x\nencoding utf16be\n\ncanonical on\nunicode on\nindent -007\nwidth 2147483647\nbreak crln\nbreaks12 on")
-    ≡ understood (record { encoding = Some utf16_big; canonical = true; unicode = true; indent = Some (negsuc 6); width = Some (pos 2147483647); line_break = Some both_break; breaks12 = true; limit = 7 }) []
+every_setting : script_of (codes "limit 007\n# c \"x\nencoding utf16be\n\ncanonical on\nunicode on\nindent -007\nwidth 2147483647\nbreak crln\nbreaks12 on\nportable on")
+    ≡ understood (record { encoding = Some utf16_big; canonical = true; unicode = true; indent = Some (negsuc 6); width = Some (pos 2147483647); line_break = Some both_break; breaks12 = true; portable = true; limit = 7 }) []
 unfolding chars is_utf8 encode_utf8
 every_setting = refl
 
@@ -81,5 +81,6 @@ bad_alone = (refl, refl, refl, refl, refl, refl, refl, refl, refl, refl, refl, r
 bad_later : (script_of (codes "# c\n\nwidth 5\nwidth 5\n") ≡ bad_line 4)
     × (script_of (codes "+STR any\ncanonical on\n") ≡ bad_line 2)
     × (script_of (codes "-STR\n \n+FOO\n") ≡ bad_line 2)
+    × (script_of (codes "portable on\nportable on\n") ≡ bad_line 2)
 unfolding chars is_utf8 encode_utf8
-bad_later = (refl, refl, refl)
+bad_later = (refl, refl, refl, refl)

@@ -1,6 +1,6 @@
 -- Worked rows of tags, names and directives, computed.
 use Rattle.std.proofs.Common.{◌≡◌, ℕ, pos, negsuc, Option, Some, None, List, [], ◌∷◌, ◌++◌, refl}
-use Rattle.std.specs.Prelude.{codes}
+use Rattle.std.specs.Prelude.{false, codes}
 use Rattle.std.specs.Str.{chars, is_utf8}
 use lib.Utf8.{encode}
 use Rattle.yaml_base.specs.Characters.{Text}
@@ -38,33 +38,33 @@ reads_no_lone_byte : percent_decoded (codes "%C3") ≡ None
 unfolding is_utf8 chars encode
 reads_no_lone_byte = refl
 
-own_type : spelled (spelling defaults (codes "tag:yaml.org,2002:int")) ≡ codes "!!int"
+own_type : spelled false (spelling defaults (codes "tag:yaml.org,2002:int")) ≡ codes "!!int"
 own_type = refl
 
-local_tag : spelled (spelling defaults (codes "!foo")) ≡ codes "!foo"
+local_tag : spelled false (spelling defaults (codes "!foo")) ≡ codes "!foo"
 local_tag = refl
 
-only_the_sign : spelled (spelling defaults (codes "!")) ≡ codes "!<%21>"
+only_the_sign : spelled false (spelling defaults (codes "!")) ≡ codes "!<%21>"
 unfolding encode
 only_the_sign = refl
 
-sign_within : spelled (spelling defaults (codes "!a!b")) ≡ codes "!a%21b"
+sign_within : spelled false (spelling defaults (codes "!a!b")) ≡ codes "!a%21b"
 unfolding encode
 sign_within = refl
 
-as_long_as_the_prefix : spelled (spelling defaults (codes "tag:yaml.org,2002:")) ≡ codes "!<tag:yaml.org,2002:>"
+as_long_as_the_prefix : spelled false (spelling defaults (codes "tag:yaml.org,2002:")) ≡ codes "!<tag:yaml.org,2002:>"
 as_long_as_the_prefix = refl
 
 own_handle :
-    spelled (spelling (directives_in_force (directive (codes "!e!") (codes "!x") ∷ [])) (codes "!xy")) ≡ codes "!e!y"
+    spelled false (spelling (directives_in_force (directive (codes "!e!") (codes "!x") ∷ [])) (codes "!xy")) ≡ codes "!e!y"
 own_handle = refl
 
 other_types :
-    spelled (spelling (directives_in_force (directive (codes "!!") (codes "tag:e.com,2000:") ∷ [])) (codes "tag:yaml.org,2002:str"))
+    spelled false (spelling (directives_in_force (directive (codes "!!") (codes "tag:e.com,2000:") ∷ [])) (codes "tag:yaml.org,2002:str"))
     ≡ codes "!<tag:yaml.org,2002:str>"
 other_types = refl
 
-null_and_accent : spelled (spelling defaults (codes "!" ++ 0xE9 ∷ 0 ∷ [])) ≡ codes "!%C3%A9%00"
+null_and_accent : spelled false (spelling defaults (codes "!" ++ 0xE9 ∷ 0 ∷ [])) ≡ codes "!%C3%A9%00"
 unfolding encode
 null_and_accent = refl
 

@@ -136,7 +136,7 @@ mutual
 pub document_steps : (x : Document) (s : Effective) (first follows : Bool) (rest : List Event) (standing : Standing) → steps s follows (document_events x ++ rest) (at_document first) standing ≡ after_pieces (document_laid s first x standing) (steps s follows rest (at_document false))
 document_steps x s first follows rest standing =
     let d = directives_in_force x.start.directives in
-    let start = document_start_piece s.canonical first x.start standing in
+    let start = document_start_piece s first x.start standing in
     let root = node_laid x.root s d root_place in
     let end : Standing → PiecesLaid = (λ after. one_piece (document_end_piece x.end_implicit after)) in
     let next = steps s follows rest (at_document false) in

@@ -10,9 +10,9 @@ use Rattle.std.specs.Option.{option_or}
 use lib.Utf8.{scalar, scalars}
 use Rattle.yaml_base.specs.Characters.{Text, is_alpha, is_blank, is_break}
 use Rattle.yaml_base.specs.Event.{TagDirective}
-use Rattle.yaml_base.specs.Percent.{percent_escaped, percent_decoded, character_escaped}
+use Rattle.yaml_base.specs.Percent.{percent_escaped, suffix_escaped, percent_decoded}
 use Rattle.yaml_base.specs.Tags.{tag_mark, last_from, without_last, handle_fault, directive_fault, gives_handle, next_directive_fault, directives_fault_after, directives_fault, default_directives, directives_in_force, behind, Spelling, shorthand, verbatim, spelling_by, spelling, spelled, TagRead, named_tag, AtMark, at_mark_before, at_last_mark, prefix_given, named_by, shorthand_read, verbatim_read, tag_read}
-use Rattle.yaml_base.proofs.PercentLaws.{decoded_escaped, stands_written, separates, escaped_stands, escaped_begins, written_is_no_mark, written_is_no_less, written_never_separates, alpha_is_no_less}
+use Rattle.yaml_base.proofs.PercentLaws.{decoded_escaped, decoded_suffix, stands_written, separates, escaped_stands, suffix_stands, suffix_begins, written_is_no_mark, written_is_no_less, written_never_separates, alpha_is_no_less}
 
 -- A verbatim tag.
 
@@ -29,8 +29,8 @@ verbatim_content : (text : Text) → verbatim_read (text ++ 0x3E ∷ []) ≡ opt
 verbatim_content [] = refl
 verbatim_content (c ∷ rest) = rw (last-append c rest 0x3E, without_last-append (c ∷ rest) 0x3E) refl
 
-pub verbatim_reads : (own : List TagDirective) (tag : Text) → scalars tag ≡ true → tag_read own (spelled (verbatim tag)) ≡ Some (named_tag tag)
-verbatim_reads own tag h = verbatim_content (percent_escaped tag) ∙ ap (option_map named_tag) (decoded_escaped tag h)
+pub verbatim_reads : (portable : Bool) (own : List TagDirective) (tag : Text) → scalars tag ≡ true → tag_read own (spelled portable (verbatim tag)) ≡ Some (named_tag tag)
+verbatim_reads portable own tag h = verbatim_content (percent_escaped tag) ∙ ap (option_map named_tag) (decoded_escaped tag h)
 
 -- A text up to its last `!`.
 
@@ -145,19 +145,19 @@ scalars_behind [] suffix h = h
 scalars_behind (p ∷ prefix) suffix h = scalars_behind prefix suffix (and_parts (scalar p) (scalars (prefix ++ suffix)) h).1
 
 -- a handle whose prefix is known, and the rest of a tag
-shorthand_reads : (own : List TagDirective) (handle prefix : Text) (c : ℕ) (suffix : Text) → handle_fault handle ≡ None → prefix_given (own ++ default_directives) handle ≡ Some prefix → scalars (c ∷ suffix) ≡ true → tag_read own (handle ++ percent_escaped (c ∷ suffix)) ≡ Some (named_tag (prefix ++ (c ∷ suffix)))
-shorthand_reads own handle prefix c suffix f g h =
-    let written = percent_escaped (c ∷ suffix) in
+shorthand_reads : (portable : Bool) (own : List TagDirective) (handle prefix : Text) (c : ℕ) (suffix : Text) → handle_fault handle ≡ None → prefix_given (own ++ default_directives) handle ≡ Some prefix → scalars (c ∷ suffix) ≡ true → tag_read own (handle ++ suffix_escaped portable (c ∷ suffix)) ≡ Some (named_tag (prefix ++ (c ∷ suffix)))
+shorthand_reads portable own handle prefix c suffix f g h =
+    let written = suffix_escaped portable (c ∷ suffix) in
     let form = handle_form handle f in
-    let begins = escaped_begins c suffix in
-    let stands : list_all stands_written written ≡ true = escaped_stands (c ∷ suffix) in
+    let begins = suffix_begins portable c suffix in
+    let stands : list_all stands_written written ≡ true = suffix_stands portable (c ∷ suffix) in
     let P : Text → Type 0 = λ text. list_all stands_written text ≡ true in
     let Q : Text → Type 0 = λ text. tag_read own (handle ++ text) ≡ shorthand_read own (at_last_mark (handle ++ text)) in
     let first = (and_parts (stands_written begins.0) (list_all stands_written begins.1) (subst P begins.2 stands)).0 in
     subst Q (sym begins.2) (handle_first own handle begins.0 begins.1 form first)
     ∙ ap (shorthand_read own) (cut_at_handle handle written form (stands_no_mark written stands))
     ∙ ap (λ x. named_by x (percent_decoded written)) g
-    ∙ ap (named_by (Some prefix)) (decoded_escaped (c ∷ suffix) h)
+    ∙ ap (named_by (Some prefix)) (decoded_suffix portable (c ∷ suffix) h)
 
 -- Directives that are found by their handles.
 abbrev pub AreFound : List TagDirective → List TagDirective → Type 0
@@ -250,13 +250,13 @@ in_force_found own h =
 
 -- Written tags.
 
-pub written_tag_reads : (own : List TagDirective) (tag : Text) → directives_fault own ≡ None → scalars tag ≡ true → tag_read own (spelled (spelling (directives_in_force own) tag)) ≡ Some (named_tag tag)
-written_tag_reads own tag h k =
-    let P : Spelling → Type 0 = λ s. tag_read own (spelled s) ≡ Some (named_tag tag) in
+pub written_tag_reads : (portable : Bool) (own : List TagDirective) (tag : Text) → directives_fault own ≡ None → scalars tag ≡ true → tag_read own (spelled portable (spelling (directives_in_force own) tag)) ≡ Some (named_tag tag)
+written_tag_reads portable own tag h k =
+    let P : Spelling → Type 0 = λ s. tag_read own (spelled portable s) ≡ Some (named_tag tag) in
     let IsText : Text → Type 0 = λ text. scalars text ≡ true in
-    spelling_is P own (directives_in_force own) tag (in_force_found own h) (verbatim_reads own tag k)
+    spelling_is P own (directives_in_force own) tag (in_force_found own h) (verbatim_reads portable own tag k)
     (λ handle prefix c suffix f g whole.
-    shorthand_reads own handle prefix c suffix f g (scalars_behind prefix (c ∷ suffix) (subst IsText (sym whole) k))
+    shorthand_reads portable own handle prefix c suffix f g (scalars_behind prefix (c ∷ suffix) (subst IsText (sym whole) k))
     ∙ ap (λ x. Some (named_tag x)) whole)
 
 any-append : (p : ℕ → Bool) (xs ys : Text) → list_any p xs ≡ false → list_any p ys ≡ false → list_any p (xs ++ ys) ≡ false
@@ -301,15 +301,19 @@ separates_not_ends (c ∷ rest) h =
 escaped_ends_no_word : (text : Text) → list_any ends_word (percent_escaped text) ≡ false
 escaped_ends_no_word text = separates_not_ends (percent_escaped text) (escaped_never_separates text)
 
+suffix_ends_no_word : (portable : Bool) (text : Text) → list_any ends_word (suffix_escaped portable text) ≡ false
+suffix_ends_no_word portable text =
+    separates_not_ends (suffix_escaped portable text) (never_separates (suffix_escaped portable text) (suffix_stands portable text))
+
 -- a written tag holds no blank and no break
-pub written_tag_ends_no_word : (own : List TagDirective) (tag : Text) → directives_fault own ≡ None → list_any ends_word (spelled (spelling (directives_in_force own) tag)) ≡ false
-written_tag_ends_no_word own tag h =
-    let P : Spelling → Type 0 = λ s. list_any ends_word (spelled s) ≡ false in
+pub written_tag_ends_no_word : (portable : Bool) (own : List TagDirective) (tag : Text) → directives_fault own ≡ None → list_any ends_word (spelled portable (spelling (directives_in_force own) tag)) ≡ false
+written_tag_ends_no_word portable own tag h =
+    let P : Spelling → Type 0 = λ s. list_any ends_word (spelled portable s) ≡ false in
     spelling_is P own (directives_in_force own) tag (in_force_found own h)
     (any-append ends_word (percent_escaped tag) (0x3E ∷ []) (escaped_ends_no_word tag) refl)
     (λ handle prefix c suffix f g whole.
-    any-append ends_word handle (percent_escaped (c ∷ suffix)) (handle_ends_no_word handle (handle_form handle f))
-    (escaped_ends_no_word (c ∷ suffix)))
+    any-append ends_word handle (suffix_escaped portable (c ∷ suffix)) (handle_ends_no_word handle (handle_form handle f))
+    (suffix_ends_no_word portable (c ∷ suffix)))
 
 two_at_least : (handle : Text) (d : ℕ) (more : Text) → handle_fault handle ≡ None → handle ++ (d ∷ more) ≡ tag_mark ∷ [] → ⊥
 two_at_least [] d more f e = cc
@@ -317,11 +321,11 @@ two_at_least (x ∷ []) d more f e = cc
 two_at_least (x ∷ y ∷ handle) d more f e = cc
 
 -- a written tag is never the bare tag
-pub written_tag_is_not_bare : (own : List TagDirective) (tag : Text) → directives_fault own ≡ None → spelled (spelling (directives_in_force own) tag) ≡ tag_mark ∷ [] → ⊥
-written_tag_is_not_bare own tag h =
-    let P : Spelling → Type 0 = λ s. spelled s ≡ tag_mark ∷ [] → ⊥ in
+pub written_tag_is_not_bare : (portable : Bool) (own : List TagDirective) (tag : Text) → directives_fault own ≡ None → spelled portable (spelling (directives_in_force own) tag) ≡ tag_mark ∷ [] → ⊥
+written_tag_is_not_bare portable own tag h =
+    let P : Spelling → Type 0 = λ s. spelled portable s ≡ tag_mark ∷ [] → ⊥ in
     spelling_is P own (directives_in_force own) tag (in_force_found own h)
     (λ e. cc)
     (λ handle prefix c suffix f g whole e.
-    let begins = escaped_begins c suffix in
+    let begins = suffix_begins portable c suffix in
     two_at_least handle begins.0 begins.1 f (ap (λ x. handle ++ x) (sym begins.2) ∙ e))

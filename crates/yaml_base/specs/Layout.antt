@@ -5,7 +5,7 @@ use Rattle.yaml_base.specs.Characters.{Text}
 use Rattle.yaml_base.specs.Settings.{Effective}
 use Rattle.yaml_base.specs.Cursor.{Cursor, Laid, first_cursor, nothing_laid, then_laid, new_line, indicator}
 use Rattle.yaml_base.specs.Event.{Version, TagDirective, DocumentStart}
-use Rattle.yaml_base.specs.Percent.{percent_escaped}
+use Rattle.yaml_base.specs.Percent.{prefix_escaped}
 use Rattle.yaml_base.specs.Tags.{directives_in_force}
 use Rattle.yaml_base.specs.Grammar.{Document, Documents, no_documents, documents_and, Stream, stream_events}
 pub use Rattle.yaml_base.specs.Places.{Role, as_root, as_item, as_key, as_value, Place, is_key, is_in_mapping, line_column, deeper, entries_column, byte_count, name_count, spelling_count, tag_count, is_short, is_simple_alias, is_simple_scalar, is_simple_collection, has_no_nodes, has_no_pairs, is_simple, is_simple_at, flow_break, opening_or_comma, key_sign, flow_place_laid, block_place_laid, place_laid}
@@ -39,47 +39,47 @@ version_laid (Some version) cursor =
     line_ended (then_laid (sign_laid (codes "%YAML") cursor) (sign_laid (version_text version)))
 
 -- a `%TAG` line (section 7.1.2)
-abbrev pub tag_directive_laid : TagDirective → Cursor → Laid
-tag_directive_laid directive cursor =
+abbrev pub tag_directive_laid : (portable : Bool) → TagDirective → Cursor → Laid
+tag_directive_laid portable directive cursor =
     line_ended
     (then_laid
     (then_laid (sign_laid (codes "%TAG") cursor) (handle_laid directive.handle))
-    (handle_laid (percent_escaped directive.prefix)))
+    (handle_laid (prefix_escaped portable directive.prefix)))
 
 -- the `%TAG` lines, in order
-abbrev pub tag_directives_laid : List TagDirective → Cursor → Laid
-tag_directives_laid [] cursor = nothing_laid cursor
-tag_directives_laid (directive ∷ rest) cursor =
-    then_laid (tag_directive_laid directive cursor) (tag_directives_laid rest)
+abbrev pub tag_directives_laid : (portable : Bool) → List TagDirective → Cursor → Laid
+tag_directives_laid portable [] cursor = nothing_laid cursor
+tag_directives_laid portable (directive ∷ rest) cursor =
+    then_laid (tag_directive_laid portable directive cursor) (tag_directives_laid portable rest)
 
 -- a document says its version or gives a handle
 abbrev pub has_directives : DocumentStart → Bool
 has_directives start = is_some start.version || not (length start.directives == 0)
 
--- a document's start is written where the event says so, after another document, in canonical mode, and after directives
-abbrev pub is_explicit : Bool → (first : Bool) → DocumentStart → Bool
-is_explicit canonical first start = not start.implicit || not first || canonical || has_directives start
+-- a document's start is written where the event says so, after another document, after directives, and where each is
+abbrev pub is_explicit : (each : Bool) → (first : Bool) → DocumentStart → Bool
+is_explicit each first start = not start.implicit || not first || each || has_directives start
 
 -- `---` on a new line, and in canonical mode a new line after it (section 7.2)
 abbrev pub document_mark_laid : Bool → Cursor → Laid
 document_mark_laid canonical cursor =
     then_laid (then_laid (new_line 0 cursor) (sign_laid (codes "---"))) (laid_if canonical (new_line 0))
 
--- directives after a document that wasn't closed are preceded by `...`
-abbrev pub document_start_laid : Bool → (first : Bool) → DocumentStart → Standing → Laid
-document_start_laid canonical first start standing =
+-- directives after a document that wasn't closed are preceded by `...`; in canonical and in portable mode each start is
+-- written
+abbrev pub document_start_laid : Effective → (first : Bool) → DocumentStart → Standing → Laid
+document_start_laid s first start standing =
     then_laid
     (then_laid
     (then_laid
     (laid_if (has_directives start && not (standing.mark == 0)) closing_mark_laid standing.cursor)
     (version_laid start.version))
-    (tag_directives_laid start.directives))
-    (laid_if (is_explicit canonical first start) (document_mark_laid canonical))
+    (tag_directives_laid s.portable start.directives))
+    (laid_if (is_explicit (s.canonical || s.portable) first start) (document_mark_laid s.canonical))
 
 -- a document's start as a piece
-abbrev pub document_start_piece : Bool → (first : Bool) → DocumentStart → Standing → PieceLaid
-document_start_piece canonical first start standing =
-    lead_alone 0 (document_start_laid canonical first start standing)
+abbrev pub document_start_piece : Effective → (first : Bool) → DocumentStart → Standing → PieceLaid
+document_start_piece s first start standing = lead_alone 0 (document_start_laid s first start standing)
 
 -- an implicit end leaves the document open, an explicit one closes it
 abbrev pub document_end_piece : (implicit : Bool) → Standing → PieceLaid
@@ -95,7 +95,7 @@ root_place = record { in_flow = false; role = as_root; column = None }
 abbrev pub document_laid : Effective → (first : Bool) → Document → Standing → PiecesLaid
 document_laid s first document standing =
     then_pieces
-    (then_pieces (one_piece (document_start_piece s.canonical first document.start standing))
+    (then_pieces (one_piece (document_start_piece s first document.start standing))
     (node_laid document.root s (directives_in_force document.start.directives) root_place))
     (λ after. one_piece (document_end_piece document.end_implicit after))
 

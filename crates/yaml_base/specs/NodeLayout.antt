@@ -4,7 +4,7 @@ use Rattle.yaml_base.specs.Characters.{Text}
 use Rattle.yaml_base.specs.Settings.{Effective}
 use Rattle.yaml_base.specs.Cursor.{Cursor, Laid, nothing_laid, then_laid, text_laid, new_line, space_if, indicator, name_laid}
 use Rattle.yaml_base.specs.Event.{ScalarStyle, plain, single_quoted, literal, folded, CollectionStyle, flow, TagDirective, Scalar, Collection}
-use Rattle.yaml_base.specs.Percent.{percent_escaped}
+use Rattle.yaml_base.specs.Percent.{percent_escaped, suffix_escaped}
 use Rattle.yaml_base.specs.Tags.{Spelling, shorthand, verbatim, spelling}
 use Rattle.yaml_base.specs.Analysis.{is_empty, allowances}
 use Rattle.yaml_base.specs.Style.{Choice, chosen}
@@ -101,24 +101,25 @@ abbrev pub handle_laid : Text → Cursor → Laid
 handle_laid handle cursor = name_laid (space_if true cursor ++ handle) cursor
 
 -- a tag as it is spelled (section 8.1.1)
-abbrev pub spelling_laid : Spelling → Cursor → Laid
-spelling_laid (shorthand handle suffix) cursor =
-    then_laid (handle_laid handle cursor) (name_laid (percent_escaped suffix))
-spelling_laid (verbatim tag) cursor =
+abbrev pub spelling_laid : (portable : Bool) → Spelling → Cursor → Laid
+spelling_laid portable (shorthand handle suffix) cursor =
+    then_laid (handle_laid handle cursor) (name_laid (suffix_escaped portable suffix))
+spelling_laid portable (verbatim tag) cursor =
     then_laid
     (then_laid (indicator (codes "!<") true false false cursor) (name_laid (percent_escaped tag)))
     (indicator (codes ">") false false false)
 
 -- the tag that is written, or the bare tag
-abbrev pub tag_laid : List TagDirective → Option Text → (bare : Bool) → Cursor → Laid
-tag_laid directives (Some tag) bare cursor = spelling_laid (spelling directives tag) cursor
-tag_laid directives None true cursor = handle_laid (codes "!") cursor
-tag_laid directives None false cursor = nothing_laid cursor
+abbrev pub tag_laid : (portable : Bool) → List TagDirective → Option Text → (bare : Bool) → Cursor → Laid
+tag_laid portable directives (Some tag) bare cursor = spelling_laid portable (spelling directives tag) cursor
+tag_laid portable directives None true cursor = handle_laid (codes "!") cursor
+tag_laid portable directives None false cursor = nothing_laid cursor
 
 -- the anchor, and then the tag (section 8.1)
-abbrev pub properties_laid : List TagDirective → Option Text → Option Text → (bare : Bool) → Cursor → Laid
-properties_laid directives anchor tag bare cursor =
-    then_laid (anchor_laid anchor cursor) (tag_laid directives tag bare)
+abbrev pub properties_laid :
+    (portable : Bool) → List TagDirective → Option Text → Option Text → (bare : Bool) → Cursor → Laid
+properties_laid portable directives anchor tag bare cursor =
+    then_laid (anchor_laid anchor cursor) (tag_laid portable directives tag bare)
 
 -- Nodes
 
@@ -161,7 +162,7 @@ scalar_lead s directives place simple choice content cursor =
     then_laid
     (then_laid
     (place_laid s place simple cursor)
-    (properties_laid directives content.anchor (scalar_tag s.canonical content) choice.bare))
+    (properties_laid s.portable directives content.anchor (scalar_tag s.canonical content) choice.bare))
     (separation_laid choice.style place.in_flow content.value)
 
 -- its body as a piece of the layout
@@ -192,7 +193,7 @@ start_piece s directives place simple start standing =
     lead_alone standing.mark
     (then_laid
     (place_laid s place simple standing.cursor)
-    (properties_laid directives start.anchor (collection_tag s.canonical start) false))
+    (properties_laid s.portable directives start.anchor (collection_tag s.canonical start) false))
 
 -- a style that asks for flow
 abbrev pub asks_flow : CollectionStyle → Bool

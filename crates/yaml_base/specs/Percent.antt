@@ -1,6 +1,6 @@
 -- Percent forms: how a tag or a prefix is written in characters that may stand in it, and, by itself, how such a text
 -- is read (YAML 1.1, section 5.5, after RFC 2396, section 2.4, over the bytes of UTF-8).
-use Rattle.std.specs.Prelude.{ℕ, zero, suc, Bool, Option, None, Some, List, [], ◌∷◌, ◌++◌, ◌==◌, ◌||◌, ◌&&◌, ◌+◌, ◌-◌, ◌*◌, codes, chars, encode_utf8, if◌then◌else◌}
+use Rattle.std.specs.Prelude.{ℕ, zero, suc, Bool, Option, None, Some, List, [], ◌∷◌, ◌++◌, ◌==◌, ◌||◌, ◌&&◌, not, ◌+◌, ◌-◌, ◌*◌, codes, chars, encode_utf8, if◌then◌else◌}
 use Rattle.std.specs.List.{flat_map}
 use Rattle.std.specs.Str.{is_utf8}
 use Rattle.yaml_base.specs.Characters.{Text, is_alpha, is_among, is_between, hex_digits}
@@ -17,13 +17,30 @@ is_tag_character c = is_alpha c || is_among (codes ";/?:@&=+$,.~*'()[]") c
 abbrev pub byte_escaped : ℕ → Text
 byte_escaped byte = percent_sign ∷ hex_digits 2 byte
 
--- a character stands as itself, or as the percent forms of its UTF-8
+-- a character as itself where it may stand, else as the percent forms of its UTF-8
+abbrev pub character_written : (stands : Bool) → ℕ → Text
+character_written stands c = if stands then c ∷ [] else flat_map byte_escaped (encode_utf8 c)
+
+-- a character of a tag as it is written
 abbrev pub character_escaped : ℕ → Text
-character_escaped c = if is_tag_character c then c ∷ [] else flat_map byte_escaped (encode_utf8 c)
+character_escaped c = character_written (is_tag_character c) c
 
 -- how a text is written
 abbrev pub percent_escaped : Text → Text
 percent_escaped text = flat_map character_escaped text
+
+-- may stand as itself after a tag's handle: portably not the signs of flow, at which readers end a tag
+abbrev pub is_suffix_character : (portable : Bool) → ℕ → Bool
+is_suffix_character portable c = not (portable && is_among (codes ",[]") c) && is_tag_character c
+
+-- how the text after a tag's handle is written
+abbrev pub suffix_escaped : (portable : Bool) → Text → Text
+suffix_escaped portable text = flat_map (λ c. character_written (is_suffix_character portable c) c) text
+
+-- how a prefix is written: portably a `!` that begins it stands raw, by which readers know a local prefix
+abbrev pub prefix_escaped : (portable : Bool) → Text → Text
+prefix_escaped portable [] = []
+prefix_escaped portable (c ∷ rest) = character_written ((portable && c == 0x21) || is_tag_character c) c ++ percent_escaped rest
 
 -- the value of a hexadecimal digit in either case
 abbrev pub hex_value : ℕ → Option ℕ

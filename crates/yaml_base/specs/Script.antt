@@ -23,6 +23,7 @@ pub data Setting : Type 0 where
   width_set : ℤ → Setting
   break_set : Option LineBreak → Setting
   breaks12_set : Bool → Setting
+  portable_set : Bool → Setting
 
 -- a line says nothing (it is empty or a comment), sets something, or gives an event
 pub data Line : Type 0 where
@@ -214,7 +215,8 @@ setting_of name value =
     else (if is_word name (codes "indent") then option_map indent_set (signed_number value)
     else (if is_word name (codes "width") then option_map width_set (signed_number value)
     else (if is_word name (codes "break") then option_map break_set (named line_breaks value)
-    else (if is_word name (codes "breaks12") then option_map breaks12_set (named switches value) else None)))))))
+    else (if is_word name (codes "breaks12") then option_map breaks12_set (named switches value)
+    else (if is_word name (codes "portable") then option_map portable_set (named switches value) else None))))))))
 
 -- the name of a setting
 abbrev pub setting_name : Setting → Text
@@ -226,6 +228,7 @@ setting_name (indent_set _) = codes "indent"
 setting_name (width_set _) = codes "width"
 setting_name (break_set _) = codes "break"
 setting_name (breaks12_set _) = codes "breaks12"
+setting_name (portable_set _) = codes "portable"
 
 -- the settings where no line sets anything
 abbrev pub unset : Settings
@@ -237,6 +240,7 @@ unset = record {
   width = None;
   line_break = None;
   breaks12 = false;
+  portable = false;
   limit = 1000000000;
 }
 
@@ -250,6 +254,7 @@ with_setting given (indent_set indent) = record given { indent = Some indent }
 with_setting given (width_set width) = record given { width = Some width }
 with_setting given (break_set line_break) = record given { line_break = line_break }
 with_setting given (breaks12_set on) = record given { breaks12 = on }
+with_setting given (portable_set on) = record given { portable = on }
 
 -- what several lines set together
 abbrev pub settings_of : Settings → List Setting → Settings

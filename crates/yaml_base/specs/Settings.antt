@@ -22,6 +22,7 @@ pub record Settings : Type 0 where
   pub width : Option ℤ
   pub line_break : Option LineBreak
   pub breaks12 : Bool
+  pub portable : Bool
   pub limit : ℕ
 
 -- what the layout goes by; a width of none is no limit
@@ -33,6 +34,7 @@ pub record Effective : Type 0 where
   pub width : Option ℕ
   pub line_break : LineBreak
   pub breaks12 : Bool
+  pub portable : Bool
   pub limit : ℕ
 
 -- an indent of 2 to 9 is kept, any other becomes 2
@@ -64,5 +66,6 @@ effective given of_stream =
       width = effective_width given.width indent;
       line_break = unwrap_or given.line_break line_feed_break;
       breaks12 = given.breaks12;
+      portable = given.portable;
       limit = given.limit;
     }

@@ -124,7 +124,7 @@ step s at_stream (stream_start encoding) empty standing =
     record { laid = stream_start_piece standing; stage = at_document true }
 step s (at_document first) (document_start start) empty standing =
     record {
-      laid = document_start_piece s.canonical first start standing;
+      laid = document_start_piece s first start standing;
       stage = at_node (directives_in_force start.directives) [];
     }
 step s (at_document first) stream_end empty standing = record { laid = stream_end_piece standing; stage = at_nothing }

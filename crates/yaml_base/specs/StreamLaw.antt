@@ -68,16 +68,16 @@ document_has_flow_sign canonical document =
 abbrev pub are_portable : Bool → List Document → Bool
 are_portable canonical documents = not (is_lost canonical documents) && not (list_any (document_has_flow_sign canonical) documents)
 
--- what readers of YAML read alike of all that the layout writes
-abbrev pub is_portable : Bool → List Event → Bool
-is_portable canonical events =
-    unwrap_or (option_map (λ stream. are_portable canonical (documents_in_order stream.documents)) (tree_of events)) false
+-- what readers of YAML read alike of all that the layout writes: all in portable mode, else all but those two kinds
+abbrev pub is_portable : (portable canonical : Bool) → List Event → Bool
+is_portable portable canonical events =
+    portable || unwrap_or (option_map (λ stream. are_portable canonical (documents_in_order stream.documents)) (tree_of events)) false
 
 -- under all settings all bytes of an accepted list, uncut, read as documents that agree with it
 abbrev pub StreamReadsBack : Type 0
 StreamReadsBack =
     (given : Settings) (encoding : Option Encoding) (events : List Event) → IsAccepted given.canonical events
-    → list_all has_scalar_texts events ≡ true → is_portable given.canonical events ≡ true
+    → list_all has_scalar_texts events ≡ true → is_portable given.portable given.canonical events ≡ true
     → agrees given.canonical events
     (stream_trees given.breaks12 (bytes_written (effective given encoding) (list_layout (effective given encoding) events)))
     ≡ true

@@ -5,7 +5,7 @@ use Rattle.std.specs.List.{list_any, list_all}
 use Rattle.std.specs.Option.{option_or}
 use Rattle.yaml_base.specs.Characters.{Text, is_alpha}
 use Rattle.yaml_base.specs.Event.{Version, TagDirective}
-use Rattle.yaml_base.specs.Percent.{percent_escaped, percent_decoded}
+use Rattle.yaml_base.specs.Percent.{percent_escaped, suffix_escaped, percent_decoded}
 
 -- The refusals of this file, by their numbers.
 abbrev pub incompatible_version : ℕ
@@ -159,9 +159,9 @@ spelling [] tag = verbatim tag
 spelling (directive ∷ rest) tag = spelling_by directive.handle (behind directive.prefix tag) (spelling rest tag)
 
 -- the text of a spelling (section 8.1.1)
-abbrev pub spelled : Spelling → Text
-spelled (shorthand handle suffix) = handle ++ percent_escaped suffix
-spelled (verbatim tag) = codes "!<" ++ percent_escaped tag ++ codes ">"
+abbrev pub spelled : (portable : Bool) → Spelling → Text
+spelled portable (shorthand handle suffix) = handle ++ suffix_escaped portable suffix
+spelled portable (verbatim tag) = codes "!<" ++ percent_escaped tag ++ codes ">"
 
 -- what a written tag says: the bare tag, or a tag by its name
 pub data TagRead : Type 0 where

@@ -191,6 +191,7 @@ typed_settings =
       width = Some (negsuc 0);
       line_break = Some line_feed_break;
       breaks12 = false;
+      portable = false;
       limit = 18446744073709551615;
     }
 
