@@ -52,12 +52,13 @@ def named(value, names):
 def settings(s):
     return record(encoding=named(s["encoding"], ENCODINGS), canonical=flag(s["canonical"]), unicode=flag(s["unicode"]),
                   indent=optional(s["indent"], integer), width=optional(s["width"], integer),
-                  line_break=named(s["line_break"], BREAKS), breaks12=flag(s["breaks12"]), limit=str(s["limit"]))
+                  line_break=named(s["line_break"], BREAKS), breaks12=flag(s["breaks12"]), portable=flag(s["portable"]),
+                  limit=str(s["limit"]))
 
 def effective(s):
     return record(encoding=ENCODINGS[s["encoding"]], canonical=flag(s["canonical"]), unicode=flag(s["unicode"]),
                   indent=str(s["indent"]), width=optional(s["width"], str), line_break=BREAKS[s["line_break"]],
-                  breaks12=flag(s["breaks12"]), limit=str(s["limit"]))
+                  breaks12=flag(s["breaks12"]), portable=flag(s["portable"]), limit=str(s["limit"]))
 
 def version(v):
     return record(major=integer(v[0]), minor=integer(v[1]))

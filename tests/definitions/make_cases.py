@@ -19,6 +19,15 @@ import dataclasses, json, random, re, sys
 KINDS = ["list"] * 5 + ["text"] * 2 + ["bytes", "script", "document"] + ["stream"] * 4
 
 
+def half_portable(drawn):
+    """Settings as they are drawn, about every second in portable mode."""
+    def settings(r):
+        s = drawn(r)
+        s.portable = random.Random(repr(s)).random() < 0.5
+        return s
+    return settings
+
+
 def of_list(seed):
     case = cases.case(seed)
     events = replay(case["events"])
@@ -161,7 +170,7 @@ def of_stream(seed):
 
 
 def of_script(seed):
-    data = compare.script_of(seed)
+    data = compare.script_of(seed, True)
     if seed % 3 > 0: data = compare.spoiled(random.Random(seed), data)
     said = readers.parse_script(data)
     if said[0] == "bad": return dict(bytes=data.hex(), bad=said[1])
@@ -200,6 +209,7 @@ if __name__ == "__main__":
     sys.setrecursionlimit(100000)
     import cases, compare, content, gen, layout, lines_reader, readers, scalar_bodies, stream_reader
     stream_reader.Reader = lines_reader.Reader = strict_reader()
+    gen.settings = half_portable(gen.settings)
     first, count = (int(x) for x in (sys.argv[2:4] + ["0", "300"][len(sys.argv[2:4]):]))
     kind = sys.argv[4] if len(sys.argv) > 4 else None
     seed = first

@@ -1,6 +1,6 @@
 -- Percent decoding undoes escaping, and what a written text holds.
 use Rattle.std.proofs.Common.{◌≡◌, ℕ, ◌+◌, ◌*◌, ◌/◌, ◌%◌, ◌<◌, ◌≤◌, Bool, true, false, cond, ◌&&◌, ◌||◌, Option, Some, None, List, [], ◌∷◌, ◌++◌, refl, sym, ◌∙◌, ap, ◌⊎◌, inl, inr, ⊎_elim, subst, append_assoc, arith}
-use Rattle.std.proofs.lemmas.Bool.{agree_below_at, eqb-true, ltb-true, ltb-false, lt-ltb, le-ltb, and_parts, and_from, cases_Bool}
+use Rattle.std.proofs.lemmas.Bool.{agree_below_at, eqb-true, ltb-true, ltb-false, lt-ltb, le-ltb, and_parts, and_from, or_from, not-true, cases_Bool}
 use Rattle.std.proofs.lemmas.Bool.Decides.{nat_tests}
 use Rattle.std.proofs.lemmas.Str.{chars-encodes, is_utf8-from_IsUtf8, length-encode, len_utf8_bounds}
 use Rattle.std.specs.Prelude.{◌==◌, not, nat_lt, codes, length}
@@ -8,7 +8,7 @@ use Rattle.std.specs.Char.{len_utf8}
 use Rattle.std.specs.List.{flat_map, list_all, list_any}
 use Rattle.std.specs.Str.{chars, is_utf8}
 use lib.Utf8.{scalar, scalars, encode, encodes, scalar_cases}
-use Rattle.std.proofs.lemmas.List.Folds.{list_all-append}
+use Rattle.std.proofs.lemmas.List.Folds.{list_all-append, list_any-append}
 use Rattle.yaml_base.specs.Characters.{Text, hex_digit, hex_digits, is_blank, is_break, is_among, is_alpha}
 use Rattle.yaml_base.specs.Percent.{percent_sign, is_tag_character, byte_escaped, character_written, percent_escaped, is_suffix_character, suffix_escaped, prefix_escaped, byte_read, bytes_read_after, percent_decoded}
 
@@ -128,6 +128,30 @@ escaped_stands text = text_stands is_tag_character (λ c h. h) text
 -- so does each after a handle
 pub suffix_stands : (portable : Bool) (text : Text) → list_all stands_written (suffix_escaped portable text) ≡ true
 suffix_stands portable text = text_stands (is_suffix_character portable) (suffix_in_tags portable) text
+
+-- In portable mode no sign of flow stands after a handle.
+abbrev is_flow_sign : ℕ → Bool
+is_flow_sign c = is_among (codes ",[]") c
+
+digit_is_no_flow_sign : (n : ℕ) → is_flow_sign (hex_digit (n % 16)) ≡ false
+digit_is_no_flow_sign n = agree_below_at (λ d. is_flow_sign (hex_digit d)) (λ d. false) 16 (n % 16) refl (omega arith)
+
+forms_hold_no_flow_sign : (bs : List ℕ) → list_any is_flow_sign (flat_map byte_escaped bs) ≡ false
+forms_hold_no_flow_sign [] = refl
+forms_hold_no_flow_sign (b ∷ bs) = rw (digit_is_no_flow_sign (b / 16), digit_is_no_flow_sign b, forms_hold_no_flow_sign bs) refl
+
+character_is_no_flow_sign : (kept : Bool) (c : ℕ) → (kept ≡ true → is_flow_sign c ≡ false) → list_any is_flow_sign (character_written kept c) ≡ false
+character_is_no_flow_sign true c k = rw (k refl) refl
+character_is_no_flow_sign false c k = forms_hold_no_flow_sign (encode c)
+
+kept_is_no_flow_sign : (c : ℕ) → is_suffix_character true c ≡ true → is_flow_sign c ≡ false
+kept_is_no_flow_sign c h = not-true (is_flow_sign c) (and_parts (not (is_flow_sign c)) (is_tag_character c) h).0
+
+pub portable_suffix_has_no_flow_sign : (text : Text) → list_any (is_among (codes ",[]")) (suffix_escaped true text) ≡ false
+portable_suffix_has_no_flow_sign [] = refl
+portable_suffix_has_no_flow_sign (c ∷ text) =
+    list_any-append is_flow_sign (character_written (is_suffix_character true c) c) (suffix_escaped true text)
+    ∙ or_from _ _ (character_is_no_flow_sign (is_suffix_character true c) c (kept_is_no_flow_sign c)) (portable_suffix_has_no_flow_sign text)
 
 -- no such character is a space, a break, `!`, `<` or `>`
 abbrev pub separates : ℕ → Bool

@@ -1,24 +1,36 @@
 -- The laws of written tags.
-use Rattle.std.specs.Prelude.{◌≡◌, true, false, None, Some, List, ◌||◌, ◌≢◌, codes}
+use Rattle.std.specs.Prelude.{◌≡◌, Bool, true, false, None, Some, List, ◌||◌, ◌≢◌, codes}
 use Rattle.std.specs.List.{list_any}
 use Rattle.std.specs.Str.{all_scalars}
 use Rattle.yaml_base.specs.Characters.{Text, is_blank, is_break, is_among}
 use Rattle.yaml_base.specs.Event.{TagDirective}
-use Rattle.yaml_base.specs.Percent.{percent_escaped, percent_decoded}
+use Rattle.yaml_base.specs.Percent.{percent_escaped, suffix_escaped, prefix_escaped, percent_decoded}
 use Rattle.yaml_base.specs.Tags.{directives_fault, directives_in_force, spelling, spelled, tag_read, named_tag}
 
 -- decoding undoes escaping
 abbrev pub EscapedTextReads : Text → Type 0
 EscapedTextReads text = all_scalars text ≡ true → percent_decoded (percent_escaped text) ≡ Some text
 
+-- so it does after a handle, and in a prefix
+abbrev pub EscapedSuffixReads : (portable : Bool) → Text → Type 0
+EscapedSuffixReads portable text = all_scalars text ≡ true → percent_decoded (suffix_escaped portable text) ≡ Some text
+
+-- a prefix is decoded as itself
+abbrev pub EscapedPrefixReads : (portable : Bool) → Text → Type 0
+EscapedPrefixReads portable text = all_scalars text ≡ true → percent_decoded (prefix_escaped portable text) ≡ Some text
+
+-- in portable mode no sign of flow stands after a handle
+abbrev pub PortableSuffixHoldsNoFlowSign : Text → Type 0
+PortableSuffixHoldsNoFlowSign text = list_any (is_among (codes ",[]")) (suffix_escaped true text) ≡ false
+
 -- a tag as a document with these directives writes it
-abbrev pub written_tag : List TagDirective → Text → Text
-written_tag own tag = spelled (spelling (directives_in_force own) tag)
+abbrev pub written_tag : (portable : Bool) → List TagDirective → Text → Text
+written_tag portable own tag = spelled portable (spelling (directives_in_force own) tag)
 
 -- a written tag is read as the tag
-abbrev pub WrittenTagReads : List TagDirective → Text → Type 0
-WrittenTagReads own tag =
-    directives_fault own ≡ None → all_scalars tag ≡ true → tag_read own (written_tag own tag) ≡ Some (named_tag tag)
+abbrev pub WrittenTagReads : (portable : Bool) → List TagDirective → Text → Type 0
+WrittenTagReads portable own tag =
+    directives_fault own ≡ None → all_scalars tag ≡ true → tag_read own (written_tag portable own tag) ≡ Some (named_tag tag)
 
 -- escaped text has nothing that could end it, or that has a meaning in a tag
 abbrev pub EscapedTextSeparatesNothing : Text → Type 0
@@ -26,10 +38,10 @@ EscapedTextSeparatesNothing text =
     list_any (λ c. is_blank c || is_break c || is_among (codes "!<>") c) (percent_escaped text) ≡ false
 
 -- a written tag has no white space
-abbrev pub WrittenTagIsOneWord : List TagDirective → Text → Type 0
-WrittenTagIsOneWord own tag =
-    directives_fault own ≡ None → list_any (λ c. is_blank c || is_break c) (written_tag own tag) ≡ false
+abbrev pub WrittenTagIsOneWord : (portable : Bool) → List TagDirective → Text → Type 0
+WrittenTagIsOneWord portable own tag =
+    directives_fault own ≡ None → list_any (λ c. is_blank c || is_break c) (written_tag portable own tag) ≡ false
 
 -- a written tag isn't the bare tag
-abbrev pub WrittenTagIsNotBare : List TagDirective → Text → Type 0
-WrittenTagIsNotBare own tag = directives_fault own ≡ None → written_tag own tag ≢ codes "!"
+abbrev pub WrittenTagIsNotBare : (portable : Bool) → List TagDirective → Text → Type 0
+WrittenTagIsNotBare portable own tag = directives_fault own ≡ None → written_tag portable own tag ≢ codes "!"

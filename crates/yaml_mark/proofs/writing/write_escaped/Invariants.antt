@@ -3,7 +3,7 @@ use Rattle.std.specs.Prelude.{flat_map}
 use Rattle.yaml_base.specs.Cursor.{text_laid}
 use Rattle.yaml_pen.specs.Wrote.{Wrote}
 use Rattle.yaml_mark.specs.Escaping.{byte_written}
-use Rattle.yaml_mark.proofs.writing.write_tag_content.Given as goal
+use Rattle.yaml_mark.proofs.writing.write_escaped.Given as goal
 
 abbrev pub invariant-loop-byte : goal.invariant-loop-byte
-invariant-loop-byte g l = Wrote (text_laid (flat_map byte_written (take l.byte-index l.bytes))) l.initial.pen l.pen (Ok tt)
+invariant-loop-byte g l = Wrote (text_laid (flat_map (byte_written l.portable) (take l.byte-index l.bytes))) l.initial.pen l.pen (Ok tt)
