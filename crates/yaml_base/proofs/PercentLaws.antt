@@ -129,6 +129,38 @@ escaped_stands text = text_stands is_tag_character (λ c h. h) text
 pub suffix_stands : (portable : Bool) (text : Text) → list_all stands_written (suffix_escaped portable text) ≡ true
 suffix_stands portable text = text_stands (is_suffix_character portable) (suffix_in_tags portable) text
 
+-- In a prefix a `!` may stand too.
+abbrev pub stands_in_prefix : ℕ → Bool
+stands_in_prefix c = stands_written c || c == 0x21
+
+all_in_prefix : (text : Text) → list_all stands_written text ≡ true → list_all stands_in_prefix text ≡ true
+all_in_prefix [] h = refl
+all_in_prefix (c ∷ text) h =
+    let both = and_parts (stands_written c) (list_all stands_written text) h in and_from _ _ (rw both.0 refl) (all_in_prefix text both.1)
+
+first_in_prefix : (kept : Bool) (c : ℕ) → (kept ≡ true → stands_in_prefix c ≡ true) → list_all stands_in_prefix (character_written kept c) ≡ true
+first_in_prefix true c k = rw (k refl) refl
+first_in_prefix false c k = all_in_prefix (flat_map byte_escaped (encode c)) (forms_stand (encode c))
+
+kept_in_prefix : (portable : Bool) (c : ℕ) → ((portable && c == 0x21) || is_tag_character c) ≡ true → stands_in_prefix c ≡ true
+kept_in_prefix false c h = rw h refl
+kept_in_prefix true c h = by (c == 0x21) (is_tag_character c) (c == percent_sign) h
+  where
+    by : (mark kept sign : Bool) → (mark || kept) ≡ true → ((kept || sign) || mark) ≡ true
+    by true true sign h = refl
+    by true false true h = refl
+    by true false false h = refl
+    by false true sign h = refl
+    by false false sign h = absurd (cc)
+
+-- each character of a written prefix may stand there
+pub prefix_stands : (portable : Bool) (text : Text) → list_all stands_in_prefix (prefix_escaped portable text) ≡ true
+prefix_stands portable [] = refl
+prefix_stands portable (c ∷ text) =
+    let kept = (portable && c == 0x21) || is_tag_character c in
+    list_all-append stands_in_prefix (character_written kept c) (percent_escaped text)
+    ∙ and_from _ _ (first_in_prefix kept c (kept_in_prefix portable c)) (all_in_prefix (percent_escaped text) (escaped_stands text))
+
 -- In portable mode no sign of flow stands after a handle.
 abbrev is_flow_sign : ℕ → Bool
 is_flow_sign c = is_among (codes ",[]") c

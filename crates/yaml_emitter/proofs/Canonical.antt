@@ -63,10 +63,10 @@ module _ (s : Effective) (wide : 2 ≤ s.indent) (stream : Stream) (ok : Documen
   abbrev pieces : List Piece
   pieces = layout (in_canonical s) stream
 
-  tokens_are : (breaks12 : Bool) → tokens_from breaks12 free (text_of pieces) ≡ documents_tokens stream.documents
+  tokens_are : (breaks12 : Bool) → tokens_from breaks12 free (text_of pieces) ≡ documents_tokens s.portable stream.documents
   tokens_are breaks12 =
       ap (tokens_from breaks12 free) (sym (append-nil (text_of pieces)))
-      ∙ (stream_says breaks12 s wide stream ok).reads [] tt ∙ append-nil (documents_tokens stream.documents)
+      ∙ (stream_says breaks12 s wide stream ok).reads [] tt ∙ append-nil (documents_tokens s.portable stream.documents)
 
   -- The bytes of a stream in canonical mode read as its documents.
   pub bytes_read : (breaks12 : Bool) → canonical_content breaks12 (bytes_written (in_canonical s) pieces) ≡ Some (documents_content stream.documents)
@@ -77,7 +77,7 @@ module _ (s : Effective) (wide : 2 ≤ s.indent) (stream : Stream) (ok : Documen
       (characters_back s.encoding written (written_scalars s.line_break (text_of pieces) said.scalars))
       ∙ ap (λ text. documents_read (tokens_from breaks12 free text)) (breaks-round s.line_break (text_of pieces) said.laid)
       ∙ ap documents_read (tokens_are breaks12)
-      ∙ stream_read stream.documents (each_document stream.documents ok)
+      ∙ stream_read s.portable stream.documents (each_document s.portable stream.documents ok)
 
 list_read : (s : Effective) (breaks12 : Bool) (events : List Event) → 2 ≤ s.indent → s.canonical ≡ true → IsAccepted true events → list_all has_scalar_texts events ≡ true
     → canonical_content breaks12 (bytes_written s (list_layout s events)) ≡ content_of events

@@ -55,19 +55,19 @@ begins_fold : (before : List DocumentContent) (head : Head) (reading : Reading) 
 begins_fold before head reading stands = ap (λ r. token_read r document_begins) stands.is
 
 -- what holds of the nodes of each document
-abbrev pub EachDocument : Documents → Type 0
-EachDocument no_documents = Unit {0}
-EachDocument (documents_and before document) = EachDocument before × EachNode document.root (TagOf document.start.directives)
+abbrev pub EachDocument : (portable : Bool) → Documents → Type 0
+EachDocument portable no_documents = Unit {0}
+EachDocument portable (documents_and before document) = EachDocument portable before × EachNode document.root (TagOf portable document.start.directives)
 
-document_fold : (x : Document) (before : List DocumentContent) (after_open : Bool) → EachNode x.root (TagOf x.start.directives)
-    → fold token_read (outside before no_head after_open) (document_tokens after_open x) ≡ outside (before ++ document_content x ∷ []) no_head x.end_implicit
-document_fold x before after_open h =
+document_fold : (portable : Bool) (x : Document) (before : List DocumentContent) (after_open : Bool) → EachNode x.root (TagOf portable x.start.directives)
+    → fold token_read (outside before no_head after_open) (document_tokens portable after_open x) ≡ outside (before ++ document_content x ∷ []) no_head x.end_implicit
+document_fold portable x before after_open h =
     let z = outside before no_head after_open in
     let a = end_tokens (has_directives x.start && after_open) in
     let v = version_tokens x.start.version in
     let l = tag_line_tokens x.start.directives in
     let b : List Token = document_begins ∷ [] in
-    let n = node_tokens x.root x.start.directives in
+    let n = node_tokens portable x.root x.start.directives in
     let e = end_tokens (not x.end_implicit) in
     let after_a = closing_fold before (has_directives x.start) after_open in
     let after_v = version_fold before x.start.version (fold token_read z a) after_a in
@@ -79,17 +79,17 @@ document_fold x before after_open h =
     (fold-append token_read z ((a ++ v) ++ l) b
     ∙ ap (λ r. fold token_read r b) (fold-append token_read z (a ++ v) l ∙ ap (λ r. fold token_read r l) (fold-append token_read z a v))
     ∙ begins_fold before (head_of x.start.version x.start.directives) (fold token_read (fold token_read (fold token_read z a) v) l) after_l)
-    ∙ node_fold before (head_of x.start.version x.start.directives) x.root [] h)
+    ∙ node_fold portable before (head_of x.start.version x.start.directives) x.root [] h)
     ∙ end_fold (before ++ document_content x ∷ []) x.end_implicit
 
-pub documents_fold : (x : Documents) → EachDocument x
-    → fold token_read (outside [] no_head false) (documents_tokens x) ≡ outside (documents_content x) no_head (left_open x)
-documents_fold no_documents h = refl
-documents_fold (documents_and before document) h =
-    fold-append token_read (outside [] no_head false) (documents_tokens before) (document_tokens (left_open before) document)
-    ∙ ap (λ r. fold token_read r (document_tokens (left_open before) document)) (documents_fold before h.0)
-    ∙ document_fold document (documents_content before) (left_open before) h.1
+pub documents_fold : (portable : Bool) (x : Documents) → EachDocument portable x
+    → fold token_read (outside [] no_head false) (documents_tokens portable x) ≡ outside (documents_content x) no_head (left_open x)
+documents_fold portable no_documents h = refl
+documents_fold portable (documents_and before document) h =
+    fold-append token_read (outside [] no_head false) (documents_tokens portable before) (document_tokens portable (left_open before) document)
+    ∙ ap (λ r. fold token_read r (document_tokens portable (left_open before) document)) (documents_fold portable before h.0)
+    ∙ document_fold portable document (documents_content before) (left_open before) h.1
 
 -- a stream's tokens read as its documents
-pub stream_read : (x : Documents) → EachDocument x → documents_read (documents_tokens x) ≡ Some (documents_content x)
-stream_read x h = ap documents_at_end (documents_fold x h)
+pub stream_read : (portable : Bool) (x : Documents) → EachDocument portable x → documents_read (documents_tokens portable x) ≡ Some (documents_content x)
+stream_read portable x h = ap documents_at_end (documents_fold portable x h)

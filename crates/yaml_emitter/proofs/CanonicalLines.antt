@@ -11,15 +11,15 @@ use Rattle.yaml_base.specs.Characters.{Text, is_alpha, is_blank, space, line_fee
 use Rattle.yaml_base.specs.LineBreaks.{is_read_break}
 use Rattle.yaml_base.specs.Cursor.{Cursor, new_line, space_if}
 use Rattle.yaml_base.specs.Event.{Version, TagDirective}
-use Rattle.yaml_base.specs.Percent.{percent_escaped}
+use Rattle.yaml_base.specs.Percent.{prefix_escaped}
 use Rattle.yaml_base.specs.Tags.{version_fault, is_the_number, prefix_fault, tag_mark}
 use Rattle.yaml_base.specs.Layout.{sign_laid, closing_mark_laid, version_laid, tag_directive_laid, tag_directives_laid, document_mark_laid}
 use Rattle.yaml_base.specs.CanonicalReader.{version_line, tag_line, document_begins, document_ends, free, in_line, tokens_from, words, directive_token, tag_line_of, is_handle, ends_handle}
-use Rattle.yaml_base.proofs.PercentLaws.{decoded_escaped, escaped_begins}
+use Rattle.yaml_base.proofs.PercentLaws.{decoded_prefix, prefix_begins}
 use Rattle.yaml_base.proofs.TagLaws.{IsHandle}
 use Rattle.yaml_base.proofs.BreakLaws.{laid-append}
 use Rattle.yaml_emitter.proofs.CanonicalText.{anything, Says, says_after, says_text, says_nothing, says_white, space_if-white, new_line-white, indicator_says, scalars-append, and_false}
-use Rattle.yaml_emitter.proofs.CanonicalNames.{is_written, all_written, all-scalars, all-laid, escaped-written, handle_text}
+use Rattle.yaml_emitter.proofs.CanonicalNames.{is_written, all_written, all-scalars, all-laid, prefix-written, handle_text}
 use Rattle.yaml_emitter.proofs.CanonicalTokens.{version_tokens, tag_line_tokens}
 
 -- Marks.
@@ -186,15 +186,15 @@ pub record DirectiveOk (directive : TagDirective) : Type 0 where
   pub some : prefix_fault directive.prefix ≡ None
   pub scalars : all_scalars directive.prefix ≡ true
 
-prefix_counts : (prefix : Text) → prefix_fault prefix ≡ None → counts (percent_escaped prefix) ≡ true
-prefix_counts [] h = absurd (cc)
-prefix_counts (c ∷ prefix) h = let begins = escaped_begins c prefix in rw begins.2 (some_counts begins.0 begins.1)
+prefix_counts : (portable : Bool) (prefix : Text) → prefix_fault prefix ≡ None → counts (prefix_escaped portable prefix) ≡ true
+prefix_counts portable [] h = absurd (cc)
+prefix_counts portable (c ∷ prefix) h = let begins = prefix_begins portable c prefix in rw begins.2 (some_counts begins.0 begins.1)
 
 abbrev pub EachDirective : List TagDirective → Type 0
 EachDirective [] = Unit {0}
 EachDirective (directive ∷ rest) = DirectiveOk directive × EachDirective rest
 
-module _ (breaks12 : Bool) where
+module _ (breaks12 portable : Bool) where
   enter_line : (rest : Text) → tokens_from breaks12 free (codes "%TAG" ++ (space ∷ rest)) ≡ tokens_from breaks12 (in_line (codes "%TAG" ++ space ∷ [])) rest
   enter_line rest = by breaks12
     where
@@ -204,43 +204,43 @@ module _ (breaks12 : Bool) where
 
   -- the line itself, from its `%` to its break
   abbrev line_of : TagDirective → Text
-  line_of directive = codes "%TAG" ++ (space ∷ ((directive.handle ++ space ∷ percent_escaped directive.prefix) ++ line_feed ∷ []))
+  line_of directive = codes "%TAG" ++ (space ∷ ((directive.handle ++ space ∷ prefix_escaped portable directive.prefix) ++ line_feed ∷ []))
 
   whole_line : (directive : TagDirective) → DirectiveOk directive → Says breaks12 anything (line_of directive) (tag_line directive ∷ [])
   whole_line directive ok =
       let h = handle_written directive.handle ok.handle in
-      let p = escaped-written directive.prefix in
-      let inner = directive.handle ++ space ∷ percent_escaped directive.prefix in
+      let p = prefix-written portable directive.prefix in
+      let inner = directive.handle ++ space ∷ prefix_escaped portable directive.prefix in
       let token : directive_token (words ((codes "%TAG" ++ space ∷ []) ++ inner)) ≡ tag_line directive =
-      ap directive_token (line_words directive.handle (percent_escaped directive.prefix) h p (handle_counts directive.handle ok.handle) (prefix_counts directive.prefix ok.some))
-      ∙ ap (tag_line_of directive.handle) (decoded_escaped directive.prefix ok.scalars)
+      ap directive_token (line_words directive.handle (prefix_escaped portable directive.prefix) h p (handle_counts directive.handle ok.handle) (prefix_counts portable directive.prefix ok.some))
+      ∙ ap (tag_line_of directive.handle) (decoded_prefix portable directive.prefix ok.scalars)
       ∙ rw (handle_is directive.handle ok.handle) refl in
       record {
-        scalars = scalars-append inner (line_feed ∷ []) (scalars-append directive.handle (space ∷ percent_escaped directive.prefix) (all-scalars directive.handle h) (all-scalars (percent_escaped directive.prefix) p)) refl;
-        laid = laid-append inner (line_feed ∷ []) (laid-append directive.handle (space ∷ percent_escaped directive.prefix) (all-laid directive.handle h) (all-laid (percent_escaped directive.prefix) p)) refl;
+        scalars = scalars-append inner (line_feed ∷ []) (scalars-append directive.handle (space ∷ prefix_escaped portable directive.prefix) (all-scalars directive.handle h) (all-scalars (prefix_escaped portable directive.prefix) p)) refl;
+        laid = laid-append inner (line_feed ∷ []) (laid-append directive.handle (space ∷ prefix_escaped portable directive.prefix) (all-laid directive.handle h) (all-laid (prefix_escaped portable directive.prefix) p)) refl;
         reads = λ rest meets.
             enter_line ((inner ++ line_feed ∷ []) ++ rest)
             ∙ ap (tokens_from breaks12 (in_line (codes "%TAG" ++ space ∷ []))) (append_assoc inner (line_feed ∷ []) rest)
             ∙ line_goes breaks12 inner (codes "%TAG" ++ space ∷ []) rest
-            (list_all-append in_a_line directive.handle (space ∷ percent_escaped directive.prefix) ∙ and_from _ _ (all_in_line directive.handle h) (all_in_line (percent_escaped directive.prefix) p))
+            (list_all-append in_a_line directive.handle (space ∷ prefix_escaped portable directive.prefix) ∙ and_from _ _ (all_in_line directive.handle h) (all_in_line (prefix_escaped portable directive.prefix) p))
             ∙ ap (λ t. t ∷ tokens_from breaks12 free rest) token;
       }
 
-  directive_says : (directive : TagDirective) (cursor : Cursor) → DirectiveOk directive → Says breaks12 anything (tag_directive_laid directive cursor).text (tag_line directive ∷ [])
+  directive_says : (directive : TagDirective) (cursor : Cursor) → DirectiveOk directive → Says breaks12 anything (tag_directive_laid portable directive cursor).text (tag_line directive ∷ [])
   directive_says directive cursor ok =
       let sp = space_if true cursor in
-      let esc = percent_escaped directive.prefix in
+      let esc = prefix_escaped portable directive.prefix in
       let e : (((sp ++ codes "%TAG") ++ (space ∷ directive.handle)) ++ (space ∷ esc)) ++ line_feed ∷ [] ≡ sp ++ line_of directive =
       append_assoc ((sp ++ codes "%TAG") ++ (space ∷ directive.handle)) (space ∷ esc) (line_feed ∷ [])
       ∙ append_assoc (sp ++ codes "%TAG") (space ∷ directive.handle) ((space ∷ esc) ++ line_feed ∷ [])
       ∙ append_assoc sp (codes "%TAG") ((space ∷ directive.handle) ++ ((space ∷ esc) ++ line_feed ∷ []))
       ∙ ap (λ t. sp ++ (codes "%TAG" ++ (space ∷ t))) (sym (append_assoc directive.handle (space ∷ esc) (line_feed ∷ []))) in
-      says_text (tag_directive_laid directive cursor).text e
+      says_text (tag_directive_laid portable directive cursor).text e
       (says_after (says_white breaks12 sp (space_if-white true cursor)) (whole_line directive ok))
 
   pub directives_say : (directives : List TagDirective) (cursor : Cursor) → EachDirective directives
-      → Says breaks12 anything (tag_directives_laid directives cursor).text (tag_line_tokens directives)
+      → Says breaks12 anything (tag_directives_laid portable directives cursor).text (tag_line_tokens directives)
   directives_say [] cursor ok = says_nothing breaks12
   directives_say (directive ∷ rest) cursor ok =
-      let first = tag_directive_laid directive cursor in
+      let first = tag_directive_laid portable directive cursor in
       says_after (directive_says directive cursor ok.0) (directives_say rest first.cursor ok.1)

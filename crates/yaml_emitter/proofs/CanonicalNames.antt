@@ -11,10 +11,10 @@ use Rattle.yaml_base.specs.Characters.{Text, is_alpha, is_among, is_space, space
 use Rattle.yaml_base.specs.Analysis.{begins_with}
 use Rattle.yaml_base.specs.LineBreaks.{is_laid_text}
 use Rattle.yaml_base.specs.Event.{TagDirective}
-use Rattle.yaml_base.specs.Percent.{percent_escaped}
+use Rattle.yaml_base.specs.Percent.{percent_escaped, suffix_escaped, prefix_escaped}
 use Rattle.yaml_base.specs.Tags.{Spelling, spelling, spelled, directives_fault, directives_in_force, tag_mark}
 use Rattle.yaml_base.specs.CanonicalReader.{anchor_token, alias_token, tag_token, anchor_named, alias_named, free, in_anchor, in_alias, in_tag, tokens_from, free_turn, goes_to}
-use Rattle.yaml_base.proofs.PercentLaws.{stands_written, escaped_stands}
+use Rattle.yaml_base.proofs.PercentLaws.{stands_written, escaped_stands, suffix_stands, stands_in_prefix, prefix_stands}
 use Rattle.yaml_base.proofs.TagLaws.{IsHandle, handle_form, spelling_is, in_force_found}
 use Rattle.yaml_emitter.proofs.CanonicalText.{name_ends, space_next, Says}
 
@@ -58,6 +58,19 @@ stand-written (c ∷ text) h = let p = and_parts (stands_written c) (list_all st
 
 pub escaped-written : (text : Text) → all_written (percent_escaped text) ≡ true
 escaped-written text = stand-written (percent_escaped text) (escaped_stands text)
+
+suffix-written : (portable : Bool) (text : Text) → all_written (suffix_escaped portable text) ≡ true
+suffix-written portable text = stand-written (suffix_escaped portable text) (suffix_stands portable text)
+
+prefix_character : (c : ℕ) → stands_in_prefix c ≡ true → is_written c ≡ true
+prefix_character c h = grind (arith, nat_tests)
+
+stand-in-prefix : (text : Text) → list_all stands_in_prefix text ≡ true → all_written text ≡ true
+stand-in-prefix [] h = refl
+stand-in-prefix (c ∷ text) h = let p = and_parts (stands_in_prefix c) (list_all stands_in_prefix text) h in and_from _ _ (prefix_character c p.0) (stand-in-prefix text p.1)
+
+pub prefix-written : (portable : Bool) (text : Text) → all_written (prefix_escaped portable text) ≡ true
+prefix-written portable text = stand-in-prefix (prefix_escaped portable text) (prefix_stands portable text)
 
 pub written-append : (a b : Text) → all_written a ≡ true → all_written b ≡ true → all_written (a ++ b) ≡ true
 written-append a b h k = list_all-append is_written a b ∙ and_from _ _ h k
@@ -180,9 +193,9 @@ handle_text handle (inr form) = record {
 }
 
 -- A written tag is such a text.
-pub tag_text : (own : List TagDirective) (tag : Text) → directives_fault own ≡ None → IsTagText (spelled (spelling (directives_in_force own) tag))
-tag_text own tag h =
-    let P : Spelling → Type 0 = λ s. IsTagText (spelled s) in
+pub tag_text : (portable : Bool) (own : List TagDirective) (tag : Text) → directives_fault own ≡ None → IsTagText (spelled portable (spelling (directives_in_force own) tag))
+tag_text portable own tag h =
+    let P : Spelling → Type 0 = λ s. IsTagText (spelled portable s) in
     spelling_is P own (directives_in_force own) tag (in_force_found own h)
     (record { rest = (0x3C ∷ percent_escaped tag) ++ codes ">"; is = refl; written = written-append (0x3C ∷ percent_escaped tag) (codes ">") (escaped-written tag) refl })
-    (λ handle prefix c suffix f g whole. tag-append handle (percent_escaped (c ∷ suffix)) (handle_text handle (handle_form handle f)) (escaped-written (c ∷ suffix)))
+    (λ handle prefix c suffix f g whole. tag-append handle (suffix_escaped portable (c ∷ suffix)) (handle_text handle (handle_form handle f)) (suffix-written portable (c ∷ suffix)))

@@ -69,11 +69,11 @@ space_opens space_next cursor h = by cursor.whitespace h
     by false e = record { meets = λ rest. refl }
 
 -- the bare tag stands where there is neither a tag nor the quoted flag
-bare_tokens : (own : List TagDirective) (tag : Option Text) (quoted : Bool)
-    → tag_tokens own tag (not (is_some tag) && not quoted && not false) ≡ tag_tokens own tag (not quoted)
-bare_tokens own None true = refl
-bare_tokens own None false = refl
-bare_tokens own (Some tag) quoted = refl
+bare_tokens : (portable : Bool) (own : List TagDirective) (tag : Option Text) (quoted : Bool)
+    → tag_tokens portable own tag (not (is_some tag) && not quoted && not false) ≡ tag_tokens portable own tag (not quoted)
+bare_tokens portable own None true = refl
+bare_tokens portable own None false = refl
+bare_tokens portable own (Some tag) quoted = refl
 
 -- what brackets say
 record BracketsSay (breaks12 : Bool) (brackets : Brackets) (opens closes : Token) : Type 0 where
@@ -99,38 +99,38 @@ module _ (breaks12 : Bool) (s : Effective) (wide : 2 ≤ s.indent) (own : List T
   starts : (at : Option Spot) (demand : Demand) (text : Text) (tokens : List Token) (anchor tag : Option Text) (bare : Bool) (cursor : Cursor)
       → Says breaks12 demand text tokens → Follows at demand cursor → AnchorOk anchor
       → Says breaks12 (demand_of anchor tag bare)
-      (text ++ (then_laid (place_laid (in_canonical s) (place_of at) false cursor) (properties_laid force anchor tag bare)).text)
-      (tokens ++ (spot_tokens at ++ properties_tokens own anchor tag bare))
+      (text ++ (then_laid (place_laid (in_canonical s) (place_of at) false cursor) (properties_laid s.portable force anchor tag bare)).text)
+      (tokens ++ (spot_tokens at ++ properties_tokens s.portable own anchor tag bare))
   starts at demand text tokens anchor tag bare cursor says follows ok =
       let place = place_laid (in_canonical s) (place_of at) false cursor in
-      let properties = properties_laid force anchor tag bare place.cursor in
+      let properties = properties_laid s.portable force anchor tag bare place.cursor in
       says_then says (opens_append place.text properties.text (place_opens s at demand cursor follows))
-      (says_after (place_says breaks12 s at cursor) (properties_say breaks12 own sound anchor tag bare place.cursor ok))
+      (says_after (place_says breaks12 s at cursor) (properties_say breaks12 s.portable own sound anchor tag bare place.cursor ok))
 
   scalar_after : (at : Option Spot) (demand : Demand) (text : Text) (tokens : List Token) (content : Scalar) (standing : Standing)
       → Says breaks12 demand text tokens → Follows at demand standing.cursor → EventOk (scalar content)
-      → After breaks12 text (tokens ++ (spot_tokens at ++ node_tokens (scalar_node content) own)) standing
+      → After breaks12 text (tokens ++ (spot_tokens at ++ node_tokens s.portable (scalar_node content) own)) standing
       (one_piece (scalar_piece (in_canonical s) force (place_of at) false content standing))
   scalar_after at demand text tokens content standing says follows ok =
       let bare = not (is_some content.tag) && not content.quoted_implicit && not false in
-      let lead = then_laid (place_laid (in_canonical s) (place_of at) false standing.cursor) (properties_laid force content.anchor content.tag bare) in
+      let lead = then_laid (place_laid (in_canonical s) (place_of at) false standing.cursor) (properties_laid s.portable force content.anchor content.tag bare) in
       let separation = space_if true lead.cursor in
       let whole = scalar_lead (in_canonical s) force (place_of at) false (choice_of (in_canonical s) (place_of at) false content) content standing.cursor in
       let body = double_quoted_body s.unicode s.width (deeper s.indent (place_of at).column) content.value whole.cursor in
       let started = starts at demand text tokens content.anchor content.tag bare standing.cursor says follows ok.0 in
-      let fits = properties_fit breaks12 own sound content.anchor content.tag bare (place_laid (in_canonical s) (place_of at) false standing.cursor).cursor in
+      let fits = properties_fit breaks12 s.portable own sound content.anchor content.tag bare (place_laid (in_canonical s) (place_of at) false standing.cursor).cursor in
       let spaced = says_then started (space_opens (demand_of content.anchor content.tag bare) lead.cursor fits) (says_white breaks12 separation (space_if-white true lead.cursor)) in
       let below : 2 ≤ deeper s.indent (place_of at).column = omega arith in
       let all = says_after spaced (body_says s.unicode s.width (deeper s.indent (place_of at).column) breaks12 content.value whole.cursor below ok.1) in
-      let props = properties_tokens own content.anchor content.tag bare in
+      let props = properties_tokens s.portable own content.anchor content.tag bare in
       let last : List Token = scalar_token content.value ∷ [] in
       record {
         says =
-            says_tokens (tokens ++ (spot_tokens at ++ node_tokens (scalar_node content) own))
+            says_tokens (tokens ++ (spot_tokens at ++ node_tokens s.portable (scalar_node content) own))
             (ap (λ k. k ++ last) (append-nil (tokens ++ (spot_tokens at ++ props)))
             ∙ append_assoc tokens (spot_tokens at ++ props) last
             ∙ ap (λ k. tokens ++ k) (append_assoc (spot_tokens at) props last)
-            ∙ ap (λ k. tokens ++ (spot_tokens at ++ ((anchor_tokens content.anchor ++ k) ++ last))) (bare_tokens own content.tag content.quoted_implicit))
+            ∙ ap (λ k. tokens ++ (spot_tokens at ++ ((anchor_tokens content.anchor ++ k) ++ last))) (bare_tokens s.portable own content.tag content.quoted_implicit))
             (says_text (text ++ (((lead.text ++ separation) ++ body.text) ++ []))
             (ap (λ t. text ++ t) (append-nil ((lead.text ++ separation) ++ body.text))
             ∙ sym (ap (λ t. t ++ body.text) (append_assoc text lead.text separation) ∙ append_assoc text (lead.text ++ separation) body.text))
@@ -168,19 +168,19 @@ module _ (breaks12 : Bool) (s : Effective) (wide : 2 ≤ s.indent) (own : List T
       → ((d : Demand) (before : Text) (j : List Token) (column : ℕ) (from : Standing) → Says breaks12 d before j → Fits d from.cursor
       → EntriesAfter breaks12 empty d before (j ++ held) from (entries column from))
       → After breaks12 text
-      (tokens ++ (spot_tokens at ++ ((properties_tokens own start.anchor start.tag false ++ held) ++ (entry_sign opens empty ∷ closes ∷ []))))
+      (tokens ++ (spot_tokens at ++ ((properties_tokens s.portable own start.anchor start.tag false ++ held) ++ (entry_sign opens empty ∷ closes ∷ []))))
       standing
       (collection_laid (in_canonical s) brackets true undented empty (place_of at).column
       (start_piece (in_canonical s) force (place_of at) false start standing) entries)
   collection_after at demand text tokens brackets opens closes signs start undented empty entries held standing says follows ok goes =
-      let lead = then_laid (place_laid (in_canonical s) (place_of at) false standing.cursor) (properties_laid force start.anchor start.tag false) in
+      let lead = then_laid (place_laid (in_canonical s) (place_of at) false standing.cursor) (properties_laid s.portable force start.anchor start.tag false) in
       let piece = start_piece (in_canonical s) force (place_of at) false start standing in
       let d = demand_of start.anchor start.tag false in
-      let props = properties_tokens own start.anchor start.tag false in
+      let props = properties_tokens s.portable own start.anchor start.tag false in
       let k = tokens ++ (spot_tokens at ++ props) in
       let tail = entry_sign opens empty ∷ closes ∷ [] in
       let started = starts at demand text tokens start.anchor start.tag false standing.cursor says follows ok in
-      let fits = properties_fit breaks12 own sound start.anchor start.tag false (place_laid (in_canonical s) (place_of at) false standing.cursor).cursor in
+      let fits = properties_fit breaks12 s.portable own sound start.anchor start.tag false (place_laid (in_canonical s) (place_of at) false standing.cursor).cursor in
       let column = deeper s.indent (place_of at).column in
       let inner = entries column piece.standing in
       let first : Says breaks12 d (text ++ text_of (piece.piece ∷ [])) k = says_text (text ++ text_of (piece.piece ∷ [])) (ap (λ t. text ++ t) (lead_text lead.text)) started in
@@ -229,18 +229,18 @@ module _ (breaks12 : Bool) (s : Effective) (wide : 2 ≤ s.indent) (own : List T
   mutual
     pub node_after : (n : Node) (at : Option Spot) (demand : Demand) (text : Text) (tokens : List Token) (standing : Standing)
         → Says breaks12 demand text tokens → Follows at demand standing.cursor → EachNode n EventOk
-        → After breaks12 text (tokens ++ (spot_tokens at ++ node_tokens n own)) standing (node_laid n (in_canonical s) force (place_of at) standing)
+        → After breaks12 text (tokens ++ (spot_tokens at ++ node_tokens s.portable n own)) standing (node_laid n (in_canonical s) force (place_of at) standing)
     node_after (alias_node name) at demand text tokens standing says follows ok =
         subst (λ b. After breaks12 text (tokens ++ (spot_tokens at ++ alias_token name ∷ [])) standing (one_piece (alias_piece (in_canonical s) (place_of at) b name standing)))
         (sym (and_false (is_key (place_of at).role)))
         (alias_after at demand text tokens name standing says follows ok)
     node_after (scalar_node content) at demand text tokens standing says follows ok =
-        subst (λ b. After breaks12 text (tokens ++ (spot_tokens at ++ node_tokens (scalar_node content) own)) standing (one_piece (scalar_piece (in_canonical s) force (place_of at) b content standing)))
+        subst (λ b. After breaks12 text (tokens ++ (spot_tokens at ++ node_tokens s.portable (scalar_node content) own)) standing (one_piece (scalar_piece (in_canonical s) force (place_of at) b content standing)))
         (sym (and_false (is_key (place_of at).role)))
         (scalar_after at demand text tokens content standing says follows ok)
     node_after (sequence_node start items) at demand text tokens standing says follows ok =
         let empty = has_no_nodes items in
-        let k = tokens ++ (spot_tokens at ++ node_tokens (sequence_node start items) own) in
+        let k = tokens ++ (spot_tokens at ++ node_tokens s.portable (sequence_node start items) own) in
         let undented = is_in_mapping (place_of at).role in
         subst (λ b. After breaks12 text k standing
         (collection_laid (in_canonical s) square (is_written_in_flow (in_canonical s) (place_of at) start empty) undented empty (place_of at).column (start_piece (in_canonical s) force (place_of at) b start standing) (nodes_laid items (in_canonical s) force (is_written_in_flow (in_canonical s) (place_of at) start empty))))
@@ -249,11 +249,11 @@ module _ (breaks12 : Bool) (s : Effective) (wide : 2 ≤ s.indent) (own : List T
         (collection_laid (in_canonical s) square b undented empty (place_of at).column (start_piece (in_canonical s) force (place_of at) false start standing) (nodes_laid items (in_canonical s) force b)))
         (sym (in_flow s at start empty))
         (collection_after at demand text tokens square opens_sequence closes_sequence (squares_say breaks12) start undented empty
-        (nodes_laid items (in_canonical s) force true) (nodes_tokens items own) standing says follows ok.0
+        (nodes_laid items (in_canonical s) force true) (nodes_tokens s.portable items own) standing says follows ok.0
         (λ d before j column from said fits. items_after items d before j column from said fits ok.1)))
     node_after (mapping_node start pairs) at demand text tokens standing says follows ok =
         let empty = has_no_pairs pairs in
-        let k = tokens ++ (spot_tokens at ++ node_tokens (mapping_node start pairs) own) in
+        let k = tokens ++ (spot_tokens at ++ node_tokens s.portable (mapping_node start pairs) own) in
         subst (λ b. After breaks12 text k standing
         (collection_laid (in_canonical s) curly (is_written_in_flow (in_canonical s) (place_of at) start empty) false empty (place_of at).column (start_piece (in_canonical s) force (place_of at) b start standing) (pairs_laid pairs (in_canonical s) force (is_written_in_flow (in_canonical s) (place_of at) start empty))))
         (sym (and_false (is_key (place_of at).role)))
@@ -261,12 +261,12 @@ module _ (breaks12 : Bool) (s : Effective) (wide : 2 ≤ s.indent) (own : List T
         (collection_laid (in_canonical s) curly b false empty (place_of at).column (start_piece (in_canonical s) force (place_of at) false start standing) (pairs_laid pairs (in_canonical s) force b)))
         (sym (in_flow s at start empty))
         (collection_after at demand text tokens curly opens_mapping closes_mapping (curlies_say breaks12) start false empty
-        (pairs_laid pairs (in_canonical s) force true) (pairs_tokens pairs own) standing says follows ok.0
+        (pairs_laid pairs (in_canonical s) force true) (pairs_tokens s.portable pairs own) standing says follows ok.0
         (λ d before j column from said fits. pairs_after pairs d before j column from said fits ok.1)))
 
     items_after : (items : Nodes) (d : Demand) (text : Text) (tokens : List Token) (column : ℕ) (standing : Standing)
         → Says breaks12 d text tokens → Fits d standing.cursor → EachItem items EventOk
-        → EntriesAfter breaks12 (has_no_nodes items) d text (tokens ++ nodes_tokens items own) standing (nodes_laid items (in_canonical s) force true column standing)
+        → EntriesAfter breaks12 (has_no_nodes items) d text (tokens ++ nodes_tokens s.portable items own) standing (nodes_laid items (in_canonical s) force true column standing)
     items_after no_nodes d text tokens column standing says fits ok = record {
       says = says_text (text ++ []) (append-nil text) (says_tokens (tokens ++ []) (sym (append-nil tokens)) says);
       entered = fits;
@@ -276,11 +276,11 @@ module _ (breaks12 : Bool) (s : Effective) (wide : 2 ≤ s.indent) (own : List T
         let before = items_after items d text tokens column standing says fits ok.0 in
         let front = nodes_laid items (in_canonical s) force true column standing in
         let at : Option Spot = Some (record { role = as_item (has_no_nodes items); column = column }) in
-        let node = node_after last at (demand_at (has_no_nodes items) d) (text ++ text_of front.pieces) (tokens ++ nodes_tokens items own) front.standing before.says before.entered ok.1 in
+        let node = node_after last at (demand_at (has_no_nodes items) d) (text ++ text_of front.pieces) (tokens ++ nodes_tokens s.portable items own) front.standing before.says before.entered ok.1 in
         let back = node_laid last (in_canonical s) force (place_of at) front.standing in
         record {
           says =
-              says_tokens (tokens ++ nodes_tokens (nodes_and items last) own) (append_assoc tokens (nodes_tokens items own) (spot_tokens at ++ node_tokens last own))
+              says_tokens (tokens ++ nodes_tokens s.portable (nodes_and items last) own) (append_assoc tokens (nodes_tokens s.portable items own) (spot_tokens at ++ node_tokens s.portable last own))
               (says_text (text ++ text_of (front.pieces ++ back.pieces)) (more_text text front.pieces back.pieces) node.says);
           entered = refl;
           mark = node.mark ∙ before.mark;
@@ -288,7 +288,7 @@ module _ (breaks12 : Bool) (s : Effective) (wide : 2 ≤ s.indent) (own : List T
 
     pairs_after : (pairs : Pairs) (d : Demand) (text : Text) (tokens : List Token) (column : ℕ) (standing : Standing)
         → Says breaks12 d text tokens → Fits d standing.cursor → EachPair pairs EventOk
-        → EntriesAfter breaks12 (has_no_pairs pairs) d text (tokens ++ pairs_tokens pairs own) standing (pairs_laid pairs (in_canonical s) force true column standing)
+        → EntriesAfter breaks12 (has_no_pairs pairs) d text (tokens ++ pairs_tokens s.portable pairs own) standing (pairs_laid pairs (in_canonical s) force true column standing)
     pairs_after no_pairs d text tokens column standing says fits ok = record {
       says = says_text (text ++ []) (append-nil text) (says_tokens (tokens ++ []) (sym (append-nil tokens)) says);
       entered = fits;
@@ -299,19 +299,19 @@ module _ (breaks12 : Bool) (s : Effective) (wide : 2 ≤ s.indent) (own : List T
         let front = pairs_laid pairs (in_canonical s) force true column standing in
         let key_at : Option Spot = Some (record { role = as_key (has_no_pairs pairs); column = column }) in
         let value_at : Option Spot = Some (record { role = as_value (is_simple true force key); column = column }) in
-        let front_tokens = tokens ++ pairs_tokens pairs own in
+        let front_tokens = tokens ++ pairs_tokens s.portable pairs own in
         let key_said = node_after key key_at (demand_at (has_no_pairs pairs) d) (text ++ text_of front.pieces) front_tokens front.standing before.says before.entered ok.1 in
         let middle = node_laid key (in_canonical s) force (place_of key_at) front.standing in
-        let key_tokens = spot_tokens key_at ++ node_tokens key own in
+        let key_tokens = spot_tokens key_at ++ node_tokens s.portable key own in
         let value_said = node_after value value_at name_ends ((text ++ text_of front.pieces) ++ text_of middle.pieces) (front_tokens ++ key_tokens) middle.standing key_said.says refl ok.2 in
         let back = node_laid value (in_canonical s) force (place_of value_at) middle.standing in
-        let value_tokens = spot_tokens value_at ++ node_tokens value own in
+        let value_tokens = spot_tokens value_at ++ node_tokens s.portable value own in
         record {
           says =
-              says_tokens (tokens ++ pairs_tokens (pairs_and pairs key value) own)
+              says_tokens (tokens ++ pairs_tokens s.portable (pairs_and pairs key value) own)
               (append_assoc front_tokens key_tokens value_tokens
-              ∙ append_assoc tokens (pairs_tokens pairs own) (key_tokens ++ value_tokens)
-              ∙ ap (λ t. tokens ++ t) (sym (append_assoc (pairs_tokens pairs own) key_tokens value_tokens)))
+              ∙ append_assoc tokens (pairs_tokens s.portable pairs own) (key_tokens ++ value_tokens)
+              ∙ ap (λ t. tokens ++ t) (sym (append_assoc (pairs_tokens s.portable pairs own) key_tokens value_tokens)))
               (says_text (text ++ text_of ((front.pieces ++ middle.pieces) ++ back.pieces))
               (more_text text (front.pieces ++ middle.pieces) back.pieces ∙ ap (λ t. t ++ text_of back.pieces) (more_text text front.pieces middle.pieces))
               value_said.says);

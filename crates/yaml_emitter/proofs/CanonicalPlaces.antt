@@ -5,7 +5,7 @@ use Rattle.yaml_base.specs.Characters.{Text}
 use Rattle.yaml_base.specs.Settings.{Effective}
 use Rattle.yaml_base.specs.Cursor.{Cursor, new_line, indicator, space_if}
 use Rattle.yaml_base.specs.Event.{TagDirective}
-use Rattle.yaml_base.specs.Percent.{percent_escaped}
+use Rattle.yaml_base.specs.Percent.{percent_escaped, suffix_escaped}
 use Rattle.yaml_base.specs.Tags.{Spelling, shorthand, verbatim, spelling, spelled, directives_fault, directives_in_force}
 use Rattle.yaml_base.specs.Layout.{Role, as_root, as_item, as_key, as_value, Place, opening_or_comma, place_laid, root_place, entry_place, anchor_laid, spelling_laid, properties_laid}
 use Rattle.yaml_base.specs.CanonicalReader.{Token, opens_sequence, closes_sequence, opens_mapping, closes_mapping, key_sign, value_sign, comma, tag_token}
@@ -166,22 +166,22 @@ abbrev anchor_demand : Option Text → Demand
 anchor_demand None = anything
 anchor_demand (Some name) = name_ends
 
-spelling_text : (x : Spelling) (cursor : Cursor) → (spelling_laid x cursor).text ≡ space_if true cursor ++ spelled x
-spelling_text (shorthand handle suffix) cursor = append_assoc (space_if true cursor) handle (percent_escaped suffix)
-spelling_text (verbatim tag) cursor =
+spelling_text : (portable : Bool) (x : Spelling) (cursor : Cursor) → (spelling_laid portable x cursor).text ≡ space_if true cursor ++ spelled portable x
+spelling_text portable (shorthand handle suffix) cursor = append_assoc (space_if true cursor) handle (suffix_escaped portable suffix)
+spelling_text portable (verbatim tag) cursor =
     append_assoc (space_if true cursor ++ codes "!<") (percent_escaped tag) (codes ">")
     ∙ append_assoc (space_if true cursor) (codes "!<") (percent_escaped tag ++ codes ">")
 
-spelling_ends : (x : Spelling) (cursor : Cursor) → (spelling_laid x cursor).cursor.whitespace ≡ false
-spelling_ends (shorthand handle suffix) cursor = refl
-spelling_ends (verbatim tag) cursor = refl
+spelling_ends : (portable : Bool) (x : Spelling) (cursor : Cursor) → (spelling_laid portable x cursor).cursor.whitespace ≡ false
+spelling_ends portable (shorthand handle suffix) cursor = refl
+spelling_ends portable (verbatim tag) cursor = refl
 
 tag_opens : (demand : Demand) (cursor : Cursor) (text : Text) → IsTagText text → Opens name_ends (space_if true cursor ++ text)
 tag_opens demand cursor text tag =
     white-opens (space_if true cursor) text (space_if-white true cursor)
     (subst (λ t. Opens name_ends t) (sym tag.is) (record { meets = λ rest. refl }))
 
-module _ (breaks12 : Bool) (own : List TagDirective) (sound : directives_fault own ≡ None) where
+module _ (breaks12 portable : Bool) (own : List TagDirective) (sound : directives_fault own ≡ None) where
   anchored : (anchor : Option Text) (cursor : Cursor) → AnchorOk anchor → Says breaks12 (anchor_demand anchor) (anchor_laid anchor cursor).text (anchor_tokens anchor)
   anchored None cursor ok = says_nothing breaks12
   anchored (Some name) cursor ok =
@@ -202,11 +202,11 @@ module _ (breaks12 : Bool) (own : List TagDirective) (sound : directives_fault o
       opens (Some name) after = tag_opens anything after tag is
 
   pub properties_say : (anchor tag : Option Text) (bare : Bool) (cursor : Cursor) → AnchorOk anchor
-      → Says breaks12 (demand_of anchor tag bare) (properties_laid (directives_in_force own) anchor tag bare cursor).text (properties_tokens own anchor tag bare)
+      → Says breaks12 (demand_of anchor tag bare) (properties_laid portable (directives_in_force own) anchor tag bare cursor).text (properties_tokens portable own anchor tag bare)
   properties_say anchor (Some tag) bare cursor ok =
       let after = (anchor_laid anchor cursor).cursor in
-      tag_after anchor cursor (spelling_laid (spelling (directives_in_force own) tag) after).text (spelled (spelling (directives_in_force own) tag)) ok
-      (tag_text own tag sound) (spelling_text (spelling (directives_in_force own) tag) after)
+      tag_after anchor cursor (spelling_laid portable (spelling (directives_in_force own) tag) after).text (spelled portable (spelling (directives_in_force own) tag)) ok
+      (tag_text portable own tag sound) (spelling_text portable (spelling (directives_in_force own) tag) after)
   properties_say anchor None true cursor ok =
       let after = (anchor_laid anchor cursor).cursor in
       tag_after anchor cursor (space_if true after ++ codes "!") (codes "!") ok (record { rest = []; is = refl; written = refl }) refl
@@ -215,8 +215,8 @@ module _ (breaks12 : Bool) (own : List TagDirective) (sound : directives_fault o
       says_text ((anchor_laid (Some name) cursor).text ++ []) (append-nil (anchor_laid (Some name) cursor).text) (anchored (Some name) cursor ok)
 
   pub properties_fit : (anchor tag : Option Text) (bare : Bool) (cursor : Cursor)
-      → Fits (demand_of anchor tag bare) (properties_laid (directives_in_force own) anchor tag bare cursor).cursor
-  properties_fit anchor (Some tag) bare cursor = spelling_ends (spelling (directives_in_force own) tag) (anchor_laid anchor cursor).cursor
+      → Fits (demand_of anchor tag bare) (properties_laid portable (directives_in_force own) anchor tag bare cursor).cursor
+  properties_fit anchor (Some tag) bare cursor = spelling_ends portable (spelling (directives_in_force own) tag) (anchor_laid anchor cursor).cursor
   properties_fit anchor None true cursor = refl
   properties_fit None None false cursor = tt
   properties_fit (Some name) None false cursor = refl

@@ -59,12 +59,12 @@ event_ok (sequence_start start) h = anchor_is start.anchor start.tag (neither (p
 event_ok (mapping_start start) h = anchor_is start.anchor start.tag (neither (properties_fault start.anchor start.tag) None (ap (λ f. option_or f None) (no_faults (mapping_start start) h).0)).0
 event_ok _ h = tt
 
-module _ (own : List TagDirective) (sound : directives_fault own ≡ None) where
-  tag_reads : (tag : Option Text) → option_scalars tag ≡ true → TagReads own tag
+module _ (portable : Bool) (own : List TagDirective) (sound : directives_fault own ≡ None) where
+  tag_reads : (tag : Option Text) → option_scalars tag ≡ true → TagReads portable own tag
   tag_reads None h = tt
-  tag_reads (Some tag) h = written_tag_reads own tag sound h
+  tag_reads (Some tag) h = written_tag_reads portable own tag sound h
 
-  tag_of : (event : Event) → is_good event ≡ true → TagOf own event
+  tag_of : (event : Event) → is_good event ≡ true → TagOf portable own event
   tag_of (scalar content) h = tag_reads content.tag (and_parts (option_scalars content.tag) (all_scalars content.value) (no_faults (scalar content) h).2).0
   tag_of (sequence_start start) h = tag_reads start.tag (no_faults (sequence_start start) h).2
   tag_of (mapping_start start) h = tag_reads start.tag (no_faults (mapping_start start) h).2
@@ -88,7 +88,7 @@ pub record DocumentOk (document : Document) : Type 0 where
   pub version : VersionOk document.start.version
   pub directives : EachDirective document.start.directives
   pub root : EachNode document.root EventOk
-  pub tags : EachNode document.root (TagOf document.start.directives)
+  pub tags : (portable : Bool) → EachNode document.root (TagOf portable document.start.directives)
 
 pub document_ok : (document : Document) → list_all is_good (document_events document) ≡ true → DocumentOk document
 document_ok document h =
@@ -102,7 +102,7 @@ document_ok document h =
       version = version_ok document.start.version both.0;
       directives = directives_ok [] document.start.directives both.1 facts.2;
       root = each_node document.root EventOk is_good event_ok root;
-      tags = each_node document.root (TagOf document.start.directives) is_good (tag_of document.start.directives both.1) root;
+      tags = λ portable. each_node document.root (TagOf portable document.start.directives) is_good (tag_of portable document.start.directives both.1) root;
     }
 
 abbrev pub DocumentsOk : Documents → Type 0
@@ -115,6 +115,6 @@ documents_ok (documents_and before document) h =
     let parts = split is_good (documents_events before) (document_events document) h in
     (documents_ok before parts.0, document_ok document parts.1)
 
-pub each_document : (documents : Documents) → DocumentsOk documents → EachDocument documents
-each_document no_documents ok = tt
-each_document (documents_and before document) ok = (each_document before ok.0, ok.1.tags)
+pub each_document : (portable : Bool) (documents : Documents) → DocumentsOk documents → EachDocument portable documents
+each_document portable no_documents ok = tt
+each_document portable (documents_and before document) ok = (each_document portable before ok.0, ok.1.tags portable)

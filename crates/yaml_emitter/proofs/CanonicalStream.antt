@@ -55,19 +55,19 @@ module _ (breaks12 : Bool) (s : Effective) (wide : 2 ≤ s.indent) where
   mark_if false cursor e = absurd (false≢true e)
 
   head_says : (first left : Bool) (x : Document) (standing : Standing) → DocumentOk x → standing.mark ≡ mark_of left
-      → Says breaks12 anything (document_start_laid true first x.start standing).text
+      → Says breaks12 anything (document_start_laid (in_canonical s) first x.start standing).text
       (((end_tokens (has_directives x.start && left) ++ version_tokens x.start.version) ++ tag_line_tokens x.start.directives) ++ document_begins ∷ [])
   head_says first left x standing ok e =
       let some = has_directives x.start in
       let closing = laid_if (some && not (standing.mark == 0)) closing_mark_laid standing.cursor in
       let version = version_laid x.start.version closing.cursor in
-      let lines = tag_directives_laid x.start.directives version.cursor in
+      let lines = tag_directives_laid s.portable x.start.directives version.cursor in
       says_tokens (((end_tokens (some && left) ++ version_tokens x.start.version) ++ tag_line_tokens x.start.directives) ++ document_begins ∷ [])
       (ap (λ b. ((end_tokens (some && b) ++ version_tokens x.start.version) ++ tag_line_tokens x.start.directives) ++ document_begins ∷ []) (mark_tells standing.mark left e))
       (says_after
       (says_after
       (says_after (closing_if (some && not (standing.mark == 0)) standing.cursor) (version_says breaks12 x.start.version closing.cursor ok.version))
-      (directives_say breaks12 x.start.directives version.cursor ok.directives))
+      (directives_say breaks12 s.portable x.start.directives version.cursor ok.directives))
       (mark_if (is_explicit true first x.start) lines.cursor (explicit (not x.start.implicit) (not first) some)))
 
   end_says : (implicit : Bool) (standing : Standing) → Says breaks12 anything (document_end_piece implicit standing).piece.lead (end_tokens (not implicit))
@@ -90,15 +90,15 @@ module _ (breaks12 : Bool) (s : Effective) (wide : 2 ≤ s.indent) where
 
   document_says : (x : Document) (first left : Bool) (text : Text) (tokens : List Token) (standing : Standing) → Says breaks12 anything text tokens
       → standing.mark ≡ mark_of left → DocumentOk x
-      → Between breaks12 text (tokens ++ document_tokens left x) x.end_implicit (document_laid (in_canonical s) first x standing)
+      → Between breaks12 text (tokens ++ document_tokens s.portable left x) x.end_implicit (document_laid (in_canonical s) first x standing)
   document_says x first left text tokens standing says e ok =
       let own = x.start.directives in
-      let head = document_start_laid true first x.start standing in
-      let start = document_start_piece true first x.start standing in
+      let head = document_start_laid (in_canonical s) first x.start standing in
+      let start = document_start_piece (in_canonical s) first x.start standing in
       let node = node_laid x.root (in_canonical s) (directives_in_force own) root_place start.standing in
       let end = document_end_piece x.end_implicit node.standing in
       let h = ((end_tokens (has_directives x.start && left) ++ version_tokens x.start.version) ++ tag_line_tokens own) ++ document_begins ∷ [] in
-      let n = node_tokens x.root own in
+      let n = node_tokens s.portable x.root own in
       let t = end_tokens (not x.end_implicit) in
       let before : Says breaks12 anything (text ++ text_of (start.piece ∷ [])) (tokens ++ h) =
       says_text (text ++ text_of (start.piece ∷ [])) (ap (λ u. text ++ u) (lead_text head.text)) (says_after says (head_says first left x standing ok e)) in
@@ -122,7 +122,7 @@ module _ (breaks12 : Bool) (s : Effective) (wide : 2 ≤ s.indent) where
 
   documents_say : (x : Documents) (text : Text) (tokens : List Token) (standing : Standing) → Says breaks12 anything text tokens
       → standing.mark ≡ 0 → DocumentsOk x
-      → Between breaks12 text (tokens ++ documents_tokens x) (left_open x) (documents_laid (in_canonical s) x standing)
+      → Between breaks12 text (tokens ++ documents_tokens s.portable x) (left_open x) (documents_laid (in_canonical s) x standing)
   documents_say no_documents text tokens standing says e ok = record {
     says = says_text (text ++ []) (append-nil text) (says_tokens (tokens ++ []) (sym (append-nil tokens)) says);
     mark = e;
@@ -131,17 +131,17 @@ module _ (breaks12 : Bool) (s : Effective) (wide : 2 ≤ s.indent) where
       let front = documents_laid (in_canonical s) before standing in
       let said = documents_say before text tokens standing says e ok.0 in
       let back = document_laid (in_canonical s) (has_no_documents before) last front.standing in
-      let more = document_says last (has_no_documents before) (left_open before) (text ++ text_of front.pieces) (tokens ++ documents_tokens before) front.standing said.says said.mark ok.1 in
+      let more = document_says last (has_no_documents before) (left_open before) (text ++ text_of front.pieces) (tokens ++ documents_tokens s.portable before) front.standing said.says said.mark ok.1 in
       record {
         says =
-            says_tokens (tokens ++ documents_tokens (documents_and before last)) (append_assoc tokens (documents_tokens before) (document_tokens (left_open before) last))
+            says_tokens (tokens ++ documents_tokens s.portable (documents_and before last)) (append_assoc tokens (documents_tokens s.portable before) (document_tokens s.portable (left_open before) last))
             (says_text (text ++ text_of (front.pieces ++ back.pieces)) (more_text text front.pieces back.pieces) more.says);
         mark = more.mark;
       }
 
   -- The text of a stream says its documents.
   pub stream_says : (stream : Stream) → DocumentsOk stream.documents
-      → Says breaks12 anything (text_of (layout (in_canonical s) stream)) (documents_tokens stream.documents)
+      → Says breaks12 anything (text_of (layout (in_canonical s) stream)) (documents_tokens s.portable stream.documents)
   stream_says stream ok =
       let start = stream_start_piece first_standing in
       let inner = documents_laid (in_canonical s) stream.documents start.standing in

@@ -12,13 +12,13 @@ anchor_tokens None = []
 anchor_tokens (Some name) = anchor_token name ∷ []
 
 -- a written tag, the bare tag or none
-abbrev pub tag_tokens : List TagDirective → Option Text → (bare : Bool) → List Token
-tag_tokens own (Some tag) bare = tag_token (spelled (spelling (directives_in_force own) tag)) ∷ []
-tag_tokens own None true = tag_token (codes "!") ∷ []
-tag_tokens own None false = []
+abbrev pub tag_tokens : (portable : Bool) → List TagDirective → Option Text → (bare : Bool) → List Token
+tag_tokens portable own (Some tag) bare = tag_token (spelled portable (spelling (directives_in_force own) tag)) ∷ []
+tag_tokens portable own None true = tag_token (codes "!") ∷ []
+tag_tokens portable own None false = []
 
-abbrev pub properties_tokens : List TagDirective → Option Text → Option Text → (bare : Bool) → List Token
-properties_tokens own anchor tag bare = anchor_tokens anchor ++ tag_tokens own tag bare
+abbrev pub properties_tokens : (portable : Bool) → List TagDirective → Option Text → Option Text → (bare : Bool) → List Token
+properties_tokens portable own anchor tag bare = anchor_tokens anchor ++ tag_tokens portable own tag bare
 
 -- the sign before an entry, or before the end
 abbrev pub entry_sign : Token → (first : Bool) → Token
@@ -26,27 +26,27 @@ entry_sign opening true = opening
 entry_sign opening false = comma
 
 abbrev mutual
-  pub node_tokens : Node → List TagDirective → List Token
-  node_tokens (alias_node name) own = alias_token name ∷ []
-  node_tokens (scalar_node content) own =
-      properties_tokens own content.anchor content.tag (not content.quoted_implicit) ++ scalar_token content.value ∷ []
-  node_tokens (sequence_node start items) own =
-      (properties_tokens own start.anchor start.tag false ++ nodes_tokens items own)
+  pub node_tokens : (portable : Bool) → Node → List TagDirective → List Token
+  node_tokens portable (alias_node name) own = alias_token name ∷ []
+  node_tokens portable (scalar_node content) own =
+      properties_tokens portable own content.anchor content.tag (not content.quoted_implicit) ++ scalar_token content.value ∷ []
+  node_tokens portable (sequence_node start items) own =
+      (properties_tokens portable own start.anchor start.tag false ++ nodes_tokens portable items own)
       ++ (entry_sign opens_sequence (has_no_nodes items) ∷ closes_sequence ∷ [])
-  node_tokens (mapping_node start pairs) own =
-      (properties_tokens own start.anchor start.tag false ++ pairs_tokens pairs own)
+  node_tokens portable (mapping_node start pairs) own =
+      (properties_tokens portable own start.anchor start.tag false ++ pairs_tokens portable pairs own)
       ++ (entry_sign opens_mapping (has_no_pairs pairs) ∷ closes_mapping ∷ [])
 
-  pub nodes_tokens : Nodes → List TagDirective → List Token
-  nodes_tokens no_nodes own = []
-  nodes_tokens (nodes_and items last) own =
-      nodes_tokens items own ++ (entry_sign opens_sequence (has_no_nodes items) ∷ node_tokens last own)
+  pub nodes_tokens : (portable : Bool) → Nodes → List TagDirective → List Token
+  nodes_tokens portable no_nodes own = []
+  nodes_tokens portable (nodes_and items last) own =
+      nodes_tokens portable items own ++ (entry_sign opens_sequence (has_no_nodes items) ∷ node_tokens portable last own)
 
-  pub pairs_tokens : Pairs → List TagDirective → List Token
-  pairs_tokens no_pairs own = []
-  pairs_tokens (pairs_and pairs key value) own =
-      (pairs_tokens pairs own ++ (entry_sign opens_mapping (has_no_pairs pairs) ∷ key_sign ∷ node_tokens key own))
-      ++ (value_sign ∷ node_tokens value own)
+  pub pairs_tokens : (portable : Bool) → Pairs → List TagDirective → List Token
+  pairs_tokens portable no_pairs own = []
+  pairs_tokens portable (pairs_and pairs key value) own =
+      (pairs_tokens portable pairs own ++ (entry_sign opens_mapping (has_no_pairs pairs) ∷ key_sign ∷ node_tokens portable key own))
+      ++ (value_sign ∷ node_tokens portable value own)
 
 abbrev pub version_tokens : Option Version → List Token
 version_tokens None = []
@@ -61,11 +61,11 @@ end_tokens true = document_ends ∷ []
 end_tokens false = []
 
 -- a document, after one that was left open or not
-abbrev pub document_tokens : (after_open : Bool) → Document → List Token
-document_tokens after_open document =
+abbrev pub document_tokens : (portable : Bool) → (after_open : Bool) → Document → List Token
+document_tokens portable after_open document =
     ((((end_tokens (has_directives document.start && after_open) ++ version_tokens document.start.version)
     ++ tag_line_tokens document.start.directives) ++ document_begins ∷ [])
-    ++ node_tokens document.root document.start.directives)
+    ++ node_tokens portable document.root document.start.directives)
     ++ end_tokens (not document.end_implicit)
 
 -- the last document was left open
@@ -73,6 +73,6 @@ abbrev pub left_open : Documents → Bool
 left_open no_documents = false
 left_open (documents_and before document) = document.end_implicit
 
-abbrev pub documents_tokens : Documents → List Token
-documents_tokens no_documents = []
-documents_tokens (documents_and before document) = documents_tokens before ++ document_tokens (left_open before) document
+abbrev pub documents_tokens : (portable : Bool) → Documents → List Token
+documents_tokens portable no_documents = []
+documents_tokens portable (documents_and before document) = documents_tokens portable before ++ document_tokens portable (left_open before) document

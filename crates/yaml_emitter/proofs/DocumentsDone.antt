@@ -98,7 +98,7 @@ document_refused empty before first start error at is =
 
 pub document_start_cut : (empty : Bool) (before : State) (first : Bool) (start : DocumentStart) (page : Page) (error : yaml_error_t) → before.stage ≡ at_document first
     → option_or (option_and_then version_fault start.version) (directives_fault start.directives) ≡ None
-    → Wrote (piece_at (document_start_piece before.settings.canonical first start) before.mark) before.page page (Err error)
+    → Wrote (piece_at (document_start_piece before.settings first start) before.mark) before.page page (Err error)
     → Processed (document_start start) empty before (record before { page = page }) (Err error)
 document_start_cut empty before first start page error at sound wrote =
     processed_cut_at (document_start start) empty before (record before { page = page }) (at_document first) error at refl refl
@@ -106,7 +106,7 @@ document_start_cut empty before first start page error at sound wrote =
 
 pub document_begun : (empty : Bool) (before : State) (first : Bool) (start : DocumentStart) (page : Page) (directives : List TagDirective) (frames : List Frame) → before.stage ≡ at_document first
     → option_or (option_and_then version_fault start.version) (directives_fault start.directives) ≡ None
-    → Wrote (piece_at (document_start_piece before.settings.canonical first start) before.mark) before.page page (Ok tt)
+    → Wrote (piece_at (document_start_piece before.settings first start) before.mark) before.page page (Ok tt)
     → directives ≡ directives_in_force start.directives → frames ≡ []
     → Processed (document_start start) empty before (record before { stage = at_node directives frames; mark = 0; page = page }) (Ok tt)
 document_begun empty before first start page directives frames at sound wrote in_force none_open =

@@ -39,21 +39,21 @@ written_is_some directives None (Some tag) is = cc
 written_is_some directives (Some text) None is = cc
 written_is_some directives (Some text) (Some tag) is = refl
 
-tag-spelled : (directives : List TagDirective) (tag : Option Text) (bare : Bool) (cursor : Cursor) → spelled_tag_laid (option_map (spelling directives) tag) bare cursor ≡ tag_laid directives tag bare cursor
-tag-spelled directives (Some tag) bare cursor = refl
-tag-spelled directives None true cursor = refl
-tag-spelled directives None false cursor = refl
+tag-spelled : (portable : Bool) (directives : List TagDirective) (tag : Option Text) (bare : Bool) (cursor : Cursor) → spelled_tag_laid portable (option_map (spelling directives) tag) bare cursor ≡ tag_laid portable directives tag bare cursor
+tag-spelled portable directives (Some tag) bare cursor = refl
+tag-spelled portable directives None true cursor = refl
+tag-spelled portable directives None false cursor = refl
 
 -- what stands before a node, with its tag as it is spelled
 pub lead-spelled : (s : Effective) (directives : List TagDirective) (place : Place) (simple : Bool) (anchor tag : Option Text) (spelled : Option Spelling) (bare : Bool) (cursor : Cursor)
     → spelled ≡ option_map (spelling directives) tag
-    → then_laid (place_laid s place simple cursor) (λ between. then_laid (anchor_laid anchor between) (spelled_tag_laid spelled bare))
-    ≡ then_laid (place_laid s place simple cursor) (properties_laid directives anchor tag bare)
+    → then_laid (place_laid s place simple cursor) (λ between. then_laid (anchor_laid anchor between) (spelled_tag_laid s.portable spelled bare))
+    ≡ then_laid (place_laid s place simple cursor) (properties_laid s.portable directives anchor tag bare)
 lead-spelled s directives place simple anchor tag spelled bare cursor is =
     let here = place_laid s place simple cursor in
     let named = anchor_laid anchor here.cursor in
-    ap (λ (o : Option Spelling). then_laid here (λ between. then_laid (anchor_laid anchor between) (spelled_tag_laid o bare))) is
-    ∙ ap (λ (last : Laid). let l : Laid = record { text = here.text ++ (named.text ++ last.text); cursor = last.cursor } in l) (tag-spelled directives tag bare named.cursor)
+    ap (λ (o : Option Spelling). then_laid here (λ between. then_laid (anchor_laid anchor between) (spelled_tag_laid s.portable o bare))) is
+    ∙ ap (λ (last : Laid). let l : Laid = record { text = here.text ++ (named.text ++ last.text); cursor = last.cursor } in l) (tag-spelled s.portable directives tag bare named.cursor)
 
 -- where nothing comes after it, what is laid is all
 pub laid_alone : (lay next : Cursor → Laid) (cursor : Cursor) → ((after : Cursor) → next after ≡ nothing_laid after) → lay cursor ≡ then_laid (lay cursor) next

@@ -1,5 +1,5 @@
 -- Directives' lines, one after another.
-use Rattle.std.proofs.Common.{◌≡◌, ℕ, ◌+◌, ◌<◌, false, Result, Ok, Err, List, [], ◌∷◌, ◌++◌, length, take, drop, get_or, map, refl, sym, ap, ◌∙◌, subst, append_assoc, append-nil, add-one, drop-cons}
+use Rattle.std.proofs.Common.{◌≡◌, ℕ, ◌+◌, ◌<◌, Bool, false, Result, Ok, Err, List, [], ◌∷◌, ◌++◌, length, take, drop, get_or, map, refl, sym, ap, ◌∙◌, subst, append_assoc, append-nil, add-one, drop-cons}
 use Rattle.std.specs.List.{list_any}
 use Rattle.std.proofs.lemmas.Bool.{false_from_ne_true, false≢true}
 use Rattle.std.proofs.lemmas.List.{take_more, map-append, take-append-drop, get_or-map, length-map}
@@ -14,28 +14,28 @@ use Rattle.yaml_pen.specs.Wrote.{Wrote}
 use Rattle.yaml_pen.proofs.Composing.{wrote_as, wrote_then, wrote_failed}
 use Rattle.yaml_emitter.specs.Signs.{some_handle_breaks}
 
-tag_directives-append : (xs ys : List TagDirective) (cursor : Cursor)
-    → then_laid (tag_directives_laid xs cursor) (tag_directives_laid ys) ≡ tag_directives_laid (xs ++ ys) cursor
-tag_directives-append [] ys cursor = refl
-tag_directives-append (x ∷ xs) ys cursor =
-    let one = tag_directive_laid x cursor in
-    let rest = tag_directives_laid xs one.cursor in
-    let last = tag_directives_laid ys rest.cursor in
+tag_directives-append : (portable : Bool) (xs ys : List TagDirective) (cursor : Cursor)
+    → then_laid (tag_directives_laid portable xs cursor) (tag_directives_laid portable ys) ≡ tag_directives_laid portable (xs ++ ys) cursor
+tag_directives-append portable [] ys cursor = refl
+tag_directives-append portable (x ∷ xs) ys cursor =
+    let one = tag_directive_laid portable x cursor in
+    let rest = tag_directives_laid portable xs one.cursor in
+    let last = tag_directives_laid portable ys rest.cursor in
     ap (λ (text : Text). let l : Laid = record { text = text; cursor = last.cursor } in l) (append_assoc one.text rest.text last.text)
-    ∙ ap (then_laid one) (ap (λ (l : Laid). λ (c : Cursor). l) (tag_directives-append xs ys one.cursor))
+    ∙ ap (then_laid one) (ap (λ (l : Laid). λ (c : Cursor). l) (tag_directives-append portable xs ys one.cursor))
 
 -- the lines of some, and then those of others
-wrote_directives_then : (xs ys : List TagDirective) {before between after : Page} {answer : Result (Unit {0}) yaml_error_t}
-    → Wrote (tag_directives_laid xs) before between (Ok tt) → Wrote (tag_directives_laid ys) between after answer
-    → Wrote (tag_directives_laid (xs ++ ys)) before after answer
-wrote_directives_then xs ys {before} one two = wrote_as (tag_directives_laid (xs ++ ys)) (tag_directives-append xs ys before.cursor) (wrote_then one two)
+wrote_directives_then : (portable : Bool) (xs ys : List TagDirective) {before between after : Page} {answer : Result (Unit {0}) yaml_error_t}
+    → Wrote (tag_directives_laid portable xs) before between (Ok tt) → Wrote (tag_directives_laid portable ys) between after answer
+    → Wrote (tag_directives_laid portable (xs ++ ys)) before after answer
+wrote_directives_then portable xs ys {before} one two = wrote_as (tag_directives_laid portable (xs ++ ys)) (tag_directives-append portable xs ys before.cursor) (wrote_then one two)
 
-last_alone : (d : TagDirective) (cursor : Cursor) → tag_directive_laid d cursor ≡ tag_directives_laid (d ∷ []) cursor
-last_alone d cursor =
-    let one = tag_directive_laid d cursor in
+last_alone : (portable : Bool) (d : TagDirective) (cursor : Cursor) → tag_directive_laid portable d cursor ≡ tag_directives_laid portable (d ∷ []) cursor
+last_alone portable d cursor =
+    let one = tag_directive_laid portable d cursor in
     ap (λ (text : Text). let l : Laid = record { text = text; cursor = one.cursor } in l) (sym (append-nil one.text))
 
-module _ {E : Type 0} (seen : E → TagDirective) (items : List E) (i : ℕ) (item : E) (within : i < length items) (at : item ≡ get_or items i item) where
+module _ {E : Type 0} (portable : Bool) (seen : E → TagDirective) (items : List E) (i : ℕ) (item : E) (within : i < length items) (at : item ≡ get_or items i item) where
   front_more : map seen (take i items) ++ seen item ∷ [] ≡ map seen (take (i + 1) items)
   front_more =
       ap (λ x. map seen (take i items) ++ seen x ∷ []) at
@@ -52,21 +52,21 @@ module _ {E : Type 0} (seen : E → TagDirective) (items : List E) (i : ℕ) (it
 
   -- one more line
   pub wrote_next_directive : {before between after : Page}
-      → Wrote (tag_directives_laid (map seen (take i items))) before between (Ok tt) → Wrote (tag_directive_laid (seen item)) between after (Ok tt)
-      → Wrote (tag_directives_laid (map seen (take (i + 1) items))) before after (Ok tt)
+      → Wrote (tag_directives_laid portable (map seen (take i items))) before between (Ok tt) → Wrote (tag_directive_laid portable (seen item)) between after (Ok tt)
+      → Wrote (tag_directives_laid portable (map seen (take (i + 1) items))) before after (Ok tt)
   wrote_next_directive {before} {between} {after} one two =
-      let alone = wrote_as (tag_directives_laid (seen item ∷ [])) (last_alone (seen item) between.cursor) two in
-      subst (λ (ds : List TagDirective). Wrote (tag_directives_laid ds) before after (Ok tt)) front_more
-      (wrote_directives_then (map seen (take i items)) (seen item ∷ []) one alone)
+      let alone = wrote_as (tag_directives_laid portable (seen item ∷ [])) (last_alone portable (seen item) between.cursor) two in
+      subst (λ (ds : List TagDirective). Wrote (tag_directives_laid portable ds) before after (Ok tt)) front_more
+      (wrote_directives_then portable (map seen (take i items)) (seen item ∷ []) one alone)
 
   -- a line that failed
   pub failed_next_directive : {before between after : Page} {error : yaml_error_t}
-      → Wrote (tag_directives_laid (map seen (take i items))) before between (Ok tt) → Wrote (tag_directive_laid (seen item)) between after (Err error)
-      → Wrote (tag_directives_laid (map seen items)) before after (Err error)
+      → Wrote (tag_directives_laid portable (map seen (take i items))) before between (Ok tt) → Wrote (tag_directive_laid portable (seen item)) between after (Err error)
+      → Wrote (tag_directives_laid portable (map seen items)) before after (Err error)
   failed_next_directive {before} {between} {after} {error} one two =
-      subst (λ (ds : List TagDirective). Wrote (tag_directives_laid ds) before after (Err error)) whole
-      (wrote_directives_then (map seen (take i items)) (seen item ∷ map seen (drop (i + 1) items)) one
-      (wrote_failed (tag_directives_laid (map seen (drop (i + 1) items))) two))
+      subst (λ (ds : List TagDirective). Wrote (tag_directives_laid portable ds) before after (Err error)) whole
+      (wrote_directives_then portable (map seen (take i items)) (seen item ∷ map seen (drop (i + 1) items)) one
+      (wrote_failed (tag_directives_laid portable (map seen (drop (i + 1) items))) two))
 
   pub next_handle : some_handle_breaks (map seen items) ≡ false → list_any is_break (seen item).handle ≡ false
   next_handle none =

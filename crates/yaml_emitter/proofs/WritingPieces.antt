@@ -1,9 +1,10 @@
 -- A piece without a body is its lead; the pieces of documents as their parts.
-use Rattle.std.proofs.Common.{◌≡◌, ℕ, Bool, true, false, not, ◌&&◌, ◌==◌, ◌∙◌, Result, refl, sym, ap, append-nil, append_assoc, codes, if◌then◌else◌}
+use Rattle.std.proofs.Common.{◌≡◌, ℕ, Bool, true, false, not, ◌&&◌, ◌||◌, ◌==◌, ◌∙◌, Result, refl, sym, ap, append-nil, append_assoc, codes, if◌then◌else◌}
 use Rattle.yaml_base.specs.Characters.{Text}
 use Rattle.yaml_base.specs.Cursor.{Cursor, Laid, then_laid, new_line}
 use Rattle.yaml_base.specs.Event.{DocumentStart}
 use Rattle.yaml_base.specs.Layout.{has_directives, is_explicit, document_start_laid, document_start_piece, lead_alone, closing_mark_laid, sign_laid, document_end_piece}
+use Rattle.yaml_base.specs.Settings.{Effective}
 use Rattle.yaml_base.specs.declared.errors.yaml_error_t.{yaml_error_t}
 use Rattle.yaml_pen.specs.Page.{Page}
 use Rattle.yaml_pen.specs.Wrote.{Wrote}
@@ -36,14 +37,14 @@ wrote_document_end implicit mark {before} wrote =
     wrote_as (piece_at (document_end_piece implicit) mark) (document_end-laid implicit mark before.cursor) wrote
 
 -- a document's start: its head, with `...` and `---` where they are due
-pub wrote_document_start : (canonical first : Bool) (start : DocumentStart) (mark : ℕ) {closes explicit : Bool}
+pub wrote_document_start : (s : Effective) (first : Bool) (start : DocumentStart) (mark : ℕ) {closes explicit : Bool}
     {before after : Page} {answer : Result (Unit {0}) yaml_error_t}
-    → closes ≡ (has_directives start && not (mark == 0)) → explicit ≡ is_explicit canonical first start
-    → Wrote (document_head_laid canonical closes start.version start.directives explicit) before after answer
-    → Wrote (piece_at (document_start_piece canonical first start) mark) before after answer
-wrote_document_start canonical first start mark {closes} {explicit} {before} closing marking wrote =
-    wrote_as (piece_at (document_start_piece canonical first start) mark)
-    (ap (λ (c : Bool). document_head_laid canonical c start.version start.directives explicit before.cursor) closing
-    ∙ ap (λ (e : Bool). document_head_laid canonical (has_directives start && not (mark == 0)) start.version start.directives e before.cursor) marking
-    ∙ lead-laid 0 (document_start_laid canonical first start (record { cursor = before.cursor; mark = mark })))
+    → closes ≡ (has_directives start && not (mark == 0)) → explicit ≡ is_explicit (s.canonical || s.portable) first start
+    → Wrote (document_head_laid s closes start.version start.directives explicit) before after answer
+    → Wrote (piece_at (document_start_piece s first start) mark) before after answer
+wrote_document_start s first start mark {closes} {explicit} {before} closing marking wrote =
+    wrote_as (piece_at (document_start_piece s first start) mark)
+    (ap (λ (c : Bool). document_head_laid s c start.version start.directives explicit before.cursor) closing
+    ∙ ap (λ (e : Bool). document_head_laid s (has_directives start && not (mark == 0)) start.version start.directives e before.cursor) marking
+    ∙ lead-laid 0 (document_start_laid s first start (record { cursor = before.cursor; mark = mark })))
     wrote

@@ -139,7 +139,7 @@ module _ (s : Effective) (directives : List TagDirective) (place : Place) (simpl
   abbrev pub scalar_laid : Choice → Option Spelling → Cursor → Laid
   scalar_laid choice tag cursor =
       then_laid
-      (then_laid (place_laid s place simple cursor) (λ between. then_laid (anchor_laid content.anchor between) (spelled_tag_laid tag choice.bare)))
+      (then_laid (place_laid s place simple cursor) (λ between. then_laid (anchor_laid content.anchor between) (spelled_tag_laid s.portable tag choice.bare)))
       (scalar_text_laid choice.style s place.in_flow simple (deeper s.indent place.column) content.value)
 
   whole_laid : (mark : ℕ) (tag : Option Spelling) (cursor : Cursor) → tag ≡ option_map (spelling directives) (scalar_tag s.canonical content)
@@ -148,7 +148,7 @@ module _ (s : Effective) (directives : List TagDirective) (place : Place) (simpl
       let choice = choice_of s place simple content in
       let text = scalar_text_laid choice.style s place.in_flow simple (deeper s.indent place.column) content.value in
       let whole = piece_at (scalar_piece s directives place simple content) mark cursor in
-      let lead = then_laid (place_laid s place simple cursor) (properties_laid directives content.anchor (scalar_tag s.canonical content) choice.bare) in
+      let lead = then_laid (place_laid s place simple cursor) (properties_laid s.portable directives content.anchor (scalar_tag s.canonical content) choice.bare) in
       let separation = separation_laid choice.style place.in_flow content.value lead.cursor in
       let body = body_laid choice.style s (if simple then None else s.width) (deeper s.indent place.column) content.value separation.cursor in
       ap (λ (l : Laid). then_laid l text) (lead-spelled s directives place simple content.anchor (scalar_tag s.canonical content) tag choice.bare cursor is)

@@ -16,6 +16,7 @@ seen_given given =
       width = given.width;
       line_break = seen_break given.line_break;
       breaks12 = given.breaks12;
+      portable = given.portable;
       limit = given.limit;
     }
 
@@ -35,6 +36,7 @@ seen_effective settings =
       width = seen_width settings.width;
       line_break = unwrap_or (seen_break settings.line_break) line_feed_break;
       breaks12 = settings.breaks12;
+      portable = settings.portable;
       limit = settings.limit;
     }
 
@@ -49,5 +51,6 @@ nothing_given =
       width = None;
       line_break = None;
       breaks12 = false;
+      portable = false;
       limit = 18446744073709551615;
     }

@@ -3,7 +3,8 @@ use Rattle.std.specs.Prelude.{ℕ, Bool, true, false, Option, List, codes}
 use Rattle.yaml_base.specs.Cursor.{Cursor, Laid, then_laid, new_line}
 use Rattle.yaml_base.specs.Event.{Version, TagDirective}
 use Rattle.yaml_base.specs.Layout.{PieceLaid, Standing, piece_text, sign_laid, laid_if, closing_mark_laid, version_laid, tag_directives_laid, document_mark_laid, handle_laid}
-use Rattle.yaml_base.specs.Percent.{percent_escaped}
+use Rattle.yaml_base.specs.Percent.{prefix_escaped}
+use Rattle.yaml_base.specs.Settings.{Effective}
 use Rattle.yaml_emitter.specs.declared.writing.marks.OpenMark.{OpenMark}
 use Rattle.yaml_emitter.specs.declared.writing.marks.OpenMark.TheVariants.{Closed, ImplicitEnd, KeptBreaks}
 
@@ -22,11 +23,11 @@ seen_mark ImplicitEnd = 1
 seen_mark KeptBreaks = 2
 
 -- what stands before a document's root, by whether `...` closes the document before and whether `---` is written
-abbrev pub document_head_laid : (canonical closes : Bool) → Option Version → List TagDirective → (explicit : Bool) → Cursor → Laid
-document_head_laid canonical closes version directives explicit cursor =
+abbrev pub document_head_laid : Effective → (closes : Bool) → Option Version → List TagDirective → (explicit : Bool) → Cursor → Laid
+document_head_laid s closes version directives explicit cursor =
     then_laid
-    (then_laid (then_laid (laid_if closes closing_mark_laid cursor) (version_laid version)) (tag_directives_laid directives))
-    (laid_if explicit (document_mark_laid canonical))
+    (then_laid (then_laid (laid_if closes closing_mark_laid cursor) (version_laid version)) (tag_directives_laid s.portable directives))
+    (laid_if explicit (document_mark_laid s.canonical))
 
 -- a document's end: a new line, and `...` on a line of its own where it isn't implicit
 abbrev pub document_end_laid : (implicit : Bool) → Cursor → Laid
@@ -34,6 +35,6 @@ document_end_laid true cursor = new_line 0 cursor
 document_end_laid false cursor = then_laid (then_laid (new_line 0 cursor) (sign_laid (codes "..."))) (new_line 0)
 
 -- a `%TAG` line without its end
-abbrev pub tag_words_laid : TagDirective → Cursor → Laid
-tag_words_laid directive cursor =
-    then_laid (then_laid (sign_laid (codes "%TAG") cursor) (handle_laid directive.handle)) (handle_laid (percent_escaped directive.prefix))
+abbrev pub tag_words_laid : (portable : Bool) → TagDirective → Cursor → Laid
+tag_words_laid portable directive cursor =
+    then_laid (then_laid (sign_laid (codes "%TAG") cursor) (handle_laid directive.handle)) (handle_laid (prefix_escaped portable directive.prefix))

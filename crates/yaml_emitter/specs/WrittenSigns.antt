@@ -5,7 +5,7 @@ use Rattle.yaml_base.specs.Characters.{is_break}
 use Rattle.yaml_base.specs.Cursor.{Cursor, Laid, nothing_laid, then_laid, text_laid, new_line, name_laid}
 use Rattle.yaml_base.specs.Indicators as indicators
 use Rattle.yaml_base.specs.Layout.{Place, flow_break, handle_laid, line_column, spelling_laid, spelling_count}
-use Rattle.yaml_base.specs.Percent.{percent_escaped}
+use Rattle.yaml_base.specs.Percent.{percent_escaped, suffix_escaped, prefix_escaped}
 use Rattle.yaml_base.specs.Settings.{Effective}
 use Rattle.yaml_base.specs.Tags.{Spelling, shorthand}
 use Rattle.yaml_emitter.specs.BorrowedTexts.{seen_spelling}
@@ -13,7 +13,7 @@ use Rattle.yaml_emitter.specs.declared.writing.indicators.Indicator as indicator
 use Rattle.yaml_emitter.specs.declared.writing.indicators.Indicator.TheVariants.{DocumentStart, DocumentEnd, YamlDirective, Version11, Version12, TagDirective, FlowSequenceStart, FlowSequenceEnd, FlowMappingStart, FlowMappingEnd, FlowEntry, FlowKey, FlowValue, BlockEntry, BlockKey, BlockValue, SimpleValue, Anchor, Alias, VerbatimStart, VerbatimEnd}
 use Rattle.yaml_emitter.specs.declared.writing.indicators.Row.{Row}
 use Rattle.yaml_emitter.specs.declared.writing.signs.Sign.{Sign}
-use Rattle.yaml_emitter.specs.declared.writing.signs.Sign.TheVariants.{Nothing, Mark, Line, FlowLine, Space, Name, Handle, TagText, Prefix}
+use Rattle.yaml_emitter.specs.declared.writing.signs.Sign.TheVariants.{Nothing, Mark, Line, FlowLine, Space, Name, Handle, TagText, Suffix, Prefix}
 use Rattle.yaml_emitter.specs.declared.writing.spelling.SpelledTag.{SpelledTag}
 
 -- an indicator, as the definitions have it
@@ -55,7 +55,8 @@ sign_laid s place Space cursor = text_laid (codes " ") cursor
 sign_laid s place (Name name) cursor = name_laid (chars name.now) cursor
 sign_laid s place (Handle handle) cursor = handle_laid (chars handle.now) cursor
 sign_laid s place (TagText content) cursor = name_laid (percent_escaped (chars content.now)) cursor
-sign_laid s place (Prefix prefix) cursor = handle_laid (percent_escaped (chars prefix.now)) cursor
+sign_laid s place (Suffix suffix) cursor = name_laid (suffix_escaped s.portable (chars suffix.now)) cursor
+sign_laid s place (Prefix prefix) cursor = handle_laid (prefix_escaped s.portable (chars prefix.now)) cursor
 
 -- three signs in order
 abbrev pub signs_laid : Effective → Place → Sign × Sign × Sign → Cursor → Laid
@@ -77,10 +78,10 @@ abbrev pub seen_tag : Option SpelledTag → Option Spelling
 seen_tag tag = option_map seen_spelling tag
 
 -- the tag that is written, or the bare tag
-abbrev pub spelled_tag_laid : Option Spelling → (bare : Bool) → Cursor → Laid
-spelled_tag_laid (Some spelled) bare cursor = spelling_laid spelled cursor
-spelled_tag_laid None true cursor = handle_laid (codes "!") cursor
-spelled_tag_laid None false cursor = nothing_laid cursor
+abbrev pub spelled_tag_laid : (portable : Bool) → Option Spelling → (bare : Bool) → Cursor → Laid
+spelled_tag_laid portable (Some spelled) bare cursor = spelling_laid portable spelled cursor
+spelled_tag_laid portable None true cursor = handle_laid (codes "!") cursor
+spelled_tag_laid portable None false cursor = nothing_laid cursor
 
 -- the handle of a tag that is spelled with one holds a break
 abbrev pub spelling_breaks : Option Spelling → Bool

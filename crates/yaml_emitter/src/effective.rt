@@ -16,6 +16,7 @@ pub(crate) struct EffectiveSettings {
     pub width: i32,
     pub line_break: yaml_break_t,
     pub breaks12: bool,
+    pub portable: bool,
     pub limit: usize,
     ghost indents: { 2 ≤ indent },
     ghost indents_within: { indent ≤ 9 },

@@ -21,6 +21,7 @@ pub(crate) struct GivenSettings {
     pub width: Option<i32>,
     pub line_break: yaml_break_t,
     pub breaks12: bool,
+    pub portable: bool,
     pub limit: usize,
 }
 
@@ -87,6 +88,7 @@ impl GivenSettings {
             width: None,
             line_break: YAML_ANY_BREAK,
             breaks12: false,
+            portable: false,
             limit: usize::MAX,
         }
     }
@@ -106,6 +108,7 @@ impl GivenSettings {
             width: width_of(self.width, indent),
             line_break: break_of(self.line_break),
             breaks12: self.breaks12,
+            portable: self.portable,
             limit: self.limit,
         }
     }

@@ -9,6 +9,7 @@ ghost use Rattle.yaml_base.specs.Settings.{Effective};
 ghost use Rattle.yaml_base.specs.Seen.{seen_directive, seen_version, seen_text};
 ghost use Rattle.yaml_pen.specs.Page.{IsReady};
 ghost use Rattle.yaml_pen.specs.Wrote.{Wrote};
+ghost use Rattle.yaml_emitter.specs.Given.{seen_effective};
 ghost use Rattle.yaml_emitter.specs.Signs.{some_handle_breaks};
 ghost use Rattle.yaml_emitter.specs.WrittenPieces.{document_head_laid, piece_at, seen_mark, tag_words_laid};
 ghost use Rattle.yaml_emitter.specs.WrittenSigns.{signs_laid, some_sign_breaks};
@@ -44,12 +45,12 @@ pub(crate) fn write_document_start<A: Allocator>(
     requires handles { some_handle_breaks (map seen_directive start.now.directives.now) ≡ false }
     ensures { Wrote
         (piece_at
-        (document_start_piece settings.now.canonical first record { version = option_map seen_version start.now.version; directives = map seen_directive start.now.directives.now; implicit = start.now.implicit })
+        (document_start_piece (seen_effective settings.now) first record { version = option_map seen_version start.now.version; directives = map seen_directive start.now.directives.now; implicit = start.now.implicit })
         (seen_mark mark))
         pen.old pen.new result }
 {
     let directed = has_directives(start);
-    let explicit = is_explicit(settings.canonical, first, start.implicit, directed);
+    let explicit = is_explicit(settings, first, start.implicit, directed);
     let closes = closes_before(directed, mark);
     write_document_head(pen, settings, closes, start, explicit)
 }
@@ -60,11 +61,12 @@ fn has_directives<A: Allocator>(start: &StartContent<A>) -> bool
     start.version.is_some() || start.directives.len() != 0
 }
 
-/// `---` is written where the event asks for it, after another document, in canonical mode, and after directives.
-fn is_explicit(canonical: bool, first: bool, implicit: bool, directed: bool) -> bool
-    ensures { result ≡ (not implicit || not first || canonical || directed) }
+/// `---` is written where the event asks for it, after another document, in canonical and in portable mode, and after
+/// directives.
+fn is_explicit(settings: &EffectiveSettings, first: bool, implicit: bool, directed: bool) -> bool
+    ensures { result ≡ (not implicit || not first || (settings.now.canonical || settings.now.portable) || directed) }
 {
-    !implicit || !first || canonical || directed
+    !implicit || !first || settings.canonical || settings.portable || directed
 }
 
 /// Directives are kept apart by `...` from a document that is still open.
@@ -84,7 +86,7 @@ fn write_document_head<A: Allocator>(
     requires ready { IsReady pen.old }
     requires handles { some_handle_breaks (map seen_directive start.now.directives.now) ≡ false }
     ensures { Wrote
-        (document_head_laid settings.now.canonical closes (option_map seen_version start.now.version) (map seen_directive start.now.directives.now) explicit)
+        (document_head_laid (seen_effective settings.now) closes (option_map seen_version start.now.version) (map seen_directive start.now.directives.now) explicit)
         pen.old pen.new result }
 {
     write_closing_mark(pen, settings, closes)?;
@@ -101,7 +103,7 @@ fn write_tag_directives<A: Allocator>(
 ) -> Result<(), yaml_error_t>
     requires ready { IsReady pen.old }
     requires handles { some_handle_breaks (map seen_directive directives.now) ≡ false }
-    ensures { Wrote (tag_directives_laid (map seen_directive directives.now)) pen.old pen.new result }
+    ensures { Wrote (tag_directives_laid settings.now.portable (map seen_directive directives.now)) pen.old pen.new result }
 {
     write_nothing(pen)?;
     for directive in directives {
@@ -117,7 +119,7 @@ fn write_tag_directive<A: Allocator>(
 ) -> Result<(), yaml_error_t>
     requires ready { IsReady pen.old }
     requires no_break { list_any is_break (seen_text directive.now.handle) ≡ false }
-    ensures { Wrote (tag_directive_laid (seen_directive directive.now)) pen.old pen.new result }
+    ensures { Wrote (tag_directive_laid settings.now.portable (seen_directive directive.now)) pen.old pen.new result }
 {
     write_tag_line(
         pen,
@@ -136,7 +138,7 @@ fn write_tag_line<'a, A: Allocator>(
     requires ready { IsReady pen.old }
     requires no_break { list_any is_break (chars handle.now) ≡ false }
     ensures { Wrote
-        (tag_directive_laid (record { handle = chars handle.now; prefix = chars prefix.now }))
+        (tag_directive_laid settings.now.portable (record { handle = chars handle.now; prefix = chars prefix.now }))
         pen.old pen.new result }
 {
     write_outside(pen, settings, tag_directive_signs(handle, prefix))?;
@@ -146,7 +148,7 @@ fn write_tag_line<'a, A: Allocator>(
 fn tag_directive_signs<'a>(handle: &'a str, prefix: &'a str) -> Signs<'a>
     requires { list_any is_break (chars handle.now) ≡ false }
     ensures whole { some_sign_breaks result ≡ false }
-    ensures laid { (s : Effective) (cursor : Cursor) → signs_laid s root_place result cursor ≡ tag_words_laid (record { handle = chars handle.now; prefix = chars prefix.now }) cursor }
+    ensures laid { (s : Effective) (cursor : Cursor) → signs_laid s root_place result cursor ≡ tag_words_laid s.portable (record { handle = chars handle.now; prefix = chars prefix.now }) cursor }
 {
     use Sign::*;
     (

@@ -63,7 +63,7 @@ pub(crate) fn write_lead<A: Allocator>(
     ensures { Wrote
         (λ cursor. then_laid
         (place_laid (seen_effective site.now.settings.now) (seen_place site.now.place) site.now.simple cursor)
-        (λ between. then_laid (anchor_laid (seen_name anchor.entry) between) (spelled_tag_laid (seen_tag tag.entry) bare)))
+        (λ between. then_laid (anchor_laid (seen_name anchor.entry) between) (spelled_tag_laid site.now.settings.now.portable (seen_tag tag.entry) bare)))
         pen.old pen.new result }
 {
     write_place(pen, site)?;

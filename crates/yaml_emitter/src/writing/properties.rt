@@ -1,6 +1,6 @@
 //! Anchors, aliases and tags (YAML 1.1, sections 8.1 and 8.3).
 
-ghost use Rattle.std.specs.Prelude.{◌≡◌, Some, None, chars, false, ◌&&◌};
+ghost use Rattle.std.specs.Prelude.{◌≡◌, Bool, Some, None, chars, false, ◌&&◌};
 ghost use Rattle.yaml_base.specs.Cursor.{Cursor, nothing_laid, then_laid};
 ghost use Rattle.yaml_base.specs.Layout.{Place, anchor_laid, alias_laid};
 ghost use Rattle.yaml_base.specs.Settings.{Effective};
@@ -22,7 +22,7 @@ use yaml_pen::Pen;
 
 /// Whether an anchor, a tag or the bare tag is written.
 pub(crate) fn has_properties(anchor: Option<&str>, tag: Option<SpelledTag>, bare: bool) -> bool
-    ensures { result ≡ false → (cursor : Cursor) → then_laid (anchor_laid (seen_name anchor.entry) cursor) (spelled_tag_laid (seen_tag tag.entry) bare) ≡ nothing_laid cursor }
+    ensures { result ≡ false → (portable : Bool) (cursor : Cursor) → then_laid (anchor_laid (seen_name anchor.entry) cursor) (spelled_tag_laid portable (seen_tag tag.entry) bare) ≡ nothing_laid cursor }
 {
     match anchor {
         Some(_) => true,
@@ -45,7 +45,7 @@ pub(crate) fn write_properties<A: Allocator>(
     requires anchor { name_breaks (seen_name anchor) ≡ false }
     requires handle { spelling_breaks (seen_tag tag) ≡ false }
     ensures { Wrote
-        (λ cursor. then_laid (anchor_laid (seen_name anchor.entry) cursor) (spelled_tag_laid (seen_tag tag.entry) bare))
+        (λ cursor. then_laid (anchor_laid (seen_name anchor.entry) cursor) (spelled_tag_laid site.now.settings.now.portable (seen_tag tag.entry) bare))
         pen.old pen.new result }
 {
     write_signs(pen, site, anchor_signs(anchor))?;
@@ -67,16 +67,12 @@ fn anchor_signs(anchor: Option<&str>) -> Signs
 fn tag_signs(tag: Option<SpelledTag>, bare: bool) -> Signs
     requires { spelling_breaks (seen_tag tag) ≡ false }
     ensures whole { some_sign_breaks result ≡ false }
-    ensures laid { (s : Effective) (place : Place) (cursor : Cursor) → signs_laid s place result cursor ≡ spelled_tag_laid (seen_tag tag.entry) bare cursor }
+    ensures laid { (s : Effective) (place : Place) (cursor : Cursor) → signs_laid s place result cursor ≡ spelled_tag_laid s.portable (seen_tag tag.entry) bare cursor }
 {
     use Indicator::*;
     use Sign::*;
     match tag {
-        Some(SpelledTag::Shorthand { handle, suffix }) => (
-            Nothing,
-            Handle(handle),
-            TagText(suffix),
-        ),
+        Some(SpelledTag::Shorthand { handle, suffix }) => (Nothing, Handle(handle), Suffix(suffix)),
         Some(SpelledTag::Verbatim { tag }) => (
             Mark(VerbatimStart),
             TagText(tag),
@@ -88,7 +84,7 @@ fn tag_signs(tag: Option<SpelledTag>, bare: bool) -> Signs
 
 fn bare_tag_signs(bare: bool) -> Signs<'static>
     ensures whole { some_sign_breaks result ≡ false }
-    ensures laid { (s : Effective) (place : Place) (cursor : Cursor) → signs_laid s place result cursor ≡ spelled_tag_laid None bare cursor }
+    ensures laid { (s : Effective) (place : Place) (cursor : Cursor) → signs_laid s place result cursor ≡ spelled_tag_laid s.portable None bare cursor }
 {
     use Sign::*;
     if bare {

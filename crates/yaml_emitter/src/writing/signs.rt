@@ -16,7 +16,9 @@ use crate::writing::indicators::{Indicator, write_indicator};
 use crate::writing::site::Site;
 use std::alloc::Allocator;
 use yaml_base::yaml_error_t;
-use yaml_mark::{write_anchor, write_tag_content, write_tag_handle};
+use yaml_mark::{
+    write_anchor, write_tag_content, write_tag_handle, write_tag_prefix, write_tag_suffix,
+};
 use yaml_pen::Pen;
 
 /// What is written at a place.
@@ -33,8 +35,10 @@ pub(crate) enum Sign<'a> {
     Name(&'a str),
     /// Of a tag, a space before it where one is needed.
     Handle(&'a str),
-    /// What stands after a tag's handle, or in a verbatim tag.
+    /// Of a verbatim tag.
     TagText(&'a str),
+    /// What stands after a tag's handle.
+    Suffix(&'a str),
     /// Of a `%TAG` directive, a space before it where one is needed.
     Prefix(&'a str),
 }
@@ -71,7 +75,8 @@ fn write_sign<A: Allocator>(pen: &mut Pen<A>, site: &Site, sign: Sign) -> Result
         Sign::Name(name) => write_anchor(pen, name),
         Sign::Handle(handle) => write_tag_handle(pen, handle),
         Sign::TagText(content) => write_tag_content(pen, content, false),
-        Sign::Prefix(prefix) => write_tag_content(pen, prefix, true),
+        Sign::Suffix(suffix) => write_tag_suffix(pen, suffix, site.settings.portable),
+        Sign::Prefix(prefix) => write_tag_prefix(pen, prefix, site.settings.portable),
     }
 }
 

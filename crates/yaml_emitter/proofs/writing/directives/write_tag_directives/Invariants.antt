@@ -6,4 +6,4 @@ use Rattle.yaml_emitter.proofs.writing.directives.write_tag_directives.Given as 
 
 abbrev pub invariant-loop-directive : goal.invariant-loop-directive
 invariant-loop-directive g l =
-    Wrote (tag_directives_laid (map seen_directive (take l.directive-index l.directives))) l.initial.pen l.pen (Ok tt)
+    Wrote (tag_directives_laid l.settings.portable (map seen_directive (take l.directive-index l.directives))) l.initial.pen l.pen (Ok tt)

@@ -9,12 +9,12 @@ pub returns-in_err-write_outside : goal.returns-in_err-write_outside
 returns-in_err-write_outside g c =
     wrote_exit c.from_residual.ensures
     (wrote_failed (new_line 0)
-    (wrote_as (tag_words_laid (record { handle = chars c.args.handle.now; prefix = chars c.args.prefix.now }))
+    (wrote_as (tag_words_laid c.args.settings.now.portable (record { handle = chars c.args.handle.now; prefix = chars c.args.prefix.now }))
     (c.tag_directive_signs.ensures.laid (seen_effective c.args.settings.now) c.args.pen.now.cursor) c.in_err-write_outside.ensures))
 
 pub returns : goal.returns
 returns g c =
     wrote_then
-    (wrote_as (tag_words_laid (record { handle = chars c.args.handle.now; prefix = chars c.args.prefix.now }))
+    (wrote_as (tag_words_laid c.args.settings.now.portable (record { handle = chars c.args.handle.now; prefix = chars c.args.prefix.now }))
     (c.tag_directive_signs.ensures.laid (seen_effective c.args.settings.now) c.args.pen.now.cursor) c.in_ok-write_outside.ensures)
     c.write_outside-2.ensures
