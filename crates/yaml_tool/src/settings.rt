@@ -28,6 +28,8 @@ pub enum Setting {
     LineBreak(yaml_break_t),
     /// `breaks12`: the line breaks of YAML 1.2.
     Breaks12(bool),
+    /// `portable`: what all readers of YAML read alike.
+    Portable(bool),
 }
 
 impl Setting {
@@ -44,6 +46,7 @@ impl Setting {
             Setting::Width(_) => "width",
             Setting::LineBreak(_) => "break",
             Setting::Breaks12(_) => "breaks12",
+            Setting::Portable(_) => "portable",
         }
     }
 }
@@ -80,6 +83,8 @@ pub fn setting_of(name: &str, value: &str) -> Option<Setting>
         break_named(value).map(|line_break| Setting::LineBreak(line_break))
     } else if is_word(name, "breaks12") {
         switch_named(value).map(|on| Setting::Breaks12(on))
+    } else if is_word(name, "portable") {
+        switch_named(value).map(|on| Setting::Portable(on))
     } else {
         None
     }
@@ -104,6 +109,8 @@ pub struct Settings {
     pub line_break: yaml_break_t,
     /// U+2028 and U+2029 are no line breaks.
     pub breaks12: bool,
+    /// What readers read differently is written so that all read it alike.
+    pub portable: bool,
 }
 
 /// What holds where no line sets anything.
@@ -116,6 +123,7 @@ pub const UNSET: Settings = Settings {
     width: None,
     line_break: yaml_break_t::YAML_ANY_BREAK,
     breaks12: false,
+    portable: false,
 };
 
 impl Settings {
@@ -138,6 +146,7 @@ impl Settings {
             },
             Setting::LineBreak(line_break) => Settings { line_break, ..self },
             Setting::Breaks12(breaks12) => Settings { breaks12, ..self },
+            Setting::Portable(portable) => Settings { portable, ..self },
         }
     }
 }

@@ -33,6 +33,7 @@ fn a_script_is_understood(rt: HostRuntime) -> Result<(), Fail> {
         width: Some(-1),
         line_break: YAML_ANY_BREAK,
         breaks12: false,
+        portable: false,
     };
     assert!(rt; script.settings == expected);
     let mut events = Vec::new(alloc);
