@@ -1,28 +1,29 @@
 -- Percent decoding undoes escaping, and what a written text holds.
-use Rattle.std.proofs.Common.{◌≡◌, ℕ, ◌+◌, ◌*◌, ◌/◌, ◌%◌, ◌<◌, ◌≤◌, Bool, true, false, cond, ◌&&◌, ◌||◌, Option, Some, None, List, [], ◌∷◌, ◌++◌, refl, sym, ◌∙◌, ap, ◌⊎◌, inl, inr, ⊎_elim, subst, append_assoc, arith}
-use Rattle.std.proofs.lemmas.Bool.{agree_below_at, eqb-true, ltb-true, ltb-false, lt-ltb, le-ltb, and_parts, and_from, cases_Bool}
+use Rattle.std.proofs.Common.{◌≡◌, ℕ, ◌/◌, ◌%◌, ◌<◌, Bool, true, false, cond, ◌||◌, Some, List, [], ◌∷◌, ◌++◌, refl, ◌∙◌, ap, ⊎_elim, arith}
+use Rattle.std.proofs.lemmas.Bool.{agree_below_at, eqb-true, ltb-true, and_parts, and_from}
 use Rattle.std.proofs.lemmas.Bool.Decides.{nat_tests}
 use Rattle.std.proofs.lemmas.Str.{chars-encodes, is_utf8-from_IsUtf8, length-encode, len_utf8_bounds}
 use Rattle.std.specs.Prelude.{◌==◌, nat_lt, codes, length}
 use Rattle.std.specs.Char.{len_utf8}
-use Rattle.std.specs.List.{flat_map, list_all, list_any}
-use Rattle.std.specs.Str.{chars, is_utf8}
+use Rattle.std.specs.List.{flat_map, list_all}
+use Rattle.std.specs.Str.{is_utf8}
 use lib.Utf8.{scalar, scalars, encode, encodes, scalar_cases}
 use Rattle.std.proofs.lemmas.List.Folds.{list_all-append}
-use Rattle.yaml_base.specs.Characters.{Text, hex_digit, hex_digits, is_blank, is_break, is_among, is_alpha}
-use Rattle.yaml_base.specs.Percent.{percent_sign, is_tag_character, byte_escaped, character_escaped, percent_escaped, byte_read, bytes_read_after, percent_decoded}
+use Rattle.yaml_base.specs.Characters.{Text, hex_digit, is_blank, is_break, is_among, is_alpha}
+use Rattle.yaml_base.specs.Percent.{percent_sign, is_tag_character, byte_escaped, character_escaped, percent_escaped}
+use Rattle.yaml_base.specs.ReadPercent.{between_forms, digit_given, byte_given, form_bytes, percent_read}
 
 abbrev pub are_bytes : List ℕ → Bool
 are_bytes bs = list_all (λ b. nat_lt b 256) bs
 
 -- the two digits of a byte give the byte
-digits_read : (b : ℕ) (rest : Text) → b < 256 → byte_read (hex_digits 2 b ++ rest) ≡ b
-digits_read b rest h = eqb-true _ _ (agree_below_at (λ n. byte_read (hex_digits 2 n) == n) (λ n. true) 256 b refl h)
+digits_read : (b : ℕ) → b < 256 → byte_given (digit_given (hex_digit (b / 16 % 16))) (digit_given (hex_digit (b % 16))) ≡ b
+digits_read b h = eqb-true _ _ (agree_below_at (λ n. byte_given (digit_given (hex_digit (n / 16 % 16))) (digit_given (hex_digit (n % 16))) == n) (λ n. true) 256 b refl h)
 
-form_read : (b : ℕ) (rest : Text) → b < 256 → bytes_read_after 0 (byte_escaped b ++ rest) ≡ b ∷ bytes_read_after 0 rest
-form_read b rest h = ap (λ x. x ∷ bytes_read_after 0 rest) (digits_read b rest h)
+form_read : (b : ℕ) (rest : Text) → b < 256 → form_bytes between_forms (byte_escaped b ++ rest) ≡ b ∷ form_bytes between_forms rest
+form_read b rest h = ap (λ x. x ∷ form_bytes between_forms rest) (digits_read b h)
 
-forms_read : (bs : List ℕ) (rest : Text) → are_bytes bs ≡ true → bytes_read_after 0 (flat_map byte_escaped bs ++ rest) ≡ bs ++ bytes_read_after 0 rest
+forms_read : (bs : List ℕ) (rest : Text) → are_bytes bs ≡ true → form_bytes between_forms (flat_map byte_escaped bs ++ rest) ≡ bs ++ form_bytes between_forms rest
 forms_read [] rest h = refl
 forms_read (b ∷ bs) rest h =
     let both = and_parts (nat_lt b 256) (are_bytes bs) h in
@@ -40,23 +41,23 @@ scalar_below c e = ⊎_elim (λ h. omega arith) (λ h. omega arith) (scalar_case
 tag_character_is_no_percent : (c : ℕ) → is_tag_character c ≡ true → (c == percent_sign) ≡ false
 tag_character_is_no_percent c h = grind (arith, nat_tests)
 
-character_read_by : (kept : Bool) (c : ℕ) (rest : Text) → is_tag_character c ≡ kept → scalar c ≡ true → bytes_read_after 0 (cond kept (c ∷ []) (flat_map byte_escaped (encode c)) ++ rest) ≡ encode c ++ bytes_read_after 0 rest
+character_read_by : (kept : Bool) (c : ℕ) (rest : Text) → is_tag_character c ≡ kept → scalar c ≡ true → form_bytes between_forms (cond kept (c ∷ []) (flat_map byte_escaped (encode c)) ++ rest) ≡ encode c ++ form_bytes between_forms rest
 character_read_by true c rest k h = rw (tag_character_is_no_percent c k) refl
 character_read_by false c rest k h = forms_read (encode c) rest (encode_is_bytes c (scalar_below c h))
 
 -- a written character reads as its bytes
-character_read : (c : ℕ) (rest : Text) → scalar c ≡ true → bytes_read_after 0 (character_escaped c ++ rest) ≡ encode c ++ bytes_read_after 0 rest
+character_read : (c : ℕ) (rest : Text) → scalar c ≡ true → form_bytes between_forms (character_escaped c ++ rest) ≡ encode c ++ form_bytes between_forms rest
 character_read c rest h = character_read_by (is_tag_character c) c rest refl h
 
 -- a written text reads as its bytes
-pub text_read : (text : Text) → scalars text ≡ true → bytes_read_after 0 (percent_escaped text) ≡ encodes text
+pub text_read : (text : Text) → scalars text ≡ true → form_bytes between_forms (percent_escaped text) ≡ encodes text
 text_read [] h = refl
 text_read (c ∷ text) h =
     let both = and_parts (scalar c) (scalars text) h in
     character_read c (percent_escaped text) both.0 ∙ ap (λ x. encode c ++ x) (text_read text both.1)
 
 -- decoding undoes escaping
-pub decoded_escaped : (text : Text) → scalars text ≡ true → percent_decoded (percent_escaped text) ≡ Some text
+pub decoded_escaped : (text : Text) → scalars text ≡ true → percent_read (percent_escaped text) ≡ Some text
 decoded_escaped text h =
     let whole : is_utf8 (encodes text) ≡ true = is_utf8-from_IsUtf8 _ (text, (h, refl)) in
     rw (text_read text h, whole, chars-encodes text h) refl

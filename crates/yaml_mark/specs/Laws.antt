@@ -4,12 +4,15 @@ use Rattle.std.specs.List.{list_any}
 use Rattle.std.specs.Str.{all_scalars}
 use Rattle.yaml_base.specs.Characters.{Text, is_blank, is_break, is_among}
 use Rattle.yaml_base.specs.Event.{TagDirective}
-use Rattle.yaml_base.specs.Percent.{percent_escaped, percent_decoded}
-use Rattle.yaml_base.specs.Tags.{directives_fault, directives_in_force, spelling, spelled, tag_read, named_tag}
+use Rattle.yaml_base.specs.Percent.{percent_escaped}
+use Rattle.yaml_base.specs.Tags.{directives_fault, directives_in_force, spelling, spelled}
+use Rattle.yaml_base.specs.ReadPercent.{percent_read}
+use Rattle.yaml_base.specs.ReadTags.{name_said}
+use Rattle.yaml_base.specs.CanonicalReader.{tag_read}
 
 -- decoding undoes escaping
 abbrev pub EscapedTextReads : Text → Type 0
-EscapedTextReads text = all_scalars text ≡ true → percent_decoded (percent_escaped text) ≡ Some text
+EscapedTextReads text = all_scalars text ≡ true → percent_read (percent_escaped text) ≡ Some text
 
 -- a tag as a document with these directives writes it
 abbrev pub written_tag : List TagDirective → Text → Text
@@ -18,7 +21,7 @@ written_tag own tag = spelled (spelling (directives_in_force own) tag)
 -- a written tag is read as the tag
 abbrev pub WrittenTagReads : List TagDirective → Text → Type 0
 WrittenTagReads own tag =
-    directives_fault own ≡ None → all_scalars tag ≡ true → tag_read own (written_tag own tag) ≡ Some (named_tag tag)
+    directives_fault own ≡ None → all_scalars tag ≡ true → tag_read own (written_tag own tag) ≡ Some (name_said tag)
 
 -- escaped text has nothing that could end it, or that has a meaning in a tag
 abbrev pub EscapedTextSeparatesNothing : Text → Type 0
