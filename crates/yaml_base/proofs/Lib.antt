@@ -16,6 +16,8 @@ pub mod RowEvents
 pub mod RowsLayout
 pub mod RowsGrammar
 pub mod RowsReadFolding
+pub mod RowsReaders
+pub mod RowsSettings
 pub mod RowsAnalysis
 pub mod RowsTags
 pub mod RowsEncoding

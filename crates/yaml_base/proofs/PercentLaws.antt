@@ -1,28 +1,29 @@
 -- Percent decoding undoes escaping, and what a written text holds.
-use Rattle.std.proofs.Common.{◌≡◌, ℕ, ◌+◌, ◌*◌, ◌/◌, ◌%◌, ◌<◌, ◌≤◌, Bool, true, false, cond, ◌&&◌, ◌||◌, Option, Some, None, List, [], ◌∷◌, ◌++◌, refl, sym, ◌∙◌, ap, ◌⊎◌, inl, inr, ⊎_elim, subst, append_assoc, arith}
-use Rattle.std.proofs.lemmas.Bool.{agree_below_at, eqb-true, ltb-true, ltb-false, lt-ltb, le-ltb, and_parts, and_from, or_from, not-true, cases_Bool}
+use Rattle.std.proofs.Common.{◌≡◌, ℕ, ◌/◌, ◌%◌, ◌<◌, Bool, true, false, cond, ◌&&◌, ◌||◌, Some, List, [], ◌∷◌, ◌++◌, refl, ◌∙◌, ap, ⊎_elim, arith}
+use Rattle.std.proofs.lemmas.Bool.{agree_below_at, eqb-true, ltb-true, and_parts, and_from, or_from, not-true}
 use Rattle.std.proofs.lemmas.Bool.Decides.{nat_tests}
 use Rattle.std.proofs.lemmas.Str.{chars-encodes, is_utf8-from_IsUtf8, length-encode, len_utf8_bounds}
 use Rattle.std.specs.Prelude.{◌==◌, not, nat_lt, codes, length}
 use Rattle.std.specs.Char.{len_utf8}
 use Rattle.std.specs.List.{flat_map, list_all, list_any}
-use Rattle.std.specs.Str.{chars, is_utf8}
+use Rattle.std.specs.Str.{is_utf8}
 use lib.Utf8.{scalar, scalars, encode, encodes, scalar_cases}
 use Rattle.std.proofs.lemmas.List.Folds.{list_all-append, list_any-append}
-use Rattle.yaml_base.specs.Characters.{Text, hex_digit, hex_digits, is_blank, is_break, is_among, is_alpha}
-use Rattle.yaml_base.specs.Percent.{percent_sign, is_tag_character, byte_escaped, character_written, percent_escaped, is_suffix_character, suffix_escaped, prefix_escaped, byte_read, bytes_read_after, percent_decoded}
+use Rattle.yaml_base.specs.Characters.{Text, hex_digit, is_blank, is_break, is_among, is_alpha}
+use Rattle.yaml_base.specs.Percent.{percent_sign, is_tag_character, byte_escaped, character_written, percent_escaped, is_suffix_character, suffix_escaped, prefix_escaped}
+use Rattle.yaml_base.specs.ReadPercent.{between_forms, digit_given, byte_given, form_bytes, percent_read}
 
 abbrev pub are_bytes : List ℕ → Bool
 are_bytes bs = list_all (λ b. nat_lt b 256) bs
 
 -- the two digits of a byte give the byte
-digits_read : (b : ℕ) (rest : Text) → b < 256 → byte_read (hex_digits 2 b ++ rest) ≡ b
-digits_read b rest h = eqb-true _ _ (agree_below_at (λ n. byte_read (hex_digits 2 n) == n) (λ n. true) 256 b refl h)
+digits_read : (b : ℕ) → b < 256 → byte_given (digit_given (hex_digit (b / 16 % 16))) (digit_given (hex_digit (b % 16))) ≡ b
+digits_read b h = eqb-true _ _ (agree_below_at (λ n. byte_given (digit_given (hex_digit (n / 16 % 16))) (digit_given (hex_digit (n % 16))) == n) (λ n. true) 256 b refl h)
 
-form_read : (b : ℕ) (rest : Text) → b < 256 → bytes_read_after 0 (byte_escaped b ++ rest) ≡ b ∷ bytes_read_after 0 rest
-form_read b rest h = ap (λ x. x ∷ bytes_read_after 0 rest) (digits_read b rest h)
+form_read : (b : ℕ) (rest : Text) → b < 256 → form_bytes between_forms (byte_escaped b ++ rest) ≡ b ∷ form_bytes between_forms rest
+form_read b rest h = ap (λ x. x ∷ form_bytes between_forms rest) (digits_read b h)
 
-forms_read : (bs : List ℕ) (rest : Text) → are_bytes bs ≡ true → bytes_read_after 0 (flat_map byte_escaped bs ++ rest) ≡ bs ++ bytes_read_after 0 rest
+forms_read : (bs : List ℕ) (rest : Text) → are_bytes bs ≡ true → form_bytes between_forms (flat_map byte_escaped bs ++ rest) ≡ bs ++ form_bytes between_forms rest
 forms_read [] rest h = refl
 forms_read (b ∷ bs) rest h =
     let both = and_parts (nat_lt b 256) (are_bytes bs) h in
@@ -41,13 +42,13 @@ tag_character_is_no_percent : (c : ℕ) → is_tag_character c ≡ true → (c =
 tag_character_is_no_percent c h = grind (arith, nat_tests)
 
 -- a character that stands as itself only where it is no `%` reads as its bytes
-character_read : (stands : Bool) (c : ℕ) (rest : Text) → (stands ≡ true → (c == percent_sign) ≡ false) → scalar c ≡ true → bytes_read_after 0 (character_written stands c ++ rest) ≡ encode c ++ bytes_read_after 0 rest
+character_read : (stands : Bool) (c : ℕ) (rest : Text) → (stands ≡ true → (c == percent_sign) ≡ false) → scalar c ≡ true → form_bytes between_forms (character_written stands c ++ rest) ≡ encode c ++ form_bytes between_forms rest
 character_read true c rest k h = rw (k refl) refl
 character_read false c rest k h = forms_read (encode c) rest (encode_is_bytes c (scalar_below c h))
 
 -- so does a text, whichever of its characters stand as themselves
 text_read_by : (stands : ℕ → Bool) → ((c : ℕ) → stands c ≡ true → (c == percent_sign) ≡ false) → (text : Text) → scalars text ≡ true
-    → bytes_read_after 0 (flat_map (λ c. character_written (stands c) c) text) ≡ encodes text
+    → form_bytes between_forms (flat_map (λ c. character_written (stands c) c) text) ≡ encodes text
 text_read_by stands k [] h = refl
 text_read_by stands k (c ∷ text) h =
     let both = and_parts (scalar c) (scalars text) h in
@@ -55,7 +56,7 @@ text_read_by stands k (c ∷ text) h =
     ∙ ap (λ x. encode c ++ x) (text_read_by stands k text both.1)
 
 -- a written text reads as its bytes
-pub text_read : (text : Text) → scalars text ≡ true → bytes_read_after 0 (percent_escaped text) ≡ encodes text
+pub text_read : (text : Text) → scalars text ≡ true → form_bytes between_forms (percent_escaped text) ≡ encodes text
 text_read text h = text_read_by is_tag_character tag_character_is_no_percent text h
 
 -- what stands after a handle is among what stands in tags
@@ -63,7 +64,7 @@ suffix_in_tags : (portable : Bool) (c : ℕ) → is_suffix_character portable c 
 suffix_in_tags portable c h = (and_parts (not (portable && is_among (codes ",[]") c)) (is_tag_character c) h).1
 
 -- a text reads as its bytes after a handle
-suffix_read : (portable : Bool) (text : Text) → scalars text ≡ true → bytes_read_after 0 (suffix_escaped portable text) ≡ encodes text
+suffix_read : (portable : Bool) (text : Text) → scalars text ≡ true → form_bytes between_forms (suffix_escaped portable text) ≡ encodes text
 suffix_read portable text h =
     text_read_by (is_suffix_character portable) (λ c k. tag_character_is_no_percent c (suffix_in_tags portable c k)) text h
 
@@ -73,7 +74,7 @@ first_is_no_percent true c h = grind (arith, nat_tests)
 first_is_no_percent false c h = tag_character_is_no_percent c h
 
 -- a prefix reads as its bytes
-prefix_read : (portable : Bool) (text : Text) → scalars text ≡ true → bytes_read_after 0 (prefix_escaped portable text) ≡ encodes text
+prefix_read : (portable : Bool) (text : Text) → scalars text ≡ true → form_bytes between_forms (prefix_escaped portable text) ≡ encodes text
 prefix_read portable [] h = refl
 prefix_read portable (c ∷ text) h =
     let both = and_parts (scalar c) (scalars text) h in
@@ -81,21 +82,21 @@ prefix_read portable (c ∷ text) h =
     ∙ ap (λ x. encode c ++ x) (text_read text both.1)
 
 -- what reads as the bytes of a text is decoded as the text
-decoded_by : (text written : Text) → scalars text ≡ true → bytes_read_after 0 written ≡ encodes text → percent_decoded written ≡ Some text
+decoded_by : (text written : Text) → scalars text ≡ true → form_bytes between_forms written ≡ encodes text → percent_read written ≡ Some text
 decoded_by text written h e =
     let whole : is_utf8 (encodes text) ≡ true = is_utf8-from_IsUtf8 _ (text, (h, refl)) in
     rw (e, whole, chars-encodes text h) refl
 
 -- decoding undoes escaping
-pub decoded_escaped : (text : Text) → scalars text ≡ true → percent_decoded (percent_escaped text) ≡ Some text
+pub decoded_escaped : (text : Text) → scalars text ≡ true → percent_read (percent_escaped text) ≡ Some text
 decoded_escaped text h = decoded_by text (percent_escaped text) h (text_read text h)
 
 -- it does so after a handle
-pub decoded_suffix : (portable : Bool) (text : Text) → scalars text ≡ true → percent_decoded (suffix_escaped portable text) ≡ Some text
+pub decoded_suffix : (portable : Bool) (text : Text) → scalars text ≡ true → percent_read (suffix_escaped portable text) ≡ Some text
 decoded_suffix portable text h = decoded_by text (suffix_escaped portable text) h (suffix_read portable text h)
 
 -- and in a prefix
-pub decoded_prefix : (portable : Bool) (text : Text) → scalars text ≡ true → percent_decoded (prefix_escaped portable text) ≡ Some text
+pub decoded_prefix : (portable : Bool) (text : Text) → scalars text ≡ true → percent_read (prefix_escaped portable text) ≡ Some text
 decoded_prefix portable text h = decoded_by text (prefix_escaped portable text) h (prefix_read portable text h)
 
 -- Each character of a written text may stand in a tag, or is of a percent form: no space, no break, no `!`, no `<` and no `>`.

@@ -158,6 +158,11 @@ nested_too_deep :
     → refusal_at false (within_document None no_documents plain_start levels) (sequence_start a_collection) ≡ Some too_deep
 nested_too_deep levels full = ap (λ count. fault_if (not (nat_lt count 1000000)) too_deep) full
 
+nested_just_enough :
+    (levels : List Level) → length levels ≡ 999999
+    → refusal_at false (within_document None no_documents plain_start levels) (sequence_start a_collection) ≡ None
+nested_just_enough levels full = ap (λ count. fault_if (not (nat_lt count 1000000)) too_deep) full
+
 abbrev flow_sequence : Option Text → Event
 flow_sequence anchor = sequence_start (record { anchor = anchor; tag = None; implicit = true; style = flow })
 

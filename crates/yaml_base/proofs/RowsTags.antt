@@ -1,12 +1,15 @@
 -- Worked rows of tags, names and directives, computed.
-use Rattle.std.proofs.Common.{◌≡◌, ℕ, pos, negsuc, Option, Some, None, List, [], ◌∷◌, ◌++◌, refl}
+use Rattle.std.proofs.Common.{◌≡◌, ℕ, pos, Option, Some, None, List, [], ◌∷◌, ◌++◌, refl}
 use Rattle.std.specs.Prelude.{false, codes}
 use Rattle.std.specs.Str.{chars, is_utf8}
 use lib.Utf8.{encode}
 use Rattle.yaml_base.specs.Characters.{Text}
-use Rattle.yaml_base.specs.Event.{Version, TagDirective}
-use Rattle.yaml_base.specs.Percent.{percent_escaped, percent_decoded}
-use Rattle.yaml_base.specs.Tags.{directives_in_force, spelling, spelled, shorthand, verbatim, tag_read, bare_tag, named_tag, anchor_fault, alias_fault, version_fault, directives_fault, tag_fault}
+use Rattle.yaml_base.specs.Event.{TagDirective}
+use Rattle.yaml_base.specs.Percent.{percent_escaped}
+use Rattle.yaml_base.specs.ReadPercent.{percent_read}
+use Rattle.yaml_base.specs.ReadTags.{bare_said, name_said}
+use Rattle.yaml_base.specs.CanonicalReader.{tag_read}
+use Rattle.yaml_base.specs.Tags.{directives_in_force, spelling, spelled, anchor_fault, alias_fault, version_fault, directives_fault, tag_fault}
 
 abbrev directive : Text → Text → TagDirective
 directive handle prefix = record { handle = handle; prefix = prefix }
@@ -22,19 +25,19 @@ escapes_utf8 : percent_escaped (0 ∷ 0xE9 ∷ 0x1F600 ∷ []) ≡ codes "%00%C3
 unfolding encode
 escapes_utf8 = refl
 
-reads_percent_forms : percent_decoded (codes "a%21b%C3%a9%00c") ≡ Some (codes "a!b" ++ 0xE9 ∷ 0 ∷ codes "c")
+reads_percent_forms : percent_read (codes "a%21b%C3%a9%00c") ≡ Some (codes "a!b" ++ 0xE9 ∷ 0 ∷ codes "c")
 unfolding is_utf8 chars encode
 reads_percent_forms = refl
 
-reads_no_broken_form : percent_decoded (codes "a%2") ≡ None
+reads_no_broken_form : percent_read (codes "a%2") ≡ None
 unfolding is_utf8 chars encode
 reads_no_broken_form = refl
 
-reads_no_sign_in_a_form : percent_decoded (codes "%%34%31") ≡ None
+reads_no_sign_in_a_form : percent_read (codes "%%34%31") ≡ None
 unfolding is_utf8 chars encode
 reads_no_sign_in_a_form = refl
 
-reads_no_lone_byte : percent_decoded (codes "%C3") ≡ None
+reads_no_lone_byte : percent_read (codes "%C3") ≡ None
 unfolding is_utf8 chars encode
 reads_no_lone_byte = refl
 
@@ -68,23 +71,43 @@ null_and_accent : spelled false (spelling defaults (codes "!" ++ 0xE9 ∷ 0 ∷ 
 unfolding encode
 null_and_accent = refl
 
-reads_bare : tag_read [] (codes "!") ≡ Some bare_tag
+reads_bare : tag_read [] (codes "!") ≡ Some bare_said
 reads_bare = refl
 
-reads_shorthand : tag_read (directive (codes "!e!") (codes "!x") ∷ []) (codes "!e!y%21") ≡ Some (named_tag (codes "!xy!"))
+reads_shorthand : tag_read (directive (codes "!e!") (codes "!x") ∷ []) (codes "!e!y%21") ≡ Some (name_said (codes "!xy!"))
 unfolding is_utf8 chars encode
 reads_shorthand = refl
 
-reads_default : tag_read [] (codes "!!int") ≡ Some (named_tag (codes "tag:yaml.org,2002:int"))
+reads_default : tag_read [] (codes "!!int") ≡ Some (name_said (codes "tag:yaml.org,2002:int"))
 unfolding is_utf8 chars encode
 reads_default = refl
 
-reads_verbatim : tag_read [] (codes "!<%21>") ≡ Some (named_tag (codes "!"))
+reads_verbatim : tag_read [] (codes "!<%21>") ≡ Some (name_said (codes "!"))
 unfolding is_utf8 chars encode
 reads_verbatim = refl
 
 reads_no_open_verbatim : tag_read [] (codes "!<a") ≡ None
 reads_no_open_verbatim = refl
+
+-- a space ends a tag in a canonical stream, so it may hold the signs of flow
+reads_flow_signs : tag_read [] (codes "!a,[b]") ≡ Some (name_said (codes "!a,[b]"))
+unfolding is_utf8 chars encode
+reads_flow_signs = refl
+
+-- outputs of wrong writers: a sign that isn't escaped, a handle that the document doesn't give, `%` left as it was
+reads_other_tags :
+    (tag_read [] (codes "!a!b") ≡ None) × (tag_read [] (codes "a") ≡ None) × (tag_read [] (codes "!%") ≡ None)
+    × (tag_read [] (codes "!<a%2>") ≡ None) × (tag_read [] (codes "!%C3") ≡ None) × (tag_read [] [] ≡ None)
+unfolding is_utf8 chars encode
+reads_other_tags = (refl, refl, refl, refl, refl, refl)
+
+-- a document's own directive comes before the one assumed, and the first of two before the second
+reads_by_the_first_directive :
+    (tag_read (directive (codes "!!") (codes "x:") ∷ directive (codes "!!") (codes "y:") ∷ []) (codes "!!a") ≡ Some (name_said (codes "x:a")))
+    × (tag_read (directive (codes "!") (codes "x:") ∷ []) (codes "!a") ≡ Some (name_said (codes "x:a")))
+    × (tag_read [] (codes "!!<a>") ≡ Some (name_said (codes "tag:yaml.org,2002:<a>")))
+unfolding is_utf8 chars encode
+reads_by_the_first_directive = (refl, refl, refl)
 
 reads_no_unknown_handle : tag_read [] (codes "!e!y") ≡ None
 reads_no_unknown_handle = refl

@@ -1,17 +1,19 @@
 -- The written form of a tag, read with the document's own directives and the defaults, is the tag.
-use Rattle.std.proofs.Common.{◌≡◌, ℕ, Bool, true, false, cond, ◌&&◌, ◌||◌, not, Option, Some, None, List, [], ◌∷◌, ◌++◌, refl, sym, ◌∙◌, ap, ◌⊎◌, inl, inr, ⊎_elim, subst, append_assoc, arith}
-use Rattle.std.proofs.lemmas.Bool.{eqb-true, and_parts, and_from, or_parts, or_from, not-true, not-false}
+use Rattle.std.proofs.Common.{◌≡◌, ℕ, Bool, true, false, cond, ◌||◌, not, Option, Some, None, List, [], ◌∷◌, ◌++◌, refl, sym, ◌∙◌, ap, ◌⊎◌, inl, inr, subst, append_assoc, arith}
+use Rattle.std.proofs.lemmas.Bool.{eqb-true, and_parts, or_parts, or_from, not-true, not-false}
 use Rattle.std.proofs.lemmas.Bool.Decides.{nat_tests}
-use Rattle.std.proofs.lemmas.List.Folds.{list_all-append}
 use Rattle.std.proofs.lemmas.Slice.Eq.{bytes_eq-Decides}
-use Rattle.std.specs.Prelude.{◌==◌, codes, bytes_eq, option_map, filter}
+use Rattle.std.specs.Prelude.{◌==◌, codes, bytes_eq, option_map}
 use Rattle.std.specs.List.{list_all, list_any}
 use Rattle.std.specs.Option.{option_or}
 use lib.Utf8.{scalar, scalars}
 use Rattle.yaml_base.specs.Characters.{Text, is_alpha, is_blank, is_break}
 use Rattle.yaml_base.specs.Event.{TagDirective}
-use Rattle.yaml_base.specs.Percent.{percent_escaped, suffix_escaped, percent_decoded}
-use Rattle.yaml_base.specs.Tags.{tag_mark, last_from, without_last, handle_fault, directive_fault, gives_handle, next_directive_fault, directives_fault_after, directives_fault, default_directives, directives_in_force, behind, Spelling, shorthand, verbatim, spelling_by, spelling, spelled, TagRead, named_tag, AtMark, at_mark_before, at_last_mark, prefix_given, named_by, shorthand_read, verbatim_read, tag_read}
+use Rattle.yaml_base.specs.Percent.{percent_escaped, suffix_escaped}
+use Rattle.yaml_base.specs.ReadPercent.{percent_read}
+use Rattle.yaml_base.specs.ReadTags.{name_said, prefix_among, directives_assumed, cut_after_mark, name_joined, without_end_sign}
+use Rattle.yaml_base.specs.CanonicalReader.{shorthand_read, verbatim_read, tag_read}
+use Rattle.yaml_base.specs.Tags.{tag_mark, last_from, without_last, handle_fault, directive_fault, gives_handle, next_directive_fault, directives_fault_after, directives_fault, directives_in_force, behind, Spelling, shorthand, verbatim, spelling_by, spelling, spelled}
 use Rattle.yaml_base.proofs.PercentLaws.{decoded_escaped, decoded_suffix, stands_written, separates, escaped_stands, suffix_stands, suffix_begins, written_is_no_mark, written_is_no_less, written_never_separates, alpha_is_no_less}
 
 -- A verbatim tag.
@@ -25,27 +27,29 @@ without_last-append [] end = refl
 without_last-append (c ∷ []) end = refl
 without_last-append (c ∷ next ∷ rest) end = ap (λ x. c ∷ x) (without_last-append (next ∷ rest) end)
 
-verbatim_content : (text : Text) → verbatim_read (text ++ 0x3E ∷ []) ≡ option_map named_tag (percent_decoded text)
-verbatim_content [] = refl
-verbatim_content (c ∷ rest) = rw (last-append c rest 0x3E, without_last-append (c ∷ rest) 0x3E) refl
+-- what stands before the sign at the end
+end_sign_dropped : (text : Text) → without_end_sign (text ++ 0x3E ∷ []) ≡ Some text
+end_sign_dropped [] = refl
+end_sign_dropped (c ∷ []) = refl
+end_sign_dropped (c ∷ d ∷ rest) = ap (option_map (λ text. c ∷ text)) (end_sign_dropped (d ∷ rest))
 
-pub verbatim_reads : (portable : Bool) (own : List TagDirective) (tag : Text) → scalars tag ≡ true → tag_read own (spelled portable (verbatim tag)) ≡ Some (named_tag tag)
-verbatim_reads portable own tag h = verbatim_content (percent_escaped tag) ∙ ap (option_map named_tag) (decoded_escaped tag h)
+pub verbatim_reads : (portable : Bool) (own : List TagDirective) (tag : Text) → scalars tag ≡ true → tag_read own (spelled portable (verbatim tag)) ≡ Some (name_said tag)
+verbatim_reads portable own tag h = ap verbatim_read (end_sign_dropped (percent_escaped tag)) ∙ ap (option_map name_said) (decoded_escaped tag h)
 
 -- A text up to its last `!`.
 
 abbrev no_mark : Text → Bool
 no_mark text = list_all (λ c. not (c == tag_mark)) text
 
-uncut : (text : Text) → no_mark text ≡ true → at_last_mark text ≡ record { handle = []; suffix = text }
+uncut : (text : Text) → no_mark text ≡ true → cut_after_mark text ≡ record { front = []; rest = text }
 uncut [] h = refl
 uncut (c ∷ rest) h =
     let both = and_parts (not (c == tag_mark)) (no_mark rest) h in rw (uncut rest both.1, not-true _ both.0) refl
 
-cut_at_mark : (text : Text) → no_mark text ≡ true → at_last_mark (tag_mark ∷ text) ≡ record { handle = tag_mark ∷ []; suffix = text }
+cut_at_mark : (text : Text) → no_mark text ≡ true → cut_after_mark (tag_mark ∷ text) ≡ record { front = tag_mark ∷ []; rest = text }
 cut_at_mark text h = rw (uncut text h) refl
 
-cut_further : (front : Text) (c : ℕ) (handle suffix text : Text) → at_last_mark text ≡ record { handle = c ∷ handle; suffix = suffix } → at_last_mark (front ++ text) ≡ record { handle = front ++ (c ∷ handle); suffix = suffix }
+cut_further : (front : Text) (c : ℕ) (handle suffix text : Text) → cut_after_mark text ≡ record { front = c ∷ handle; rest = suffix } → cut_after_mark (front ++ text) ≡ record { front = front ++ (c ∷ handle); rest = suffix }
 cut_further [] c handle suffix text e = e
 cut_further (d ∷ []) c handle suffix text e = rw e refl
 cut_further (d ∷ f ∷ front) c handle suffix text e = rw (cut_further (f ∷ front) c handle suffix text e) refl
@@ -95,26 +99,26 @@ handle_form (c ∷ d ∷ rest) e =
 within_marks : (handle middle text : Text) → handle ≡ (tag_mark ∷ middle) ++ tag_mark ∷ [] → handle ++ text ≡ (tag_mark ∷ middle) ++ (tag_mark ∷ text)
 within_marks handle middle text e = ap (λ x. x ++ text) e ∙ append_assoc (tag_mark ∷ middle) (tag_mark ∷ []) text
 
-cut_at_handle : (handle text : Text) → IsHandle handle → no_mark text ≡ true → at_last_mark (handle ++ text) ≡ record { handle = handle; suffix = text }
+cut_at_handle : (handle text : Text) → IsHandle handle → no_mark text ≡ true → cut_after_mark (handle ++ text) ≡ record { front = handle; rest = text }
 cut_at_handle handle text (inl e) h = rw e (cut_at_mark text h)
 cut_at_handle handle text (inr form) h =
-    ap at_last_mark (within_marks handle form.0 text form.1)
+    ap cut_after_mark (within_marks handle form.0 text form.1)
     ∙ cut_further (tag_mark ∷ form.0) tag_mark [] text (tag_mark ∷ text) (cut_at_mark text h)
-    ∙ ap (λ x. record { handle = x; suffix = text }) (sym form.1)
+    ∙ ap (λ x. record { front = x; rest = text }) (sym form.1)
 
 -- a text that begins with `!` and goes on with another character than `<`
-by_shorthand : (own : List TagDirective) (d : ℕ) (rest : Text) → (d == 0x3C) ≡ false → tag_read own (tag_mark ∷ d ∷ rest) ≡ shorthand_read own (at_last_mark (tag_mark ∷ d ∷ rest))
+by_shorthand : (own : List TagDirective) (d : ℕ) (rest : Text) → (d == 0x3C) ≡ false → tag_read own (tag_mark ∷ d ∷ rest) ≡ shorthand_read own (cut_after_mark (tag_mark ∷ d ∷ rest))
 by_shorthand own d rest h = rw h refl
 
-alpha_first : (own : List TagDirective) (middle text : Text) → list_all is_alpha middle ≡ true → tag_read own ((tag_mark ∷ middle) ++ (tag_mark ∷ text)) ≡ shorthand_read own (at_last_mark ((tag_mark ∷ middle) ++ (tag_mark ∷ text)))
+alpha_first : (own : List TagDirective) (middle text : Text) → list_all is_alpha middle ≡ true → tag_read own ((tag_mark ∷ middle) ++ (tag_mark ∷ text)) ≡ shorthand_read own (cut_after_mark ((tag_mark ∷ middle) ++ (tag_mark ∷ text)))
 alpha_first own [] text h = by_shorthand own tag_mark text refl
 alpha_first own (m ∷ middle) text h =
     by_shorthand own m (middle ++ (tag_mark ∷ text)) (alpha_is_no_less m (and_parts (is_alpha m) (list_all is_alpha middle) h).0)
 
-handle_first : (own : List TagDirective) (handle : Text) (d : ℕ) (rest : Text) → IsHandle handle → stands_written d ≡ true → tag_read own (handle ++ (d ∷ rest)) ≡ shorthand_read own (at_last_mark (handle ++ (d ∷ rest)))
+handle_first : (own : List TagDirective) (handle : Text) (d : ℕ) (rest : Text) → IsHandle handle → stands_written d ≡ true → tag_read own (handle ++ (d ∷ rest)) ≡ shorthand_read own (cut_after_mark (handle ++ (d ∷ rest)))
 handle_first own handle d rest (inl e) h = rw e (by_shorthand own d rest (written_is_no_less d h))
 handle_first own handle d rest (inr form) h =
-    let P : Text → Type 0 = λ text. tag_read own text ≡ shorthand_read own (at_last_mark text) in
+    let P : Text → Type 0 = λ text. tag_read own text ≡ shorthand_read own (cut_after_mark text) in
     subst P (sym (within_marks handle form.0 (d ∷ rest) form.1)) (alpha_first own form.0 (d ∷ rest) form.2)
 
 -- What stands behind a prefix.
@@ -145,26 +149,26 @@ scalars_behind [] suffix h = h
 scalars_behind (p ∷ prefix) suffix h = scalars_behind prefix suffix (and_parts (scalar p) (scalars (prefix ++ suffix)) h).1
 
 -- a handle whose prefix is known, and the rest of a tag
-shorthand_reads : (portable : Bool) (own : List TagDirective) (handle prefix : Text) (c : ℕ) (suffix : Text) → handle_fault handle ≡ None → prefix_given (own ++ default_directives) handle ≡ Some prefix → scalars (c ∷ suffix) ≡ true → tag_read own (handle ++ suffix_escaped portable (c ∷ suffix)) ≡ Some (named_tag (prefix ++ (c ∷ suffix)))
+shorthand_reads : (portable : Bool) (own : List TagDirective) (handle prefix : Text) (c : ℕ) (suffix : Text) → handle_fault handle ≡ None → prefix_among (own ++ directives_assumed) handle ≡ Some prefix → scalars (c ∷ suffix) ≡ true → tag_read own (handle ++ suffix_escaped portable (c ∷ suffix)) ≡ Some (name_said (prefix ++ (c ∷ suffix)))
 shorthand_reads portable own handle prefix c suffix f g h =
     let written = suffix_escaped portable (c ∷ suffix) in
     let form = handle_form handle f in
     let begins = suffix_begins portable c suffix in
     let stands : list_all stands_written written ≡ true = suffix_stands portable (c ∷ suffix) in
     let P : Text → Type 0 = λ text. list_all stands_written text ≡ true in
-    let Q : Text → Type 0 = λ text. tag_read own (handle ++ text) ≡ shorthand_read own (at_last_mark (handle ++ text)) in
+    let Q : Text → Type 0 = λ text. tag_read own (handle ++ text) ≡ shorthand_read own (cut_after_mark (handle ++ text)) in
     let first = (and_parts (stands_written begins.0) (list_all stands_written begins.1) (subst P begins.2 stands)).0 in
     subst Q (sym begins.2) (handle_first own handle begins.0 begins.1 form first)
     ∙ ap (shorthand_read own) (cut_at_handle handle written form (stands_no_mark written stands))
-    ∙ ap (λ x. named_by x (percent_decoded written)) g
-    ∙ ap (named_by (Some prefix)) (decoded_suffix portable (c ∷ suffix) h)
+    ∙ ap (λ x. name_joined x (percent_read written)) g
+    ∙ ap (name_joined (Some prefix)) (decoded_suffix portable (c ∷ suffix) h)
 
 -- Directives that are found by their handles.
 abbrev pub AreFound : List TagDirective → List TagDirective → Type 0
 AreFound own [] = Unit {0}
 AreFound own (directive ∷ rest) =
     (handle_fault directive.handle ≡ None)
-    × (prefix_given (own ++ default_directives) directive.handle ≡ Some directive.prefix)
+    × (prefix_among (own ++ directives_assumed) directive.handle ≡ Some directive.prefix)
     × AreFound own rest
 
 -- a tag is spelled as it is, or by the handle of a directive that is found, whose prefix and the rest are the tag
@@ -172,11 +176,11 @@ abbrev pub ByHandle : List TagDirective → Text → (Spelling → Type 0) → T
 ByHandle own tag P =
     (handle prefix : Text) (c : ℕ) (suffix : Text) →
     handle_fault handle ≡ None →
-    prefix_given (own ++ default_directives) handle ≡ Some prefix →
+    prefix_among (own ++ directives_assumed) handle ≡ Some prefix →
     prefix ++ (c ∷ suffix) ≡ tag →
     P (shorthand handle (c ∷ suffix))
 
-spelled_step : (P : Spelling → Type 0) (own : List TagDirective) (directive : TagDirective) (tag : Text) (otherwise : Spelling) (suffix : Option Text) → behind directive.prefix tag ≡ suffix → handle_fault directive.handle ≡ None → prefix_given (own ++ default_directives) directive.handle ≡ Some directive.prefix → ByHandle own tag P → P otherwise → P (spelling_by directive.handle suffix otherwise)
+spelled_step : (P : Spelling → Type 0) (own : List TagDirective) (directive : TagDirective) (tag : Text) (otherwise : Spelling) (suffix : Option Text) → behind directive.prefix tag ≡ suffix → handle_fault directive.handle ≡ None → prefix_among (own ++ directives_assumed) directive.handle ≡ Some directive.prefix → ByHandle own tag P → P otherwise → P (spelling_by directive.handle suffix otherwise)
 spelled_step P own directive tag otherwise None e f g by known = known
 spelled_step P own directive tag otherwise (Some []) e f g by known = absurd (behind_begins directive.prefix tag e)
 spelled_step P own directive tag otherwise (Some (c ∷ suffix)) e f g by known =
@@ -202,13 +206,13 @@ same_text : (text : Text) → bytes_eq text text ≡ true
 same_text text = (bytes_eq-Decides text text).1 refl
 
 -- directives that don't give a handle are passed over
-passed_over : (before more : List TagDirective) (handle : Text) → gives_handle handle before ≡ false → prefix_given (before ++ more) handle ≡ prefix_given more handle
+passed_over : (before more : List TagDirective) (handle : Text) → gives_handle handle before ≡ false → prefix_among (before ++ more) handle ≡ prefix_among more handle
 passed_over [] more handle h = refl
 passed_over (d ∷ before) more handle h =
     let both = or_parts (bytes_eq d.handle handle) (gives_handle handle before) h in
     rw both.0 (passed_over before more handle both.1)
 
-found_after : (before : List TagDirective) (directive : TagDirective) (more : List TagDirective) → gives_handle directive.handle before ≡ false → prefix_given (before ++ (directive ∷ more)) directive.handle ≡ Some directive.prefix
+found_after : (before : List TagDirective) (directive : TagDirective) (more : List TagDirective) → gives_handle directive.handle before ≡ false → prefix_among (before ++ (directive ∷ more)) directive.handle ≡ Some directive.prefix
 found_after before directive more h =
     passed_over before (directive ∷ more) directive.handle h ∙ rw (same_text directive.handle) refl
 
@@ -217,12 +221,12 @@ all_found own before [] e h = tt
 all_found own before (directive ∷ rest) e h =
     let both = neither (next_directive_fault before directive) (directives_fault_after (before ++ directive ∷ []) rest) h in
     let parts = neither (directive_fault directive) (cond {A = Option ℕ} (gives_handle directive.handle before) (Some 12) None) both.0 in
-    let whole : own ++ default_directives ≡ before ++ (directive ∷ (rest ++ default_directives)) =
-    ap (λ x. x ++ default_directives) e ∙ append_assoc before (directive ∷ rest) default_directives
+    let whole : own ++ directives_assumed ≡ before ++ (directive ∷ (rest ++ directives_assumed)) =
+    ap (λ x. x ++ directives_assumed) e ∙ append_assoc before (directive ∷ rest) directives_assumed
     in (
       (neither _ _ parts.0).0,
-      ap (λ x. prefix_given x directive.handle) whole
-          ∙ found_after before directive (rest ++ default_directives) (not_given _ 12 parts.1),
+      ap (λ x. prefix_among x directive.handle) whole
+          ∙ found_after before directive (rest ++ directives_assumed) (not_given _ 12 parts.1),
       all_found own (before ++ directive ∷ []) rest (e ∙ sym (append_assoc before (directive ∷ []) rest)) both.1,
     )
 
@@ -234,10 +238,10 @@ secondary = record { handle = codes "!!"; prefix = codes "tag:yaml.org,2002:" }
 
 defaults_found_by : (own : List TagDirective) (first second : Bool) → gives_handle primary.handle own ≡ first → gives_handle secondary.handle own ≡ second → AreFound own (cond (not first) (primary ∷ cond (not second) (secondary ∷ []) []) (cond (not second) (secondary ∷ []) []))
 defaults_found_by own true true e f = tt
-defaults_found_by own true false e f = (refl, passed_over own default_directives (codes "!!") f, tt)
-defaults_found_by own false true e f = (refl, passed_over own default_directives (codes "!") e, tt)
+defaults_found_by own true false e f = (refl, passed_over own directives_assumed (codes "!!") f, tt)
+defaults_found_by own false true e f = (refl, passed_over own directives_assumed (codes "!") e, tt)
 defaults_found_by own false false e f =
-    (refl, passed_over own default_directives (codes "!") e, (refl, passed_over own default_directives (codes "!!") f, tt))
+    (refl, passed_over own directives_assumed (codes "!") e, (refl, passed_over own directives_assumed (codes "!!") f, tt))
 
 found-append : (own xs ys : List TagDirective) → AreFound own xs → AreFound own ys → AreFound own (xs ++ ys)
 found-append own [] ys f g = g
@@ -250,14 +254,14 @@ in_force_found own h =
 
 -- Written tags.
 
-pub written_tag_reads : (portable : Bool) (own : List TagDirective) (tag : Text) → directives_fault own ≡ None → scalars tag ≡ true → tag_read own (spelled portable (spelling (directives_in_force own) tag)) ≡ Some (named_tag tag)
+pub written_tag_reads : (portable : Bool) (own : List TagDirective) (tag : Text) → directives_fault own ≡ None → scalars tag ≡ true → tag_read own (spelled portable (spelling (directives_in_force own) tag)) ≡ Some (name_said tag)
 written_tag_reads portable own tag h k =
-    let P : Spelling → Type 0 = λ s. tag_read own (spelled portable s) ≡ Some (named_tag tag) in
+    let P : Spelling → Type 0 = λ s. tag_read own (spelled portable s) ≡ Some (name_said tag) in
     let IsText : Text → Type 0 = λ text. scalars text ≡ true in
     spelling_is P own (directives_in_force own) tag (in_force_found own h) (verbatim_reads portable own tag k)
     (λ handle prefix c suffix f g whole.
     shorthand_reads portable own handle prefix c suffix f g (scalars_behind prefix (c ∷ suffix) (subst IsText (sym whole) k))
-    ∙ ap (λ x. Some (named_tag x)) whole)
+    ∙ ap (λ x. Some (name_said x)) whole)
 
 any-append : (p : ℕ → Bool) (xs ys : Text) → list_any p xs ≡ false → list_any p ys ≡ false → list_any p (xs ++ ys) ≡ false
 any-append p [] ys h k = k

@@ -8,8 +8,8 @@ use Rattle.std.specs.Char.Utf16.{is_high_surrogate, is_low_surrogate, surrogate_
 use Rattle.yaml_base.specs.Characters.{Text, is_alpha, is_blank, space}
 use Rattle.yaml_base.specs.LineBreaks.{with_line_breaks_read, is_read_break}
 use Rattle.yaml_base.specs.Event.{Version, TagDirective}
-use Rattle.yaml_base.specs.Percent.{percent_decoded}
-use Rattle.yaml_base.specs.Tags.{TagRead, bare_tag, named_tag, tag_read}
+use Rattle.yaml_base.specs.ReadPercent.{percent_read}
+use Rattle.yaml_base.specs.ReadTags.{TagSaid, bare_said, name_said, CutText, prefix_among, directives_assumed, cut_after_mark, name_joined, without_end_sign}
 use Rattle.yaml_base.specs.ReadFolding.{FoldUnit, folding_read}
 use Rattle.yaml_base.specs.ReadDouble.{QuotePlace, between, QuoteStep, goes_on, gives, ends_quotes, has_no_reading, quote_step}
 use Rattle.yaml_base.specs.Content.{ScalarTag, tagged, untagged, Content, alias_content, scalar_content, sequence_content, mapping_content, Contents, no_contents, contents_and, ContentPairs, no_content_pairs, content_pairs_and, DocumentContent}
@@ -133,7 +133,7 @@ tag_line_of handle (Some prefix) = if is_handle handle then tag_line (record { h
 abbrev pub directive_token : List Text → Token
 directive_token (name ∷ word ∷ []) = if bytes_eq name (codes "%YAML") then version_named word else bad
 directive_token (name ∷ handle ∷ prefix ∷ []) =
-    if bytes_eq name (codes "%TAG") then tag_line_of handle (percent_decoded prefix) else bad
+    if bytes_eq name (codes "%TAG") then tag_line_of handle (percent_read prefix) else bad
 directive_token _ = bad
 
 -- the document mark of three `-` or of three `.`
@@ -196,6 +196,24 @@ tokens_from breaks12 place [] = tokens_at_end place
 tokens_from breaks12 place (c ∷ rest) =
     let here = turn breaks12 place c in here.tokens ++ tokens_from breaks12 here.place rest
 
+-- ---- written tags
+
+-- a handle's prefix, by a document's own directives and those assumed, and what stands after the handle
+abbrev pub shorthand_read : List TagDirective → CutText → Option TagSaid
+shorthand_read own text = name_joined (prefix_among (own ++ directives_assumed) text.front) (percent_read text.rest)
+
+-- what stands between `!<` and `>`, where that ends it
+abbrev pub verbatim_read : Option Text → Option TagSaid
+verbatim_read text = option_map name_said (option_and_then percent_read text)
+
+-- a written tag, from its `!` to its last character (section 8.1.1); since a space ends it, it may hold the signs of flow
+abbrev pub tag_read : List TagDirective → Text → Option TagSaid
+tag_read own [] = None
+tag_read own (c ∷ []) = if c == 0x21 then Some bare_said else None
+tag_read own (c ∷ d ∷ rest) =
+    if not (c == 0x21) then None
+    else (if d == 0x3C then verbatim_read (without_end_sign rest) else shorthand_read own (cut_after_mark (c ∷ d ∷ rest)))
+
 -- ---- tokens to contents
 
 -- an open collection: its anchor, its tag, what it holds so far, and in a mapping a key without its value
@@ -206,7 +224,7 @@ pub data OpenContent : Type 0 where
 -- what may come next in a document: a node after these properties, an entry or the collection's end, the comma after
 -- an entry, or the sign between a key and its value
 pub data Awaited : Type 0 where
-  node_awaited : Option Text → Option TagRead → Awaited
+  node_awaited : Option Text → Option TagSaid → Awaited
   entry_awaited : Awaited
   comma_awaited : Awaited
   value_awaited : Awaited
@@ -239,24 +257,24 @@ with_content documents head (open_mapping anchor tag pairs (Some key) ∷ levels
     within documents head (open_mapping anchor tag (content_pairs_and pairs key content) None ∷ levels) comma_awaited
 
 -- a scalar without a tag may go without one where it isn't plain, unless it has the bare tag
-abbrev pub scalar_tag_read : Option TagRead → ScalarTag
+abbrev pub scalar_tag_read : Option TagSaid → ScalarTag
 scalar_tag_read None = untagged true
-scalar_tag_read (Some bare_tag) = untagged false
-scalar_tag_read (Some (named_tag name)) = tagged name
+scalar_tag_read (Some bare_said) = untagged false
+scalar_tag_read (Some (name_said name)) = tagged name
 
 -- a tag after an anchor or none, read with the document's directives
-abbrev pub with_tag : List DocumentContent → Head → List OpenContent → Option Text → Option TagRead → Reading
+abbrev pub with_tag : List DocumentContent → Head → List OpenContent → Option Text → Option TagSaid → Reading
 with_tag documents head levels given None = failed
 with_tag documents head levels given (Some read) = within documents head levels (node_awaited given (Some read))
 
 -- a collection begins; the bare tag isn't one of its own
-abbrev pub with_open : List DocumentContent → Head → List OpenContent → (Option Text → OpenContent) → Option TagRead → Reading
+abbrev pub with_open : List DocumentContent → Head → List OpenContent → (Option Text → OpenContent) → Option TagSaid → Reading
 with_open documents head levels opened None = within documents head (opened None ∷ levels) entry_awaited
-with_open documents head levels opened (Some (named_tag name)) = within documents head (opened (Some name) ∷ levels) entry_awaited
-with_open documents head levels opened (Some bare_tag) = failed
+with_open documents head levels opened (Some (name_said name)) = within documents head (opened (Some name) ∷ levels) entry_awaited
+with_open documents head levels opened (Some bare_said) = failed
 
 -- where a node is awaited: an anchor, then a tag, then the node; an alias has neither
-abbrev pub node_read : List DocumentContent → Head → List OpenContent → Option Text → Option TagRead → Token → Reading
+abbrev pub node_read : List DocumentContent → Head → List OpenContent → Option Text → Option TagSaid → Token → Reading
 node_read documents head levels None None (anchor_token name) = within documents head levels (node_awaited (Some name) None)
 node_read documents head levels given None (tag_token text) = with_tag documents head levels given (tag_read head.directives text)
 node_read documents head levels None None (alias_token name) = with_content documents head levels (alias_content name)

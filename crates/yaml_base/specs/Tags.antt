@@ -1,11 +1,11 @@
--- Names, versions, tag directives and tags: what is refused in them, how a tag is spelled by the directives in force,
--- and, by itself, how a written tag is read (YAML 1.1, sections 7.1 and 8.1, and libyaml's own rules).
-use Rattle.std.specs.Prelude.{ℕ, ℤ, pos, negsuc, Bool, true, false, Option, None, Some, List, [], ◌∷◌, ◌++◌, ◌==◌, ◌||◌, ◌&&◌, not, codes, bytes_eq, filter, option_map, if◌then◌else◌}
+-- Names, versions, tag directives and tags: what is refused in them, and how a tag is spelled by the directives in force
+-- (YAML 1.1, sections 7.1 and 8.1, and libyaml's own rules).
+use Rattle.std.specs.Prelude.{ℕ, ℤ, pos, negsuc, Bool, false, Option, None, Some, List, [], ◌∷◌, ◌++◌, ◌==◌, ◌||◌, ◌&&◌, not, codes, bytes_eq, filter, if◌then◌else◌}
 use Rattle.std.specs.List.{list_any, list_all}
 use Rattle.std.specs.Option.{option_or}
 use Rattle.yaml_base.specs.Characters.{Text, is_alpha}
 use Rattle.yaml_base.specs.Event.{Version, TagDirective}
-use Rattle.yaml_base.specs.Percent.{percent_escaped, suffix_escaped, percent_decoded}
+use Rattle.yaml_base.specs.Percent.{percent_escaped, suffix_escaped}
 
 -- The refusals of this file, by their numbers.
 abbrev pub incompatible_version : ℕ
@@ -162,53 +162,3 @@ spelling (directive ∷ rest) tag = spelling_by directive.handle (behind directi
 abbrev pub spelled : (portable : Bool) → Spelling → Text
 spelled portable (shorthand handle suffix) = handle ++ suffix_escaped portable suffix
 spelled portable (verbatim tag) = codes "!<" ++ percent_escaped tag ++ codes ">"
-
--- what a written tag says: the bare tag, or a tag by its name
-pub data TagRead : Type 0 where
-  bare_tag : TagRead
-  named_tag : Text → TagRead
-
--- a text up to its last `!`, and what stands behind that
-pub record AtMark : Type 0 where
-  pub handle : Text
-  pub suffix : Text
-
--- one character before such a text
-abbrev pub at_mark_before : ℕ → Text → Text → AtMark
-at_mark_before c [] suffix =
-    if c == tag_mark then record { handle = c ∷ []; suffix = suffix } else record { handle = []; suffix = c ∷ suffix }
-at_mark_before c (h ∷ handle) suffix = record { handle = c ∷ h ∷ handle; suffix = suffix }
-
--- a text cut behind its last `!`
-abbrev pub at_last_mark : Text → AtMark
-at_last_mark [] = record { handle = []; suffix = [] }
-at_last_mark (c ∷ rest) = let cut = at_last_mark rest in at_mark_before c cut.handle cut.suffix
-
--- the prefix of a handle: that of the first directive that gives it
-abbrev pub prefix_given : List TagDirective → Text → Option Text
-prefix_given [] handle = None
-prefix_given (directive ∷ rest) handle =
-    if bytes_eq directive.handle handle then Some directive.prefix else prefix_given rest handle
-
--- a prefix, and what a text of percent forms stands for
-abbrev pub named_by : Option Text → Option Text → Option TagRead
-named_by (Some prefix) (Some suffix) = Some (named_tag (prefix ++ suffix))
-named_by _ _ = None
-
--- a handle's prefix and the decoded rest, by the document's own directives and the defaults
-abbrev pub shorthand_read : List TagDirective → AtMark → Option TagRead
-shorthand_read own text = named_by (prefix_given (own ++ default_directives) text.handle) (percent_decoded text.suffix)
-
--- a text between `!<` and `>`
-abbrev pub verbatim_read : Text → Option TagRead
-verbatim_read [] = None
-verbatim_read (c ∷ rest) =
-    if last_from c rest == 0x3E then option_map named_tag (percent_decoded (without_last (c ∷ rest))) else None
-
--- a written tag, read with a document's own directives and the defaults (section 8.1.1)
-abbrev pub tag_read : List TagDirective → Text → Option TagRead
-tag_read own [] = None
-tag_read own (c ∷ []) = if c == tag_mark then Some bare_tag else None
-tag_read own (c ∷ d ∷ rest) =
-    if not (c == tag_mark) then None
-    else (if d == 0x3C then verbatim_read rest else shorthand_read own (at_last_mark (c ∷ d ∷ rest)))

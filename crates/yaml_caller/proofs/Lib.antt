@@ -1,3 +1,4 @@
 pub mod Written
 pub mod OnlyMemory
 pub mod SameBytes
+pub mod Dumped

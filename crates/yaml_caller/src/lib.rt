@@ -1,13 +1,15 @@
 //! A caller of the emitter: it knows the public contracts and the definitions, and proves the bytes that it gets.
 #![tactic(auto)]
 
+mod cycles;
 mod values;
 
-ghost use Rattle.std.specs.Prelude.{◌≡◌, IfOk, IfErr, OnOk, true, None, Some, [], codes};
+ghost use Rattle.std.specs.Prelude.{◌≡◌, IfOk, IfErr, OnOk, true, false, None, Some, [], codes};
 ghost use Rattle.yaml_base.specs.Seen.{seen_text};
 ghost use Rattle.yaml_emitter.specs.StandsAfter.{StandsAfter};
 ghost use Rattle.yaml_caller.specs.Letter.{letter_settings};
 
+pub use cycles::cycle_written;
 use std::alloc::Allocator;
 pub use values::same_bytes;
 use yaml_base::{
@@ -23,6 +25,8 @@ use yaml_emitter::{
 fn canonical_emitter<A: Allocator + Copy>(alloc: A) -> Result<yaml_emitter_t<A>, yaml_error_t>
     ensures stands { IfOk result (λ emitter. StandsAfter letter_settings [] emitter) }
     ensures output { IfOk result (λ emitter. emitter.has_output ≡ true) }
+    ensures no_error { IfOk result (λ emitter. emitter.error ≡ None) }
+    ensures unopened { IfOk result (λ emitter. (emitter.opened ≡ false) × (emitter.closed ≡ false)) }
     ensures memory { IfErr result (λ error. error ≡ yaml_error_t.Memory) }
 {
     let mut emitter = yaml_emitter_initialize(alloc)?;

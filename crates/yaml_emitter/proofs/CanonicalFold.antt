@@ -4,23 +4,24 @@ use Rattle.std.proofs.lemmas.List.Sums.{fold-append}
 use Rattle.std.specs.Prelude.{Bool, true, false, Option, None, Some, List, [], ◌∷◌, ◌++◌, not, fold}
 use Rattle.yaml_base.specs.Characters.{Text}
 use Rattle.yaml_base.specs.Event.{TagDirective, Event, scalar, sequence_start, mapping_start}
-use Rattle.yaml_base.specs.Tags.{TagRead, bare_tag, named_tag, directives_in_force, spelling, spelled, tag_read}
+use Rattle.yaml_base.specs.Tags.{directives_in_force, spelling, spelled}
+use Rattle.yaml_base.specs.ReadTags.{TagSaid, bare_said, name_said}
 use Rattle.yaml_base.specs.Grammar.{Node, alias_node, scalar_node, sequence_node, mapping_node, Nodes, no_nodes, nodes_and, Pairs, no_pairs, pairs_and}
 use Rattle.yaml_base.specs.Layout.{has_no_nodes, has_no_pairs}
 use Rattle.yaml_base.specs.Content.{scalar_tag, scalar_content, Contents, node_content, nodes_content, pairs_content, DocumentContent}
-use Rattle.yaml_base.specs.CanonicalReader.{Token, scalar_token, opens_sequence, closes_sequence, opens_mapping, closes_mapping, key_sign, value_sign, comma, OpenContent, open_sequence, open_mapping, node_awaited, entry_awaited, comma_awaited, Head, Reading, within, with_content, with_tag, token_read}
+use Rattle.yaml_base.specs.CanonicalReader.{Token, scalar_token, opens_sequence, closes_sequence, opens_mapping, closes_mapping, key_sign, value_sign, comma, OpenContent, open_sequence, open_mapping, node_awaited, entry_awaited, comma_awaited, Head, Reading, within, with_content, tag_read, with_tag, token_read}
 use Rattle.yaml_emitter.proofs.CanonicalTokens.{properties_tokens, entry_sign, node_tokens, nodes_tokens, pairs_tokens}
 use Rattle.yaml_emitter.proofs.CanonicalEvents.{EachNode, EachItem, EachPair}
 
-abbrev tag_said : Option Text → (bare : Bool) → Option TagRead
-tag_said (Some tag) bare = Some (named_tag tag)
-tag_said None true = Some bare_tag
-tag_said None false = None
+abbrev said_of : Option Text → (bare : Bool) → Option TagSaid
+said_of (Some tag) bare = Some (name_said tag)
+said_of None true = Some bare_said
+said_of None false = None
 
 -- a tag that is read back in a document with these directives
 abbrev pub TagReads : (portable : Bool) → List TagDirective → Option Text → Type 0
 TagReads portable own None = Unit {0}
-TagReads portable own (Some tag) = tag_read own (spelled portable (spelling (directives_in_force own) tag)) ≡ Some (named_tag tag)
+TagReads portable own (Some tag) = tag_read own (spelled portable (spelling (directives_in_force own) tag)) ≡ Some (name_said tag)
 
 -- an event's tag is read back
 abbrev pub TagOf : (portable : Bool) → List TagDirective → Event → Type 0
@@ -57,11 +58,11 @@ pairs_begin portable (pairs_and pairs key value) own tail =
 
 module _ (portable : Bool) (documents : List DocumentContent) (head : Head) where
   -- a place where a node is awaited
-  abbrev awaits : List OpenContent → Option Text → Option TagRead → Reading
+  abbrev awaits : List OpenContent → Option Text → Option TagSaid → Reading
   awaits levels given read = within documents head levels (node_awaited given read)
 
   properties_fold : (levels : List OpenContent) (anchor tag : Option Text) (bare : Bool) → TagReads portable head.directives tag
-      → fold token_read (awaits levels None None) (properties_tokens portable head.directives anchor tag bare) ≡ awaits levels anchor (tag_said tag bare)
+      → fold token_read (awaits levels None None) (properties_tokens portable head.directives anchor tag bare) ≡ awaits levels anchor (said_of tag bare)
   properties_fold levels None None true h = refl
   properties_fold levels None None false h = refl
   properties_fold levels (Some name) None true h = refl
@@ -70,7 +71,7 @@ module _ (portable : Bool) (documents : List DocumentContent) (head : Head) wher
   properties_fold levels (Some name) (Some tag) bare h = ap (with_tag documents head levels (Some name)) h
 
   scalar_fold : (levels : List OpenContent) (anchor tag : Option Text) (quoted : Bool) (value : Text)
-      → token_read (awaits levels anchor (tag_said tag (not quoted))) (scalar_token value) ≡ with_content documents head levels (scalar_content anchor (scalar_tag tag quoted) value)
+      → token_read (awaits levels anchor (said_of tag (not quoted))) (scalar_token value) ≡ with_content documents head levels (scalar_content anchor (scalar_tag tag quoted) value)
   scalar_fold levels None None true value = refl
   scalar_fold levels None None false value = refl
   scalar_fold levels (Some name) None true value = refl
@@ -80,12 +81,12 @@ module _ (portable : Bool) (documents : List DocumentContent) (head : Head) wher
 
   -- where a sequence stands after its first items
   abbrev in_sequence : List OpenContent → Option Text → Option Text → Nodes → Reading
-  in_sequence levels anchor tag no_nodes = awaits levels anchor (tag_said tag false)
+  in_sequence levels anchor tag no_nodes = awaits levels anchor (said_of tag false)
   in_sequence levels anchor tag (nodes_and items last) =
       within documents head (open_sequence anchor tag (nodes_content (nodes_and items last)) ∷ levels) comma_awaited
 
   abbrev in_mapping : List OpenContent → Option Text → Option Text → Pairs → Reading
-  in_mapping levels anchor tag no_pairs = awaits levels anchor (tag_said tag false)
+  in_mapping levels anchor tag no_pairs = awaits levels anchor (said_of tag false)
   in_mapping levels anchor tag (pairs_and pairs key value) =
       within documents head (open_mapping anchor tag (pairs_content (pairs_and pairs key value)) None ∷ levels) comma_awaited
 
@@ -164,23 +165,23 @@ module _ (portable : Bool) (documents : List DocumentContent) (head : Head) wher
         ∙ ap (λ r. token_read r closes_mapping) (mapping_sign levels start.anchor start.tag pairs)
 
     items_fold : (items : Nodes) (levels : List OpenContent) (anchor tag : Option Text) → EachItem items (TagOf portable head.directives)
-        → fold token_read (awaits levels anchor (tag_said tag false)) (nodes_tokens portable items head.directives) ≡ in_sequence levels anchor tag items
+        → fold token_read (awaits levels anchor (said_of tag false)) (nodes_tokens portable items head.directives) ≡ in_sequence levels anchor tag items
     items_fold no_nodes levels anchor tag h = refl
     items_fold (nodes_and items last) levels anchor tag h =
         let sign = entry_sign opens_sequence (has_no_nodes items) in
-        fold-append token_read (awaits levels anchor (tag_said tag false)) (nodes_tokens portable items head.directives) (sign ∷ node_tokens portable last head.directives)
+        fold-append token_read (awaits levels anchor (said_of tag false)) (nodes_tokens portable items head.directives) (sign ∷ node_tokens portable last head.directives)
         ∙ ap (λ r. fold token_read (token_read r sign) (node_tokens portable last head.directives)) (items_fold items levels anchor tag h.0)
         ∙ ap (λ r. fold token_read r (node_tokens portable last head.directives)) (sequence_sign levels anchor tag items)
         ∙ item_begins levels anchor tag (nodes_content items) last
         ∙ node_fold last (open_sequence anchor tag (nodes_content items) ∷ levels) h.1
 
     pairs_fold : (pairs : Pairs) (levels : List OpenContent) (anchor tag : Option Text) → EachPair pairs (TagOf portable head.directives)
-        → fold token_read (awaits levels anchor (tag_said tag false)) (pairs_tokens portable pairs head.directives) ≡ in_mapping levels anchor tag pairs
+        → fold token_read (awaits levels anchor (said_of tag false)) (pairs_tokens portable pairs head.directives) ≡ in_mapping levels anchor tag pairs
     pairs_fold no_pairs levels anchor tag h = refl
     pairs_fold (pairs_and pairs key value) levels anchor tag h =
         let sign = entry_sign opens_mapping (has_no_pairs pairs) in
         let held = pairs_content pairs in
-        fold3 (awaits levels anchor (tag_said tag false)) (pairs_tokens portable pairs head.directives) (sign ∷ key_sign ∷ node_tokens portable key head.directives) (value_sign ∷ node_tokens portable value head.directives)
+        fold3 (awaits levels anchor (said_of tag false)) (pairs_tokens portable pairs head.directives) (sign ∷ key_sign ∷ node_tokens portable key head.directives) (value_sign ∷ node_tokens portable value head.directives)
         ∙ ap (λ r. fold token_read (fold token_read r (sign ∷ key_sign ∷ node_tokens portable key head.directives)) (value_sign ∷ node_tokens portable value head.directives)) (pairs_fold pairs levels anchor tag h.0)
         ∙ ap (λ r. fold token_read (fold token_read (token_read r key_sign) (node_tokens portable key head.directives)) (value_sign ∷ node_tokens portable value head.directives)) (mapping_sign levels anchor tag pairs)
         ∙ ap (λ r. fold token_read r (value_sign ∷ node_tokens portable value head.directives)) (node_fold key (open_mapping anchor tag held None ∷ levels) h.1)

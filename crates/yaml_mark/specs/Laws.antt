@@ -4,20 +4,23 @@ use Rattle.std.specs.List.{list_any}
 use Rattle.std.specs.Str.{all_scalars}
 use Rattle.yaml_base.specs.Characters.{Text, is_blank, is_break, is_among}
 use Rattle.yaml_base.specs.Event.{TagDirective}
-use Rattle.yaml_base.specs.Percent.{percent_escaped, suffix_escaped, prefix_escaped, percent_decoded}
-use Rattle.yaml_base.specs.Tags.{directives_fault, directives_in_force, spelling, spelled, tag_read, named_tag}
+use Rattle.yaml_base.specs.Percent.{percent_escaped, suffix_escaped, prefix_escaped}
+use Rattle.yaml_base.specs.Tags.{directives_fault, directives_in_force, spelling, spelled}
+use Rattle.yaml_base.specs.ReadPercent.{percent_read}
+use Rattle.yaml_base.specs.ReadTags.{name_said}
+use Rattle.yaml_base.specs.CanonicalReader.{tag_read}
 
 -- decoding undoes escaping
 abbrev pub EscapedTextReads : Text → Type 0
-EscapedTextReads text = all_scalars text ≡ true → percent_decoded (percent_escaped text) ≡ Some text
+EscapedTextReads text = all_scalars text ≡ true → percent_read (percent_escaped text) ≡ Some text
 
 -- so it does after a handle, and in a prefix
 abbrev pub EscapedSuffixReads : (portable : Bool) → Text → Type 0
-EscapedSuffixReads portable text = all_scalars text ≡ true → percent_decoded (suffix_escaped portable text) ≡ Some text
+EscapedSuffixReads portable text = all_scalars text ≡ true → percent_read (suffix_escaped portable text) ≡ Some text
 
 -- a prefix is decoded as itself
 abbrev pub EscapedPrefixReads : (portable : Bool) → Text → Type 0
-EscapedPrefixReads portable text = all_scalars text ≡ true → percent_decoded (prefix_escaped portable text) ≡ Some text
+EscapedPrefixReads portable text = all_scalars text ≡ true → percent_read (prefix_escaped portable text) ≡ Some text
 
 -- in portable mode no sign of flow stands after a handle
 abbrev pub PortableSuffixHoldsNoFlowSign : Text → Type 0
@@ -30,7 +33,7 @@ written_tag portable own tag = spelled portable (spelling (directives_in_force o
 -- a written tag is read as the tag
 abbrev pub WrittenTagReads : (portable : Bool) → List TagDirective → Text → Type 0
 WrittenTagReads portable own tag =
-    directives_fault own ≡ None → all_scalars tag ≡ true → tag_read own (written_tag portable own tag) ≡ Some (named_tag tag)
+    directives_fault own ≡ None → all_scalars tag ≡ true → tag_read own (written_tag portable own tag) ≡ Some (name_said tag)
 
 -- escaped text has nothing that could end it, or that has a meaning in a tag
 abbrev pub EscapedTextSeparatesNothing : Text → Type 0

@@ -1,0 +1,12 @@
+use Rattle.std.proofs.Common.{codes, refl, ap, ◌∙◌}
+use Rattle.std.specs.Str.{chars}
+use Rattle.yaml_base.specs.Meetings.{string_tag}
+use Rattle.yaml_base.specs.Seen.{seen_text}
+use Rattle.yaml_base.proofs.Literals.{chars-literal}
+use Rattle.yaml_caller.proofs.Dumped.{string_node}
+use Rattle.yaml_caller.proofs.cycles.cycle_key.Goals as goal
+
+pub returns-clause-seen : goal.returns-clause-seen
+returns-clause-seen g c =
+    ap (λ tag. string_node tag (seen_text c.in_ok-from_str-2.field-0)) (ap chars c.in_ok-from_str.ensures.ok ∙ chars-literal string_tag refl)
+    ∙ ap (string_node string_tag) (ap chars c.in_ok-from_str-2.ensures.ok ∙ chars-literal (codes "k") refl)

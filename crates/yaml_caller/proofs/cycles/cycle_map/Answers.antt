@@ -1,0 +1,12 @@
+use Rattle.std.proofs.Common.{refl, ap, map, ◌∙◌}
+use Rattle.std.specs.Str.{chars}
+use Rattle.yaml_base.specs.Meetings.{mapping_tag}
+use Rattle.yaml_base.specs.SeenNodes.{seen_pair}
+use Rattle.yaml_base.proofs.Literals.{chars-literal}
+use Rattle.yaml_caller.proofs.Dumped.{mapping_of}
+use Rattle.yaml_caller.proofs.cycles.cycle_map.Goals as goal
+
+pub returns-clause-seen : goal.returns-clause-seen
+returns-clause-seen g c =
+    ap (λ tag. mapping_of tag (map seen_pair c.in_ok-vec.field-0.items)) (ap chars c.in_ok-from_str.ensures.ok ∙ chars-literal mapping_tag refl)
+    ∙ ap (λ pairs. mapping_of mapping_tag (map seen_pair pairs)) c.in_ok-vec.ensures.items

@@ -1,0 +1,27 @@
+use Rattle.std.proofs.Common.{◌∷◌, [], refl}
+use Rattle.yaml_base.specs.Documents.{graph_of}
+use Rattle.yaml_caller.specs.Letter.{letter_settings}
+use Rattle.yaml_caller.specs.Cycle.{cycle_bytes, cycle_graph}
+use Rattle.yaml_caller.proofs.Written.{stream_bytes}
+use Rattle.yaml_caller.proofs.Dumped.{dumped_cycle, cycle_events, none_waits, cycle_row, uncut, one_dumped, after_dump, still_open, then_ok}
+use Rattle.yaml_caller.proofs.cycles.dump_cycle.Goals as goal
+
+pub returns-clause-bytes : goal.returns-clause-bytes
+returns-clause-bytes g c =
+    let old = c.args.emitter.now in
+    let after = c.yaml_emitter_dump.new.emitter in
+    let graph = graph_of c.args.document in
+    let unclosed = still_open graph old.closed after.closed c.requires.graph c.requires.unclosed c.in_ok-yaml_emitter_dump.ensures.closed in
+    let stands = after_dump graph old after _ c.requires.unopened c.requires.graph c.requires.stands (c.in_ok-yaml_emitter_dump.ensures.dumps c.requires.no_error) in
+    stream_bytes cycle_events cycle_bytes c.yaml_emitter_close.result c.yaml_emitter_close.new.emitter refl none_waits cycle_row
+    (c.yaml_emitter_close.ensures.promised unclosed letter_settings dumped_cycle stands) (c.yaml_emitter_close.ensures.answered unclosed)
+
+pub returns-clause-graph : goal.returns-clause-graph
+returns-clause-graph g c =
+    let old = c.args.emitter.now in
+    let after = c.yaml_emitter_dump.new.emitter in
+    let graph = graph_of c.args.document in
+    let unclosed = still_open graph old.closed after.closed c.requires.graph c.requires.unclosed c.in_ok-yaml_emitter_dump.ensures.closed in
+    let stands = after_dump graph old after _ c.requires.unopened c.requires.graph c.requires.stands (c.in_ok-yaml_emitter_dump.ensures.dumps c.requires.no_error) in
+    then_ok c.yaml_emitter_close.result (c.yaml_emitter_close.ensures.graphs unclosed)
+    (λ reads. reads letter_settings dumped_cycle (cycle_graph ∷ []) stands refl uncut one_dumped)

@@ -1,0 +1,98 @@
+//! A caller of dumps: it writes a document that holds itself, and proves the bytes and that they tell the graph.
+ghost use Rattle.std.specs.Prelude.{◌≡◌, IfOk, IfErr, OnOk, pos, true, false, None, [], ◌∷◌, codes, length, map};
+ghost use Rattle.yaml_base.specs.Documents.{graph_of};
+ghost use Rattle.yaml_base.specs.Dumped.{GraphsRead};
+ghost use Rattle.yaml_base.specs.SeenNodes.{all_numbers, numbers_of, seen_node};
+ghost use Rattle.yaml_emitter.specs.StandsAfter.{StandsAfter};
+ghost use Rattle.yaml_caller.specs.Letter.{letter_settings};
+ghost use Rattle.yaml_caller.specs.Cycle.{cycle_bytes, cycle_graph, key_node, map_node};
+
+use super::{canonical_emitter, copied};
+use std::alloc::{AllocError, Allocator};
+use yaml_base::{
+    YAML_ANY_SCALAR_STYLE, YAML_BLOCK_MAPPING_STYLE, yaml_document_t, yaml_error_t,
+    yaml_node_data_t, yaml_node_pair_t, yaml_node_t,
+};
+use yaml_dump::{yaml_emitter_close, yaml_emitter_dump};
+use yaml_emitter::yaml_emitter_t;
+
+/// The canonical bytes of a mapping whose one key is the string `k`, and whose value is the mapping itself.
+///
+/// # Errors
+/// Those of a dump and of the stream's end.
+pub fn cycle_written<A: Allocator + Copy>(alloc: A) -> Result<Vec<u8, A>, yaml_error_t>
+    ensures bytes { IfOk result (λ bytes. bytes.items ≡ codes "---\n&id001 !!map {\n  ? !!str \"k\"\n  : *id001,\n}\n") }
+    ensures graph { IfOk result (λ bytes. GraphsRead false (cycle_graph ∷ []) bytes.items) }
+{
+    let document = cycle(alloc)?;
+    let mut emitter = canonical_emitter(alloc)?;
+    dump_cycle(alloc, &mut emitter, document)?;
+    copied(alloc, emitter.output())
+}
+
+/// Dumps the document as a whole stream.
+fn dump_cycle<A: Allocator + Copy>(
+    alloc: A,
+    emitter: &mut yaml_emitter_t<A>,
+    document: yaml_document_t<A>,
+) -> Result<(), yaml_error_t>
+    requires stands { StandsAfter letter_settings [] emitter.old }
+    requires output { emitter.old.has_output ≡ true }
+    requires no_error { emitter.old.error ≡ None }
+    requires unopened { emitter.old.opened ≡ false }
+    requires unclosed { emitter.old.closed ≡ false }
+    requires graph { graph_of document ≡ cycle_graph }
+    ensures bytes { OnOk result (emitter.new.page.output ≡ cycle_bytes) }
+    ensures graph { OnOk result (GraphsRead false (cycle_graph ∷ []) emitter.new.page.output) }
+{
+    yaml_emitter_dump(alloc, emitter, document)?;
+    yaml_emitter_close(emitter)
+}
+
+/// The document: its mapping is node 1, and the key is node 2.
+fn cycle<A: Allocator + Copy>(alloc: A) -> Result<yaml_document_t<A>, yaml_error_t>
+    ensures graph { IfOk result (λ document. graph_of document ≡ cycle_graph) }
+{
+    let nodes = cycle_nodes(alloc).map_err(|_| yaml_error_t::Memory)?;
+    match yaml_document_t::from_nodes(None, Vec::new(alloc), nodes, true, true) {
+        Ok(document) => Ok(document),
+        Err(_) => unreachable!(),
+    }
+}
+
+fn cycle_nodes<A: Allocator + Copy>(alloc: A) -> Result<Vec<yaml_node_t<A>, A>, AllocError>
+    ensures seen { IfOk result (λ nodes. map seen_node nodes.items ≡ map_node ∷ key_node ∷ []) }
+    ensures count { IfOk result (λ nodes. length nodes.items ≡ 2) }
+    ensures numbers { IfOk result (λ nodes. all_numbers nodes.items ≡ pos 2 ∷ pos 1 ∷ []) }
+{
+    let mut nodes = Vec::new(alloc);
+    nodes.push(cycle_map(alloc)?)?;
+    nodes.push(cycle_key(alloc)?)?;
+    Ok(nodes)
+}
+
+fn cycle_map<A: Allocator + Copy>(alloc: A) -> Result<yaml_node_t<A>, AllocError>
+    ensures seen { IfOk result (λ node. seen_node node ≡ map_node) }
+    ensures numbers { IfOk result (λ node. numbers_of node.contents ≡ pos 2 ∷ pos 1 ∷ []) }
+{
+    Ok(yaml_node_t {
+        tag: String::from_str(alloc, "tag:yaml.org,2002:map")?,
+        contents: yaml_node_data_t::Mapping {
+            pairs: vec![in alloc; yaml_node_pair_t { key: 2, value: 1 }]?,
+            style: YAML_BLOCK_MAPPING_STYLE,
+        },
+    })
+}
+
+fn cycle_key<A: Allocator + Copy>(alloc: A) -> Result<yaml_node_t<A>, AllocError>
+    ensures seen { IfOk result (λ node. seen_node node ≡ key_node) }
+    ensures numbers { IfOk result (λ node. numbers_of node.contents ≡ []) }
+{
+    Ok(yaml_node_t {
+        tag: String::from_str(alloc, "tag:yaml.org,2002:str")?,
+        contents: yaml_node_data_t::Scalar {
+            value: String::from_str(alloc, "k")?,
+            style: YAML_ANY_SCALAR_STYLE,
+        },
+    })
+}
