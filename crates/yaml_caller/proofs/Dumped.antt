@@ -40,10 +40,13 @@ pub cycle_row : output_of letter_settings cycle_events ≡ cycle_bytes
 unfolding encode_utf8 decimal_digits
 cycle_row = refl
 
-count : length (bytes_written (settings_for letter_settings cycle_events) (list_layout (settings_for letter_settings cycle_events) cycle_events)) ≡ length cycle_bytes
+-- so many bytes there are
+count : length (bytes_written (settings_for letter_settings cycle_events) (list_layout (settings_for letter_settings cycle_events) cycle_events))
+    ≡ length cycle_bytes
 unfolding encode_utf8 decimal_digits
 count = refl
 
+-- after the stream's end no event is queued
 pub none_waits : held_back cycle_events ≡ []
 unfolding decimal_digits
 none_waits = refl
@@ -67,7 +70,11 @@ pub after_dump : (graph : Graph) (before after : State) (done : Unit {0}) → be
     → Dumps graph before (Ok done) after → StandsAfter letter_settings dumped_cycle after
 after_dump graph before after done unopened is stands (inl failed) = absurd (cc)
 after_dump graph before after done unopened is stands (inr emits) =
-    let some = subst (λ (g : Graph). EmitsAll letter_settings [] (opening before.opened ++ (if length g.nodes == 0 then closing before.closed else document_event_list g)) after) is (emits letter_settings [] stands) in
+    let some =
+    subst
+    (λ (g : Graph). EmitsAll letter_settings [] (opening before.opened ++ (if length g.nodes == 0 then closing before.closed else document_event_list g)) after)
+    is (emits letter_settings [] stands)
+    in
     (subst (λ (b : Bool). EmitsAll letter_settings [] (opening b ++ document_event_list cycle_graph) after) unopened some).stands
 
 -- it doesn't close the stream
@@ -80,7 +87,7 @@ then_ok (Ok _) p f = f p
 then_ok (Err error) p f = tt
 
 -- a copy reads as what was copied
-pub copy_reads : {A E : Type 0} (answer : Result (Vec ℕ A) E) (bytes : List ℕ) → IfOk answer (λ copy. copy.items ≡ bytes) → GraphsRead false (cycle_graph ∷ []) bytes
-    → IfOk answer (λ copy. GraphsRead false (cycle_graph ∷ []) copy.items)
+pub copy_reads : {A E : Type 0} (answer : Result (Vec ℕ A) E) (bytes : List ℕ) → IfOk answer (λ copy. copy.items ≡ bytes)
+    → GraphsRead false (cycle_graph ∷ []) bytes → IfOk answer (λ copy. GraphsRead false (cycle_graph ∷ []) copy.items)
 copy_reads (Ok copy) bytes same reads = subst (GraphsRead false (cycle_graph ∷ [])) (sym same) reads
 copy_reads (Err error) bytes same reads = tt

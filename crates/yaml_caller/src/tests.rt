@@ -1,4 +1,4 @@
-use super::{letter_written, same_bytes};
+use super::{cycle_written, letter_written, same_bytes};
 use std::test::Fail;
 use yaml_value::Value;
 
@@ -6,6 +6,14 @@ use yaml_value::Value;
 fn a_letter_is_written(rt: HostRuntime) -> Result<(), Fail> {
     let bytes = letter_written(rt.alloc())?;
     assert_eq!(rt; bytes.as_slice(), b"---\n\"a\"\n".as_slice());
+    Ok(())
+}
+
+#[test]
+fn a_mapping_that_holds_itself_is_written(rt: HostRuntime) -> Result<(), Fail> {
+    let bytes = cycle_written(rt.alloc())?;
+    let expected = "---\n&id001 !!map {\n  ? !!str \"k\"\n  : *id001,\n}\n";
+    assert_eq!(rt; bytes.as_slice(), expected.as_bytes());
     Ok(())
 }
 

@@ -1,6 +1,6 @@
 -- A document's events unfold its graph, and so does what is read back of them.
-use Rattle.std.proofs.Common.{◌≡◌, refl, sym, ap, ◌∙◌, subst, Bool, true, None, List, [], ◌∷◌, ◌++◌, length, drop, map}
-use Rattle.std.specs.Prelude.{Result, Ok, Err, IfOk, Vec, if◌then◌else◌}
+use Rattle.std.proofs.Common.{◌≡◌, refl, sym, ap, ◌∙◌, subst, Bool, true, false, None, List, [], ◌∷◌, ◌++◌, length, drop, map}
+use Rattle.std.specs.Prelude.{Result, Ok, Err, IfOk, OnOk, Vec, if◌then◌else◌}
 use Rattle.std.proofs.Math.Seq.{drop-length}
 use Rattle.yaml_base.specs.Settings.{Settings}
 use Rattle.yaml_base.specs.Event.{Event, stream_end}
@@ -9,12 +9,15 @@ use Rattle.yaml_base.specs.Seen.{seen_event, seen_events}
 use Rattle.yaml_base.specs.Meetings.{Graph, Step, steps, document_event_list}
 use Rattle.yaml_base.specs.Unfolding.{IsDocument, EventsUnfold}
 use Rattle.yaml_base.specs.Dumped.{AreDumped, GraphsRead}
+use Rattle.yaml_base.specs.declared.errors.yaml_error_t.{yaml_error_t}
 use Rattle.yaml_base.specs.declared.events.yaml_event_t.{yaml_event_t}
 use Rattle.yaml_base.proofs.QueueLaws.{stream_written}
 use Rattle.yaml_base.proofs.DocumentsUnfold.{document_unfolds}
 use Rattle.yaml_base.proofs.ContentsUnfold.{dumped_stream}
+use Rattle.yaml_dump.specs.Dumps.{EmitsAll, EmitsEach, ReadsGraphs, opening, closing}
 use Rattle.yaml_dump.specs.Events.{walk_events}
 use Rattle.yaml_emitter.specs.State.{State}
+use Rattle.yaml_emitter.specs.StandsAfter.{StandsAfter}
 use Rattle.yaml_emitter.specs.Uncut.{IsUncut}
 use Rattle.yaml_emitter.specs.Promises.{ends_stream, HasRoom, Promised}
 
@@ -51,3 +54,14 @@ graphs_read given before graphs state promised none canonical uncut dumped =
       read = (promised.whole none accepted).reads canonical uncut ∙ read.content;
       unfolds = read.unfolds;
     }
+
+-- a document without nodes closes a stream that isn't closed, so the graphs that were dumped before are read back
+pub closing_reads : (old after : State) (closed empty : Bool) (answer : Result (Unit {0}) yaml_error_t) → closed ≡ old.closed
+    → ((given : Settings) (all : List Event) → StandsAfter given all old → EmitsEach given (all ++ opening old.opened) (closing closed) answer after)
+    → OnOk answer (empty ≡ true → old.closed ≡ false → (given : Settings) (all : List Event) → StandsAfter given all old
+    → ReadsGraphs given ((all ++ opening old.opened) ++ stream_end ∷ []) after)
+closing_reads old after closed empty (Ok done) same emits = λ is unclosed given all stands graphs canonical uncut dumped.
+    let whole : EmitsAll given (all ++ opening old.opened) (stream_end ∷ []) after =
+    subst (λ (b : Bool). EmitsAll given (all ++ opening old.opened) (closing b) after) (same ∙ unclosed) (emits given all stands) in
+    graphs_read given (all ++ opening old.opened) graphs after whole.promised whole.no_error canonical uncut dumped
+closing_reads old after closed empty (Err error) same emits = tt

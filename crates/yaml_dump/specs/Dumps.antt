@@ -3,11 +3,13 @@ use Rattle.std.specs.Prelude.{◌≡◌, ◌⊎◌, ◌==◌, ◌||◌, Bool, tr
 use Rattle.yaml_base.specs.Settings.{Settings}
 use Rattle.yaml_base.specs.Event.{Event, stream_start, stream_end}
 use Rattle.yaml_base.specs.Meetings.{Graph, document_event_list}
+use Rattle.yaml_base.specs.Dumped.{AreDumped, GraphsRead}
 use Rattle.yaml_base.specs.declared.errors.yaml_error_t.{yaml_error_t}
 use Rattle.yaml_base.specs.declared.errors.yaml_error_t.TheVariants.{Memory}
 use Rattle.yaml_emitter.specs.State.{State}
 use Rattle.yaml_emitter.specs.StandsAfter.{StandsAfter}
 use Rattle.yaml_emitter.specs.Promises.{Promised}
+use Rattle.yaml_emitter.specs.Uncut.{IsUncut}
 
 -- all of them, without an error
 pub record EmitsAll (given : Settings) (all events : List Event) (state : State) : Type 0 where
@@ -67,3 +69,10 @@ abbrev pub Dumps : Graph → State → Result (Unit {0}) yaml_error_t → State 
 Dumps graph before answer after =
     ((answer ≡ Err Memory) × (after ≡ before))
     ⊎ ((given : Settings) (all : List Event) → StandsAfter given all before → EmitsDump before.opened given all (dumped_events before graph) answer after)
+
+-- what the canonical reader finds in the output of these events unfolds the graphs of which they are dumps, where no limit
+-- cuts it
+abbrev pub ReadsGraphs : Settings → List Event → State → Type 0
+ReadsGraphs given events after =
+    (graphs : List Graph) → given.canonical ≡ true → IsUncut given events → AreDumped graphs events
+    → GraphsRead given.breaks12 graphs after.page.output

@@ -1,15 +1,15 @@
 //! Documents dumped: their events, emitted.
 
-ghost use Rattle.std.specs.Prelude.{◌≡◌, ◌⊎◌, ◌||◌, ◌==◌, true, false, None, Some, Ok, Err, List, length, map, IfOk, IfErr, OnOk, OnErr, IsSome};
+ghost use Rattle.std.specs.Prelude.{◌≡◌, ◌⊎◌, ◌||◌, ◌==◌, ◌++◌, ◌∷◌, [], true, false, None, Some, Ok, Err, List, length, map, IfOk, IfErr, OnOk, OnErr, IsSome};
 ghost use Rattle.yaml_base.specs.Documents.{graph_of};
-ghost use Rattle.yaml_base.specs.Event.{Event};
+ghost use Rattle.yaml_base.specs.Event.{Event, stream_end};
 ghost use Rattle.yaml_base.specs.Meetings.{document_event_list};
 ghost use Rattle.yaml_base.specs.Seen.{seen_event};
 ghost use Rattle.yaml_base.specs.Settings.{Settings};
 ghost use Rattle.yaml_base.specs.Unfolding.{EventsUnfold};
 ghost use Rattle.yaml_pen.specs.Page.{told};
 ghost use Rattle.yaml_pen.specs.Wrote.{Grows};
-ghost use Rattle.yaml_dump.specs.Dumps.{Dumps, EmitsEach, closing, opening};
+ghost use Rattle.yaml_dump.specs.Dumps.{Dumps, EmitsEach, ReadsGraphs, closing, opening};
 ghost use Rattle.yaml_emitter.specs.StandsAfter.{StandsAfter};
 
 use crate::emitting::emit_each;
@@ -96,7 +96,7 @@ fn close_if_needed<A: Allocator + Copy>(emitter: &mut yaml_emitter_t<A>) -> Resu
 }
 
 /// Emits a document's events, after opening the stream where it isn't opened; a document without nodes closes the
-/// stream. The document is taken in each case.
+/// stream, and what was dumped is then read back as `yaml_emitter_close` says. The document is taken in each case.
 ///
 /// # Errors
 /// The first error that there was, in this call or before. Where the list of events can't be allocated, `Memory` is
@@ -111,6 +111,7 @@ pub fn yaml_emitter_dump<A: Allocator + Copy>(
     ensures failed { IsSome emitter.old.error → (emitter.new ≡ emitter.old) × (result ≡ told emitter.old.error) }
     ensures dumps { emitter.old.error ≡ None → Dumps (graph_of document) emitter.old result emitter.new }
     ensures unfolds { OnOk result ((length (graph_of document).nodes == 0) ≡ false → EventsUnfold (graph_of document) (document_event_list (graph_of document))) }
+    ensures graphs { OnOk result ((length (graph_of document).nodes == 0) ≡ true → emitter.old.closed ≡ false → (given : Settings) (all : List Event) → StandsAfter given all emitter.old → ReadsGraphs given ((all ++ opening emitter.old.opened) ++ stream_end ∷ []) emitter.new) }
     ensures opened { OnOk result (emitter.new.opened ≡ true) }
     ensures unclosed { OnErr result (emitter.new.closed ≡ emitter.old.closed) }
     ensures closed { OnOk result (emitter.new.closed ≡ (emitter.old.closed || length (graph_of document).nodes == 0)) }

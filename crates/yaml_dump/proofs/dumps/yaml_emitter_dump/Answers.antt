@@ -1,5 +1,6 @@
 use Rattle.std.proofs.Common.{◌==◌, ◌||◌, ◌++◌, sym, ap, inr, length, map, ◌∙◌}
 use Rattle.std.proofs.Math.Bool.{or-false}
+use Rattle.std.proofs.lemmas.Bool.{false≢true}
 use Rattle.yaml_base.specs.Documents.{graph_of}
 use Rattle.yaml_base.specs.Meetings.{document_event_list}
 use Rattle.yaml_base.specs.Seen.{seen_event}
@@ -7,6 +8,7 @@ use Rattle.yaml_base.proofs.DocumentsUnfold.{document_unfolds}
 use Rattle.yaml_pen.proofs.Composing.{grows_then}
 use Rattle.yaml_pen.proofs.Writing.{none_from_told}
 use Rattle.yaml_dump.specs.Dumps.{closing, opening}
+use Rattle.yaml_dump.proofs.GraphLemmas.{closing_reads}
 use Rattle.yaml_dump.proofs.Emissions.{on_ok, on_err, closed_by, exit_dumps, dumps_closing, dumps_events}
 use Rattle.yaml_dump.proofs.dumps.yaml_emitter_dump.Goals as goal
 
@@ -76,3 +78,15 @@ returns-then-is_empty-clause-grows g c = grows_then c.open_if_needed.ensures.gro
 
 pub returns-clause-grows : goal.returns-clause-grows
 returns-clause-grows g c = grows_then c.open_if_needed.ensures.grows c.emit_each.ensures.grows
+
+pub returns-then-is_empty-clause-graphs : goal.returns-then-is_empty-clause-graphs
+returns-then-is_empty-clause-graphs g c =
+    closing_reads c.args.emitter.now c.close_if_needed.new.emitter c.open_if_needed.new.emitter.closed (length (graph_of c.args.document).nodes == 0) c.close_if_needed.result
+    c.open_if_needed.ensures.closed
+    (λ given all stands.
+    let begun = c.in_ok-open_if_needed.ensures.emits given all stands in
+    c.close_if_needed.ensures.emits given (all ++ opening c.args.emitter.now.opened) begun.stands)
+
+pub returns-clause-graphs : goal.returns-clause-graphs
+returns-clause-graphs g c =
+    on_ok c.emit_each.result (λ none. absurd (false≢true (sym (sym c.is_empty.ensures ∙ c.if-is_empty.false) ∙ none)))
