@@ -62,4 +62,6 @@ pub mod StreamTidyLaws
 pub mod StreamTakes
 pub mod StreamWhites
 pub mod StreamTexts
+pub mod StreamClosed
+pub mod StreamFits
 pub mod CallerLaws

@@ -1,12 +1,12 @@
 -- Worked rows of tags, names and directives, computed.
-use Rattle.std.proofs.Common.{◌≡◌, ℕ, pos, negsuc, Option, Some, None, List, [], ◌∷◌, ◌++◌, refl}
+use Rattle.std.proofs.Common.{◌≡◌, ℕ, pos, Option, Some, None, List, [], ◌∷◌, ◌++◌, refl}
 use Rattle.std.specs.Prelude.{codes}
 use Rattle.std.specs.Str.{chars, is_utf8}
 use lib.Utf8.{encode}
 use Rattle.yaml_base.specs.Characters.{Text}
-use Rattle.yaml_base.specs.Event.{Version, TagDirective}
+use Rattle.yaml_base.specs.Event.{TagDirective}
 use Rattle.yaml_base.specs.Percent.{percent_escaped, percent_decoded}
-use Rattle.yaml_base.specs.Tags.{directives_in_force, spelling, spelled, shorthand, verbatim, tag_read, bare_tag, named_tag, anchor_fault, alias_fault, version_fault, directives_fault, tag_fault}
+use Rattle.yaml_base.specs.Tags.{directives_in_force, spelling, spelled, tag_read, bare_tag, named_tag, anchor_fault, alias_fault, version_fault, directives_fault, tag_fault}
 
 abbrev directive : Text → Text → TagDirective
 directive handle prefix = record { handle = handle; prefix = prefix }

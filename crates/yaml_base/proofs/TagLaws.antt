@@ -1,17 +1,16 @@
 -- The written form of a tag, read with the document's own directives and the defaults, is the tag.
-use Rattle.std.proofs.Common.{◌≡◌, ℕ, Bool, true, false, cond, ◌&&◌, ◌||◌, not, Option, Some, None, List, [], ◌∷◌, ◌++◌, refl, sym, ◌∙◌, ap, ◌⊎◌, inl, inr, ⊎_elim, subst, append_assoc, arith}
-use Rattle.std.proofs.lemmas.Bool.{eqb-true, and_parts, and_from, or_parts, or_from, not-true, not-false}
+use Rattle.std.proofs.Common.{◌≡◌, ℕ, Bool, true, false, cond, ◌||◌, not, Option, Some, None, List, [], ◌∷◌, ◌++◌, refl, sym, ◌∙◌, ap, ◌⊎◌, inl, inr, subst, append_assoc, arith}
+use Rattle.std.proofs.lemmas.Bool.{eqb-true, and_parts, or_parts, or_from, not-true, not-false}
 use Rattle.std.proofs.lemmas.Bool.Decides.{nat_tests}
-use Rattle.std.proofs.lemmas.List.Folds.{list_all-append}
 use Rattle.std.proofs.lemmas.Slice.Eq.{bytes_eq-Decides}
-use Rattle.std.specs.Prelude.{◌==◌, codes, bytes_eq, option_map, filter}
+use Rattle.std.specs.Prelude.{◌==◌, codes, bytes_eq, option_map}
 use Rattle.std.specs.List.{list_all, list_any}
 use Rattle.std.specs.Option.{option_or}
 use lib.Utf8.{scalar, scalars}
 use Rattle.yaml_base.specs.Characters.{Text, is_alpha, is_blank, is_break}
 use Rattle.yaml_base.specs.Event.{TagDirective}
-use Rattle.yaml_base.specs.Percent.{percent_escaped, percent_decoded, character_escaped}
-use Rattle.yaml_base.specs.Tags.{tag_mark, last_from, without_last, handle_fault, directive_fault, gives_handle, next_directive_fault, directives_fault_after, directives_fault, default_directives, directives_in_force, behind, Spelling, shorthand, verbatim, spelling_by, spelling, spelled, TagRead, named_tag, AtMark, at_mark_before, at_last_mark, prefix_given, named_by, shorthand_read, verbatim_read, tag_read}
+use Rattle.yaml_base.specs.Percent.{percent_escaped, percent_decoded}
+use Rattle.yaml_base.specs.Tags.{tag_mark, last_from, without_last, handle_fault, directive_fault, gives_handle, next_directive_fault, directives_fault_after, directives_fault, default_directives, directives_in_force, behind, Spelling, shorthand, verbatim, spelling_by, spelling, spelled, named_tag, at_last_mark, prefix_given, named_by, shorthand_read, verbatim_read, tag_read}
 use Rattle.yaml_base.proofs.PercentLaws.{decoded_escaped, stands_written, separates, escaped_stands, escaped_begins, written_is_no_mark, written_is_no_less, written_never_separates, alpha_is_no_less}
 
 -- A verbatim tag.
