@@ -64,4 +64,5 @@ pub mod StreamWhites
 pub mod StreamTexts
 pub mod StreamClosed
 pub mod StreamFits
+pub mod StreamItems
 pub mod CallerLaws

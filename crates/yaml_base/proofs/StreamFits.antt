@@ -8,17 +8,16 @@ use Rattle.yaml_base.specs.Settings.{Effective}
 use Rattle.yaml_base.specs.Event.{TagDirective}
 use Rattle.yaml_base.specs.Cursor.{Cursor, Laid}
 use Rattle.yaml_base.specs.Grammar.{Node, alias_node, scalar_node, sequence_node, mapping_node, Nodes, no_nodes, nodes_and, Pairs, no_pairs, pairs_and}
-use Rattle.yaml_base.specs.Layout.{Role, as_item, Place, is_in_mapping, has_no_nodes, entry_place}
+use Rattle.yaml_base.specs.Layout.{Role, Place, is_in_mapping, entry_place}
 use Rattle.yaml_base.specs.StreamContent.{Tree}
 use Rattle.yaml_base.specs.StreamLines.{Line, lines_of, ends_sign, spaces, blanked}
 use Rattle.yaml_base.specs.StreamScalars.{Rules}
 use Rattle.yaml_base.specs.StreamNodes.{node_read}
 use Rattle.yaml_base.proofs.StreamAgrees.{node_tree}
-use Rattle.yaml_base.proofs.StreamTexts.{node_own, items_own}
-use Rattle.yaml_base.proofs.StreamLineLaws.{is_closed, OneLine, lines_after_break}
+use Rattle.yaml_base.proofs.StreamLineLaws.{is_closed, OneLine}
 use Rattle.yaml_base.proofs.StreamInside.{AllInside}
 use Rattle.yaml_base.proofs.StreamTidyLaws.{lines_after_first}
-use Rattle.yaml_base.proofs.StreamClosed.{closed, Settled, sign_cursor, spaces_line, lines_behind, closed_behind, closed_both, rank}
+use Rattle.yaml_base.proofs.StreamClosed.{closed, Settled, spaces_line, lines_behind, closed_behind, rank}
 
 -- Sizes
 
@@ -96,52 +95,3 @@ signed_ends breaks12 e c [] o h = absurd (true≢false (ap empty o.is))
     empty [] = true
     empty (line ∷ rest) = false
 signed_ends breaks12 e c (d ∷ t) o h = closed_behind breaks12 (spaces e) c (d ∷ t) h
-
--- Items
-
--- the place of an item
-abbrev pub item_place : Nodes → ℕ → Place
-item_place items e = entry_place false (as_item (has_no_nodes items)) e
-
--- an item's text behind its sign
-abbrev pub item_text : Nodes → Node → Effective → List TagDirective → ℕ → Text
-item_text items last s directives e = closed (node_own last s directives (item_place items e) (sign_cursor e))
-
--- the items of a sequence at a column, each from its column on and up to its line's end
-abbrev pub items_text : Nodes → Effective → List TagDirective → ℕ → Text
-items_text no_nodes s directives e = []
-items_text (nodes_and items last) s directives e = items_text items s directives e ++ (spaces e ++ (0x2D ∷ item_text items last s directives e))
-
--- the lines of each item
-abbrev pub item_entries : Bool → Nodes → Effective → List TagDirective → ℕ → List (List Line)
-item_entries breaks12 no_nodes s directives e = []
-item_entries breaks12 (nodes_and items last) s directives e =
-    item_entries breaks12 items s directives e ++ lines_of breaks12 (spaces e ++ (0x2D ∷ item_text items last s directives e)) ∷ []
-
--- each item fits
-abbrev pub ItemsFit : Rules → Effective → List TagDirective → Nodes → ℕ → Type 0
-ItemsFit rules s directives no_nodes e = Unit {0}
-ItemsFit rules s directives (nodes_and items last) e =
-    ItemsFit rules s directives items e
-    × Fits rules (size last) (node_own last s directives (item_place items e) (sign_cursor e)) (node_tree last s directives (item_place items e)) (item_place items e) (sign_cursor e)
-
--- the items leave off settled
-pub items_settled : (rules : Rules) (s : Effective) (directives : List TagDirective) (items : Nodes) (e : ℕ) (cursor : Cursor) → ItemsFit rules s directives items e
-    → has_no_nodes items ≡ false → Settled (items_own items s directives false e cursor).cursor
-items_settled rules s directives no_nodes e cursor fit h = absurd (true≢false h)
-items_settled rules s directives (nodes_and items last) e cursor fit h = fit.1.settled
-
--- and at a line's end
-pub items_end : (rules : Rules) (s : Effective) (directives : List TagDirective) (items : Nodes) (e : ℕ) → ItemsFit rules s directives items e
-    → is_closed rules.breaks12 (items_text items s directives e) ≡ true
-items_end rules s directives no_nodes e fit = refl
-items_end rules s directives (nodes_and items last) e fit =
-    closed_both rules.breaks12 (items_text items s directives e) (spaces e ++ (0x2D ∷ item_text items last s directives e)) (items_end rules s directives items e fit.0)
-    (signed_ends rules.breaks12 e 0x2D (item_text items last s directives e) (fit.1.opens refl) fit.1.ends)
-
--- the lines of items, and of one more
-pub items_lines : (rules : Rules) (s : Effective) (directives : List TagDirective) (items : Nodes) (last : Node) (e : ℕ) → ItemsFit rules s directives items e
-    → lines_of rules.breaks12 (items_text (nodes_and items last) s directives e)
-    ≡ lines_of rules.breaks12 (items_text items s directives e) ++ lines_of rules.breaks12 (spaces e ++ (0x2D ∷ item_text items last s directives e))
-items_lines rules s directives items last e fit =
-    lines_after_break rules.breaks12 (items_text items s directives e) (spaces e ++ (0x2D ∷ item_text items last s directives e)) (items_end rules s directives items e fit)
