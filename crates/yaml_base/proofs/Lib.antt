@@ -65,4 +65,6 @@ pub mod StreamTexts
 pub mod StreamClosed
 pub mod StreamFits
 pub mod StreamItems
+pub mod StreamPairs
+pub mod StreamPairReads
 pub mod CallerLaws

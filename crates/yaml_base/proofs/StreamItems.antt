@@ -154,7 +154,7 @@ items_read_back rules s directives (nodes_and items last) e fit depth deep rest 
     (item_reads rules s directives items last e fit.1 depth (omega arith))
 
 -- regrouped: a sign, what it opens, and the break after it
-regrouped : (a n o c : Text) (sign : ℕ) → ((a ++ ((n ++ (sign ∷ [])) ++ o)) ++ c) ≡ a ++ (n ++ (sign ∷ (o ++ c)))
+pub regrouped : (a n o c : Text) (sign : ℕ) → ((a ++ ((n ++ (sign ∷ [])) ++ o)) ++ c) ≡ a ++ (n ++ (sign ∷ (o ++ c)))
 regrouped a n o c sign =
     append_assoc a ((n ++ (sign ∷ [])) ++ o) c ∙ ap (λ t. a ++ t) (append_assoc (n ++ (sign ∷ [])) o c ∙ append_assoc n (sign ∷ []) (o ++ c))
 
