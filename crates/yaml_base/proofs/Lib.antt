@@ -67,4 +67,5 @@ pub mod StreamFits
 pub mod StreamItems
 pub mod StreamPairs
 pub mod StreamPairReads
+pub mod StreamBlocks
 pub mod CallerLaws

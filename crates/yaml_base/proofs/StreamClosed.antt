@@ -1,5 +1,5 @@
 -- How a node's text leaves off: at a line's start, or before the break that the next new line begins with.
-use Rattle.std.proofs.Common.{◌≡◌, zero, suc, ◌≤◌, refl, ap, ◌∙◌, append-nil, arith}
+use Rattle.std.proofs.Common.{◌≡◌, zero, suc, ◌≤◌, refl, sym, ap, ◌∙◌, append-nil, arith}
 use Rattle.std.proofs.lemmas.Bool.{le-ltb, and_parts, and_from, or_parts}
 use Rattle.std.specs.Prelude.{ℕ, Bool, true, false, List, [], ◌∷◌, ◌++◌, ◌+◌, ◌-◌, ◌==◌, ◌||◌, ◌&&◌, not, nat_lt, if◌then◌else◌}
 use Rattle.std.specs.List.{list_all, list_any}
@@ -132,6 +132,15 @@ pub closed_behind : (breaks12 : Bool) (a : Text) (c : ℕ) (t : Text) → is_clo
 closed_behind breaks12 [] c t h = h
 closed_behind breaks12 (d ∷ []) c t h = h
 closed_behind breaks12 (d ∷ e ∷ a) c t h = closed_behind breaks12 (e ∷ a) c t h
+
+-- a text ends as what stands at its end
+pub closed_alike : (breaks12 : Bool) (a b : Text) (c : ℕ) (t : Text) → is_closed breaks12 (b ++ (c ∷ t)) ≡ true → is_closed breaks12 (a ++ (c ∷ t)) ≡ true
+closed_alike breaks12 a b c t h = closed_behind breaks12 a c t (sym (ends b) ∙ h)
+  where
+    ends : (b : Text) → is_closed breaks12 (b ++ (c ∷ t)) ≡ is_closed breaks12 (c ∷ t)
+    ends [] = refl
+    ends (d ∷ []) = refl
+    ends (d ∷ e ∷ b) = ends (e ∷ b)
 
 -- two that do, or are empty
 pub closed_both : (breaks12 : Bool) (a t : Text) → is_closed breaks12 a ≡ true → is_closed breaks12 t ≡ true → is_closed breaks12 (a ++ t) ≡ true
