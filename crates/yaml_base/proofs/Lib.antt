@@ -64,4 +64,11 @@ pub mod StreamAgrees
 pub mod StreamTidyLaws
 pub mod StreamTakes
 pub mod StreamWhites
+pub mod StreamTexts
+pub mod StreamClosed
+pub mod StreamFits
+pub mod StreamItems
+pub mod StreamPairs
+pub mod StreamPairReads
+pub mod StreamBlocks
 pub mod CallerLaws

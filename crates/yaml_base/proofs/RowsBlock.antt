@@ -1,10 +1,10 @@
 -- Worked literal and folded scalars: what is laid out, and that each is read back.
 use Rattle.std.proofs.Common.{◌≡◌, refl}
-use Rattle.std.specs.Prelude.{ℕ, Bool, true, false, Option, None, Some, List, [], ◌∷◌, ◌++◌, codes}
-use Rattle.yaml_base.specs.Characters.{Text, line_feed, line_separator}
+use Rattle.std.specs.Prelude.{ℕ, true, false, Option, None, Some, [], ◌∷◌, ◌++◌, codes}
+use Rattle.yaml_base.specs.Characters.{Text, line_separator}
 use Rattle.yaml_base.specs.Settings.{both_break}
 use Rattle.yaml_base.specs.LineBreaks.{with_breaks_written, with_line_breaks_read}
-use Rattle.yaml_base.specs.Cursor.{Cursor, Laid, first_cursor}
+use Rattle.yaml_base.specs.Cursor.{first_cursor}
 use Rattle.yaml_base.specs.BlockHeader.{header_mark}
 use Rattle.yaml_base.specs.Literal.{literal_body, literal_laid}
 use Rattle.yaml_base.specs.Folded.{folded_body, folded_laid}

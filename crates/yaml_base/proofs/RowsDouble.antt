@@ -1,6 +1,6 @@
 -- Worked double-quoted scalars, written and read back: each escape, the borders of the escapes' lengths, folds.
 use Rattle.std.proofs.Common.{◌≡◌, refl}
-use Rattle.std.specs.Prelude.{ℕ, Bool, true, false, Option, None, Some, List, [], ◌∷◌, ◌++◌, codes}
+use Rattle.std.specs.Prelude.{ℕ, Bool, true, false, Option, None, Some, [], ◌∷◌, ◌++◌, codes}
 use Rattle.yaml_base.specs.Characters.{Text}
 use Rattle.yaml_base.specs.Cursor.{first_cursor}
 use Rattle.yaml_base.specs.DoubleQuoted.{double_quoted_laid}

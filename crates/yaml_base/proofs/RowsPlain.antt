@@ -1,10 +1,10 @@
 -- Plain and single-quoted scalars, computed: what is laid out, and that it reads back.
-use Rattle.std.proofs.Common.{◌≡◌, refl, ℕ, List, [], ◌∷◌, ◌++◌, Bool, true, false, Option, None, Some}
-use Rattle.std.specs.Prelude.{codes, map, replicate}
+use Rattle.std.proofs.Common.{◌≡◌, refl, ℕ, [], ◌∷◌, ◌++◌, false, Option, None, Some}
+use Rattle.std.specs.Prelude.{codes, replicate}
 use Rattle.yaml_base.specs.Characters.{Text}
-use Rattle.yaml_base.specs.Cursor.{Cursor, Laid, first_cursor}
-use Rattle.yaml_base.specs.Plain.{plain_laid, plain_body}
-use Rattle.yaml_base.specs.SingleQuoted.{single_quoted_laid, single_quoted_body}
+use Rattle.yaml_base.specs.Cursor.{Cursor, first_cursor}
+use Rattle.yaml_base.specs.Plain.{plain_laid}
+use Rattle.yaml_base.specs.SingleQuoted.{single_quoted_laid}
 use Rattle.yaml_base.specs.ReadPlain.{read_plain}
 use Rattle.yaml_base.specs.ReadSingle.{read_single}
 

@@ -1,5 +1,5 @@
 -- Texts inside quotes and plain texts, computed: what each reads as.
-use Rattle.std.proofs.Common.{◌≡◌, refl, ℕ, List, [], ◌∷◌, ◌++◌, Bool, true, false, Option, None, Some}
+use Rattle.std.proofs.Common.{◌≡◌, refl, [], ◌∷◌, Bool, true, false, None, Some}
 use Rattle.std.specs.Prelude.{codes, map}
 use Rattle.yaml_base.specs.Characters.{Text}
 use Rattle.yaml_base.specs.ReadFolding.{unit_of, folding_read}

@@ -1,14 +1,10 @@
 -- Typed values, computed: their bytes, their content, their nesting and their count.
-use Rattle.std.specs.Prelude.{◌≡◌, ℤ, pos, negsuc, true, false, None, Some, [], ◌∷◌, codes, refl}
+use Rattle.std.specs.Prelude.{◌≡◌, pos, negsuc, true, false, Some, [], codes, refl}
 use Rattle.std.specs.Char.{encode_utf8}
 use Rattle.std.specs.Fmt.{digits}
 use Rattle.std.specs.Str.{chars, is_utf8}
-use Rattle.yaml_base.specs.Characters.{Text}
-use Rattle.yaml_base.specs.Settings.{Settings, utf8, line_feed_break}
-use Rattle.yaml_base.specs.Output.{output_of}
-use Rattle.yaml_base.specs.Content.{content_of}
 use Rattle.yaml_base.specs.CanonicalReader.{canonical_content}
-use Rattle.yaml_base.specs.TypedValues.{TypedValue, null_value, bool_value, int_value, text_value, list_value, map_value, no_values, values_and, no_value_pairs, value_pairs_and, typed_content, typed_output, value_events, value_count, nesting}
+use Rattle.yaml_base.specs.TypedValues.{TypedValue, null_value, bool_value, int_value, text_value, list_value, map_value, no_values, values_and, no_value_pairs, value_pairs_and, typed_content, typed_output, value_count, nesting}
 
 a_null : typed_output null_value ≡ codes "---\n!!null \"null\"\n"
 unfolding encode_utf8
