@@ -61,4 +61,5 @@ pub mod StreamAgrees
 pub mod StreamTidyLaws
 pub mod StreamTakes
 pub mod StreamWhites
+pub mod StreamTexts
 pub mod CallerLaws
