@@ -63,3 +63,5 @@ pub mod StreamTakes
 pub mod StreamWhites
 pub mod StreamTexts
 pub mod CallerLaws
+pub mod StreamProperties
+pub mod StreamPropertyWords
