@@ -65,3 +65,4 @@ pub mod StreamTexts
 pub mod CallerLaws
 pub mod StreamProperties
 pub mod StreamPropertyWords
+pub mod StreamPasses
