@@ -66,3 +66,6 @@ pub mod CallerLaws
 pub mod StreamProperties
 pub mod StreamPropertyWords
 pub mod StreamPasses
+pub mod StreamStands
+pub mod StreamLeads
+pub mod StreamFlowWords
