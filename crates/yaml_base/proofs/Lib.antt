@@ -72,3 +72,9 @@ pub mod StreamPairs
 pub mod StreamPairReads
 pub mod StreamBlocks
 pub mod CallerLaws
+pub mod StreamProperties
+pub mod StreamPropertyWords
+pub mod StreamPasses
+pub mod StreamStands
+pub mod StreamLeads
+pub mod StreamFlowWords

@@ -48,18 +48,18 @@ last_space c [] = refl
 last_space c (d ∷ t) = ap (option_map (λ text. c ∷ text)) (last_space d t)
 
 -- a word that begins with `*` is an alias, if its name is one
-alias_word : (rules : Rules) (n : ℕ) (t : Text) → word_read rules false (0x2A ∷ n ∷ t) ≡ option_map alias_tree (name_read (n ∷ t))
-alias_word rules n [] = refl
-alias_word rules n (c ∷ t) = refl
+pub alias_word : (rules : Rules) (flow : Bool) (n : ℕ) (t : Text) → word_read rules flow (0x2A ∷ n ∷ t) ≡ option_map alias_tree (name_read (n ∷ t))
+alias_word rules flow n [] = refl
+alias_word rules flow n (c ∷ t) = refl
 
 spaced_word : (rules : Rules) (n : ℕ) (t : Text) → word_but_alias rules (0x2A ∷ n ∷ spaced t) ≡ None
 spaced_word rules n t =
-    ap (option_and_then (λ tree. if is_alias tree then None else Some tree)) (alias_word rules n (spaced t))
+    ap (option_and_then (λ tree. if is_alias tree then None else Some tree)) (alias_word rules false n (spaced t))
     ∙ ap (λ x. option_and_then (λ tree. if is_alias tree then None else Some tree) (option_map alias_tree (if x then Some (n ∷ spaced t) else None))) (spaced_no_name (n ∷ t))
 
 named_word : (rules : Rules) (n : ℕ) (t : Text) → list_all is_alpha (n ∷ t) ≡ true → word_of_alias rules (0x2A ∷ n ∷ t) ≡ Some (alias_tree (n ∷ t))
 named_word rules n t h =
-    ap (option_and_then (λ tree. if is_alias tree then Some tree else None)) (alias_word rules n t)
+    ap (option_and_then (λ tree. if is_alias tree then Some tree else None)) (alias_word rules false n t)
     ∙ ap (λ x. option_and_then (λ tree. if is_alias tree then Some tree else None) (option_map alias_tree (if x then Some (n ∷ t) else None))) h
 
 -- an alias that isn't too long is a simple key, with the space before `:`

@@ -17,7 +17,7 @@ use Rattle.yaml_base.proofs.StreamCuts.{none_not_some}
 use Rattle.yaml_base.proofs.StreamKeys.{NoKey, found, key_found, scalar_no_alias, scalar_but_alias, no_alias_before, key_by_word}
 
 -- a character outside a set is none of the set's
-not_among : (set : Text) (c n : ℕ) → is_among set n ≡ true → is_among set c ≡ false → (c == n) ≡ false
+pub not_among : (set : Text) (c n : ℕ) → is_among set n ≡ true → is_among set c ≡ false → (c == n) ≡ false
 not_among set c n member h = by (c == n) refl
   where
     by : (x : Bool) → (c == n) ≡ x → x ≡ false
@@ -25,22 +25,22 @@ not_among set c n member h = by (c == n) refl
     by false e = refl
 
 -- what a first character of plain text isn't
-record Begins (c : ℕ) : Type 0 where
-  anchor : (c == 0x26) ≡ false
-  blank : (c == space) ≡ false
-  tag : (c == 0x21) ≡ false
-  star : (c == 0x2A) ≡ false
-  square : (c == 0x5B) ≡ false
-  curly : (c == 0x7B) ≡ false
-  single : (c == 0x27) ≡ false
-  double : (c == 0x22) ≡ false
-  literal : (c == 0x7C) ≡ false
-  folded : (c == 0x3E) ≡ false
+pub record Begins (c : ℕ) : Type 0 where
+  pub anchor : (c == 0x26) ≡ false
+  pub blank : (c == space) ≡ false
+  pub tag : (c == 0x21) ≡ false
+  pub star : (c == 0x2A) ≡ false
+  pub square : (c == 0x5B) ≡ false
+  pub curly : (c == 0x7B) ≡ false
+  pub single : (c == 0x27) ≡ false
+  pub double : (c == 0x22) ≡ false
+  pub literal : (c == 0x7C) ≡ false
+  pub folded : (c == 0x3E) ≡ false
 
 abbrev indicators : Text
 indicators = codes "#,[]{}&*!|>'\"%@`"
 
-begins : (breaks12 : Bool) (c : ℕ) (t : Text) → begins_no_plain breaks12 (c ∷ t) ≡ false → is_read_white breaks12 c ≡ false → Begins c
+pub begins : (breaks12 : Bool) (c : ℕ) (t : Text) → begins_no_plain breaks12 (c ∷ t) ≡ false → is_read_white breaks12 c ≡ false → Begins c
 begins breaks12 c t h white =
     let outer = or_parts (begins_with_three 45 (c ∷ t) || begins_with_three 46 (c ∷ t) || is_among indicators c) (is_among (codes "?:-") c && begins_white breaks12 t) h in
     let inner = or_parts (begins_with_three 45 (c ∷ t) || begins_with_three 46 (c ∷ t)) (is_among indicators c) outer.0 in
@@ -68,12 +68,12 @@ plain_properties directives c t b =
     ∙ ap (λ x. let after : Indented = indented_step x (c ∷ t) (indented t) in tag_first directives None after.column after.text) b.blank
     ∙ ap (λ x. if x then tag_of_word directives None 0 (word_cut (c ∷ t)) else Some (record { properties = no_properties; text = c ∷ t })) b.tag
 
-plain_kind : (c : ℕ) (t : Text) → Begins c → kind_of_word (c ∷ t) ≡ a_scalar
+pub plain_kind : (c : ℕ) (t : Text) → Begins c → kind_of_word (c ∷ t) ≡ a_scalar
 plain_kind c [] b = ap (λ x. if x then an_alias else a_scalar) b.star
 plain_kind c (d ∷ []) b = rw (b.star, b.square, b.curly) refl
 plain_kind c (d ∷ e ∷ t) b = ap (λ x. if x then an_alias else a_scalar) b.star
 
-plain_style : (c : ℕ) (t : Text) → Begins c → style_begun (c ∷ t) ≡ plain
+pub plain_style : (c : ℕ) (t : Text) → Begins c → style_begun (c ∷ t) ≡ plain
 plain_style c t b = rw (b.single, b.double, b.literal, b.folded) refl
 
 -- a word that begins so is a plain scalar
@@ -127,7 +127,7 @@ plain_key_text rules c t value b e =
     (no_alias_before rules c t b.blank (plain_no_alias rules c b))
 
 -- what reads as plain begins so and holds no such sign
-reads_plain : (breaks12 flow : Bool) (c : ℕ) (t v : Text) → read_plain breaks12 flow (c ∷ t) ≡ Some v
+pub reads_plain : (breaks12 flow : Bool) (c : ℕ) (t v : Text) → read_plain breaks12 flow (c ∷ t) ≡ Some v
     → (begins_no_plain breaks12 (c ∷ t) ≡ false) × (holds_no_plain breaks12 flow (c ∷ t) ≡ false)
 reads_plain breaks12 flow c t v read = by (begins_no_plain breaks12 (c ∷ t)) (holds_no_plain breaks12 flow (c ∷ t)) read
   where
@@ -137,7 +137,7 @@ reads_plain breaks12 flow c t v read = by (begins_no_plain breaks12 (c ∷ t)) (
     by false false h = (refl, refl)
 
 -- a tidy plain text doesn't begin with white space
-tidy_begins : (breaks12 : Bool) (c : ℕ) (t : Text) → is_tidy plain breaks12 None (c ∷ t) ≡ true → is_read_white breaks12 c ≡ false
+pub tidy_begins : (breaks12 : Bool) (c : ℕ) (t : Text) → is_tidy plain breaks12 None (c ∷ t) ≡ true → is_read_white breaks12 c ≡ false
 tidy_begins breaks12 c t tidy =
     let style = (and_parts (list_all is_printable (c ∷ t) && has_deep_lines breaks12 1 (c ∷ t)) (has_no_space_before_break breaks12 (c ∷ t) && has_clean_edges breaks12 (c ∷ t)) tidy).1 in
     let clean = (and_parts (has_no_space_before_break breaks12 (c ∷ t)) (has_clean_edges breaks12 (c ∷ t)) style).1 in

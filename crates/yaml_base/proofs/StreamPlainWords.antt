@@ -176,7 +176,7 @@ plain_stays breaks12 (c ∷ t) h =
     ap (λ x. x && all_stay breaks12 t) (stays_at breaks12 c sign.1) ∙ plain_stays breaks12 t parts.1
 
 -- a character that isn't white is of no white class
-shown_at : (breaks12 : Bool) (c : ℕ) → is_read_white breaks12 c ≡ false → is_white_class (class_of breaks12 c) ≡ false
+pub shown_at : (breaks12 : Bool) (c : ℕ) → is_read_white breaks12 c ≡ false → is_white_class (class_of breaks12 c) ≡ false
 shown_at breaks12 c h =
     let parts = or_parts (is_blank c) (is_read_break breaks12 c) h in
     by (is_blank c) (is_read_break breaks12 c) (is_among (codes "]},:?") c) (is_among (codes "&!") c) (c == 0x22) (c == 0x27) (is_among (codes "[{") c) parts.0 parts.1

@@ -74,11 +74,11 @@ pub curly_class : (breaks12 : Bool) → class_of breaks12 0x7D ≡ is_flow_sign
 curly_class true = refl
 curly_class false = refl
 
-double_class : (breaks12 : Bool) → class_of breaks12 0x22 ≡ begins_double
+pub double_class : (breaks12 : Bool) → class_of breaks12 0x22 ≡ begins_double
 double_class true = refl
 double_class false = refl
 
-single_class : (breaks12 : Bool) → class_of breaks12 0x27 ≡ begins_single
+pub single_class : (breaks12 : Bool) → class_of breaks12 0x27 ≡ begins_single
 single_class true = refl
 single_class false = refl
 
@@ -87,7 +87,7 @@ pub sign_ends : (breaks12 : Bool) (c : ℕ) (text : Text) → class_of breaks12 
 sign_ends breaks12 c text e = ends_anyhow breaks12 c text (λ more. ap (λ class. ends_by class more) e)
 
 -- what ends a word is no quote
-ends_unquoted : (breaks12 : Bool) (rest : Text) → ends_word breaks12 rest ≡ true → begins_unquoted rest ≡ true
+pub ends_unquoted : (breaks12 : Bool) (rest : Text) → ends_word breaks12 rest ≡ true → begins_unquoted rest ≡ true
 ends_unquoted breaks12 [] h = absurd (false≢true h)
 ends_unquoted breaks12 (c ∷ rest) h = by (c == 0x27) refl
   where
@@ -122,7 +122,7 @@ says_plain breaks12 c t v e read clean = record {
       ∙ plain_word breaks12 [] c t rest v read clean h;
 }
 
-bracket_class : (breaks12 : Bool) → (class_of breaks12 0x5B ≡ begins_bracket) × (class_of breaks12 0x7B ≡ begins_bracket)
+pub bracket_class : (breaks12 : Bool) → (class_of breaks12 0x5B ≡ begins_bracket) × (class_of breaks12 0x7B ≡ begins_bracket)
 bracket_class true = (refl, refl)
 bracket_class false = (refl, refl)
 

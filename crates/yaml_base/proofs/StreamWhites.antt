@@ -11,12 +11,12 @@ use Rattle.yaml_base.proofs.StreamSays.{EndsWord, says_blank, says_break}
 use Rattle.yaml_base.proofs.StreamTakes.{Takes, takes_to, takes_nothing, takes_both}
 
 -- a space is a blank
-space_class : (breaks12 : Bool) → class_of breaks12 space ≡ is_white_blank
+pub space_class : (breaks12 : Bool) → class_of breaks12 space ≡ is_white_blank
 space_class true = refl
 space_class false = refl
 
 -- LF is a break
-line_feed_class : (breaks12 : Bool) → class_of breaks12 line_feed ≡ is_white_break
+pub line_feed_class : (breaks12 : Bool) → class_of breaks12 line_feed ≡ is_white_break
 line_feed_class true = refl
 line_feed_class false = refl
 

@@ -275,7 +275,7 @@ ends_word c = is_blank c || is_break c
 alpha_ends_no_word : (c : ℕ) → is_alpha c ≡ true → ends_word c ≡ false
 alpha_ends_no_word c h = grind (arith, nat_tests)
 
-letters_end_no_word : (text : Text) → list_all is_alpha text ≡ true → list_any ends_word text ≡ false
+pub letters_end_no_word : (text : Text) → list_all is_alpha text ≡ true → list_any ends_word text ≡ false
 letters_end_no_word [] h = refl
 letters_end_no_word (c ∷ rest) h =
     let both = and_parts (is_alpha c) (list_all is_alpha rest) h in
