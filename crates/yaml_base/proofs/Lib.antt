@@ -62,3 +62,4 @@ pub mod StreamTidyLaws
 pub mod StreamTakes
 pub mod StreamWhites
 pub mod CallerLaws
+mod RowsWrittenTexts

@@ -12,6 +12,8 @@ pub mod LineTexts
 pub mod LineFolds
 pub mod LineIndents
 pub mod SingleReads
+pub mod Sparing
+pub mod SparingBlocks
 pub mod BlockSteps
 pub mod Barred
 pub mod ByteRuns
