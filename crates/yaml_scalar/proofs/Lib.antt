@@ -14,6 +14,8 @@ pub mod LineIndents
 pub mod SingleReads
 pub mod Sparing
 pub mod SparingBlocks
+pub mod DeepLines
+pub mod TidyLines
 pub mod BlockSteps
 pub mod Barred
 pub mod ByteRuns
