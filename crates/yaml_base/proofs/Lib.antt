@@ -78,3 +78,4 @@ pub mod StreamPasses
 pub mod StreamStands
 pub mod StreamLeads
 pub mod StreamFlowWords
+mod RowsWrittenTexts

@@ -46,6 +46,7 @@ pub mod Script
 pub mod ReadPercent
 pub mod ReadTags
 pub mod TidyBodies
+pub mod WrittenTexts
 pub mod StreamContent
 pub mod StreamLines
 pub mod StreamScalars

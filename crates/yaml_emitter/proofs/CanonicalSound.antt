@@ -24,11 +24,11 @@ use Rattle.yaml_emitter.proofs.CanonicalDocuments.{EachDocument}
 abbrev pub is_good : Event → Bool
 is_good event = is_sound true event && has_scalar_texts event
 
-neither : {A : Type 0} (x y : Option A) → option_or x y ≡ None → (x ≡ None) × (y ≡ None)
+pub neither : {A : Type 0} (x y : Option A) → option_or x y ≡ None → (x ≡ None) × (y ≡ None)
 neither None y e = (refl, e)
 neither (Some x) y e = absurd (cc)
 
-none_is : {A : Type 0} (x : Option A) → is_none x ≡ true → x ≡ None
+pub none_is : {A : Type 0} (x : Option A) → is_none x ≡ true → x ≡ None
 none_is None h = refl
 none_is (Some x) h = absurd (false≢true h)
 
@@ -38,7 +38,7 @@ no_faults event h =
     let both = neither (name_or_tag_fault true event) (content_fault true event) (none_is _ parts.0) in
     (both.0, both.1, parts.1)
 
-name_is : (a b : ℕ) (name : Text) → name_fault a b name ≡ None → IsName name
+pub name_is : (a b : ℕ) (name : Text) → name_fault a b name ≡ None → IsName name
 name_is a b [] h = absurd (cc)
 name_is a b (c ∷ rest) h = by (list_all is_alpha (c ∷ rest)) refl h
   where
@@ -46,7 +46,7 @@ name_is a b (c ∷ rest) h = by (list_all is_alpha (c ∷ rest)) refl h
     by true e h = record { some = (and_parts (is_alpha c) (list_all is_alpha rest) e).0; alphas = e }
     by false e h = absurd (cc)
 
-anchor_is : (anchor tag : Option Text) → properties_fault anchor tag ≡ None → AnchorOk anchor
+pub anchor_is : (anchor tag : Option Text) → properties_fault anchor tag ≡ None → AnchorOk anchor
 anchor_is None tag h = tt
 anchor_is (Some name) tag h = name_is anchor_empty anchor_alphabet name (neither (anchor_fault name) (option_and_then tag_fault tag) h).0
 

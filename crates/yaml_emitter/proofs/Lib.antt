@@ -31,6 +31,9 @@ pub mod CanonicalPlaces
 pub mod CanonicalNodes
 pub mod CanonicalLines
 pub mod CanonicalSound
+pub mod SparingPlaces
+pub mod SparingSteps
+pub mod RawTexts
 pub mod CanonicalStream
 pub mod Canonical
 pub mod NodesDone

@@ -30,7 +30,7 @@ encloses : (indent : ℕ) (column : Option ℕ) → Encloses (deeper indent colu
 encloses indent None = omega arith
 encloses indent (Some column) = refl
 
-plain_context : (charset : Charset) (flow : Bool) (value : Text)
+pub plain_context : (charset : Charset) (flow : Bool) (value : Text)
     → Allows (allowances charset value) flow plain → allows_plain charset flow value ≡ true
 plain_context charset true value h = h
 plain_context charset false value h = h

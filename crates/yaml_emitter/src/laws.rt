@@ -3,12 +3,25 @@ ghost use Rattle.std.specs.Prelude.{List};
 ghost use Rattle.yaml_base.specs.Event.{Event};
 ghost use Rattle.yaml_base.specs.Meaning.{CanonicalBytesRead, MeaningIsKept};
 ghost use Rattle.yaml_base.specs.Settings.{Settings};
+ghost use Rattle.yaml_base.specs.WrittenTexts.{StreamsAgree, TextsHoldRaw};
 ghost use Rattle.yaml_emitter.specs.Uncut.{OutputReads, OutputTells};
 
 /// Every scalar in the layout of an accepted list reads back: its text, read by the rules of its style where it
 /// stands, is exactly its value, and each nonempty line of it after the first begins with at least two spaces.
 pub fn meaning_is_kept()
     ensures { MeaningIsKept }
+{}
+
+/// What stands raw in the text of a well-formed event stream: printable characters alone, and so Unicode scalar values; ASCII
+/// alone where no more is kept; with the line breaks of YAML 1.2 neither U+2028 nor U+2029 (YAML 1.2, section 5.4).
+pub fn texts_hold_raw()
+    ensures { TextsHoldRaw }
+{}
+
+/// Under settings that differ in the encoding alone, the bytes of a well-formed event stream are one text: decoded without
+/// their mark they give the same characters.
+pub fn streams_agree()
+    ensures { StreamsAgree }
 {}
 
 /// In canonical mode the bytes of an accepted list, where no limit cuts them, read back: a reader that shares no word

@@ -24,6 +24,8 @@ pub use emitter::yaml_emitter_t;
 pub use laws::canonical_bytes_read;
 pub use laws::canonical_output_reads;
 pub use laws::meaning_is_kept;
+pub use laws::streams_agree;
+pub use laws::texts_hold_raw;
 pub use setters::yaml_emitter_delete;
 pub use setters::yaml_emitter_set_break;
 pub use setters::yaml_emitter_set_canonical;

@@ -33,7 +33,7 @@ or-none true = refl
 or-none false = refl
 
 -- a character that isn't special is ordinary
-ordinary : (charset : Charset) (c : ℕ) → is_special charset c ≡ false → Ordinary charset.breaks12 c
+pub ordinary : (charset : Charset) (c : ℕ) → is_special charset c ≡ false → Ordinary charset.breaks12 c
 ordinary charset c h =
     let outer = or_parts (not (is_printable c) || (not charset.unicode && not (is_ascii c))) (charset.breaks12 && (c == line_separator || c == paragraph_separator)) h in
     let printable : is_printable c ≡ true = not-false (is_printable c) (or_parts (not (is_printable c)) (not charset.unicode && not (is_ascii c)) outer.0).0 in

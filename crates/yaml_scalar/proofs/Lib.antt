@@ -12,6 +12,10 @@ pub mod LineTexts
 pub mod LineFolds
 pub mod LineIndents
 pub mod SingleReads
+pub mod Sparing
+pub mod SparingBlocks
+pub mod DeepLines
+pub mod TidyLines
 pub mod BlockSteps
 pub mod Barred
 pub mod ByteRuns

@@ -29,12 +29,12 @@ any_cond test true x y a b = a
 any_cond test false x y a b = b
 
 -- nor in both together
-any_both :
+pub any_both :
     (test : ℕ → Bool) (x y : Text) → list_any test x ≡ false → list_any test y ≡ false → list_any test (x ++ y) ≡ false
 any_both test x y a b = list_any-append test x y ∙ simp (a, b)
 
 -- nor in one character and such a text
-any_one : (test : ℕ → Bool) (c : ℕ) (rest : Text) → test c ≡ false → list_any test rest ≡ false → list_any test (c ∷ rest) ≡ false
+pub any_one : (test : ℕ → Bool) (c : ℕ) (rest : Text) → test c ≡ false → list_any test rest ≡ false → list_any test (c ∷ rest) ≡ false
 any_one test c rest a b = simp (a, b)
 
 -- nor in indentation, where it doesn't hold of a space

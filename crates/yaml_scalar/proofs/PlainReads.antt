@@ -29,11 +29,11 @@ itself_writes = record {
 }
 
 -- the lines of a plain body
-abbrev lines : (limit : Option ℕ) (indent : ℕ) (value : Text) → Cursor → Text
+abbrev pub lines : (limit : Option ℕ) (indent : ℕ) (value : Text) → Cursor → Text
 lines limit indent value cursor = bare_steps (λ text. text) limit indent spaces value cursor
 
 -- a body is its lines
-body-lines :
+pub body-lines :
     (limit : Option ℕ) (indent : ℕ) (value : Text) (cursor : Cursor) →
     (plain_body limit indent value cursor).text ≡ lines limit indent value cursor
 body-lines limit indent value cursor =
@@ -52,7 +52,7 @@ no_break_begins charset flow (c ∷ rest) clean =
     (or_parts _ _ (or_parts _ _ (or_parts _ _ (or_parts _ _ (or_parts _ _ clean).0).0).0).0).1
 
 -- a value that allows plain text allows single quotes
-plain_is_single :
+pub plain_is_single :
     (charset : Charset) (flow : Bool) (value : Text) →
     somewhere (bars_plain charset flow) value ≡ false →
     somewhere (bars_single_quoted charset) value ≡ false
@@ -69,14 +69,14 @@ plain_is_single charset flow (c ∷ rest) clean =
     (plain_is_single charset flow rest parts.1)
 
 -- it holds nothing that bars plain text
-plain_bars :
+pub plain_bars :
     (charset : Charset) (flow : Bool) (value : Text) →
     allows_plain charset flow value ≡ true →
     somewhere (bars_plain charset flow) value ≡ false
 plain_bars charset flow value allowed = (or_parts _ _ (not-true _ (and_parts _ _ allowed).1)).1
 
 -- it begins with nothing that bars plain text
-plain_begins :
+pub plain_begins :
     (charset : Charset) (flow : Bool) (value : Text) →
     allows_plain charset flow value ≡ true →
     begins_unlike_plain value ≡ false

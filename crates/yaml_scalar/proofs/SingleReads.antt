@@ -61,11 +61,11 @@ unquoted-doubled (c ∷ rest) =
     (unquoted-step c rest (quotes_doubled rest ++ 39 ∷ []) (c == 39) refl (unquoted-doubled rest))
 
 -- the lines between the quotes, before each quote of theirs is doubled
-abbrev inside : (limit : Option ℕ) (indent : ℕ) (value : Text) → Cursor → Text
+abbrev pub inside : (limit : Option ℕ) (indent : ℕ) (value : Text) → Cursor → Text
 inside limit indent value cursor = bare_steps quotes_doubled limit indent spaces value (single_quote cursor).cursor
 
 -- a body is its lines between two quotes
-body-inside :
+pub body-inside :
     (limit : Option ℕ) (indent : ℕ) (value : Text) (cursor : Cursor) →
     (single_quoted_body limit indent value cursor).text ≡ 39 ∷ (quotes_doubled (inside limit indent value cursor) ++ 39 ∷ [])
 body-inside limit indent value cursor =
@@ -75,7 +75,7 @@ body-inside limit indent value cursor =
     )
 
 -- a test that holds nowhere in a text holds nowhere in it with quotes doubled
-any_doubled : (test : ℕ → Bool) → test 39 ≡ false → (text : Text) → list_any test text ≡ false → list_any test (quotes_doubled text) ≡ false
+pub any_doubled : (test : ℕ → Bool) → test 39 ≡ false → (text : Text) → list_any test text ≡ false → list_any test (quotes_doubled text) ≡ false
 any_doubled test quote [] clean = refl
 any_doubled test quote (c ∷ rest) clean =
     let parts = or_parts (test c) (list_any test rest) clean in

@@ -1,0 +1,51 @@
+-- What stands raw in a written text, and how the texts of its scalars stand there, whatever the settings (YAML 1.1, sections
+-- 5.1 and 5.4; YAML 1.2, section 5.4).
+use Rattle.std.specs.Prelude.{◌≡◌, ℕ, Bool, true, false, Option, Some, List, ◌==◌, ◌||◌}
+use Rattle.std.specs.List.{All, list_all, list_any}
+use Rattle.std.specs.Str.{all_scalars}
+use Rattle.yaml_base.specs.Characters.{Text, carriage_return, line_separator, paragraph_separator, is_ascii, is_printable}
+use Rattle.yaml_base.specs.Settings.{Encoding, Settings, Effective, effective}
+use Rattle.yaml_base.specs.Event.{Event}
+use Rattle.yaml_base.specs.Refusal.{IsAccepted}
+use Rattle.yaml_base.specs.NodeLayout.{bodies_of}
+use Rattle.yaml_base.specs.Pieces.{list_layout}
+use Rattle.yaml_base.specs.Output.{settings_for, text_written, bytes_written}
+use Rattle.yaml_base.specs.Decode.{decode}
+use Rattle.yaml_base.specs.TidyBodies.{IsTidy}
+
+-- U+2028 or U+2029, which break lines in YAML 1.1 and don't in YAML 1.2
+abbrev pub is_separator : ℕ → Bool
+is_separator c = c == line_separator || c == paragraph_separator
+
+-- printable, or the CR of a line break
+abbrev pub may_stand_raw : ℕ → Bool
+may_stand_raw c = is_printable c || c == carriage_return
+
+-- what a text holds raw: printable characters alone, which are Unicode scalar values; only ASCII where no more is kept; and
+-- with the line breaks of YAML 1.2 neither U+2028 nor U+2029
+pub record HoldsRaw (s : Effective) (text : Text) : Type 0 where
+  pub printable : list_all may_stand_raw text ≡ true
+  pub scalars : all_scalars text ≡ true
+  pub ascii : s.unicode ≡ false → list_all is_ascii text ≡ true
+  pub no_separators : s.breaks12 ≡ true → list_any is_separator text ≡ false
+
+-- so does the text of every accepted list, under all settings
+abbrev pub TextsHoldRaw : Type 0
+TextsHoldRaw =
+    (given : Settings) (encoding : Option Encoding) (events : List Event) → IsAccepted given.canonical events
+    → let s = effective given encoding in
+    HoldsRaw s (text_written s (list_layout s events))
+
+-- the bodies of the layout of every accepted list are tidy, under all settings
+abbrev pub BodiesAreTidy : Type 0
+BodiesAreTidy =
+    (given : Settings) (encoding : Option Encoding) (events : List Event) → IsAccepted given.canonical events
+    → All (IsTidy (effective given encoding)) (bodies_of (list_layout (effective given encoding) events))
+
+-- under settings that differ in the encoding alone the bytes of an accepted list, decoded without their mark, are one text
+abbrev pub StreamsAgree : Type 0
+StreamsAgree =
+    (given : Settings) (encoding : Encoding) (events : List Event) → IsAccepted given.canonical events
+    → let s = settings_for given events in
+    let other = settings_for (record given { encoding = Some encoding }) events in
+    decode (Some encoding) (bytes_written other (list_layout other events)) ≡ text_written s (list_layout s events)

@@ -1,0 +1,141 @@
+-- Texts whose lines after the first stand at least so many spaces deep, and in which no space stands before a break: how they
+-- are put together.
+use Rattle.std.proofs.Common.{◌≡◌, ◌≤◌, refl, sym, ap, ◌∙◌, ℕ, zero, suc, [], ◌∷◌, ◌++◌, Bool, true, false, arith}
+use Rattle.std.specs.Prelude.{◌==◌, ◌||◌, ◌&&◌, not, replicate}
+use Rattle.std.proofs.lemmas.Bool.{and_from, eqb-true, false≢true, or_left, or_right}
+use Rattle.yaml_base.specs.Characters.{Text, line_feed, space}
+use Rattle.yaml_base.specs.LineBreaks.{is_read_break}
+use Rattle.yaml_base.specs.TidyBodies.{begins_with_blank_line, begins_with_break, begins_with_deep_line, begins_with_spaces, ends_line, has_deep_lines, has_no_space_before_break}
+
+-- neither a space nor a break of a reader
+pub record Ink (breaks12 : Bool) (c : ℕ) : Type 0 where
+  pub no_space : (c == space) ≡ false
+  pub no_break : is_read_break breaks12 c ≡ false
+
+-- a text begins with such a character
+abbrev pub BeginsInk : Bool → Text → Type 0
+BeginsInk breaks12 [] = ⊥
+BeginsInk breaks12 (c ∷ rest) = Ink breaks12 c
+
+-- all its characters are such
+abbrev pub AllInk : Bool → Text → Type 0
+AllInk breaks12 [] = Unit {0}
+AllInk breaks12 (c ∷ rest) = Ink breaks12 c × AllInk breaks12 rest
+
+-- no character of a text breaks a line
+abbrev pub Unbroken : Bool → Text → Type 0
+Unbroken breaks12 [] = Unit {0}
+Unbroken breaks12 (c ∷ rest) = (is_read_break breaks12 c ≡ false) × Unbroken breaks12 rest
+
+-- a space is no break
+pub space_unbroken : (breaks12 : Bool) → is_read_break breaks12 space ≡ false
+space_unbroken true = refl
+space_unbroken false = refl
+
+-- and LF is one
+pub feed_breaks : (breaks12 : Bool) → is_read_break breaks12 line_feed ≡ true
+feed_breaks breaks12 = refl
+
+-- a break is no space
+break_no_space : (breaks12 : Bool) (b : ℕ) → is_read_break breaks12 b ≡ true → (b == space) ≡ false
+break_no_space breaks12 b h = by (b == space) refl
+  where
+    by : (same : Bool) → (b == space) ≡ same → same ≡ false
+    by false e = refl
+    by true e =
+        let is : b ≡ space = eqb-true b space e in
+        absurd (false≢true (sym (space_unbroken breaks12) ∙ ap (is_read_break breaks12) (sym is) ∙ h))
+
+module _ (breaks12 : Bool) where
+  -- ink is no break
+  pub ink_unbroken : (text : Text) → BeginsInk breaks12 text → begins_with_break breaks12 text ≡ false
+  ink_unbroken [] h = absurd h
+  ink_unbroken (c ∷ rest) h = h.no_break
+
+  -- a line of spaces and then ink isn't blank
+  blank_spaces : (n : ℕ) (text : Text) → BeginsInk breaks12 text → begins_with_blank_line breaks12 (replicate n space ++ text) ≡ false
+  blank_spaces zero [] h = absurd h
+  blank_spaces zero (c ∷ rest) h = simp (h.no_break, h.no_space)
+  blank_spaces (suc n) text h = simp (space_unbroken breaks12, blank_spaces n text h)
+
+  enough_spaces : (count indent : ℕ) (text : Text) → count ≤ indent → begins_with_spaces count (replicate indent space ++ text) ≡ true
+  enough_spaces zero indent text h = refl
+  enough_spaces (suc count) zero text h = absurd (omega (arith, h))
+  enough_spaces (suc count) (suc indent) text h = enough_spaces count indent text (omega (arith, h))
+
+  -- after a break: ink behind enough spaces, or another break
+  pub deep_indent : (count indent : ℕ) (text : Text) → count ≤ indent → BeginsInk breaks12 text
+      → begins_with_deep_line breaks12 count (replicate indent space ++ text) ≡ true
+  deep_indent count indent text enough h =
+      or_right _ _ (and_from _ _ (enough_spaces count indent text enough) (ap not (blank_spaces indent text h)))
+
+  pub deep_break : (count : ℕ) (text : Text) → begins_with_break breaks12 text ≡ true → begins_with_deep_line breaks12 count text ≡ true
+  deep_break count [] h = absurd (false≢true h)
+  deep_break count (c ∷ rest) h = or_left _ _ h
+
+  -- Deep lines
+
+  pub deep_unbroken : (count : ℕ) (front text : Text) → Unbroken breaks12 front → has_deep_lines breaks12 count text ≡ true
+      → has_deep_lines breaks12 count (front ++ text) ≡ true
+  deep_unbroken count [] text h k = k
+  deep_unbroken count (c ∷ front) text h k = and_from _ _ (or_left _ _ (ap not h.0)) (deep_unbroken count front text h.1 k)
+
+  pub spaces_unbroken : (n : ℕ) → Unbroken breaks12 (replicate n space)
+  spaces_unbroken zero = tt
+  spaces_unbroken (suc n) = (space_unbroken breaks12, spaces_unbroken n)
+
+  pub deep_after : (count b : ℕ) (text : Text) → begins_with_deep_line breaks12 count text ≡ true → has_deep_lines breaks12 count text ≡ true
+      → has_deep_lines breaks12 count (b ∷ text) ≡ true
+  deep_after count b text h k = and_from _ _ (or_right _ _ h) k
+
+  -- a text with deep lines and no space before a break
+  pub record IsEven (count : ℕ) (text : Text) : Type 0 where
+    pub deep : has_deep_lines breaks12 count text ≡ true
+    pub even : has_no_space_before_break breaks12 text ≡ true
+
+  even_other : (c : ℕ) (text : Text) → (c == space) ≡ false → has_no_space_before_break breaks12 text ≡ true → has_no_space_before_break breaks12 (c ∷ text) ≡ true
+  even_other c text h k = rw h k
+
+  -- ink before such a text
+  pub even_ink : (count : ℕ) (front text : Text) → AllInk breaks12 front → IsEven count text → IsEven count (front ++ text)
+  even_ink count [] text h k = k
+  even_ink count (c ∷ front) text h k =
+      let more = even_ink count front text h.1 k in
+      record {
+        deep = and_from _ _ (or_left _ _ (ap not (h.0).no_break)) more.deep;
+        even = even_other c (front ++ text) (h.0).no_space more.even;
+      }
+
+  -- a space, where no break follows
+  pub even_space : (count : ℕ) (text : Text) → begins_with_break breaks12 text ≡ false → IsEven count text → IsEven count (space ∷ text)
+  even_space count text h k = record {
+    deep = and_from _ _ (or_left _ _ (ap not (space_unbroken breaks12))) k.deep;
+    even = and_from _ _ (ap not h) k.even;
+  }
+
+  -- a break before a deep line
+  pub even_break : (count b : ℕ) (text : Text) → is_read_break breaks12 b ≡ true → begins_with_deep_line breaks12 count text ≡ true → IsEven count text
+      → IsEven count (b ∷ text)
+  even_break count b text h line k = record {
+    deep = deep_after count b text line k.deep;
+    even = even_other b text (break_no_space breaks12 b h) k.even;
+  }
+
+  spaces_before : (n : ℕ) (text : Text) → BeginsInk breaks12 text → begins_with_break breaks12 (replicate n space ++ text) ≡ false
+  spaces_before zero text h = ink_unbroken text h
+  spaces_before (suc n) text h = space_unbroken breaks12
+
+  -- spaces before ink
+  pub even_spaces : (count n : ℕ) (text : Text) → BeginsInk breaks12 text → IsEven count text → IsEven count (replicate n space ++ text)
+  even_spaces count zero text h k = k
+  even_spaces count (suc n) text h k = even_space count (replicate n space ++ text) (spaces_before n text h) (even_spaces count n text h k)
+
+  -- a break and an indentation before ink
+  pub even_line : (count indent b : ℕ) (text : Text) → count ≤ indent → is_read_break breaks12 b ≡ true → BeginsInk breaks12 text → IsEven count text
+      → IsEven count (b ∷ (replicate indent space ++ text))
+  even_line count indent b text enough h ink k =
+      even_break count b (replicate indent space ++ text) h (deep_indent count indent text enough ink) (even_spaces count indent text ink k)
+
+  -- nothing
+  pub even_nothing : (count : ℕ) → IsEven count []
+  even_nothing count = record { deep = refl; even = refl }

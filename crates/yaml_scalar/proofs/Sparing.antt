@@ -1,0 +1,137 @@
+-- Tests that spare printable ASCII and LF: what a style writes holds no character that meets such a test, where the value's
+-- own characters that stand raw don't.
+use Rattle.std.proofs.Common.{◌≡◌, refl, sym, ap, ◌∙◌, ℕ, zero, suc, ◌≤◌, [], ◌∷◌, ◌++◌, Bool, true, false, arith}
+use Rattle.std.specs.Prelude.{Option, None, Some, List, ◌==◌, ◌&&◌, ◌/◌, ◌%◌, nat_le, replicate, if◌then◌else◌}
+use Rattle.std.specs.List.{list_all, list_any}
+use Rattle.std.proofs.lemmas.Bool.{agree_below_at, and_from, and_parts}
+use Rattle.std.proofs.lemmas.Bool.Decides.{nat_tests}
+use Rattle.std.proofs.lemmas.List.Folds.{list_all-append}
+use Rattle.yaml_base.specs.Characters.{Text, is_between, hex_digit, hex_digits, is_break, is_space, line_feed, space}
+use Rattle.yaml_base.specs.Cursor.{Cursor, breaks_line, is_past_width, new_line, text_laid}
+use Rattle.yaml_base.specs.DoubleQuoted.{ShortEscape, backslash, character_text, double_character, double_fold, double_inside, double_quoted_body, escape_after_backslash, escape_text, letter_among, may_fold, needs_escape, quote, quote_laid, short_escapes, space_kept}
+use Rattle.yaml_base.specs.Plain.{plain_body, spaces}
+use Rattle.yaml_base.specs.SingleQuoted.{quotes_doubled, single_quote, single_quoted_body}
+use Rattle.yaml_scalar.proofs.LineTexts.{any_bare, any_both, any_cond, any_indentation, any_one}
+use Rattle.yaml_scalar.proofs.PlainReads.{body-lines, lines}
+use Rattle.yaml_scalar.proofs.SingleReads.{any_doubled, body-inside, inside}
+
+-- a printable character of ASCII other than the space
+abbrev pub is_graph : ℕ → Bool
+is_graph c = is_between 0x21 0x7E c
+
+-- a test that holds of none of these, nor of the space and LF
+pub record Spares (test : ℕ → Bool) : Type 0 where
+  pub graph : (c : ℕ) → is_graph c ≡ true → test c ≡ false
+  pub blank : test space ≡ false
+  pub feed : test line_feed ≡ false
+
+-- Escapes are of such characters.
+
+-- the letters of a table
+abbrev letters_graph : List ShortEscape → Bool
+letters_graph [] = true
+letters_graph (entry ∷ more) = is_graph entry.letter && letters_graph more
+
+letter_graph : (table : List ShortEscape) (c letter : ℕ) → letters_graph table ≡ true
+    → letter_among table c ≡ Some letter → is_graph letter ≡ true
+letter_graph [] c letter h found = cc
+letter_graph (entry ∷ more) c letter h found =
+    let p : (is_graph entry.letter ≡ true) × (letters_graph more ≡ true) = and_parts _ _ h in
+    letter_here (c == entry.character) p.0 (letter_graph more c letter p.1) found
+  where
+    letter_here : (b : Bool) → is_graph entry.letter ≡ true → (letter_among more c ≡ Some letter → is_graph letter ≡ true)
+        → (if b then Some entry.letter else letter_among more c) ≡ Some letter → is_graph letter ≡ true
+    letter_here true here later h = let e : entry.letter ≡ letter = cc in rw (← e) here
+    letter_here false here later h = later h
+
+-- hexadecimal digits
+digit_graph : (n : ℕ) → is_graph (hex_digit (n % 16)) ≡ true
+digit_graph n = agree_below_at (λ d. is_graph (hex_digit d)) (λ d. true) 16 (n % 16) refl (omega arith)
+
+pub digits_graph : (count n : ℕ) → list_all is_graph (hex_digits count n) ≡ true
+digits_graph zero n = refl
+digits_graph (suc count) n =
+    list_all-append is_graph (hex_digits count (n / 16)) (hex_digit (n % 16) ∷ [])
+    ∙ and_from _ _ (digits_graph count (n / 16)) (and_from _ true (digit_graph n) refl)
+
+number_graph : (c : ℕ) (two four : Bool)
+    → list_all is_graph (if two then 120 ∷ hex_digits 2 c else (if four then 117 ∷ hex_digits 4 c else 85 ∷ hex_digits 8 c)) ≡ true
+number_graph c true four = digits_graph 2 c
+number_graph c false true = digits_graph 4 c
+number_graph c false false = digits_graph 8 c
+
+escape_rest : (c : ℕ) (found : Option ℕ) → letter_among short_escapes c ≡ found → list_all is_graph (escape_after_backslash found c) ≡ true
+escape_rest c (Some letter) found = and_from _ true (letter_graph short_escapes c letter refl found) refl
+escape_rest c None found = number_graph c (nat_le c 0xFF) (nat_le c 0xFFFF)
+
+-- an escape
+pub escape_graph : (c : ℕ) → list_all is_graph (escape_text c) ≡ true
+escape_graph c = escape_rest c (letter_among short_escapes c) refl
+
+module _ (test : ℕ → Bool) (spares : Spares test) where
+  -- a text of such characters
+  pub lacks_graph : (text : Text) → list_all is_graph text ≡ true → list_any test text ≡ false
+  lacks_graph [] h = refl
+  lacks_graph (c ∷ rest) h =
+      let p : (is_graph c ≡ true) × (list_all is_graph rest ≡ true) = and_parts _ _ h in
+      any_one test c rest (spares.graph c p.0) (lacks_graph rest p.1)
+
+  -- indentation
+  pub lacks_spaces : (n : ℕ) → list_any test (replicate n space) ≡ false
+  lacks_spaces n = any_indentation test n spares.blank
+
+  -- a new line
+  pub lacks_line : (at : ℕ) (cursor : Cursor) → list_any test (new_line at cursor).text ≡ false
+  lacks_line at cursor =
+      any_cond test (breaks_line at cursor) (line_feed ∷ replicate at space) _
+      (any_one test line_feed (replicate at space) spares.feed (lacks_spaces at)) (lacks_spaces _)
+
+  -- a plain body
+  pub lacks_plain : (limit : Option ℕ) (indent : ℕ) (value : Text) (cursor : Cursor) → list_any test value ≡ false
+      → list_any test (plain_body limit indent value cursor).text ≡ false
+  lacks_plain limit indent value cursor own =
+      ap (list_any test) (body-lines limit indent value cursor)
+      ∙ any_bare test spares.feed spares.blank (λ text. text) limit indent spaces value cursor own
+
+  -- a single-quoted body
+  pub lacks_single : (limit : Option ℕ) (indent : ℕ) (value : Text) (cursor : Cursor) → list_any test value ≡ false
+      → list_any test (single_quoted_body limit indent value cursor).text ≡ false
+  lacks_single limit indent value cursor own =
+      let quote_spared : test 39 ≡ false = spares.graph 39 refl in
+      let text = inside limit indent value cursor in
+      let bare : list_any test text ≡ false = any_bare test spares.feed spares.blank quotes_doubled limit indent spaces value (single_quote cursor).cursor own in
+      ap (list_any test) (body-inside limit indent value cursor)
+      ∙ any_one test 39 (quotes_doubled text ++ 39 ∷ []) quote_spared
+      (any_both test (quotes_doubled text) (39 ∷ []) (any_doubled test quote_spared text bare) (any_one test 39 [] quote_spared refl))
+
+  module _ (unicode : Bool) (raw : (c : ℕ) → needs_escape unicode c ≡ false → test c ≡ false) where
+    lacks_character : (c : ℕ) → list_any test (character_text unicode c) ≡ false
+    lacks_character c = by (needs_escape unicode c) refl
+      where
+        by : (b : Bool) → needs_escape unicode c ≡ b → list_any test (if b then escape_text c else c ∷ []) ≡ false
+        by true e = lacks_graph (escape_text c) (escape_graph c)
+        by false e = any_one test c [] (raw c e) refl
+
+    lacks_kept : (rest : Text) → list_any test (space_kept rest) ≡ false
+    lacks_kept [] = refl
+    lacks_kept (c ∷ rest) = any_cond test (is_space c) (backslash ∷ []) [] (any_one test backslash [] (spares.graph backslash refl) refl) refl
+
+    lacks_inside : (limit : Option ℕ) (indent : ℕ) (before : Option ℕ) (value : Text) (cursor : Cursor)
+        → list_any test (double_inside unicode limit indent before value cursor).text ≡ false
+    lacks_inside limit indent before [] cursor = refl
+    lacks_inside limit indent before (c ∷ rest) cursor =
+        any_both test (double_character unicode limit indent before c rest cursor).text _
+        (by (is_space c && may_fold before rest && is_past_width limit cursor)) (lacks_inside limit indent (Some c) rest _)
+      where
+        by : (b : Bool) → list_any test (if b then double_fold indent rest cursor else text_laid (character_text unicode c) cursor).text ≡ false
+        by true = any_both test (new_line indent cursor).text (space_kept rest) (lacks_line indent cursor) (lacks_kept rest)
+        by false = lacks_character c
+
+    -- a double-quoted body, whatever the value
+    pub lacks_double : (limit : Option ℕ) (indent : ℕ) (value : Text) (cursor : Cursor)
+        → list_any test (double_quoted_body unicode limit indent value cursor).text ≡ false
+    lacks_double limit indent value cursor =
+        let quote_spared : test quote ≡ false = spares.graph quote refl in
+        any_one test quote _ quote_spared
+        (any_both test (double_inside unicode limit indent None value (quote_laid cursor).cursor).text (quote ∷ [])
+        (lacks_inside limit indent None value (quote_laid cursor).cursor) (any_one test quote [] quote_spared refl))

@@ -1,0 +1,154 @@
+-- Block scalars hold no character that meets a test which spares printable ASCII and LF, where their values hold none; so a
+-- value that a style allows is written without a special character.
+use Rattle.std.proofs.Common.{◌≡◌, refl, ap, ◌∙◌, ℕ, ◌≤◌, [], ◌∷◌, ◌++◌, List, Bool, true, false, arith}
+use Rattle.std.specs.Prelude.{Option, ◌==◌, ◌||◌, ◌&&◌, ◌+◌, not, replicate, if◌then◌else◌}
+use Rattle.std.specs.List.{list_any}
+use Rattle.std.proofs.lemmas.Bool.{and_from, le-leb, not-true, or_from, or_parts}
+use Rattle.yaml_base.specs.Analysis.{Charset, allows_block, allows_plain, allows_single_quoted, bars_block, bars_plain, bars_single_quoted, begins_with, is_empty, is_special, is_trailing_space, somewhere}
+use Rattle.yaml_base.specs.Characters.{Text, is_break, is_space, line_feed, space}
+use Rattle.yaml_base.specs.Cursor.{Cursor}
+use Rattle.yaml_base.specs.BlockHeader.{Ending, without_break, one_break, more_breaks, ending, begins_blank, ending_hint, block_body}
+use Rattle.yaml_base.specs.Lines.{Part, line, line_break, begun, parts}
+use Rattle.yaml_base.specs.Literal.{indented, literal_body}
+use Rattle.yaml_base.specs.Folded.{cut_from, cut_line, folded_body, folded_parts, folds, next_even}
+use Rattle.yaml_scalar.proofs.BlockReads.{block-text, digit_text, sign_of}
+use Rattle.yaml_scalar.proofs.LineTexts.{any_both, any_cond, any_one}
+use Rattle.yaml_scalar.proofs.PlainReads.{plain_bars, plain_is_single}
+use Rattle.yaml_scalar.proofs.Sparing.{Spares, is_graph, lacks_spaces}
+
+module _ (test : ℕ → Bool) where
+  -- a test holds nowhere in parts
+  abbrev pub PartsLack : List Part → Type 0
+  PartsLack [] = Unit {0}
+  PartsLack (line text ∷ rest) = (list_any test text ≡ false) × PartsLack rest
+  PartsLack (line_break b ∷ rest) = (test b ≡ false) × PartsLack rest
+
+  lacks_joined : (front rest : List Part) → PartsLack front → PartsLack rest → PartsLack (front ++ rest)
+  lacks_joined [] rest h k = k
+  lacks_joined (line text ∷ front) rest h k = (h.0, lacks_joined front rest h.1 k)
+  lacks_joined (line_break b ∷ front) rest h k = (h.0, lacks_joined front rest h.1 k)
+
+  lacks_begun : (c : ℕ) (ps : List Part) → test c ≡ false → PartsLack ps → PartsLack (begun c ps)
+  lacks_begun c [] e h = (any_one test c [] e refl, tt)
+  lacks_begun c (line text ∷ rest) e h = (any_one test c text e h.0, h.1)
+  lacks_begun c (line_break b ∷ rest) e h = (any_one test c [] e refl, h)
+
+  lacks_part : (b : Bool) (c : ℕ) (ps : List Part) → test c ≡ false → PartsLack ps → PartsLack (if b then line_break c ∷ ps else begun c ps)
+  lacks_part true c ps e h = (e, h)
+  lacks_part false c ps e h = lacks_begun c ps e h
+
+  -- a value's parts
+  lacks_parts : (value : Text) → list_any test value ≡ false → PartsLack (parts value)
+  lacks_parts [] h = tt
+  lacks_parts (c ∷ rest) h =
+      let p = or_parts (test c) (list_any test rest) h in
+      lacks_part (is_break c) c (parts rest) p.0 (lacks_parts rest p.1)
+
+  module _ (spares : Spares test) where
+    lacks_fold : (fold : Bool) (c : ℕ) (further : List Part) → test c ≡ false → PartsLack further
+        → PartsLack (if fold then line [] ∷ line_break line_feed ∷ further else begun c further)
+    lacks_fold true c further e h = (refl, (spares.feed, h))
+    lacks_fold false c further e h = lacks_begun c further e h
+
+    -- a line that is cut
+    lacks_cut : (limit : Option ℕ) (indent column : ℕ) (text : Text) → list_any test text ≡ false → PartsLack (cut_from limit indent column text)
+    lacks_cut limit indent column [] h = (refl, tt)
+    lacks_cut limit indent column (c ∷ rest) h =
+        let p = or_parts (test c) (list_any test rest) h in
+        let fold = folds limit column c rest in
+        lacks_fold fold c (cut_from limit indent (if fold then indent else column + 1) rest) p.0
+        (lacks_cut limit indent (if fold then indent else column + 1) rest p.1)
+
+    lacks_cut_line : (limit : Option ℕ) (indent : ℕ) (text : Text) → list_any test text ≡ false → PartsLack (cut_line limit indent text)
+    lacks_cut_line limit indent text h = by (begins_with is_space text)
+      where
+        by : (b : Bool) → PartsLack (if b then line text ∷ [] else cut_from limit indent indent text)
+        by true = (h, tt)
+        by false = lacks_cut limit indent indent text h
+
+    lacks_twice : (twice : Bool) (b : ℕ) (further : List Part) → test b ≡ false → PartsLack further
+        → PartsLack ((if twice then line_break b ∷ line_break b ∷ [] else line_break b ∷ []) ++ further)
+    lacks_twice true b further e h = (e, (e, h))
+    lacks_twice false b further e h = (e, h)
+
+    -- folded parts
+    lacks_folded_parts : (limit : Option ℕ) (indent : ℕ) (after_even : Bool) (ps : List Part) → PartsLack ps → PartsLack (folded_parts limit indent after_even ps)
+    lacks_folded_parts limit indent after_even [] h = tt
+    lacks_folded_parts limit indent after_even (line text ∷ rest) h =
+        lacks_joined (cut_line limit indent text) _ (lacks_cut_line limit indent text h.0)
+        (lacks_folded_parts limit indent (not (begins_with is_space text)) rest h.1)
+    lacks_folded_parts limit indent after_even (line_break b ∷ rest) h =
+        lacks_twice (after_even && b == line_feed && next_even rest) b (folded_parts limit indent false rest) h.0
+        (lacks_folded_parts limit indent false rest h.1)
+
+    -- parts with their indentation
+    lacks_indented : (indent : ℕ) (ps : List Part) → PartsLack ps → list_any test (indented indent ps) ≡ false
+    lacks_indented indent [] h = refl
+    lacks_indented indent (line text ∷ rest) h =
+        any_both test (replicate indent space ++ text) (indented indent rest)
+        (any_both test (replicate indent space) text (lacks_spaces test spares indent) h.0) (lacks_indented indent rest h.1)
+    lacks_indented indent (line_break b ∷ rest) h = any_one test b (indented indent rest) h.0 (lacks_indented indent rest h.1)
+
+    lacks_hint : (e : Ending) → list_any test (ending_hint e) ≡ false
+    lacks_hint without_break = any_one test 45 [] (spares.graph 45 refl) refl
+    lacks_hint one_break = refl
+    lacks_hint more_breaks = any_one test 43 [] (spares.graph 43 refl) refl
+
+    digit_graph : (n : ℕ) → n ≤ 9 → is_graph (48 + n) ≡ true
+    digit_graph n high = and_from _ _ (le-leb 0x21 (48 + n) (omega arith)) (le-leb (48 + n) 0x7E (omega arith))
+
+    lacks_digit : (blank : Bool) (n : ℕ) → n ≤ 9 → list_any test (digit_text blank n) ≡ false
+    lacks_digit true n high = any_one test (48 + n) [] (spares.graph (48 + n) (digit_graph n high)) refl
+    lacks_digit false n high = refl
+
+    lacks_sign : (folded : Bool) → test (sign_of folded) ≡ false
+    lacks_sign true = spares.graph 62 refl
+    lacks_sign false = spares.graph 124 refl
+
+    -- a header and lines
+    lacks_block : (folded : Bool) (best_indent : ℕ) (value lines : Text) (cursor : Cursor) → best_indent ≤ 9 → list_any test lines ≡ false
+        → list_any test (block_body (sign_of folded) best_indent value lines cursor).text ≡ false
+    lacks_block folded best_indent value lines cursor high h =
+        let digit = digit_text (begins_blank value) best_indent in
+        let hint = ending_hint (ending value) in
+        ap (list_any test) (block-text (sign_of folded) best_indent value lines cursor)
+        ∙ any_one test (sign_of folded) ((digit ++ hint) ++ line_feed ∷ lines) (lacks_sign folded)
+        (any_both test (digit ++ hint) (line_feed ∷ lines)
+        (any_both test digit hint (lacks_digit (begins_blank value) best_indent high) (lacks_hint (ending value)))
+        (any_one test line_feed lines spares.feed h))
+
+    -- a literal body
+    pub lacks_literal : (indent best_indent : ℕ) (value : Text) (cursor : Cursor) → best_indent ≤ 9 → list_any test value ≡ false
+        → list_any test (literal_body indent best_indent value cursor).text ≡ false
+    lacks_literal indent best_indent value cursor high own =
+        lacks_block false best_indent value (indented indent (parts value)) cursor high (lacks_indented indent (parts value) (lacks_parts value own))
+
+    -- a folded body
+    pub lacks_folded : (limit : Option ℕ) (indent best_indent : ℕ) (value : Text) (cursor : Cursor) → best_indent ≤ 9 → list_any test value ≡ false
+        → list_any test (folded_body limit indent best_indent value cursor).text ≡ false
+    lacks_folded limit indent best_indent value cursor high own =
+        lacks_block true best_indent value (indented indent (folded_parts limit indent false (parts value))) cursor high
+        (lacks_indented indent (folded_parts limit indent false (parts value)) (lacks_folded_parts limit indent false (parts value) (lacks_parts value own)))
+
+-- Values that a style allows hold no special character.
+module _ (charset : Charset) where
+  pub special_single : (value : Text) → somewhere (bars_single_quoted charset) value ≡ false → list_any (is_special charset) value ≡ false
+  special_single [] h = refl
+  special_single (c ∷ rest) h =
+      let p = or_parts (bars_single_quoted charset c rest) (somewhere (bars_single_quoted charset) rest) h in
+      any_one (is_special charset) c rest (or_parts _ _ (or_parts _ _ p.0).0).0 (special_single rest p.1)
+
+  special_block : (value : Text) → somewhere (bars_block charset) value ≡ false → list_any (is_special charset) value ≡ false
+  special_block [] h = refl
+  special_block (c ∷ rest) h =
+      let p = or_parts (bars_block charset c rest) (somewhere (bars_block charset) rest) h in
+      any_one (is_special charset) c rest (or_parts _ _ (or_parts _ _ p.0).0).0 (special_block rest p.1)
+
+  pub plain_unspecial : (flow : Bool) (value : Text) → allows_plain charset flow value ≡ true → list_any (is_special charset) value ≡ false
+  plain_unspecial flow value h = special_single value (plain_is_single charset flow value (plain_bars charset flow value h))
+
+  pub single_unspecial : (value : Text) → allows_single_quoted charset value ≡ true → list_any (is_special charset) value ≡ false
+  single_unspecial value h = special_single value (not-true _ h)
+
+  pub block_unspecial : (value : Text) → allows_block charset value ≡ true → list_any (is_special charset) value ≡ false
+  block_unspecial value h = special_block value (or_parts _ _ (not-true _ h)).1

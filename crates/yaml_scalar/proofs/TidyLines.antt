@@ -1,0 +1,390 @@
+-- Plain and single-quoted texts are tidy: their lines after the first stand at their indentation, and no space stands before a
+-- break; a plain text has no blank and no break at its edges.
+use Rattle.std.proofs.Common.{◌≡◌, ◌≤◌, refl, sym, ap, ◌∙◌, subst, ℕ, suc, zero, [], ◌∷◌, ◌++◌, Bool, true, false, append-nil, append_assoc, arith}
+use Rattle.std.specs.Prelude.{Option, ◌==◌, ◌||◌, ◌&&◌, not, if◌then◌else◌}
+use Rattle.std.proofs.lemmas.Bool.{and_from, and_parts, eqb-true, false≢true, true≢false, not-true, or_from, or_parts}
+use Rattle.yaml_base.specs.Analysis.{Charset, allows_plain, allows_single_quoted, bars_plain, bars_single_quoted, begins_unlike_plain, begins_with, is_empty, is_special, somewhere}
+use Rattle.yaml_base.specs.Characters.{Text, is_break, is_space, line_feed, space}
+use Rattle.yaml_base.specs.Cursor.{Cursor, text_laid, is_past_width}
+use Rattle.yaml_base.specs.Event.{plain, single_quoted}
+use Rattle.yaml_base.specs.LineBreaks.{is_read_break}
+use Rattle.yaml_base.specs.Plain.{Kind, spaces, breaks, others, kind_of, is_same_kind, indentation, plain_body}
+use Rattle.yaml_base.specs.ReadPlain.{is_read_white}
+use Rattle.yaml_base.specs.SingleQuoted.{quotes_doubled, single_quote, single_quoted_body}
+use Rattle.yaml_base.specs.TidyBodies.{begins_with_break, ends_white, has_clean_edges, has_deep_lines, has_no_space_before_break}
+use Rattle.yaml_scalar.specs.LineSteps.{begins_kind, step_text, steps_laid}
+use Rattle.yaml_scalar.proofs.BlockParts.{Ordinary}
+use Rattle.yaml_scalar.proofs.BlockReads.{ordinary}
+use Rattle.yaml_scalar.proofs.DeepLines.{AllInk, BeginsInk, Ink, IsEven, deep_break, even_break, even_ink, even_line, even_nothing, even_space, ink_unbroken, space_unbroken}
+use Rattle.yaml_scalar.proofs.LineFolds.{breaks_only, spaces_only}
+use Rattle.yaml_scalar.proofs.LineIndents.{others_only}
+use Rattle.yaml_scalar.proofs.LineRuns.{runs_by_steps}
+use Rattle.yaml_scalar.proofs.PlainReads.{itself_writes, plain_bars, plain_begins, plain_is_single}
+use Rattle.yaml_scalar.proofs.SingleReads.{doubled_writes}
+
+-- Kinds.
+
+not_spaces : (s b : Bool) → s ≡ false → is_same_kind spaces (if s then spaces else if b then breaks else others) ≡ false
+not_spaces true b e = absurd (true≢false e)
+not_spaces false true e = refl
+not_spaces false false e = refl
+
+not_breaks : (s b : Bool) → b ≡ false → is_same_kind breaks (if s then spaces else if b then breaks else others) ≡ false
+not_breaks s true e = absurd (true≢false e)
+not_breaks true false e = refl
+not_breaks false false e = refl
+
+others_no_space : (s b : Bool) → (if s then spaces else if b then breaks else others) ≡ others → s ≡ false
+others_no_space true b e = cc
+others_no_space false b e = refl
+
+-- what begins with no space begins with none of their kind, and likewise breaks
+kind_no_space : (rest : Text) → begins_with is_space rest ≡ false → begins_kind spaces rest ≡ false
+kind_no_space [] h = refl
+kind_no_space (d ∷ rest) h = not_spaces (is_space d) (is_break d) h
+
+kind_no_break : (rest : Text) → begins_with is_break rest ≡ false → begins_kind breaks rest ≡ false
+kind_no_break [] h = refl
+kind_no_break (d ∷ rest) h = not_breaks (is_space d) (is_break d) h
+
+-- a text goes on with another character than a space or a break, or ends before a closing quote
+abbrev next_ink : (closed : Bool) → Text → Bool
+next_ink closed [] = closed
+next_ink closed (c ∷ rest) = is_same_kind others (kind_of c)
+
+third_kind : (kind : Kind) → is_same_kind spaces kind ≡ false → is_same_kind breaks kind ≡ false → is_same_kind others kind ≡ true
+third_kind spaces h k = absurd (true≢false h)
+third_kind breaks h k = absurd (true≢false k)
+third_kind others h k = refl
+
+next_other : (closed : Bool) (rest : Text) → begins_kind spaces rest ≡ false → begins_kind breaks rest ≡ false → (is_empty rest ≡ true → closed ≡ true)
+    → next_ink closed rest ≡ true
+next_other closed [] h k full = full refl
+next_other closed (d ∷ rest) h k full = third_kind (kind_of d) h k
+
+-- a value that isn't closed by a quote ends with no break
+abbrev ends_closed : (closed : Bool) → Text → Bool
+ends_closed closed [] = true
+ends_closed closed (c ∷ []) = closed || not (is_break c)
+ends_closed closed (c ∷ d ∷ rest) = ends_closed closed (d ∷ rest)
+
+closed_rest : (closed : Bool) (c : ℕ) (rest : Text) → ends_closed closed (c ∷ rest) ≡ true → ends_closed closed rest ≡ true
+closed_rest closed c [] h = refl
+closed_rest closed c (d ∷ rest) h = h
+
+closed_break : (closed : Bool) (c : ℕ) (rest : Text) → ends_closed closed (c ∷ rest) ≡ true → is_break c ≡ true → is_empty rest ≡ true → closed ≡ true
+closed_break true c rest h b e = refl
+closed_break false c [] h b e = absurd (false≢true (ap not (sym b) ∙ h))
+closed_break false c (d ∷ rest) h b e = absurd (false≢true e)
+
+-- the closing quote, or nothing
+abbrev ending_quote : Bool → Text
+ending_quote closed = if closed then 39 ∷ [] else []
+
+quote_ink : (breaks12 : Bool) → Ink breaks12 39
+quote_ink true = record { no_space = refl; no_break = refl }
+quote_ink false = record { no_space = refl; no_break = refl }
+
+module _ (charset : Charset) (count indent : ℕ) (enough : count ≤ indent) (closed : Bool) where
+  -- what is known of a value's lines from some character on, up to the closing quote
+  record LinesEven (before : Kind) (value text : Text) : Type 0 where
+    pub is_even : IsEven charset.breaks12 count text
+    pub ink : next_ink closed value ≡ true → BeginsInk charset.breaks12 text
+    pub unbroken : is_same_kind before spaces ≡ true → begins_kind breaks value ≡ false → begins_with_break charset.breaks12 text ≡ false
+    pub broken : is_same_kind before breaks ≡ true → begins_kind breaks value ≡ true → begins_with_break charset.breaks12 text ≡ true
+
+  even_end : (closed : Bool) → IsEven charset.breaks12 count (ending_quote closed)
+  even_end true = even_ink charset.breaks12 count (39 ∷ []) [] (quote_ink charset.breaks12, tt) (even_nothing charset.breaks12 count)
+  even_end false = even_nothing charset.breaks12 count
+
+  ink_end : (closed : Bool) → closed ≡ true → BeginsInk charset.breaks12 (ending_quote closed)
+  ink_end true h = quote_ink charset.breaks12
+  ink_end false h = absurd (false≢true h)
+
+  unbroken_end : (closed : Bool) → begins_with_break charset.breaks12 (ending_quote closed) ≡ false
+  unbroken_end true = (quote_ink charset.breaks12).no_break
+  unbroken_end false = refl
+
+  lines_end : (before : Kind) → LinesEven before [] (ending_quote closed)
+  lines_end before = record {
+    is_even = even_end closed;
+    ink = ink_end closed;
+    unbroken = λ e k. unbroken_end closed;
+    broken = λ e k. absurd (false≢true k);
+  }
+
+  -- a fold in place of a space
+  space_folded : (before : Kind) (rest text : Text) → is_same_kind before spaces ≡ false → next_ink closed rest ≡ true → LinesEven spaces rest text
+      → LinesEven before (space ∷ rest) (line_feed ∷ (indentation indent ++ text))
+  space_folded before rest text other next ih = record {
+    is_even = even_line charset.breaks12 count indent line_feed text enough refl (ih.ink next) ih.is_even;
+    ink = λ e. absurd (false≢true e);
+    unbroken = λ e k. absurd (false≢true (sym other ∙ e));
+    broken = λ e k. absurd (false≢true k);
+  }
+
+  -- a space that stays
+  space_kept : (before : Kind) (rest text : Text) → begins_kind breaks rest ≡ false → LinesEven spaces rest text → LinesEven before (space ∷ rest) (space ∷ text)
+  space_kept before rest text next ih = record {
+    is_even = even_space charset.breaks12 count text (ih.unbroken refl next) ih.is_even;
+    ink = λ e. absurd (false≢true e);
+    unbroken = λ e k. space_unbroken charset.breaks12;
+    broken = λ e k. absurd (false≢true k);
+  }
+
+  -- what is known behind a break
+  break_begins : (before : Kind) (c : ℕ) (rest text : Text) → kind_of c ≡ breaks → is_read_break charset.breaks12 c ≡ true
+      → IsEven charset.breaks12 count (c ∷ text) → LinesEven before (c ∷ rest) (c ∷ text)
+  break_begins before c rest text k brk even = record {
+    is_even = even;
+    ink = λ e. absurd (false≢true (ap (is_same_kind others) (sym k) ∙ e));
+    unbroken = λ e none. absurd (true≢false (ap (is_same_kind breaks) (sym k) ∙ none));
+    broken = λ e h. brk;
+  }
+
+  -- a break, and LF before it where it is doubled
+  break_doubled : (twice : Bool) (before : Kind) (c : ℕ) (rest text : Text) → kind_of c ≡ breaks → is_read_break charset.breaks12 c ≡ true
+      → LinesEven before (c ∷ rest) (c ∷ text) → LinesEven before (c ∷ rest) ((if twice then line_feed ∷ [] else []) ++ (c ∷ text))
+  break_doubled false before c rest text k brk h = h
+  break_doubled true before c rest text k brk h = record {
+    is_even = even_break charset.breaks12 count line_feed (c ∷ text) refl (deep_break charset.breaks12 count (c ∷ text) brk) h.is_even;
+    ink = λ e. absurd (false≢true (ap (is_same_kind others) (sym k) ∙ e));
+    unbroken = λ e none. absurd (true≢false (ap (is_same_kind breaks) (sym k) ∙ none));
+    broken = λ e h. refl;
+  }
+
+  -- a break that goes on, or the indentation behind it
+  break_line : (goes_on : Bool) (before : Kind) (c : ℕ) (rest text : Text) → kind_of c ≡ breaks → is_read_break charset.breaks12 c ≡ true
+      → begins_kind breaks rest ≡ goes_on → (goes_on ≡ false → next_ink closed rest ≡ true) → LinesEven breaks rest text
+      → LinesEven before (c ∷ rest) (c ∷ ((if goes_on then [] else indentation indent) ++ text))
+  break_line true before c rest text k brk e next ih =
+      break_begins before c rest text k brk
+      (even_break charset.breaks12 count c text brk (deep_break charset.breaks12 count text (ih.broken refl e)) ih.is_even)
+  break_line false before c rest text k brk e next ih =
+      break_begins before c rest (indentation indent ++ text) k brk
+      (even_line charset.breaks12 count indent c text enough brk (ih.ink (next refl)) ih.is_even)
+
+  -- another character
+  other_begins : (before : Kind) (c : ℕ) (rest front text : Text) → kind_of c ≡ others → AllInk charset.breaks12 front → BeginsInk charset.breaks12 (front ++ text)
+      → LinesEven others rest text → LinesEven before (c ∷ rest) (front ++ text)
+  other_begins before c rest front text k inks begins ih = record {
+    is_even = even_ink charset.breaks12 count front text inks ih.is_even;
+    ink = λ e. begins;
+    unbroken = λ e none. ink_unbroken charset.breaks12 (front ++ text) begins;
+    broken = λ e h. absurd (false≢true (ap (is_same_kind breaks) (sym k) ∙ h));
+  }
+
+  -- a character that isn't special and neither a space nor a break is ink
+  ink_of : (c : ℕ) → is_special charset c ≡ false → kind_of c ≡ others → Ink charset.breaks12 c
+  ink_of c clean k = record {
+    no_space = others_no_space (is_space c) (is_break c) k;
+    no_break = (ordinary charset c clean).same_break ∙ others_only (is_space c) (is_break c) k;
+  }
+
+  -- how each character of a value is written
+  record InksEach (written : Text → Text) : Type 0 where
+    pub inks : (c : ℕ) → Ink charset.breaks12 c → AllInk charset.breaks12 (written (c ∷ []))
+    pub begins : (c : ℕ) (text : Text) → Ink charset.breaks12 c → BeginsInk charset.breaks12 (written (c ∷ []) ++ text)
+
+  space_step : (folds : Bool) (before : Kind) (rest text : Text) → begins_with is_break rest ≡ false → LinesEven spaces rest text
+      → LinesEven before (space ∷ rest)
+      ((if folds && not (is_same_kind before spaces || (is_empty rest || begins_kind spaces rest)) then line_feed ∷ indentation indent else space ∷ []) ++ text)
+  space_step folds before rest text clean ih = by (folds && not (is_same_kind before spaces || (is_empty rest || begins_kind spaces rest))) refl
+    where
+      by : (fold : Bool) → (folds && not (is_same_kind before spaces || (is_empty rest || begins_kind spaces rest))) ≡ fold
+          → LinesEven before (space ∷ rest) ((if fold then line_feed ∷ indentation indent else space ∷ []) ++ text)
+      by false e = space_kept before rest text (kind_no_break rest clean) ih
+      by true e =
+          let none = or_parts (is_same_kind before spaces) _ (not-true _ (and_parts folds _ e).1) in
+          let next = or_parts (is_empty rest) _ none.1 in
+          space_folded before rest text none.0
+          (next_other closed rest next.1 (kind_no_break rest clean) (λ full. absurd (false≢true (sym next.0 ∙ full)))) ih
+
+  module _ (written : Text → Text) (each : InksEach written) where
+    step_even : (folds : Bool) (before kind : Kind) (c : ℕ) (rest text : Text) → kind_of c ≡ kind → bars_single_quoted charset c rest ≡ false
+        → ends_closed closed (c ∷ rest) ≡ true → LinesEven kind rest text
+        → LinesEven before (c ∷ rest) (step_text written folds indent before kind c rest ++ text)
+    step_even folds before spaces c rest text k clean ends ih =
+        let s : is_space c ≡ true = spaces_only (is_space c) (is_break c) k in
+        let parts = or_parts _ _ (or_parts _ _ clean).0 in
+        let unbroken : begins_with is_break rest ≡ false = sym (ap (λ (b : Bool). b && begins_with is_break rest) s) ∙ parts.1 in
+        rw (eqb-true c space s) (space_step folds before rest text unbroken ih)
+    step_even folds before breaks c rest text k clean ends ih =
+        let b : is_break c ≡ true = breaks_only (is_space c) (is_break c) k in
+        let parts = or_parts _ _ clean in
+        let special = (or_parts _ _ parts.0).0 in
+        let brk : is_read_break charset.breaks12 c ≡ true = (ordinary charset c special).same_break ∙ b in
+        let unspaced : begins_with is_space rest ≡ false = sym (ap (λ (b : Bool). b && begins_with is_space rest) b) ∙ parts.1 in
+        let first = if c == line_feed && not (is_same_kind before breaks) then line_feed ∷ [] else [] in
+        let run = if begins_kind breaks rest then [] else indentation indent in
+        rw (append_assoc first (c ∷ run) text)
+        (break_doubled (c == line_feed && not (is_same_kind before breaks)) before c rest (run ++ text) k brk
+        (break_line (begins_kind breaks rest) before c rest text k brk refl
+        (λ over. next_other closed rest (kind_no_space rest unspaced) over (closed_break closed c rest ends b)) ih))
+    step_even folds before others c rest text k clean ends ih =
+        let special = (or_parts _ _ (or_parts _ _ clean).0).0 in
+        let ink = ink_of c special k in
+        other_begins before c rest (written (c ∷ [])) text k (each.inks c ink) (each.begins c text ink) ih
+
+    -- the lines of a value that quotes may hold
+    lines_even : (limit : Option ℕ) (before : Kind) (value : Text) (cursor : Cursor) → somewhere (bars_single_quoted charset) value ≡ false
+        → ends_closed closed value ≡ true → LinesEven before value ((steps_laid written limit indent before value cursor).text ++ ending_quote closed)
+    lines_even limit before [] cursor clean ends = lines_end before
+    lines_even limit before (c ∷ rest) cursor clean ends =
+        let folds = is_past_width limit cursor in
+        let step = step_text written folds indent before (kind_of c) c rest in
+        let later = (text_laid step cursor).cursor in
+        let more = (steps_laid written limit indent (kind_of c) rest later).text in
+        let parts = or_parts (bars_single_quoted charset c rest) (somewhere (bars_single_quoted charset) rest) clean in
+        rw (append_assoc step more (ending_quote closed))
+        (step_even folds before (kind_of c) c rest (more ++ ending_quote closed) refl parts.0 ends
+        (lines_even limit (kind_of c) rest later parts.1 (closed_rest closed c rest ends)))
+
+-- Single quotes.
+
+doubled_inks : (breaks12 : Bool) (c : ℕ) → Ink breaks12 c → AllInk breaks12 (quotes_doubled (c ∷ []))
+doubled_inks breaks12 c ink = by (c == 39)
+  where
+    by : (quote : Bool) → AllInk breaks12 ((if quote then 39 ∷ 39 ∷ [] else c ∷ []) ++ [])
+    by true = (quote_ink breaks12, (quote_ink breaks12, tt))
+    by false = (ink, tt)
+
+doubled_begins : (breaks12 : Bool) (c : ℕ) (text : Text) → Ink breaks12 c → BeginsInk breaks12 (quotes_doubled (c ∷ []) ++ text)
+doubled_begins breaks12 c text ink = by (c == 39)
+  where
+    by : (quote : Bool) → BeginsInk breaks12 (((if quote then 39 ∷ 39 ∷ [] else c ∷ []) ++ []) ++ text)
+    by true = quote_ink breaks12
+    by false = ink
+
+ends_always : (value : Text) → ends_closed true value ≡ true
+ends_always [] = refl
+ends_always (c ∷ []) = refl
+ends_always (c ∷ d ∷ rest) = ends_always (d ∷ rest)
+
+-- a single-quoted body: its lines are deep, and no space stands before a break
+pub single_even : (charset : Charset) (count : ℕ) (limit : Option ℕ) (indent : ℕ) (value : Text) (cursor : Cursor) → count ≤ indent
+    → allows_single_quoted charset value ≡ true → IsEven charset.breaks12 count (single_quoted_body limit indent value cursor).text
+single_even charset count limit indent value cursor enough allowed =
+    let after = (single_quote cursor).cursor in
+    let each : InksEach charset count indent enough true quotes_doubled = record { inks = doubled_inks charset.breaks12; begins = doubled_begins charset.breaks12 } in
+    let inside = lines_even charset count indent enough true quotes_doubled each limit spaces value after (not-true _ allowed) (ends_always value) in
+    rw (runs_by_steps quotes_doubled doubled_writes limit indent value after)
+    (even_ink charset.breaks12 count (39 ∷ []) _ (quote_ink charset.breaks12, tt) inside.is_even)
+
+-- Plain.
+
+-- a value that plain text may hold has no break, so it ends with none
+plain_ends : (charset : Charset) (flow : Bool) (value : Text) → somewhere (bars_plain charset flow) value ≡ false → ends_closed false value ≡ true
+plain_ends charset flow [] h = refl
+plain_ends charset flow (c ∷ []) h =
+    ap not (or_parts _ _ (or_parts _ _ (or_parts _ _ (or_parts _ _ (or_parts _ _ h).0).0).0).0).1
+plain_ends charset flow (c ∷ d ∷ rest) h = plain_ends charset flow (d ∷ rest) (or_parts _ _ h).1
+
+-- a plain body: its lines are deep, and no space stands before a break
+pub plain_even : (charset : Charset) (flow : Bool) (count : ℕ) (limit : Option ℕ) (indent : ℕ) (value : Text) (cursor : Cursor) → count ≤ indent
+    → allows_plain charset flow value ≡ true → IsEven charset.breaks12 count (plain_body limit indent value cursor).text
+plain_even charset flow count limit indent value cursor enough allowed =
+    let bars = plain_bars charset flow value allowed in
+    let each : InksEach charset count indent enough false (λ text. text) = record { inks = λ c ink. (ink, tt); begins = λ c text ink. ink } in
+    let text = (steps_laid (λ text. text) limit indent spaces value cursor).text in
+    let lines = lines_even charset count indent enough false (λ text. text) each limit spaces value cursor (plain_is_single charset flow value bars) (plain_ends charset flow value bars) in
+    rw (runs_by_steps (λ text. text) itself_writes limit indent value cursor) (subst (IsEven charset.breaks12 count) (append-nil text) lines.is_even)
+
+-- a text that isn't empty ends as what it ends with
+ends_append : (breaks12 : Bool) (front : Text) (c : ℕ) (rest : Text) → ends_white breaks12 (front ++ c ∷ rest) ≡ ends_white breaks12 (c ∷ rest)
+ends_append breaks12 [] c rest = refl
+ends_append breaks12 (x ∷ []) c rest = refl
+ends_append breaks12 (x ∷ y ∷ front) c rest = ends_append breaks12 (y ∷ front) c rest
+
+-- some text that ends with no blank and no break
+record EndsInk (breaks12 : Bool) (text : Text) : Type 0 where
+  pub first : ℕ
+  pub more : Text
+  pub is : text ≡ first ∷ more
+  pub ends : ends_white breaks12 text ≡ false
+
+ends_after : (breaks12 : Bool) (front text : Text) (c : ℕ) (rest : Text) → front ≡ c ∷ rest → EndsInk breaks12 text → EndsInk breaks12 (front ++ text)
+ends_after breaks12 front text c rest e h = record {
+  first = c;
+  more = rest ++ text;
+  is = ap (λ (t : Text). t ++ text) e;
+  ends = ap (λ (t : Text). ends_white breaks12 (front ++ t)) h.is ∙ ends_append breaks12 front h.first h.more ∙ ap (ends_white breaks12) (sym h.is) ∙ h.ends;
+}
+
+-- a step of plain text holds a character
+step_some : (folds : Bool) (indent : ℕ) (before kind : Kind) (c : ℕ) (rest : Text)
+    → (first : ℕ) × (more : Text) × (step_text (λ t. t) folds indent before kind c rest ≡ first ∷ more)
+step_some folds indent before spaces c rest = by (folds && not (is_same_kind before spaces || (is_empty rest || begins_kind spaces rest)))
+  where
+    by : (fold : Bool) → (first : ℕ) × (more : Text) × ((if fold then line_feed ∷ indentation indent else c ∷ []) ≡ first ∷ more)
+    by true = (line_feed, indentation indent, refl)
+    by false = (c, [], refl)
+step_some folds indent before breaks c rest = by (c == line_feed && not (is_same_kind before breaks))
+  where
+    by : (twice : Bool) → (first : ℕ) × (more : Text) × (((if twice then line_feed ∷ [] else []) ++ (c ∷ (if begins_kind breaks rest then [] else indentation indent))) ≡ first ∷ more)
+    by true = (line_feed, c ∷ (if begins_kind breaks rest then [] else indentation indent), refl)
+    by false = (c, (if begins_kind breaks rest then [] else indentation indent), refl)
+step_some folds indent before others c rest = (c, [], refl)
+
+-- a character of plain text that is no space is no blank and no break
+plain_white : (charset : Charset) (flow : Bool) (c : ℕ) (rest : Text) → bars_plain charset flow c rest ≡ false → is_space c ≡ false → is_read_white charset.breaks12 c ≡ false
+plain_white charset flow c rest h s =
+    let parts = or_parts _ _ (or_parts _ _ (or_parts _ _ (or_parts _ _ h).0).0).0 in
+    let o = ordinary charset c parts.0 in
+    or_from _ _ (o.same_blank ∙ s) (o.same_break ∙ parts.1)
+
+-- the last character of plain text is no space
+plain_last : (charset : Charset) (flow : Bool) (c : ℕ) → bars_plain charset flow c [] ≡ false → is_space c ≡ false
+plain_last charset flow c h =
+    let parts = or_parts _ _ (or_parts _ _ (or_parts _ _ h).0).0 in
+    by (is_space c) parts.1
+  where
+    by : (s : Bool) → (s && true) ≡ false → s ≡ false
+    by true e = e
+    by false e = refl
+
+kind_others : (s b : Bool) → s ≡ false → b ≡ false → (if s then spaces else if b then breaks else others) ≡ others
+kind_others true b e f = absurd (true≢false e)
+kind_others false true e f = absurd (true≢false f)
+kind_others false false e f = refl
+
+plain_kind : (charset : Charset) (flow : Bool) (c : ℕ) (rest : Text) → bars_plain charset flow c rest ≡ false → is_space c ≡ false → kind_of c ≡ others
+plain_kind charset flow c rest h s =
+    kind_others (is_space c) (is_break c) s (or_parts _ _ (or_parts _ _ (or_parts _ _ (or_parts _ _ h).0).0).0).1
+
+-- a value's lines end as the value does
+lines_end_ink : (charset : Charset) (flow : Bool) (limit : Option ℕ) (indent : ℕ) (before : Kind) (c : ℕ) (rest : Text) (cursor : Cursor)
+    → somewhere (bars_plain charset flow) (c ∷ rest) ≡ false → EndsInk charset.breaks12 (steps_laid (λ t. t) limit indent before (c ∷ rest) cursor).text
+lines_end_ink charset flow limit indent before c [] cursor h =
+    let bars = (or_parts _ _ h).0 in
+    let s = plain_last charset flow c bars in
+    let k = plain_kind charset flow c [] bars s in
+    let white = plain_white charset flow c [] bars s in
+    rw k (record { first = c; more = []; is = refl; ends = white })
+lines_end_ink charset flow limit indent before c (d ∷ rest) cursor h =
+    let folds = is_past_width limit cursor in
+    let step = step_text (λ t. t) folds indent before (kind_of c) c (d ∷ rest) in
+    let some = step_some folds indent before (kind_of c) c (d ∷ rest) in
+    ends_after charset.breaks12 step _ some.0 some.1 some.2
+    (lines_end_ink charset flow limit indent (kind_of c) d rest (text_laid step cursor).cursor (or_parts _ _ h).1)
+
+edges_of : (breaks12 : Bool) (c : ℕ) (rest : Text) → is_read_white breaks12 c ≡ false → ends_white breaks12 (c ∷ rest) ≡ false → has_clean_edges breaks12 (c ∷ rest) ≡ true
+edges_of breaks12 c rest h k = and_from _ _ (ap not h) (ap not k)
+
+lines_edges : (charset : Charset) (flow : Bool) (limit : Option ℕ) (indent : ℕ) (value : Text) (cursor : Cursor) → somewhere (bars_plain charset flow) value ≡ false
+    → begins_unlike_plain value ≡ false → has_clean_edges charset.breaks12 (steps_laid (λ t. t) limit indent spaces value cursor).text ≡ true
+lines_edges charset flow limit indent [] cursor h begins = refl
+lines_edges charset flow limit indent (c ∷ rest) cursor h begins =
+    let bars = (or_parts _ _ h).0 in
+    let s : is_space c ≡ false = (or_parts _ _ (or_parts _ _ (or_parts _ _ begins).0).0).0 in
+    let k = plain_kind charset flow c rest bars s in
+    let ends = (lines_end_ink charset flow limit indent spaces c rest cursor h).ends in
+    let more = (steps_laid (λ t. t) limit indent others rest (text_laid (c ∷ []) cursor).cursor).text in
+    rw k (edges_of charset.breaks12 c more (plain_white charset flow c rest bars s) (rw k at ends))
+
+-- a plain body has no blank and no break at its edges
+pub plain_edges : (charset : Charset) (flow : Bool) (limit : Option ℕ) (indent : ℕ) (value : Text) (cursor : Cursor) → allows_plain charset flow value ≡ true
+    → has_clean_edges charset.breaks12 (plain_body limit indent value cursor).text ≡ true
+plain_edges charset flow limit indent value cursor allowed =
+    rw (runs_by_steps (λ text. text) itself_writes limit indent value cursor)
+    (lines_edges charset flow limit indent value cursor (plain_bars charset flow value allowed) (plain_begins charset flow value allowed))
