@@ -9,3 +9,4 @@ pub mod NewLines
 pub mod Columns
 pub mod CharacterStarts
 pub mod AsciiRuns
+pub mod Spaces

@@ -7,6 +7,7 @@ ghost use Rattle.yaml_base.specs.Cursor.{next_column};
 use yaml_base::is_break;
 
 /// The column after a character.
+#[inline(always)]
 pub(crate) fn next_column(character: char, column: u32) -> u32
     ensures { (unbounded : ℕ) → column ≡ min unbounded 4294967295 → result ≡ min (next_column character unbounded) 4294967295 }
 {

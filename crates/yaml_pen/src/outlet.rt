@@ -107,7 +107,7 @@ impl<A: Allocator> Outlet<A> {
     }
 
     /// Appends bytes whole, or none of them where the flush that makes room for them fails.
-    #[inline]
+    #[inline(always)]
     pub(crate) fn append(&mut self, bytes: &[u8]) -> Result<(), yaml_error_t>
         requires { length bytes.now ≤ 16384 }
         ensures { Appended bytes.now self.old self.new result }
@@ -135,7 +135,7 @@ impl<A: Allocator> Outlet<A> {
     }
 
     // One byte is a store.
-    #[inline]
+    #[inline(always)]
     fn push(&mut self, byte: u8) -> Result<(), yaml_error_t>
         ensures { Appended (byte ∷ []) self.old self.new result }
     {

@@ -18,6 +18,9 @@ use std::alloc::Allocator;
 use std::marker::Model;
 use yaml_base::{yaml_break_t, yaml_encoding_t, yaml_error_t};
 
+/// So many spaces are written at once.
+const MOST_SPACES: u32 = 64;
+
 /// Writes characters in an encoding through a buffer of 16,384 bytes to an output that it owns, and
 /// keeps the cursor. A call that writes, or a flush, answers `WriteError` where the encoded text passes
 /// the limit, `Memory` where a growth is refused, and the first of these from then on.
@@ -174,6 +177,7 @@ impl<A: Allocator> Pen<A> {
     }
 
     /// Writes a character of ASCII that is no break.
+    #[inline]
     pub fn put(&mut self, character: u8) -> Result<(), yaml_error_t>
         requires ready { IsReady self.old }
         requires ascii { character < 128 }
@@ -191,7 +195,9 @@ impl<A: Allocator> Pen<A> {
         ensures written { Wrote (text_laid (chars text.now)) self.old self.new result }
         ensures stays { IsSome self.old.error → self.new ≡ self.old }
     {
-        if has_mark(self.encoding) {
+        if text.is_empty() {
+            self.go_on()
+        } else if has_mark(self.encoding) {
             self.write_characters(text)
         } else {
             self.write_pieces(text)
@@ -333,6 +339,29 @@ impl<A: Allocator> Pen<A> {
         ensures written { Wrote (text_laid (replicate count space)) self.old self.new result }
         ensures stays { IsSome self.old.error → self.new ≡ self.old }
     {
+        if count <= MOST_SPACES {
+            self.write_few_spaces(count)
+        } else {
+            self.write_many_spaces(count)
+        }
+    }
+
+    fn write_few_spaces(&mut self, count: u32) -> Result<(), yaml_error_t>
+        requires ready { IsReady self.old }
+        requires few { count ≤ 64 }
+        ensures written { Wrote (text_laid (replicate count space)) self.old self.new result }
+        ensures stays { IsSome self.old.error → self.new ≡ self.old }
+    {
+        let spaces = [b' '; 64];
+        self.write_ascii(&spaces[..count as usize])
+    }
+
+    // One space after another.
+    fn write_many_spaces(&mut self, count: u32) -> Result<(), yaml_error_t>
+        requires ready { IsReady self.old }
+        ensures written { Wrote (text_laid (replicate count space)) self.old self.new result }
+        ensures stays { IsSome self.old.error → self.new ≡ self.old }
+    {
         self.go_on()?;
         for written in 0..count {
             self.write_character(' ')?;
@@ -341,6 +370,7 @@ impl<A: Allocator> Pen<A> {
     }
 
     // A space, where one is needed and none stands there.
+    #[inline]
     fn separate(&mut self, need_whitespace: bool) -> Result<(), yaml_error_t>
         requires ready { IsReady self.old }
         ensures written { Wrote (λ cursor. text_laid (space_if need_whitespace cursor) cursor) self.old self.new result }
@@ -386,6 +416,7 @@ impl<A: Allocator> Pen<A> {
         self.write_piece(rest)
     }
 
+    #[inline]
     fn write_piece(&mut self, text: &str) -> Result<(), yaml_error_t>
         requires ready { IsReady self.old }
         requires unmarked { has_mark self.old.encoding ≡ false }
@@ -414,6 +445,7 @@ impl<A: Allocator> Pen<A> {
     }
 
     // In UTF-8 each is its byte.
+    #[inline]
     fn write_ascii_bytes(&mut self, text: &[u8]) -> Result<(), yaml_error_t>
         requires ready { IsReady self.old }
         requires unmarked { has_mark self.old.encoding ≡ false }
@@ -429,6 +461,7 @@ impl<A: Allocator> Pen<A> {
     }
 
     // Nothing is written, and the error of a pen that failed is told.
+    #[inline]
     fn go_on(&self) -> Result<(), yaml_error_t>
         requires { IsReady self.now }
         ensures { Wrote nothing_laid self.now self.now result }
@@ -439,6 +472,7 @@ impl<A: Allocator> Pen<A> {
         }
     }
 
+    #[inline]
     fn write_character(&mut self, character: char) -> Result<(), yaml_error_t>
         requires ready { IsReady self.old }
         requires not_line_feed { (character == line_feed) ≡ false }

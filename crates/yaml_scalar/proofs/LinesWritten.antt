@@ -88,11 +88,11 @@ pub wrote_step :
 wrote_step written limit indent kind c rest {text} {before} {after} {answer} is wrote =
     wrote_as (step_laid written limit indent kind c rest) (ap (λ (t : Text). text_laid t before.cursor) is) wrote
 
--- lines of a value of which some are left to be written, after a character of a kind
+-- lines of a value, after a character of a kind, of which some are left to be written, after another
 abbrev pub LinesLeft :
-    (written : Text → Text) (limit : Option ℕ) (indent : ℕ) (value left : Text) (kind : Kind) (before now : Page) → Type 0
-LinesLeft written limit indent value left kind before now =
-    StillToWrite (steps_laid written limit indent kind left) (steps_laid written limit indent spaces value) before now
+    (written : Text → Text) (limit : Option ℕ) (indent : ℕ) (first : Kind) (value left : Text) (kind : Kind) (before now : Page) → Type 0
+LinesLeft written limit indent first value left kind before now =
+    StillToWrite (steps_laid written limit indent kind left) (steps_laid written limit indent first value) before now
 
 -- both ways of writing go character by character
 pub written_each : (quoted : Bool) → WritesEach (written_as quoted)

@@ -39,20 +39,51 @@ pub character_still : (layout : Text → Cursor → Laid) {whole : Cursor → La
 character_still layout c old new rest is_text e same still =
     still_same layout (chars_past_char old rest c is_text (e ∙ ap (λ l. encode_utf8 c ++ l) (sym same))) still
 
+-- in a layout of what follows a character, a run stands for itself at a cursor
+pub record RunStands (after : ℕ → Text → Cursor → Laid) (run : Text) (cursor : Cursor) : Type 0 where
+  pub stands : (before : ℕ) (rest : Text) → after before (run ++ rest) cursor ≡ then_laid (text_laid run cursor) (after (last_from before run) rest)
+
+-- so does one whose characters each do
+each_stands : {after : ℕ → Text → Cursor → Laid} {test : ℕ → Bool} {cursor : Cursor} {before last size : ℕ} {bytes run : List ℕ}
+    → StandAlone after test cursor → IsRun test before bytes size last → run ≡ take size bytes → RunStands after (chars run) cursor
+each_stands {after} {test} {cursor} {before} {last} {size} {bytes} {run} alone is front =
+    record {
+      stands = λ before rest. run_at alone before (chars run) rest cursor.column (ap (λ l. list_all test (chars l)) front ∙ is.all);
+    }
+
 -- before a run it is the run, and what follows it
 run_still : (after : ℕ → Text → Cursor → Laid) {test : ℕ → Bool} {whole : Cursor → Laid} {before last size : ℕ} {bytes run rest : List ℕ} {start here : Page}
-    → StandAlone after test here.cursor
+    → RunStands after (chars run) here.cursor
     → IsUtf8 bytes → IsRun test before bytes size last → run ≡ take size bytes → rest ≡ drop size bytes
     → StillToWrite (after before (chars bytes)) whole start here
     → StillToWrite (λ cursor. then_laid (text_laid (chars run) cursor) (after last (chars rest))) whole start here
 run_still after {test} {whole} {before} {last} {size} {bytes} {run} {rest} {start} {here} alone is_text is front behind still =
-    let all : list_all test (chars run) ≡ true = ap (λ l. list_all test (chars l)) front ∙ is.all in
     let last_is : last_from before (chars run) ≡ last = ap (λ l. last_from before (chars l)) front ∙ sym is.last_is in
     still_as (λ cursor. then_laid (text_laid (chars run) cursor) (after last (chars rest)))
     (ap (λ t. after before t here.cursor) (chars-cut bytes run rest size is_text is.boundary front behind)
-    ∙ run_at alone before (chars run) (chars rest) here.cursor.column all
+    ∙ alone.stands before (chars rest)
     ∙ ap (λ c. then_laid (text_laid (chars run) here.cursor) (after c (chars rest))) last_is)
     still
+
+-- a run that stands for itself and was written leaves what follows it
+pub standing_more : (after : ℕ → Text → Cursor → Laid) {test : ℕ → Bool} {whole : Cursor → Laid} {before last size : ℕ} {bytes run rest : List ℕ} {start here later : Page}
+    → RunStands after (chars run) here.cursor
+    → IsUtf8 bytes → IsRun test before bytes size last → run ≡ take size bytes → rest ≡ drop size bytes
+    → StillToWrite (after before (chars bytes)) whole start here
+    → Wrote (text_laid (chars run)) here later (Ok tt)
+    → StillToWrite (after last (chars rest)) whole start later
+standing_more after stands is_text is front behind still wrote =
+    still_rest (run_still after stands is_text is front behind still) wrote
+
+-- one that failed ends it
+pub standing_failed : (after : ℕ → Text → Cursor → Laid) {test : ℕ → Bool} {whole : Cursor → Laid} {before last size : ℕ} {bytes run : List ℕ} (rest : List ℕ) {start here later : Page} {error : yaml_error_t}
+    → RunStands after (chars run) here.cursor
+    → IsUtf8 bytes → IsRun test before bytes size last → run ≡ take size bytes → rest ≡ drop size bytes
+    → StillToWrite (after before (chars bytes)) whole start here
+    → Wrote (text_laid (chars run)) here later (Err error)
+    → Wrote whole start later (Err error)
+standing_failed after {test} {whole} {before} {last} rest stands is_text is front behind still wrote =
+    still_failed (after last (chars rest)) (run_still after stands is_text is front behind still) wrote
 
 -- a run that was written leaves what follows it
 pub run_more : (after : ℕ → Text → Cursor → Laid) {test : ℕ → Bool} {whole : Cursor → Laid} {before last size : ℕ} {bytes run rest : List ℕ} {start here later : Page}
@@ -62,7 +93,7 @@ pub run_more : (after : ℕ → Text → Cursor → Laid) {test : ℕ → Bool} 
     → Wrote (text_laid (chars run)) here later (Ok tt)
     → StillToWrite (after last (chars rest)) whole start later
 run_more after alone is_text is front behind still wrote =
-    still_rest (run_still after alone is_text is front behind still) wrote
+    standing_more after (each_stands alone is front) is_text is front behind still wrote
 
 -- a run that failed ends it
 pub run_failed : (after : ℕ → Text → Cursor → Laid) {test : ℕ → Bool} {whole : Cursor → Laid} {before last size : ℕ} {bytes run : List ℕ} (rest : List ℕ) {start here later : Page} {error : yaml_error_t}
@@ -71,8 +102,8 @@ pub run_failed : (after : ℕ → Text → Cursor → Laid) {test : ℕ → Bool
     → StillToWrite (after before (chars bytes)) whole start here
     → Wrote (text_laid (chars run)) here later (Err error)
     → Wrote whole start later (Err error)
-run_failed after {test} {whole} {before} {last} rest alone is_text is front behind still wrote =
-    still_failed (after last (chars rest)) (run_still after alone is_text is front behind still) wrote
+run_failed after rest alone is_text is front behind still wrote =
+    standing_failed after rest (each_stands alone is front) is_text is front behind still wrote
 
 -- at the end nothing is left
 pub end_still : (layout : Text → Cursor → Laid) {whole : Cursor → Laid} (old : List ℕ) {start here : Page}

@@ -1,14 +1,20 @@
 -- A character that stays in its line is laid out as itself.
-use Rattle.std.proofs.Common.{◌≡◌, refl, ap}
-use Rattle.std.proofs.lemmas.Bool.{not-true, or_parts}
-use Rattle.std.specs.Prelude.{ℕ, Bool, true, false, Option, None, Some, [], ◌∷◌, ◌==◌, ◌||◌, ◌&&◌, if◌then◌else◌}
+use Rattle.std.proofs.Common.{◌≡◌, ◌∙◌, refl, ap, arith, subst, sym, IsUtf8}
+use Rattle.std.proofs.lemmas.Bool.{and_parts, not-true, or_parts}
+use Rattle.std.proofs.lemmas.Bool.Decides.{nat_tests}
+use Rattle.std.proofs.lemmas.List.{length-take-le}
+use Rattle.std.proofs.lemmas.Str.{IsUtf8-take, encodes-chars, length-le-encodes}
+use Rattle.std.specs.List.{list_all}
+use Rattle.std.specs.Str.{IsCharBoundary, chars}
+use lib.Utf8.{encodes}
+use Rattle.std.specs.Prelude.{ℕ, zero, suc, Bool, true, false, Option, None, Some, List, [], ◌∷◌, ◌++◌, ◌==◌, ◌||◌, ◌&&◌, ◌+◌, ◌<◌, ◌≤◌, length, take, if◌then◌else◌}
 use Rattle.yaml_base.specs.Characters.{Text, is_break, is_space}
-use Rattle.yaml_base.specs.Cursor.{Cursor, Laid, is_past_width, text_laid, then_laid}
+use Rattle.yaml_base.specs.Cursor.{Cursor, Laid, is_past_width, next_column, text_laid, then_laid}
 use Rattle.yaml_base.specs.Plain.{Kind, spaces, breaks, others, kind_of}
 use Rattle.yaml_scalar.specs.LineSteps.{step_text, steps_laid, written_as}
-use Rattle.yaml_scalar.specs.WholeRuns.{has_limit, stays_in_line}
+use Rattle.yaml_scalar.specs.WholeRuns.{HasRoom, IsLineRun, last_from, stays_in_line}
 use Rattle.yaml_scalar.proofs.LinesWritten.{written_each}
-use Rattle.yaml_scalar.proofs.RunsWritten.{StandAlone}
+use Rattle.yaml_scalar.proofs.RunsWritten.{RunStands}
 
 -- it is no break, no space that may become a fold, and no quote that is doubled
 pub record Stays (folds quotes : Bool) (c : ℕ) : Type 0 where
@@ -30,23 +36,77 @@ other_kept : (quoted : Bool) (c : ℕ) → (quoted && c == 39) ≡ false → wri
 other_kept true c e = (written_each true).kept c e
 other_kept false c e = refl
 
-step_kept : (quoted : Bool) (limit : Option ℕ) (indent : ℕ) (before : Kind) (c : ℕ) (rest : Text) (cursor : Cursor) (is_space is_break : Bool)
-    → is_break ≡ false → (is_space && has_limit limit) ≡ false → (quoted && c == 39) ≡ false
-    → step_text (written_as quoted) (is_past_width limit cursor) indent before (if is_space then spaces else if is_break then breaks else others) c rest ≡ c ∷ []
-step_kept quoted None indent before c rest cursor true broken e f g = refl
-step_kept quoted (Some width) indent before c rest cursor true broken e f g = cc
-step_kept quoted limit indent before c rest cursor false true e f g = cc
-step_kept quoted limit indent before c rest cursor false false e f g = other_kept quoted c g
+step_kept : (quoted past : Bool) (indent : ℕ) (before : Kind) (c : ℕ) (rest : Text) (is_space is_break : Bool)
+    → is_break ≡ false → (is_space && past) ≡ false → (quoted && c == 39) ≡ false
+    → step_text (written_as quoted) past indent before (if is_space then spaces else if is_break then breaks else others) c rest ≡ c ∷ []
+step_kept quoted false indent before c rest true broken e f g = refl
+step_kept quoted true indent before c rest true broken e f g = cc
+step_kept quoted past indent before c rest false true e f g = cc
+step_kept quoted past indent before c rest false false e f g = other_kept quoted c g
 
 -- what follows a character in plain and single-quoted lines
 abbrev pub lines_after : (quoted : Bool) (limit : Option ℕ) (indent : ℕ) → ℕ → Text → Cursor → Laid
 lines_after quoted limit indent before = steps_laid (written_as quoted) limit indent (kind_of before)
 
-pub lines_alone : (quoted : Bool) (limit : Option ℕ) (indent : ℕ) (cursor : Cursor) → StandAlone (lines_after quoted limit indent) (stays_in_line (has_limit limit) quoted) cursor
-lines_alone quoted limit indent cursor =
+-- a space of a run is not past the width
+unpast : (folds is_space past : Bool) → (is_space && folds) ≡ false → (folds ≡ false → past ≡ false) → (is_space && past) ≡ false
+unpast folds false past h room = refl
+unpast true true past h room = cc
+unpast false true past h room = room refl
+
+-- where there is room the cursor is not past the width
+room_past : (limit : Option ℕ) (cursor : Cursor) (count : ℕ) → HasRoom limit cursor.column (suc count) → is_past_width limit cursor ≡ false
+room_past None cursor count h = refl
+room_past (Some width) cursor count h = grind (arith, nat_tests)
+
+-- after a character there is room for the others
+room_next : (limit : Option ℕ) (column count : ℕ) → HasRoom limit column (suc count) → HasRoom limit (column + 1) count
+room_next None column count h = tt
+room_next (Some width) column count h = omega arith
+
+-- a number that isn't 0
+pub positive : (n : ℕ) → (n ≡ 0 → ⊥) → 0 < n
+positive zero h = absurd (h refl)
+positive (suc n) h = omega arith
+
+-- where there is room for some characters, there is for fewer
+pub room_less : (limit : Option ℕ) (column count less : ℕ) → less ≤ count → HasRoom limit column count → HasRoom limit column less
+room_less None column count less le h = tt
+room_less (Some width) column count less le h = omega arith
+
+-- characters that stay, with room for them or no space among them, are laid out as themselves
+line_at : (quoted : Bool) (limit : Option ℕ) (indent : ℕ) (folds : Bool) (before : ℕ) (run rest : Text) (cursor : Cursor)
+    → list_all (stays_in_line folds quoted) run ≡ true → (folds ≡ false → HasRoom limit cursor.column (length run))
+    → lines_after quoted limit indent before (run ++ rest) cursor ≡ then_laid (text_laid run cursor) (lines_after quoted limit indent (last_from before run) rest)
+line_at quoted limit indent folds before [] rest cursor h room = refl
+line_at quoted limit indent folds before (c ∷ run) rest cursor h room =
+    let p = and_parts (stays_in_line folds quoted c) (list_all (stays_in_line folds quoted) run) h in
+    let is = stays_parts folds quoted c p.0 in
+    let past = is_past_width limit cursor in
+    let kept = step_kept quoted past indent (kind_of before) c (run ++ rest) (is_space c) (is_break c) is.no_break
+    (unpast folds (is_space c) past is.no_fold (λ e. room_past limit cursor (length run) (room e))) is.no_quote in
+    let next : Cursor = record cursor { column = next_column c cursor.column } in
+    let column : next_column c cursor.column ≡ cursor.column + 1 = ap (λ (b : Bool). if b then 0 else cursor.column + 1) is.no_break in
+    ap (λ (t : Text). then_laid (text_laid t cursor) (steps_laid (written_as quoted) limit indent (kind_of c) (run ++ rest))) kept
+    ∙ ap (λ (l : Laid). let m : Laid = record { text = c ∷ l.text; cursor = l.cursor } in m)
+    (line_at quoted limit indent folds c run rest next p.1
+    (λ e. subst (λ n. HasRoom limit n (length run)) (sym column) (room_next limit cursor.column (length run) (room e))))
+
+-- a run of a line has at most as many characters as bytes
+few_characters : (bytes : List ℕ) (size : ℕ) → IsUtf8 bytes → IsCharBoundary bytes size → length (chars (take size bytes)) ≤ size
+few_characters bytes size is_text boundary =
+    let is = IsUtf8-take bytes size is_text boundary in
+    let same : length (encodes (chars (take size bytes))) ≡ length (take size bytes) = ap length (encodes-chars (take size bytes) is) in
+    omega (arith, length-le-encodes (chars (take size bytes)), same, length-take-le size bytes boundary.0)
+
+-- so a run of a line stands for itself
+pub line_stands : (quoted : Bool) (limit : Option ℕ) (indent : ℕ) (cursor : Cursor) {before last size : ℕ} {bytes run : List ℕ}
+    → IsUtf8 bytes → (is : IsLineRun limit quoted cursor before bytes size last) → run ≡ take size bytes
+    → RunStands (lines_after quoted limit indent) (chars run) cursor
+line_stands quoted limit indent cursor {before} {last} {size} {bytes} {run} is_text is front =
+    let few : length (chars run) ≤ size = subst (λ l. length (chars l) ≤ size) (sym front) (few_characters bytes size is_text is.run.boundary) in
     record {
-      stands = λ before c rest column h.
-          let is = stays_parts (has_limit limit) quoted c h in
-          ap (λ (t : Text). then_laid (text_laid t (record cursor { column = column })) (steps_laid (written_as quoted) limit indent (kind_of c) rest))
-          (step_kept quoted limit indent (kind_of before) c rest (record cursor { column = column }) (is_space c) (is_break c) is.no_break is.no_fold is.no_quote);
+      stands = λ before rest.
+          line_at quoted limit indent is.folds before (chars run) rest cursor (ap (λ l. list_all (stays_in_line is.folds quoted) (chars l)) front ∙ is.run.all)
+          (λ e. room_less limit cursor.column size (length (chars run)) few (is.room e));
     }

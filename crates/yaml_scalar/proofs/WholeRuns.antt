@@ -1,10 +1,11 @@
 -- Runs of characters: the empty one, their last characters, and that they hold no break.
-use Rattle.std.proofs.Common.{◌≡◌, refl, sym, ap, ◌∙◌, IsUtf8}
+use Rattle.std.proofs.Common.{◌≡◌, refl, sym, ap, ◌∙◌, arith, subst, IsUtf8}
 use Rattle.std.proofs.lemmas.Bool.{and_parts}
-use Rattle.std.proofs.lemmas.Str.{IsCharBoundary-start, chars-nil}
+use Rattle.std.proofs.lemmas.List.{length-take-le, take-take}
+use Rattle.std.proofs.lemmas.Str.{IsCharBoundary-from_take, IsCharBoundary-start, IsUtf8-take, chars-nil}
 use Rattle.std.specs.List.{list_all, list_any}
-use Rattle.std.specs.Prelude.{ℕ, Bool, Option, None, Some, true, false, List, [], ◌∷◌, ◌++◌, ◌||◌, ◌&&◌, take}
-use Rattle.std.specs.Str.{chars}
+use Rattle.std.specs.Prelude.{ℕ, Bool, Option, None, Some, true, false, List, [], ◌∷◌, ◌++◌, ◌||◌, ◌&&◌, ◌≤◌, length, take}
+use Rattle.std.specs.Str.{IsCharBoundary, chars}
 use Rattle.yaml_base.specs.Characters.{Text, is_break}
 use Rattle.yaml_scalar.specs.WholeRuns.{IsRun, has_limit, last_from}
 
@@ -35,3 +36,17 @@ no_fold past none false other limit h = refl
 no_fold past none true false limit h = refl
 no_fold past none true true None h = none
 no_fold past none true true (Some width) h = cc
+
+-- a run of a front of a text is one of the text
+pub run_in_front : (test : ℕ → Bool) (before : ℕ) (text front : List ℕ) (place size last : ℕ) → IsUtf8 text → IsCharBoundary text place → front ≡ take place text
+    → IsRun test before front size last → IsRun test before text size last
+run_in_front test before text front place size last is_text boundary e is =
+    let within : length front ≡ place = ap length e ∙ length-take-le place text boundary.0 in
+    let few : size ≤ place = omega (arith, within, is.boundary.0) in
+    let same : take size front ≡ take size text = ap (take size) e ∙ take-take size place text few in
+    let front_text : IsUtf8 front = subst IsUtf8 (sym e) (IsUtf8-take text place is_text boundary) in
+    record {
+      boundary = IsCharBoundary-from_take text size is_text (omega (arith, few, boundary.0)) (subst IsUtf8 same (IsUtf8-take front size front_text is.boundary));
+      all = ap (λ l. list_all test (chars l)) (sym same) ∙ is.all;
+      last_is = is.last_is ∙ ap (λ l. last_from before (chars l)) same;
+    }

@@ -1,8 +1,9 @@
 -- Runs of characters that are written whole.
-use Rattle.std.specs.Prelude.{◌≡◌, ℕ, Bool, true, false, Option, None, Some, List, [], ◌∷◌, ◌==◌, ◌||◌, ◌&&◌, not, take}
+use Rattle.std.specs.Prelude.{◌≡◌, ◌≤◌, ◌+◌, ℕ, Bool, true, false, Option, None, Some, List, [], ◌∷◌, ◌==◌, ◌||◌, ◌&&◌, not, length, take}
 use Rattle.std.specs.List.{list_all}
 use Rattle.std.specs.Str.{IsCharBoundary, chars}
 use Rattle.yaml_base.specs.Characters.{Text, is_break, is_space}
+use Rattle.yaml_base.specs.Cursor.{Cursor}
 use Rattle.yaml_base.specs.DoubleQuoted.{needs_escape}
 
 -- some column is past the width
@@ -34,3 +35,14 @@ pub record IsRun (test : ℕ → Bool) (before : ℕ) (text : List ℕ) (length 
   pub boundary : IsCharBoundary text length
   pub all : list_all test (chars (take length text)) ≡ true
   pub last_is : last ≡ last_from before (chars (take length text))
+
+-- so many characters may be written from a column on, none of them past the width
+abbrev pub HasRoom : Option ℕ → (column count : ℕ) → Type 0
+HasRoom None column count = Unit
+HasRoom (Some width) column count = column + count ≤ width
+
+-- a run of a line at a cursor: a space ends it, or none of its characters is past the width
+pub record IsLineRun (limit : Option ℕ) (quotes : Bool) (cursor : Cursor) (before : ℕ) (text : List ℕ) (size last : ℕ) : Type 0 where
+  pub folds : Bool
+  pub run : IsRun (stays_in_line folds quotes) before text size last
+  pub room : folds ≡ false → HasRoom limit cursor.column size

@@ -9,12 +9,12 @@ ghost use Rattle.yaml_base.specs.Plain as layout;
 ghost use Rattle.yaml_pen.specs.Page.{IsReady};
 ghost use Rattle.yaml_pen.specs.Wrote.{Wrote};
 ghost use Rattle.yaml_scalar.specs.LineSteps as steps;
-ghost use Rattle.yaml_scalar.specs.WholeRuns.{IsRun, has_limit, stays_in_line};
+ghost use Rattle.yaml_scalar.specs.WholeRuns.{IsLineRun};
 ghost use Rattle.yaml_scalar.specs.Width.{limit_where};
 
 use crate::analysis::is_at_end;
-use crate::runs::{Run, RunEnds, line_run_after};
-use crate::steps::{go_on, has_limit, may_fold_here};
+use crate::runs::{Run, line_run_within};
+use crate::steps::{go_on, may_fold_here, room_in_line};
 use std::alloc::Allocator;
 use yaml_base::{is_break, is_space, yaml_error_t};
 use yaml_pen::Pen;
@@ -219,15 +219,12 @@ fn write_step<A: Allocator>(
     }
 }
 
-// A space ends a run where it may become a fold, and a `'` where it is doubled.
-fn run_after(character: char, rest: &str, lines: Lines) -> Run
-    ensures { IsRun (stays_in_line (has_limit (limit_where lines.allow_breaks lines.width)) lines.quoted) character rest.now result.length result.last }
+// A `'` ends a run where it is doubled, and so does a space that may become a fold.
+fn run_after<A: Allocator>(pen: &Pen<A>, character: char, rest: &str, lines: Lines) -> Run
+    ensures { IsLineRun (limit_where lines.allow_breaks lines.width) lines.quoted pen.now.cursor character rest.now result.length result.last }
 {
-    let ends = RunEnds {
-        space: has_limit(lines.allow_breaks, lines.width),
-        quote: lines.quoted,
-    };
-    line_run_after(character, rest, ends)
+    let room = room_in_line(pen, lines.allow_breaks, lines.width);
+    line_run_within(character, rest, lines.quoted, room)
 }
 
 /// Writes the lines of a value, the flags of the cursor left as they are.
@@ -239,12 +236,29 @@ pub(crate) fn write_lines<A: Allocator>(
     requires { IsReady pen.old }
     ensures { Wrote (layout.runs_laid (steps.written_as lines.quoted) (limit_where lines.allow_breaks lines.width) lines.indent true (layout.runs (chars value.now))) pen.old pen.new result }
 {
-    let mut before = CharacterKind::Space;
+    let first = run_after(pen, ' ', value, lines);
+    let (front, rest) = value.split_at(first.length);
+    pen.write_run(front)?;
+    let before = kind_of(first.last);
+    write_from(pen, before, rest, lines)
+}
+
+/// Writes what follows a character of a kind: a character, and the run that follows it, in turn.
+fn write_from<A: Allocator>(
+    pen: &mut Pen<A>,
+    start: CharacterKind,
+    value: &str,
+    lines: Lines,
+) -> Result<(), yaml_error_t>
+    requires { IsReady pen.old }
+    ensures { Wrote (steps.steps_laid (steps.written_as lines.quoted) (limit_where lines.allow_breaks lines.width) lines.indent (steps.seen_kind start) (chars value.now)) pen.old pen.new result }
+{
+    let mut before = start;
     let mut characters = value.chars();
     while let Some(character) = characters.next() {
         let rest = characters.as_str();
         write_step(pen, lines, before, character, rest)?;
-        let run = run_after(character, rest, lines);
+        let run = run_after(pen, character, rest, lines);
         let (front, after) = rest.split_at(run.length);
         pen.write_run(front)?;
         before = kind_of(run.last);

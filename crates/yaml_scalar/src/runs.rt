@@ -1,7 +1,8 @@
 //! Runs of characters that are handed to the pen at once.
-ghost use Rattle.std.specs.Prelude.{◌≡◌, ℕ, Bool};
+ghost use Rattle.std.specs.Prelude.{◌≡◌, ◌<◌, ◌≤◌, ℕ, Bool, Option};
+ghost use Rattle.yaml_base.specs.Cursor.{Cursor};
 ghost use Rattle.yaml_scalar.specs.ByteClasses.{Tells};
-ghost use Rattle.yaml_scalar.specs.WholeRuns.{IsRun, stays_in_line};
+ghost use Rattle.yaml_scalar.specs.WholeRuns.{HasRoom, IsLineRun, IsRun, stays_in_line};
 
 use crate::classes::{APOSTROPHE, BREAK, SPACE, free_length, last_of};
 
@@ -48,4 +49,29 @@ pub(crate) fn line_run_after(before: char, text: &str, ends: RunEnds) -> Run
     ensures { IsRun (stays_in_line ends.space ends.quote) before text.now result.length result.last }
 {
     run_up_to(before, text, ending_classes(ends))
+}
+
+/// The same within so many bytes.
+fn run_within(before: char, text: &str, classes: u8, room: usize) -> Run
+    ensures run { (test : ℕ → Bool) → Tells classes test → IsRun test before text.now result.length result.last }
+    ensures within { result.length ≤ room }
+{
+    let (near, _) = text.split_at(text.floor_char_boundary(room));
+    run_up_to(before, near, classes)
+}
+
+/// The run of a line that a space ends, or one of at most so many bytes, if any, that may hold spaces.
+pub(crate) fn line_run_within(before: char, text: &str, quote: bool, room: usize) -> Run
+    ensures { (limit : Option ℕ) (cursor : Cursor) → (0 < room → HasRoom limit cursor.column room) → IsLineRun limit quote cursor before text.now result.length result.last }
+{
+    if room == 0 {
+        let ends = RunEnds { space: true, quote };
+        line_run_after(before, text, ends)
+    } else {
+        let ends = RunEnds {
+            space: false,
+            quote,
+        };
+        run_within(before, text, ending_classes(ends), room)
+    }
 }

@@ -1,9 +1,9 @@
 //! Steps that the writers of scalars share.
-ghost use Rattle.std.specs.Prelude.{◌≡◌};
+ghost use Rattle.std.specs.Prelude.{◌≡◌, ◌<◌, ◌≤◌, ◌+◌};
 ghost use Rattle.yaml_base.specs.Cursor.{is_past_width, nothing_laid};
 ghost use Rattle.yaml_pen.specs.Page.{IsReady};
 ghost use Rattle.yaml_pen.specs.Wrote.{Wrote};
-ghost use Rattle.yaml_scalar.specs.WholeRuns.{has_limit};
+ghost use Rattle.yaml_scalar.specs.WholeRuns.{HasRoom, has_limit};
 ghost use Rattle.yaml_scalar.specs.Width.{limit_where};
 
 use crate::width;
@@ -34,4 +34,23 @@ pub(crate) fn go_on<A: Allocator>(pen: &Pen<A>) -> Result<(), yaml_error_t>
         Some(error) => Err(error),
         None => Ok(()),
     }
+}
+
+/// How many columns follow before one that is past the width, if any.
+pub(crate) fn room_in_line<A: Allocator>(pen: &Pen<A>, allow_breaks: bool, width: i32) -> usize
+    ensures { 0 < result → HasRoom (limit_where allow_breaks width) pen.now.cursor.column result }
+{
+    if !has_limit(allow_breaks, width) {
+        usize::MAX
+    } else if width < 0 {
+        0
+    } else {
+        room_before(pen.column() as u32, width as u32)
+    }
+}
+
+fn room_before(column: u32, width: u32) -> usize
+    ensures { 0 < result → column + result ≤ width }
+{
+    width.saturating_sub(column) as usize
 }

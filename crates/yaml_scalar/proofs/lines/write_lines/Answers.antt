@@ -1,74 +1,43 @@
-use Rattle.std.proofs.Common.{◌∙◌, sym, subst, chars, IsUtf8, List, ℕ}
-use Rattle.std.specs.Str.Iter.{chars_rest}
-use Rattle.std.proofs.lemmas.Str.{IsUtf8-drop, IsUtf8-past_char}
-use Rattle.yaml_base.specs.Plain.{Kind, kind_of}
+use Rattle.std.proofs.Common.{sym, subst, chars, Ok}
+use Rattle.yaml_base.specs.Plain.{Kind}
 use Rattle.yaml_pen.proofs.Composing.{wrote_exit}
+use Rattle.yaml_pen.specs.Wrote.{Wrote}
 use Rattle.yaml_scalar.specs.LineSteps.{seen_kind, steps_laid, written_as}
-use Rattle.yaml_scalar.specs.WholeRuns.{has_limit}
 use Rattle.yaml_scalar.specs.Width.{limit_where}
-use Rattle.yaml_scalar.proofs.LinesWritten.{LinesLeft, wrote_runs}
-use Rattle.yaml_scalar.proofs.RunsWritten.{character_still, end_still, run_failed, run_more}
-use Rattle.yaml_scalar.proofs.StaysInLine.{lines_after, lines_alone, stays_unbroken}
-use Rattle.yaml_scalar.proofs.StillToWrite.{still_failed, still_rest}
+use Rattle.yaml_scalar.proofs.LinesWritten.{wrote_runs}
+use Rattle.yaml_scalar.proofs.RunsWritten.{standing_failed, standing_more}
+use Rattle.yaml_scalar.proofs.StaysInLine.{line_stands, lines_after, stays_unbroken}
+use Rattle.yaml_scalar.proofs.StillToWrite.{still_all}
 use Rattle.yaml_scalar.proofs.WholeRuns.{run_unbroken}
 use Rattle.yaml_scalar.proofs.lines.write_lines.Goals as goal
 
 pub split_at-requires : goal.split_at-requires
-split_at-requires g c = c.run_after-run.ensures.boundary
+split_at-requires g c = c.run_after-first.ensures.run.boundary
 
 pub write_run-requires-clause-no_break : goal.write_run-requires-clause-no_break
 write_run-requires-clause-no_break g c =
-    let lines = c.args.lines in
-    run_unbroken _ (stays_unbroken (has_limit (limit_where lines.allow_breaks lines.width)) lines.quoted) c.run_after-run.ensures c.split_at.ensures.front
-
-pub returns-in_err-write_step : goal.returns-in_err-write_step
-returns-in_err-write_step g c =
-    let so_far = c.loop-character.invariant in
-    let lines = c.args.lines in
-    let limit = limit_where lines.allow_breaks lines.width in
-    let rest : List ℕ = c.as_str-rest.result.now in
-    let left = steps_laid (written_as lines.quoted) limit lines.indent in
-    let first = character_still (left (seen_kind c.loop-character.before)) c.in-Some.character _ _ rest so_far.is_text c.in-Some.ensures.steps.0 c.as_str-rest.ensures so_far.still in
-    wrote_exit c.from_residual.ensures
-    (wrote_runs lines.quoted limit lines.indent (chars c.args.value.now)
-    (still_failed (left (kind_of c.in-Some.character) (chars rest)) first c.in_err-write_step.ensures))
+    let run = c.run_after-first.ensures in
+    run_unbroken _ (stays_unbroken run.folds c.args.lines.quoted) run.run c.split_at.ensures.front
 
 pub returns-in_err-write_run : goal.returns-in_err-write_run
 returns-in_err-write_run g c =
-    let so_far = c.loop-character.invariant in
     let lines = c.args.lines in
     let limit = limit_where lines.allow_breaks lines.width in
-    let rest : List ℕ = c.as_str-rest.result.now in
-    let is_text = subst IsUtf8 (sym c.as_str-rest.ensures) (IsUtf8-past_char _ _ c.in-Some.character so_far.is_text c.in-Some.ensures.steps.0) in
-    let left = steps_laid (written_as lines.quoted) limit lines.indent in
-    let first = character_still (left (seen_kind c.loop-character.before)) c.in-Some.character _ _ rest so_far.is_text c.in-Some.ensures.steps.0 c.as_str-rest.ensures so_far.still in
-    wrote_exit c.from_residual-in_err-write_run.ensures
+    wrote_exit c.from_residual.ensures
     (wrote_runs lines.quoted limit lines.indent (chars c.args.value.now)
-    (run_failed (lines_after lines.quoted limit lines.indent) c.split_at.result.1.now (lines_alone lines.quoted limit lines.indent c.write_step.new.pen.cursor)
-    is_text c.run_after-run.ensures c.split_at.ensures.front c.split_at.ensures.back (still_rest first c.in_ok-write_step.ensures) c.in_err-write_run.ensures.written))
-
-pub loop-character-preserved : goal.loop-character-preserved
-loop-character-preserved g c =
-    let so_far = c.loop-character.invariant in
-    let lines = c.args.lines in
-    let written = written_as lines.quoted in
-    let limit = limit_where lines.allow_breaks lines.width in
-    let rest : List ℕ = c.as_str-rest.result.now in
-    let is_text = subst IsUtf8 (sym c.as_str-rest.ensures) (IsUtf8-past_char _ _ c.in-Some.character so_far.is_text c.in-Some.ensures.steps.0) in
-    let behind = c.chars-characters-in-Some.ensures.rest ∙ c.split_at.ensures.back in
-    let first = character_still (steps_laid written limit lines.indent (seen_kind c.loop-character.before)) c.in-Some.character _ _ rest so_far.is_text c.in-Some.ensures.steps.0 c.as_str-rest.ensures so_far.still in
-    record {
-      is_text = subst IsUtf8 (sym behind) (IsUtf8-drop _ _ is_text c.run_after-run.ensures.boundary);
-      still = subst (λ (kind : Kind). LinesLeft written limit lines.indent (chars c.args.value.now) (chars (chars_rest c.chars-characters-in-Some.result)) kind c.args.pen.now c.write_run.new.self)
-          (sym c.kind_of-before.ensures)
-          (run_more (lines_after lines.quoted limit lines.indent) (lines_alone lines.quoted limit lines.indent c.write_step.new.pen.cursor)
-          is_text c.run_after-run.ensures c.split_at.ensures.front behind (still_rest first c.in_ok-write_step.ensures) c.in_ok-write_run.ensures.written);
-    }
+    (standing_failed (lines_after lines.quoted limit lines.indent) c.split_at.result.1.now
+    (line_stands lines.quoted limit lines.indent c.args.pen.now.cursor c.utf8.value c.run_after-first.ensures c.split_at.ensures.front)
+    c.utf8.value c.run_after-first.ensures.run c.split_at.ensures.front c.split_at.ensures.back (still_all c.requires) c.in_err-write_run.ensures.written))
 
 pub returns : goal.returns
 returns g c =
     let lines = c.args.lines in
     let limit = limit_where lines.allow_breaks lines.width in
+    let still =
+    standing_more (lines_after lines.quoted limit lines.indent)
+    (line_stands lines.quoted limit lines.indent c.args.pen.now.cursor c.utf8.value c.run_after-first.ensures c.split_at.ensures.front)
+    c.utf8.value c.run_after-first.ensures.run c.split_at.ensures.front c.split_at.ensures.back (still_all c.requires) c.in_ok-write_run.ensures.written in
     wrote_runs lines.quoted limit lines.indent (chars c.args.value.now)
-    ((end_still (steps_laid (written_as lines.quoted) limit lines.indent (seen_kind c.loop-character.before)) _
-    c.in_default.ensures.steps.0.0 c.loop-character.invariant.still).writes _ _ c.go_on.ensures)
+    (still.writes _ _
+    (subst (λ (kind : Kind). Wrote (steps_laid (written_as lines.quoted) limit lines.indent kind (chars c.split_at.result.1.now)) c.write_run.new.self c.write_from.new.pen c.write_from.result)
+    c.kind_of-before.ensures c.write_from.ensures))

@@ -3,14 +3,14 @@ use Rattle.std.specs.Str.Iter.{chars_rest}
 use Rattle.yaml_scalar.specs.LineSteps.{seen_kind, written_as}
 use Rattle.yaml_scalar.specs.Width.{limit_where}
 use Rattle.yaml_scalar.proofs.LinesWritten.{LinesLeft}
-use Rattle.yaml_scalar.proofs.lines.write_lines.Given as goal
+use Rattle.yaml_scalar.proofs.lines.write_from.Given as goal
 
 abbrev pub invariant-loop-character : goal.invariant-loop-character
 invariant-loop-character g l =
     record {
       is_text : IsUtf8 (chars_rest l.characters);
       still : LinesLeft (written_as l.lines.quoted) (limit_where l.lines.allow_breaks l.lines.width) l.lines.indent
-          (chars l.fn.value) (chars (chars_rest l.characters)) (seen_kind l.before) l.initial.pen l.pen;
+          (seen_kind l.fn.start) (chars l.fn.value) (chars (chars_rest l.characters)) (seen_kind l.before) l.initial.pen l.pen;
     }
 
 abbrev pub decreases-loop-character : goal.decreases-loop-character

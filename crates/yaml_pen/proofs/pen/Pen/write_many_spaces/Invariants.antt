@@ -2,7 +2,7 @@ use Rattle.std.proofs.Common.{Ok, replicate}
 use Rattle.yaml_base.specs.Characters.{space}
 use Rattle.yaml_base.specs.Cursor.{text_laid}
 use Rattle.yaml_pen.specs.Wrote.{Wrote}
-use Rattle.yaml_pen.proofs.pen.Pen.write_spaces.Given as goal
+use Rattle.yaml_pen.proofs.pen.Pen.write_many_spaces.Given as goal
 
 abbrev pub invariant-loop-written : goal.invariant-loop-written
 invariant-loop-written g l = Wrote (text_laid (replicate l.written space)) l.initial.self l.self (Ok tt)

@@ -4,7 +4,7 @@ use Rattle.yaml_base.specs.Characters.{space}
 use Rattle.yaml_base.specs.Cursor.{text_laid}
 use Rattle.yaml_pen.specs.Wrote.{Wrote}
 use Rattle.yaml_pen.proofs.Composing.{wrote_exit, wrote_cut, wrote_text_then}
-use Rattle.yaml_pen.proofs.pen.Pen.write_spaces.Goals as goal
+use Rattle.yaml_pen.proofs.pen.Pen.write_many_spaces.Goals as goal
 
 pub returns-in_err-write_character-clause-written : goal.returns-in_err-write_character-clause-written
 returns-in_err-write_character-clause-written g c =

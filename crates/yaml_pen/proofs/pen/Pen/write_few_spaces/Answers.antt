@@ -1,0 +1,21 @@
+use Rattle.std.proofs.Common.{◌∙◌, ap, sym, subst, take, replicate, List, ℕ}
+use Rattle.std.proofs.lemmas.List.{take-replicate}
+use Rattle.std.proofs.lemmas.Str.{IsAscii-take}
+use Rattle.std.specs.List.{list_any}
+use Rattle.yaml_base.specs.Characters.{is_break, space}
+use Rattle.yaml_base.specs.Cursor.{text_laid}
+use Rattle.yaml_pen.specs.Wrote.{Wrote}
+use Rattle.yaml_pen.proofs.Spaces.{spaces_ascii, spaces_unbroken}
+use Rattle.yaml_pen.proofs.pen.Pen.write_few_spaces.Goals as goal
+
+pub write_ascii-requires-clause-ascii : goal.write_ascii-requires-clause-ascii
+write_ascii-requires-clause-ascii g c = IsAscii-take (replicate 64 space) c.args.count (spaces_ascii 64)
+
+pub write_ascii-requires-clause-no_break : goal.write_ascii-requires-clause-no_break
+write_ascii-requires-clause-no_break g c =
+    ap (list_any is_break) (take-replicate c.args.count 64 space c.requires.few) ∙ spaces_unbroken c.args.count
+
+pub returns-clause-written : goal.returns-clause-written
+returns-clause-written g c =
+    subst (λ (l : List ℕ). Wrote (text_laid l) c.args.self.now c.write_ascii.new.self c.write_ascii.result)
+    (take-replicate c.args.count 64 space c.requires.few) c.write_ascii.ensures.written
