@@ -20,10 +20,10 @@ use Rattle.yaml_base.proofs.StreamTexts.{items_own, pairs_own, node_own}
 -- Names and tags
 
 -- a tag as it is written, if one is, or the bare tag
-abbrev pub tag_written : List TagDirective → Option Text → (bare : Bool) → Option Text
-tag_written directives (Some tag) bare = Some (spelled (spelling directives tag))
-tag_written directives None true = Some (codes "!")
-tag_written directives None false = None
+abbrev pub tag_written : (portable : Bool) → List TagDirective → Option Text → (bare : Bool) → Option Text
+tag_written portable directives (Some tag) bare = Some (spelled portable (spelling directives tag))
+tag_written portable directives None true = Some (codes "!")
+tag_written portable directives None false = None
 
 -- what the reader is to take it for
 abbrev pub tag_meant : Option Text → (bare : Bool) → Option TagSaid
@@ -32,28 +32,28 @@ tag_meant None true = Some bare_said
 tag_meant None false = None
 
 -- a tag, if there is one, reads as it was given by a document's own directives
-abbrev pub TagStands : List TagDirective → List TagDirective → Option Text → Type 0
-TagStands own directives None = Unit {0}
-TagStands own directives (Some tag) = WrittenTag own (spelled (spelling directives tag)) (name_said tag)
+abbrev pub TagStands : (portable : Bool) → List TagDirective → List TagDirective → Option Text → Type 0
+TagStands portable own directives None = Unit {0}
+TagStands portable own directives (Some tag) = WrittenTag own (spelled portable (spelling directives tag)) (name_said tag)
 
 -- the names and tags of a node and of all nodes in it read so
 abbrev mutual
-  pub NamesStand : List TagDirective → Bool → List TagDirective → Node → Type 0
-  NamesStand own canonical directives (alias_node name) = name_read name ≡ Some name
-  NamesStand own canonical directives (scalar_node content) = IsNamed content.anchor × TagStands own directives (scalar_tag canonical content)
-  NamesStand own canonical directives (sequence_node start items) =
-      IsNamed start.anchor × TagStands own directives (collection_tag canonical start) × AllNamesStand own canonical directives items
-  NamesStand own canonical directives (mapping_node start pairs) =
-      IsNamed start.anchor × TagStands own directives (collection_tag canonical start) × PairsNamesStand own canonical directives pairs
+  pub NamesStand : (portable : Bool) → List TagDirective → Bool → List TagDirective → Node → Type 0
+  NamesStand portable own canonical directives (alias_node name) = name_read name ≡ Some name
+  NamesStand portable own canonical directives (scalar_node content) = IsNamed content.anchor × TagStands portable own directives (scalar_tag canonical content)
+  NamesStand portable own canonical directives (sequence_node start items) =
+      IsNamed start.anchor × TagStands portable own directives (collection_tag canonical start) × AllNamesStand portable own canonical directives items
+  NamesStand portable own canonical directives (mapping_node start pairs) =
+      IsNamed start.anchor × TagStands portable own directives (collection_tag canonical start) × PairsNamesStand portable own canonical directives pairs
 
-  pub AllNamesStand : List TagDirective → Bool → List TagDirective → Nodes → Type 0
-  AllNamesStand own canonical directives no_nodes = Unit {0}
-  AllNamesStand own canonical directives (nodes_and items last) = AllNamesStand own canonical directives items × NamesStand own canonical directives last
+  pub AllNamesStand : (portable : Bool) → List TagDirective → Bool → List TagDirective → Nodes → Type 0
+  AllNamesStand portable own canonical directives no_nodes = Unit {0}
+  AllNamesStand portable own canonical directives (nodes_and items last) = AllNamesStand portable own canonical directives items × NamesStand portable own canonical directives last
 
-  pub PairsNamesStand : List TagDirective → Bool → List TagDirective → Pairs → Type 0
-  PairsNamesStand own canonical directives no_pairs = Unit {0}
-  PairsNamesStand own canonical directives (pairs_and pairs key value) =
-      PairsNamesStand own canonical directives pairs × NamesStand own canonical directives key × NamesStand own canonical directives value
+  pub PairsNamesStand : (portable : Bool) → List TagDirective → Bool → List TagDirective → Pairs → Type 0
+  PairsNamesStand portable own canonical directives no_pairs = Unit {0}
+  PairsNamesStand portable own canonical directives (pairs_and pairs key value) =
+      PairsNamesStand portable own canonical directives pairs × NamesStand portable own canonical directives key × NamesStand portable own canonical directives value
 
 -- Bodies
 
@@ -67,7 +67,7 @@ abbrev pub body_from : Effective → List TagDirective → Place → Scalar → 
 body_from s directives place content cursor =
     let simple = is_simple_at place s.canonical directives (scalar_node content) in
     let choice = choice_of s place simple content in
-    let properties = properties_laid directives content.anchor (scalar_tag s.canonical content) choice.bare cursor in
+    let properties = properties_laid s.portable directives content.anchor (scalar_tag s.canonical content) choice.bare cursor in
     let separation = separation_laid choice.style place.in_flow content.value properties.cursor in
     body_at place choice.style content.value
     (body_laid choice.style s (if simple then None else s.width) (deeper s.indent place.column) content.value separation.cursor)
@@ -79,11 +79,11 @@ abbrev mutual
   BodiesHold P (scalar_node content) s directives place cursor = P (body_from s directives place content cursor)
   BodiesHold P (sequence_node start items) s directives place cursor =
       let in_flow = is_written_in_flow s place start (has_no_nodes items) in
-      let begun = properties_laid directives start.anchor (collection_tag s.canonical start) false cursor in
+      let begun = properties_laid s.portable directives start.anchor (collection_tag s.canonical start) false cursor in
       ItemsHold P items s directives in_flow (entries_column in_flow (is_in_mapping place.role) s.indent place.column begun.cursor) begun.cursor
   BodiesHold P (mapping_node start pairs) s directives place cursor =
       let in_flow = is_written_in_flow s place start (has_no_pairs pairs) in
-      let begun = properties_laid directives start.anchor (collection_tag s.canonical start) false cursor in
+      let begun = properties_laid s.portable directives start.anchor (collection_tag s.canonical start) false cursor in
       PairsHold P pairs s directives in_flow (entries_column in_flow false s.indent place.column begun.cursor) begun.cursor
 
   pub ItemsHold : (Body → Type 0) → Nodes → Effective → List TagDirective → (in_flow : Bool) → ℕ → Cursor → Type 0

@@ -15,7 +15,7 @@ abbrev pub scalar_own : Effective → List TagDirective → Place → (simple : 
 scalar_own s directives place simple content cursor =
     let choice = choice_of s place simple content in
     then_laid
-    (then_laid (properties_laid directives content.anchor (scalar_tag s.canonical content) choice.bare cursor)
+    (then_laid (properties_laid s.portable directives content.anchor (scalar_tag s.canonical content) choice.bare cursor)
     (separation_laid choice.style place.in_flow content.value))
     (body_laid choice.style s (if simple then None else s.width) (deeper s.indent place.column) content.value)
 
@@ -32,11 +32,11 @@ abbrev mutual
       scalar_own s directives place (is_simple_at place s.canonical directives (scalar_node content)) content cursor
   node_own (sequence_node start items) s directives place cursor =
       collection_own s square (is_written_in_flow s place start (has_no_nodes items)) (is_in_mapping place.role) (has_no_nodes items) place.column
-      (properties_laid directives start.anchor (collection_tag s.canonical start) false cursor)
+      (properties_laid s.portable directives start.anchor (collection_tag s.canonical start) false cursor)
       (items_own items s directives (is_written_in_flow s place start (has_no_nodes items)))
   node_own (mapping_node start pairs) s directives place cursor =
       collection_own s curly (is_written_in_flow s place start (has_no_pairs pairs)) false (has_no_pairs pairs) place.column
-      (properties_laid directives start.anchor (collection_tag s.canonical start) false cursor)
+      (properties_laid s.portable directives start.anchor (collection_tag s.canonical start) false cursor)
       (pairs_own pairs s directives (is_written_in_flow s place start (has_no_pairs pairs)))
 
   pub items_own : Nodes → Effective → List TagDirective → (in_flow : Bool) → ℕ → Cursor → Laid
@@ -117,7 +117,7 @@ mutual
       let simple = is_simple_at place s.canonical directives (scalar_node content) in
       let choice = choice_of s place simple content in
       let signs = place_laid s place simple standing.cursor in
-      let properties = properties_laid directives content.anchor (scalar_tag s.canonical content) choice.bare signs.cursor in
+      let properties = properties_laid s.portable directives content.anchor (scalar_tag s.canonical content) choice.bare signs.cursor in
       let separation = separation_laid choice.style place.in_flow content.value properties.cursor in
       let body = body_laid choice.style s (if simple then None else s.width) (deeper s.indent place.column) content.value separation.cursor in
       (assoc_three signs.text properties.text separation.text body.text, refl)
@@ -125,7 +125,7 @@ mutual
       let in_flow = is_written_in_flow s place start (has_no_nodes items) in
       let simple = is_simple_at place s.canonical directives (sequence_node start items) in
       let signs = place_laid s place simple standing.cursor in
-      let begun = properties_laid directives start.anchor (collection_tag s.canonical start) false signs.cursor in
+      let begun = properties_laid s.portable directives start.anchor (collection_tag s.canonical start) false signs.cursor in
       let column = entries_column in_flow (is_in_mapping place.role) s.indent place.column begun.cursor in
       let before : Standing = record { cursor = begun.cursor; mark = standing.mark } in
       let all = items_joined items s directives in_flow column before in
@@ -135,7 +135,7 @@ mutual
       let in_flow = is_written_in_flow s place start (has_no_pairs pairs) in
       let simple = is_simple_at place s.canonical directives (mapping_node start pairs) in
       let signs = place_laid s place simple standing.cursor in
-      let begun = properties_laid directives start.anchor (collection_tag s.canonical start) false signs.cursor in
+      let begun = properties_laid s.portable directives start.anchor (collection_tag s.canonical start) false signs.cursor in
       let column = entries_column in_flow false s.indent place.column begun.cursor in
       let before : Standing = record { cursor = begun.cursor; mark = standing.mark } in
       let all = pairs_joined pairs s directives in_flow column before in
