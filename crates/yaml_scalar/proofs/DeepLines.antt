@@ -58,7 +58,7 @@ module _ (breaks12 : Bool) where
   blank_spaces zero (c ∷ rest) h = simp (h.no_break, h.no_space)
   blank_spaces (suc n) text h = simp (space_unbroken breaks12, blank_spaces n text h)
 
-  enough_spaces : (count indent : ℕ) (text : Text) → count ≤ indent → begins_with_spaces count (replicate indent space ++ text) ≡ true
+  pub enough_spaces : (count indent : ℕ) (text : Text) → count ≤ indent → begins_with_spaces count (replicate indent space ++ text) ≡ true
   enough_spaces zero indent text h = refl
   enough_spaces (suc count) zero text h = absurd (omega (arith, h))
   enough_spaces (suc count) (suc indent) text h = enough_spaces count indent text (omega (arith, h))
@@ -93,7 +93,8 @@ module _ (breaks12 : Bool) where
     pub deep : has_deep_lines breaks12 count text ≡ true
     pub even : has_no_space_before_break breaks12 text ≡ true
 
-  even_other : (c : ℕ) (text : Text) → (c == space) ≡ false → has_no_space_before_break breaks12 text ≡ true → has_no_space_before_break breaks12 (c ∷ text) ≡ true
+  even_other : (c : ℕ) (text : Text) → (c == space) ≡ false → has_no_space_before_break breaks12 text ≡ true
+      → has_no_space_before_break breaks12 (c ∷ text) ≡ true
   even_other c text h k = rw h k
 
   -- ink before such a text

@@ -16,6 +16,10 @@ use Rattle.yaml_scalar.proofs.LineTexts.{any_both, any_cond, any_one}
 use Rattle.yaml_scalar.proofs.PlainReads.{plain_bars, plain_is_single}
 use Rattle.yaml_scalar.proofs.Sparing.{Spares, is_graph, lacks_spaces}
 
+-- a digit
+pub one_digit : (n : ℕ) → n ≤ 9 → is_graph (48 + n) ≡ true
+one_digit n high = and_from _ _ (le-leb 0x21 (48 + n) (omega arith)) (le-leb (48 + n) 0x7E (omega arith))
+
 module _ (test : ℕ → Bool) where
   -- a test holds nowhere in parts
   abbrev pub PartsLack : List Part → Type 0
@@ -72,7 +76,8 @@ module _ (test : ℕ → Bool) where
     lacks_twice false b further e h = (e, h)
 
     -- folded parts
-    lacks_folded_parts : (limit : Option ℕ) (indent : ℕ) (after_even : Bool) (ps : List Part) → PartsLack ps → PartsLack (folded_parts limit indent after_even ps)
+    lacks_folded_parts : (limit : Option ℕ) (indent : ℕ) (after_even : Bool) (ps : List Part) → PartsLack ps
+        → PartsLack (folded_parts limit indent after_even ps)
     lacks_folded_parts limit indent after_even [] h = tt
     lacks_folded_parts limit indent after_even (line text ∷ rest) h =
         lacks_joined (cut_line limit indent text) _ (lacks_cut_line limit indent text h.0)
@@ -94,11 +99,8 @@ module _ (test : ℕ → Bool) where
     lacks_hint one_break = refl
     lacks_hint more_breaks = any_one test 43 [] (spares.graph 43 refl) refl
 
-    digit_graph : (n : ℕ) → n ≤ 9 → is_graph (48 + n) ≡ true
-    digit_graph n high = and_from _ _ (le-leb 0x21 (48 + n) (omega arith)) (le-leb (48 + n) 0x7E (omega arith))
-
     lacks_digit : (blank : Bool) (n : ℕ) → n ≤ 9 → list_any test (digit_text blank n) ≡ false
-    lacks_digit true n high = any_one test (48 + n) [] (spares.graph (48 + n) (digit_graph n high)) refl
+    lacks_digit true n high = any_one test (48 + n) [] (spares.graph (48 + n) (one_digit n high)) refl
     lacks_digit false n high = refl
 
     lacks_sign : (folded : Bool) → test (sign_of folded) ≡ false
