@@ -41,14 +41,16 @@ or_none true ascii false one other a b c = refl
 or_none false ascii true one other a b c = simp (a, b, c)
 or_none false ascii false one other a b c = simp a
 
-graph_parts : (c : ℕ) → is_graph c ≡ true → (is_printable c ≡ true) × (is_ascii c ≡ true) × ((c == line_separator) ≡ false) × ((c == paragraph_separator) ≡ false)
+graph_parts : (c : ℕ) → is_graph c ≡ true
+    → (is_printable c ≡ true) × (is_ascii c ≡ true) × ((c == line_separator) ≡ false) × ((c == paragraph_separator) ≡ false)
 graph_parts c h = (grind (arith, nat_tests), grind (arith, nat_tests), grind (arith, nat_tests), grind (arith, nat_tests))
 
 special_from : (charset : Charset) (c : ℕ) → is_printable c ≡ true → is_ascii c ≡ true → (c == line_separator) ≡ false → (c == paragraph_separator) ≡ false
     → is_special charset c ≡ false
 special_from charset c p a l s = by charset.unicode charset.breaks12
   where
-    by : (unicode breaks12 : Bool) → (not (is_printable c) || (not unicode && not (is_ascii c)) || (breaks12 && (c == line_separator || c == paragraph_separator))) ≡ false
+    by : (unicode breaks12 : Bool)
+        → (not (is_printable c) || (not unicode && not (is_ascii c)) || (breaks12 && (c == line_separator || c == paragraph_separator))) ≡ false
     by true true = simp (p, l, s)
     by true false = simp p
     by false true = simp (p, a, l, s)
@@ -75,7 +77,8 @@ special_raw breaks12 unicode c h =
     let parts = raw_parts (is_printable c) (not unicode && not (is_ascii c)) (c == line_feed) (c == carriage_return) (c == next_line) (c == line_separator) (c == paragraph_separator) (c == quote) (c == backslash) h in
     by breaks12 parts
   where
-    by : (breaks12 : Bool) → (is_printable c ≡ true) × ((not unicode && not (is_ascii c)) ≡ false) × ((c == line_separator) ≡ false) × ((c == paragraph_separator) ≡ false)
+    by : (breaks12 : Bool)
+        → (is_printable c ≡ true) × ((not unicode && not (is_ascii c)) ≡ false) × ((c == line_separator) ≡ false) × ((c == paragraph_separator) ≡ false)
         → (not (is_printable c) || (not unicode && not (is_ascii c)) || (breaks12 && (c == line_separator || c == paragraph_separator))) ≡ false
     by true p = simp (p.0, p.1, p.2, p.3)
     by false p = simp (p.0, p.1)
@@ -114,7 +117,8 @@ special_list s canonical events is accepted =
 -- From special characters to what stands raw.
 
 -- a test that is met by fewer characters
-pub lacks_fewer : (test fewer : ℕ → Bool) → ((c : ℕ) → test c ≡ false → fewer c ≡ false) → (text : Text) → list_any test text ≡ false → list_any fewer text ≡ false
+pub lacks_fewer : (test fewer : ℕ → Bool) → ((c : ℕ) → test c ≡ false → fewer c ≡ false) → (text : Text) → list_any test text ≡ false
+    → list_any fewer text ≡ false
 lacks_fewer test fewer implies [] h = refl
 lacks_fewer test fewer implies (c ∷ rest) h =
     let p = or_parts (test c) (list_any test rest) h in

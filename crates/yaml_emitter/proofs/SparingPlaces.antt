@@ -118,7 +118,8 @@ module _ (test : ℕ → Bool) (spares : Spares test) where
   lacks_handle handle cursor h = any_both test (space_if true cursor) handle (lacks_space true cursor) (lacks_graph test spares handle h)
 
   -- a tag's text by the directives in force
-  lacks_spelling : (own directives : List TagDirective) (tag : Text) (cursor : Cursor) → AreFound own directives → Lacks (spelling_laid (spelling directives tag) cursor)
+  lacks_spelling : (own directives : List TagDirective) (tag : Text) (cursor : Cursor) → AreFound own directives
+      → Lacks (spelling_laid (spelling directives tag) cursor)
   lacks_spelling own directives tag cursor found =
       let P : Spelling → Type 0 = λ spelled. Lacks (spelling_laid spelled cursor) in
       spelling_is P own directives tag found
@@ -130,13 +131,15 @@ module _ (test : ℕ → Bool) (spares : Spares test) where
       lacks_then (handle_laid handle cursor) (name_laid (percent_escaped (c ∷ suffix))) (lacks_handle handle cursor (graph_handle handle (handle_form handle f)))
       (λ after. lacks_percent (c ∷ suffix)))
 
-  lacks_tag : (own directives : List TagDirective) (tag : Option Text) (bare : Bool) (cursor : Cursor) → AreFound own directives → Lacks (tag_laid directives tag bare cursor)
+  lacks_tag : (own directives : List TagDirective) (tag : Option Text) (bare : Bool) (cursor : Cursor) → AreFound own directives
+      → Lacks (tag_laid directives tag bare cursor)
   lacks_tag own directives (Some tag) bare cursor found = lacks_spelling own directives tag cursor found
   lacks_tag own directives None true cursor found = lacks_handle (codes "!") cursor refl
   lacks_tag own directives None false cursor found = refl
 
   -- the anchor and the tag
-  pub lacks_properties : (own directives : List TagDirective) (anchor tag : Option Text) (bare : Bool) (cursor : Cursor) → AreFound own directives → AnchorOk anchor
+  pub lacks_properties : (own directives : List TagDirective) (anchor tag : Option Text) (bare : Bool) (cursor : Cursor) → AreFound own directives
+      → AnchorOk anchor
       → Lacks (properties_laid directives anchor tag bare cursor)
   lacks_properties own directives anchor tag bare cursor found ok =
       lacks_then (anchor_laid anchor cursor) (tag_laid directives tag bare) (lacks_anchor anchor cursor ok) (λ after. lacks_tag own directives tag bare after found)

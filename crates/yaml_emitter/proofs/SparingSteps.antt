@@ -100,7 +100,8 @@ module _ (s : Effective) (test : ℕ → Bool) (spared : Spared s test) where
   lacks_alone laid h = any_both test laid.text [] h refl
 
   lacks_scalar : (directives : List TagDirective) (place : Place) (simple : Bool) (content : Scalar) (standing : Standing)
-      → (own : List TagDirective) × AreFound own directives → AnchorOk content.anchor → LacksPiece (scalar_piece s directives place simple content standing).piece
+      → (own : List TagDirective) × AreFound own directives → AnchorOk content.anchor
+      → LacksPiece (scalar_piece s directives place simple content standing).piece
   lacks_scalar directives place simple content standing found ok =
       let choice = choice_of s place simple content in
       let tag = scalar_tag s.canonical content in
@@ -126,7 +127,8 @@ module _ (s : Effective) (test : ℕ → Bool) (spared : Spared s test) where
       (λ after. lacks_properties test spared.spares found.0 directives start.anchor tag false after found.1 ok))
 
   lacks_closed : (brackets : Brackets) (in_flow empty : Bool) (column : Option ℕ) (standing : Standing)
-      → Lacks test spared.spares (end_laid s brackets in_flow empty column standing.cursor) → LacksPiece (end_piece s brackets in_flow empty column standing).piece
+      → Lacks test spared.spares (end_laid s brackets in_flow empty column standing.cursor)
+      → LacksPiece (end_piece s brackets in_flow empty column standing).piece
   lacks_closed brackets in_flow empty column standing h = lacks_alone (end_laid s brackets in_flow empty column standing.cursor) h
 
   lacks_node_step : (directives : List TagDirective) (frames : List Frame) (event : Event) (empty : Bool) (standing : Standing)
