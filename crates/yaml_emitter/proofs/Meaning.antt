@@ -31,6 +31,7 @@ module _ (s : Effective) (Holds : Body → Type 0) (is_good : Event → Bool)
   HoldsOf None = Unit {0}
   HoldsOf (Some body) = Holds body
 
+  -- a scalar's body
   scalar_holds : (directives : List TagDirective) (place : Place) (simple : Bool) (content : Scalar) (standing : Standing)
       → is_good (scalar content) ≡ true → HoldsOf (scalar_piece s directives place simple content standing).piece.body
   scalar_holds directives place simple content standing good =
@@ -40,6 +41,7 @@ module _ (s : Effective) (Holds : Body → Type 0) (is_good : Event → Bool)
       (chosen_allowed (allowances (charset_of s) content.value) content.style (is_empty content.value) (is_some (scalar_tag s.canonical content))
       content.plain_implicit content.quoted_implicit place.in_flow simple s.canonical)
 
+  -- that of an event within a document
   node_step_holds : (directives : List TagDirective) (frames : List Frame) (event : Event) (empty : Bool) (standing : Standing)
       → is_good event ≡ true → HoldsOf (node_step s directives frames event empty standing).laid.piece.body
   node_step_holds directives frames (scalar content) empty standing good = scalar_holds directives _ _ content standing good
@@ -50,6 +52,7 @@ module _ (s : Effective) (Holds : Body → Type 0) (is_good : Event → Bool)
   node_step_holds directives frames (document_end true) empty standing good = tt
   node_step_holds directives frames _ empty standing good = tt
 
+  -- that of an event at any stage
   step_holds : (stage : Stage) (event : Event) (empty : Bool) (standing : Standing)
       → is_good event ≡ true → HoldsOf (step s stage event empty standing).laid.piece.body
   step_holds (at_node directives frames) event empty standing good = node_step_holds directives frames event empty standing good
@@ -79,6 +82,7 @@ module _ (s : Effective) (Holds : Body → Type 0) (is_good : Event → Bool)
       (step_holds stage event (ends_next rest follows) standing parts.0)
       (steps_hold rest follows stepped.stage stepped.laid.standing parts.1)
 
+  -- those of a stream's layout
   layout_holds : (stream : Stream) → list_all is_good (stream_events stream) ≡ true → All Holds (bodies_of (layout s stream))
   layout_holds stream good =
       subst (λ (pieces : List Piece). All Holds (bodies_of pieces)) (stream_steps stream s)
@@ -100,6 +104,7 @@ bounded : (n : ℕ) (b : Bool) → (b ≡ true → IsIndent n) → IsIndent (if 
 bounded n true h = h refl
 bounded n false h = record { low = omega arith; high = omega arith }
 
+-- so is the indent that settings come to
 pub is_indent : (indent : Option ℤ) → IsIndent (effective_indent indent)
 is_indent None = record { low = omega arith; high = omega arith }
 is_indent (Some (negsuc n)) = record { low = omega arith; high = omega arith }
@@ -114,6 +119,7 @@ scalar_means : (s : Effective) → IsIndent s.indent → (place : Place) (style 
     → BodyMeans s (body_at place style content.value (body_laid style s limit (deeper s.indent place.column) content.value cursor))
 scalar_means s is place style limit content cursor scalars allowed = body_means s place style limit content.value cursor is scalars allowed
 
+-- Every body of an accepted list reads as its value.
 pub meaning_is_kept : MeaningIsKept
 meaning_is_kept given encoding events accepted scalars =
     let s = effective given encoding in

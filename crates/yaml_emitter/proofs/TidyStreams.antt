@@ -43,6 +43,7 @@ module _ (s : Effective) (is : IsIndent s.indent) (place : Place) where
     pub deep : has_deep_lines s.breaks12 (depth_of place.column) text ≡ true
     pub tidy : is_tidy_style style s.breaks12 text ≡ true
 
+  -- so does a body that a value allows
   keeps_to : (style : ScalarStyle) (limit : Option ℕ) (value : Text) (cursor : Cursor) → Allows (allowances (charset_of s) value) place.in_flow style
       → KeepsTo style (body_laid style s limit (deeper s.indent place.column) value cursor).text
   keeps_to any_style limit value cursor allowed = absurd allowed
@@ -78,6 +79,7 @@ all_good : (events : List Event) → list_all (λ (event : Event). true) events 
 all_good [] = refl
 all_good (event ∷ rest) = all_good rest
 
+-- The bodies of every accepted list are tidy.
 pub bodies_are_tidy : BodiesAreTidy
 bodies_are_tidy given encoding events accepted =
     let s = effective given encoding in

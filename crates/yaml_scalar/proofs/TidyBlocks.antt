@@ -45,6 +45,7 @@ module _ (breaks12 : Bool) where
   full_blank (c ∷ text) rest u (inl s) = simp (u.0, s)
   full_blank (c ∷ text) rest u (inr more) = blank_after c (text ++ rest) u.0 (full_blank text rest u.1 more)
 
+  -- nor is it behind spaces
   spaces_blank : (n : ℕ) (text rest : Text) → Unbroken breaks12 text → HasInk text
       → begins_with_blank_line breaks12 ((replicate n space ++ text) ++ rest) ≡ false
   spaces_blank zero text rest u h = full_blank text rest u h
@@ -60,6 +61,7 @@ module _ (breaks12 : Bool) where
         (ap not (spaces_blank indent text (indented indent rest) h.0 h.1)))
     lines_begin (line_break b ∷ rest) h = deep_break breaks12 count (b ∷ indented indent rest) h.0
 
+    -- indented parts have deep lines
     lines_deep : (ps : List Part) → AreFull ps → has_deep_lines breaks12 count (indented indent ps) ≡ true
     lines_deep [] h = refl
     lines_deep (line text ∷ rest) h =
@@ -70,15 +72,18 @@ module _ (breaks12 : Bool) where
 
     -- the header
 
+    -- the sign of a value's end breaks no line
     hint_unbroken : (e : Ending) → Unbroken breaks12 (ending_hint e)
     hint_unbroken without_break = (graph_no_break breaks12 45 refl, tt)
     hint_unbroken one_break = tt
     hint_unbroken more_breaks = (graph_no_break breaks12 43 refl, tt)
 
+    -- nor does a digit
     digit_unbroken : (blank : Bool) (n : ℕ) → is_graph (48 + n) ≡ true → Unbroken breaks12 (digit_text blank n)
     digit_unbroken true n h = (graph_no_break breaks12 (48 + n) h, tt)
     digit_unbroken false n h = tt
 
+    -- nor a style's sign
     sign_unbroken : (folded : Bool) → is_read_break breaks12 (sign_of folded) ≡ false
     sign_unbroken true = graph_no_break breaks12 62 refl
     sign_unbroken false = graph_no_break breaks12 124 refl
@@ -112,11 +117,13 @@ module _ (breaks12 : Bool) where
   AreEnded (line text ∷ rest) = Unbroken breaks12 text × EndsInk text × AreEnded rest
   AreEnded (line_break b ∷ rest) = (is_read_break breaks12 b ≡ true) × AreEnded rest
 
+  -- such a text holds a character that is no space
   ended_ink : (text : Text) → EndsInk text → HasInk text
   ended_ink [] h = absurd h
   ended_ink (c ∷ []) h = inl h
   ended_ink (c ∷ d ∷ rest) h = inr (ended_ink (d ∷ rest) h)
 
+  -- such parts are full
   ended_full : (ps : List Part) → AreEnded ps → AreFull ps
   ended_full [] h = tt
   ended_full (line text ∷ rest) h = (h.0, ended_ink text h.1, ended_full rest h.2)
@@ -128,15 +135,18 @@ module _ (breaks12 : Bool) where
   BeginsLine (line text ∷ rest) = Unit {0}
   BeginsLine (line_break b ∷ rest) = ⊥
 
+  -- a character before parts begins a line
   begun_line : (c : ℕ) (ps : List Part) → BeginsLine (begun c ps)
   begun_line c [] = tt
   begun_line c (line text ∷ rest) = tt
   begun_line c (line_break b ∷ rest) = tt
 
+  -- one more character before such a text
   ended_more : (c : ℕ) (text : Text) → EndsInk text → EndsInk (c ∷ text)
   ended_more c [] h = absurd h
   ended_more c (d ∷ rest) h = h
 
+  -- a character before such parts, where it isn't a space that ends a line
   ended_begun : (c : ℕ) (ps : List Part) → is_read_break breaks12 c ≡ false → (is_space c ≡ false) ⊎ BeginsLine ps → AreEnded ps → AreEnded (begun c ps)
   ended_begun c [] u (inl s) h = ((u, tt), s, tt)
   ended_begun c [] u (inr begins) h = absurd begins
@@ -144,6 +154,7 @@ module _ (breaks12 : Bool) where
   ended_begun c (line_break b ∷ rest) u (inl s) h = ((u, tt), s, h)
   ended_begun c (line_break b ∷ rest) u (inr begins) h = absurd begins
 
+  -- a break or such a character
   ended_part : (b : Bool) (c : ℕ) (ps : List Part) → is_read_break breaks12 c ≡ b → (is_space c ≡ false) ⊎ BeginsLine ps → AreEnded ps
       → AreEnded (if b then line_break c ∷ ps else begun c ps)
   ended_part true c ps e s h = (e, h)
@@ -159,10 +170,12 @@ module _ (breaks12 : Bool) where
   IsCut text (line first ∷ others) =
       Unbroken breaks12 first × AreFull others × (begins_with is_space text ≡ false → is_empty text ≡ false → HasInk first)
 
+  -- or the text is empty
   abbrev EndsInkOrNone : Text → Type 0
   EndsInkOrNone [] = Unit {0}
   EndsInkOrNone (c ∷ rest) = EndsInk (c ∷ rest)
 
+  -- what follows the first character
   ended_rest : (c : ℕ) (rest : Text) → EndsInk (c ∷ rest) → EndsInkOrNone rest
   ended_rest c [] h = tt
   ended_rest c (d ∷ rest) h = h
@@ -172,6 +185,7 @@ module _ (breaks12 : Bool) where
   ended_some c [] h s = absurd (true≢false (sym s ∙ h))
   ended_some c (d ∷ rest) h s = refl
 
+  -- one character more
   cut_step : (c : ℕ) (rest : Text) → is_read_break breaks12 c ≡ false → EndsInk (c ∷ rest) → (further : List Part) → IsCut rest further
       → (fold : Bool) → (fold ≡ true → (is_space c ≡ true) × (begins_with is_space rest ≡ false))
       → IsCut (c ∷ rest) (if fold then line [] ∷ line_break line_feed ∷ further else begun c further)
@@ -182,6 +196,7 @@ module _ (breaks12 : Bool) where
       (tt, (refl, (k.0, k.2 parts.1 (ended_some c rest ends parts.0), k.1)), λ none some. absurd (true≢false (sym parts.0 ∙ none)))
   cut_step c rest u ends (line first ∷ others) k false f = ((u, k.0), k.1, λ none some. inl none)
 
+  -- a line from some column on
   cut_known : (limit : Option ℕ) (indent column : ℕ) (text : Text) → Unbroken breaks12 text → EndsInkOrNone text
       → IsCut text (cut_from limit indent column text)
   cut_known limit indent column [] u ends = (tt, tt, λ none some. absurd (true≢false some))
@@ -190,19 +205,23 @@ module _ (breaks12 : Bool) where
       cut_step c rest u.0 ends (cut_from limit indent at rest) (cut_known limit indent at rest u.1 (ended_rest c rest ends))
       (folds limit column c rest) (fold-spaced limit column c rest)
 
+  -- so all parts are full where the line begins with no space
   cut_full : (text : Text) (ps : List Part) → begins_with is_space text ≡ false → is_empty text ≡ false → IsCut text ps → AreFull ps
   cut_full text [] none some k = absurd k
   cut_full text (line first ∷ others) none some k = (k.0, k.2 none some, k.1)
   cut_full text (line_break b ∷ others) none some k = absurd k
 
+  -- a text that ends so, or is empty
   ended_or : (text : Text) → EndsInk text → EndsInkOrNone text
   ended_or [] h = tt
   ended_or (c ∷ rest) h = h
 
+  -- a text that ends so isn't empty
   ended_not_empty : (text : Text) → EndsInk text → is_empty text ≡ false
   ended_not_empty [] h = absurd h
   ended_not_empty (c ∷ rest) h = refl
 
+  -- a line's parts, cut or whole
   line_full : (limit : Option ℕ) (indent : ℕ) (text : Text) → Unbroken breaks12 text → EndsInk text → AreFull (cut_line limit indent text)
   line_full limit indent text u ends = by (begins_with is_space text) refl
     where
@@ -211,11 +230,13 @@ module _ (breaks12 : Bool) where
       by false e =
           cut_full text (cut_from limit indent indent text) e (ended_not_empty text ends) (cut_known limit indent indent text u (ended_or text ends))
 
+  -- full parts after full parts
   full_joined : (front rest : List Part) → AreFull front → AreFull rest → AreFull (front ++ rest)
   full_joined [] rest h k = k
   full_joined (line text ∷ front) rest h k = (h.0, h.1, full_joined front rest h.2 k)
   full_joined (line_break b ∷ front) rest h k = (h.0, full_joined front rest h.1 k)
 
+  -- a break once or twice before full parts
   full_twice : (twice : Bool) (b : ℕ) (further : List Part) → is_read_break breaks12 b ≡ true → AreFull further
       → AreFull ((if twice then line_break b ∷ line_break b ∷ [] else line_break b ∷ []) ++ further)
   full_twice true b further e h = (e, (e, h))
@@ -246,6 +267,7 @@ module _ (charset : Charset) where
       by true false e = inr (begun_line charset.breaks12 d (parts rest))
       by false b e = inl refl
 
+  -- such a value's lines end with no space
   parts_ended : (value : Text) → somewhere (bars_block charset) value ≡ false → AreEnded charset.breaks12 (parts value)
   parts_ended [] h = tt
   parts_ended (c ∷ rest) h =
@@ -253,6 +275,7 @@ module _ (charset : Charset) where
       let special = (or_parts _ _ (or_parts _ _ split.0).0).0 in
       ended_part charset.breaks12 (is_break c) c (parts rest) (ordinary charset c special).same_break (space_inside c rest split.0) (parts_ended rest split.1)
 
+  -- where block styles are allowed
   value_ended : (value : Text) → allows_block charset value ≡ true → AreEnded charset.breaks12 (parts value)
   value_ended value allowed = parts_ended value (or_parts (is_empty value) _ (not-true _ allowed)).1
 

@@ -15,9 +15,11 @@ use Rattle.yaml_scalar.proofs.DoubleReads.{Fits, fits-breaks, fits-character, ke
 use Rattle.yaml_scalar.proofs.Sparing.{escape_graph, is_graph}
 use Rattle.yaml_scalar.proofs.Unbroken.{unescaped}
 
+-- printable ASCII breaks no line
 pub graph_no_break : (breaks12 : Bool) (c : ℕ) → is_graph c ≡ true → is_read_break breaks12 c ≡ false
 graph_no_break breaks12 c h = no-read-break breaks12 c (grind (arith, nat_tests))
 
+-- and but for the space is none
 graph_no_space : (c : ℕ) → is_graph c ≡ true → (c == space) ≡ false
 graph_no_space c h = grind (arith, nat_tests)
 
@@ -25,6 +27,7 @@ graph_no_space c h = grind (arith, nat_tests)
 graph_ink : (breaks12 : Bool) (c : ℕ) → is_graph c ≡ true → Ink breaks12 c
 graph_ink breaks12 c h = record { no_space = graph_no_space c h; no_break = graph_no_break breaks12 c h }
 
+-- a text of it is all ink
 graph_inks : (breaks12 : Bool) (text : Text) → list_all is_graph text ≡ true → AllInk breaks12 text
 graph_inks breaks12 [] h = tt
 graph_inks breaks12 (c ∷ rest) h = let p = and_parts (is_graph c) (list_all is_graph rest) h in (graph_ink breaks12 c p.0, graph_inks breaks12 rest p.1)
@@ -38,6 +41,7 @@ module _ (breaks12 unicode : Bool) (count indent : ℕ) (enough : count ≤ inde
       by true e = graph_inks breaks12 (escape_text c) (escape_graph c)
       by false e = (record { no_space = s; no_break = no-read-break breaks12 c (unescaped unicode c e).no_break }, tt)
 
+  -- its text begins with ink
   character_begins : (c : ℕ) (text : Text) → is_space c ≡ false → BeginsInk breaks12 (character_text unicode c ++ text)
   character_begins c text s = by (needs_escape unicode c) refl
     where
@@ -52,6 +56,7 @@ module _ (breaks12 unicode : Bool) (count indent : ℕ) (enough : count ≤ inde
     pub kept_even : is_other before ≡ false → IsEven breaks12 count (space_kept value ++ text)
     pub kept : is_other before ≡ false → BeginsInk breaks12 (space_kept value ++ text)
 
+  -- the closing quote
   quoted_end : (before : Option ℕ) → QuotedEven before [] (quote ∷ [])
   quoted_end before =
       let ink = graph_ink breaks12 quote refl in
@@ -105,6 +110,7 @@ module _ (breaks12 unicode : Bool) (count indent : ℕ) (enough : count ≤ inde
     abbrev Goes : (before : Option ℕ) (rest : Text) → Laid → ℕ → Type 0
     Goes before rest laid c = Follows c rest → QuotedEven before (c ∷ rest) ((then_laid laid (double_inside unicode limit indent (Some c) rest)).text ++ quote ∷ [])
 
+    -- a fold
     fold_goes : (before : Option ℕ) (rest : Text) (cursor : Cursor) → is_other before ≡ true → breaks_line indent cursor ≡ true
         → Goes before rest (double_fold indent rest cursor) space
     fold_goes before rest cursor other breaks ih =
@@ -116,12 +122,14 @@ module _ (breaks12 unicode : Bool) (count indent : ℕ) (enough : count ≤ inde
         (subst (λ (t : Text). QuotedEven before (space ∷ rest) t) (sym (append_assoc folded more (quote ∷ [])))
         (quoted_fold before rest (more ++ quote ∷ []) other (ih next fits)))
 
+    -- a space that stays
     space_goes : (before : Option ℕ) (rest : Text) (cursor : Cursor) → Fits indent before cursor
         → Goes before rest (text_laid (character_text unicode space) cursor) space
     space_goes before rest cursor fits ih =
         let next = ih (text_laid (character_text unicode space) cursor).cursor (fits-character unicode indent before space cursor fits) in
         rw (space-text unicode) (quoted_space before rest _ (rw (space-text unicode) at next))
 
+    -- another character
     other_goes : (before : Option ℕ) (c : ℕ) (rest : Text) (cursor : Cursor) → is_space c ≡ false → Fits indent before cursor
         → Goes before rest (text_laid (character_text unicode c) cursor) c
     other_goes before c rest cursor s fits ih =
