@@ -34,6 +34,7 @@ pub mod CanonicalSound
 pub mod SparingPlaces
 pub mod SparingSteps
 pub mod RawTexts
+pub mod TidyStreams
 pub mod CanonicalStream
 pub mod Canonical
 pub mod NodesDone

@@ -26,6 +26,7 @@ use Rattle.yaml_emitter.specs.State.{State}
 use Rattle.yaml_emitter.specs.StandsAfter.{HoldsPieces, StandsWell, StandsBy, StandsSo, StandsAfter}
 use Rattle.yaml_base.specs.WrittenTexts.{HoldsRaw}
 use Rattle.yaml_emitter.proofs.RawTexts.{texts_hold_raw}
+use Rattle.yaml_emitter.proofs.TidyStreams.{bodies_are_tidy}
 use Rattle.yaml_emitter.specs.Promises.{bytes_of_some, HasAllBytes, ends_stream, EndsExactly, IsWritten, Promised}
 use Rattle.yaml_emitter.proofs.StandingPromises.{take-length, stands_well, promises_text, promises_held, promises_refusal, promises_output, promises_within, promises_full, promises_end, all_written, whole_text}
 use Rattle.yaml_emitter.proofs.Meaning.{meaning_is_kept}
@@ -91,6 +92,7 @@ promises_whole given all state h none accepted =
       text = whole.text;
       output = output;
       means = meaning_is_kept given (encoding_asked all) all accepted (values_of_texts all h.texts);
+      tidy = bodies_are_tidy given (encoding_asked all) all accepted;
       raw = subst (HoldsRaw (settings_for given all)) (sym whole.text) (texts_hold_raw given (encoding_asked all) all accepted);
       reads = λ canonical uncut. ap (canonical_content given.breaks12) output ∙ output_reads given all (record { canonical = canonical; accepted = accepted; scalars = h.texts; uncut = uncut });
     }

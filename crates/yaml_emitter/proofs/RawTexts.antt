@@ -34,26 +34,24 @@ use Rattle.yaml_emitter.proofs.SparingSteps.{Spared, lacks_steps}
 
 -- No printable character of ASCII is special, nor LF, nor one that stands raw in double quotes.
 
-or_none : (unicode ascii breaks12 one other : Bool) → ascii ≡ true → one ≡ false → other ≡ false
-    → ((not unicode && not ascii) || (breaks12 && (one || other))) ≡ false
-or_none true ascii true one other a b c = simp (b, c)
-or_none true ascii false one other a b c = refl
-or_none false ascii true one other a b c = simp (a, b, c)
-or_none false ascii false one other a b c = simp a
-
-graph_parts : (c : ℕ) → is_graph c ≡ true → (is_printable c ≡ true) × (is_ascii c ≡ true) × ((c == line_separator) ≡ false) × ((c == paragraph_separator) ≡ false)
+-- printable ASCII is printable, of ASCII, and no separator
+graph_parts : (c : ℕ) → is_graph c ≡ true
+    → (is_printable c ≡ true) × (is_ascii c ≡ true) × ((c == line_separator) ≡ false) × ((c == paragraph_separator) ≡ false)
 graph_parts c h = (grind (arith, nat_tests), grind (arith, nat_tests), grind (arith, nat_tests), grind (arith, nat_tests))
 
+-- what is so isn't special
 special_from : (charset : Charset) (c : ℕ) → is_printable c ≡ true → is_ascii c ≡ true → (c == line_separator) ≡ false → (c == paragraph_separator) ≡ false
     → is_special charset c ≡ false
 special_from charset c p a l s = by charset.unicode charset.breaks12
   where
-    by : (unicode breaks12 : Bool) → (not (is_printable c) || (not unicode && not (is_ascii c)) || (breaks12 && (c == line_separator || c == paragraph_separator))) ≡ false
+    by : (unicode breaks12 : Bool)
+        → (not (is_printable c) || (not unicode && not (is_ascii c)) || (breaks12 && (c == line_separator || c == paragraph_separator))) ≡ false
     by true true = simp (p, l, s)
     by true false = simp p
     by false true = simp (p, a, l, s)
     by false false = simp (p, a)
 
+-- being special spares printable ASCII and LF
 pub special_spares : (charset : Charset) → Spares (is_special charset)
 special_spares charset = record {
   graph = λ c h. let p = graph_parts c h in special_from charset c p.0 p.1 p.2 p.3;
@@ -61,6 +59,7 @@ special_spares charset = record {
   feed = special_from charset line_feed refl refl refl refl;
 }
 
+-- what the test for an escape says of a character that needs none
 raw_parts : (p u b1 b2 b3 s1 s2 q k : Bool) → (not p || u || (b1 || b2 || b3 || s1 || s2) || q || k) ≡ false
     → (p ≡ true) × (u ≡ false) × (s1 ≡ false) × (s2 ≡ false)
 raw_parts p u b1 b2 b3 s1 s2 q k h =
@@ -70,12 +69,14 @@ raw_parts p u b1 b2 b3 s1 s2 q k h =
     let own = or_parts (not p) u first.0 in
     (not-false p own.0, own.1, (or_parts (b1 || b2 || b3) s1 breaks.0).1, breaks.1)
 
+-- such a character isn't special
 special_raw : (breaks12 unicode : Bool) (c : ℕ) → needs_escape unicode c ≡ false → is_special (record { unicode = unicode; breaks12 = breaks12 }) c ≡ false
 special_raw breaks12 unicode c h =
     let parts = raw_parts (is_printable c) (not unicode && not (is_ascii c)) (c == line_feed) (c == carriage_return) (c == next_line) (c == line_separator) (c == paragraph_separator) (c == quote) (c == backslash) h in
     by breaks12 parts
   where
-    by : (breaks12 : Bool) → (is_printable c ≡ true) × ((not unicode && not (is_ascii c)) ≡ false) × ((c == line_separator) ≡ false) × ((c == paragraph_separator) ≡ false)
+    by : (breaks12 : Bool)
+        → (is_printable c ≡ true) × ((not unicode && not (is_ascii c)) ≡ false) × ((c == line_separator) ≡ false) × ((c == paragraph_separator) ≡ false)
         → (not (is_printable c) || (not unicode && not (is_ascii c)) || (breaks12 && (c == line_separator || c == paragraph_separator))) ≡ false
     by true p = simp (p.0, p.1, p.2, p.3)
     by false p = simp (p.0, p.1)
@@ -100,6 +101,7 @@ special_bodies s is place folded limit value cursor h =
     lacks_folded (is_special (charset_of s)) (special_spares (charset_of s)) limit (deeper s.indent place.column) s.indent value cursor is.high
     (block_unspecial (charset_of s) value h)
 
+-- and no body meets it
 pub special_spared : (s : Effective) → IsIndent s.indent → Spared s (is_special (charset_of s))
 special_spared s is = record { spares = special_spares (charset_of s); bodies = special_bodies s is }
 
@@ -114,7 +116,8 @@ special_list s canonical events is accepted =
 -- From special characters to what stands raw.
 
 -- a test that is met by fewer characters
-pub lacks_fewer : (test fewer : ℕ → Bool) → ((c : ℕ) → test c ≡ false → fewer c ≡ false) → (text : Text) → list_any test text ≡ false → list_any fewer text ≡ false
+pub lacks_fewer : (test fewer : ℕ → Bool) → ((c : ℕ) → test c ≡ false → fewer c ≡ false) → (text : Text) → list_any test text ≡ false
+    → list_any fewer text ≡ false
 lacks_fewer test fewer implies [] h = refl
 lacks_fewer test fewer implies (c ∷ rest) h =
     let p = or_parts (test c) (list_any test rest) h in
@@ -133,6 +136,7 @@ lacks_break test carriage_return_break return feed = any_one test carriage_retur
 lacks_break test line_feed_break return feed = any_one test line_feed [] feed refl
 lacks_break test both_break return feed = any_one test carriage_return (line_feed ∷ []) return (any_one test line_feed [] feed refl)
 
+-- a text as its line breaks are written
 lacks_written : (test : ℕ → Bool) (setting : LineBreak) → test carriage_return ≡ false → test line_feed ≡ false → (text : Text)
     → list_any test text ≡ false → list_any test (with_breaks_written setting text) ≡ false
 lacks_written test setting return feed [] h = refl
@@ -145,10 +149,12 @@ lacks_written test setting return feed (c ∷ rest) h =
     by true own = lacks_break test setting return feed
     by false own = any_one test c [] own refl
 
+-- scalar values one by one are a text of them
 scalars_all : (text : Text) → list_all scalar text ≡ true → all_scalars text ≡ true
 scalars_all [] h = refl
 scalars_all (c ∷ rest) h = let p = and_parts (scalar c) (list_all scalar rest) h in and_from _ _ p.0 (scalars_all rest p.1)
 
+-- a printable character is a scalar value
 printable_scalar : (c : ℕ) → is_printable c ≡ true → scalar c ≡ true
 printable_scalar c h = grind (arith, nat_tests)
 
@@ -156,14 +162,17 @@ printable_scalar c h = grind (arith, nat_tests)
 pub special_printable : (charset : Charset) (c : ℕ) → is_special charset c ≡ false → is_printable c ≡ true
 special_printable charset c h = not-false _ (or_parts _ _ (or_parts _ _ h).0).0
 
+-- what fails where its condition holds
 then_false : (a b : Bool) → a ≡ true → (a && b) ≡ false → b ≡ false
 then_false true b is h = h
 then_false false b is h = absurd (false≢true is)
 
+-- with unicode off it is of ASCII
 special_ascii : (charset : Charset) (c : ℕ) → charset.unicode ≡ false → is_special charset c ≡ false → is_ascii c ≡ true
 special_ascii charset c off h =
     not-false _ (then_false (not charset.unicode) (not (is_ascii c)) (ap not off) (or_parts (not (is_printable c)) _ (or_parts _ _ h).0).1)
 
+-- with the line breaks of YAML 1.2 it is no separator
 special_separator : (charset : Charset) (c : ℕ) → charset.breaks12 ≡ true → is_special charset c ≡ false → is_separator c ≡ false
 special_separator charset c on h = then_false charset.breaks12 (is_separator c) on (or_parts _ (charset.breaks12 && is_separator c) h).1
 
@@ -187,11 +196,13 @@ raw_held s text h =
           (lacks_fewer special is_separator (λ c e. special_separator (charset_of s) c on e) text h);
     }
 
+-- What stands raw in the text of every accepted list.
 pub texts_hold_raw : TextsHoldRaw
 texts_hold_raw given encoding events accepted =
     let s = effective given encoding in
     raw_held s (text_of (list_layout s events)) (special_list s given.canonical events (is_indent given.indent) accepted)
 
+-- In any encoding the bytes of an accepted list are one text.
 pub streams_agree : StreamsAgree
 streams_agree given encoding events accepted =
     encodings_agree given encoding events (texts_hold_raw given (encoding_asked events) events accepted).scalars

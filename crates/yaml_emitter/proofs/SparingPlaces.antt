@@ -18,6 +18,7 @@ use Rattle.yaml_scalar.proofs.Sparing.{Spares, is_graph, lacks_graph, lacks_line
 use Rattle.yaml_emitter.proofs.CanonicalNames.{IsName, is_written, all_written, escaped-written, alphas-written, handle_text}
 use Rattle.yaml_emitter.proofs.CanonicalPlaces.{AnchorOk}
 
+-- what stands in a tag is printable ASCII
 written_graph : (c : ℕ) → is_written c ≡ true → is_graph c ≡ true
 written_graph c h = grind (arith, nat_tests)
 
@@ -28,13 +29,16 @@ graph_written (c ∷ rest) h =
     let p : (is_written c ≡ true) × (all_written rest ≡ true) = and_parts _ _ h in
     and_from _ _ (written_graph c p.0) (graph_written rest p.1)
 
+-- so is a text from its `!` on
 graph_mark : (text rest : Text) → text ≡ tag_mark ∷ rest → all_written rest ≡ true → list_all is_graph text ≡ true
 graph_mark text rest e h = ap (list_all is_graph) e ∙ graph_written rest h
 
+-- and a handle
 graph_handle : (handle : Text) → IsHandle handle → list_all is_graph handle ≡ true
 graph_handle handle is = let form = handle_text handle is in graph_mark handle form.rest form.is form.written
 
 module _ (test : ℕ → Bool) (spares : Spares test) where
+  -- a layout holds no character that meets the test
   abbrev pub Lacks : Laid → Type 0
   Lacks laid = list_any test laid.text ≡ false
 
@@ -47,6 +51,7 @@ module _ (test : ℕ → Bool) (spares : Spares test) where
   lacks_either true x y h k = h
   lacks_either false x y h k = k
 
+  -- a space, where one is needed
   pub lacks_space : (need : Bool) (cursor : Cursor) → list_any test (space_if need cursor) ≡ false
   lacks_space need cursor = any_cond test (need && not cursor.whitespace) (space ∷ []) [] (any_one test space [] spares.blank refl) refl
 
@@ -57,18 +62,22 @@ module _ (test : ℕ → Bool) (spares : Spares test) where
 
   -- Places
 
+  -- a new line in flow
   lacks_flow_break : (s : Effective) (column : Option ℕ) (cursor : Cursor) → Lacks (flow_break s column cursor)
   lacks_flow_break s column cursor = lacks_either (s.canonical || is_past_width s.width cursor) (new_line (line_column column) cursor) (nothing_laid cursor)
       (lacks_line test spares (line_column column) cursor) refl
 
+  -- an opening bracket or a comma
   lacks_opening : (bracket : Text) (first : Bool) (cursor : Cursor) → list_all is_graph bracket ≡ true → Lacks (opening_or_comma bracket first cursor)
   lacks_opening bracket true cursor h = lacks_sign bracket true true false cursor h
   lacks_opening bracket false cursor h = lacks_sign (codes ",") false false false cursor refl
 
+  -- the sign of a key
   lacks_key_sign : (simple ind : Bool) (cursor : Cursor) → Lacks (key_sign simple ind cursor)
   lacks_key_sign true ind cursor = refl
   lacks_key_sign false ind cursor = lacks_sign (codes "?") true false ind cursor refl
 
+  -- a place in flow
   lacks_flow_place : (s : Effective) (role : Role) (simple : Bool) (column : Option ℕ) (cursor : Cursor) → Lacks (flow_place_laid s role simple column cursor)
   lacks_flow_place s as_root simple column cursor = refl
   lacks_flow_place s (as_item first) simple column cursor =
@@ -82,6 +91,7 @@ module _ (test : ℕ → Bool) (spares : Spares test) where
       lacks_then (flow_break s column cursor) (indicator (codes ":") true false false) (lacks_flow_break s column cursor)
       (λ after. lacks_sign (codes ":") true false false after refl)
 
+  -- a place in a block
   lacks_block_place : (role : Role) (simple : Bool) (column : Option ℕ) (cursor : Cursor) → Lacks (block_place_laid role simple column cursor)
   lacks_block_place as_root simple column cursor = refl
   lacks_block_place (as_item first) simple column cursor =
@@ -102,23 +112,28 @@ module _ (test : ℕ → Bool) (spares : Spares test) where
 
   -- Names and tags
 
+  -- a name
   pub lacks_name : (name : Text) → list_all is_alpha name ≡ true → list_any test name ≡ false
   lacks_name name h = lacks_graph test spares name (graph_written name (alphas-written name h))
 
+  -- percent forms
   lacks_percent : (text : Text) → list_any test (percent_escaped text) ≡ false
   lacks_percent text = lacks_graph test spares (percent_escaped text) (graph_written (percent_escaped text) (escaped-written text))
 
+  -- an anchor
   lacks_anchor : (anchor : Option Text) (cursor : Cursor) → AnchorOk anchor → Lacks (anchor_laid anchor cursor)
   lacks_anchor None cursor ok = refl
   lacks_anchor (Some name) cursor ok =
       lacks_then (indicator (codes "&") true false false cursor) (name_laid name) (lacks_sign (codes "&") true false false cursor refl)
       (λ after. lacks_name name ok.alphas)
 
+  -- a handle
   lacks_handle : (handle : Text) (cursor : Cursor) → list_all is_graph handle ≡ true → Lacks (handle_laid handle cursor)
   lacks_handle handle cursor h = any_both test (space_if true cursor) handle (lacks_space true cursor) (lacks_graph test spares handle h)
 
   -- a tag's text by the directives in force
-  lacks_spelling : (own directives : List TagDirective) (tag : Text) (cursor : Cursor) → AreFound own directives → Lacks (spelling_laid (spelling directives tag) cursor)
+  lacks_spelling : (own directives : List TagDirective) (tag : Text) (cursor : Cursor) → AreFound own directives
+      → Lacks (spelling_laid (spelling directives tag) cursor)
   lacks_spelling own directives tag cursor found =
       let P : Spelling → Type 0 = λ spelled. Lacks (spelling_laid spelled cursor) in
       spelling_is P own directives tag found
@@ -130,13 +145,16 @@ module _ (test : ℕ → Bool) (spares : Spares test) where
       lacks_then (handle_laid handle cursor) (name_laid (percent_escaped (c ∷ suffix))) (lacks_handle handle cursor (graph_handle handle (handle_form handle f)))
       (λ after. lacks_percent (c ∷ suffix)))
 
-  lacks_tag : (own directives : List TagDirective) (tag : Option Text) (bare : Bool) (cursor : Cursor) → AreFound own directives → Lacks (tag_laid directives tag bare cursor)
+  -- a tag that is written, or the bare tag
+  lacks_tag : (own directives : List TagDirective) (tag : Option Text) (bare : Bool) (cursor : Cursor) → AreFound own directives
+      → Lacks (tag_laid directives tag bare cursor)
   lacks_tag own directives (Some tag) bare cursor found = lacks_spelling own directives tag cursor found
   lacks_tag own directives None true cursor found = lacks_handle (codes "!") cursor refl
   lacks_tag own directives None false cursor found = refl
 
   -- the anchor and the tag
-  pub lacks_properties : (own directives : List TagDirective) (anchor tag : Option Text) (bare : Bool) (cursor : Cursor) → AreFound own directives → AnchorOk anchor
+  pub lacks_properties : (own directives : List TagDirective) (anchor tag : Option Text) (bare : Bool) (cursor : Cursor) → AreFound own directives
+      → AnchorOk anchor
       → Lacks (properties_laid directives anchor tag bare cursor)
   lacks_properties own directives anchor tag bare cursor found ok =
       lacks_then (anchor_laid anchor cursor) (tag_laid directives tag bare) (lacks_anchor anchor cursor ok) (λ after. lacks_tag own directives tag bare after found)
@@ -159,6 +177,7 @@ module _ (test : ℕ → Bool) (spares : Spares test) where
 
   -- Ends of collections
 
+  -- a bracket or a comma before a closing bracket
   lacks_comma : (s : Effective) (opening : Text) (empty : Bool) (column : Option ℕ) (cursor : Cursor) → list_all is_graph opening ≡ true
       → Lacks (empty_or_comma s opening empty column cursor)
   lacks_comma s opening true column cursor h = lacks_sign opening true true false cursor h
@@ -177,12 +196,15 @@ module _ (test : ℕ → Bool) (spares : Spares test) where
 
   -- Documents
 
+  -- a word of a line of its own
   lacks_word : (sign : Text) (cursor : Cursor) → list_all is_graph sign ≡ true → Lacks (sign_laid sign cursor)
   lacks_word sign cursor h = lacks_sign sign true false false cursor h
 
+  -- a line and its break
   lacks_ended : (laid : Laid) → Lacks laid → Lacks (line_ended laid)
   lacks_ended laid h = lacks_then laid (new_line 0) h (lacks_line test spares 0)
 
+  -- a text that is laid only where a test holds
   pub lacks_if : (b : Bool) (next : Cursor → Laid) (cursor : Cursor) → Lacks (next cursor) → Lacks (laid_if b next cursor)
   lacks_if true next cursor h = h
   lacks_if false next cursor h = refl
@@ -191,10 +213,12 @@ module _ (test : ℕ → Bool) (spares : Spares test) where
   pub lacks_closing : (cursor : Cursor) → Lacks (closing_mark_laid cursor)
   lacks_closing cursor = lacks_ended (sign_laid (codes "...") cursor) (lacks_word (codes "...") cursor refl)
 
+  -- the number of a version
   lacks_number : (b : Bool) → list_all is_graph (if b then codes "1.2" else codes "1.1") ≡ true
   lacks_number true = refl
   lacks_number false = refl
 
+  -- a `%YAML` line
   lacks_version : (version : Option Version) (cursor : Cursor) → Lacks (version_laid version cursor)
   lacks_version None cursor = refl
   lacks_version (Some version) cursor =
@@ -202,6 +226,7 @@ module _ (test : ℕ → Bool) (spares : Spares test) where
       (lacks_then (sign_laid (codes "%YAML") cursor) (sign_laid (version_text version)) (lacks_word (codes "%YAML") cursor refl)
       (λ after. lacks_word (version_text version) after (lacks_number _)))
 
+  -- a `%TAG` line
   lacks_directive : (directive : TagDirective) (cursor : Cursor) → IsHandle directive.handle → Lacks (tag_directive_laid directive cursor)
   lacks_directive directive cursor h =
       let sign = sign_laid (codes "%TAG") cursor in
@@ -212,12 +237,14 @@ module _ (test : ℕ → Bool) (spares : Spares test) where
       (λ after. lacks_handle directive.handle after (graph_handle directive.handle h)))
       (λ after. any_both test (space_if true after) (percent_escaped directive.prefix) (lacks_space true after) (lacks_percent directive.prefix)))
 
+  -- all of them
   lacks_directives : (own directives : List TagDirective) (cursor : Cursor) → AreFound own directives → Lacks (tag_directives_laid directives cursor)
   lacks_directives own [] cursor found = refl
   lacks_directives own (directive ∷ rest) cursor found =
       lacks_then (tag_directive_laid directive cursor) (tag_directives_laid rest) (lacks_directive directive cursor (handle_form directive.handle found.0))
       (λ after. lacks_directives own rest after found.2)
 
+  -- `---`
   lacks_mark : (canonical : Bool) (cursor : Cursor) → Lacks (document_mark_laid canonical cursor)
   lacks_mark canonical cursor =
       let line = new_line 0 cursor in

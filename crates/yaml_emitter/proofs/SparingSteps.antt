@@ -49,6 +49,7 @@ abbrev pub StageFound : Stage → Type 0
 StageFound (at_node directives frames) = (own : List TagDirective) × AreFound own directives
 StageFound _ = Unit {0}
 
+-- after a node
 found_after : (directives : List TagDirective) (frames : List Frame) (simple : Bool) → (own : List TagDirective) × AreFound own directives
     → StageFound (stage_after directives frames simple)
 found_after directives [] simple found = tt
@@ -67,6 +68,7 @@ node_step_found s directives [] mapping_end empty standing found = tt
 node_step_found s directives (frame ∷ outer) mapping_end empty standing found = found_after directives outer frame.simple found
 node_step_found s directives frames _ empty standing found = tt
 
+-- at any stage
 pub step_found : (s : Effective) (stage : Stage) (event : Event) (empty : Bool) (standing : Standing) → StageFound stage → NamesOk event
     → StageFound (step s stage event empty standing).stage
 step_found s (at_node directives frames) event empty standing found ok = node_step_found s directives frames event empty standing found
@@ -81,6 +83,7 @@ front_found : (own front rest : List TagDirective) → AreFound own (front ++ re
 front_found own [] rest found = tt
 front_found own (directive ∷ front) rest found = (found.0, found.1, front_found own front rest found.2)
 
+-- directives that none is refused of are found
 own_found : (own : List TagDirective) → directives_fault own ≡ None → AreFound own own
 own_found own h = front_found own own _ (in_force_found own h)
 
@@ -92,6 +95,7 @@ pub record Spared (s : Effective) (test : ℕ → Bool) : Type 0 where
       → list_any test (body_laid style s limit (deeper s.indent place.column) value cursor).text ≡ false
 
 module _ (s : Effective) (test : ℕ → Bool) (spared : Spared s test) where
+  -- a piece's text holds no character that meets the test
   abbrev LacksPiece : Piece → Type 0
   LacksPiece piece = list_any test (piece_text piece) ≡ false
 
@@ -99,8 +103,10 @@ module _ (s : Effective) (test : ℕ → Bool) (spared : Spared s test) where
   lacks_alone : (laid : Laid) → Lacks test spared.spares laid → list_any test (laid.text ++ []) ≡ false
   lacks_alone laid h = any_both test laid.text [] h refl
 
+  -- a scalar's piece
   lacks_scalar : (directives : List TagDirective) (place : Place) (simple : Bool) (content : Scalar) (standing : Standing)
-      → (own : List TagDirective) × AreFound own directives → AnchorOk content.anchor → LacksPiece (scalar_piece s directives place simple content standing).piece
+      → (own : List TagDirective) × AreFound own directives → AnchorOk content.anchor
+      → LacksPiece (scalar_piece s directives place simple content standing).piece
   lacks_scalar directives place simple content standing found ok =
       let choice = choice_of s place simple content in
       let tag = scalar_tag s.canonical content in
@@ -116,6 +122,7 @@ module _ (s : Effective) (test : ℕ → Bool) (spared : Spared s test) where
       (chosen_allowed (allowances (charset_of s) content.value) content.style (is_empty content.value) (is_some tag)
       content.plain_implicit content.quoted_implicit place.in_flow simple s.canonical))
 
+  -- a collection's start
   lacks_start : (directives : List TagDirective) (place : Place) (simple : Bool) (start : Collection) (standing : Standing)
       → (own : List TagDirective) × AreFound own directives → AnchorOk start.anchor → LacksPiece (start_piece s directives place simple start standing).piece
   lacks_start directives place simple start standing found ok =
@@ -125,10 +132,13 @@ module _ (s : Effective) (test : ℕ → Bool) (spared : Spared s test) where
       (lacks_then test spared.spares placed (properties_laid directives start.anchor tag false) (lacks_place test spared.spares s place simple standing.cursor)
       (λ after. lacks_properties test spared.spares found.0 directives start.anchor tag false after found.1 ok))
 
+  -- a collection's end
   lacks_closed : (brackets : Brackets) (in_flow empty : Bool) (column : Option ℕ) (standing : Standing)
-      → Lacks test spared.spares (end_laid s brackets in_flow empty column standing.cursor) → LacksPiece (end_piece s brackets in_flow empty column standing).piece
+      → Lacks test spared.spares (end_laid s brackets in_flow empty column standing.cursor)
+      → LacksPiece (end_piece s brackets in_flow empty column standing).piece
   lacks_closed brackets in_flow empty column standing h = lacks_alone (end_laid s brackets in_flow empty column standing.cursor) h
 
+  -- an event within a document
   lacks_node_step : (directives : List TagDirective) (frames : List Frame) (event : Event) (empty : Bool) (standing : Standing)
       → (own : List TagDirective) × AreFound own directives → NamesOk event → LacksPiece (node_step s directives frames event empty standing).laid.piece
   lacks_node_step directives frames (alias name) empty standing found ok =
@@ -150,12 +160,14 @@ module _ (s : Effective) (test : ℕ → Bool) (spared : Spared s test) where
       (lacks_end test spared.spares s curly frame.place.in_flow (is_first frame.place.role) (next_place outer).column standing.cursor refl refl)
   lacks_node_step directives frames _ empty standing found ok = refl
 
+  -- a document's end
   lacks_document_end : (implicit : Bool) (standing : Standing) → LacksPiece (document_end_piece implicit standing).piece
   lacks_document_end true standing = lacks_alone (new_line 0 standing.cursor) (lacks_line test spared.spares 0 standing.cursor)
   lacks_document_end false standing =
       lacks_alone (then_laid (new_line 0 standing.cursor) closing_mark_laid)
       (lacks_then test spared.spares (new_line 0 standing.cursor) closing_mark_laid (lacks_line test spared.spares 0 standing.cursor) (lacks_closing test spared.spares))
 
+  -- an event at any stage
   lacks_step : (stage : Stage) (event : Event) (empty : Bool) (standing : Standing) → StageFound stage → NamesOk event
       → LacksPiece (step s stage event empty standing).laid.piece
   lacks_step (at_node directives frames) event empty standing found ok = lacks_node_step directives frames event empty standing found ok

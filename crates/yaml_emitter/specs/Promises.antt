@@ -14,6 +14,7 @@ use Rattle.yaml_base.specs.Output.{settings_for, text_written, bytes_written, ou
 use Rattle.yaml_base.specs.Meaning.{BodyMeans}
 use Rattle.yaml_base.specs.Content.{content_of}
 use Rattle.yaml_base.specs.CanonicalReader.{canonical_content}
+use Rattle.yaml_base.specs.TidyBodies.{IsTidy}
 use Rattle.yaml_base.specs.WrittenTexts.{HoldsRaw}
 use Rattle.yaml_base.specs.declared.errors.yaml_error_t.{yaml_error_t}
 use Rattle.yaml_base.specs.declared.errors.yaml_error_t.TheVariants.{WriteError, Memory}
@@ -130,13 +131,15 @@ abbrev pub HasAllBytes : Settings → List Event → State → Type 0
 HasAllBytes given all state = state.page.output ≡ bytes_so_far given all
 
 -- an accepted list is written whole, and means what it says: each scalar reads as its value, and uncut canonical bytes
--- read as the content; what stands raw in the text is printable, and no U+2028 or U+2029 with the line breaks of YAML 1.2
+-- read as the content; what stands raw in the text is printable, and no U+2028 or U+2029 with the line breaks of YAML 1.2; each
+-- scalar's text is tidy
 pub record IsWritten (given : Settings) (all : List Event) (state : State) : Type 0 where
   pub text : state.page.text ≡ text_written (settings_for given all) (list_layout (settings_for given all) all)
   pub output : state.page.output ≡ output_of given all
   pub means : All (BodyMeans (settings_for given all)) (bodies_of (list_layout (settings_for given all) all))
   pub reads : given.canonical ≡ true → IsUncut given all → canonical_content given.breaks12 state.page.output ≡ content_of all
   pub raw : HoldsRaw (settings_for given all) state.page.text
+  pub tidy : All (IsTidy (settings_for given all)) (bodies_of (list_layout (settings_for given all) all))
 
 -- what a caller may rely on wherever an emitter stands
 pub record Promised (given : Settings) (all : List Event) (state : State) : Type 0 where

@@ -3,7 +3,10 @@ ghost use Rattle.std.specs.Prelude.{List};
 ghost use Rattle.yaml_base.specs.Event.{Event};
 ghost use Rattle.yaml_base.specs.Meaning.{CanonicalBytesRead, MeaningIsKept};
 ghost use Rattle.yaml_base.specs.Settings.{Settings};
-ghost use Rattle.yaml_base.specs.WrittenTexts.{StreamsAgree, TextsHoldRaw};
+ghost use Rattle.yaml_base.specs.WrittenTexts.{BodiesAreTidy, StreamsAgree, TextsHoldRaw};
+ghost use Rattle.yaml_emitter.specs.Promises.{Promised};
+ghost use Rattle.yaml_emitter.specs.StandsAfter.{StandsAfter};
+ghost use Rattle.yaml_emitter.specs.State.{State};
 ghost use Rattle.yaml_emitter.specs.Uncut.{OutputReads, OutputTells};
 
 /// Every scalar in the layout of an accepted list reads back: its text, read by the rules of its style where it
@@ -16,6 +19,13 @@ pub fn meaning_is_kept()
 /// alone where no more is kept; with the line breaks of YAML 1.2 neither U+2028 nor U+2029 (YAML 1.2, section 5.4).
 pub fn texts_hold_raw()
     ensures { TextsHoldRaw }
+{}
+
+/// Every scalar in the layout of a well-formed event stream is tidy: its characters are printable, each nonempty line of it
+/// after the first stands deeper than the block around it and isn't of spaces alone, no space stands before a break but in a
+/// block style, and a plain text has no blank and no break at its edges.
+pub fn bodies_are_tidy()
+    ensures { BodiesAreTidy }
 {}
 
 /// Under settings that differ in the encoding alone, the bytes of a well-formed event stream are one text: decoded without
@@ -35,4 +45,9 @@ pub fn canonical_bytes_read()
 pub fn canonical_output_reads()
     ensures reads { (given : Settings) (events : List Event) → OutputReads given events }
     ensures tells { (given : Settings) (first second : List Event) → OutputTells given first second }
+{}
+
+/// What stands after the events that it was given keeps every promise of them.
+pub fn standing_is_promised()
+    ensures { (given : Settings) (all : List Event) (state : State) → StandsAfter given all state → Promised given all state }
 {}

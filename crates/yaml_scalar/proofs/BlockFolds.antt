@@ -64,7 +64,7 @@ cut-step breaks12 c rest o e (line first ∷ others) k false f =
     }
 
 -- a fold stands in place of a space, before another character
-fold-spaced : (limit : Option ℕ) (column c : ℕ) (rest : Text) → folds limit column c rest ≡ true → (is_space c ≡ true) × (begins_with is_space rest ≡ false)
+pub fold-spaced : (limit : Option ℕ) (column c : ℕ) (rest : Text) → folds limit column c rest ≡ true → (is_space c ≡ true) × (begins_with is_space rest ≡ false)
 fold-spaced limit column c rest h =
     let outer = and_parts (is_space c && not (begins_with is_space rest)) (is_past limit column) h in
     let inner = and_parts (is_space c) (not (begins_with is_space rest)) outer.0 in

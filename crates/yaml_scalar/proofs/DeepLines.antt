@@ -58,7 +58,8 @@ module _ (breaks12 : Bool) where
   blank_spaces zero (c ∷ rest) h = simp (h.no_break, h.no_space)
   blank_spaces (suc n) text h = simp (space_unbroken breaks12, blank_spaces n text h)
 
-  enough_spaces : (count indent : ℕ) (text : Text) → count ≤ indent → begins_with_spaces count (replicate indent space ++ text) ≡ true
+  -- an indentation begins with as many spaces or fewer
+  pub enough_spaces : (count indent : ℕ) (text : Text) → count ≤ indent → begins_with_spaces count (replicate indent space ++ text) ≡ true
   enough_spaces zero indent text h = refl
   enough_spaces (suc count) zero text h = absurd (omega (arith, h))
   enough_spaces (suc count) (suc indent) text h = enough_spaces count indent text (omega (arith, h))
@@ -69,21 +70,25 @@ module _ (breaks12 : Bool) where
   deep_indent count indent text enough h =
       or_right _ _ (and_from _ _ (enough_spaces count indent text enough) (ap not (blank_spaces indent text h)))
 
+  -- a line that a break ends at once
   pub deep_break : (count : ℕ) (text : Text) → begins_with_break breaks12 text ≡ true → begins_with_deep_line breaks12 count text ≡ true
   deep_break count [] h = absurd (false≢true h)
   deep_break count (c ∷ rest) h = or_left _ _ h
 
   -- Deep lines
 
+  -- characters that break no line, before deep lines
   pub deep_unbroken : (count : ℕ) (front text : Text) → Unbroken breaks12 front → has_deep_lines breaks12 count text ≡ true
       → has_deep_lines breaks12 count (front ++ text) ≡ true
   deep_unbroken count [] text h k = k
   deep_unbroken count (c ∷ front) text h k = and_from _ _ (or_left _ _ (ap not h.0)) (deep_unbroken count front text h.1 k)
 
+  -- spaces break no line
   pub spaces_unbroken : (n : ℕ) → Unbroken breaks12 (replicate n space)
   spaces_unbroken zero = tt
   spaces_unbroken (suc n) = (space_unbroken breaks12, spaces_unbroken n)
 
+  -- any character before a deep line
   pub deep_after : (count b : ℕ) (text : Text) → begins_with_deep_line breaks12 count text ≡ true → has_deep_lines breaks12 count text ≡ true
       → has_deep_lines breaks12 count (b ∷ text) ≡ true
   deep_after count b text h k = and_from _ _ (or_right _ _ h) k
@@ -93,7 +98,9 @@ module _ (breaks12 : Bool) where
     pub deep : has_deep_lines breaks12 count text ≡ true
     pub even : has_no_space_before_break breaks12 text ≡ true
 
-  even_other : (c : ℕ) (text : Text) → (c == space) ≡ false → has_no_space_before_break breaks12 text ≡ true → has_no_space_before_break breaks12 (c ∷ text) ≡ true
+  -- another character than a space
+  even_other : (c : ℕ) (text : Text) → (c == space) ≡ false → has_no_space_before_break breaks12 text ≡ true
+      → has_no_space_before_break breaks12 (c ∷ text) ≡ true
   even_other c text h k = rw h k
 
   -- ink before such a text
@@ -121,6 +128,7 @@ module _ (breaks12 : Bool) where
     even = even_other b text (break_no_space breaks12 b h) k.even;
   }
 
+  -- spaces before ink begin with no break
   spaces_before : (n : ℕ) (text : Text) → BeginsInk breaks12 text → begins_with_break breaks12 (replicate n space ++ text) ≡ false
   spaces_before zero text h = ink_unbroken text h
   spaces_before (suc n) text h = space_unbroken breaks12

@@ -30,7 +30,7 @@ read-break-parts y false false false false true h = cc
 read-break-parts true false false false false false h = refl
 read-break-parts false false false false false false h = refl
 
-no-read-break : (breaks12 : Bool) (c : ℕ) → is_break c ≡ false → is_read_break breaks12 c ≡ false
+pub no-read-break : (breaks12 : Bool) (c : ℕ) → is_break c ≡ false → is_read_break breaks12 c ≡ false
 no-read-break breaks12 c h =
     read-break-parts breaks12 (c == line_feed) (c == carriage_return) (c == next_line) (c == line_separator) (c == paragraph_separator) h
 
@@ -56,7 +56,7 @@ character-reads breaks12 unicode c rest h s = go (needs_escape unicode c) refl
     go false is = other-reads breaks12 unicode c rest is s
 
 -- a space stands as itself
-space-text : (unicode : Bool) → character_text unicode space ≡ space ∷ []
+pub space-text : (unicode : Bool) → character_text unicode space ≡ space ∷ []
 space-text true = refl
 space-text false = refl
 
@@ -113,19 +113,19 @@ blank-kept : (c : ℕ) (blanks breaks rest : Text) → breaks ≡ []
 blank-kept c blanks breaks rest e = rw e
 
 -- a fold stands behind a character that is no space
-may-fold-other : (before : Option ℕ) (rest : Text) → may_fold before rest ≡ true → is_other before ≡ true
+pub may-fold-other : (before : Option ℕ) (rest : Text) → may_fold before rest ≡ true → is_other before ≡ true
 may-fold-other before [] h = cc
 may-fold-other before (c ∷ rest) h = h
 
 -- behind such a character the column is past the indentation
-abbrev margin : Option ℕ → ℕ
+abbrev pub margin : Option ℕ → ℕ
 margin before = if is_other before then 1 else 0
 
 -- a fold here breaks the line: the cursor is behind no indentation, or past its own
-abbrev Fits : (indent : ℕ) → (before : Option ℕ) → Cursor → Type 0
+abbrev pub Fits : (indent : ℕ) → (before : Option ℕ) → Cursor → Type 0
 Fits indent before cursor = (cursor.indention ≡ false) ⊎ (indent + margin before ≤ cursor.column)
 
-fits-breaks : (indent : ℕ) (before : Option ℕ) (cursor : Cursor) → is_other before ≡ true → Fits indent before cursor
+pub fits-breaks : (indent : ℕ) (before : Option ℕ) (cursor : Cursor) → is_other before ≡ true → Fits indent before cursor
     → breaks_line indent cursor ≡ true
 fits-breaks indent before cursor h (inl e) = rw e
 fits-breaks indent before cursor h (inr le) =
@@ -227,7 +227,7 @@ inside-fold breaks12 tail before indent rest text wide other ih =
     })
 
 -- a fold ends at its indentation, or behind the backslash
-kept-column : (rest : Text) (column : ℕ) → column ≤ column_after (space_kept rest) column
+pub kept-column : (rest : Text) (column : ℕ) → column ≤ column_after (space_kept rest) column
 kept-column rest column = let e = unbroken-column (space_kept rest) column (kept-unbroken rest) in omega (arith, e)
 
 margin-small : (before : Option ℕ) → margin before ≤ 1
@@ -238,7 +238,7 @@ margin-small before = go (is_other before)
     go false = omega arith
 
 -- the cursor behind a character's text
-fits-character : (unicode : Bool) (indent : ℕ) (before : Option ℕ) (c : ℕ) (cursor : Cursor) → Fits indent before cursor
+pub fits-character : (unicode : Bool) (indent : ℕ) (before : Option ℕ) (c : ℕ) (cursor : Cursor) → Fits indent before cursor
     → Fits indent (Some c) (text_laid (character_text unicode c) cursor).cursor
 fits-character unicode indent before c cursor (inl e) = inl e
 fits-character unicode indent before c cursor (inr le) =
@@ -298,7 +298,7 @@ module _ (breaks12 unicode : Bool) (limit : Option ℕ) (indent : ℕ) (wide : 2
       step before c rest cursor _ (is_space c) refl refl p.0 fits (λ next. inside-reads rest (Some c) next p.1)
 
 -- the cursor behind the opening quote
-abbrev quoted_cursor : Cursor → Cursor
+abbrev pub quoted_cursor : Cursor → Cursor
 quoted_cursor cursor = (quote_laid cursor).cursor
 
 body-inside : (breaks12 unicode : Bool) (limit : Option ℕ) (indent : ℕ) (value : Text) (cursor : Cursor) (tail : Text)

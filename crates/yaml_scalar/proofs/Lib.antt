@@ -16,6 +16,8 @@ pub mod Sparing
 pub mod SparingBlocks
 pub mod DeepLines
 pub mod TidyLines
+pub mod TidyQuoted
+pub mod TidyBlocks
 pub mod BlockSteps
 pub mod Barred
 pub mod ByteRuns

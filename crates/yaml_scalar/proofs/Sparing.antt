@@ -48,18 +48,21 @@ letter_graph (entry ∷ more) c letter h found =
 digit_graph : (n : ℕ) → is_graph (hex_digit (n % 16)) ≡ true
 digit_graph n = agree_below_at (λ d. is_graph (hex_digit d)) (λ d. true) 16 (n % 16) refl (omega arith)
 
+-- any number of digits
 pub digits_graph : (count n : ℕ) → list_all is_graph (hex_digits count n) ≡ true
 digits_graph zero n = refl
 digits_graph (suc count) n =
     list_all-append is_graph (hex_digits count (n / 16)) (hex_digit (n % 16) ∷ [])
     ∙ and_from _ _ (digits_graph count (n / 16)) (and_from _ true (digit_graph n) refl)
 
+-- the digits of an escape, with their letter
 number_graph : (c : ℕ) (two four : Bool)
     → list_all is_graph (if two then 120 ∷ hex_digits 2 c else (if four then 117 ∷ hex_digits 4 c else 85 ∷ hex_digits 8 c)) ≡ true
 number_graph c true four = digits_graph 2 c
 number_graph c false true = digits_graph 4 c
 number_graph c false false = digits_graph 8 c
 
+-- what follows the backslash
 escape_rest : (c : ℕ) (found : Option ℕ) → letter_among short_escapes c ≡ found → list_all is_graph (escape_after_backslash found c) ≡ true
 escape_rest c (Some letter) found = and_from _ true (letter_graph short_escapes c letter refl found) refl
 escape_rest c None found = number_graph c (nat_le c 0xFF) (nat_le c 0xFFFF)
@@ -105,6 +108,7 @@ module _ (test : ℕ → Bool) (spares : Spares test) where
       (any_both test (quotes_doubled text) (39 ∷ []) (any_doubled test quote_spared text bare) (any_one test 39 [] quote_spared refl))
 
   module _ (unicode : Bool) (raw : (c : ℕ) → needs_escape unicode c ≡ false → test c ≡ false) where
+    -- a character, as an escape or as itself
     lacks_character : (c : ℕ) → list_any test (character_text unicode c) ≡ false
     lacks_character c = by (needs_escape unicode c) refl
       where
@@ -112,10 +116,12 @@ module _ (test : ℕ → Bool) (spares : Spares test) where
         by true e = lacks_graph (escape_text c) (escape_graph c)
         by false e = any_one test c [] (raw c e) refl
 
+    -- a backslash before a space
     lacks_kept : (rest : Text) → list_any test (space_kept rest) ≡ false
     lacks_kept [] = refl
     lacks_kept (c ∷ rest) = any_cond test (is_space c) (backslash ∷ []) [] (any_one test backslash [] (spares.graph backslash refl) refl) refl
 
+    -- what stands between the quotes
     lacks_inside : (limit : Option ℕ) (indent : ℕ) (before : Option ℕ) (value : Text) (cursor : Cursor)
         → list_any test (double_inside unicode limit indent before value cursor).text ≡ false
     lacks_inside limit indent before [] cursor = refl

@@ -16,6 +16,10 @@ use Rattle.yaml_scalar.proofs.LineTexts.{any_both, any_cond, any_one}
 use Rattle.yaml_scalar.proofs.PlainReads.{plain_bars, plain_is_single}
 use Rattle.yaml_scalar.proofs.Sparing.{Spares, is_graph, lacks_spaces}
 
+-- a digit
+pub one_digit : (n : ℕ) → n ≤ 9 → is_graph (48 + n) ≡ true
+one_digit n high = and_from _ _ (le-leb 0x21 (48 + n) (omega arith)) (le-leb (48 + n) 0x7E (omega arith))
+
 module _ (test : ℕ → Bool) where
   -- a test holds nowhere in parts
   abbrev pub PartsLack : List Part → Type 0
@@ -23,16 +27,19 @@ module _ (test : ℕ → Bool) where
   PartsLack (line text ∷ rest) = (list_any test text ≡ false) × PartsLack rest
   PartsLack (line_break b ∷ rest) = (test b ≡ false) × PartsLack rest
 
+  -- parts after parts
   lacks_joined : (front rest : List Part) → PartsLack front → PartsLack rest → PartsLack (front ++ rest)
   lacks_joined [] rest h k = k
   lacks_joined (line text ∷ front) rest h k = (h.0, lacks_joined front rest h.1 k)
   lacks_joined (line_break b ∷ front) rest h k = (h.0, lacks_joined front rest h.1 k)
 
+  -- a character before parts
   lacks_begun : (c : ℕ) (ps : List Part) → test c ≡ false → PartsLack ps → PartsLack (begun c ps)
   lacks_begun c [] e h = (any_one test c [] e refl, tt)
   lacks_begun c (line text ∷ rest) e h = (any_one test c text e h.0, h.1)
   lacks_begun c (line_break b ∷ rest) e h = (any_one test c [] e refl, h)
 
+  -- a break or another character before parts
   lacks_part : (b : Bool) (c : ℕ) (ps : List Part) → test c ≡ false → PartsLack ps → PartsLack (if b then line_break c ∷ ps else begun c ps)
   lacks_part true c ps e h = (e, h)
   lacks_part false c ps e h = lacks_begun c ps e h
@@ -45,6 +52,7 @@ module _ (test : ℕ → Bool) where
       lacks_part (is_break c) c (parts rest) p.0 (lacks_parts rest p.1)
 
   module _ (spares : Spares test) where
+    -- a fold, or a character that stays
     lacks_fold : (fold : Bool) (c : ℕ) (further : List Part) → test c ≡ false → PartsLack further
         → PartsLack (if fold then line [] ∷ line_break line_feed ∷ further else begun c further)
     lacks_fold true c further e h = (refl, (spares.feed, h))
@@ -59,6 +67,7 @@ module _ (test : ℕ → Bool) where
         lacks_fold fold c (cut_from limit indent (if fold then indent else column + 1) rest) p.0
         (lacks_cut limit indent (if fold then indent else column + 1) rest p.1)
 
+    -- a line, cut or whole
     lacks_cut_line : (limit : Option ℕ) (indent : ℕ) (text : Text) → list_any test text ≡ false → PartsLack (cut_line limit indent text)
     lacks_cut_line limit indent text h = by (begins_with is_space text)
       where
@@ -66,13 +75,15 @@ module _ (test : ℕ → Bool) where
         by true = (h, tt)
         by false = lacks_cut limit indent indent text h
 
+    -- a break once or twice
     lacks_twice : (twice : Bool) (b : ℕ) (further : List Part) → test b ≡ false → PartsLack further
         → PartsLack ((if twice then line_break b ∷ line_break b ∷ [] else line_break b ∷ []) ++ further)
     lacks_twice true b further e h = (e, (e, h))
     lacks_twice false b further e h = (e, h)
 
     -- folded parts
-    lacks_folded_parts : (limit : Option ℕ) (indent : ℕ) (after_even : Bool) (ps : List Part) → PartsLack ps → PartsLack (folded_parts limit indent after_even ps)
+    lacks_folded_parts : (limit : Option ℕ) (indent : ℕ) (after_even : Bool) (ps : List Part) → PartsLack ps
+        → PartsLack (folded_parts limit indent after_even ps)
     lacks_folded_parts limit indent after_even [] h = tt
     lacks_folded_parts limit indent after_even (line text ∷ rest) h =
         lacks_joined (cut_line limit indent text) _ (lacks_cut_line limit indent text h.0)
@@ -89,18 +100,18 @@ module _ (test : ℕ → Bool) where
         (any_both test (replicate indent space) text (lacks_spaces test spares indent) h.0) (lacks_indented indent rest h.1)
     lacks_indented indent (line_break b ∷ rest) h = any_one test b (indented indent rest) h.0 (lacks_indented indent rest h.1)
 
+    -- the sign of a value's end
     lacks_hint : (e : Ending) → list_any test (ending_hint e) ≡ false
     lacks_hint without_break = any_one test 45 [] (spares.graph 45 refl) refl
     lacks_hint one_break = refl
     lacks_hint more_breaks = any_one test 43 [] (spares.graph 43 refl) refl
 
-    digit_graph : (n : ℕ) → n ≤ 9 → is_graph (48 + n) ≡ true
-    digit_graph n high = and_from _ _ (le-leb 0x21 (48 + n) (omega arith)) (le-leb (48 + n) 0x7E (omega arith))
-
+    -- the digit of the indent
     lacks_digit : (blank : Bool) (n : ℕ) → n ≤ 9 → list_any test (digit_text blank n) ≡ false
-    lacks_digit true n high = any_one test (48 + n) [] (spares.graph (48 + n) (digit_graph n high)) refl
+    lacks_digit true n high = any_one test (48 + n) [] (spares.graph (48 + n) (one_digit n high)) refl
     lacks_digit false n high = refl
 
+    -- a style's sign
     lacks_sign : (folded : Bool) → test (sign_of folded) ≡ false
     lacks_sign true = spares.graph 62 refl
     lacks_sign false = spares.graph 124 refl
@@ -132,23 +143,28 @@ module _ (test : ℕ → Bool) where
 
 -- Values that a style allows hold no special character.
 module _ (charset : Charset) where
+  -- nor does one that single quotes may hold
   pub special_single : (value : Text) → somewhere (bars_single_quoted charset) value ≡ false → list_any (is_special charset) value ≡ false
   special_single [] h = refl
   special_single (c ∷ rest) h =
       let p = or_parts (bars_single_quoted charset c rest) (somewhere (bars_single_quoted charset) rest) h in
       any_one (is_special charset) c rest (or_parts _ _ (or_parts _ _ p.0).0).0 (special_single rest p.1)
 
+  -- nor one that block styles may hold
   special_block : (value : Text) → somewhere (bars_block charset) value ≡ false → list_any (is_special charset) value ≡ false
   special_block [] h = refl
   special_block (c ∷ rest) h =
       let p = or_parts (bars_block charset c rest) (somewhere (bars_block charset) rest) h in
       any_one (is_special charset) c rest (or_parts _ _ (or_parts _ _ p.0).0).0 (special_block rest p.1)
 
+  -- where plain is allowed
   pub plain_unspecial : (flow : Bool) (value : Text) → allows_plain charset flow value ≡ true → list_any (is_special charset) value ≡ false
   plain_unspecial flow value h = special_single value (plain_is_single charset flow value (plain_bars charset flow value h))
 
+  -- where single quotes are
   pub single_unspecial : (value : Text) → allows_single_quoted charset value ≡ true → list_any (is_special charset) value ≡ false
   single_unspecial value h = special_single value (not-true _ h)
 
+  -- where block styles are
   pub block_unspecial : (value : Text) → allows_block charset value ≡ true → list_any (is_special charset) value ≡ false
   block_unspecial value h = special_block value (or_parts _ _ (not-true _ h)).1

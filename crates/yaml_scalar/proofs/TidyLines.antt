@@ -124,7 +124,8 @@ module _ (charset : Charset) (count indent : ℕ) (enough : count ≤ indent) (c
   }
 
   -- a space that stays
-  space_kept : (before : Kind) (rest text : Text) → begins_kind breaks rest ≡ false → LinesEven spaces rest text → LinesEven before (space ∷ rest) (space ∷ text)
+  space_kept : (before : Kind) (rest text : Text) → begins_kind breaks rest ≡ false → LinesEven spaces rest text
+      → LinesEven before (space ∷ rest) (space ∷ text)
   space_kept before rest text next ih = record {
     is_even = even_space charset.breaks12 count text (ih.unbroken refl next) ih.is_even;
     ink = λ e. absurd (false≢true e);
@@ -165,7 +166,8 @@ module _ (charset : Charset) (count indent : ℕ) (enough : count ≤ indent) (c
       (even_line charset.breaks12 count indent c text enough brk (ih.ink (next refl)) ih.is_even)
 
   -- another character
-  other_begins : (before : Kind) (c : ℕ) (rest front text : Text) → kind_of c ≡ others → AllInk charset.breaks12 front → BeginsInk charset.breaks12 (front ++ text)
+  other_begins : (before : Kind) (c : ℕ) (rest front text : Text) → kind_of c ≡ others → AllInk charset.breaks12 front
+      → BeginsInk charset.breaks12 (front ++ text)
       → LinesEven others rest text → LinesEven before (c ∷ rest) (front ++ text)
   other_begins before c rest front text k inks begins ih = record {
     is_even = even_ink charset.breaks12 count front text inks ih.is_even;
@@ -321,13 +323,15 @@ step_some folds indent before spaces c rest = by (folds && not (is_same_kind bef
     by false = (c, [], refl)
 step_some folds indent before breaks c rest = by (c == line_feed && not (is_same_kind before breaks))
   where
-    by : (twice : Bool) → (first : ℕ) × (more : Text) × (((if twice then line_feed ∷ [] else []) ++ (c ∷ (if begins_kind breaks rest then [] else indentation indent))) ≡ first ∷ more)
+    by : (twice : Bool)
+        → (first : ℕ) × (more : Text) × (((if twice then line_feed ∷ [] else []) ++ (c ∷ (if begins_kind breaks rest then [] else indentation indent))) ≡ first ∷ more)
     by true = (line_feed, c ∷ (if begins_kind breaks rest then [] else indentation indent), refl)
     by false = (c, (if begins_kind breaks rest then [] else indentation indent), refl)
 step_some folds indent before others c rest = (c, [], refl)
 
 -- a character of plain text that is no space is no blank and no break
-plain_white : (charset : Charset) (flow : Bool) (c : ℕ) (rest : Text) → bars_plain charset flow c rest ≡ false → is_space c ≡ false → is_read_white charset.breaks12 c ≡ false
+plain_white : (charset : Charset) (flow : Bool) (c : ℕ) (rest : Text) → bars_plain charset flow c rest ≡ false → is_space c ≡ false
+    → is_read_white charset.breaks12 c ≡ false
 plain_white charset flow c rest h s =
     let parts = or_parts _ _ (or_parts _ _ (or_parts _ _ (or_parts _ _ h).0).0).0 in
     let o = ordinary charset c parts.0 in
@@ -368,10 +372,12 @@ lines_end_ink charset flow limit indent before c (d ∷ rest) cursor h =
     ends_after charset.breaks12 step _ some.0 some.1 some.2
     (lines_end_ink charset flow limit indent (kind_of c) d rest (text_laid step cursor).cursor (or_parts _ _ h).1)
 
-edges_of : (breaks12 : Bool) (c : ℕ) (rest : Text) → is_read_white breaks12 c ≡ false → ends_white breaks12 (c ∷ rest) ≡ false → has_clean_edges breaks12 (c ∷ rest) ≡ true
+edges_of : (breaks12 : Bool) (c : ℕ) (rest : Text) → is_read_white breaks12 c ≡ false → ends_white breaks12 (c ∷ rest) ≡ false
+    → has_clean_edges breaks12 (c ∷ rest) ≡ true
 edges_of breaks12 c rest h k = and_from _ _ (ap not h) (ap not k)
 
-lines_edges : (charset : Charset) (flow : Bool) (limit : Option ℕ) (indent : ℕ) (value : Text) (cursor : Cursor) → somewhere (bars_plain charset flow) value ≡ false
+lines_edges : (charset : Charset) (flow : Bool) (limit : Option ℕ) (indent : ℕ) (value : Text) (cursor : Cursor)
+    → somewhere (bars_plain charset flow) value ≡ false
     → begins_unlike_plain value ≡ false → has_clean_edges charset.breaks12 (steps_laid (λ t. t) limit indent spaces value cursor).text ≡ true
 lines_edges charset flow limit indent [] cursor h begins = refl
 lines_edges charset flow limit indent (c ∷ rest) cursor h begins =

@@ -11,8 +11,7 @@ use Rattle.yaml_pen.specs.Page.{told}
 use Rattle.yaml_pen.specs.Wrote.{Grows}
 use Rattle.yaml_emitter.specs.State.{State}
 use Rattle.yaml_emitter.specs.StandsAfter.{StandsAfter}
-use Rattle.yaml_emitter.specs.Promises.{HasAllBytes}
-use Rattle.yaml_emitter.proofs.Promising.{promised}
+use Rattle.yaml_emitter.specs.Promises.{HasAllBytes, Promised}
 use Rattle.yaml_tool.specs.declared.answers.run_answer_t.{run_answer_t}
 use Rattle.yaml_tool.specs.declared.answers.run_answer_t.TheVariants.{Done, Refused, BadLine, ReadFailed, WriteFailed, NoMemory}
 use Rattle.yaml_tool.specs.declared.scripts.NumberedEvent.{NumberedEvent}
@@ -45,9 +44,10 @@ ends_more given next =
 -- the call that was given an event failed
 pub refused_at : {A : Type 0} (set : Settings) (given : List (NumberedEvent A)) (next : NumberedEvent A) (rest left all : List (NumberedEvent A)) (error : yaml_error_t) (earlier state : State)
     → given ++ left ≡ all → left ≡ next ∷ rest → earlier.error ≡ None → StandsAfter set (events_in (map seen_numbered given)) earlier → state.error ≡ Some error
-    → StandsAfter set (events_in (map seen_numbered given) ++ seen_event next.event ∷ []) state → Grows earlier.page state.page
+    → StandsAfter set (events_in (map seen_numbered given) ++ seen_event next.event ∷ []) state
+    → Promised set (events_in (map seen_numbered given) ++ seen_event next.event ∷ []) state → Grows earlier.page state.page
     → RefusesAt set (map seen_numbered all) next.line error state
-refused_at set given next rest left all error earlier state parts is none stood failed stands grew =
+refused_at set given next rest left all error earlier state parts is none stood failed stands kept grew =
     record {
       before = map seen_numbered given;
       event = seen_event next.event;
@@ -57,7 +57,7 @@ refused_at set given next rest left all error earlier state parts is none stood 
       stood = stood;
       no_error = none;
       stands = stands;
-      promised = promised set (events_in (map seen_numbered given) ++ seen_event next.event ∷ []) state stands;
+      promised = kept;
       grew = grew;
       failed = failed;
     }
@@ -96,15 +96,16 @@ ended_with set all line (Some other) answer before after is stood none ends h =
     let same : other ≡ line = cc in
     flushed_last set all line answer before after stood none (subst (EndsAt all) same ends) h
 
-pub ended_without : (set : Settings) (all : List Numbered) (last : Option ℕ) (state : State) → last ≡ None → StandsAfter set (events_in all) state → state.error ≡ None → LastLine all last state → EmitsAll set all state
-ended_without set all None state is stands none ends =
+pub ended_without : (set : Settings) (all : List Numbered) (last : Option ℕ) (state : State) → last ≡ None → StandsAfter set (events_in all) state
+    → Promised set (events_in all) state → state.error ≡ None → LastLine all last state → EmitsAll set all state
+ended_without set all None state is stands kept none ends =
     record {
       stands = stands;
-      promised = promised set (events_in all) state stands;
+      promised = kept;
       no_error = none;
       handed_out = subst (λ all. HasAllBytes set (events_in all) state) (sym ends.0) ends.1;
     }
-ended_without set all (Some line) state is stands none ends = cc
+ended_without set all (Some line) state is stands kept none ends = cc
 
 -- what is told where the output was written, or couldn't be
 told_answer : (set : Settings) (all : List Numbered) (answer : run_answer_t) (state : State) (old new : Option (List ℕ)) → Emits set all answer state → Appends old new state.page.output → TellsEvents set all answer old new

@@ -17,10 +17,10 @@ use crate::streams::{read_all, write_out};
 use std::alloc::Allocator;
 use std::io::{Read, Write};
 use yaml_emitter::{
-    yaml_emitter_emit, yaml_emitter_flush, yaml_emitter_initialize, yaml_emitter_set_break,
-    yaml_emitter_set_canonical, yaml_emitter_set_encoding, yaml_emitter_set_indent,
-    yaml_emitter_set_line_breaks_1_2, yaml_emitter_set_output_string, yaml_emitter_set_portable,
-    yaml_emitter_set_unicode, yaml_emitter_set_width, yaml_emitter_t,
+    standing_is_promised, yaml_emitter_emit, yaml_emitter_flush, yaml_emitter_initialize,
+    yaml_emitter_set_break, yaml_emitter_set_canonical, yaml_emitter_set_encoding,
+    yaml_emitter_set_indent, yaml_emitter_set_line_breaks_1_2, yaml_emitter_set_output_string,
+    yaml_emitter_set_portable, yaml_emitter_set_unicode, yaml_emitter_set_width, yaml_emitter_t,
 };
 
 /// Reads a script to its end, emits its events, and writes what came out, also where an event was refused.
@@ -133,6 +133,7 @@ fn emit_all<A: Allocator + Copy>(
     requires nothing { emitter.old.page.output ≡ [] }
     ensures { (given : given.Settings) → StandsAfter given [] emitter.old → Emits given (map seen_numbered events.items) result emitter.new }
 {
+    standing_is_promised();
     let mut last = None;
     for numbered in events {
         let line = numbered.line;

@@ -1,0 +1,294 @@
+-- Block scalars have deep lines: each line after the header holds a character that is no space, and stands at its indentation.
+use Rattle.std.proofs.Common.{◌≡◌, ◌≤◌, refl, sym, ap, ◌∙◌, ℕ, zero, suc, List, [], ◌∷◌, ◌++◌, Bool, true, false, append_assoc, ◌⊎◌, inl, inr, arith}
+use Rattle.std.specs.Prelude.{Option, ◌==◌, ◌||◌, ◌&&◌, ◌+◌, not, replicate, if◌then◌else◌}
+use Rattle.std.proofs.lemmas.Bool.{and_from, false≢true, true≢false, not-true, or_left, or_parts, or_right}
+use Rattle.yaml_base.specs.Analysis.{Charset, allows_block, bars_block, begins_with, is_empty, is_special, somewhere}
+use Rattle.yaml_base.specs.Characters.{Text, is_break, is_space, line_feed, space}
+use Rattle.yaml_base.specs.Cursor.{Cursor}
+use Rattle.yaml_base.specs.BlockHeader.{Ending, without_break, one_break, more_breaks, ending, begins_blank, ending_hint, block_body}
+use Rattle.yaml_base.specs.Folded.{cut_from, cut_line, folded_body, folded_parts, folds, next_even}
+use Rattle.yaml_base.specs.LineBreaks.{is_read_break}
+use Rattle.yaml_base.specs.Lines.{Part, line, line_break, begun, parts}
+use Rattle.yaml_base.specs.Literal.{indented, literal_body}
+use Rattle.yaml_base.specs.TidyBodies.{begins_with_blank_line, begins_with_deep_line, begins_with_spaces, has_deep_lines}
+use Rattle.yaml_scalar.proofs.BlockFolds.{fold-spaced}
+use Rattle.yaml_scalar.proofs.BlockReads.{block-text, digit_text, ordinary, sign_of}
+use Rattle.yaml_scalar.proofs.DeepLines.{Unbroken, deep_after, deep_break, deep_unbroken, enough_spaces, space_unbroken, spaces_unbroken}
+use Rattle.yaml_scalar.proofs.Sparing.{is_graph}
+use Rattle.yaml_scalar.proofs.SparingBlocks.{one_digit}
+use Rattle.yaml_scalar.proofs.TidyQuoted.{graph_no_break}
+
+module _ (breaks12 : Bool) where
+  -- some character of a text is no space
+  abbrev pub HasInk : Text → Type 0
+  HasInk [] = ⊥
+  HasInk (c ∷ rest) = (is_space c ≡ false) ⊎ HasInk rest
+
+  -- each line holds such a character and no break, and line breaks break lines
+  abbrev pub AreFull : List Part → Type 0
+  AreFull [] = Unit {0}
+  AreFull (line text ∷ rest) = Unbroken breaks12 text × HasInk text × AreFull rest
+  AreFull (line_break b ∷ rest) = (is_read_break breaks12 b ≡ true) × AreFull rest
+
+  -- a line isn't blank where what follows its first character isn't
+  blank_after : (c : ℕ) (further : Text) → is_read_break breaks12 c ≡ false → begins_with_blank_line breaks12 further ≡ false
+      → begins_with_blank_line breaks12 (c ∷ further) ≡ false
+  blank_after c further u h = by (is_space c)
+    where
+      by : (s : Bool) → (is_read_break breaks12 c || (s && begins_with_blank_line breaks12 further)) ≡ false
+      by true = simp (u, h)
+      by false = simp u
+
+  -- such a line isn't blank
+  full_blank : (text rest : Text) → Unbroken breaks12 text → HasInk text → begins_with_blank_line breaks12 (text ++ rest) ≡ false
+  full_blank [] rest u h = absurd h
+  full_blank (c ∷ text) rest u (inl s) = simp (u.0, s)
+  full_blank (c ∷ text) rest u (inr more) = blank_after c (text ++ rest) u.0 (full_blank text rest u.1 more)
+
+  -- nor is it behind spaces
+  spaces_blank : (n : ℕ) (text rest : Text) → Unbroken breaks12 text → HasInk text
+      → begins_with_blank_line breaks12 ((replicate n space ++ text) ++ rest) ≡ false
+  spaces_blank zero text rest u h = full_blank text rest u h
+  spaces_blank (suc n) text rest u h = simp (space_unbroken breaks12, spaces_blank n text rest u h)
+
+  module _ (count indent : ℕ) (enough : count ≤ indent) where
+    -- lines and breaks after a break
+    lines_begin : (ps : List Part) → AreFull ps → begins_with_deep_line breaks12 count (indented indent ps) ≡ true
+    lines_begin [] h = refl
+    lines_begin (line text ∷ rest) h =
+        or_right _ _ (and_from _ _
+        (ap (begins_with_spaces count) (append_assoc (replicate indent space) text (indented indent rest)) ∙ enough_spaces breaks12 count indent (text ++ indented indent rest) enough)
+        (ap not (spaces_blank indent text (indented indent rest) h.0 h.1)))
+    lines_begin (line_break b ∷ rest) h = deep_break breaks12 count (b ∷ indented indent rest) h.0
+
+    -- indented parts have deep lines
+    lines_deep : (ps : List Part) → AreFull ps → has_deep_lines breaks12 count (indented indent ps) ≡ true
+    lines_deep [] h = refl
+    lines_deep (line text ∷ rest) h =
+        ap (has_deep_lines breaks12 count) (append_assoc (replicate indent space) text (indented indent rest))
+        ∙ deep_unbroken breaks12 count (replicate indent space) (text ++ indented indent rest) (spaces_unbroken breaks12 indent)
+        (deep_unbroken breaks12 count text (indented indent rest) h.0 (lines_deep rest h.2))
+    lines_deep (line_break b ∷ rest) h = deep_after breaks12 count b (indented indent rest) (lines_begin rest h.1) (lines_deep rest h.1)
+
+    -- the header
+
+    -- the sign of a value's end breaks no line
+    hint_unbroken : (e : Ending) → Unbroken breaks12 (ending_hint e)
+    hint_unbroken without_break = (graph_no_break breaks12 45 refl, tt)
+    hint_unbroken one_break = tt
+    hint_unbroken more_breaks = (graph_no_break breaks12 43 refl, tt)
+
+    -- nor does a digit
+    digit_unbroken : (blank : Bool) (n : ℕ) → is_graph (48 + n) ≡ true → Unbroken breaks12 (digit_text blank n)
+    digit_unbroken true n h = (graph_no_break breaks12 (48 + n) h, tt)
+    digit_unbroken false n h = tt
+
+    -- nor a style's sign
+    sign_unbroken : (folded : Bool) → is_read_break breaks12 (sign_of folded) ≡ false
+    sign_unbroken true = graph_no_break breaks12 62 refl
+    sign_unbroken false = graph_no_break breaks12 124 refl
+
+    -- a header and such lines
+    block_deep : (folded : Bool) (best_indent : ℕ) (value : Text) (ps : List Part) (cursor : Cursor) → is_graph (48 + best_indent) ≡ true → AreFull ps
+        → has_deep_lines breaks12 count (block_body (sign_of folded) best_indent value (indented indent ps) cursor).text ≡ true
+    block_deep folded best_indent value ps cursor digit full =
+        let lines = indented indent ps in
+        let number = digit_text (begins_blank value) best_indent in
+        let hint = ending_hint (ending value) in
+        ap (has_deep_lines breaks12 count)
+        (block-text (sign_of folded) best_indent value lines cursor
+        ∙ ap (λ (t : Text). sign_of folded ∷ t) (append_assoc number hint (line_feed ∷ lines)))
+        ∙ deep_unbroken breaks12 count (sign_of folded ∷ []) (number ++ (hint ++ line_feed ∷ lines)) (sign_unbroken folded, tt)
+        (deep_unbroken breaks12 count number (hint ++ line_feed ∷ lines) (digit_unbroken (begins_blank value) best_indent digit)
+        (deep_unbroken breaks12 count hint (line_feed ∷ lines) (hint_unbroken (ending value))
+        (deep_after breaks12 count line_feed lines (lines_begin ps full) (lines_deep ps full))))
+
+  -- Lines of a value
+
+  -- the last character of a text, which holds one, is no space
+  abbrev EndsInk : Text → Type 0
+  EndsInk [] = ⊥
+  EndsInk (c ∷ []) = is_space c ≡ false
+  EndsInk (c ∷ d ∷ rest) = EndsInk (d ∷ rest)
+
+  -- each line of a value is such, and holds no break
+  abbrev AreEnded : List Part → Type 0
+  AreEnded [] = Unit {0}
+  AreEnded (line text ∷ rest) = Unbroken breaks12 text × EndsInk text × AreEnded rest
+  AreEnded (line_break b ∷ rest) = (is_read_break breaks12 b ≡ true) × AreEnded rest
+
+  -- such a text holds a character that is no space
+  ended_ink : (text : Text) → EndsInk text → HasInk text
+  ended_ink [] h = absurd h
+  ended_ink (c ∷ []) h = inl h
+  ended_ink (c ∷ d ∷ rest) h = inr (ended_ink (d ∷ rest) h)
+
+  -- such parts are full
+  ended_full : (ps : List Part) → AreEnded ps → AreFull ps
+  ended_full [] h = tt
+  ended_full (line text ∷ rest) h = (h.0, ended_ink text h.1, ended_full rest h.2)
+  ended_full (line_break b ∷ rest) h = (h.0, ended_full rest h.1)
+
+  -- parts that begin with a line
+  abbrev BeginsLine : List Part → Type 0
+  BeginsLine [] = ⊥
+  BeginsLine (line text ∷ rest) = Unit {0}
+  BeginsLine (line_break b ∷ rest) = ⊥
+
+  -- a character before parts begins a line
+  begun_line : (c : ℕ) (ps : List Part) → BeginsLine (begun c ps)
+  begun_line c [] = tt
+  begun_line c (line text ∷ rest) = tt
+  begun_line c (line_break b ∷ rest) = tt
+
+  -- one more character before such a text
+  ended_more : (c : ℕ) (text : Text) → EndsInk text → EndsInk (c ∷ text)
+  ended_more c [] h = absurd h
+  ended_more c (d ∷ rest) h = h
+
+  -- a character before such parts, where it isn't a space that ends a line
+  ended_begun : (c : ℕ) (ps : List Part) → is_read_break breaks12 c ≡ false → (is_space c ≡ false) ⊎ BeginsLine ps → AreEnded ps → AreEnded (begun c ps)
+  ended_begun c [] u (inl s) h = ((u, tt), s, tt)
+  ended_begun c [] u (inr begins) h = absurd begins
+  ended_begun c (line text ∷ rest) u s h = ((u, h.0), ended_more c text h.1, h.2)
+  ended_begun c (line_break b ∷ rest) u (inl s) h = ((u, tt), s, h)
+  ended_begun c (line_break b ∷ rest) u (inr begins) h = absurd begins
+
+  -- a break or such a character
+  ended_part : (b : Bool) (c : ℕ) (ps : List Part) → is_read_break breaks12 c ≡ b → (is_space c ≡ false) ⊎ BeginsLine ps → AreEnded ps
+      → AreEnded (if b then line_break c ∷ ps else begun c ps)
+  ended_part true c ps e s h = (e, h)
+  ended_part false c ps e s h = ended_begun c ps e s h
+
+  -- Lines that are cut
+
+  -- what is known of a line that is cut: its parts hold no break, all but the first are full, and the first is where the line
+  -- begins with no space
+  abbrev IsCut : Text → List Part → Type 0
+  IsCut text [] = ⊥
+  IsCut text (line_break b ∷ others) = ⊥
+  IsCut text (line first ∷ others) =
+      Unbroken breaks12 first × AreFull others × (begins_with is_space text ≡ false → is_empty text ≡ false → HasInk first)
+
+  -- or the text is empty
+  abbrev EndsInkOrNone : Text → Type 0
+  EndsInkOrNone [] = Unit {0}
+  EndsInkOrNone (c ∷ rest) = EndsInk (c ∷ rest)
+
+  -- what follows the first character
+  ended_rest : (c : ℕ) (rest : Text) → EndsInk (c ∷ rest) → EndsInkOrNone rest
+  ended_rest c [] h = tt
+  ended_rest c (d ∷ rest) h = h
+
+  -- a space isn't the last
+  ended_some : (c : ℕ) (rest : Text) → EndsInk (c ∷ rest) → is_space c ≡ true → is_empty rest ≡ false
+  ended_some c [] h s = absurd (true≢false (sym s ∙ h))
+  ended_some c (d ∷ rest) h s = refl
+
+  -- one character more
+  cut_step : (c : ℕ) (rest : Text) → is_read_break breaks12 c ≡ false → EndsInk (c ∷ rest) → (further : List Part) → IsCut rest further
+      → (fold : Bool) → (fold ≡ true → (is_space c ≡ true) × (begins_with is_space rest ≡ false))
+      → IsCut (c ∷ rest) (if fold then line [] ∷ line_break line_feed ∷ further else begun c further)
+  cut_step c rest u ends [] k fold f = absurd k
+  cut_step c rest u ends (line_break b ∷ others) k fold f = absurd k
+  cut_step c rest u ends (line first ∷ others) k true f =
+      let parts : (is_space c ≡ true) × (begins_with is_space rest ≡ false) = f refl in
+      (tt, (refl, (k.0, k.2 parts.1 (ended_some c rest ends parts.0), k.1)), λ none some. absurd (true≢false (sym parts.0 ∙ none)))
+  cut_step c rest u ends (line first ∷ others) k false f = ((u, k.0), k.1, λ none some. inl none)
+
+  -- a line from some column on
+  cut_known : (limit : Option ℕ) (indent column : ℕ) (text : Text) → Unbroken breaks12 text → EndsInkOrNone text
+      → IsCut text (cut_from limit indent column text)
+  cut_known limit indent column [] u ends = (tt, tt, λ none some. absurd (true≢false some))
+  cut_known limit indent column (c ∷ rest) u ends =
+      let at : ℕ = if folds limit column c rest then indent else column + 1 in
+      cut_step c rest u.0 ends (cut_from limit indent at rest) (cut_known limit indent at rest u.1 (ended_rest c rest ends))
+      (folds limit column c rest) (fold-spaced limit column c rest)
+
+  -- so all parts are full where the line begins with no space
+  cut_full : (text : Text) (ps : List Part) → begins_with is_space text ≡ false → is_empty text ≡ false → IsCut text ps → AreFull ps
+  cut_full text [] none some k = absurd k
+  cut_full text (line first ∷ others) none some k = (k.0, k.2 none some, k.1)
+  cut_full text (line_break b ∷ others) none some k = absurd k
+
+  -- a text that ends so, or is empty
+  ended_or : (text : Text) → EndsInk text → EndsInkOrNone text
+  ended_or [] h = tt
+  ended_or (c ∷ rest) h = h
+
+  -- a text that ends so isn't empty
+  ended_not_empty : (text : Text) → EndsInk text → is_empty text ≡ false
+  ended_not_empty [] h = absurd h
+  ended_not_empty (c ∷ rest) h = refl
+
+  -- a line's parts, cut or whole
+  line_full : (limit : Option ℕ) (indent : ℕ) (text : Text) → Unbroken breaks12 text → EndsInk text → AreFull (cut_line limit indent text)
+  line_full limit indent text u ends = by (begins_with is_space text) refl
+    where
+      by : (spaced : Bool) → begins_with is_space text ≡ spaced → AreFull (if spaced then line text ∷ [] else cut_from limit indent indent text)
+      by true e = (u, ended_ink text ends, tt)
+      by false e =
+          cut_full text (cut_from limit indent indent text) e (ended_not_empty text ends) (cut_known limit indent indent text u (ended_or text ends))
+
+  -- full parts after full parts
+  full_joined : (front rest : List Part) → AreFull front → AreFull rest → AreFull (front ++ rest)
+  full_joined [] rest h k = k
+  full_joined (line text ∷ front) rest h k = (h.0, h.1, full_joined front rest h.2 k)
+  full_joined (line_break b ∷ front) rest h k = (h.0, full_joined front rest h.1 k)
+
+  -- a break once or twice before full parts
+  full_twice : (twice : Bool) (b : ℕ) (further : List Part) → is_read_break breaks12 b ≡ true → AreFull further
+      → AreFull ((if twice then line_break b ∷ line_break b ∷ [] else line_break b ∷ []) ++ further)
+  full_twice true b further e h = (e, (e, h))
+  full_twice false b further e h = (e, h)
+
+  -- folded parts are full
+  folded_full : (limit : Option ℕ) (indent : ℕ) (after_even : Bool) (ps : List Part) → AreEnded ps → AreFull (folded_parts limit indent after_even ps)
+  folded_full limit indent after_even [] h = tt
+  folded_full limit indent after_even (line text ∷ rest) h =
+      full_joined (cut_line limit indent text) _ (line_full limit indent text h.0 h.1)
+      (folded_full limit indent (not (begins_with is_space text)) rest h.2)
+  folded_full limit indent after_even (line_break b ∷ rest) h =
+      full_twice (after_even && b == line_feed && next_even rest) b (folded_parts limit indent false rest) h.0 (folded_full limit indent false rest h.1)
+
+-- A value that block styles may hold.
+module _ (charset : Charset) where
+  -- a space stands neither last nor before a break
+  space_inside : (c : ℕ) (rest : Text) → bars_block charset c rest ≡ false → (is_space c ≡ false) ⊎ BeginsLine charset.breaks12 (parts rest)
+  space_inside c [] h = inl (last (is_space c) (or_parts _ _ h).1)
+    where
+      last : (s : Bool) → (s && true) ≡ false → s ≡ false
+      last true e = e
+      last false e = refl
+  space_inside c (d ∷ rest) h = by (is_space c) (is_break d) (or_parts _ _ (or_parts _ _ h).0).1
+    where
+      by : (s b : Bool) → (s && b) ≡ false → (s ≡ false) ⊎ BeginsLine charset.breaks12 (if b then line_break d ∷ parts rest else begun d (parts rest))
+      by true true e = inl e
+      by true false e = inr (begun_line charset.breaks12 d (parts rest))
+      by false b e = inl refl
+
+  -- such a value's lines end with no space
+  parts_ended : (value : Text) → somewhere (bars_block charset) value ≡ false → AreEnded charset.breaks12 (parts value)
+  parts_ended [] h = tt
+  parts_ended (c ∷ rest) h =
+      let split = or_parts (bars_block charset c rest) (somewhere (bars_block charset) rest) h in
+      let special = (or_parts _ _ (or_parts _ _ split.0).0).0 in
+      ended_part charset.breaks12 (is_break c) c (parts rest) (ordinary charset c special).same_break (space_inside c rest split.0) (parts_ended rest split.1)
+
+  -- where block styles are allowed
+  value_ended : (value : Text) → allows_block charset value ≡ true → AreEnded charset.breaks12 (parts value)
+  value_ended value allowed = parts_ended value (or_parts (is_empty value) _ (not-true _ allowed)).1
+
+  -- a literal body has deep lines
+  pub literal_deep : (count indent best_indent : ℕ) (value : Text) (cursor : Cursor) → count ≤ indent → best_indent ≤ 9 → allows_block charset value ≡ true
+      → has_deep_lines charset.breaks12 count (literal_body indent best_indent value cursor).text ≡ true
+  literal_deep count indent best_indent value cursor enough high allowed =
+      block_deep charset.breaks12 count indent enough false best_indent value (parts value) cursor (one_digit best_indent high)
+      (ended_full charset.breaks12 (parts value) (value_ended value allowed))
+
+  -- and a folded body
+  pub folded_deep : (count : ℕ) (limit : Option ℕ) (indent best_indent : ℕ) (value : Text) (cursor : Cursor) → count ≤ indent → best_indent ≤ 9
+      → allows_block charset value ≡ true → has_deep_lines charset.breaks12 count (folded_body limit indent best_indent value cursor).text ≡ true
+  folded_deep count limit indent best_indent value cursor enough high allowed =
+      block_deep charset.breaks12 count indent enough true best_indent value (folded_parts limit indent false (parts value)) cursor (one_digit best_indent high)
+      (folded_full charset.breaks12 limit indent false (parts value) (value_ended value allowed))

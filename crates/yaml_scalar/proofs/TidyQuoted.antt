@@ -1,0 +1,170 @@
+-- A double-quoted body is tidy: each of its lines after the first stands at its indentation and goes on with a character that is
+-- no space, and no space stands before a break.
+use Rattle.std.proofs.Common.{◌≡◌, ◌≤◌, refl, sym, subst, ap, ◌∙◌, ℕ, [], ◌∷◌, ◌++◌, Bool, true, false, append_assoc, inl, inr, arith}
+use Rattle.std.proofs.lemmas.Bool.{and_parts, and_right, eqb-true, false≢true, true≢false}
+use Rattle.std.proofs.lemmas.Bool.Decides.{nat_tests}
+use Rattle.std.specs.Prelude.{Option, None, Some, ◌&&◌, ◌==◌, ◌||◌, not, replicate, if◌then◌else◌}
+use Rattle.std.specs.List.{list_all}
+use Rattle.yaml_base.specs.Characters.{Text, is_break, is_space, line_feed, space}
+use Rattle.yaml_base.specs.Cursor.{Cursor, Laid, breaks_line, is_past_width, text_laid, then_laid}
+use Rattle.yaml_base.specs.DoubleQuoted.{backslash, character_text, double_fold, double_inside, double_quoted_body, escape_text, is_other, may_fold, needs_escape, quote, quote_laid, space_kept}
+use Rattle.yaml_base.specs.LineBreaks.{is_read_break}
+use Rattle.yaml_base.specs.TidyBodies.{begins_with_break}
+use Rattle.yaml_scalar.proofs.DeepLines.{AllInk, BeginsInk, Ink, IsEven, even_ink, even_line, even_nothing, even_space, ink_unbroken, space_unbroken}
+use Rattle.yaml_scalar.proofs.DoubleReads.{Fits, fits-breaks, fits-character, kept-column, may-fold-other, no-read-break, quoted_cursor, space-text}
+use Rattle.yaml_scalar.proofs.Sparing.{escape_graph, is_graph}
+use Rattle.yaml_scalar.proofs.Unbroken.{unescaped}
+
+-- printable ASCII breaks no line
+pub graph_no_break : (breaks12 : Bool) (c : ℕ) → is_graph c ≡ true → is_read_break breaks12 c ≡ false
+graph_no_break breaks12 c h = no-read-break breaks12 c (grind (arith, nat_tests))
+
+-- and but for the space is none
+graph_no_space : (c : ℕ) → is_graph c ≡ true → (c == space) ≡ false
+graph_no_space c h = grind (arith, nat_tests)
+
+-- printable ASCII but the space is ink
+graph_ink : (breaks12 : Bool) (c : ℕ) → is_graph c ≡ true → Ink breaks12 c
+graph_ink breaks12 c h = record { no_space = graph_no_space c h; no_break = graph_no_break breaks12 c h }
+
+-- a text of it is all ink
+graph_inks : (breaks12 : Bool) (text : Text) → list_all is_graph text ≡ true → AllInk breaks12 text
+graph_inks breaks12 [] h = tt
+graph_inks breaks12 (c ∷ rest) h = let p = and_parts (is_graph c) (list_all is_graph rest) h in (graph_ink breaks12 c p.0, graph_inks breaks12 rest p.1)
+
+module _ (breaks12 unicode : Bool) (count indent : ℕ) (enough : count ≤ indent) where
+  -- a character that is no space, as an escape or not
+  character_inks : (c : ℕ) → is_space c ≡ false → AllInk breaks12 (character_text unicode c)
+  character_inks c s = by (needs_escape unicode c) refl
+    where
+      by : (b : Bool) → needs_escape unicode c ≡ b → AllInk breaks12 (if b then escape_text c else c ∷ [])
+      by true e = graph_inks breaks12 (escape_text c) (escape_graph c)
+      by false e = (record { no_space = s; no_break = no-read-break breaks12 c (unescaped unicode c e).no_break }, tt)
+
+  -- its text begins with ink
+  character_begins : (c : ℕ) (text : Text) → is_space c ≡ false → BeginsInk breaks12 (character_text unicode c ++ text)
+  character_begins c text s = by (needs_escape unicode c) refl
+    where
+      by : (b : Bool) → needs_escape unicode c ≡ b → BeginsInk breaks12 ((if b then escape_text c else c ∷ []) ++ text)
+      by true e = graph_ink breaks12 backslash refl
+      by false e = record { no_space = s; no_break = no-read-break breaks12 c (unescaped unicode c e).no_break }
+
+  -- what is known of a value's text from some character on, up to the closing quote
+  record QuotedEven (before : Option ℕ) (value text : Text) : Type 0 where
+    pub is_even : IsEven breaks12 count text
+    pub unbroken : is_other before ≡ false → begins_with_break breaks12 text ≡ false
+    pub kept_even : is_other before ≡ false → IsEven breaks12 count (space_kept value ++ text)
+    pub kept : is_other before ≡ false → BeginsInk breaks12 (space_kept value ++ text)
+
+  -- the closing quote
+  quoted_end : (before : Option ℕ) → QuotedEven before [] (quote ∷ [])
+  quoted_end before =
+      let ink = graph_ink breaks12 quote refl in
+      let even = even_ink breaks12 count (quote ∷ []) [] (ink, tt) (even_nothing breaks12 count) in
+      record { is_even = even; unbroken = λ e. ink.no_break; kept_even = λ e. even; kept = λ e. ink }
+
+  -- a character that is no space
+  quoted_other : (before : Option ℕ) (c : ℕ) (rest text : Text) → is_space c ≡ false → QuotedEven (Some c) rest text
+      → QuotedEven before (c ∷ rest) (character_text unicode c ++ text)
+  quoted_other before c rest text s ih =
+      let even = even_ink breaks12 count (character_text unicode c) text (character_inks c s) ih.is_even in
+      let begins = character_begins c text s in
+      record {
+        is_even = even;
+        unbroken = λ e. ink_unbroken breaks12 (character_text unicode c ++ text) begins;
+        kept_even = λ e. rw s even;
+        kept = λ e. rw s begins;
+      }
+
+  -- a space that stays
+  quoted_space : (before : Option ℕ) (rest text : Text) → QuotedEven (Some space) rest text → QuotedEven before (space ∷ rest) (space ∷ text)
+  quoted_space before rest text ih =
+      let even = even_space breaks12 count text (ih.unbroken refl) ih.is_even in
+      let ink = graph_ink breaks12 backslash refl in
+      record {
+        is_even = even;
+        unbroken = λ e. space_unbroken breaks12;
+        kept_even = λ e. even_ink breaks12 count (backslash ∷ []) (space ∷ text) (ink, tt) even;
+        kept = λ e. ink;
+      }
+
+  -- a space that is folded
+  quoted_fold : (before : Option ℕ) (rest text : Text) → is_other before ≡ true → QuotedEven (Some space) rest text
+      → QuotedEven before (space ∷ rest) (((line_feed ∷ replicate indent space) ++ space_kept rest) ++ text)
+  quoted_fold before rest text other ih =
+      let spaces = replicate indent space in
+      let regroup : ((line_feed ∷ spaces) ++ space_kept rest) ++ text ≡ line_feed ∷ (spaces ++ (space_kept rest ++ text)) = ap (λ t. line_feed ∷ t) (append_assoc spaces (space_kept rest) text) in
+      subst (λ (t : Text). QuotedEven before (space ∷ rest) t) (sym regroup) (record {
+        is_even = even_line breaks12 count indent line_feed (space_kept rest ++ text) enough refl (ih.kept refl) (ih.kept_even refl);
+        unbroken = λ e. absurd (true≢false (sym other ∙ e));
+        kept_even = λ e. absurd (true≢false (sym other ∙ e));
+        kept = λ e. absurd (true≢false (sym other ∙ e));
+      })
+
+  module _ (limit : Option ℕ) where
+    -- what follows a character
+    abbrev Follows : (c : ℕ) (rest : Text) → Type 0
+    Follows c rest = (next : Cursor) → Fits indent (Some c) next → QuotedEven (Some c) rest ((double_inside unicode limit indent (Some c) rest next).text ++ quote ∷ [])
+
+    -- a character, laid so, and what follows it
+    abbrev Goes : (before : Option ℕ) (rest : Text) → Laid → ℕ → Type 0
+    Goes before rest laid c = Follows c rest → QuotedEven before (c ∷ rest) ((then_laid laid (double_inside unicode limit indent (Some c) rest)).text ++ quote ∷ [])
+
+    -- a fold
+    fold_goes : (before : Option ℕ) (rest : Text) (cursor : Cursor) → is_other before ≡ true → breaks_line indent cursor ≡ true
+        → Goes before rest (double_fold indent rest cursor) space
+    fold_goes before rest cursor other breaks ih =
+        let next : Cursor = (double_fold indent rest cursor).cursor in
+        let fits : Fits indent (Some space) next = inr (let le = kept-column rest indent in omega arith) in
+        let more = (double_inside unicode limit indent (Some space) rest next).text in
+        let folded : Text = (line_feed ∷ replicate indent space) ++ space_kept rest in
+        rw breaks
+        (subst (λ (t : Text). QuotedEven before (space ∷ rest) t) (sym (append_assoc folded more (quote ∷ [])))
+        (quoted_fold before rest (more ++ quote ∷ []) other (ih next fits)))
+
+    -- a space that stays
+    space_goes : (before : Option ℕ) (rest : Text) (cursor : Cursor) → Fits indent before cursor
+        → Goes before rest (text_laid (character_text unicode space) cursor) space
+    space_goes before rest cursor fits ih =
+        let next = ih (text_laid (character_text unicode space) cursor).cursor (fits-character unicode indent before space cursor fits) in
+        rw (space-text unicode) (quoted_space before rest _ (rw (space-text unicode) at next))
+
+    -- another character
+    other_goes : (before : Option ℕ) (c : ℕ) (rest : Text) (cursor : Cursor) → is_space c ≡ false → Fits indent before cursor
+        → Goes before rest (text_laid (character_text unicode c) cursor) c
+    other_goes before c rest cursor s fits ih =
+        let next : Cursor = (text_laid (character_text unicode c) cursor).cursor in
+        let more = (double_inside unicode limit indent (Some c) rest next).text in
+        subst (λ (t : Text). QuotedEven before (c ∷ rest) t) (sym (append_assoc (character_text unicode c) more (quote ∷ [])))
+        (quoted_other before c rest (more ++ quote ∷ []) s (ih next (fits-character unicode indent before c cursor fits)))
+
+    -- one character and what follows it
+    quoted_step : (before : Option ℕ) (c : ℕ) (rest : Text) (cursor : Cursor) (folds spaced : Bool)
+        → (is_space c && may_fold before rest && is_past_width limit cursor) ≡ folds → is_space c ≡ spaced → Fits indent before cursor
+        → Goes before rest (if folds then double_fold indent rest cursor else text_laid (character_text unicode c) cursor) c
+    quoted_step before c rest cursor true spaced is is_s fits ih =
+        let p : ((is_space c && may_fold before rest) ≡ true) × (is_past_width limit cursor ≡ true) = and_parts _ _ is in
+        let q : (is_space c ≡ true) × (may_fold before rest ≡ true) = and_parts _ _ p.0 in
+        let e : c ≡ space = eqb-true c space q.0 in
+        let other = may-fold-other before rest q.1 in
+        let breaks = fits-breaks indent before cursor other fits in
+        subst (Goes before rest (double_fold indent rest cursor)) (sym e) (fold_goes before rest cursor other breaks) ih
+    quoted_step before c rest cursor false true is is_s fits ih =
+        let e : c ≡ space = eqb-true c space is_s in
+        subst (λ (k : ℕ). Goes before rest (text_laid (character_text unicode k) cursor) k) (sym e) (space_goes before rest cursor fits) ih
+    quoted_step before c rest cursor false false is is_s fits ih = other_goes before c rest cursor is_s fits ih
+
+    -- all that stands between the quotes, and the closing one
+    quoted_inside : (value : Text) (before : Option ℕ) (cursor : Cursor) → Fits indent before cursor
+        → QuotedEven before value ((double_inside unicode limit indent before value cursor).text ++ quote ∷ [])
+    quoted_inside [] before cursor fits = quoted_end before
+    quoted_inside (c ∷ rest) before cursor fits =
+        quoted_step before c rest cursor _ (is_space c) refl refl fits (λ next. quoted_inside rest (Some c) next)
+
+-- a double-quoted body, whatever the value: its lines are deep, and no space stands before a break
+pub double_even : (breaks12 unicode : Bool) (count : ℕ) (limit : Option ℕ) (indent : ℕ) (value : Text) (cursor : Cursor) → count ≤ indent
+    → IsEven breaks12 count (double_quoted_body unicode limit indent value cursor).text
+double_even breaks12 unicode count limit indent value cursor enough =
+    let inside = quoted_inside breaks12 unicode count indent enough limit value None (quoted_cursor cursor) (inl (and_right cursor.indention false refl)) in
+    even_ink breaks12 count (quote ∷ []) ((double_inside unicode limit indent None value (quoted_cursor cursor)).text ++ quote ∷ [])
+    (graph_ink breaks12 quote refl, tt) inside.is_even
