@@ -68,4 +68,10 @@ pub mod StreamItems
 pub mod StreamPairs
 pub mod StreamPairReads
 pub mod StreamBlocks
+pub mod StreamCentral
+pub mod StreamNodesFit
+pub mod StreamUnmarked
+pub mod StreamStrip
+pub mod StreamLeafFits
+pub mod StreamAliasFits
 pub mod CallerLaws
