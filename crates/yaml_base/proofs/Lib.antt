@@ -74,4 +74,5 @@ pub mod StreamUnmarked
 pub mod StreamStrip
 pub mod StreamLeafFits
 pub mod StreamAliasFits
+pub mod StreamRoots
 pub mod CallerLaws
