@@ -71,6 +71,13 @@ pub mod StreamItems
 pub mod StreamPairs
 pub mod StreamPairReads
 pub mod StreamBlocks
+pub mod StreamCentral
+pub mod StreamNodesFit
+pub mod StreamUnmarked
+pub mod StreamStrip
+pub mod StreamLeafFits
+pub mod StreamAliasFits
+pub mod StreamRoots
 pub mod CallerLaws
 pub mod StreamProperties
 pub mod StreamPropertyWords

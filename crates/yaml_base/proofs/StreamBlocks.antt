@@ -86,6 +86,7 @@ block_below rules n e text make block depth deep reads_text properties tag said 
     or_true true = refl
     or_true false = refl
 
+-- and on its line where a block may begin
 block_on_line : (rules : Rules) (n e : ℕ) (text : Text) (make : Option Text → Option Text → Tree) → Block rules n e text make → (depth : ℕ) → n ≤ depth
     → (reads_text : ReadsText) (properties : Properties) (tag : Option Text) → collection_tag_said properties.tag ≡ Some tag
     → node_lines rules (node_read depth rules) reads_text properties true (lines_of rules.breaks12 text) ≡ Some (make properties.anchor tag)
@@ -108,6 +109,7 @@ broken : (e : ℕ) (cursor : Cursor) → cursor.indention ≡ false → (new_lin
 broken e cursor h =
     ap (λ x. if not x || nat_lt e cursor.column || ((cursor.column == e) && not cursor.whitespace) then line_feed ∷ spaces e else spaces (e - cursor.column)) h
 
+-- spaces, and then others
 pub spaces_both : (j k e : ℕ) (t : Text) → j + k ≡ e → spaces j ++ (spaces k ++ t) ≡ spaces e ++ t
 spaces_both zero k e t h = let same : k ≡ e = omega arith in ap (λ n. spaces n ++ t) same
 spaces_both (suc j) k zero t h = absurd (omega arith)
@@ -162,7 +164,7 @@ below rules e cursor entries text lays h =
     lays.lays ∙ ap (λ t. t ++ (lays.head ∷ lays.tail)) (broken e cursor h) ∙ ap (λ t. line_feed ∷ t) (sym lays.is)
 
 -- a text on one line before the break
-opened_below : (breaks12 : Bool) (a text : Text) → OneLine breaks12 a → ends_sign a ≡ true → Opens breaks12 (a ++ (line_feed ∷ text))
+pub opened_below : (breaks12 : Bool) (a text : Text) → OneLine breaks12 a → ends_sign a ≡ true → Opens breaks12 (a ++ (line_feed ∷ text))
 opened_below breaks12 a text one sign = record {
   head = a;
   ending = line_feed ∷ [];
@@ -177,10 +179,11 @@ later_inside q d [] h = refl
 later_inside q d (line ∷ rest) h = (and_parts (is_inside q d line.text) (list_all (λ line. is_inside q d line.text) rest) h).1
 
 -- below a line the lines are those of the entries
-below_inside : (breaks12 : Bool) (a text : Text) (q : Bool) (d : ℕ) → OneLine breaks12 a → AllInside q d (lines_of breaks12 text) → AllInside q d (lines_after_first (lines_of breaks12 (a ++ (line_feed ∷ text))))
+pub below_inside : (breaks12 : Bool) (a text : Text) (q : Bool) (d : ℕ) → OneLine breaks12 a → AllInside q d (lines_of breaks12 text) → AllInside q d (lines_after_first (lines_of breaks12 (a ++ (line_feed ∷ text))))
 below_inside breaks12 a text q d one h = ap (λ ls. list_all (λ line. is_inside q d line.text) (lines_after_first ls)) (lines_broken breaks12 a text one) ∙ h
 
-below_ends : (breaks12 : Bool) (a text : Text) → is_closed breaks12 text ≡ true → is_closed breaks12 (a ++ (line_feed ∷ text)) ≡ true
+-- what ends with a break below a line does behind it
+pub below_ends : (breaks12 : Bool) (a text : Text) → is_closed breaks12 text ≡ true → is_closed breaks12 (a ++ (line_feed ∷ text)) ≡ true
 below_ends breaks12 a text h =
     ap (is_closed breaks12) (sym (append_assoc a (line_feed ∷ []) text)) ∙ closed_both breaks12 (a ++ (line_feed ∷ [])) text (closed_feed a) h
   where

@@ -61,6 +61,7 @@ margin_cursor e = record { column = e; whitespace = true; indention = true }
 
 -- Lines
 
+-- a space breaks no line
 space_goes_on : (breaks12 : Bool) → is_read_break breaks12 space ≡ false
 space_goes_on true = refl
 space_goes_on false = refl

@@ -70,7 +70,7 @@ items_lines rules s directives items last e fit =
     lines_after_break rules.breaks12 (items_text items s directives e) (spaces e ++ (0x2D ∷ item_text items last s directives e)) (items_end rules s directives items e fit)
 
 -- a `-` breaks no line
-dash_line : (breaks12 : Bool) → OneLine breaks12 (0x2D ∷ [])
+pub dash_line : (breaks12 : Bool) → OneLine breaks12 (0x2D ∷ [])
 dash_line true = refl
 dash_line false = refl
 

@@ -68,7 +68,7 @@ keyed rules text key_tree n own tree role e cursor key fit w i depth deep pairs 
     ∙ ap (with_value pairs (Some key_tree)) (fit.reads depth deep false (suc (e + length text)) (λ h. absurd (false≢true (sym i ∙ h))))
 
 -- no cursor stands in indentation behind the `:` of a simple key
-colon_ends : (cursor : Cursor) → (colon_cursor cursor).indention ≡ false
+pub colon_ends : (cursor : Cursor) → (colon_cursor cursor).indention ≡ false
 colon_ends cursor = by cursor.indention
   where
     by : (x : Bool) → x && false ≡ false
@@ -146,6 +146,7 @@ signed_regrouped a n k m v c =
     ∙ ap (λ t. (a ++ ((n ++ (0x3F ∷ [])) ++ k)) ++ t) (append_assoc (m ++ (0x3A ∷ [])) v c ∙ append_assoc m (0x3A ∷ []) (v ++ c))
     ∙ regrouped a n k (m ++ (0x3A ∷ (v ++ c))) 0x3F
 
+-- so it is for a pair of either kind
 pair_lays : (x : Bool) (rules : Rules) (s : Effective) (directives : List TagDirective) (pairs : Pairs) (key value : Node) (e : ℕ) (before : Laid)
     → PairFits x rules s directives pairs key value e
     → PairLays (pair_text x pairs key value s directives e) before.text (pair_own x pairs key value s directives e before) (new_line e before.cursor).text e

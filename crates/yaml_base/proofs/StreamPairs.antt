@@ -14,6 +14,8 @@ use Rattle.yaml_base.specs.StreamContent.{Tree}
 use Rattle.yaml_base.specs.StreamLines.{Line, lines_of, ends_sign, begins_with_sign, is_inside, spaces}
 use Rattle.yaml_base.specs.StreamScalars.{Rules}
 use Rattle.yaml_base.specs.StreamNodes.{key_of_line, simple_entry, kind_of_entry}
+use Rattle.yaml_base.specs.StreamDocuments.{mark_of}
+use Rattle.yaml_base.proofs.StreamSections.{is_unmarked}
 use Rattle.yaml_base.proofs.StreamAgrees.{node_tree}
 use Rattle.yaml_base.proofs.StreamTexts.{node_own}
 use Rattle.yaml_base.proofs.StreamLineLaws.{is_closed, OneLine, lines_after_break}
@@ -23,7 +25,7 @@ use Rattle.yaml_base.proofs.StreamClosed.{closed, sign_cursor, margin_cursor, sp
 use Rattle.yaml_base.proofs.StreamFits.{size, Opens, Fits, signed_lines, signed_ends}
 
 -- what the text of a simple key is to the reader, before `:` and what a sign opens: a line begins with it, no sign of an
--- entry does, and it is cut off as the key
+-- entry does, it is no mark, and it is cut off as the key
 pub record KeyFits (rules : Rules) (text : Text) (tree : Tree) : Type 0 where
   pub first : ℕ
   pub tail : Text
@@ -32,6 +34,7 @@ pub record KeyFits (rules : Rules) (text : Text) (tree : Tree) : Type 0 where
   pub one_line : OneLine rules.breaks12 text
   pub no_dash : (after : Text) → ends_sign after ≡ true → begins_with_sign 0x2D (text ++ (0x3A ∷ after)) ≡ false
   pub simple : (after : Text) → ends_sign after ≡ true → kind_of_entry (text ++ (0x3A ∷ after)) ≡ simple_entry
+  pub unmarked : (after : Text) → ends_sign after ≡ true → is_unmarked (mark_of (text ++ (0x3A ∷ after))) ≡ true
   pub cut : (after : Text) → ends_sign after ≡ true
       → key_of_line rules (text ++ (0x3A ∷ after)) ≡ Some (record { key = tree; length = length text; after = after })
 
@@ -108,6 +111,7 @@ pub question_line : (breaks12 : Bool) → OneLine breaks12 (0x3F ∷ [])
 question_line true = refl
 question_line false = refl
 
+-- nor does a `:`
 pub colon_line : (breaks12 : Bool) → OneLine breaks12 (0x3A ∷ [])
 colon_line true = refl
 colon_line false = refl
@@ -134,7 +138,7 @@ within_less true d e false h = omega arith
 within_less false d e x h = h
 
 -- the lines after the first of what a sign opens are inside the column, where the node fits there
-rest_inside : (rules : Rules) (n : ℕ) (own : Laid) (tree : Tree) (role : Role) (cursor : Cursor) (e : ℕ) (fit : Fits rules n own tree (entry_place false role e) cursor) (w : cursor.whitespace ≡ false)
+pub rest_inside : (rules : Rules) (n : ℕ) (own : Laid) (tree : Tree) (role : Role) (cursor : Cursor) (e : ℕ) (fit : Fits rules n own tree (entry_place false role e) cursor) (w : cursor.whitespace ≡ false)
     (q : Bool) (d : ℕ) → d + rank q ≤ e → AllInside q d (fit.opens w).rest
 rest_inside rules n own tree role cursor e fit w q d h =
     ap (λ ls. list_all (λ line. is_inside q d line.text) (lines_after_first ls)) (sym (fit.opens w).is)
@@ -180,7 +184,7 @@ pair_ends false rules s directives pairs key value e fit =
     (signed_ends rules.breaks12 e 0x3A v (fit.1.opens refl) fit.1.ends)
 
 -- a pair with `?` has the lines of both
-signed_pair_lines : (rules : Rules) (s : Effective) (directives : List TagDirective) (pairs : Pairs) (key value : Node) (e : ℕ) → PairFits false rules s directives pairs key value e
+pub signed_pair_lines : (rules : Rules) (s : Effective) (directives : List TagDirective) (pairs : Pairs) (key value : Node) (e : ℕ) → PairFits false rules s directives pairs key value e
     → lines_of rules.breaks12 (pair_text false pairs key value s directives e)
     ≡ lines_of rules.breaks12 (spaces e ++ (0x3F ∷ closed (signed_key pairs key s directives e))) ++ lines_of rules.breaks12 (spaces e ++ (0x3A ∷ closed (signed_value value s directives e)))
 signed_pair_lines rules s directives pairs key value e fit =
@@ -230,6 +234,7 @@ pair_inside false rules s directives pairs key value e fit q d h =
 
 -- All pairs
 
+-- the pairs of a mapping end at a line's end
 pub pairs_end : (rules : Rules) (s : Effective) (directives : List TagDirective) (pairs : Pairs) (e : ℕ) → PairsFit rules s directives pairs e
     → is_closed rules.breaks12 (pairs_text pairs s directives e) ≡ true
 pairs_end rules s directives no_pairs e fit = refl
@@ -238,7 +243,8 @@ pairs_end rules s directives (pairs_and pairs key value) e fit =
     closed_both rules.breaks12 (pairs_text pairs s directives e) (pair_text x pairs key value s directives e) (pairs_end rules s directives pairs e fit.0)
     (pair_ends x rules s directives pairs key value e fit.1)
 
-pairs_lines : (rules : Rules) (s : Effective) (directives : List TagDirective) (pairs : Pairs) (key value : Node) (e : ℕ) → PairsFit rules s directives pairs e
+-- the lines of pairs, and of one more
+pub pairs_lines : (rules : Rules) (s : Effective) (directives : List TagDirective) (pairs : Pairs) (key value : Node) (e : ℕ) → PairsFit rules s directives pairs e
     → lines_of rules.breaks12 (pairs_text (pairs_and pairs key value) s directives e)
     ≡ lines_of rules.breaks12 (pairs_text pairs s directives e) ++ lines_of rules.breaks12 (pair_text (is_simple s.canonical directives key) pairs key value s directives e)
 pairs_lines rules s directives pairs key value e fit =

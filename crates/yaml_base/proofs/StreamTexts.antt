@@ -65,6 +65,7 @@ node_placed node s directives place cursor =
 abbrev pub Joined : PiecesLaid → Laid → Type 0
 Joined pieces laid = (text_of pieces.pieces ≡ laid.text) × (pieces.standing.cursor ≡ laid.cursor)
 
+-- the text of pieces, and of those after them
 text_both : (a b : List Piece) → text_of (a ++ b) ≡ text_of a ++ text_of b
 text_both a b = flat_map-append piece_text a b
 
@@ -82,6 +83,7 @@ joined_both first next a b one two = (
 joined_one : (lead a b : Text) → lead ≡ a → (lead ++ b) ++ [] ≡ a ++ b
 joined_one lead a b h = append-nil (lead ++ b) ∙ ap (λ t. t ++ b) h
 
+-- regrouped: signs, properties, a space and a body
 assoc_three : (a b c d : Text) → (((a ++ b) ++ c) ++ d) ++ [] ≡ a ++ ((b ++ c) ++ d)
 assoc_three a b c d =
     append-nil (((a ++ b) ++ c) ++ d) ∙ ap (λ t. t ++ d) (append_assoc a b c) ∙ append_assoc a (b ++ c) d
