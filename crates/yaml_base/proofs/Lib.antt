@@ -69,3 +69,6 @@ pub mod StreamPasses
 pub mod StreamStands
 pub mod StreamLeads
 pub mod StreamFlowWords
+pub mod StreamFlowTakes
+pub mod StreamFlowScalars
+pub mod StreamFlowPairs
