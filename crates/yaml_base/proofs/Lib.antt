@@ -86,3 +86,6 @@ pub mod StreamStands
 pub mod StreamLeads
 pub mod StreamFlowWords
 mod RowsWrittenTexts
+pub mod StreamFlowTakes
+pub mod StreamFlowScalars
+pub mod StreamFlowPairs

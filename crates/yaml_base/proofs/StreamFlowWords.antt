@@ -241,7 +241,7 @@ alias_flow_word rules (n ∷ name) h = record {
 -- Empty collections
 
 -- the tag of a collection, if it has one
-tag_of_collection : (tag : Option Text) → collection_tag_said (tag_meant tag false) ≡ Some tag
+pub tag_of_collection : (tag : Option Text) → collection_tag_said (tag_meant tag false) ≡ Some tag
 tag_of_collection None = refl
 tag_of_collection (Some tag) = refl
 
