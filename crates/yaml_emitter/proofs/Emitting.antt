@@ -1,7 +1,7 @@
 -- The events that wait are written one after another.
-use Rattle.std.proofs.Common.{ℕ, arith, ◌≡◌, ◌≤◌, ◌<◌, true, None, Result, Ok, Err, List, [], ◌∷◌, ◌++◌, length, take, sym, ap, subst, false, ◌+◌, suc, Bool, refl}
+use Rattle.std.proofs.Common.{ℕ, arith, ◌≡◌, ◌≤◌, ◌<◌, true, None, Result, Ok, Err, List, [], ◌∷◌, ◌++◌, length, take, sym, ap, subst, false, ◌+◌, suc, Bool, refl, ◌∙◌}
 use Rattle.yaml_base.specs.Settings.{Settings}
-use Rattle.yaml_base.specs.Event.{Event}
+use Rattle.yaml_base.specs.Event.{Event, alias, document_end, document_start, mapping_end, mapping_start, scalar, sequence_end, sequence_start, stream_end, stream_start}
 use Rattle.std.specs.Prelude.{if◌then◌else◌}
 use Rattle.yaml_base.specs.Ready.{is_ready, written, held_back}
 use Rattle.yaml_base.proofs.Progress.{written-append}
@@ -9,8 +9,9 @@ use Rattle.yaml_base.specs.declared.errors.yaml_error_t.{yaml_error_t}
 use Rattle.yaml_base.specs.declared.errors.yaml_error_t.TheVariants.{WriteError, Memory}
 use Rattle.yaml_emitter.specs.State.{State}
 use Rattle.yaml_emitter.specs.Queue.{is_head_ready}
-use Rattle.yaml_emitter.specs.StandsAfter.{Reached, ReachedOn, StandsSo, StandsWell, TookFirst, failed_by}
-use Rattle.yaml_emitter.proofs.Standing.{reached_first, reached_next}
+use Rattle.yaml_emitter.specs.StandsAfter.{Reached, ReachedOn, StandsBy, StandsSo, StandsWell, TookFirst, failed_by}
+use Rattle.yaml_emitter.specs.Processing.{Processed, closes_at_once}
+use Rattle.yaml_emitter.proofs.Standing.{reached_end, reached_first, reached_next}
 use Rattle.yaml_emitter.proofs.StandingFailed.{reached_failed}
 use Rattle.yaml_emitter.proofs.StandingPromises.{most_few, promises_held, stands_well}
 
@@ -88,3 +89,56 @@ none_became_ready given all event before h none same =
     let count : written (all ++ event ∷ []) ≡ written all + written (held_back all ++ event ∷ []) = written-append all (event ∷ []) in
     subst (λ held. is_head_ready (held ++ event ∷ []) ≡ false) (sym well.held)
     (head_unready (held_back all ++ event ∷ []) (omega (arith, count, same)))
+
+-- Nothing follows an event that stands alone.
+closes_none : (event : Event) → closes_at_once event [] ≡ false
+closes_none (stream_start _) = refl
+closes_none stream_end = refl
+closes_none (document_start _) = refl
+closes_none (document_end _) = refl
+closes_none (alias _) = refl
+closes_none (scalar _) = refl
+closes_none (sequence_start _) = refl
+closes_none sequence_end = refl
+closes_none (mapping_start _) = refl
+closes_none mapping_end = refl
+
+-- What processes an event where none waits takes the first of a queue that holds it alone.
+pub took_alone : (event : Event) (before after : State) (answer : Result (Unit {0}) yaml_error_t) → before.held ≡ []
+    → Processed event false before after answer → TookFirst (record before { held = event ∷ [] }) after answer
+took_alone event before after answer none done =
+    record {
+      event = event;
+      rest = [];
+      held = refl;
+      done =
+          subst (λ (s : State). Processed event (closes_at_once event []) s after answer) (ap (λ l. let s : State = record before { held = l } in s) none)
+          (subst (λ (b : Bool). Processed event b before after answer) (sym (closes_none event)) done);
+    }
+
+-- Then nothing waits, and the emitter stands after it.
+pub took_end : (event : Event) (before after : State) → TookFirst (record before { held = event ∷ [] }) after (Ok tt) → before.error ≡ None
+    → is_head_ready (event ∷ []) ≡ true → (given : Settings) (all front : List Event)
+    → Reached given all front (event ∷ []) (record before { held = event ∷ [] }) → StandsSo given all after
+took_end event before after took none ready given all front reached =
+    let first : State = record before { held = event ∷ [] } in
+    let on = took_next first after took ready given all front reached in
+    let empty : after.held ≡ [] = took_rest first after took ∙ sym (ap rest_of took.held) in
+    subst (λ e. StandsBy given all e after) (sym (took_error first after took ∙ none))
+    (reached_end given all on.0 after.held after on.1 (ap is_head_ready empty))
+  where
+    rest_of : List Event → List Event
+    rest_of [] = []
+    rest_of (event ∷ rest) = rest
+
+-- An event that was given where none waits stands alone.
+pub reached_alone : (given : Settings) (all : List Event) (event : Event) (before now : State) → StandsSo given all before → before.error ≡ None → before.held ≡ []
+    → now ≡ record before { started = true }
+    → Reached given (all ++ event ∷ []) (take (written all) all) (event ∷ []) (record now { held = event ∷ [] })
+reached_alone given all event before now h none alone is =
+    let after : State = record before { started = true; held = before.held ++ event ∷ [] } in
+    let at : Reached given (all ++ event ∷ []) (take (written all) all) (before.held ++ event ∷ []) after =
+    reached_taken given all event before after h none refl in
+    let moved : Reached given (all ++ event ∷ []) (take (written all) all) (event ∷ []) (record before { started = true; held = event ∷ [] }) =
+    subst (λ l. Reached given (all ++ event ∷ []) (take (written all) all) (l ++ event ∷ []) (record before { started = true; held = l ++ event ∷ [] })) alone at in
+    subst (λ (s : State). Reached given (all ++ event ∷ []) (take (written all) all) (event ∷ []) (record s { held = event ∷ [] })) (sym is) moved

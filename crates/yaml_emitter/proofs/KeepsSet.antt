@@ -5,7 +5,7 @@ use Rattle.yaml_base.specs.declared.errors.yaml_error_t.{yaml_error_t}
 use Rattle.yaml_base.specs.declared.errors.yaml_error_t.TheVariants.{WriteError, Memory}
 use Rattle.yaml_emitter.specs.State.{State, KeepsSet}
 use Rattle.yaml_emitter.specs.Processing.{Processed, Keeps}
-use Rattle.yaml_emitter.specs.StandsAfter.{TookFirst}
+use Rattle.yaml_emitter.specs.StandsAfter.{TookFirst, failed_by}
 
 pub keeps_set_same : (state : State) → KeepsSet state state
 keeps_set_same state = record { given = refl; started = refl; has_output = refl; opened = refl; closed = refl }
@@ -40,7 +40,8 @@ by_sameness before after same =
       closed = ap (λ (s : State). s.closed) same;
     }
 
-processed_keeps_set : (event : Event) (empty : Bool) (before after : State) (answer : Result (Unit {0}) yaml_error_t) → Processed event empty before after answer → KeepsSet before after
+-- so does one event
+pub processed_keeps_set : (event : Event) (empty : Bool) (before after : State) (answer : Result (Unit {0}) yaml_error_t) → Processed event empty before after answer → KeepsSet before after
 processed_keeps_set event empty before after (Ok _) done = by_keeping before after done.kept
 processed_keeps_set event empty before after (Err WriteError) done = by_keeping before after done.kept
 processed_keeps_set event empty before after (Err Memory) done = by_keeping before after done.kept
@@ -49,4 +50,9 @@ processed_keeps_set event empty before after (Err error) done = by_sameness befo
 pub took_keeps_set : (before after : State) (answer : Result (Unit {0}) yaml_error_t) → TookFirst before after answer → KeepsSet before after
 took_keeps_set before after answer took =
     let kept = processed_keeps_set took.event _ (record before { held = took.rest }) after answer took.done in
+    record { given = kept.given; started = kept.started; has_output = kept.has_output; opened = kept.opened; closed = kept.closed }
+
+-- and so does its failure
+pub failed_keeps_set : (error : yaml_error_t) (before after : State) → KeepsSet before after → KeepsSet before (failed_by error after)
+failed_keeps_set error before after kept =
     record { given = kept.given; started = kept.started; has_output = kept.has_output; opened = kept.opened; closed = kept.closed }

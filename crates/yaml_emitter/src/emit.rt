@@ -16,7 +16,7 @@ ghost use Rattle.yaml_emitter.specs.StandsAfter.{Reached, ReachedOn, StandsAfter
 
 use crate::check::check_names;
 use crate::emitter::yaml_emitter_t;
-use crate::queue::{closes_at_once, first_taken, is_next_ready};
+use crate::queue::{closes_at_once, first_taken, is_next_ready, is_ready_alone};
 use crate::stage::Stage;
 use std::alloc::Allocator;
 use yaml_base::{yaml_error_t, yaml_event_t};
@@ -43,6 +43,9 @@ pub fn yaml_emitter_emit<A: Allocator + Copy>(
     emitter.started = true;
     if let Some(error) = emitter.error {
         return Err(error);
+    }
+    if is_ready_alone(emitter.queue.as_slice(), &event) {
+        return emitter.write_at_once(&event);
     }
     emitter.take(event)?;
     emitter.settle()
@@ -75,6 +78,29 @@ pub fn yaml_emitter_flush<A: Allocator + Copy>(
 }
 
 impl<A: Allocator + Copy> yaml_emitter_t<A> {
+    /// Writes an event that needn't wait, where none waits. After an error nothing waits.
+    fn write_at_once(&mut self, event: &yaml_event_t<A>) -> Result<(), yaml_error_t>
+        requires output { self.old.has_output ≡ true }
+        requires no_error { self.old.error ≡ None }
+        requires alone { self.old.held ≡ [] }
+        requires ready { is_head_ready (seen_event event.now ∷ []) ≡ true }
+        ensures stands { (given : Settings) (all front : List Event)
+            → Reached given all front (seen_event event.now ∷ []) (record self.old { held = seen_event event.now ∷ [] })
+            → StandsSo given all self.new }
+        ensures grows { Grows self.old.page self.new.page }
+        ensures set { KeepsSet self.old self.new }
+        ensures answered { result ≡ told self.new.error }
+        ensures output { self.new.has_output ≡ true }
+    {
+        match self.process(event, false) {
+            Ok(()) => Ok(()),
+            Err(error) => {
+                self.fail(error);
+                Err(error)
+            }
+        }
+    }
+
     /// Puts an event behind those that wait. Where at most three wait, it needs no memory.
     fn take(&mut self, event: yaml_event_t<A>) -> Result<(), yaml_error_t>
         requires output { self.old.has_output ≡ true }

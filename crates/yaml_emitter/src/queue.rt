@@ -1,6 +1,6 @@
 //! Which events can be written: the head of the queue waits for those that decide how it is written.
 
-ghost use Rattle.std.specs.Prelude.{◌≡◌, ◌∷◌, true, vec_capacity, if◌then◌else◌};
+ghost use Rattle.std.specs.Prelude.{◌≡◌, ◌==◌, ◌∷◌, [], true, vec_capacity, if◌then◌else◌};
 ghost use Rattle.std.specs.List.{list_any};
 ghost use Rattle.yaml_base.specs.Ready.{is_start, is_end, awaited, is_balanced, fronts, is_ready};
 ghost use Rattle.yaml_base.specs.Seen.{seen_event, seen_events};
@@ -86,6 +86,27 @@ pub(crate) fn is_next_ready<A: Allocator>(events: &[yaml_event_t<A>]) -> bool
         return true;
     }
     closes(events)
+}
+
+/// Whether no event waits, and this one can be written whatever follows it.
+pub(crate) fn is_ready_alone<A: Allocator>(
+    waiting: &[yaml_event_t<A>],
+    event: &yaml_event_t<A>,
+) -> bool
+    ensures alone { result ≡ true → seen_events waiting.now ≡ [] }
+    ensures ready { result ≡ true → is_head_ready (seen_event event.now ∷ []) ≡ true }
+{
+    if waiting.is_empty() {
+        awaits_nothing(event)
+    } else {
+        false
+    }
+}
+
+fn awaits_nothing<A: Allocator>(event: &yaml_event_t<A>) -> bool
+    ensures { result ≡ (awaited (seen_event event.now) == 0) }
+{
+    followers(event) == 0
 }
 
 /// Whether an event starts a collection that the next event ends.

@@ -8,6 +8,7 @@ ghost use Rattle.memchr.specs.Find.{IsFirstByte, is_byte2};
 use memchr::memchr2;
 
 /// The first character, and the text after it.
+#[inline(always)]
 pub fn first_character(text: &str) -> Option<(char, &str)>
     ensures characters { MatchOption result (chars text.now ≡ []) (λ parts. chars text.now ≡ parts.0 ∷ chars parts.1.now) }
     ensures bytes { IfSome result (λ parts. text.now ≡ encode_utf8 parts.0 ++ parts.1.now) }
@@ -22,6 +23,7 @@ pub fn first_character(text: &str) -> Option<(char, &str)>
 }
 
 /// The text before its end.
+#[inline(always)]
 pub fn front_before<'a>(text: &'a str, end: &str) -> &'a str
     requires { EndsIn text.now end.now }
     ensures { result.now ≡ front_of text.now end.now }
@@ -30,6 +32,7 @@ pub fn front_before<'a>(text: &'a str, end: &str) -> &'a str
 }
 
 /// Where the first of two bytes stands, sought byte by byte.
+#[inline(always)]
 fn near_place(first: u8, second: u8, bytes: &[u8]) -> Option<usize>
     ensures { IsFirstByte (is_byte2 first second) bytes.now result }
 {
@@ -42,6 +45,7 @@ fn near_place(first: u8, second: u8, bytes: &[u8]) -> Option<usize>
 }
 
 /// What stands from a sign on that was found; nothing where none was.
+#[inline(always)]
 fn from_place(first: u8, second: u8, text: &str, place: Option<usize>) -> &str
     requires first { first < 128 }
     requires second { second < 128 }
@@ -64,6 +68,7 @@ pub fn from_sign(first: u8, second: u8, text: &str) -> &str
 }
 
 /// The same, faster where one of them stands within a few characters.
+#[inline(always)]
 pub fn from_near_sign(first: u8, second: u8, text: &str) -> &str
     requires first { first < 128 }
     requires second { second < 128 }

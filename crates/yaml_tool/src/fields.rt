@@ -55,6 +55,7 @@ impl Standing {
 }
 
 /// The first piece of a text that stands there, and what follows it: nothing, or a separator and other pieces.
+#[inline(always)]
 fn first_piece(start: Standing, text: &str) -> (&str, &str)
     ensures cut { notation.cut_from (seen_standing start) (chars text.now) ≡ chars result.0.now ∷ pieces_after (chars result.1.now) }
     ensures after { notation.each_field (pieces_after (chars result.1.now)) ≡ fields_after (chars result.1.now) }
@@ -74,6 +75,7 @@ fn first_piece(start: Standing, text: &str) -> (&str, &str)
 }
 
 /// What follows the separator that the rest of a line begins with.
+#[inline(always)]
 fn past_separator(rest: &str) -> Option<&str>
     ensures characters { MatchOption result (HasNoField (fields_after (chars rest.now))) (λ line. fields_after (chars rest.now) ≡ notation.fields_read (chars line.now)) }
     ensures shorter { IfSome result (λ line. length line.now < length rest.now) }
@@ -93,6 +95,7 @@ pub fn is_end(rest: &str) -> bool
 }
 
 /// The first field of a line, where it is a word, and the rest of the line after it.
+#[inline(always)]
 pub fn first_word(line: &str) -> Option<(&str, &str)>
     ensures { MatchOption result (HasNoWord (notation.fields_read (chars line.now))) (λ parts. notation.fields_read (chars line.now) ≡ led_by (notation.bare (chars parts.0.now)) (fields_after (chars parts.1.now))) }
 {
@@ -151,6 +154,7 @@ fn begun_text<A: Allocator>(alloc: A, behind: &str) -> Result<Option<(String<A>,
 }
 
 /// What follows the opening mark of the next field, where that is a text.
+#[inline(always)]
 fn past_mark(rest: &str) -> Option<&str>
     ensures characters { MatchOption result (HasNoText (fields_after (chars rest.now))) (λ behind. fields_after (chars rest.now) ≡ text_begun (chars behind.now)) }
     ensures shorter { IfSome result (λ behind. length behind.now < length rest.now) }
@@ -187,6 +191,7 @@ pub fn last_text<A: Allocator>(alloc: A, rest: &str) -> Result<Option<String<A>>
 }
 
 /// The rest of the line after the next field, where that is `-`.
+#[inline(always)]
 fn past_dash(rest: &str) -> Option<&str>
     ensures { MatchOption result (HasNoDash (fields_after (chars rest.now))) (λ others. fields_after (chars rest.now) ≡ led_by no_text (fields_after (chars others.now))) }
 {

@@ -11,6 +11,7 @@ use yaml_base::{
 };
 
 /// Whether a word is this name, which is ASCII.
+#[inline(always)]
 pub fn is_word(word: &str, name: &'static str) -> bool
     requires { IsTrue (list_all (λ byte. nat_lt byte 128) name.now) }
     ensures { result ≡ notation.is_word (chars word.now) name.now }
@@ -73,6 +74,7 @@ pub fn event_named(word: &str) -> Option<EventName>
 }
 
 /// `0` or `1`.
+#[inline(always)]
 pub fn flag_named(word: &str) -> Option<bool>
     ensures { result ≡ notation.named notation.flags (chars word.now) }
 {
@@ -133,6 +135,7 @@ pub fn break_named(word: &str) -> Option<yaml_break_t>
 }
 
 /// `any`, `plain`, `single`, `double`, `literal` or `folded`.
+#[inline(always)]
 pub fn scalar_style_named(word: &str) -> Option<yaml_scalar_style_t>
     ensures { option_map seen_scalar_style result ≡ notation.named notation.scalar_styles (chars word.now) }
 {

@@ -1,14 +1,14 @@
-use Rattle.std.proofs.Common.{◌++◌, ◌∷◌, [], take, sym, subst, ap, ◌∙◌, ◌≡◌, false}
+use Rattle.std.proofs.Common.{◌++◌, ◌∷◌, [], take, sym, subst, ap, refl, ◌∙◌, ◌≡◌, false, true}
 use Rattle.std.proofs.lemmas.Bool.{false≢true}
 use Rattle.yaml_base.specs.Ready.{written}
-use Rattle.yaml_base.specs.Seen.{seen_event}
+use Rattle.yaml_base.specs.Seen.{seen_event, seen_events}
 use Rattle.yaml_pen.specs.Page.{Page}
 use Rattle.yaml_pen.specs.Wrote.{Grows}
 use Rattle.yaml_emitter.specs.Inside.{state_of}
 use Rattle.yaml_emitter.specs.Queue.{is_head_ready}
 use Rattle.yaml_emitter.specs.State.{State}
 use Rattle.yaml_emitter.specs.StandsAfter.{StandsAfter}
-use Rattle.yaml_emitter.proofs.Emitting.{none_became_ready, stands_few, reached_taken}
+use Rattle.yaml_emitter.proofs.Emitting.{none_became_ready, reached_alone, stands_few, reached_taken}
 use Rattle.yaml_emitter.proofs.Growing.{grows_page}
 use Rattle.yaml_emitter.proofs.Promising.{promised, stands_with}
 use Rattle.yaml_emitter.proofs.StandingMore.{failed_more}
@@ -68,3 +68,38 @@ returns-in_err-take-clause-grows g c =
 pub returns-clause-grows : goal.returns-clause-grows
 returns-clause-grows g c =
     subst (λ (p : Page). Grows p c.settle.new.self.page) (c.take.ensures.page ∙ ap (λ (s : State). s.page) c.emitter.view_is) c.settle.ensures.grows
+
+pub write_at_once-requires-clause-alone : goal.write_at_once-requires-clause-alone
+write_at_once-requires-clause-alone g c = ap seen_events (sym c.as_slice.ensures.value) ∙ c.is_ready_alone.ensures.alone c.if-is_ready_alone.true
+
+pub write_at_once-requires-clause-ready : goal.write_at_once-requires-clause-ready
+write_at_once-requires-clause-ready g c = c.is_ready_alone.ensures.ready c.if-is_ready_alone.true
+
+pub returns-then-is_ready_alone-clause-stands : goal.returns-then-is_ready_alone-clause-stands
+returns-then-is_ready_alone-clause-stands g c given all stands =
+    let event = seen_event c.args.event in
+    let before : State = state_of c.emitter.inside in
+    let h = subst (λ s. StandsAfter given all s) (sym c.emitter.view_is) stands in
+    let alone : before.held ≡ [] = ap seen_events (sym c.as_slice.ensures.value) ∙ c.is_ready_alone.ensures.alone c.if-is_ready_alone.true in
+    stands_with given all c.args.event c.write_at_once.new.self
+    (c.write_at_once.ensures.stands given (all ++ event ∷ []) (take (written all) all)
+    (reached_alone given all event before (record before { started = true }) h.so c.in_default.is alone refl))
+    h.texts
+
+pub returns-then-is_ready_alone-clause-promised : goal.returns-then-is_ready_alone-clause-promised
+returns-then-is_ready_alone-clause-promised g c given all stands =
+    promised given (all ++ seen_event c.args.event ∷ []) _ (returns-then-is_ready_alone-clause-stands g c given all stands)
+
+pub returns-then-is_ready_alone-clause-waits : goal.returns-then-is_ready_alone-clause-waits
+returns-then-is_ready_alone-clause-waits g c given all stands none same =
+    let event = seen_event c.args.event in
+    let before : State = state_of c.emitter.inside in
+    let h = subst (λ s. StandsAfter given all s) (sym c.emitter.view_is) stands in
+    let alone : before.held ≡ [] = ap seen_events (sym c.as_slice.ensures.value) ∙ c.is_ready_alone.ensures.alone c.if-is_ready_alone.true in
+    let unready : is_head_ready (event ∷ []) ≡ false =
+    subst (λ l. is_head_ready (l ++ event ∷ []) ≡ false) alone (none_became_ready given all event before h.so c.in_default.is same) in
+    absurd (false≢true (sym unready ∙ c.is_ready_alone.ensures.ready c.if-is_ready_alone.true))
+
+pub returns-then-is_ready_alone-clause-grows : goal.returns-then-is_ready_alone-clause-grows
+returns-then-is_ready_alone-clause-grows g c =
+    subst (λ (p : Page). Grows p c.write_at_once.new.self.page) (ap (λ (s : State). s.page) c.emitter.view_is) c.write_at_once.ensures.grows

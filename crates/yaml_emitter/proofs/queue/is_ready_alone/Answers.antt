@@ -1,0 +1,22 @@
+use Rattle.std.proofs.Common.{◌≡◌, ◌∙◌, ap, sym, true, Bool, [], ◌∷◌, length}
+use Rattle.std.proofs.lemmas.Bool.{eqb-true}
+use Rattle.std.proofs.lemmas.List.{nil_from_length}
+use Rattle.std.specs.List.{list_any}
+use Rattle.std.specs.Prelude.{◌==◌, ◌||◌, nat_lt}
+use Rattle.yaml_base.specs.Event.{Event}
+use Rattle.yaml_base.specs.Ready.{awaited, fronts, is_balanced}
+use Rattle.yaml_base.specs.Seen.{seen_event, seen_events}
+use Rattle.yaml_emitter.specs.Queue.{is_head_ready}
+use Rattle.yaml_emitter.proofs.queue.is_ready_alone.Goals as goal
+
+-- an event that awaits nothing is ready alone
+ready_alone : (event : Event) → (awaited event == 0) ≡ true → is_head_ready (event ∷ []) ≡ true
+ready_alone event none =
+    ap (λ (b : Bool). b || nat_lt (awaited event) (length (event ∷ [])) || list_any is_balanced (fronts (event ∷ []))) none
+
+pub returns-then-is_empty-clause-alone : goal.returns-then-is_empty-clause-alone
+returns-then-is_empty-clause-alone g c told =
+    ap seen_events (nil_from_length c.args.waiting.now (eqb-true _ 0 (sym c.is_empty.ensures ∙ c.if-is_empty.true)))
+
+pub returns-then-is_empty-clause-ready : goal.returns-then-is_empty-clause-ready
+returns-then-is_empty-clause-ready g c told = ready_alone (seen_event c.args.event.now) (sym c.awaits_nothing.ensures ∙ told)
