@@ -378,3 +378,34 @@ fn a_directive_line_is_separated(rt: HostRuntime) -> Result<(), Fail> {
     assert!(rt; pen.output() == b"%TAG !e! %21x".as_slice());
     Ok(())
 }
+
+// A text as a prefix, and then as what stands after a handle.
+fn both<A: Allocator + Copy>(
+    alloc: A,
+    text: &str,
+    portable: bool,
+) -> Result<Vec<u8, A>, yaml_error_t> {
+    let mut pen = begun(alloc)?;
+    write_tag_prefix(&mut pen, text, portable)?;
+    write_tag_suffix(&mut pen, text, portable)?;
+    pen.flush()?;
+    Vec::from_slice(alloc, pen.output()).map_err(|_| yaml_error_t::Memory)
+}
+
+#[test]
+fn prefixes_and_suffixes_are_portable_where_asked(rt: HostRuntime) -> Result<(), Fail> {
+    for (text, portable, written) in [
+        (";,[]", false, ";,[];,[]"),
+        (";,[]", true, ";,[];%2C%5B%5D"),
+        ("!x!", false, "%21x%21%21x%21"),
+        ("!x!", true, "!x%21%21x%21"),
+        ("!", true, "!%21"),
+        ("\u{E9}!", true, "%C3%A9%21%C3%A9%21"),
+    ] {
+        assert!(rt;
+            both(rt.alloc(), text, portable)?.as_slice() == written.as_bytes(),
+            "{text}"
+        );
+    }
+    Ok(())
+}

@@ -9,6 +9,7 @@ mod fronts;
 mod growths;
 mod limits;
 mod places;
+mod portable;
 mod refusals;
 mod scalars;
 mod settings;

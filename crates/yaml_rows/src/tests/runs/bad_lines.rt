@@ -25,6 +25,11 @@ fn nothing_is_written_after_a_bad_line(rt: HostRuntime) -> Result<(), Fail> {
             "+STR any\ncanonical on",
             "yamlemit: line 2: cannot be read\n",
         ),
+        (
+            "portable on\nportable on",
+            "yamlemit: line 2: cannot be read\n",
+        ),
+        ("portable yes", "yamlemit: line 1: cannot be read\n"),
         // The events before it would give an output, or be refused.
         (
             "+STR utf16be\n-STR\n+STR",
