@@ -130,11 +130,11 @@ separation_in_flow literal value cursor = refl
 separation_in_flow folded value cursor = refl
 
 -- a scalar's text is a space where one is needed, and what leads its body, and the body
-pub scalar_whole : (directives : List TagDirective) (anchor tag : Option Text) (bare : Bool) (style : ScalarStyle) (value : Text) (cursor : Cursor) (body : Text)
-    → (let properties : Laid = properties_laid directives anchor tag bare cursor in (properties.text ++ (separation_laid style true value properties.cursor).text) ++ body)
-    ≡ space_if true cursor ++ (lead anchor (tag_written directives tag bare) ++ body)
-scalar_whole directives anchor tag bare style value cursor body =
-    let properties = properties_laid directives anchor tag bare cursor in
+pub scalar_whole : (portable : Bool) (directives : List TagDirective) (anchor tag : Option Text) (bare : Bool) (style : ScalarStyle) (value : Text) (cursor : Cursor) (body : Text)
+    → (let properties : Laid = properties_laid portable directives anchor tag bare cursor in (properties.text ++ (separation_laid style true value properties.cursor).text) ++ body)
+    ≡ space_if true cursor ++ (lead anchor (tag_written portable directives tag bare) ++ body)
+scalar_whole portable directives anchor tag bare style value cursor body =
+    let properties = properties_laid portable directives anchor tag bare cursor in
     ap (λ t. (properties.text ++ t) ++ body) (separation_in_flow style value properties.cursor)
-    ∙ ap (λ t. t ++ body) (lead_laid directives anchor tag bare cursor)
-    ∙ append_assoc (space_if true cursor) (lead anchor (tag_written directives tag bare)) body
+    ∙ ap (λ t. t ++ body) (lead_laid portable directives anchor tag bare cursor)
+    ∙ append_assoc (space_if true cursor) (lead anchor (tag_written portable directives tag bare)) body

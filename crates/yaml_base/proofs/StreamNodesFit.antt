@@ -35,7 +35,7 @@ LeafFits rules s directives n place cursor = Fits rules 1 (node_own n s directiv
 
 -- the properties of a collection, laid out from a cursor on
 abbrev pub begun_laid : Effective → List TagDirective → Collection → Cursor → Laid
-begun_laid s directives start cursor = properties_laid directives start.anchor (collection_tag s.canonical start) false cursor
+begun_laid s directives start cursor = properties_laid s.portable directives start.anchor (collection_tag s.canonical start) false cursor
 
 -- they are read
 abbrev pub BegunReads : Rules → Effective → List TagDirective → Collection → Cursor → Type 0
