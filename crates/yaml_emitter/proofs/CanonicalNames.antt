@@ -59,7 +59,7 @@ stand-written (c ∷ text) h = let p = and_parts (stands_written c) (list_all st
 pub escaped-written : (text : Text) → all_written (percent_escaped text) ≡ true
 escaped-written text = stand-written (percent_escaped text) (escaped_stands text)
 
-suffix-written : (portable : Bool) (text : Text) → all_written (suffix_escaped portable text) ≡ true
+pub suffix-written : (portable : Bool) (text : Text) → all_written (suffix_escaped portable text) ≡ true
 suffix-written portable text = stand-written (suffix_escaped portable text) (suffix_stands portable text)
 
 prefix_character : (c : ℕ) → stands_in_prefix c ≡ true → is_written c ≡ true

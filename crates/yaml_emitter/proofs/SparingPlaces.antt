@@ -8,14 +8,14 @@ use Rattle.std.specs.List.{list_all, list_any}
 use Rattle.yaml_base.specs.Characters.{Text, is_alpha, space}
 use Rattle.yaml_base.specs.Cursor.{Cursor, Laid, nothing_laid, then_laid, new_line, space_if, indicator, name_laid, is_past_width}
 use Rattle.yaml_base.specs.Event.{ScalarStyle, any_style, plain, single_quoted, double_quoted, literal, folded, Version, TagDirective, DocumentStart}
-use Rattle.yaml_base.specs.Percent.{percent_escaped}
+use Rattle.yaml_base.specs.Percent.{percent_escaped, suffix_escaped, prefix_escaped}
 use Rattle.yaml_base.specs.Settings.{Effective}
 use Rattle.yaml_base.specs.Tags.{Spelling, spelling, tag_mark}
 use Rattle.yaml_base.specs.Layout.{line_column, Role, as_root, as_item, as_key, as_value, Place, flow_break, opening_or_comma, key_sign, flow_place_laid, block_place_laid, place_laid, anchor_laid, handle_laid, spelling_laid, tag_laid, properties_laid, alias_laid, separation_laid, Brackets, square, curly, empty_or_comma, end_laid, Standing, sign_laid, line_ended, laid_if, closing_mark_laid, version_text, version_laid, tag_directive_laid, tag_directives_laid, has_directives, is_explicit, document_mark_laid, document_start_laid}
 use Rattle.yaml_base.proofs.TagLaws.{IsHandle, handle_form, AreFound, spelling_is}
 use Rattle.yaml_scalar.proofs.LineTexts.{any_both, any_cond, any_one}
 use Rattle.yaml_scalar.proofs.Sparing.{Spares, is_graph, lacks_graph, lacks_line}
-use Rattle.yaml_emitter.proofs.CanonicalNames.{IsName, is_written, all_written, escaped-written, alphas-written, handle_text}
+use Rattle.yaml_emitter.proofs.CanonicalNames.{IsName, is_written, all_written, escaped-written, suffix-written, prefix-written, alphas-written, handle_text}
 use Rattle.yaml_emitter.proofs.CanonicalPlaces.{AnchorOk}
 
 -- what stands in a tag is printable ASCII
@@ -120,6 +120,16 @@ module _ (test : ℕ → Bool) (spares : Spares test) where
   lacks_percent : (text : Text) → list_any test (percent_escaped text) ≡ false
   lacks_percent text = lacks_graph test spares (percent_escaped text) (graph_written (percent_escaped text) (escaped-written text))
 
+  -- what follows a tag's handle
+  lacks_suffix : (portable : Bool) (text : Text) → list_any test (suffix_escaped portable text) ≡ false
+  lacks_suffix portable text =
+      lacks_graph test spares (suffix_escaped portable text) (graph_written (suffix_escaped portable text) (suffix-written portable text))
+
+  -- a directive's prefix
+  lacks_prefix : (portable : Bool) (text : Text) → list_any test (prefix_escaped portable text) ≡ false
+  lacks_prefix portable text =
+      lacks_graph test spares (prefix_escaped portable text) (graph_written (prefix_escaped portable text) (prefix-written portable text))
+
   -- an anchor
   lacks_anchor : (anchor : Option Text) (cursor : Cursor) → AnchorOk anchor → Lacks (anchor_laid anchor cursor)
   lacks_anchor None cursor ok = refl
@@ -132,32 +142,32 @@ module _ (test : ℕ → Bool) (spares : Spares test) where
   lacks_handle handle cursor h = any_both test (space_if true cursor) handle (lacks_space true cursor) (lacks_graph test spares handle h)
 
   -- a tag's text by the directives in force
-  lacks_spelling : (own directives : List TagDirective) (tag : Text) (cursor : Cursor) → AreFound own directives
-      → Lacks (spelling_laid (spelling directives tag) cursor)
-  lacks_spelling own directives tag cursor found =
-      let P : Spelling → Type 0 = λ spelled. Lacks (spelling_laid spelled cursor) in
+  lacks_spelling : (portable : Bool) (own directives : List TagDirective) (tag : Text) (cursor : Cursor) → AreFound own directives
+      → Lacks (spelling_laid portable (spelling directives tag) cursor)
+  lacks_spelling portable own directives tag cursor found =
+      let P : Spelling → Type 0 = λ spelled. Lacks (spelling_laid portable spelled cursor) in
       spelling_is P own directives tag found
       (lacks_then (then_laid (indicator (codes "!<") true false false cursor) (name_laid (percent_escaped tag))) (indicator (codes ">") false false false)
       (lacks_then (indicator (codes "!<") true false false cursor) (name_laid (percent_escaped tag)) (lacks_sign (codes "!<") true false false cursor refl)
       (λ after. lacks_percent tag))
       (λ after. lacks_sign (codes ">") false false false after refl))
       (λ handle prefix c suffix f g whole.
-      lacks_then (handle_laid handle cursor) (name_laid (percent_escaped (c ∷ suffix))) (lacks_handle handle cursor (graph_handle handle (handle_form handle f)))
-      (λ after. lacks_percent (c ∷ suffix)))
+      lacks_then (handle_laid handle cursor) (name_laid (suffix_escaped portable (c ∷ suffix))) (lacks_handle handle cursor (graph_handle handle (handle_form handle f)))
+      (λ after. lacks_suffix portable (c ∷ suffix)))
 
   -- a tag that is written, or the bare tag
-  lacks_tag : (own directives : List TagDirective) (tag : Option Text) (bare : Bool) (cursor : Cursor) → AreFound own directives
-      → Lacks (tag_laid directives tag bare cursor)
-  lacks_tag own directives (Some tag) bare cursor found = lacks_spelling own directives tag cursor found
-  lacks_tag own directives None true cursor found = lacks_handle (codes "!") cursor refl
-  lacks_tag own directives None false cursor found = refl
+  lacks_tag : (portable : Bool) (own directives : List TagDirective) (tag : Option Text) (bare : Bool) (cursor : Cursor) → AreFound own directives
+      → Lacks (tag_laid portable directives tag bare cursor)
+  lacks_tag portable own directives (Some tag) bare cursor found = lacks_spelling portable own directives tag cursor found
+  lacks_tag portable own directives None true cursor found = lacks_handle (codes "!") cursor refl
+  lacks_tag portable own directives None false cursor found = refl
 
   -- the anchor and the tag
-  pub lacks_properties : (own directives : List TagDirective) (anchor tag : Option Text) (bare : Bool) (cursor : Cursor) → AreFound own directives
+  pub lacks_properties : (portable : Bool) (own directives : List TagDirective) (anchor tag : Option Text) (bare : Bool) (cursor : Cursor) → AreFound own directives
       → AnchorOk anchor
-      → Lacks (properties_laid directives anchor tag bare cursor)
-  lacks_properties own directives anchor tag bare cursor found ok =
-      lacks_then (anchor_laid anchor cursor) (tag_laid directives tag bare) (lacks_anchor anchor cursor ok) (λ after. lacks_tag own directives tag bare after found)
+      → Lacks (properties_laid portable directives anchor tag bare cursor)
+  lacks_properties portable own directives anchor tag bare cursor found ok =
+      lacks_then (anchor_laid anchor cursor) (tag_laid portable directives tag bare) (lacks_anchor anchor cursor ok) (λ after. lacks_tag portable own directives tag bare after found)
 
   -- an alias
   pub lacks_alias : (name : Text) (simple : Bool) (cursor : Cursor) → list_all is_alpha name ≡ true → Lacks (alias_laid name simple cursor)
@@ -227,22 +237,22 @@ module _ (test : ℕ → Bool) (spares : Spares test) where
       (λ after. lacks_word (version_text version) after (lacks_number _)))
 
   -- a `%TAG` line
-  lacks_directive : (directive : TagDirective) (cursor : Cursor) → IsHandle directive.handle → Lacks (tag_directive_laid directive cursor)
-  lacks_directive directive cursor h =
+  lacks_directive : (portable : Bool) (directive : TagDirective) (cursor : Cursor) → IsHandle directive.handle → Lacks (tag_directive_laid portable directive cursor)
+  lacks_directive portable directive cursor h =
       let sign = sign_laid (codes "%TAG") cursor in
       let handle = then_laid sign (handle_laid directive.handle) in
-      lacks_ended (then_laid handle (handle_laid (percent_escaped directive.prefix)))
-      (lacks_then handle (handle_laid (percent_escaped directive.prefix))
+      lacks_ended (then_laid handle (handle_laid (prefix_escaped portable directive.prefix)))
+      (lacks_then handle (handle_laid (prefix_escaped portable directive.prefix))
       (lacks_then sign (handle_laid directive.handle) (lacks_word (codes "%TAG") cursor refl)
       (λ after. lacks_handle directive.handle after (graph_handle directive.handle h)))
-      (λ after. any_both test (space_if true after) (percent_escaped directive.prefix) (lacks_space true after) (lacks_percent directive.prefix)))
+      (λ after. any_both test (space_if true after) (prefix_escaped portable directive.prefix) (lacks_space true after) (lacks_prefix portable directive.prefix)))
 
   -- all of them
-  lacks_directives : (own directives : List TagDirective) (cursor : Cursor) → AreFound own directives → Lacks (tag_directives_laid directives cursor)
-  lacks_directives own [] cursor found = refl
-  lacks_directives own (directive ∷ rest) cursor found =
-      lacks_then (tag_directive_laid directive cursor) (tag_directives_laid rest) (lacks_directive directive cursor (handle_form directive.handle found.0))
-      (λ after. lacks_directives own rest after found.2)
+  lacks_directives : (portable : Bool) (own directives : List TagDirective) (cursor : Cursor) → AreFound own directives → Lacks (tag_directives_laid portable directives cursor)
+  lacks_directives portable own [] cursor found = refl
+  lacks_directives portable own (directive ∷ rest) cursor found =
+      lacks_then (tag_directive_laid portable directive cursor) (tag_directives_laid portable rest) (lacks_directive portable directive cursor (handle_form directive.handle found.0))
+      (λ after. lacks_directives portable own rest after found.2)
 
   -- `---`
   lacks_mark : (canonical : Bool) (cursor : Cursor) → Lacks (document_mark_laid canonical cursor)
@@ -253,15 +263,15 @@ module _ (test : ℕ → Bool) (spares : Spares test) where
       (λ after. lacks_if canonical (new_line 0) after (lacks_line test spares 0 after))
 
   -- a document's start
-  pub lacks_document : (canonical first : Bool) (own : List TagDirective) (start : DocumentStart) (standing : Standing) → AreFound own start.directives
-      → Lacks (document_start_laid canonical first start standing)
-  lacks_document canonical first own start standing found =
+  pub lacks_document : (s : Effective) (first : Bool) (own : List TagDirective) (start : DocumentStart) (standing : Standing) → AreFound own start.directives
+      → Lacks (document_start_laid s first start standing)
+  lacks_document s first own start standing found =
       let was_open = has_directives start && not (standing.mark == 0) in
       let closed = laid_if was_open closing_mark_laid standing.cursor in
       let versioned = then_laid closed (version_laid start.version) in
-      let directed = then_laid versioned (tag_directives_laid start.directives) in
-      lacks_then directed (laid_if (is_explicit canonical first start) (document_mark_laid canonical))
-      (lacks_then versioned (tag_directives_laid start.directives)
+      let directed = then_laid versioned (tag_directives_laid s.portable start.directives) in
+      lacks_then directed (laid_if (is_explicit (s.canonical || s.portable) first start) (document_mark_laid s.canonical))
+      (lacks_then versioned (tag_directives_laid s.portable start.directives)
       (lacks_then closed (version_laid start.version) (lacks_if was_open closing_mark_laid standing.cursor (lacks_closing standing.cursor)) (lacks_version start.version))
-      (λ after. lacks_directives own start.directives after found))
-      (λ after. lacks_if (is_explicit canonical first start) (document_mark_laid canonical) after (lacks_mark canonical after))
+      (λ after. lacks_directives s.portable own start.directives after found))
+      (λ after. lacks_if (is_explicit (s.canonical || s.portable) first start) (document_mark_laid s.canonical) after (lacks_mark s.canonical after))

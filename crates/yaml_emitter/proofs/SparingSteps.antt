@@ -111,12 +111,12 @@ module _ (s : Effective) (test : ℕ → Bool) (spared : Spared s test) where
       let choice = choice_of s place simple content in
       let tag = scalar_tag s.canonical content in
       let placed = place_laid s place simple standing.cursor in
-      let named = then_laid placed (properties_laid directives content.anchor tag choice.bare) in
+      let named = then_laid placed (properties_laid s.portable directives content.anchor tag choice.bare) in
       let lead = scalar_lead s directives place simple choice content standing.cursor in
       any_both test lead.text _
       (lacks_then test spared.spares named (separation_laid choice.style place.in_flow content.value)
-      (lacks_then test spared.spares placed (properties_laid directives content.anchor tag choice.bare) (lacks_place test spared.spares s place simple standing.cursor)
-      (λ after. lacks_properties test spared.spares found.0 directives content.anchor tag choice.bare after found.1 ok))
+      (lacks_then test spared.spares placed (properties_laid s.portable directives content.anchor tag choice.bare) (lacks_place test spared.spares s place simple standing.cursor)
+      (λ after. lacks_properties test spared.spares s.portable found.0 directives content.anchor tag choice.bare after found.1 ok))
       (λ after. lacks_separation test spared.spares choice.style place.in_flow content.value after))
       (spared.bodies place choice.style (if simple then None else s.width) content.value lead.cursor
       (chosen_allowed (allowances (charset_of s) content.value) content.style (is_empty content.value) (is_some tag)
@@ -128,9 +128,9 @@ module _ (s : Effective) (test : ℕ → Bool) (spared : Spared s test) where
   lacks_start directives place simple start standing found ok =
       let placed = place_laid s place simple standing.cursor in
       let tag = collection_tag s.canonical start in
-      lacks_alone (then_laid placed (properties_laid directives start.anchor tag false))
-      (lacks_then test spared.spares placed (properties_laid directives start.anchor tag false) (lacks_place test spared.spares s place simple standing.cursor)
-      (λ after. lacks_properties test spared.spares found.0 directives start.anchor tag false after found.1 ok))
+      lacks_alone (then_laid placed (properties_laid s.portable directives start.anchor tag false))
+      (lacks_then test spared.spares placed (properties_laid s.portable directives start.anchor tag false) (lacks_place test spared.spares s place simple standing.cursor)
+      (λ after. lacks_properties test spared.spares s.portable found.0 directives start.anchor tag false after found.1 ok))
 
   -- a collection's end
   lacks_closed : (brackets : Brackets) (in_flow empty : Bool) (column : Option ℕ) (standing : Standing)
@@ -173,8 +173,8 @@ module _ (s : Effective) (test : ℕ → Bool) (spared : Spared s test) where
   lacks_step (at_node directives frames) event empty standing found ok = lacks_node_step directives frames event empty standing found ok
   lacks_step at_stream (stream_start encoding) empty standing found ok = refl
   lacks_step (at_document first) (document_start start) empty standing found ok =
-      lacks_alone (document_start_laid s.canonical first start standing)
-      (lacks_document test spared.spares s.canonical first start.directives start standing (own_found start.directives ok))
+      lacks_alone (document_start_laid s first start standing)
+      (lacks_document test spared.spares s first start.directives start standing (own_found start.directives ok))
   lacks_step (at_document first) stream_end empty standing found ok =
       lacks_alone (laid_if (standing.mark == 2) closing_mark_laid standing.cursor)
       (lacks_if test spared.spares (standing.mark == 2) closing_mark_laid standing.cursor (lacks_closing test spared.spares standing.cursor))
