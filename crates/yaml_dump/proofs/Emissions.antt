@@ -1,5 +1,5 @@
 -- Events emitted one after another.
-use Rattle.std.proofs.Common.{◌≡◌, ◌≤◌, refl, sym, ap, ◌∙◌, subst, append_assoc, append-nil, length, length-append, arith}
+use Rattle.std.proofs.Common.{◌≡◌, ◌≤◌, inl, inr, refl, sym, ap, ◌∙◌, subst, append_assoc, append-nil, length, length-append, arith}
 use Rattle.std.proofs.Math.Bool.{or-true}
 use Rattle.std.proofs.lemmas.Bool.{false≢true}
 use Rattle.std.proofs.lemmas.List.{map-append}
@@ -14,8 +14,7 @@ use Rattle.yaml_pen.proofs.Writing.{none_from_told}
 use Rattle.yaml_emitter.specs.State.{State, KeepsSet}
 use Rattle.yaml_emitter.specs.StandsAfter.{StandsAfter}
 use Rattle.yaml_emitter.specs.Promises.{Promised}
-use Rattle.yaml_emitter.proofs.Promising.{promised}
-use Rattle.yaml_dump.specs.Dumps.{EmitsAll, EmitsEach, FailsAt, EmitsDump, FailsDump, has_some, opening, closing}
+use Rattle.yaml_dump.specs.Dumps.{EmitsAll, EmitsEach, FailsAt, EmitsDump, FailsDump, IsBegun, has_some, opening, closing}
 
 -- what the caller set stays, but for whether the stream was begun
 abbrev pub KeepsButStart : State → State → Type 0
@@ -71,18 +70,22 @@ failed_at given all emitted next rest left events error earlier state parts is n
     }
 
 -- no event
-pub emits_nothing : (given : Settings) (all : List Event) (state : State) → StandsAfter given all state → state.error ≡ None → EmitsAll given all [] state
-emits_nothing given all state stands none =
-    let stood = subst (λ events. StandsAfter given events state) (sym (append-nil all)) stands in
-    record { stands = stood; promised = promised given (all ++ []) state stood; no_error = none }
+pub emits_nothing : (given : Settings) (all : List Event) (state : State) → StandsAfter given all state → Promised given all state → state.error ≡ None
+    → EmitsAll given all [] state
+emits_nothing given all state stands kept none =
+    record {
+      stands = subst (λ events. StandsAfter given events state) (sym (append-nil all)) stands;
+      promised = subst (λ events. Promised given events state) (sym (append-nil all)) kept;
+      no_error = none;
+    }
 
 -- one event
-pub emits_one : (given : Settings) (all : List Event) (event : Event) (before after : State) (answer : Result (Unit {0}) yaml_error_t) → before.error ≡ None → StandsAfter given all before
-    → StandsAfter given (all ++ event ∷ []) after → answer ≡ told after.error → EmitsEach given all (event ∷ []) answer after
-emits_one given all event before after (Ok _) none stood stands is =
-    record { stands = stands; promised = promised given (all ++ event ∷ []) after stands; no_error = none_from_told after.error is }
-emits_one given all event before after (Err error) none stood stands is =
-    let now = subst (λ events. StandsAfter given (events ++ event ∷ []) after) (sym (append-nil all)) stands in
+pub emits_one : (given : Settings) (all : List Event) (event : Event) (before after : State) (answer : Result (Unit {0}) yaml_error_t)
+    → before.error ≡ None → StandsAfter given all before → StandsAfter given (all ++ event ∷ []) after → Promised given (all ++ event ∷ []) after
+    → answer ≡ told after.error → EmitsEach given all (event ∷ []) answer after
+emits_one given all event before after (Ok _) none stood stands kept is =
+    record { stands = stands; promised = kept; no_error = none_from_told after.error is }
+emits_one given all event before after (Err error) none stood stands kept is =
     record {
       before = [];
       event = event;
@@ -91,8 +94,8 @@ emits_one given all event before after (Err error) none stood stands is =
       earlier = before;
       stood = subst (λ events. StandsAfter given events before) (sym (append-nil all)) stood;
       no_error = none;
-      stands = now;
-      promised = promised given ((all ++ []) ++ event ∷ []) after now;
+      stands = subst (λ events. StandsAfter given (events ++ event ∷ []) after) (sym (append-nil all)) stands;
+      promised = subst (λ events. Promised given (events ++ event ∷ []) after) (sym (append-nil all)) kept;
       failed = some_told after.error error is;
     }
 
@@ -215,3 +218,9 @@ dumps_events given all opened ending events emitted empty middle after answer sa
 pub on_err : {P : Type 0} (answer : Result (Unit {0}) yaml_error_t) → P → OnErr answer P
 on_err (Ok _) p = tt
 on_err (Err error) p = p
+
+-- one call after another
+pub begun_then : (before middle after : State) → IsBegun before middle → IsBegun middle after → IsBegun before after
+begun_then before middle after first (inr started) = inr started
+begun_then before middle after (inl same) (inl again) = inl (again ∙ same)
+begun_then before middle after (inr started) (inl again) = inr (ap (λ (s : State). s.started) again ∙ started)

@@ -30,6 +30,10 @@ pub record FailsAt (given : Settings) (all events : List Event) (error : yaml_er
   pub promised : Promised given (all ++ before ++ event ∷ []) state
   pub failed : state.error ≡ Some error
 
+-- nothing was done, or the stream was begun
+abbrev pub IsBegun : State → State → Type 0
+IsBegun before after = (after ≡ before) ⊎ (after.started ≡ true)
+
 -- events are emitted in order, after those that were given before, up to the first error
 abbrev pub EmitsEach : Settings → (all events : List Event) → Result (Unit {0}) yaml_error_t → State → Type 0
 EmitsEach given all events (Ok _) state = EmitsAll given all events state

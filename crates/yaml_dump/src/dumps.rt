@@ -9,7 +9,7 @@ ghost use Rattle.yaml_base.specs.Settings.{Settings};
 ghost use Rattle.yaml_base.specs.Unfolding.{EventsUnfold};
 ghost use Rattle.yaml_pen.specs.Page.{told};
 ghost use Rattle.yaml_pen.specs.Wrote.{Grows};
-ghost use Rattle.yaml_dump.specs.Dumps.{Dumps, EmitsEach, ReadsGraphs, closing, opening};
+ghost use Rattle.yaml_dump.specs.Dumps.{Dumps, EmitsEach, IsBegun, ReadsGraphs, closing, opening};
 ghost use Rattle.yaml_emitter.specs.StandsAfter.{StandsAfter};
 
 use crate::emitting::emit_each;
@@ -18,7 +18,7 @@ use crate::streams::{yaml_emitter_close, yaml_emitter_open};
 use crate::walk::walk;
 use std::alloc::{AllocError, Allocator};
 use yaml_base::{yaml_document_t, yaml_error_t, yaml_event_t};
-use yaml_emitter::yaml_emitter_t;
+use yaml_emitter::{standing_is_promised, yaml_emitter_t};
 
 /// The events of a document, from its start to its end; none where it has no nodes.
 ///
@@ -65,12 +65,14 @@ fn open_if_needed<A: Allocator + Copy>(emitter: &mut yaml_emitter_t<A>) -> Resul
     ensures opened { OnOk result (emitter.new.opened ≡ true) }
     ensures unopened { OnErr result ((emitter.old.opened ≡ false) × (emitter.new.opened ≡ false)) }
     ensures closed { emitter.new.closed ≡ emitter.old.closed }
+    ensures begun { IsBegun emitter.old emitter.new }
     ensures grows { Grows emitter.old.page emitter.new.page }
     ensures given { emitter.new.given ≡ emitter.old.given }
     ensures output { emitter.new.has_output ≡ true }
     ensures answered { result ≡ told emitter.new.error }
 {
     if emitter.is_opened() {
+        standing_is_promised();
         return Ok(());
     }
     yaml_emitter_open(emitter)
@@ -85,11 +87,13 @@ fn close_if_needed<A: Allocator + Copy>(emitter: &mut yaml_emitter_t<A>) -> Resu
     ensures opened { emitter.new.opened ≡ true }
     ensures closed { OnOk result (emitter.new.closed ≡ true) }
     ensures unclosed { OnErr result (emitter.new.closed ≡ emitter.old.closed) }
+    ensures begun { IsBegun emitter.old emitter.new }
     ensures grows { Grows emitter.old.page emitter.new.page }
     ensures given { emitter.new.given ≡ emitter.old.given }
     ensures output { emitter.new.has_output ≡ true }
 {
     if emitter.is_closed() {
+        standing_is_promised();
         return Ok(());
     }
     yaml_emitter_close(emitter)
@@ -101,7 +105,7 @@ fn close_if_needed<A: Allocator + Copy>(emitter: &mut yaml_emitter_t<A>) -> Resu
 /// # Errors
 /// The first error that there was, in this call or before. Where the list of events can't be allocated, `Memory` is
 /// returned and the emitter is as before. After an error the stream is opened where it was, or where its start was
-/// emitted, and closed only where it was.
+/// emitted, and closed only where it was. In each case it is as before, or its stream is started.
 pub fn yaml_emitter_dump<A: Allocator + Copy>(
     alloc: A,
     emitter: &mut yaml_emitter_t<A>,
@@ -115,6 +119,7 @@ pub fn yaml_emitter_dump<A: Allocator + Copy>(
     ensures opened { OnOk result (emitter.new.opened ≡ true) }
     ensures unclosed { OnErr result (emitter.new.closed ≡ emitter.old.closed) }
     ensures closed { OnOk result (emitter.new.closed ≡ (emitter.old.closed || length (graph_of document).nodes == 0)) }
+    ensures begun { IsBegun emitter.old emitter.new }
     ensures grows { Grows emitter.old.page emitter.new.page }
     ensures given { emitter.new.given ≡ emitter.old.given }
     ensures output { emitter.new.has_output ≡ true }

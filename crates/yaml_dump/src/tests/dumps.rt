@@ -223,6 +223,8 @@ fn a_closed_stream_takes_no_document(rt: HostRuntime) -> Result<(), Fail> {
     let first = document(&rt, alloc, shared_string(alloc)?);
     assert_eq!(rt; dump(&rt, alloc, &mut emitter, first), Ok(()));
     assert_eq!(rt; close(&rt, &mut emitter), Ok(()));
+    let empty = document(&rt, alloc, Vec::new(alloc));
+    assert_eq!(rt; dump(&rt, alloc, &mut emitter, empty), Ok(()));
     let second = document(&rt, alloc, shared_string(alloc)?);
     let answer = dump(&rt, alloc, &mut emitter, second);
     assert_eq!(rt; answer, Err(yaml_error_t::ExpectedNothing));

@@ -1,4 +1,4 @@
-use Rattle.std.proofs.Common.{◌==◌, ◌||◌, ◌++◌, sym, ap, inr, length, map, ◌∙◌}
+use Rattle.std.proofs.Common.{◌==◌, ◌||◌, ◌++◌, sym, ap, inr, inl, refl, length, map, ◌∙◌}
 use Rattle.std.proofs.Math.Bool.{or-false}
 use Rattle.std.proofs.lemmas.Bool.{false≢true}
 use Rattle.yaml_base.specs.Documents.{graph_of}
@@ -9,7 +9,7 @@ use Rattle.yaml_pen.proofs.Composing.{grows_then}
 use Rattle.yaml_pen.proofs.Writing.{none_from_told}
 use Rattle.yaml_dump.specs.Dumps.{closing, opening}
 use Rattle.yaml_dump.proofs.GraphLemmas.{closing_reads}
-use Rattle.yaml_dump.proofs.Emissions.{on_ok, on_err, closed_by, exit_dumps, dumps_closing, dumps_events}
+use Rattle.yaml_dump.proofs.Emissions.{begun_then, on_ok, on_err, closed_by, exit_dumps, dumps_closing, dumps_events}
 use Rattle.yaml_dump.proofs.dumps.yaml_emitter_dump.Goals as goal
 
 pub returns-in_err-open_if_needed-clause-dumps : goal.returns-in_err-open_if_needed-clause-dumps
@@ -90,3 +90,9 @@ returns-then-is_empty-clause-graphs g c =
 pub returns-clause-graphs : goal.returns-clause-graphs
 returns-clause-graphs g c =
     on_ok c.emit_each.result (λ none. absurd (false≢true (sym (sym c.is_empty.ensures ∙ c.if-is_empty.false) ∙ none)))
+
+pub returns-then-is_empty-clause-begun : goal.returns-then-is_empty-clause-begun
+returns-then-is_empty-clause-begun g c = begun_then _ _ _ c.in_ok-open_if_needed.ensures.begun c.close_if_needed.ensures.begun
+
+pub returns-clause-begun : goal.returns-clause-begun
+returns-clause-begun g c = begun_then _ _ _ c.in_ok-open_if_needed.ensures.begun c.emit_each.ensures.begun

@@ -1,4 +1,4 @@
-use Rattle.std.proofs.Common.{◌++◌, map, sym, ap, ◌∙◌, subst, append-nil, rules}
+use Rattle.std.proofs.Common.{◌++◌, refl, inl, inr, map, sym, ap, ◌∙◌, subst, append-nil, rules}
 use Rattle.std.proofs.lemmas.Iterator.Adapters.{YieldsList-from_vec}
 use Rattle.std.proofs.lemmas.Iterator.Consumers.{YieldsList-end}
 use Rattle.std.proofs.lemmas.List.{map-id}
@@ -7,7 +7,6 @@ use Rattle.yaml_base.specs.Seen.{seen_event}
 use Rattle.yaml_pen.proofs.Composing.{grows_itself, grows_then}
 use Rattle.yaml_pen.proofs.Writing.{none_from_told}
 use Rattle.yaml_emitter.specs.StandsAfter.{StandsAfter}
-use Rattle.yaml_emitter.proofs.Promising.{promised}
 use Rattle.yaml_dump.proofs.Emissions.{keeps_same, keeps_more, some_told, events_more, parts_more, failed_at}
 use Rattle.yaml_dump.proofs.emitting.emit_each.Goals as goal
 
@@ -33,6 +32,7 @@ loop-event-preserved g c =
           (c.yaml_emitter_emit.ensures.stands given (all ++ map seen_event now.yielded) (now.invariant.5 given all stands)),
       keeps_more c.args.emitter.now now.emitter c.yaml_emitter_emit.new.emitter now.invariant.6 c.yaml_emitter_emit.ensures.set,
       grows_then now.invariant.7 c.yaml_emitter_emit.ensures.grows,
+      inr c.yaml_emitter_emit.ensures.set.started,
     )
 
 pub returns-clause-emits : goal.returns-clause-emits
@@ -41,7 +41,7 @@ returns-clause-emits g c given all stands =
     let road = YieldsList-from_vec {s = c.into_iter-event-iterator.result} c.args.events.items c.into_iter-event-iterator.ensures.into_iter_gives.0 (c.into_iter-event-iterator.ensures.into_iter_gives.1 ∙ c.args.events.ok.0) in
     let whole = ap (map seen_event) (sym (map-id now.yielded) ∙ (YieldsList-end road now.yielded now.event-iterator now.yielded_by c.next.result c.next.new.self c.in-None.is c.next.ensures.steps).0) in
     let stands = subst (λ events. StandsAfter given (all ++ events) now.emitter) whole (now.invariant.5 given all stands) in
-    record { stands = stands; promised = promised given _ now.emitter stands; no_error = now.invariant.3 }
+    record { stands = stands; promised = c.standing_is_promised.ensures given _ now.emitter stands; no_error = now.invariant.3 }
 
 pub returns-in-Err-clause-grows : goal.returns-in-Err-clause-grows
 returns-in-Err-clause-grows g c = grows_then c.loop-event.invariant.7 c.yaml_emitter_emit.ensures.grows
@@ -56,4 +56,8 @@ loop-event-init g c = (
   λ given all stands. subst (λ events. StandsAfter given events c.args.emitter.now) (sym (append-nil all)) stands,
   keeps_same c.args.emitter.now,
   grows_itself c.args.emitter.now.page,
+  inl refl,
 )
+
+pub returns-in-Err-clause-begun : goal.returns-in-Err-clause-begun
+returns-in-Err-clause-begun g c = inr c.yaml_emitter_emit.ensures.set.started

@@ -3,6 +3,7 @@ use Rattle.std.specs.Vec.Iter.{into_iter_items}
 use Rattle.yaml_base.specs.Event.{Event}
 use Rattle.yaml_base.specs.Seen.{seen_event}
 use Rattle.yaml_base.specs.Settings.{Settings}
+use Rattle.yaml_dump.specs.Dumps.{IsBegun}
 use Rattle.yaml_dump.proofs.Emissions.{KeepsButStart}
 use Rattle.yaml_pen.specs.Wrote.{Grows}
 use Rattle.yaml_emitter.specs.StandsAfter.{StandsAfter}
@@ -18,3 +19,4 @@ invariant-loop-event g l =
     × ((given : Settings) (all : List Event) → StandsAfter given all l.initial.emitter → StandsAfter given (all ++ map seen_event l.yielded) l.emitter)
     × KeepsButStart l.initial.emitter l.emitter
     × Grows l.initial.emitter.page l.emitter.page
+    × IsBegun l.initial.emitter l.emitter
