@@ -89,3 +89,4 @@ mod RowsWrittenTexts
 pub mod StreamFlowTakes
 pub mod StreamFlowScalars
 pub mod StreamFlowPairs
+pub mod StreamFlowNodes
