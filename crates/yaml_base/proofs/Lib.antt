@@ -89,3 +89,6 @@ mod RowsWrittenTexts
 pub mod StreamFlowTakes
 pub mod StreamFlowScalars
 pub mod StreamFlowPairs
+pub mod StreamFlowKinds
+pub mod StreamFlowNodes
+pub mod StreamFlowReads

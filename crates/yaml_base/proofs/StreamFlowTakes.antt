@@ -93,7 +93,7 @@ opens_level rules levels bracket anchor tag given_tag given h =
     ∙ ap (opened levels bracket anchor) (tag_of_collection given_tag)
 
 -- what doesn't close a collection is no pair with its bracket
-no_pair : (bracket c : ℕ) (rest : Text) → opens_inside (c ∷ rest) ≡ true → is_pair bracket c ≡ false
+pub no_pair : (bracket c : ℕ) (rest : Text) → opens_inside (c ∷ rest) ≡ true → is_pair bracket c ≡ false
 no_pair bracket c rest h =
     let parts = and_parts (not (c == 0x5D)) (not (c == 0x7D)) h in by (bracket == 0x5B) (bracket == 0x7B) (c == 0x5D) (c == 0x7D) parts.0 parts.1
   where
