@@ -1,6 +1,7 @@
 -- The text of a collection in flow, after its properties, is read as the collection's tree.
 use Rattle.std.proofs.Common.{◌≡◌, refl, sym, ap, ◌∙◌, append_assoc, append-nil}
-use Rattle.std.proofs.lemmas.Bool.{false≢true}
+use Rattle.std.proofs.lemmas.Bool.{false≢true, and_parts}
+use Rattle.std.specs.List.{list_all}
 use Rattle.std.specs.Prelude.{ℕ, Bool, true, false, Option, None, Some, List, [], ◌∷◌, ◌++◌, ◌&&◌, option_map, codes}
 use Rattle.yaml_base.specs.Characters.{Text}
 use Rattle.yaml_base.specs.Settings.{Effective}
@@ -9,10 +10,12 @@ use Rattle.yaml_base.specs.Cursor.{Cursor, Laid, space_if, new_line, indicator}
 use Rattle.yaml_base.specs.Grammar.{sequence_node, mapping_node, Nodes, no_nodes, nodes_and, Pairs, no_pairs, pairs_and}
 use Rattle.yaml_base.specs.Refusal.{collection_tag}
 use Rattle.yaml_base.specs.Layout.{Place, is_in_mapping, line_column, deeper, entries_column, has_no_nodes, has_no_pairs, properties_laid, is_written_in_flow, Brackets, square, curly, end_laid}
+use Rattle.yaml_base.specs.ReadPlain.{is_read_white}
 use Rattle.yaml_base.specs.StreamContent.{Tree, sequence_tree, mapping_tree, no_trees, no_tree_pairs}
-use Rattle.yaml_base.specs.StreamScalars.{Rules, word_after}
+use Rattle.yaml_base.specs.StreamScalars.{Rules, Properties, word_after}
 use Rattle.yaml_base.specs.StreamTokens.{sign, free, is_flow_sign, begins_bracket, class_of, is_pair, FlowTurn, begun, bracket_turn, flow_tokens}
 use Rattle.yaml_base.specs.StreamFlow.{no_key, Level, in_sequence, in_mapping, Awaited, collection_awaited, entry_awaited, comma_awaited, FlowReading, done, within, level_opened, opened, word_step, flow_step, tree_at_end, flow_read}
+use Rattle.yaml_base.specs.StreamNodes.{before_trimmed, trimmed, flow_text, kind_of_text, text_by_kind}
 use Rattle.yaml_base.proofs.StreamAgrees.{node_tree, nodes_tree, pairs_tree}
 use Rattle.yaml_base.proofs.StreamSays.{opens_before, bracket_class, square_class, curly_class, comma_class, sign_ends}
 use Rattle.yaml_base.proofs.StreamTakes.{Takes, steps, takes_both, flow_reads}
@@ -35,9 +38,41 @@ pub record FlowContent (rules : Rules) (cursor : Cursor) (own : Laid) (anchor ta
   pub closing : ℕ
   pub begins : class_of rules.breaks12 bracket ≡ begins_bracket
   pub closes : class_of rules.breaks12 closing ≡ is_flow_sign
+  pub kind : (rest : Text) → kind_of_text (bracket ∷ rest) ≡ flow_text
+  pub shown : is_read_white rules.breaks12 closing ≡ false
   pub whole : own.text ≡ space_if true cursor ++ (lead anchor tag ++ ((bracket ∷ inside) ++ (closing ∷ [])))
   pub ended : Ended own.cursor
   pub reads : flow_read rules (record { anchor = anchor; tag = tag_meant given_tag false }) ((bracket ∷ inside) ++ (closing ∷ [])) ≡ Some tree
+
+-- a bracket that begins a collection in flow and one that ends it
+record AreBrackets (rules : Rules) (bracket closing : ℕ) : Type 0 where
+  pub begins : class_of rules.breaks12 bracket ≡ begins_bracket
+  pub closes : class_of rules.breaks12 closing ≡ is_flow_sign
+  pub kind : (rest : Text) → kind_of_text (bracket ∷ rest) ≡ flow_text
+  pub shown : is_read_white rules.breaks12 closing ≡ false
+
+-- a bracket that closes isn't white
+sign_shown : (breaks12 : Bool) → (is_read_white breaks12 0x5D ≡ false) × (is_read_white breaks12 0x7D ≡ false)
+sign_shown true = (refl, refl)
+sign_shown false = (refl, refl)
+
+-- the brackets of sequences
+square_brackets : (rules : Rules) → AreBrackets rules 0x5B 0x5D
+square_brackets rules = record {
+  begins = (bracket_class rules.breaks12).0;
+  closes = square_class rules.breaks12;
+  kind = λ rest. refl;
+  shown = (sign_shown rules.breaks12).0;
+}
+
+-- and those of mappings
+curly_brackets : (rules : Rules) → AreBrackets rules 0x7B 0x7D
+curly_brackets rules = record {
+  begins = (bracket_class rules.breaks12).1;
+  closes = curly_class rules.breaks12;
+  kind = λ rest. refl;
+  shown = (sign_shown rules.breaks12).1;
+}
 
 -- Empty ones
 
@@ -45,19 +80,21 @@ pub record FlowContent (rules : Rules) (cursor : Cursor) (own : Laid) (anchor ta
 empty_content : (rules : Rules) (cursor : Cursor) (properties own : Laid) (anchor tag given_tag : Option Text) (b c : ℕ) (tree : Tree)
     → properties.text ++ space_if true properties.cursor ≡ space_if true cursor ++ lead anchor tag
     → own.text ≡ (properties.text ++ []) ++ ((space_if true properties.cursor ++ (b ∷ [])) ++ (c ∷ [])) → Ended own.cursor
-    → class_of rules.breaks12 b ≡ begins_bracket → class_of rules.breaks12 c ≡ is_flow_sign → is_pair b c ≡ true
+    → AreBrackets rules b c → is_pair b c ≡ true
     → word_after rules true None (record { anchor = anchor; tag = tag_meant given_tag false }) (b ∷ c ∷ []) ≡ Some tree
     → FlowContent rules cursor own anchor tag given_tag tree
-empty_content rules cursor properties own anchor tag given_tag b c tree e text ended class sign_class pair read = record {
+empty_content rules cursor properties own anchor tag given_tag b c tree e text ended brackets pair read = record {
   bracket = b;
   inside = [];
   closing = c;
-  begins = class;
-  closes = sign_class;
+  begins = brackets.begins;
+  closes = brackets.closes;
+  kind = brackets.kind;
+  shown = brackets.shown;
   whole = text ∙ empty_whole properties cursor (lead anchor tag) b c e;
   ended = ended;
   reads =
-      ap (λ k. (let here : FlowTurn = begun k [] b in tree_at_end (steps rules from (here.tokens ++ flow_tokens rules.breaks12 here.place (c ∷ []))))) class
+      ap (λ k. (let here : FlowTurn = begun k [] b in tree_at_end (steps rules from (here.tokens ++ flow_tokens rules.breaks12 here.place (c ∷ []))))) brackets.begins
       ∙ ap (λ x. (let here : FlowTurn = bracket_turn x (class_of rules.breaks12 c) [] b c in tree_at_end (steps rules from (here.tokens ++ flow_tokens rules.breaks12 here.place [])))) pair
       ∙ ap (λ r. tree_at_end (word_step rules.breaks12 [] (b ∷ c ∷ []) r)) read;
 }
@@ -126,15 +163,17 @@ closing_laid rules s level brackets closing tree column cursor e at_once_done af
 -- a collection that holds something
 whole_content : (rules : Rules) (cursor : Cursor) (properties entries ending : Laid) (bracket closing : ℕ) (anchor tag given_tag : Option Text)
     (last : Option Text → Option Text → Level) (tree : Tree) → properties.text ++ space_if true properties.cursor ≡ space_if true cursor ++ lead anchor tag
-    → class_of rules.breaks12 bracket ≡ begins_bracket → class_of rules.breaks12 closing ≡ is_flow_sign
+    → AreBrackets rules bracket closing
     → FlowEntries rules bracket properties.cursor entries (level_opened bracket) last → Closing rules (last anchor given_tag) closing tree ending
     → FlowContent rules cursor (record { text = (properties.text ++ entries.text) ++ ending.text; cursor = ending.cursor }) anchor tag given_tag tree
-whole_content rules cursor properties entries ending bracket closing anchor tag given_tag last tree e class sign_class of end = record {
+whole_content rules cursor properties entries ending bracket closing anchor tag given_tag last tree e brackets of end = record {
   bracket = bracket;
   inside = of.inside ++ end.before;
   closing = closing;
-  begins = class;
-  closes = sign_class;
+  begins = brackets.begins;
+  closes = brackets.closes;
+  kind = brackets.kind;
+  shown = brackets.shown;
   whole =
       collection_whole properties cursor (lead anchor tag) bracket of.inside entries.text ending.text e of.whole
       ∙ ap (λ t. space_if true cursor ++ (lead anchor tag ++ (bracket ∷ t)))
@@ -142,12 +181,46 @@ whole_content rules cursor properties entries ending bracket closing anchor tag 
   ended = end.ended;
   reads =
       flow_reads rules (record { anchor = anchor; tag = tag_meant given_tag false }) (bracket ∷ (of.inside ++ end.before)) (last anchor given_tag ∷ []) end.awaited closing tree
-      sign_class
-      (takes_first rules bracket anchor given_tag (of.inside ++ end.before) (within (last anchor given_tag ∷ []) end.awaited) class
+      brackets.closes
+      (takes_first rules bracket anchor given_tag (of.inside ++ end.before) (within (last anchor given_tag ∷ []) end.awaited) brackets.begins
       (opens_more of.inside end.before of.opens)
       (end.goes (within (level_opened bracket anchor given_tag ∷ []) entry_awaited) of.inside (of.takes anchor given_tag [])))
       end.closes;
 }
+
+-- White space after it
+
+-- a character before a text that isn't empty
+kept_before : (x : Bool) (d : ℕ) (text : Text) (c : ℕ) → before_trimmed x d (text ++ (c ∷ [])) ≡ d ∷ (text ++ (c ∷ []))
+kept_before true d [] c = refl
+kept_before true d (e ∷ text) c = refl
+kept_before false d text c = refl
+
+-- of white space nothing is left
+white_trimmed : (breaks12 : Bool) (white : Text) → list_all (is_read_white breaks12) white ≡ true → trimmed breaks12 white ≡ []
+white_trimmed breaks12 [] h = refl
+white_trimmed breaks12 (c ∷ white) h =
+    let parts = and_parts (is_read_white breaks12 c) (list_all (is_read_white breaks12) white) h in
+    ap (before_trimmed (is_read_white breaks12 c) c) (white_trimmed breaks12 white parts.1) ∙ ap (λ x. before_trimmed x c []) parts.0
+
+-- white space after a text whose last character isn't white is cut off
+pub shown_trimmed : (breaks12 : Bool) (text : Text) (c : ℕ) (white : Text) → is_read_white breaks12 c ≡ false → list_all (is_read_white breaks12) white ≡ true
+    → trimmed breaks12 (text ++ (c ∷ white)) ≡ text ++ (c ∷ [])
+shown_trimmed breaks12 [] c white shown h =
+    ap (λ x. before_trimmed x c (trimmed breaks12 white)) shown ∙ ap (λ t. c ∷ t) (white_trimmed breaks12 white h)
+shown_trimmed breaks12 (d ∷ text) c white shown h =
+    ap (before_trimmed (is_read_white breaks12 d) d) (shown_trimmed breaks12 text c white shown h) ∙ kept_before (is_read_white breaks12 d) d text c
+
+-- a collection's text is read by its first character, whatever white space follows it
+pub content_read : (rules : Rules) (cursor : Cursor) (own : Laid) (anchor tag given_tag : Option Text) (tree : Tree) (of : FlowContent rules cursor own anchor tag given_tag tree)
+    (column : Option ℕ) (begun white : Text) → list_all (is_read_white rules.breaks12) white ≡ true
+    → text_by_kind (kind_of_text (of.bracket ∷ begun)) rules column (record { anchor = anchor; tag = tag_meant given_tag false })
+    ((of.bracket ∷ of.inside) ++ (of.closing ∷ white)) ≡ Some tree
+content_read rules cursor own anchor tag given_tag tree of column begun white h =
+    let properties : Properties = record { anchor = anchor; tag = tag_meant given_tag false } in
+    ap (λ k. text_by_kind k rules column properties ((of.bracket ∷ of.inside) ++ (of.closing ∷ white))) (of.kind begun)
+    ∙ ap (flow_read rules properties) (shown_trimmed rules.breaks12 (of.bracket ∷ of.inside) of.closing white of.shown h)
+    ∙ of.reads
 
 -- Nodes
 
@@ -169,7 +242,7 @@ sequence_content s own directives column undented cursor start no_nodes take =
     start.anchor (tag_written s.portable directives tag false) tag 0x5B 0x5D (sequence_tree start.anchor tag no_trees)
     (lead_laid s.portable directives start.anchor tag false cursor) refl
     (record { white = refl; indention = and_false (properties.cursor.indention && false) })
-    (bracket_class s.breaks12).0 (square_class s.breaks12) refl
+    (square_brackets (rules_of s own)) refl
     (ap (option_map (λ tag. sequence_tree start.anchor tag no_trees)) (tag_of_collection tag))
 sequence_content s own directives column undented cursor start (nodes_and items last) take =
     let tag = collection_tag s.canonical start in
@@ -178,7 +251,7 @@ sequence_content s own directives column undented cursor start (nodes_and items 
     let trees = nodes_tree (nodes_and items last) s directives true in
     whole_content (rules_of s own) cursor properties entries (end_laid s square true false column entries.cursor) 0x5B 0x5D
     start.anchor (tag_written s.portable directives tag false) tag (λ anchor tag. in_sequence anchor tag trees) (sequence_tree start.anchor tag trees)
-    (lead_laid s.portable directives start.anchor tag false cursor) (bracket_class s.breaks12).0 (square_class s.breaks12) take
+    (lead_laid s.portable directives start.anchor tag false cursor) (square_brackets (rules_of s own)) take
     (closing_laid (rules_of s own) s (in_sequence start.anchor tag trees) square 0x5D (sequence_tree start.anchor tag trees) column entries.cursor refl refl refl)
 
 -- a mapping, where its pairs do
@@ -194,7 +267,7 @@ mapping_content s own directives column cursor start no_pairs take =
     start.anchor (tag_written s.portable directives tag false) tag 0x7B 0x7D (mapping_tree start.anchor tag no_tree_pairs)
     (lead_laid s.portable directives start.anchor tag false cursor) refl
     (record { white = refl; indention = and_false (properties.cursor.indention && false) })
-    (bracket_class s.breaks12).1 (curly_class s.breaks12) refl
+    (curly_brackets (rules_of s own)) refl
     (ap (option_map (λ tag. mapping_tree start.anchor tag no_tree_pairs)) (tag_of_collection tag))
 mapping_content s own directives column cursor start (pairs_and pairs key value) take =
     let tag = collection_tag s.canonical start in
@@ -203,7 +276,7 @@ mapping_content s own directives column cursor start (pairs_and pairs key value)
     let trees = pairs_tree (pairs_and pairs key value) s directives true in
     whole_content (rules_of s own) cursor properties entries (end_laid s curly true false column entries.cursor) 0x7B 0x7D
     start.anchor (tag_written s.portable directives tag false) tag (λ anchor tag. in_mapping anchor tag trees no_key) (mapping_tree start.anchor tag trees)
-    (lead_laid s.portable directives start.anchor tag false cursor) (bracket_class s.breaks12).1 (curly_class s.breaks12) take
+    (lead_laid s.portable directives start.anchor tag false cursor) (curly_brackets (rules_of s own)) take
     (closing_laid (rules_of s own) s (in_mapping start.anchor tag trees no_key) curly 0x7D (mapping_tree start.anchor tag trees) column entries.cursor refl refl refl)
 
 -- a sequence that is written in flow is read as its tree after its properties, wherever it stands
