@@ -94,8 +94,10 @@ empty_content rules cursor properties own anchor tag given_tag b c tree e text e
   whole = text ∙ empty_whole properties cursor (lead anchor tag) b c e;
   ended = ended;
   reads =
-      ap (λ k. (let here : FlowTurn = begun k [] b in tree_at_end (steps rules from (here.tokens ++ flow_tokens rules.breaks12 here.place (c ∷ []))))) brackets.begins
-      ∙ ap (λ x. (let here : FlowTurn = bracket_turn x (class_of rules.breaks12 c) [] b c in tree_at_end (steps rules from (here.tokens ++ flow_tokens rules.breaks12 here.place [])))) pair
+      ap (λ k. (let here : FlowTurn = begun k [] b in tree_at_end (steps rules from
+      (here.tokens ++ flow_tokens rules.breaks12 here.place (c ∷ []))))) brackets.begins
+      ∙ ap (λ x. (let here : FlowTurn = bracket_turn x (class_of rules.breaks12 c) [] b c in tree_at_end
+      (steps rules from (here.tokens ++ flow_tokens rules.breaks12 here.place [])))) pair
       ∙ ap (λ r. tree_at_end (word_step rules.breaks12 [] (b ∷ c ∷ []) r)) read;
 }
   where
@@ -123,7 +125,8 @@ record Closing (rules : Rules) (level : Level) (closing : ℕ) (tree : Tree) (en
   pub whole : ending.text ≡ before ++ (closing ∷ [])
   pub ended : Ended ending.cursor
   pub awaited : Awaited
-  pub goes : (from : FlowReading) (text : Text) → Takes rules from text (within (level ∷ []) comma_awaited) → Takes rules from (text ++ before) (within (level ∷ []) awaited)
+  pub goes : (from : FlowReading) (text : Text) → Takes rules from text (within (level ∷ []) comma_awaited) → Takes rules from (text ++ before)
+      (within (level ∷ []) awaited)
   pub closes : flow_step rules (within (level ∷ []) awaited) (sign closing) ≡ done tree
 
 -- a bracket closes at once or, in canonical mode, after a comma and a line
@@ -143,9 +146,10 @@ closing_laid rules s level brackets closing tree column cursor e at_once_done af
       ended = record { white = refl; indention = refl };
       awaited = entry_awaited;
       goes = λ from text takes.
-          let passed = passes_both rules (within (level ∷ []) comma_awaited) (within (level ∷ []) entry_awaited) (within (level ∷ []) entry_awaited) (0x2C ∷ []) line
-              (passes_comma rules (level ∷ []))
-              (passes_entry_white rules (level ∷ []) line (new_line_white (line_column column) (indicator (codes ",") false false false cursor).cursor)) in
+          let passed = passes_both rules (within (level ∷ []) comma_awaited) (within (level ∷ []) entry_awaited) (within (level ∷ []) entry_awaited)
+          (0x2C ∷ []) line
+          (passes_comma rules (level ∷ []))
+          (passes_entry_white rules (level ∷ []) line (new_line_white (line_column column) (indicator (codes ",") false false false cursor).cursor)) in
           takes_both rules from (within (level ∷ []) comma_awaited) (within (level ∷ []) entry_awaited) text (0x2C ∷ line) takes
           (record { takes = λ rest h. passed.passes rest })
           (sign_ends rules.breaks12 0x2C line (comma_class rules.breaks12));
@@ -180,7 +184,8 @@ whole_content rules cursor properties entries ending bracket closing anchor tag 
       (ap (λ t. of.inside ++ t) end.whole ∙ sym (append_assoc of.inside end.before (closing ∷ [])));
   ended = end.ended;
   reads =
-      flow_reads rules (record { anchor = anchor; tag = tag_meant given_tag false }) (bracket ∷ (of.inside ++ end.before)) (last anchor given_tag ∷ []) end.awaited closing tree
+      flow_reads rules (record { anchor = anchor; tag = tag_meant given_tag false }) (bracket ∷ (of.inside ++ end.before))
+      (last anchor given_tag ∷ []) end.awaited closing tree
       brackets.closes
       (takes_first rules bracket anchor given_tag (of.inside ++ end.before) (within (last anchor given_tag ∷ []) end.awaited) brackets.begins
       (opens_more of.inside end.before of.opens)
@@ -212,7 +217,8 @@ shown_trimmed breaks12 (d ∷ text) c white shown h =
     ap (before_trimmed (is_read_white breaks12 d) d) (shown_trimmed breaks12 text c white shown h) ∙ kept_before (is_read_white breaks12 d) d text c
 
 -- a collection's text is read by its first character, whatever white space follows it
-pub content_read : (rules : Rules) (cursor : Cursor) (own : Laid) (anchor tag given_tag : Option Text) (tree : Tree) (of : FlowContent rules cursor own anchor tag given_tag tree)
+pub content_read : (rules : Rules) (cursor : Cursor) (own : Laid) (anchor tag given_tag : Option Text) (tree : Tree)
+    (of : FlowContent rules cursor own anchor tag given_tag tree)
     (column : Option ℕ) (begun white : Text) → list_all (is_read_white rules.breaks12) white ≡ true
     → text_by_kind (kind_of_text (of.bracket ∷ begun)) rules column (record { anchor = anchor; tag = tag_meant given_tag false })
     ((of.bracket ∷ of.inside) ++ (of.closing ∷ white)) ≡ Some tree
@@ -227,10 +233,12 @@ content_read rules cursor own anchor tag given_tag tree of column begun white h 
 -- a collection that starts so is read as a tree in flow
 abbrev pub FlowReads : Effective → List TagDirective → List TagDirective → Collection → Cursor → Laid → Tree → Type 0
 FlowReads s own directives start cursor laid tree =
-    FlowContent (rules_of s own) cursor laid start.anchor (tag_written s.portable directives (collection_tag s.canonical start) false) (collection_tag s.canonical start) tree
+    FlowContent (rules_of s own) cursor laid start.anchor (tag_written s.portable directives (collection_tag s.canonical start) false)
+    (collection_tag s.canonical start) tree
 
 -- a sequence, where its items take the reader on
-sequence_content : (s : Effective) (own directives : List TagDirective) (column : Option ℕ) (undented : Bool) (cursor : Cursor) (start : Collection) (items : Nodes)
+sequence_content : (s : Effective) (own directives : List TagDirective) (column : Option ℕ) (undented : Bool) (cursor : Cursor) (start : Collection)
+    (items : Nodes)
     → (let begun : Laid = properties_laid s.portable directives start.anchor (collection_tag s.canonical start) false cursor in
     ItemsTake s own directives items (deeper s.indent column) begun.cursor
     → FlowReads s own directives start cursor (collection_own s square true undented (has_no_nodes items) column begun (items_own items s directives true))
@@ -252,7 +260,8 @@ sequence_content s own directives column undented cursor start (nodes_and items 
     whole_content (rules_of s own) cursor properties entries (end_laid s square true false column entries.cursor) 0x5B 0x5D
     start.anchor (tag_written s.portable directives tag false) tag (λ anchor tag. in_sequence anchor tag trees) (sequence_tree start.anchor tag trees)
     (lead_laid s.portable directives start.anchor tag false cursor) (square_brackets (rules_of s own)) take
-    (closing_laid (rules_of s own) s (in_sequence start.anchor tag trees) square 0x5D (sequence_tree start.anchor tag trees) column entries.cursor refl refl refl)
+    (closing_laid (rules_of s own) s (in_sequence start.anchor tag trees) square 0x5D
+    (sequence_tree start.anchor tag trees) column entries.cursor refl refl refl)
 
 -- a mapping, where its pairs do
 mapping_content : (s : Effective) (own directives : List TagDirective) (column : Option ℕ) (cursor : Cursor) (start : Collection) (pairs : Pairs)
@@ -277,13 +286,16 @@ mapping_content s own directives column cursor start (pairs_and pairs key value)
     whole_content (rules_of s own) cursor properties entries (end_laid s curly true false column entries.cursor) 0x7B 0x7D
     start.anchor (tag_written s.portable directives tag false) tag (λ anchor tag. in_mapping anchor tag trees no_key) (mapping_tree start.anchor tag trees)
     (lead_laid s.portable directives start.anchor tag false cursor) (curly_brackets (rules_of s own)) take
-    (closing_laid (rules_of s own) s (in_mapping start.anchor tag trees no_key) curly 0x7D (mapping_tree start.anchor tag trees) column entries.cursor refl refl refl)
+    (closing_laid (rules_of s own) s (in_mapping start.anchor tag trees no_key) curly 0x7D
+    (mapping_tree start.anchor tag trees) column entries.cursor refl refl refl)
 
 -- a sequence that is written in flow is read as its tree after its properties, wherever it stands
-pub sequence_reads : (s : Effective) (own directives : List TagDirective) → KeysFit s own directives → (place : Place) (cursor : Cursor) (start : Collection) (items : Nodes)
+pub sequence_reads : (s : Effective) (own directives : List TagDirective) → KeysFit s own directives → (place : Place) (cursor : Cursor) (start : Collection)
+    (items : Nodes)
     → is_written_in_flow s place start (has_no_nodes items) ≡ true → NamesStand s.portable own s.canonical directives (sequence_node start items)
     → BodiesHold (BodyStands s) (sequence_node start items) s directives place cursor
-    → FlowReads s own directives start cursor (node_own (sequence_node start items) s directives place cursor) (node_tree (sequence_node start items) s directives place)
+    → FlowReads s own directives start cursor (node_own (sequence_node start items) s directives place cursor)
+    (node_tree (sequence_node start items) s directives place)
 sequence_reads s own directives fits place cursor start items in_flow names bodies =
     by (is_written_in_flow s place start (has_no_nodes items)) in_flow bodies
   where
@@ -292,7 +304,8 @@ sequence_reads s own directives fits place cursor start items in_flow names bodi
 
     by : (x : Bool) → x ≡ true
         → ItemsHold (BodyStands s) items s directives x (entries_column x (is_in_mapping place.role) s.indent place.column begun.cursor) begun.cursor
-        → FlowReads s own directives start cursor (collection_own s square x (is_in_mapping place.role) (has_no_nodes items) place.column begun (items_own items s directives x))
+        → FlowReads s own directives start cursor (collection_own s square x (is_in_mapping place.role) (has_no_nodes items) place.column begun
+        (items_own items s directives x))
         (sequence_tree start.anchor (collection_tag s.canonical start) (nodes_tree items s directives x))
     by false h hold = absurd (false≢true h)
     by true h hold =
@@ -300,10 +313,12 @@ sequence_reads s own directives fits place cursor start items in_flow names bodi
         (items_flow items s own directives fits (deeper s.indent place.column) begun.cursor names.2 hold)
 
 -- and so is a mapping
-pub mapping_reads : (s : Effective) (own directives : List TagDirective) → KeysFit s own directives → (place : Place) (cursor : Cursor) (start : Collection) (pairs : Pairs)
+pub mapping_reads : (s : Effective) (own directives : List TagDirective) → KeysFit s own directives → (place : Place) (cursor : Cursor) (start : Collection)
+    (pairs : Pairs)
     → is_written_in_flow s place start (has_no_pairs pairs) ≡ true → NamesStand s.portable own s.canonical directives (mapping_node start pairs)
     → BodiesHold (BodyStands s) (mapping_node start pairs) s directives place cursor
-    → FlowReads s own directives start cursor (node_own (mapping_node start pairs) s directives place cursor) (node_tree (mapping_node start pairs) s directives place)
+    → FlowReads s own directives start cursor (node_own (mapping_node start pairs) s directives place cursor)
+    (node_tree (mapping_node start pairs) s directives place)
 mapping_reads s own directives fits place cursor start pairs in_flow names bodies =
     by (is_written_in_flow s place start (has_no_pairs pairs)) in_flow bodies
   where
