@@ -101,7 +101,7 @@ no_key_text rules q t h =
     neither false = refl
 
 -- the front of what keeps a bracket open does so too
-keeps_front : (a b : Text) → keeps_open (a ++ b) ≡ true → keeps_open a ≡ true
+pub keeps_front : (a b : Text) → keeps_open (a ++ b) ≡ true → keeps_open a ≡ true
 keeps_front [] b h = refl
 keeps_front (c ∷ a) b h = h
 

@@ -15,7 +15,7 @@ use Rattle.yaml_base.specs.StreamContent.{Tree, sequence_tree, mapping_tree, no_
 use Rattle.yaml_base.specs.StreamScalars.{Rules, Properties, word_after}
 use Rattle.yaml_base.specs.StreamTokens.{sign, free, is_flow_sign, begins_bracket, class_of, is_pair, FlowTurn, begun, bracket_turn, flow_tokens}
 use Rattle.yaml_base.specs.StreamFlow.{no_key, Level, in_sequence, in_mapping, Awaited, collection_awaited, entry_awaited, comma_awaited, FlowReading, done, within, level_opened, opened, word_step, flow_step, tree_at_end, flow_read}
-use Rattle.yaml_base.specs.StreamNodes.{before_trimmed, trimmed, flow_text, kind_of_text, text_by_kind}
+use Rattle.yaml_base.specs.StreamNodes.{before_trimmed, trimmed, flow_text, kind_of_text, text_by_kind, begins_text, kind_of_node}
 use Rattle.yaml_base.proofs.StreamAgrees.{node_tree, nodes_tree, pairs_tree}
 use Rattle.yaml_base.proofs.StreamSays.{opens_before, bracket_class, square_class, curly_class, comma_class, sign_ends}
 use Rattle.yaml_base.proofs.StreamTakes.{Takes, steps, takes_both, flow_reads}
@@ -28,6 +28,7 @@ use Rattle.yaml_base.proofs.StreamFlowWords.{opens_inside, tag_of_collection}
 use Rattle.yaml_base.proofs.StreamFlowTakes.{FlowEntries, opens_more, and_false, no_pair}
 use Rattle.yaml_base.proofs.StreamFlowScalars.{rules_of}
 use Rattle.yaml_base.proofs.StreamFlowKinds.{KeysFit, empty_whole, collection_whole, ItemsTake, PairsTake}
+use Rattle.yaml_base.proofs.StreamFlowLines.{keeps_open, keeps_front, collection_kind, empty_kind}
 use Rattle.yaml_base.proofs.StreamFlowNodes.{items_flow, pairs_flow}
 
 -- the text of a collection in flow: a space where one is needed, its properties, and from a bracket to a bracket what is
@@ -40,6 +41,7 @@ pub record FlowContent (rules : Rules) (cursor : Cursor) (own : Laid) (anchor ta
   pub closes : class_of rules.breaks12 closing ≡ is_flow_sign
   pub kind : (rest : Text) → kind_of_text (bracket ∷ rest) ≡ flow_text
   pub shown : is_read_white rules.breaks12 closing ≡ false
+  pub line : (first more : Text) → inside ++ (closing ∷ []) ≡ first ++ more → kind_of_node rules (bracket ∷ first) ≡ begins_text
   pub whole : own.text ≡ space_if true cursor ++ (lead anchor tag ++ ((bracket ∷ inside) ++ (closing ∷ [])))
   pub ended : Ended own.cursor
   pub reads : flow_read rules (record { anchor = anchor; tag = tag_meant given_tag false }) ((bracket ∷ inside) ++ (closing ∷ [])) ≡ Some tree
@@ -50,6 +52,8 @@ record AreBrackets (rules : Rules) (bracket closing : ℕ) : Type 0 where
   pub closes : class_of rules.breaks12 closing ≡ is_flow_sign
   pub kind : (rest : Text) → kind_of_text (bracket ∷ rest) ≡ flow_text
   pub shown : is_read_white rules.breaks12 closing ≡ false
+  pub line : (first : Text) → keeps_open first ≡ true → kind_of_node rules (bracket ∷ first) ≡ begins_text
+  pub empty : kind_of_node rules (bracket ∷ closing ∷ []) ≡ begins_text
 
 -- a bracket that closes isn't white
 sign_shown : (breaks12 : Bool) → (is_read_white breaks12 0x5D ≡ false) × (is_read_white breaks12 0x7D ≡ false)
@@ -63,6 +67,8 @@ square_brackets rules = record {
   closes = square_class rules.breaks12;
   kind = λ rest. refl;
   shown = (sign_shown rules.breaks12).0;
+  line = collection_kind rules true;
+  empty = (empty_kind rules).0;
 }
 
 -- and those of mappings
@@ -72,9 +78,27 @@ curly_brackets rules = record {
   closes = curly_class rules.breaks12;
   kind = λ rest. refl;
   shown = (sign_shown rules.breaks12).1;
+  line = collection_kind rules false;
+  empty = (empty_kind rules).1;
 }
 
 -- Empty ones
+
+-- the first character of a text
+abbrev first_of : Text → ℕ
+first_of [] = 0
+first_of (c ∷ rest) = c
+
+-- a text has two characters or more
+abbrev holds_two : Text → Bool
+holds_two (c ∷ d ∷ rest) = true
+holds_two _ = false
+
+-- the first line of two brackets
+empty_line : (rules : Rules) (b c : ℕ) → AreBrackets rules b c → (first more : Text) → c ∷ [] ≡ first ++ more → kind_of_node rules (b ∷ first) ≡ begins_text
+empty_line rules b c brackets [] more e = brackets.line [] refl
+empty_line rules b c brackets (x ∷ []) more e = ap (λ n. kind_of_node rules (b ∷ n ∷ [])) (sym (ap first_of e)) ∙ brackets.empty
+empty_line rules b c brackets (x ∷ y ∷ first) more e = absurd (false≢true (ap holds_two e))
 
 -- two brackets that are a word
 empty_content : (rules : Rules) (cursor : Cursor) (properties own : Laid) (anchor tag given_tag : Option Text) (b c : ℕ) (tree : Tree)
@@ -91,6 +115,7 @@ empty_content rules cursor properties own anchor tag given_tag b c tree e text e
   closes = brackets.closes;
   kind = brackets.kind;
   shown = brackets.shown;
+  line = empty_line rules b c brackets;
   whole = text ∙ empty_whole properties cursor (lead anchor tag) b c e;
   ended = ended;
   reads =
@@ -164,6 +189,11 @@ closing_laid rules s level brackets closing tree column cursor e at_once_done af
       closes = at_once_done;
     }
 
+-- what opens inside a collection keeps it open
+opens_kept : (t : Text) → opens_inside t ≡ true → keeps_open t ≡ true
+opens_kept [] h = absurd (false≢true h)
+opens_kept (c ∷ t) h = h
+
 -- a collection that holds something
 whole_content : (rules : Rules) (cursor : Cursor) (properties entries ending : Laid) (bracket closing : ℕ) (anchor tag given_tag : Option Text)
     (last : Option Text → Option Text → Level) (tree : Tree) → properties.text ++ space_if true properties.cursor ≡ space_if true cursor ++ lead anchor tag
@@ -178,6 +208,11 @@ whole_content rules cursor properties entries ending bracket closing anchor tag 
   closes = brackets.closes;
   kind = brackets.kind;
   shown = brackets.shown;
+  line = λ first more same.
+      brackets.line first
+      (keeps_front first more
+      (ap keeps_open (sym same) ∙ opens_kept ((of.inside ++ end.before) ++ (closing ∷ []))
+      (opens_more (of.inside ++ end.before) (closing ∷ []) (opens_more of.inside end.before of.opens))));
   whole =
       collection_whole properties cursor (lead anchor tag) bracket of.inside entries.text ending.text e of.whole
       ∙ ap (λ t. space_if true cursor ++ (lead anchor tag ++ (bracket ∷ t)))
