@@ -92,3 +92,4 @@ pub mod StreamFlowPairs
 pub mod StreamFlowKinds
 pub mod StreamFlowNodes
 pub mod StreamFlowReads
+pub mod StreamFlowLines

@@ -52,12 +52,14 @@ word_node rules simple cursor own text tree whole ended of other fits = record {
   opens = of.opens;
   takes = λ h levels open_level spaced. takes_word rules levels spaced text tree of open_level;
   key = λ h anchor tag pairs levels.
-      let at : ColonPlace → Type 0 = λ place. Takes rules (within (in_mapping anchor tag pairs no_key ∷ levels) entry_awaited) text (within (in_mapping anchor tag pairs (key_held tree) ∷ levels) (colon_awaited place)) in
+      let at : ColonPlace → Type 0 = λ place. Takes rules (within (in_mapping anchor tag pairs no_key ∷ levels) entry_awaited) text
+      (within (in_mapping anchor tag pairs (key_held tree) ∷ levels) (colon_awaited place)) in
       subst at (ap (λ x. if x then after_blank else at_once) other) (takes_simple_key rules anchor tag pairs levels text tree of.says of.reads (fits h));
 }
 
 -- an alias, with a space after it where it is a simple key
-pub alias_step : (s : Effective) (own directives : List TagDirective) (fits : KeysFit s own directives) (role : Role) (column : ℕ) (cursor : Cursor) (name : Text) → name_read name ≡ Some name
+pub alias_step : (s : Effective) (own directives : List TagDirective) (fits : KeysFit s own directives) (role : Role) (column : ℕ) (cursor : Cursor)
+    (name : Text) → name_read name ≡ Some name
     → (simple : Bool) → (is_key role && is_simple s.canonical directives (alias_node name)) ≡ simple
     → FlowNode (rules_of s own) simple cursor (alias_laid name simple cursor) (alias_tree name)
 alias_step s own directives fits role column cursor name named false e = record {
@@ -65,7 +67,8 @@ alias_step s own directives fits role column cursor name named false e = record 
   whole = append-nil ((space_if true cursor ++ (0x2A ∷ [])) ++ name) ∙ append_assoc (space_if true cursor) (0x2A ∷ []) name;
   ended = record { white = refl; indention = refl };
   opens = refl;
-  takes = λ h levels open_level spaced. takes_word (rules_of s own) levels spaced (0x2A ∷ name) (alias_tree name) (alias_flow_word (rules_of s own) name named) open_level;
+  takes = λ h levels open_level spaced. takes_word (rules_of s own) levels spaced (0x2A ∷ name) (alias_tree name)
+      (alias_flow_word (rules_of s own) name named) open_level;
   key = λ h. absurd (false≢true h);
 }
 alias_step s own directives fits role column cursor name named true e = record {
@@ -91,7 +94,8 @@ alias_step s own directives fits role column cursor name named true e = record {
         ∙ append_assoc (space_if true cursor) (0x2A ∷ name) (space ∷ [])
 
 -- a scalar
-pub scalar_step : (s : Effective) (own directives : List TagDirective) (fits : KeysFit s own directives) (role : Role) (column : ℕ) (cursor : Cursor) (content : Scalar)
+pub scalar_step : (s : Effective) (own directives : List TagDirective) (fits : KeysFit s own directives) (role : Role) (column : ℕ) (cursor : Cursor)
+    (content : Scalar)
     → NamesStand s.portable own s.canonical directives (scalar_node content)
     → BodyStands s (body_from s directives (entry_place true role column) content cursor)
     → FlowNode (rules_of s own) (is_key role && is_simple s.canonical directives (scalar_node content)) cursor
@@ -111,7 +115,8 @@ scalar_step s own directives fits role column cursor content names body =
     (lead content.anchor (tag_written s.portable directives tag choice.bare) ++ text) (node_tree (scalar_node content) s directives (entry_place true role 0))
     whole
     (body_ended s choice.style limit (deeper s.indent (Some column)) content.value separation.cursor flow)
-    (body_flow_word s own content.anchor (tag_written s.portable directives tag choice.bare) tag choice.style choice.bare limit (deeper s.indent (Some column)) column content.value separation.cursor
+    (body_flow_word s own content.anchor (tag_written s.portable directives tag choice.bare) tag choice.style choice.bare limit
+    (deeper s.indent (Some column)) column content.value separation.cursor
     (record { named = names.0; tagged = tag_is_written s.portable own directives tag choice.bare names.1 })
     flow (bare_not_plain (is_some tag) content.quoted_implicit (is_plain choice.style)) body.tidy body.reads)
     refl
@@ -160,7 +165,8 @@ collection_node rules simple cursor properties entries ending bracket anchor tag
   takes = λ h levels open_level spaced.
       takes_collection rules levels spaced bracket anchor tag given_tag (of.inside ++ ending.text) (with_tree levels tree) given open_level class
       (opens_more of.inside ending.text of.opens)
-      (takes_both rules (within (level_opened bracket anchor given_tag ∷ levels) entry_awaited) (within (last anchor given_tag ∷ levels) comma_awaited) (with_tree levels tree)
+      (takes_both rules (within (level_opened bracket anchor given_tag ∷ levels) entry_awaited) (within (last anchor given_tag ∷ levels) comma_awaited)
+      (with_tree levels tree)
       of.inside ending.text (of.takes anchor given_tag levels) (end levels).takes (end levels).ends);
   key = λ h. absurd (true≢false (sym h ∙ other));
 }
@@ -186,22 +192,27 @@ PairsTake s own directives (pairs_and pairs key value) column cursor =
     (λ anchor tag. in_mapping anchor tag (pairs_tree (pairs_and pairs key value) s directives true) no_key)
 
 -- a sequence, where its items take
-pub sequence_step : (s : Effective) (own directives : List TagDirective) (fits : KeysFit s own directives) (role : Role) (column : ℕ) (cursor : Cursor) (start : Collection) (items : Nodes)
+pub sequence_step : (s : Effective) (own directives : List TagDirective) (fits : KeysFit s own directives) (role : Role) (column : ℕ) (cursor : Cursor)
+    (start : Collection) (items : Nodes)
     → NamesStand s.portable own s.canonical directives (sequence_node start items)
     → BodiesHold (BodyStands s) (sequence_node start items) s directives (entry_place true role column) cursor
-    → ItemsTake s own directives items (deeper s.indent (Some column)) (properties_laid s.portable directives start.anchor (collection_tag s.canonical start) false cursor).cursor
+    → ItemsTake s own directives items (deeper s.indent (Some column)) (properties_laid s.portable directives start.anchor
+    (collection_tag s.canonical start) false cursor).cursor
     → FlowNode (rules_of s own) (is_key role && is_simple s.canonical directives (sequence_node start items)) cursor
-    (node_own (sequence_node start items) s directives (entry_place true role column) cursor) (node_tree (sequence_node start items) s directives (entry_place true role 0))
+    (node_own (sequence_node start items) s directives (entry_place true role column) cursor)
+    (node_tree (sequence_node start items) s directives (entry_place true role 0))
 sequence_step s own directives fits role column cursor start no_nodes names bodies take =
     let tag = collection_tag s.canonical start in
     let properties = properties_laid s.portable directives start.anchor tag false cursor in
     let text = lead start.anchor (tag_written s.portable directives tag false) ++ (0x5B ∷ 0x5D ∷ []) in
-    let whole = empty_whole properties cursor (lead start.anchor (tag_written s.portable directives tag false)) 0x5B 0x5D (lead_laid s.portable directives start.anchor tag false cursor) in
+    let whole = empty_whole properties cursor (lead start.anchor (tag_written s.portable directives tag false)) 0x5B 0x5D
+    (lead_laid s.portable directives start.anchor tag false cursor) in
     word_node (rules_of s own) (is_key role && is_simple s.canonical directives (sequence_node start no_nodes)) cursor
     (node_own (sequence_node start no_nodes) s directives (entry_place true role column) cursor) text (sequence_tree start.anchor tag no_trees)
     whole
     (record { white = refl; indention = and_false (properties.cursor.indention && false) })
-    (empty_sequence_word (rules_of s own) start.anchor (tag_written s.portable directives tag false) tag (record { named = names.0; tagged = tag_is_written s.portable own directives tag false names.1 }))
+    (empty_sequence_word (rules_of s own) start.anchor (tag_written s.portable directives tag false) tag
+    (record { named = names.0; tagged = tag_is_written s.portable own directives tag false names.1 }))
     refl
     (λ h. fits (sequence_node start no_nodes) role column cursor text h names bodies (whole ∙ ap (λ t. space_if true cursor ++ t) (sym (append-nil text))))
 sequence_step s own directives fits role column cursor start (nodes_and items last) names bodies take =
@@ -218,22 +229,27 @@ sequence_step s own directives fits role column cursor start (nodes_and items la
     (neither_holds (is_key role) (not s.canonical))
 
 -- a mapping, where its pairs take
-pub mapping_step : (s : Effective) (own directives : List TagDirective) (fits : KeysFit s own directives) (role : Role) (column : ℕ) (cursor : Cursor) (start : Collection) (pairs : Pairs)
+pub mapping_step : (s : Effective) (own directives : List TagDirective) (fits : KeysFit s own directives) (role : Role) (column : ℕ) (cursor : Cursor)
+    (start : Collection) (pairs : Pairs)
     → NamesStand s.portable own s.canonical directives (mapping_node start pairs)
     → BodiesHold (BodyStands s) (mapping_node start pairs) s directives (entry_place true role column) cursor
-    → PairsTake s own directives pairs (deeper s.indent (Some column)) (properties_laid s.portable directives start.anchor (collection_tag s.canonical start) false cursor).cursor
+    → PairsTake s own directives pairs (deeper s.indent (Some column)) (properties_laid s.portable directives start.anchor
+    (collection_tag s.canonical start) false cursor).cursor
     → FlowNode (rules_of s own) (is_key role && is_simple s.canonical directives (mapping_node start pairs)) cursor
-    (node_own (mapping_node start pairs) s directives (entry_place true role column) cursor) (node_tree (mapping_node start pairs) s directives (entry_place true role 0))
+    (node_own (mapping_node start pairs) s directives (entry_place true role column) cursor)
+    (node_tree (mapping_node start pairs) s directives (entry_place true role 0))
 mapping_step s own directives fits role column cursor start no_pairs names bodies take =
     let tag = collection_tag s.canonical start in
     let properties = properties_laid s.portable directives start.anchor tag false cursor in
     let text = lead start.anchor (tag_written s.portable directives tag false) ++ (0x7B ∷ 0x7D ∷ []) in
-    let whole = empty_whole properties cursor (lead start.anchor (tag_written s.portable directives tag false)) 0x7B 0x7D (lead_laid s.portable directives start.anchor tag false cursor) in
+    let whole = empty_whole properties cursor (lead start.anchor (tag_written s.portable directives tag false)) 0x7B 0x7D
+    (lead_laid s.portable directives start.anchor tag false cursor) in
     word_node (rules_of s own) (is_key role && is_simple s.canonical directives (mapping_node start no_pairs)) cursor
     (node_own (mapping_node start no_pairs) s directives (entry_place true role column) cursor) text (mapping_tree start.anchor tag no_tree_pairs)
     whole
     (record { white = refl; indention = and_false (properties.cursor.indention && false) })
-    (empty_mapping_word (rules_of s own) start.anchor (tag_written s.portable directives tag false) tag (record { named = names.0; tagged = tag_is_written s.portable own directives tag false names.1 }))
+    (empty_mapping_word (rules_of s own) start.anchor (tag_written s.portable directives tag false) tag
+    (record { named = names.0; tagged = tag_is_written s.portable own directives tag false names.1 }))
     refl
     (λ h. fits (mapping_node start no_pairs) role column cursor text h names bodies (whole ∙ ap (λ t. space_if true cursor ++ t) (sym (append-nil text))))
 mapping_step s own directives fits role column cursor start (pairs_and pairs key value) names bodies take =
@@ -241,7 +257,8 @@ mapping_step s own directives fits role column cursor start (pairs_and pairs key
     let properties = properties_laid s.portable directives start.anchor tag false cursor in
     let entries = pairs_own (pairs_and pairs key value) s directives true (deeper s.indent (Some column)) properties.cursor in
     let trees = pairs_tree (pairs_and pairs key value) s directives true in
-    collection_node (rules_of s own) (is_key role && is_simple s.canonical directives (mapping_node start (pairs_and pairs key value))) cursor properties entries
+    collection_node (rules_of s own) (is_key role && is_simple s.canonical directives
+    (mapping_node start (pairs_and pairs key value))) cursor properties entries
     (end_laid s curly true false (Some column) entries.cursor) 0x7B start.anchor (tag_written s.portable directives tag false) tag
     (λ anchor tag. in_mapping anchor tag trees no_key) (mapping_tree start.anchor tag trees)
     (record { named = names.0; tagged = tag_is_written s.portable own directives tag false names.1 })

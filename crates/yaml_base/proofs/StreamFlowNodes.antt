@@ -24,7 +24,8 @@ items_step : (s : Effective) (own directives : List TagDirective) (items : Nodes
     → ItemsTake s own directives items column cursor
     → (let place = entry_place true (as_item (has_no_nodes items)) column in
     let signs = place_laid s place false (items_own items s directives true column cursor).cursor in
-    FlowNode (rules_of s own) false signs.cursor (node_own last s directives place signs.cursor) (node_tree last s directives (entry_place true (as_item (has_no_nodes items)) 0)))
+    FlowNode (rules_of s own) false signs.cursor (node_own last s directives place signs.cursor)
+    (node_tree last s directives (entry_place true (as_item (has_no_nodes items)) 0)))
     → ItemsTake s own directives (nodes_and items last) column cursor
 items_step s own directives no_nodes last column cursor take node =
     let open_cursor = (indicator (codes "[") true true false cursor).cursor in
@@ -61,7 +62,8 @@ pair_entry : (rules : Rules) (s : Effective) (column : Option ℕ) (simple : Boo
 pair_entry rules s column false cursor own value key_tree value_tree key node anchor tag pairs =
     long_pair_entry rules s column cursor own value key_tree value_tree key node anchor tag pairs
 pair_entry rules s column true cursor own value key_tree value_tree key node anchor tag pairs =
-    subst (λ t. FlowEntry rules ((t ++ own.text) ++ ((0x3A ∷ []) ++ value.text)) (in_mapping anchor tag pairs no_key) (in_mapping anchor tag (tree_pairs_and pairs key_tree value_tree) no_key))
+    subst (λ t. FlowEntry rules ((t ++ own.text) ++ ((0x3A ∷ []) ++ value.text)) (in_mapping anchor tag pairs no_key)
+    (in_mapping anchor tag (tree_pairs_and pairs key_tree value_tree) no_key))
     (sym (append-nil (flow_break s column cursor).text))
     (simple_pair_entry rules s column cursor own value key_tree value_tree key node anchor tag pairs)
 
@@ -153,7 +155,8 @@ mutual
   items_flow (nodes_and items last) s own directives fits column cursor names bodies =
       items_step s own directives items last column cursor (items_flow items s own directives fits column cursor names.0 bodies.0)
       (node_flow last s own directives fits (as_item (has_no_nodes items)) column
-      (place_laid s (entry_place true (as_item (has_no_nodes items)) column) false (items_own items s directives true column cursor).cursor).cursor names.1 bodies.1)
+      (place_laid s (entry_place true (as_item (has_no_nodes items)) column) false
+      (items_own items s directives true column cursor).cursor).cursor names.1 bodies.1)
 
   pub pairs_flow : (pairs : Pairs) (s : Effective) (own directives : List TagDirective) → KeysFit s own directives → (column : ℕ) (cursor : Cursor)
       → PairsNamesStand s.portable own s.canonical directives pairs → PairsHold (BodyStands s) pairs s directives true column cursor
@@ -165,4 +168,5 @@ mutual
       pairs_step s own directives pairs key value column cursor (pairs_flow pairs s own directives fits column cursor names.0 bodies.0)
       (node_flow key s own directives fits (as_key (has_no_pairs pairs)) column signs.cursor names.1 bodies.1)
       (node_flow value s own directives fits (as_value (is_simple s.canonical directives key)) column
-      (place_laid s (entry_place true (as_value (is_simple s.canonical directives key)) column) false (node_own key s directives key_place signs.cursor).cursor).cursor names.2 bodies.2)
+      (place_laid s (entry_place true (as_value (is_simple s.canonical directives key)) column) false
+      (node_own key s directives key_place signs.cursor).cursor).cursor names.2 bodies.2)

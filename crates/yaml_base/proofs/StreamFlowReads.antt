@@ -1,6 +1,7 @@
 -- The text of a collection in flow, after its properties, is read as the collection's tree.
 use Rattle.std.proofs.Common.{◌≡◌, refl, sym, ap, ◌∙◌, append_assoc, append-nil}
-use Rattle.std.proofs.lemmas.Bool.{false≢true}
+use Rattle.std.proofs.lemmas.Bool.{false≢true, and_parts}
+use Rattle.std.specs.List.{list_all}
 use Rattle.std.specs.Prelude.{ℕ, Bool, true, false, Option, None, Some, List, [], ◌∷◌, ◌++◌, ◌&&◌, option_map, codes}
 use Rattle.yaml_base.specs.Characters.{Text}
 use Rattle.yaml_base.specs.Settings.{Effective}
@@ -9,10 +10,12 @@ use Rattle.yaml_base.specs.Cursor.{Cursor, Laid, space_if, new_line, indicator}
 use Rattle.yaml_base.specs.Grammar.{sequence_node, mapping_node, Nodes, no_nodes, nodes_and, Pairs, no_pairs, pairs_and}
 use Rattle.yaml_base.specs.Refusal.{collection_tag}
 use Rattle.yaml_base.specs.Layout.{Place, is_in_mapping, line_column, deeper, entries_column, has_no_nodes, has_no_pairs, properties_laid, is_written_in_flow, Brackets, square, curly, end_laid}
+use Rattle.yaml_base.specs.ReadPlain.{is_read_white}
 use Rattle.yaml_base.specs.StreamContent.{Tree, sequence_tree, mapping_tree, no_trees, no_tree_pairs}
-use Rattle.yaml_base.specs.StreamScalars.{Rules, word_after}
+use Rattle.yaml_base.specs.StreamScalars.{Rules, Properties, word_after}
 use Rattle.yaml_base.specs.StreamTokens.{sign, free, is_flow_sign, begins_bracket, class_of, is_pair, FlowTurn, begun, bracket_turn, flow_tokens}
 use Rattle.yaml_base.specs.StreamFlow.{no_key, Level, in_sequence, in_mapping, Awaited, collection_awaited, entry_awaited, comma_awaited, FlowReading, done, within, level_opened, opened, word_step, flow_step, tree_at_end, flow_read}
+use Rattle.yaml_base.specs.StreamNodes.{before_trimmed, trimmed, flow_text, kind_of_text, text_by_kind, begins_text, kind_of_node}
 use Rattle.yaml_base.proofs.StreamAgrees.{node_tree, nodes_tree, pairs_tree}
 use Rattle.yaml_base.proofs.StreamSays.{opens_before, bracket_class, square_class, curly_class, comma_class, sign_ends}
 use Rattle.yaml_base.proofs.StreamTakes.{Takes, steps, takes_both, flow_reads}
@@ -25,6 +28,7 @@ use Rattle.yaml_base.proofs.StreamFlowWords.{opens_inside, tag_of_collection}
 use Rattle.yaml_base.proofs.StreamFlowTakes.{FlowEntries, opens_more, and_false, no_pair}
 use Rattle.yaml_base.proofs.StreamFlowScalars.{rules_of}
 use Rattle.yaml_base.proofs.StreamFlowKinds.{KeysFit, empty_whole, collection_whole, ItemsTake, PairsTake}
+use Rattle.yaml_base.proofs.StreamFlowLines.{keeps_open, keeps_front, collection_kind, empty_kind}
 use Rattle.yaml_base.proofs.StreamFlowNodes.{items_flow, pairs_flow}
 
 -- the text of a collection in flow: a space where one is needed, its properties, and from a bracket to a bracket what is
@@ -35,30 +39,90 @@ pub record FlowContent (rules : Rules) (cursor : Cursor) (own : Laid) (anchor ta
   pub closing : ℕ
   pub begins : class_of rules.breaks12 bracket ≡ begins_bracket
   pub closes : class_of rules.breaks12 closing ≡ is_flow_sign
+  pub kind : (rest : Text) → kind_of_text (bracket ∷ rest) ≡ flow_text
+  pub shown : is_read_white rules.breaks12 closing ≡ false
+  pub line : (first more : Text) → inside ++ (closing ∷ []) ≡ first ++ more → kind_of_node rules (bracket ∷ first) ≡ begins_text
   pub whole : own.text ≡ space_if true cursor ++ (lead anchor tag ++ ((bracket ∷ inside) ++ (closing ∷ [])))
   pub ended : Ended own.cursor
   pub reads : flow_read rules (record { anchor = anchor; tag = tag_meant given_tag false }) ((bracket ∷ inside) ++ (closing ∷ [])) ≡ Some tree
 
+-- a bracket that begins a collection in flow and one that ends it
+record AreBrackets (rules : Rules) (bracket closing : ℕ) : Type 0 where
+  pub begins : class_of rules.breaks12 bracket ≡ begins_bracket
+  pub closes : class_of rules.breaks12 closing ≡ is_flow_sign
+  pub kind : (rest : Text) → kind_of_text (bracket ∷ rest) ≡ flow_text
+  pub shown : is_read_white rules.breaks12 closing ≡ false
+  pub line : (first : Text) → keeps_open first ≡ true → kind_of_node rules (bracket ∷ first) ≡ begins_text
+  pub empty : kind_of_node rules (bracket ∷ closing ∷ []) ≡ begins_text
+
+-- a bracket that closes isn't white
+sign_shown : (breaks12 : Bool) → (is_read_white breaks12 0x5D ≡ false) × (is_read_white breaks12 0x7D ≡ false)
+sign_shown true = (refl, refl)
+sign_shown false = (refl, refl)
+
+-- the brackets of sequences
+square_brackets : (rules : Rules) → AreBrackets rules 0x5B 0x5D
+square_brackets rules = record {
+  begins = (bracket_class rules.breaks12).0;
+  closes = square_class rules.breaks12;
+  kind = λ rest. refl;
+  shown = (sign_shown rules.breaks12).0;
+  line = collection_kind rules true;
+  empty = (empty_kind rules).0;
+}
+
+-- and those of mappings
+curly_brackets : (rules : Rules) → AreBrackets rules 0x7B 0x7D
+curly_brackets rules = record {
+  begins = (bracket_class rules.breaks12).1;
+  closes = curly_class rules.breaks12;
+  kind = λ rest. refl;
+  shown = (sign_shown rules.breaks12).1;
+  line = collection_kind rules false;
+  empty = (empty_kind rules).1;
+}
+
 -- Empty ones
+
+-- the first character of a text
+abbrev first_of : Text → ℕ
+first_of [] = 0
+first_of (c ∷ rest) = c
+
+-- a text has two characters or more
+abbrev holds_two : Text → Bool
+holds_two (c ∷ d ∷ rest) = true
+holds_two _ = false
+
+-- the first line of two brackets
+empty_line : (rules : Rules) (b c : ℕ) → AreBrackets rules b c → (first more : Text) → c ∷ [] ≡ first ++ more → kind_of_node rules (b ∷ first) ≡ begins_text
+empty_line rules b c brackets [] more e = brackets.line [] refl
+empty_line rules b c brackets (x ∷ []) more e = ap (λ n. kind_of_node rules (b ∷ n ∷ [])) (sym (ap first_of e)) ∙ brackets.empty
+empty_line rules b c brackets (x ∷ y ∷ first) more e = absurd (false≢true (ap holds_two e))
 
 -- two brackets that are a word
 empty_content : (rules : Rules) (cursor : Cursor) (properties own : Laid) (anchor tag given_tag : Option Text) (b c : ℕ) (tree : Tree)
     → properties.text ++ space_if true properties.cursor ≡ space_if true cursor ++ lead anchor tag
     → own.text ≡ (properties.text ++ []) ++ ((space_if true properties.cursor ++ (b ∷ [])) ++ (c ∷ [])) → Ended own.cursor
-    → class_of rules.breaks12 b ≡ begins_bracket → class_of rules.breaks12 c ≡ is_flow_sign → is_pair b c ≡ true
+    → AreBrackets rules b c → is_pair b c ≡ true
     → word_after rules true None (record { anchor = anchor; tag = tag_meant given_tag false }) (b ∷ c ∷ []) ≡ Some tree
     → FlowContent rules cursor own anchor tag given_tag tree
-empty_content rules cursor properties own anchor tag given_tag b c tree e text ended class sign_class pair read = record {
+empty_content rules cursor properties own anchor tag given_tag b c tree e text ended brackets pair read = record {
   bracket = b;
   inside = [];
   closing = c;
-  begins = class;
-  closes = sign_class;
+  begins = brackets.begins;
+  closes = brackets.closes;
+  kind = brackets.kind;
+  shown = brackets.shown;
+  line = empty_line rules b c brackets;
   whole = text ∙ empty_whole properties cursor (lead anchor tag) b c e;
   ended = ended;
   reads =
-      ap (λ k. (let here : FlowTurn = begun k [] b in tree_at_end (steps rules from (here.tokens ++ flow_tokens rules.breaks12 here.place (c ∷ []))))) class
-      ∙ ap (λ x. (let here : FlowTurn = bracket_turn x (class_of rules.breaks12 c) [] b c in tree_at_end (steps rules from (here.tokens ++ flow_tokens rules.breaks12 here.place [])))) pair
+      ap (λ k. (let here : FlowTurn = begun k [] b in tree_at_end (steps rules from
+      (here.tokens ++ flow_tokens rules.breaks12 here.place (c ∷ []))))) brackets.begins
+      ∙ ap (λ x. (let here : FlowTurn = bracket_turn x (class_of rules.breaks12 c) [] b c in tree_at_end
+      (steps rules from (here.tokens ++ flow_tokens rules.breaks12 here.place [])))) pair
       ∙ ap (λ r. tree_at_end (word_step rules.breaks12 [] (b ∷ c ∷ []) r)) read;
 }
   where
@@ -86,7 +150,8 @@ record Closing (rules : Rules) (level : Level) (closing : ℕ) (tree : Tree) (en
   pub whole : ending.text ≡ before ++ (closing ∷ [])
   pub ended : Ended ending.cursor
   pub awaited : Awaited
-  pub goes : (from : FlowReading) (text : Text) → Takes rules from text (within (level ∷ []) comma_awaited) → Takes rules from (text ++ before) (within (level ∷ []) awaited)
+  pub goes : (from : FlowReading) (text : Text) → Takes rules from text (within (level ∷ []) comma_awaited) → Takes rules from (text ++ before)
+      (within (level ∷ []) awaited)
   pub closes : flow_step rules (within (level ∷ []) awaited) (sign closing) ≡ done tree
 
 -- a bracket closes at once or, in canonical mode, after a comma and a line
@@ -106,9 +171,10 @@ closing_laid rules s level brackets closing tree column cursor e at_once_done af
       ended = record { white = refl; indention = refl };
       awaited = entry_awaited;
       goes = λ from text takes.
-          let passed = passes_both rules (within (level ∷ []) comma_awaited) (within (level ∷ []) entry_awaited) (within (level ∷ []) entry_awaited) (0x2C ∷ []) line
-              (passes_comma rules (level ∷ []))
-              (passes_entry_white rules (level ∷ []) line (new_line_white (line_column column) (indicator (codes ",") false false false cursor).cursor)) in
+          let passed = passes_both rules (within (level ∷ []) comma_awaited) (within (level ∷ []) entry_awaited) (within (level ∷ []) entry_awaited)
+          (0x2C ∷ []) line
+          (passes_comma rules (level ∷ []))
+          (passes_entry_white rules (level ∷ []) line (new_line_white (line_column column) (indicator (codes ",") false false false cursor).cursor)) in
           takes_both rules from (within (level ∷ []) comma_awaited) (within (level ∷ []) entry_awaited) text (0x2C ∷ line) takes
           (record { takes = λ rest h. passed.passes rest })
           (sign_ends rules.breaks12 0x2C line (comma_class rules.breaks12));
@@ -123,41 +189,91 @@ closing_laid rules s level brackets closing tree column cursor e at_once_done af
       closes = at_once_done;
     }
 
+-- what opens inside a collection keeps it open
+opens_kept : (t : Text) → opens_inside t ≡ true → keeps_open t ≡ true
+opens_kept [] h = absurd (false≢true h)
+opens_kept (c ∷ t) h = h
+
 -- a collection that holds something
 whole_content : (rules : Rules) (cursor : Cursor) (properties entries ending : Laid) (bracket closing : ℕ) (anchor tag given_tag : Option Text)
     (last : Option Text → Option Text → Level) (tree : Tree) → properties.text ++ space_if true properties.cursor ≡ space_if true cursor ++ lead anchor tag
-    → class_of rules.breaks12 bracket ≡ begins_bracket → class_of rules.breaks12 closing ≡ is_flow_sign
+    → AreBrackets rules bracket closing
     → FlowEntries rules bracket properties.cursor entries (level_opened bracket) last → Closing rules (last anchor given_tag) closing tree ending
     → FlowContent rules cursor (record { text = (properties.text ++ entries.text) ++ ending.text; cursor = ending.cursor }) anchor tag given_tag tree
-whole_content rules cursor properties entries ending bracket closing anchor tag given_tag last tree e class sign_class of end = record {
+whole_content rules cursor properties entries ending bracket closing anchor tag given_tag last tree e brackets of end = record {
   bracket = bracket;
   inside = of.inside ++ end.before;
   closing = closing;
-  begins = class;
-  closes = sign_class;
+  begins = brackets.begins;
+  closes = brackets.closes;
+  kind = brackets.kind;
+  shown = brackets.shown;
+  line = λ first more same.
+      brackets.line first
+      (keeps_front first more
+      (ap keeps_open (sym same) ∙ opens_kept ((of.inside ++ end.before) ++ (closing ∷ []))
+      (opens_more (of.inside ++ end.before) (closing ∷ []) (opens_more of.inside end.before of.opens))));
   whole =
       collection_whole properties cursor (lead anchor tag) bracket of.inside entries.text ending.text e of.whole
       ∙ ap (λ t. space_if true cursor ++ (lead anchor tag ++ (bracket ∷ t)))
       (ap (λ t. of.inside ++ t) end.whole ∙ sym (append_assoc of.inside end.before (closing ∷ [])));
   ended = end.ended;
   reads =
-      flow_reads rules (record { anchor = anchor; tag = tag_meant given_tag false }) (bracket ∷ (of.inside ++ end.before)) (last anchor given_tag ∷ []) end.awaited closing tree
-      sign_class
-      (takes_first rules bracket anchor given_tag (of.inside ++ end.before) (within (last anchor given_tag ∷ []) end.awaited) class
+      flow_reads rules (record { anchor = anchor; tag = tag_meant given_tag false }) (bracket ∷ (of.inside ++ end.before))
+      (last anchor given_tag ∷ []) end.awaited closing tree
+      brackets.closes
+      (takes_first rules bracket anchor given_tag (of.inside ++ end.before) (within (last anchor given_tag ∷ []) end.awaited) brackets.begins
       (opens_more of.inside end.before of.opens)
       (end.goes (within (level_opened bracket anchor given_tag ∷ []) entry_awaited) of.inside (of.takes anchor given_tag [])))
       end.closes;
 }
+
+-- White space after it
+
+-- a character before a text that isn't empty
+kept_before : (x : Bool) (d : ℕ) (text : Text) (c : ℕ) → before_trimmed x d (text ++ (c ∷ [])) ≡ d ∷ (text ++ (c ∷ []))
+kept_before true d [] c = refl
+kept_before true d (e ∷ text) c = refl
+kept_before false d text c = refl
+
+-- of white space nothing is left
+white_trimmed : (breaks12 : Bool) (white : Text) → list_all (is_read_white breaks12) white ≡ true → trimmed breaks12 white ≡ []
+white_trimmed breaks12 [] h = refl
+white_trimmed breaks12 (c ∷ white) h =
+    let parts = and_parts (is_read_white breaks12 c) (list_all (is_read_white breaks12) white) h in
+    ap (before_trimmed (is_read_white breaks12 c) c) (white_trimmed breaks12 white parts.1) ∙ ap (λ x. before_trimmed x c []) parts.0
+
+-- white space after a text whose last character isn't white is cut off
+pub shown_trimmed : (breaks12 : Bool) (text : Text) (c : ℕ) (white : Text) → is_read_white breaks12 c ≡ false → list_all (is_read_white breaks12) white ≡ true
+    → trimmed breaks12 (text ++ (c ∷ white)) ≡ text ++ (c ∷ [])
+shown_trimmed breaks12 [] c white shown h =
+    ap (λ x. before_trimmed x c (trimmed breaks12 white)) shown ∙ ap (λ t. c ∷ t) (white_trimmed breaks12 white h)
+shown_trimmed breaks12 (d ∷ text) c white shown h =
+    ap (before_trimmed (is_read_white breaks12 d) d) (shown_trimmed breaks12 text c white shown h) ∙ kept_before (is_read_white breaks12 d) d text c
+
+-- a collection's text is read by its first character, whatever white space follows it
+pub content_read : (rules : Rules) (cursor : Cursor) (own : Laid) (anchor tag given_tag : Option Text) (tree : Tree)
+    (of : FlowContent rules cursor own anchor tag given_tag tree)
+    (column : Option ℕ) (begun white : Text) → list_all (is_read_white rules.breaks12) white ≡ true
+    → text_by_kind (kind_of_text (of.bracket ∷ begun)) rules column (record { anchor = anchor; tag = tag_meant given_tag false })
+    ((of.bracket ∷ of.inside) ++ (of.closing ∷ white)) ≡ Some tree
+content_read rules cursor own anchor tag given_tag tree of column begun white h =
+    let properties : Properties = record { anchor = anchor; tag = tag_meant given_tag false } in
+    ap (λ k. text_by_kind k rules column properties ((of.bracket ∷ of.inside) ++ (of.closing ∷ white))) (of.kind begun)
+    ∙ ap (flow_read rules properties) (shown_trimmed rules.breaks12 (of.bracket ∷ of.inside) of.closing white of.shown h)
+    ∙ of.reads
 
 -- Nodes
 
 -- a collection that starts so is read as a tree in flow
 abbrev pub FlowReads : Effective → List TagDirective → List TagDirective → Collection → Cursor → Laid → Tree → Type 0
 FlowReads s own directives start cursor laid tree =
-    FlowContent (rules_of s own) cursor laid start.anchor (tag_written s.portable directives (collection_tag s.canonical start) false) (collection_tag s.canonical start) tree
+    FlowContent (rules_of s own) cursor laid start.anchor (tag_written s.portable directives (collection_tag s.canonical start) false)
+    (collection_tag s.canonical start) tree
 
 -- a sequence, where its items take the reader on
-sequence_content : (s : Effective) (own directives : List TagDirective) (column : Option ℕ) (undented : Bool) (cursor : Cursor) (start : Collection) (items : Nodes)
+sequence_content : (s : Effective) (own directives : List TagDirective) (column : Option ℕ) (undented : Bool) (cursor : Cursor) (start : Collection)
+    (items : Nodes)
     → (let begun : Laid = properties_laid s.portable directives start.anchor (collection_tag s.canonical start) false cursor in
     ItemsTake s own directives items (deeper s.indent column) begun.cursor
     → FlowReads s own directives start cursor (collection_own s square true undented (has_no_nodes items) column begun (items_own items s directives true))
@@ -169,7 +285,7 @@ sequence_content s own directives column undented cursor start no_nodes take =
     start.anchor (tag_written s.portable directives tag false) tag 0x5B 0x5D (sequence_tree start.anchor tag no_trees)
     (lead_laid s.portable directives start.anchor tag false cursor) refl
     (record { white = refl; indention = and_false (properties.cursor.indention && false) })
-    (bracket_class s.breaks12).0 (square_class s.breaks12) refl
+    (square_brackets (rules_of s own)) refl
     (ap (option_map (λ tag. sequence_tree start.anchor tag no_trees)) (tag_of_collection tag))
 sequence_content s own directives column undented cursor start (nodes_and items last) take =
     let tag = collection_tag s.canonical start in
@@ -178,8 +294,9 @@ sequence_content s own directives column undented cursor start (nodes_and items 
     let trees = nodes_tree (nodes_and items last) s directives true in
     whole_content (rules_of s own) cursor properties entries (end_laid s square true false column entries.cursor) 0x5B 0x5D
     start.anchor (tag_written s.portable directives tag false) tag (λ anchor tag. in_sequence anchor tag trees) (sequence_tree start.anchor tag trees)
-    (lead_laid s.portable directives start.anchor tag false cursor) (bracket_class s.breaks12).0 (square_class s.breaks12) take
-    (closing_laid (rules_of s own) s (in_sequence start.anchor tag trees) square 0x5D (sequence_tree start.anchor tag trees) column entries.cursor refl refl refl)
+    (lead_laid s.portable directives start.anchor tag false cursor) (square_brackets (rules_of s own)) take
+    (closing_laid (rules_of s own) s (in_sequence start.anchor tag trees) square 0x5D
+    (sequence_tree start.anchor tag trees) column entries.cursor refl refl refl)
 
 -- a mapping, where its pairs do
 mapping_content : (s : Effective) (own directives : List TagDirective) (column : Option ℕ) (cursor : Cursor) (start : Collection) (pairs : Pairs)
@@ -194,7 +311,7 @@ mapping_content s own directives column cursor start no_pairs take =
     start.anchor (tag_written s.portable directives tag false) tag 0x7B 0x7D (mapping_tree start.anchor tag no_tree_pairs)
     (lead_laid s.portable directives start.anchor tag false cursor) refl
     (record { white = refl; indention = and_false (properties.cursor.indention && false) })
-    (bracket_class s.breaks12).1 (curly_class s.breaks12) refl
+    (curly_brackets (rules_of s own)) refl
     (ap (option_map (λ tag. mapping_tree start.anchor tag no_tree_pairs)) (tag_of_collection tag))
 mapping_content s own directives column cursor start (pairs_and pairs key value) take =
     let tag = collection_tag s.canonical start in
@@ -203,14 +320,17 @@ mapping_content s own directives column cursor start (pairs_and pairs key value)
     let trees = pairs_tree (pairs_and pairs key value) s directives true in
     whole_content (rules_of s own) cursor properties entries (end_laid s curly true false column entries.cursor) 0x7B 0x7D
     start.anchor (tag_written s.portable directives tag false) tag (λ anchor tag. in_mapping anchor tag trees no_key) (mapping_tree start.anchor tag trees)
-    (lead_laid s.portable directives start.anchor tag false cursor) (bracket_class s.breaks12).1 (curly_class s.breaks12) take
-    (closing_laid (rules_of s own) s (in_mapping start.anchor tag trees no_key) curly 0x7D (mapping_tree start.anchor tag trees) column entries.cursor refl refl refl)
+    (lead_laid s.portable directives start.anchor tag false cursor) (curly_brackets (rules_of s own)) take
+    (closing_laid (rules_of s own) s (in_mapping start.anchor tag trees no_key) curly 0x7D
+    (mapping_tree start.anchor tag trees) column entries.cursor refl refl refl)
 
 -- a sequence that is written in flow is read as its tree after its properties, wherever it stands
-pub sequence_reads : (s : Effective) (own directives : List TagDirective) → KeysFit s own directives → (place : Place) (cursor : Cursor) (start : Collection) (items : Nodes)
+pub sequence_reads : (s : Effective) (own directives : List TagDirective) → KeysFit s own directives → (place : Place) (cursor : Cursor) (start : Collection)
+    (items : Nodes)
     → is_written_in_flow s place start (has_no_nodes items) ≡ true → NamesStand s.portable own s.canonical directives (sequence_node start items)
     → BodiesHold (BodyStands s) (sequence_node start items) s directives place cursor
-    → FlowReads s own directives start cursor (node_own (sequence_node start items) s directives place cursor) (node_tree (sequence_node start items) s directives place)
+    → FlowReads s own directives start cursor (node_own (sequence_node start items) s directives place cursor)
+    (node_tree (sequence_node start items) s directives place)
 sequence_reads s own directives fits place cursor start items in_flow names bodies =
     by (is_written_in_flow s place start (has_no_nodes items)) in_flow bodies
   where
@@ -219,7 +339,8 @@ sequence_reads s own directives fits place cursor start items in_flow names bodi
 
     by : (x : Bool) → x ≡ true
         → ItemsHold (BodyStands s) items s directives x (entries_column x (is_in_mapping place.role) s.indent place.column begun.cursor) begun.cursor
-        → FlowReads s own directives start cursor (collection_own s square x (is_in_mapping place.role) (has_no_nodes items) place.column begun (items_own items s directives x))
+        → FlowReads s own directives start cursor (collection_own s square x (is_in_mapping place.role) (has_no_nodes items) place.column begun
+        (items_own items s directives x))
         (sequence_tree start.anchor (collection_tag s.canonical start) (nodes_tree items s directives x))
     by false h hold = absurd (false≢true h)
     by true h hold =
@@ -227,10 +348,12 @@ sequence_reads s own directives fits place cursor start items in_flow names bodi
         (items_flow items s own directives fits (deeper s.indent place.column) begun.cursor names.2 hold)
 
 -- and so is a mapping
-pub mapping_reads : (s : Effective) (own directives : List TagDirective) → KeysFit s own directives → (place : Place) (cursor : Cursor) (start : Collection) (pairs : Pairs)
+pub mapping_reads : (s : Effective) (own directives : List TagDirective) → KeysFit s own directives → (place : Place) (cursor : Cursor) (start : Collection)
+    (pairs : Pairs)
     → is_written_in_flow s place start (has_no_pairs pairs) ≡ true → NamesStand s.portable own s.canonical directives (mapping_node start pairs)
     → BodiesHold (BodyStands s) (mapping_node start pairs) s directives place cursor
-    → FlowReads s own directives start cursor (node_own (mapping_node start pairs) s directives place cursor) (node_tree (mapping_node start pairs) s directives place)
+    → FlowReads s own directives start cursor (node_own (mapping_node start pairs) s directives place cursor)
+    (node_tree (mapping_node start pairs) s directives place)
 mapping_reads s own directives fits place cursor start pairs in_flow names bodies =
     by (is_written_in_flow s place start (has_no_pairs pairs)) in_flow bodies
   where
