@@ -5,7 +5,7 @@ use Rattle.std.specs.Prelude.{ℕ, Bool, true, false, Option, List, ◌&&◌}
 use Rattle.yaml_base.specs.Settings.{Effective}
 use Rattle.yaml_base.specs.Event.{TagDirective, Scalar}
 use Rattle.yaml_base.specs.Cursor.{Cursor}
-use Rattle.yaml_base.specs.Grammar.{Node, alias_node, scalar_node, sequence_node, mapping_node}
+use Rattle.yaml_base.specs.Grammar.{Node, scalar_node, sequence_node, mapping_node}
 use Rattle.yaml_base.specs.Layout.{Role, is_key, Place, has_no_nodes, has_no_pairs, is_simple, is_written_in_flow}
 use Rattle.yaml_base.proofs.StreamNodesFit.{LeafFits, Stands}
 use Rattle.yaml_base.proofs.StreamStands.{NamesStand, BodyStands, BodiesHold, body_from}
