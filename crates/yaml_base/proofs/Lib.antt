@@ -94,4 +94,5 @@ pub mod StreamFlowNodes
 pub mod StreamFlowReads
 pub mod StreamFlowLines
 pub mod StreamNoKeys
+pub mod StreamBegun
 pub mod StreamLeaves
