@@ -93,5 +93,8 @@ pub mod StreamFlowKinds
 pub mod StreamFlowNodes
 pub mod StreamFlowReads
 pub mod StreamFlowLines
+pub mod StreamNoKeys
+pub mod StreamBegun
+pub mod StreamLeaves
 pub mod StreamDeepBreaks
 pub mod StreamFlowDeep

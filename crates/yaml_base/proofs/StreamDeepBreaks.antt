@@ -1,10 +1,9 @@
 -- Texts after each of whose breaks something stands: another break, or spaces enough to stand deeper than a column.
 use Rattle.std.proofs.Common.{◌≡◌, zero, suc, ◌≤◌, refl, sym, ap, ◌∙◌, arith}
 use Rattle.std.proofs.lemmas.Bool.{true≢false, false≢true, and_parts, and_from, or_parts}
-use Rattle.std.proofs.lemmas.Bool.Decides.{nat_tests}
 use Rattle.std.specs.List.{list_all, list_any}
 use Rattle.std.specs.Prelude.{ℕ, Bool, true, false, Option, List, [], ◌∷◌, ◌++◌, ◌-◌, ◌==◌, ◌||◌, ◌&&◌, not, if◌then◌else◌}
-use Rattle.yaml_base.specs.Characters.{Text, space, line_feed, is_blank, is_break}
+use Rattle.yaml_base.specs.Characters.{Text, space, line_feed, is_blank}
 use Rattle.yaml_base.specs.LineBreaks.{is_read_break}
 use Rattle.yaml_base.specs.ReadPlain.{is_read_white}
 use Rattle.yaml_base.specs.Cursor.{Cursor, breaks_line, new_line, space_if}
@@ -14,7 +13,6 @@ use Rattle.yaml_base.proofs.StreamLineLaws.{OneLine}
 use Rattle.yaml_base.proofs.StreamInside.{AllInside}
 use Rattle.yaml_base.proofs.StreamTidyLaws.{spaces_fewer, first_text, lines_after_first, after_extended, spaces_inside}
 use Rattle.yaml_base.proofs.StreamClosed.{spaces_line}
-use Rattle.yaml_base.proofs.StreamProperties.{holds_white}
 
 -- what stands after each break of a text passes a test
 abbrev pub after_breaks : Bool → (Text → Bool) → Text → Bool
@@ -159,17 +157,6 @@ pub ends_as_last : (breaks12 : Bool) (t : Text) (c : ℕ) → ends_white breaks1
 ends_as_last breaks12 [] c = refl
 ends_as_last breaks12 (d ∷ []) c = refl
 ends_as_last breaks12 (d ∷ e ∷ t) c = ends_as_last breaks12 (e ∷ t) c
-
--- what holds nothing white is on one line
-pub no_white_line : (breaks12 : Bool) (t : Text) → holds_white t ≡ false → OneLine breaks12 t
-no_white_line breaks12 [] h = refl
-no_white_line breaks12 (c ∷ t) h =
-    let parts = or_parts (is_blank c || is_break c) (holds_white t) h in
-    ap (λ x. x || list_any (is_read_break breaks12) t) (by breaks12 parts.0) ∙ no_white_line breaks12 t parts.1
-  where
-    by : (breaks12 : Bool) → (is_blank c || is_break c) ≡ false → is_read_break breaks12 c ≡ false
-    by true h = grind (arith, nat_tests, h)
-    by false h = grind (arith, nat_tests, h)
 
 -- the front of a text on one line
 pub line_front : (breaks12 : Bool) (a b : Text) → OneLine breaks12 (a ++ b) → OneLine breaks12 a

@@ -1,11 +1,10 @@
 -- Each line of a collection in flow after its first is deeper than the column around.
 use Rattle.std.proofs.Common.{◌≡◌, suc, ◌≤◌, refl, sym, ap, ◌∙◌, arith}
-use Rattle.std.proofs.lemmas.Bool.{true≢false, false≢true, and_parts, and_from, or_parts}
+use Rattle.std.proofs.lemmas.Bool.{false≢true, and_parts}
+use Rattle.std.specs.List.{list_any, list_all}
 use Rattle.std.specs.Prelude.{ℕ, Bool, true, false, Option, None, Some, List, [], ◌∷◌, ◌++◌, ◌||◌, ◌&&◌, ◌+◌, not, codes, if◌then◌else◌}
 use Rattle.yaml_base.specs.Characters.{Text, space, is_printable}
 use Rattle.yaml_base.specs.LineBreaks.{is_read_break}
-use Rattle.yaml_base.specs.ReadTags.{TagSaid}
-use Rattle.std.specs.List.{list_any, list_all}
 use Rattle.yaml_base.specs.ReadPlain.{is_read_white}
 use Rattle.yaml_base.specs.Settings.{Effective}
 use Rattle.yaml_base.specs.Event.{ScalarStyle, any_style, plain, single_quoted, double_quoted, literal, folded, TagDirective, Scalar, Collection}
@@ -20,56 +19,29 @@ use Rattle.yaml_base.specs.TidyBodies.{has_deep_lines, has_no_space_before_break
 use Rattle.yaml_base.specs.StreamScalars.{name_read}
 use Rattle.yaml_base.proofs.StreamLineLaws.{OneLine, one_line_both}
 use Rattle.yaml_base.proofs.StreamTidyLaws.{deep_lines_fewer}
-use Rattle.yaml_base.proofs.StreamClosed.{spaces_line, character_line}
+use Rattle.yaml_base.proofs.StreamClosed.{spaces_line}
 use Rattle.yaml_base.proofs.StreamTexts.{collection_own, node_own, items_own, pairs_own}
-use Rattle.yaml_base.proofs.StreamProperties.{IsNamed, IsTagged, name_letters}
+use Rattle.yaml_base.proofs.StreamProperties.{IsNamed, name_letters}
 use Rattle.yaml_base.proofs.StreamPropertyWords.{lead}
 use Rattle.yaml_base.proofs.StreamStands.{tag_written, tag_meant, TagStands, NamesStand, AllNamesStand, PairsNamesStand, BodyStands, body_from, BodiesHold, ItemsHold, PairsHold}
 use Rattle.yaml_base.proofs.StreamLeads.{lead_laid, tag_is_written}
-use Rattle.yaml_base.proofs.StreamFlowScalars.{is_flow_style, chosen_in_flow, separation_in_flow}
-use Rattle.yaml_base.proofs.TagLaws.{letters_end_no_word}
-use Rattle.yaml_base.proofs.StreamDeepBreaks.{Deep, deep_both, deep_line, deep_new_line, deep_tidy, ends_as_last, no_white_line, line_front, space_line}
+use Rattle.yaml_base.proofs.StreamFlowScalars.{rules_of, is_flow_style, chosen_in_flow, separation_in_flow}
+use Rattle.yaml_base.proofs.StreamBegun.{lead_line}
+use Rattle.yaml_base.proofs.StreamAliasFits.{name_line}
+use Rattle.yaml_base.proofs.StreamDeepBreaks.{Deep, deep_both, deep_line, deep_new_line, deep_tidy, ends_as_last, line_front, space_line}
 
 -- Properties
 
--- a name is on one line
-named_line : (breaks12 : Bool) (name : Text) → name_read name ≡ Some name → OneLine breaks12 name
-named_line breaks12 name named = no_white_line breaks12 name (letters_end_no_word name (name_letters name named))
-
--- `&` and `*` break no line
-sign_line : (breaks12 : Bool) → OneLine breaks12 (0x26 ∷ []) × OneLine breaks12 (0x2A ∷ [])
-sign_line true = (refl, refl)
-sign_line false = (refl, refl)
-
--- the anchor and the tag, and the space after them, are on one line
-pub lead_line : (breaks12 : Bool) (own : List TagDirective) (anchor tag : Option Text) (said : Option TagSaid) → IsNamed anchor → IsTagged own tag said
-    → OneLine breaks12 (lead anchor tag)
-lead_line breaks12 own None None None named tagged = refl
-lead_line breaks12 own (Some name) None None named tagged =
-    one_line_both breaks12 (0x26 ∷ []) (name ++ (space ∷ [])) (sign_line breaks12).0
-    (one_line_both breaks12 name (space ∷ []) (named_line breaks12 name named) (spaces_line breaks12 1))
-lead_line breaks12 own None (Some tag) (Some said) named tagged =
-    one_line_both breaks12 tag (space ∷ []) (no_white_line breaks12 tag tagged.no_white) (spaces_line breaks12 1)
-lead_line breaks12 own (Some name) (Some tag) (Some said) named tagged =
-    one_line_both breaks12 (0x26 ∷ (name ++ (space ∷ tag))) (space ∷ [])
-    (one_line_both breaks12 (0x26 ∷ []) (name ++ (space ∷ tag)) (sign_line breaks12).0
-    (one_line_both breaks12 name (space ∷ tag) (named_line breaks12 name named)
-    (one_line_both breaks12 (space ∷ []) tag (spaces_line breaks12 1) (no_white_line breaks12 tag tagged.no_white))))
-    (spaces_line breaks12 1)
-lead_line breaks12 own None None (Some said) named tagged = absurd tagged
-lead_line breaks12 own None (Some tag) None named tagged = absurd tagged
-lead_line breaks12 own (Some name) None (Some said) named tagged = absurd tagged
-lead_line breaks12 own (Some name) (Some tag) None named tagged = absurd tagged
-
--- and so are they as they are laid out
-properties_line : (breaks12 portable : Bool) (own directives : List TagDirective) (anchor tag : Option Text) (bare : Bool) (cursor : Cursor) → IsNamed anchor
-    → TagStands portable own directives tag → OneLine breaks12 (properties_laid portable directives anchor tag bare cursor).text
-properties_line breaks12 portable own directives anchor tag bare cursor named stands =
-    let laid = properties_laid portable directives anchor tag bare cursor in
-    line_front breaks12 laid.text (space_if true laid.cursor)
-    (ap (list_any (is_read_break breaks12)) (lead_laid portable directives anchor tag bare cursor)
-    ∙ one_line_both breaks12 (space_if true cursor) (lead anchor (tag_written portable directives tag bare)) (space_line breaks12 true cursor)
-    (lead_line breaks12 own anchor (tag_written portable directives tag bare) (tag_meant tag bare) named (tag_is_written portable own directives tag bare stands)))
+-- the anchor and the tag are on one line
+properties_line : (s : Effective) (own directives : List TagDirective) (anchor tag : Option Text) (bare : Bool) (cursor : Cursor) → IsNamed anchor
+    → TagStands s.portable own directives tag → OneLine s.breaks12 (properties_laid s.portable directives anchor tag bare cursor).text
+properties_line s own directives anchor tag bare cursor named stands =
+    let laid = properties_laid s.portable directives anchor tag bare cursor in
+    let written = tag_written s.portable directives tag bare in
+    line_front s.breaks12 laid.text (space_if true laid.cursor)
+    (ap (list_any (is_read_break s.breaks12)) (lead_laid s.portable directives anchor tag bare cursor)
+    ∙ one_line_both s.breaks12 (space_if true cursor) (lead anchor written) (space_line s.breaks12 true cursor)
+    (lead_line (rules_of s own) anchor written (tag_meant tag bare) named (tag_is_written s.portable own directives tag bare stands)))
 
 -- Bodies
 
@@ -196,14 +168,19 @@ end_deep s count brackets empty column cursor opening closing le =
 
 -- Nodes
 
+-- `*` breaks no line
+star_line : (breaks12 : Bool) → OneLine breaks12 (codes "*")
+star_line true = refl
+star_line false = refl
+
 -- an alias
 alias_deep : (s : Effective) (count : ℕ) (name : Text) (simple : Bool) (cursor : Cursor) → name_read name ≡ Some name
     → Deep s.breaks12 count (alias_laid name simple cursor).text
 alias_deep s count name simple cursor named =
     let star = indicator (codes "*") true false false cursor in
     deep_both s.breaks12 count (star.text ++ name) (if simple then codes " " else [])
-    (deep_both s.breaks12 count star.text name (sign_deep s.breaks12 count (codes "*") true false false cursor (sign_line s.breaks12).1)
-    (deep_line s.breaks12 count name (named_line s.breaks12 name named)))
+    (deep_both s.breaks12 count star.text name (sign_deep s.breaks12 count (codes "*") true false false cursor (star_line s.breaks12))
+    (deep_line s.breaks12 count name (name_line s.breaks12 name (name_letters name named))))
     (by simple)
   where
     by : (x : Bool) → Deep s.breaks12 count (if x then codes " " else [])
@@ -225,7 +202,7 @@ scalar_deep s own directives count column role cursor content le names body =
     deep_both s.breaks12 count (properties.text ++ separation.text) text
     (deep_line s.breaks12 count (properties.text ++ separation.text)
     (one_line_both s.breaks12 properties.text separation.text
-    (properties_line s.breaks12 s.portable own directives content.anchor tag choice.bare cursor names.0 names.1)
+    (properties_line s own directives content.anchor tag choice.bare cursor names.0 names.1)
     (ap (list_any (is_read_break s.breaks12)) (separation_in_flow choice.style content.value properties.cursor) ∙ space_line s.breaks12 true properties.cursor)))
     (body_deep s choice.style limit count (deeper s.indent (Some column)) column content.value separation.cursor (omega arith)
     (chosen_in_flow s role column simple content) body.tidy)
@@ -240,7 +217,7 @@ collection_deep s own directives count brackets anchor tag empty column cursor e
     let begun = properties_laid s.portable directives anchor tag false cursor in
     deep_both s.breaks12 count (begun.text ++ entries.text) (end_laid s brackets true empty column entries.cursor).text
     (deep_both s.breaks12 count begun.text entries.text
-    (deep_line s.breaks12 count begun.text (properties_line s.breaks12 s.portable own directives anchor tag false cursor named stands)) deep)
+    (deep_line s.breaks12 count begun.text (properties_line s own directives anchor tag false cursor named stands)) deep)
     (end_deep s count brackets empty column entries.cursor opening closing le)
 
 -- each node in flow at a column, the items of each sequence and the pairs of each mapping have lines as deep as that column
