@@ -98,3 +98,4 @@ pub mod StreamBegun
 pub mod StreamLeaves
 pub mod StreamDeepBreaks
 pub mod StreamFlowDeep
+pub mod StreamFlowFits

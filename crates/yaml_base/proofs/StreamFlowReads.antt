@@ -17,6 +17,8 @@ use Rattle.yaml_base.specs.StreamScalars.{Rules, Properties, word_after}
 use Rattle.yaml_base.specs.StreamTokens.{sign, free, is_flow_sign, begins_bracket, class_of, is_pair, FlowTurn, begun, bracket_turn, flow_tokens}
 use Rattle.yaml_base.specs.StreamFlow.{no_key, Level, in_sequence, in_mapping, Awaited, collection_awaited, entry_awaited, comma_awaited, FlowReading, done, within, level_opened, opened, word_step, flow_step, tree_at_end, flow_read}
 use Rattle.yaml_base.specs.StreamNodes.{before_trimmed, trimmed, flow_text, kind_of_text, text_by_kind, begins_text, kind_of_node}
+use Rattle.yaml_base.proofs.StreamLineLaws.{OneLine}
+use Rattle.yaml_base.proofs.StreamProperties.{begins_content}
 use Rattle.yaml_base.proofs.StreamAgrees.{node_tree, nodes_tree, pairs_tree}
 use Rattle.yaml_base.proofs.StreamSays.{opens_before, bracket_class, square_class, curly_class, comma_class, sign_ends}
 use Rattle.yaml_base.proofs.StreamTakes.{Takes, steps, takes_both, flow_reads}
@@ -42,6 +44,8 @@ pub record FlowContent (rules : Rules) (cursor : Cursor) (own : Laid) (anchor ta
   pub closes : class_of rules.breaks12 closing ≡ is_flow_sign
   pub kind : (rest : Text) → kind_of_text (bracket ∷ rest) ≡ flow_text
   pub shown : is_read_white rules.breaks12 closing ≡ false
+  pub one_line : OneLine rules.breaks12 (bracket ∷ [])
+  pub content : begins_content (bracket ∷ []) ≡ true
   pub line : (before_anchor before_tag : Option Text) (said : Option TagSaid) → Given rules before_anchor before_tag said → (first more : Text)
       → inside ++ (closing ∷ []) ≡ first ++ more → kind_of_node rules (lead before_anchor before_tag ++ (bracket ∷ first)) ≡ begins_text
   pub whole : own.text ≡ space_if true cursor ++ (lead anchor tag ++ ((bracket ∷ inside) ++ (closing ∷ [])))
@@ -54,6 +58,8 @@ record AreBrackets (rules : Rules) (bracket closing : ℕ) : Type 0 where
   pub closes : class_of rules.breaks12 closing ≡ is_flow_sign
   pub kind : (rest : Text) → kind_of_text (bracket ∷ rest) ≡ flow_text
   pub shown : is_read_white rules.breaks12 closing ≡ false
+  pub one_line : OneLine rules.breaks12 (bracket ∷ [])
+  pub content : begins_content (bracket ∷ []) ≡ true
   pub line : (anchor tag : Option Text) (said : Option TagSaid) (first : Text) → Given rules anchor tag said → keeps_open first ≡ true
       → kind_of_node rules (lead anchor tag ++ (bracket ∷ first)) ≡ begins_text
   pub empty : (anchor tag : Option Text) (said : Option TagSaid) → Given rules anchor tag said
@@ -64,6 +70,11 @@ sign_shown : (breaks12 : Bool) → (is_read_white breaks12 0x5D ≡ false) × (i
 sign_shown true = (refl, refl)
 sign_shown false = (refl, refl)
 
+-- one that opens breaks no line
+bracket_line : (breaks12 : Bool) → OneLine breaks12 (0x5B ∷ []) × OneLine breaks12 (0x7B ∷ [])
+bracket_line true = (refl, refl)
+bracket_line false = (refl, refl)
+
 -- the brackets of sequences
 square_brackets : (rules : Rules) → AreBrackets rules 0x5B 0x5D
 square_brackets rules = record {
@@ -71,6 +82,8 @@ square_brackets rules = record {
   closes = square_class rules.breaks12;
   kind = λ rest. refl;
   shown = (sign_shown rules.breaks12).0;
+  one_line = (bracket_line rules.breaks12).0;
+  content = refl;
   line = λ anchor tag said first given h. collection_kind rules anchor tag said true first given h;
   empty = λ anchor tag said given. (empty_kind rules anchor tag said given).0;
 }
@@ -82,6 +95,8 @@ curly_brackets rules = record {
   closes = curly_class rules.breaks12;
   kind = λ rest. refl;
   shown = (sign_shown rules.breaks12).1;
+  one_line = (bracket_line rules.breaks12).1;
+  content = refl;
   line = λ anchor tag said first given h. collection_kind rules anchor tag said false first given h;
   empty = λ anchor tag said given. (empty_kind rules anchor tag said given).1;
 }
@@ -121,6 +136,8 @@ empty_content rules cursor properties own anchor tag given_tag b c tree e text e
   closes = brackets.closes;
   kind = brackets.kind;
   shown = brackets.shown;
+  one_line = brackets.one_line;
+  content = brackets.content;
   line = empty_line rules b c brackets;
   whole = text ∙ empty_whole properties cursor (lead anchor tag) b c e;
   ended = ended;
@@ -214,6 +231,8 @@ whole_content rules cursor properties entries ending bracket closing anchor tag 
   closes = brackets.closes;
   kind = brackets.kind;
   shown = brackets.shown;
+  one_line = brackets.one_line;
+  content = brackets.content;
   line = λ before_anchor before_tag said given first more same.
       brackets.line before_anchor before_tag said first given
       (keeps_front first more
