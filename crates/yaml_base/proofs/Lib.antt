@@ -95,4 +95,5 @@ pub mod StreamFlowReads
 pub mod StreamFlowLines
 pub mod StreamNoKeys
 pub mod StreamBegun
+pub mod StreamKeyBodies
 pub mod StreamLeaves
