@@ -95,6 +95,7 @@ pub mod StreamFlowReads
 pub mod StreamFlowLines
 pub mod StreamNoKeys
 pub mod StreamBegun
+pub mod StreamKeyBodies
 pub mod StreamLeaves
 pub mod StreamDeepBreaks
 pub mod StreamFlowDeep
