@@ -111,7 +111,8 @@ deep_new_line breaks12 count at cursor le = by (breaks_line at cursor)
   where
     fed : (x : Bool) → begins_deep breaks12 count (spaces at) ≡ x → x ≡ true → Deep breaks12 count (line_feed ∷ spaces at)
     fed true e h =
-        and_from (not (is_read_break breaks12 line_feed) || begins_deep breaks12 count (spaces at)) (after_breaks breaks12 (begins_deep breaks12 count) (spaces at)) e
+        and_from (not (is_read_break breaks12 line_feed) || begins_deep breaks12 count (spaces at))
+        (after_breaks breaks12 (begins_deep breaks12 count) (spaces at)) e
         (deep_line breaks12 count (spaces at) (spaces_line breaks12 at))
     fed false e h = absurd (false≢true h)
 

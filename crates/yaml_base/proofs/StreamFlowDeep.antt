@@ -100,7 +100,8 @@ signs_line true = (refl, refl, refl)
 signs_line false = (refl, refl, refl)
 
 -- nor does a bracket
-brackets_line : (breaks12 : Bool) → (OneLine breaks12 square.opening × OneLine breaks12 square.closing) × (OneLine breaks12 curly.opening × OneLine breaks12 curly.closing)
+brackets_line : (breaks12 : Bool) → (OneLine breaks12 square.opening × OneLine breaks12 square.closing)
+    × (OneLine breaks12 curly.opening × OneLine breaks12 curly.closing)
 brackets_line true = ((refl, refl), (refl, refl))
 brackets_line false = ((refl, refl), (refl, refl))
 
@@ -131,7 +132,8 @@ place_deep s count column as_root simple cursor le = refl
 place_deep s count column (as_item first) simple cursor le = begin_deep s count column (codes "[") first cursor le (brackets_line s.breaks12).0.0
 place_deep s count column (as_key first) simple cursor le =
     let begun = then_laid (opening_or_comma (codes "{") first cursor) (flow_break s (Some column)) in
-    deep_both s.breaks12 count begun.text (key_sign simple false begun.cursor).text (begin_deep s count column (codes "{") first cursor le (brackets_line s.breaks12).1.0)
+    deep_both s.breaks12 count begun.text (key_sign simple false begun.cursor).text
+    (begin_deep s count column (codes "{") first cursor le (brackets_line s.breaks12).1.0)
     (by simple begun.cursor)
   where
     by : (x : Bool) (cursor : Cursor) → Deep s.breaks12 count (key_sign x false cursor).text
@@ -145,7 +147,8 @@ place_deep s count column (as_value false) simple cursor le =
 
 -- the end of a collection at a column
 end_deep : (s : Effective) (count : ℕ) (brackets : Brackets) (empty : Bool) (column : Option ℕ) (cursor : Cursor) → OneLine s.breaks12 brackets.opening
-    → OneLine s.breaks12 brackets.closing → (s.canonical ≡ true → count ≤ line_column column) → Deep s.breaks12 count (end_laid s brackets true empty column cursor).text
+    → OneLine s.breaks12 brackets.closing → (s.canonical ≡ true → count ≤ line_column column)
+    → Deep s.breaks12 count (end_laid s brackets true empty column cursor).text
 end_deep s count brackets empty column cursor opening closing le =
     let begun = empty_or_comma s brackets.opening empty column cursor in
     deep_both s.breaks12 count begun.text (indicator brackets.closing false false false begun.cursor).text (by empty)
@@ -189,7 +192,8 @@ alias_deep s count name simple cursor named =
 
 -- a scalar
 scalar_deep : (s : Effective) (own directives : List TagDirective) (count column : ℕ) (role : Role) (cursor : Cursor) (content : Scalar) → count ≤ column
-    → NamesStand s.portable own s.canonical directives (scalar_node content) → BodyStands s (body_from s directives (entry_place true role column) content cursor)
+    → NamesStand s.portable own s.canonical directives (scalar_node content)
+    → BodyStands s (body_from s directives (entry_place true role column) content cursor)
     → Deep s.breaks12 count (node_own (scalar_node content) s directives (entry_place true role column) cursor).text
 scalar_deep s own directives count column role cursor content le names body =
     let simple = is_key role && is_simple s.canonical directives (scalar_node content) in
@@ -203,7 +207,8 @@ scalar_deep s own directives count column role cursor content le names body =
     (deep_line s.breaks12 count (properties.text ++ separation.text)
     (one_line_both s.breaks12 properties.text separation.text
     (properties_line s own directives content.anchor tag choice.bare cursor names.0 names.1)
-    (ap (list_any (is_read_break s.breaks12)) (separation_in_flow choice.style content.value properties.cursor) ∙ space_line s.breaks12 true properties.cursor)))
+    (ap (list_any (is_read_break s.breaks12)) (separation_in_flow choice.style content.value properties.cursor)
+    ∙ space_line s.breaks12 true properties.cursor)))
     (body_deep s choice.style limit count (deeper s.indent (Some column)) column content.value separation.cursor (omega arith)
     (chosen_in_flow s role column simple content) body.tidy)
 

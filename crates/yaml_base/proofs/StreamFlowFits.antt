@@ -9,7 +9,7 @@ use Rattle.yaml_base.specs.ReadPlain.{is_read_white}
 use Rattle.yaml_base.specs.Settings.{Effective}
 use Rattle.yaml_base.specs.Event.{TagDirective, Collection}
 use Rattle.yaml_base.specs.Cursor.{Cursor, Laid, space_if}
-use Rattle.yaml_base.specs.Grammar.{sequence_node, mapping_node, Nodes, Pairs}
+use Rattle.yaml_base.specs.Grammar.{alias_node, scalar_node, sequence_node, mapping_node, Nodes, Pairs}
 use Rattle.yaml_base.specs.Refusal.{collection_tag}
 use Rattle.yaml_base.specs.Layout.{Place, line_column, deeper, has_no_nodes, has_no_pairs, is_written_in_flow}
 use Rattle.yaml_base.specs.ReadTags.{TagSaid}
@@ -32,6 +32,7 @@ use Rattle.yaml_base.proofs.StreamFlowReads.{FlowContent, content_read, sequence
 use Rattle.yaml_base.proofs.StreamBegun.{lead_line}
 use Rattle.yaml_base.proofs.StreamFits.{Fits}
 use Rattle.yaml_base.proofs.StreamNodesFit.{LeafFits}
+use Rattle.yaml_base.proofs.StreamLeaves.{block_place, FlowsFit}
 use Rattle.yaml_base.proofs.StreamCuts.{none_not_some}
 use Rattle.yaml_base.proofs.StreamAgrees.{node_tree}
 use Rattle.yaml_base.proofs.StreamTexts.{node_own}
@@ -77,7 +78,8 @@ first_line breaks12 (c ∷ t) = by (is_read_break breaks12 c) refl (first_line b
 -- Texts
 
 -- what follows properties on their line is read with them
-led_node : (rules : Rules) (reads : Reads) (column : Option ℕ) (at count : ℕ) (properties : Properties) (c : ℕ) (first ending : Text) (rest : List Line) (tree : Tree)
+led_node : (rules : Rules) (reads : Reads) (column : Option ℕ) (at count : ℕ) (properties : Properties) (c : ℕ)
+    (first ending : Text) (rest : List Line) (tree : Tree)
     → (c == space) ≡ false → kind_of_node rules (c ∷ first) ≡ begins_text → text_read rules column properties (c ∷ first) ending rest ≡ Some tree
     → node_lines rules reads (λ at. text_read rules column properties) properties false (blanked at (spaces count ++ (c ∷ first)) ending ∷ rest) ≡ Some tree
 led_node rules reads column at count properties c first ending rest tree shows kind read =
@@ -86,7 +88,8 @@ led_node rules reads column at count properties c first ending rest tree shows k
     let by : ReadsText = λ at. text_read rules column properties in
     ap (λ u. (let line : Line = record { text = u; ending = ending } in node_lines rules reads by properties false (line ∷ rest)))
     (spaces_both at count (at + count) (c ∷ first) refl)
-    ∙ ap (λ x. node_at rules reads by properties (false || x) (not x) (if x then without_blank_lines rest else line ∷ rest)) (not_blank (at + count) c first shows)
+    ∙ ap (λ x. node_at rules reads by properties (false || x) (not x)
+    (if x then without_blank_lines rest else line ∷ rest)) (not_blank (at + count) c first shows)
     ∙ ap (λ (i : Indented). node_by_kind (kind_of_node rules i.text) rules reads by properties false true i ending rest (line ∷ rest))
     (indented_spaces (at + count) c first shows)
     ∙ ap (λ x. node_by_kind x rules reads by properties false true begun ending rest (line ∷ rest)) kind
@@ -127,7 +130,8 @@ flow_text rules cursor own anchor tag given_tag tree of = lead anchor tag ++ (of
 
 -- its lines
 flow_lines : (rules : Rules) (cursor : Cursor) (own : Laid) (anchor tag given_tag : Option Text) (tree : Tree)
-    (of : FlowContent rules cursor own anchor tag given_tag tree) → OneLine rules.breaks12 (lead anchor tag) → (line : FirstLine rules.breaks12 (of.inside ++ (of.closing ∷ [])))
+    (of : FlowContent rules cursor own anchor tag given_tag tree)
+    → OneLine rules.breaks12 (lead anchor tag) → (line : FirstLine rules.breaks12 (of.inside ++ (of.closing ∷ [])))
     → lines_of rules.breaks12 (flow_text rules cursor own anchor tag given_tag tree of)
     ≡ record { text = lead anchor tag ++ (of.bracket ∷ line.first); ending = line.ending } ∷ line.rest
 flow_lines rules cursor own anchor tag given_tag tree of one line =
@@ -187,7 +191,8 @@ led_text_reads rules cursor own anchor tag given_tag tree of column given line d
           ∙ ap (after_properties rules reads column at line.ending line.rest)
           (properties_said rules.directives anchor tag said (lead_spaces anchor tag) core given.named given.tagged of.content
           (ends (has_properties anchor tag)))
-          ∙ led_node rules reads column at (length (properties_text anchor tag) + lead_spaces anchor tag) (record { anchor = anchor; tag = said }) of.bracket line.first
+          ∙ led_node rules reads column at (length (properties_text anchor tag) + lead_spaces anchor tag)
+          (record { anchor = anchor; tag = said }) of.bracket line.first
           line.ending line.rest tree (own_shows of.bracket of.content).0 (of.line None None None none line.first line.more line.whole)
           (content_text rules cursor own anchor tag given_tag tree of column line deep);
     }
@@ -201,7 +206,8 @@ text_reads : (rules : Rules) (cursor : Cursor) (own : Laid) (anchor tag given_ta
     (of : FlowContent rules cursor own anchor tag given_tag tree) (column : Option ℕ) → Given rules anchor tag (tag_meant given_tag false)
     → (line : FirstLine rules.breaks12 (of.inside ++ (of.closing ∷ []))) → ((c : ℕ) → column ≡ Some c → AllInside true c line.rest)
     → all_deeper column line.rest ≡ true → TextReads rules column (flow_text rules cursor own anchor tag given_tag tree of) tree
-text_reads rules cursor own None None given_tag tree of column given line deeper deep = bare_reads rules cursor own given_tag tree of column given line deeper deep
+text_reads rules cursor own None None given_tag tree of column given line deeper deep =
+    bare_reads rules cursor own given_tag tree of column given line deeper deep
 text_reads rules cursor own (Some name) None given_tag tree of column given line deeper deep =
     led_text_reads rules cursor own (Some name) None given_tag tree of column given line deeper deep 0x26 (name ++ (space ∷ [])) refl refl refl refl
 text_reads rules cursor own (Some name) (Some tag) given_tag tree of column given line deeper deep =
@@ -311,3 +317,12 @@ mapping_fits s own directives fits deep place cursor start pairs root in_flow na
     (λ c e.
     mapping_deep s own directives (suc c) place cursor start pairs (deep_column s place.column c deep root e).0 (deep_column s place.column c deep root e).1
     in_flow names bodies)
+
+-- so all of them fit
+pub flows_fit : (s : Effective) (own directives : List TagDirective) → KeysFit s own directives → 2 ≤ s.indent → FlowsFit s own directives
+flows_fit s own directives fits deep (sequence_node start items) role column cursor may in_flow simple stands names bodies =
+    sequence_fits s own directives fits deep (block_place role column) cursor start items may in_flow names bodies
+flows_fit s own directives fits deep (mapping_node start pairs) role column cursor may in_flow simple stands names bodies =
+    mapping_fits s own directives fits deep (block_place role column) cursor start pairs may in_flow names bodies
+flows_fit s own directives fits deep (alias_node name) role column cursor may in_flow simple stands names bodies = absurd (false≢true in_flow)
+flows_fit s own directives fits deep (scalar_node content) role column cursor may in_flow simple stands names bodies = absurd (false≢true in_flow)

@@ -140,7 +140,8 @@ no_key_text rules anchor tag said q t given h =
     neither false = refl
 
 -- no `:` after it ends a key
-no_key_from : (rules : Rules) (anchor tag : Option Text) (said : Option TagSaid) (q : Bool) (b t : Text) → Given rules anchor tag said → keeps_open (b ++ t) ≡ true
+no_key_from : (rules : Rules) (anchor tag : Option Text) (said : Option TagSaid) (q : Bool) (b t : Text)
+    → Given rules anchor tag said → keeps_open (b ++ t) ≡ true
     → key_from rules (lead anchor tag ++ (opening q ∷ b)) t ≡ None
 no_key_from rules anchor tag said q b [] given h = refl
 no_key_from rules anchor tag said q b (x ∷ t) given h =
@@ -165,7 +166,8 @@ behind_nowhere rules before (c ∷ a) t none =
     by : (x : Bool) → (x ≡ true → key_of_text rules before ≡ None)
         → option_or (key_ends rules x before (a ++ t)) (key_from rules (before ++ (c ∷ [])) (a ++ t)) ≡ key_from rules (before ++ (c ∷ [])) (a ++ t)
     by true h =
-        ap (λ x. option_or (option_map (λ k. record { key = k; length = length before; after = a ++ t }) x) (key_from rules (before ++ (c ∷ [])) (a ++ t))) (h refl)
+        ap (λ x. option_or (option_map (λ k. record { key = k; length = length before; after = a ++ t }) x)
+        (key_from rules (before ++ (c ∷ [])) (a ++ t))) (h refl)
     by false h = refl
 
 -- the line has none
@@ -215,7 +217,8 @@ led_kind rules anchor tag said q t given none =
     no_sign None (Some tag) None given = absurd given.tagged
 
 -- the first line of a collection in flow that holds something is a text
-pub collection_kind : (rules : Rules) (anchor tag : Option Text) (said : Option TagSaid) (q : Bool) (t : Text) → Given rules anchor tag said → keeps_open t ≡ true
+pub collection_kind : (rules : Rules) (anchor tag : Option Text) (said : Option TagSaid) (q : Bool) (t : Text)
+    → Given rules anchor tag said → keeps_open t ≡ true
     → kind_of_node rules (lead anchor tag ++ (opening q ∷ t)) ≡ begins_text
 collection_kind rules anchor tag said q t given h = led_kind rules anchor tag said q t given (no_key_line rules anchor tag said q t given h)
 
