@@ -100,3 +100,4 @@ pub mod StreamLeaves
 pub mod StreamDeepBreaks
 pub mod StreamFlowDeep
 pub mod StreamFlowFits
+pub mod StreamLeafMarks

@@ -79,7 +79,8 @@ spaces_keep (suc count) (c ∷ a) b h =
     let parts = and_parts (c == space) (begins_with_spaces count a) h in
     and_from (c == space) (begins_with_spaces count (a ++ b)) parts.0 (spaces_keep count a b parts.1)
 
-deep_keeps : (breaks12 : Bool) (count : ℕ) → Keeps (begins_deep breaks12 count)
+-- more text doesn't change how a text begins
+pub deep_keeps : (breaks12 : Bool) (count : ℕ) → Keeps (begins_deep breaks12 count)
 deep_keeps breaks12 zero [] b h = by (begins_with_break breaks12 b)
   where
     by : (x : Bool) → (x || true) ≡ true
@@ -198,16 +199,19 @@ lines_pass breaks12 test line_test first (c ∷ t) h =
     by false h all_after =
         ap (list_all (λ line. line_test line.text)) (after_extended c (lines_of breaks12 (t ++ (line_feed ∷ [])))) ∙ all_after
 
+-- so many spaces after a break begin a line inside the column before them
+pub deep_first : (breaks12 : Bool) (column : ℕ) (u : Text) → begins_deep breaks12 (suc column) u ≡ true
+    → is_inside true column (first_text (lines_of breaks12 (u ++ (line_feed ∷ [])))) ≡ true
+deep_first breaks12 column [] h = absurd (false≢true h)
+deep_first breaks12 column (c ∷ u) h = by (is_read_break breaks12 c) refl h
+  where
+    by : (x : Bool) → is_read_break breaks12 c ≡ x → (x || begins_with_spaces (suc column) (c ∷ u)) ≡ true
+        → is_inside true column (first_text (lines_of breaks12 (c ∷ (u ++ (line_feed ∷ []))))) ≡ true
+    by true e h = ap (λ b. is_inside true column (first_text (character_before b c (lines_of breaks12 (u ++ (line_feed ∷ [])))))) e
+    by false e h = spaces_inside breaks12 column (c ∷ (u ++ (line_feed ∷ []))) (spaces_keep (suc column) (c ∷ u) (line_feed ∷ []) h)
+
 -- a deep text's lines lie inside the column
 pub deep_inside : (breaks12 : Bool) (column : ℕ) (t : Text) → Deep breaks12 (suc column) t
     → AllInside true column (lines_after_first (lines_of breaks12 (t ++ (line_feed ∷ []))))
-deep_inside breaks12 column t h = lines_pass breaks12 (begins_deep breaks12 (suc column)) (is_inside true column) first t h
-  where
-    first : (u : Text) → begins_deep breaks12 (suc column) u ≡ true → is_inside true column (first_text (lines_of breaks12 (u ++ (line_feed ∷ [])))) ≡ true
-    first [] h = absurd (false≢true h)
-    first (c ∷ u) h = by (is_read_break breaks12 c) refl h
-      where
-        by : (x : Bool) → is_read_break breaks12 c ≡ x → (x || begins_with_spaces (suc column) (c ∷ u)) ≡ true
-            → is_inside true column (first_text (lines_of breaks12 (c ∷ (u ++ (line_feed ∷ []))))) ≡ true
-        by true e h = ap (λ b. is_inside true column (first_text (character_before b c (lines_of breaks12 (u ++ (line_feed ∷ [])))))) e
-        by false e h = spaces_inside breaks12 column (c ∷ (u ++ (line_feed ∷ []))) (spaces_keep (suc column) (c ∷ u) (line_feed ∷ []) h)
+deep_inside breaks12 column t h =
+    lines_pass breaks12 (begins_deep breaks12 (suc column)) (is_inside true column) (λ u k. deep_first breaks12 column u k) t h

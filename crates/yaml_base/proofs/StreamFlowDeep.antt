@@ -33,7 +33,7 @@ use Rattle.yaml_base.proofs.StreamDeepBreaks.{Deep, deep_both, deep_line, deep_n
 -- Properties
 
 -- the anchor and the tag are on one line
-properties_line : (s : Effective) (own directives : List TagDirective) (anchor tag : Option Text) (bare : Bool) (cursor : Cursor) → IsNamed anchor
+pub properties_line : (s : Effective) (own directives : List TagDirective) (anchor tag : Option Text) (bare : Bool) (cursor : Cursor) → IsNamed anchor
     → TagStands s.portable own directives tag → OneLine s.breaks12 (properties_laid s.portable directives anchor tag bare cursor).text
 properties_line s own directives anchor tag bare cursor named stands =
     let laid = properties_laid s.portable directives anchor tag bare cursor in
@@ -89,18 +89,18 @@ body_deep s style limit count indent column value cursor le flow tidy =
 -- Signs
 
 -- a sign on one line, and the space before it
-sign_deep : (breaks12 : Bool) (count : ℕ) (sign : Text) (need white indented : Bool) (cursor : Cursor) → OneLine breaks12 sign
+pub sign_deep : (breaks12 : Bool) (count : ℕ) (sign : Text) (need white indented : Bool) (cursor : Cursor) → OneLine breaks12 sign
     → Deep breaks12 count (indicator sign need white indented cursor).text
 sign_deep breaks12 count sign need white indented cursor one =
     deep_line breaks12 count (space_if need cursor ++ sign) (one_line_both breaks12 (space_if need cursor) sign (space_line breaks12 need cursor) one)
 
 -- no sign of flow breaks a line
-signs_line : (breaks12 : Bool) → OneLine breaks12 (codes ",") × OneLine breaks12 (codes "?") × OneLine breaks12 (codes ":")
+pub signs_line : (breaks12 : Bool) → OneLine breaks12 (codes ",") × OneLine breaks12 (codes "?") × OneLine breaks12 (codes ":")
 signs_line true = (refl, refl, refl)
 signs_line false = (refl, refl, refl)
 
 -- nor does a bracket
-brackets_line : (breaks12 : Bool) → (OneLine breaks12 square.opening × OneLine breaks12 square.closing)
+pub brackets_line : (breaks12 : Bool) → (OneLine breaks12 square.opening × OneLine breaks12 square.closing)
     × (OneLine breaks12 curly.opening × OneLine breaks12 curly.closing)
 brackets_line true = ((refl, refl), (refl, refl))
 brackets_line false = ((refl, refl), (refl, refl))
@@ -177,7 +177,7 @@ star_line true = refl
 star_line false = refl
 
 -- an alias
-alias_deep : (s : Effective) (count : ℕ) (name : Text) (simple : Bool) (cursor : Cursor) → name_read name ≡ Some name
+pub alias_deep : (s : Effective) (count : ℕ) (name : Text) (simple : Bool) (cursor : Cursor) → name_read name ≡ Some name
     → Deep s.breaks12 count (alias_laid name simple cursor).text
 alias_deep s count name simple cursor named =
     let star = indicator (codes "*") true false false cursor in

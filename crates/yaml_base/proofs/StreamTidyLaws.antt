@@ -65,7 +65,7 @@ abbrev pub lines_after_first : List Line → List Line
 lines_after_first [] = []
 lines_after_first (line ∷ rest) = rest
 
-first_extended : (c : ℕ) (lines : List Line) → first_text (extending c lines) ≡ c ∷ first_text lines
+pub first_extended : (c : ℕ) (lines : List Line) → first_text (extending c lines) ≡ c ∷ first_text lines
 first_extended c [] = refl
 first_extended c (line ∷ rest) = refl
 
