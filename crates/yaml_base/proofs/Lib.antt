@@ -96,4 +96,5 @@ pub mod StreamFlowLines
 pub mod StreamNoKeys
 pub mod StreamBegun
 pub mod StreamKeyBodies
+pub mod StreamKeyLengths
 pub mod StreamLeaves
