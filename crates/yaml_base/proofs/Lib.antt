@@ -96,6 +96,7 @@ pub mod StreamFlowLines
 pub mod StreamNoKeys
 pub mod StreamBegun
 pub mod StreamKeyBodies
+pub mod StreamKeyLengths
 pub mod StreamLeaves
 pub mod StreamDeepBreaks
 pub mod StreamFlowDeep
