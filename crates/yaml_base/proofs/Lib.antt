@@ -93,4 +93,6 @@ pub mod StreamFlowKinds
 pub mod StreamFlowNodes
 pub mod StreamFlowReads
 pub mod StreamFlowLines
+pub mod StreamNoKeys
+pub mod StreamLeaves
 pub mod StreamBodies
