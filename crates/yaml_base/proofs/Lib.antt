@@ -94,5 +94,6 @@ pub mod StreamFlowNodes
 pub mod StreamFlowReads
 pub mod StreamFlowLines
 pub mod StreamNoKeys
+pub mod StreamBegun
 pub mod StreamLeaves
 pub mod StreamBodies
