@@ -97,3 +97,4 @@ pub mod StreamNoKeys
 pub mod StreamBegun
 pub mod StreamLeaves
 pub mod StreamBodies
+pub mod StreamOwnTexts
