@@ -98,3 +98,5 @@ pub mod StreamBegun
 pub mod StreamLeaves
 pub mod StreamBodies
 pub mod StreamOwnTexts
+pub mod StreamOwnWords
+pub mod StreamOwnPlain

@@ -1,6 +1,6 @@
 -- A node's own text that reads on its lines does so behind its anchor and its tag.
 use Rattle.std.proofs.Common.{◌≡◌, refl, sym, ap, ◌∙◌, append_assoc, append-nil}
-use Rattle.std.proofs.lemmas.Bool.{true≢false, false≢true, and_parts}
+use Rattle.std.proofs.lemmas.Bool.{false≢true, and_parts}
 use Rattle.std.specs.Option.{option_or}
 use Rattle.std.specs.Prelude.{ℕ, Bool, true, false, Option, None, Some, List, [], ◌∷◌, ◌++◌, ◌==◌, ◌||◌, ◌&&◌, ◌+◌, not, is_some, length, option_map, if◌then◌else◌}
 use Rattle.yaml_base.specs.Characters.{Text, space}
@@ -8,9 +8,9 @@ use Rattle.yaml_base.specs.LineBreaks.{is_read_break}
 use Rattle.yaml_base.specs.Event.{ScalarStyle}
 use Rattle.yaml_base.specs.Style.{is_plain}
 use Rattle.yaml_base.specs.ReadTags.{TagSaid}
-use Rattle.yaml_base.specs.StreamContent.{Tree, scalar_tree}
-use Rattle.yaml_base.specs.StreamLines.{Line, extending, character_before, lines_of, text_of_lines, ends_sign, begins_with_sign, without_blank_lines, begins_blank, all_deeper, Indented, spaces, blanked}
-use Rattle.yaml_base.specs.StreamScalars.{Rules, Properties, no_properties, PropertiesRead, properties_read, standing_of, scalar_said}
+use Rattle.yaml_base.specs.StreamContent.{scalar_tree}
+use Rattle.yaml_base.specs.StreamLines.{Line, extending, character_before, lines_of, text_of_lines, ends_sign, begins_with_sign, without_blank_lines, all_deeper, Indented, spaces}
+use Rattle.yaml_base.specs.StreamScalars.{Rules, Properties, properties_read, standing_of, scalar_said}
 use Rattle.yaml_base.specs.StreamNodes.{key_of_text, key_ends, key_from, begins_sequence, begins_mapping, begins_text, kind_of_node, kind_of_text, text_by_kind, text_read, Reads, ReadsText, node_by_kind, node_at, node_lines, begins_properties, after_properties, text_or_properties}
 use Rattle.yaml_base.proofs.StreamLineLaws.{text_of_lines_of}
 use Rattle.yaml_base.proofs.StreamInside.{AllInside, indented_spaces, not_blank, deeper_inside}
@@ -18,7 +18,7 @@ use Rattle.yaml_base.proofs.StreamTidyLaws.{first_text, lines_after_first}
 use Rattle.yaml_base.proofs.StreamClosed.{lines_behind}
 use Rattle.yaml_base.proofs.StreamBlocks.{spaces_both}
 use Rattle.yaml_base.proofs.StreamLeafFits.{TextReads}
-use Rattle.yaml_base.proofs.StreamProperties.{IsTagged, IsNamed, has_properties, properties_text, begins_content, properties_said}
+use Rattle.yaml_base.proofs.StreamProperties.{has_properties, properties_text, begins_content, properties_said}
 use Rattle.yaml_base.proofs.StreamPropertyWords.{lead}
 use Rattle.yaml_base.proofs.StreamStands.{tag_meant}
 use Rattle.yaml_base.proofs.StreamLeads.{lead_spaces, lead_then}
