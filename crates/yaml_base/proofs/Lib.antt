@@ -100,3 +100,5 @@ pub mod StreamBodies
 pub mod StreamOwnTexts
 pub mod StreamOwnWords
 pub mod StreamOwnPlain
+pub mod StreamOwnBlocks
+pub mod StreamBlockEnds

@@ -188,7 +188,7 @@ single_nowhere rules anchor tag said b (c ∷ t) v given read = (
 )
 
 -- a line that begins with a character that is no `:`
-first_passes : (rules : Rules) (before f : Text) (c : ℕ) → (c == 0x3A) ≡ false → key_from rules (before ++ (c ∷ [])) f ≡ None → key_from rules before (c ∷ f) ≡ None
+pub first_passes : (rules : Rules) (before f : Text) (c : ℕ) → (c == 0x3A) ≡ false → key_from rules (before ++ (c ∷ [])) f ≡ None → key_from rules before (c ∷ f) ≡ None
 first_passes rules before f c other none =
     ap (λ x. option_or (key_ends rules (x && ends_sign f) before f) (key_from rules (before ++ (c ∷ [])) f)) other ∙ none
 
