@@ -102,3 +102,9 @@ pub mod StreamDeepBreaks
 pub mod StreamFlowDeep
 pub mod StreamFlowFits
 pub mod StreamLeafMarks
+pub mod StreamBodies
+pub mod StreamOwnTexts
+pub mod StreamOwnWords
+pub mod StreamOwnPlain
+pub mod StreamOwnBlocks
+pub mod StreamBlockEnds

@@ -214,7 +214,7 @@ anchor_no_alias rules u = alias_left (word_read rules false (0x26 ∷ u)) (by (n
 -- No key
 
 -- a text that is no word and no alias before its last space is no key
-no_key_text : (rules : Rules) (text : Text) → word_read rules false text ≡ None → option_and_then (word_of_alias rules) (without_last_space text) ≡ None
+pub no_key_text : (rules : Rules) (text : Text) → word_read rules false text ≡ None → option_and_then (word_of_alias rules) (without_last_space text) ≡ None
     → key_of_text rules text ≡ None
 no_key_text rules text no_word none =
     key_by_word rules text None (ap (option_and_then (λ tree. if is_alias tree then None else Some tree)) no_word) none
