@@ -95,3 +95,5 @@ pub mod StreamFlowReads
 pub mod StreamFlowLines
 pub mod StreamEachDocument
 pub mod StreamRootsStand
+pub mod StreamSoFar
+pub mod StreamUnread

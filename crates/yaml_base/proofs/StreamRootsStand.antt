@@ -2,7 +2,7 @@
 -- that its lines are no marks, and that its directives are read.
 use Rattle.std.proofs.Common.{◌≡◌}
 use Rattle.std.specs.List.{list_all}
-use Rattle.std.specs.Prelude.{ℕ, Bool, true, false, Some, List, [], ◌∷◌, ◌++◌, ◌==◌, ◌&&◌, not, if◌then◌else◌}
+use Rattle.std.specs.Prelude.{ℕ, Bool, true, false, Some, List, [], ◌∷◌, ◌++◌, ◌==◌, if◌then◌else◌}
 use Rattle.yaml_base.specs.Characters.{Text, space}
 use Rattle.yaml_base.specs.LineBreaks.{is_read_break}
 use Rattle.yaml_base.specs.Settings.{Effective}
@@ -11,14 +11,14 @@ use Rattle.yaml_base.specs.Tags.{directives_in_force}
 use Rattle.yaml_base.specs.Cursor.{Cursor, Laid, then_laid}
 use Rattle.yaml_base.specs.Grammar.{Node, alias_node, scalar_node, sequence_node, mapping_node, Document}
 use Rattle.yaml_base.specs.Layout.{has_no_nodes, has_no_pairs, is_written_in_flow, root_place, version_laid, tag_directives_laid}
-use Rattle.yaml_base.specs.StreamLines.{Line, lines_of, spaces}
+use Rattle.yaml_base.specs.StreamLines.{lines_of, spaces}
 use Rattle.yaml_base.specs.StreamScalars.{Rules}
-use Rattle.yaml_base.specs.StreamDocuments.{mark_of, Heading, heading_of, begins_with_percent}
+use Rattle.yaml_base.specs.StreamDocuments.{heading_of, begins_with_percent}
 use Rattle.yaml_base.specs.StreamLaw.{is_written_as_nothing}
 use Rattle.yaml_base.proofs.StreamTexts.{node_own}
 use Rattle.yaml_base.proofs.StreamLineLaws.{is_closed}
-use Rattle.yaml_base.proofs.StreamTidyLaws.{first_text, lines_after_first}
-use Rattle.yaml_base.proofs.StreamSections.{is_unmarked, AllUnmarked}
+use Rattle.yaml_base.proofs.StreamTidyLaws.{lines_after_first}
+use Rattle.yaml_base.proofs.StreamSections.{AllUnmarked}
 use Rattle.yaml_base.proofs.StreamClosed.{closed, margin_cursor}
 use Rattle.yaml_base.proofs.StreamNodesFit.{Leaves, begun_laid}
 use Rattle.yaml_base.proofs.StreamRoots.{mark_cursor}
@@ -39,8 +39,7 @@ root_laid on_mark s document = node_own document.root s (directives_in_force doc
 
 -- Roots
 
--- what is laid out begins, behind a space where one is needed, with a character that no reader skips and no directive begins
--- with; at a line's start its first line is no mark
+-- what is laid out begins, behind a space where one is needed, with a character that no reader skips
 pub record Begins (breaks12 : Bool) (cursor : Cursor) (own : Laid) : Type 0 where
   pub count : ℕ
   pub head : ℕ
@@ -49,8 +48,6 @@ pub record Begins (breaks12 : Bool) (cursor : Cursor) (own : Laid) : Type 0 wher
   pub margin : cursor.whitespace ≡ true → count ≡ 0
   pub shows : (head == space) ≡ false
   pub goes_on : is_read_break breaks12 head ≡ false
-  pub no_percent : (head == 0x25) ≡ false
-  pub unmarked : cursor.whitespace ≡ true → is_unmarked (mark_of (first_text (lines_of breaks12 (closed own)))) ≡ true
 
 -- a root that is an alias, a scalar or written in flow: it begins so where anything is written, and no line after its first is
 -- a mark
