@@ -97,3 +97,4 @@ pub mod StreamEachDocument
 pub mod StreamRootsStand
 pub mod StreamSoFar
 pub mod StreamUnread
+pub mod StreamRootLines

@@ -6,7 +6,7 @@ use Rattle.std.specs.Prelude.{ℕ, Bool, true, false, Some, List, [], ◌∷◌,
 use Rattle.yaml_base.specs.Characters.{Text, space}
 use Rattle.yaml_base.specs.LineBreaks.{is_read_break}
 use Rattle.yaml_base.specs.Settings.{Effective}
-use Rattle.yaml_base.specs.Event.{DocumentStart}
+use Rattle.yaml_base.specs.Event.{TagDirective, DocumentStart}
 use Rattle.yaml_base.specs.Tags.{directives_in_force}
 use Rattle.yaml_base.specs.Cursor.{Cursor, Laid, then_laid}
 use Rattle.yaml_base.specs.Grammar.{Node, alias_node, scalar_node, sequence_node, mapping_node, Document}
@@ -63,20 +63,20 @@ is_leaf s (sequence_node start items) = is_written_in_flow s root_place start (h
 is_leaf s (mapping_node start pairs) = is_written_in_flow s root_place start (has_no_pairs pairs)
 
 -- a collection in a block whose properties are written: these begin so
-abbrev pub PropertiesStand : (on_mark : Bool) → Effective → Document → Node → Type 0
-PropertiesStand on_mark s document (sequence_node start items) =
-    let begun = begun_laid s (directives_in_force document.start.directives) start (root_cursor on_mark) in
-    (begun.text ≡ [] → ⊥) → Begins s.breaks12 (root_cursor on_mark) begun
-PropertiesStand on_mark s document (mapping_node start pairs) =
-    let begun = begun_laid s (directives_in_force document.start.directives) start (root_cursor on_mark) in
-    (begun.text ≡ [] → ⊥) → Begins s.breaks12 (root_cursor on_mark) begun
-PropertiesStand on_mark s document node = Unit {0}
+abbrev pub PropertiesStand : (on_mark : Bool) → Effective → List TagDirective → Node → Type 0
+PropertiesStand on_mark s directives (sequence_node start items) =
+    ((begun_laid s directives start (root_cursor on_mark)).text ≡ [] → ⊥)
+    → Begins s.breaks12 (root_cursor on_mark) (begun_laid s directives start (root_cursor on_mark))
+PropertiesStand on_mark s directives (mapping_node start pairs) =
+    ((begun_laid s directives start (root_cursor on_mark)).text ≡ [] → ⊥)
+    → Begins s.breaks12 (root_cursor on_mark) (begun_laid s directives start (root_cursor on_mark))
+PropertiesStand on_mark s directives node = Unit {0}
 
 -- the root of a document, where it begins behind `---` or on a line of its own
 pub record RootStands (s : Effective) (document : Document) (on_mark : Bool) : Type 0 where
   pub leaves : Leaves document.root (rules_of s document) s (directives_in_force document.start.directives) root_place (root_cursor on_mark)
   pub leaf : is_leaf s document.root ≡ true → LeafStands on_mark s document
-  pub block : is_leaf s document.root ≡ false → PropertiesStand on_mark s document document.root
+  pub block : is_leaf s document.root ≡ false → PropertiesStand on_mark s (directives_in_force document.start.directives) document.root
 
 -- Directives
 
