@@ -98,3 +98,4 @@ pub mod StreamRootsStand
 pub mod StreamSoFar
 pub mod StreamUnread
 pub mod StreamRootLines
+pub mod StreamRootStood
