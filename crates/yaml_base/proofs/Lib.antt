@@ -99,3 +99,4 @@ pub mod StreamSoFar
 pub mod StreamUnread
 pub mod StreamRootLines
 pub mod StreamRootStood
+pub mod StreamDocumentReads
