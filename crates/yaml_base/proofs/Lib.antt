@@ -100,3 +100,4 @@ pub mod StreamUnread
 pub mod StreamRootLines
 pub mod StreamRootStood
 pub mod StreamDocumentReads
+pub mod StreamRootAdded
