@@ -101,3 +101,4 @@ pub mod StreamRootLines
 pub mod StreamRootStood
 pub mod StreamDocumentReads
 pub mod StreamRootAdded
+pub mod StreamDocumentTexts
