@@ -102,3 +102,4 @@ pub mod StreamRootStood
 pub mod StreamDocumentReads
 pub mod StreamRootAdded
 pub mod StreamDocumentTexts
+pub mod StreamSizes
