@@ -108,3 +108,13 @@ pub mod StreamOwnWords
 pub mod StreamOwnPlain
 pub mod StreamOwnBlocks
 pub mod StreamBlockEnds
+pub mod StreamEachDocument
+pub mod StreamRootsStand
+pub mod StreamSoFar
+pub mod StreamUnread
+pub mod StreamRootLines
+pub mod StreamRootStood
+pub mod StreamDocumentReads
+pub mod StreamRootAdded
+pub mod StreamDocumentTexts
+pub mod StreamSizes
