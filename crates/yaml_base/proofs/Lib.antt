@@ -97,4 +97,5 @@ pub mod StreamNoKeys
 pub mod StreamBegun
 pub mod StreamKeyBodies
 pub mod StreamKeyLengths
+pub mod StreamKeysFit
 pub mod StreamLeaves
