@@ -98,4 +98,5 @@ pub mod StreamBegun
 pub mod StreamKeyBodies
 pub mod StreamKeyLengths
 pub mod StreamKeysFit
+pub mod StreamKeyFronts
 pub mod StreamLeaves
