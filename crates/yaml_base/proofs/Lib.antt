@@ -97,6 +97,8 @@ pub mod StreamNoKeys
 pub mod StreamBegun
 pub mod StreamKeyBodies
 pub mod StreamKeyLengths
+pub mod StreamKeysFit
+pub mod StreamKeyFronts
 pub mod StreamLeaves
 pub mod StreamDeepBreaks
 pub mod StreamFlowDeep
