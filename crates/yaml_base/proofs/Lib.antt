@@ -102,3 +102,4 @@ pub mod StreamOwnWords
 pub mod StreamOwnPlain
 pub mod StreamOwnBlocks
 pub mod StreamBlockEnds
+pub mod StreamScalarsFit
