@@ -121,3 +121,4 @@ pub mod StreamRootAdded
 pub mod StreamDocumentTexts
 pub mod StreamSizes
 pub mod StreamRootBegins
+pub mod StreamScalarsFit

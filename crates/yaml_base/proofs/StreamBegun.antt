@@ -163,7 +163,7 @@ properties_begun s own directives anchor tag cursor c t named stands is shows da
         ∙ ap (λ x. if is_some x then begins_mapping else begins_text) no_key
 
 -- a collection's properties, if it has some, are read on their line
-begun_kind : (s : Effective) (own directives : List TagDirective) (anchor tag : Option Text) (cursor : Cursor) → IsNamed anchor
+pub begun_kind : (s : Effective) (own directives : List TagDirective) (anchor tag : Option Text) (cursor : Cursor) → IsNamed anchor
     → TagStands s.portable own directives tag
     → BegunKind (rules_of s own) anchor tag cursor (properties_laid s.portable directives anchor tag false cursor)
 begun_kind s own directives None None cursor named stands = unsaid refl refl refl

@@ -147,7 +147,7 @@ last_is_read charset value end allowed =
 -- Signs
 
 -- a hint is written as it is
-hint_text : (hint : Text) (cursor : Cursor) → (hint_laid hint cursor).text ≡ hint
+pub hint_text : (hint : Text) (cursor : Cursor) → (hint_laid hint cursor).text ≡ hint
 hint_text [] cursor = refl
 hint_text (c ∷ rest) cursor = refl
 
