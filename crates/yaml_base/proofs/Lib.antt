@@ -103,3 +103,4 @@ pub mod StreamDocumentReads
 pub mod StreamRootAdded
 pub mod StreamDocumentTexts
 pub mod StreamSizes
+pub mod StreamDocumentsRead
