@@ -104,3 +104,4 @@ pub mod StreamRootAdded
 pub mod StreamDocumentTexts
 pub mod StreamSizes
 pub mod StreamDocumentsRead
+pub mod StreamWholeReads
