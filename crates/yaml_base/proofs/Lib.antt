@@ -122,3 +122,5 @@ pub mod StreamDocumentTexts
 pub mod StreamSizes
 pub mod StreamRootBegins
 pub mod StreamScalarsFit
+pub mod StreamDocumentsRead
+pub mod StreamWholeReads

@@ -35,7 +35,7 @@ directives_end : (portable : Bool) (directives : List TagDirective) (cursor : Cu
 directives_end portable [] cursor h = h
 directives_end portable (directive ∷ rest) cursor h = directives_end portable rest (margin_cursor 0) refl
 
-dots_laid : (x : Bool) → laid_if x closing_mark_laid (margin_cursor 0) ≡ record { text = dots_if x; cursor = margin_cursor 0 }
+pub dots_laid : (x : Bool) → laid_if x closing_mark_laid (margin_cursor 0) ≡ record { text = dots_if x; cursor = margin_cursor 0 }
 dots_laid true = refl
 dots_laid false = refl
 
@@ -77,7 +77,7 @@ end_text false standing settled =
     append-nil (((new_line 0 standing.cursor).text ++ dots) ++ []) ∙ append-nil ((new_line 0 standing.cursor).text ++ dots)
     ∙ ap (λ t. t ++ dots) (new_line_closes 0 standing.cursor settled ∙ append-nil (closing standing.cursor))
 
-end_cursor : (implicit : Bool) (standing : Standing) → (document_end_piece implicit standing).standing.cursor ≡ margin_cursor 0
+pub end_cursor : (implicit : Bool) (standing : Standing) → (document_end_piece implicit standing).standing.cursor ≡ margin_cursor 0
 end_cursor true standing = refl
 end_cursor false standing = refl
 
