@@ -114,7 +114,7 @@ content_text rules cursor own anchor tag given_tag tree of column line deep =
     ∙ content_read rules cursor own anchor tag given_tag tree of column line.first (line_feed ∷ []) (feed_white rules.breaks12)
 
 -- what begins a node's own text is no space and no sign of a property
-own_shows : (c : ℕ) → begins_content (c ∷ []) ≡ true → ((c == space) ≡ false) × ((c == 0x26 || c == 0x21) ≡ false)
+pub own_shows : (c : ℕ) → begins_content (c ∷ []) ≡ true → ((c == space) ≡ false) × ((c == 0x26 || c == 0x21) ≡ false)
 own_shows c h = by (c == space) (c == 0x26) (c == 0x21) h
   where
     by : (x y z : Bool) → (not x && (not y && not z)) ≡ true → (x ≡ false) × ((y || z) ≡ false)
