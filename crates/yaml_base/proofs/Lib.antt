@@ -124,3 +124,4 @@ pub mod StreamRootBegins
 pub mod StreamScalarsFit
 pub mod StreamDocumentsRead
 pub mod StreamWholeReads
+pub mod StreamRootLeaves
