@@ -121,7 +121,7 @@ flow_begins rules cursor own anchor tag given_tag tree of given =
 -- Scalars
 
 -- a text begins with a character that no reader skips
-pub record Headed (breaks12 : Bool) (text : Text) : Type 0 where
+pub record HeadShows (breaks12 : Bool) (text : Text) : Type 0 where
   pub head : ℕ
   pub tail : Text
   pub is : text ≡ head ∷ tail
@@ -129,7 +129,7 @@ pub record Headed (breaks12 : Bool) (text : Text) : Type 0 where
   pub goes_on : is_read_break breaks12 head ≡ false
 
 -- what isn't white
-shown_head : (breaks12 : Bool) (c : ℕ) (t : Text) → is_read_white breaks12 c ≡ false → Headed breaks12 (c ∷ t)
+shown_head : (breaks12 : Bool) (c : ℕ) (t : Text) → is_read_white breaks12 c ≡ false → HeadShows breaks12 (c ∷ t)
 shown_head breaks12 c t h =
     let parts = or_parts (is_blank c) (is_read_break breaks12 c) h in
     record { head = c; tail = t; is = refl; shows = (or_parts (c == space) (c == tab) parts.0).0; goes_on = parts.1 }
@@ -142,7 +142,7 @@ sign_shows false = (refl, refl, refl, refl)
 
 -- a tidy plain text that reads as more than nothing
 plain_head : (breaks12 : Bool) (text value : Text) → is_empty value ≡ false → has_clean_edges breaks12 text ≡ true → read_plain breaks12 false text ≡ Some value
-    → Headed breaks12 text
+    → HeadShows breaks12 text
 plain_head breaks12 [] [] some clean read = absurd (true≢false some)
 plain_head breaks12 [] (c ∷ value) some clean read = cc
 plain_head breaks12 (c ∷ text) value some clean read =
@@ -156,7 +156,7 @@ plain_head breaks12 (c ∷ text) value some clean read =
 pub body_head : (s : Effective) (style : ScalarStyle) (limit : Option ℕ) (indent : ℕ) (column : Option ℕ) (value : Text) (cursor : Cursor)
     → (is_plain style && is_empty value) ≡ false → is_tidy_style style s.breaks12 (body_laid style s limit indent value cursor).text ≡ true
     → read_in_style style s.breaks12 false column (body_laid style s limit indent value cursor).text ≡ Some value
-    → Headed s.breaks12 (body_laid style s limit indent value cursor).text
+    → HeadShows s.breaks12 (body_laid style s limit indent value cursor).text
 body_head s plain limit indent column value cursor some tidy read =
     let text = (body_laid plain s limit indent value cursor).text in
     plain_head s.breaks12 text value some (and_parts (has_no_space_before_break s.breaks12 text) (has_clean_edges s.breaks12 text) tidy).1 read
@@ -199,7 +199,7 @@ empty_begins s own directives anchor tag bare folded limit indent value cursor s
 -- a scalar whose body isn't empty
 pub styled_begins : (s : Effective) (own directives : List TagDirective) (anchor tag : Option Text) (bare : Bool) (style : ScalarStyle) (limit : Option ℕ)
     (indent : ℕ) (value : Text) (cursor : Cursor) → IsNamed anchor → TagStands s.portable own directives tag → (is_plain style && is_empty value) ≡ false
-    → Headed s.breaks12 (body_laid style s limit indent value (body_cursor s directives anchor tag bare style value cursor)).text
+    → HeadShows s.breaks12 (body_laid style s limit indent value (body_cursor s directives anchor tag bare style value cursor)).text
     → Begins s.breaks12 cursor (styled_laid s directives anchor tag bare style limit indent value cursor)
 styled_begins s own directives anchor tag bare style limit indent value cursor named stands some h =
     let properties = properties_laid s.portable directives anchor tag bare cursor in
