@@ -103,3 +103,5 @@ pub mod StreamOwnPlain
 pub mod StreamOwnBlocks
 pub mod StreamBlockEnds
 pub mod StreamScalarsFit
+pub mod StreamEmptyFits
+pub mod StreamScalarLeaves

@@ -158,7 +158,7 @@ block_fits_body s own column l value lines cursor low high lines_end allowed tid
         (strip_more s.breaks12 column (block_sign l) rest value (strips s.indent value (feed ++ lines) low high h) read_here)))
 
 -- a body that isn't empty fits in each style
-body_fits : (s : Effective) (own : List TagDirective) (column : Option ℕ) (style : ScalarStyle) (limit : Option ℕ) (indent : ℕ) (value : Text) (cursor : Cursor)
+pub body_fits : (s : Effective) (own : List TagDirective) (column : Option ℕ) (style : ScalarStyle) (limit : Option ℕ) (indent : ℕ) (value : Text) (cursor : Cursor)
     → 2 ≤ s.indent → s.indent ≤ 9 → (is_block style ≡ true → allows_block (record { unicode = s.unicode; breaks12 = s.breaks12 }) value ≡ true)
     → (is_plain style && is_empty value) ≡ false
     → is_tidy style s.breaks12 column (body_laid style s limit indent value cursor).text ≡ true
@@ -217,7 +217,7 @@ styled_closed s directives anchor tag bare style limit indent value cursor some 
     ∙ append_assoc (space_if true cursor) before (closed body)
 
 -- a scalar whose body fits does
-styled_fits : (s : Effective) (own directives : List TagDirective) (anchor tag : Option Text) (bare : Bool) (style : ScalarStyle) (limit : Option ℕ) (indent : ℕ) (value : Text)
+pub styled_fits : (s : Effective) (own directives : List TagDirective) (anchor tag : Option Text) (bare : Bool) (style : ScalarStyle) (limit : Option ℕ) (indent : ℕ) (value : Text)
     (place : Place) (cursor : Cursor) → IsNamed anchor → TagStands s.portable own directives tag → (bare ≡ true → is_plain style ≡ false) → (is_plain style && is_empty value) ≡ false
     → BodyFits (rules_of s own) place.column style value (body_laid style s limit indent value (body_cursor s directives anchor tag bare style value cursor))
     → Fits (rules_of s own) 1 (styled_laid s directives anchor tag bare style limit indent value cursor) (scalar_in anchor tag style bare value) place cursor
