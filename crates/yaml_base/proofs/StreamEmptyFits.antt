@@ -32,7 +32,8 @@ abbrev pub emptied : Laid → Laid
 emptied begun = record { text = (begun.text ++ []) ++ []; cursor = record { column = begun.cursor.column; whitespace = false; indention = false } }
 
 -- where nothing is written
-nothing_fits : (rules : Rules) (place : Place) (cursor : Cursor) → Fits rules 1 (emptied (nothing_laid cursor)) (scalar_in None None plain false []) place cursor
+nothing_fits : (rules : Rules) (place : Place) (cursor : Cursor)
+    → Fits rules 1 (emptied (nothing_laid cursor)) (scalar_in None None plain false []) place cursor
 nothing_fits rules place cursor = record {
   settled = λ h. absurd (false≢true h);
   ends = refl;
@@ -51,7 +52,8 @@ nothing_fits rules place cursor = record {
         ∙ ap (λ x. node_at rules (node_read depth rules) by no_properties (here || x) (not x) (if x then [] else line ∷ [])) (blank_spaces k)
 
 -- what properties say is how the scalar is tagged
-empty_tagging : (read : Option TagSaid) (tag : Option Text) → collection_tag_said read ≡ Some tag → tagging_said read stood_plain ≡ Some (tagging_in tag (record { style = plain; bare = false }))
+empty_tagging : (read : Option TagSaid) (tag : Option Text) → collection_tag_said read ≡ Some tag
+    → tagging_said read stood_plain ≡ Some (tagging_in tag (record { style = plain; bare = false }))
 empty_tagging None tag h = ap (option_map (λ t. tagging_in t (record { style = plain; bare = false }))) h
 empty_tagging (Some (name_said name)) tag h = ap (option_map (λ t. tagging_in t (record { style = plain; bare = false }))) h
 empty_tagging (Some bare_said) tag h = absurd (none_not_some h)
@@ -88,12 +90,14 @@ said_fits_nothing rules place anchor tag cursor begun said =
     let word = said.head ∷ said.tail in
     let same : closed (emptied begun) ≡ (spaces said.count ++ word) ++ (line_feed ∷ []) =
     ap (λ t. t ++ (line_feed ∷ [])) (append-nil (begun.text ++ []) ∙ append-nil begun.text ∙ said.text) in
-    text_fits rules (emptied begun) place cursor said.count (word ++ (line_feed ∷ [])) (scalar_in anchor tag plain false []) (same ∙ append_assoc (spaces said.count) word (line_feed ∷ []))
+    text_fits rules (emptied begun) place cursor said.count (word ++ (line_feed ∷ [])) (scalar_in anchor tag plain false [])
+    (same ∙ append_assoc (spaces said.count) word (line_feed ∷ []))
     (ap (is_closed rules.breaks12) same ∙ below_ends rules.breaks12 (spaces said.count ++ word) [] refl) (λ h. absurd (false≢true h)) said.some
     (said_reads_nothing rules place.column anchor tag cursor begun said)
 
 -- an empty plain scalar fits
-pub empty_fits : (s : Effective) (own directives : List TagDirective) (anchor tag : Option Text) (limit : Option ℕ) (indent : ℕ) (place : Place) (cursor : Cursor)
+pub empty_fits : (s : Effective) (own directives : List TagDirective) (anchor tag : Option Text) (limit : Option ℕ) (indent : ℕ) (place : Place)
+    (cursor : Cursor)
     → IsNamed anchor → TagStands s.portable own directives tag
     → Fits (rules_of s own) 1 (styled_laid s directives anchor tag false plain limit indent [] cursor) (scalar_in anchor tag plain false []) place cursor
 empty_fits s own directives anchor tag limit indent place cursor named stands = by anchor tag (begun_kind s own directives anchor tag cursor named stands)
@@ -101,6 +105,7 @@ empty_fits s own directives anchor tag limit indent place cursor named stands = 
     by : (anchor tag : Option Text) → BegunKind (rules_of s own) anchor tag cursor (properties_laid s.portable directives anchor tag false cursor)
         → Fits (rules_of s own) 1 (emptied (properties_laid s.portable directives anchor tag false cursor)) (scalar_in anchor tag plain false []) place cursor
     by None None kind = nothing_fits (rules_of s own) place cursor
-    by anchor tag (is_said said) = said_fits_nothing (rules_of s own) place anchor tag cursor (properties_laid s.portable directives anchor tag false cursor) said
+    by anchor tag (is_said said) =
+        said_fits_nothing (rules_of s own) place anchor tag cursor (properties_laid s.portable directives anchor tag false cursor) said
     by (Some name) tag (unsaid no_anchor no_tag nothing) = absurd (none_not_some (sym no_anchor))
     by anchor (Some name) (unsaid no_anchor no_tag nothing) = absurd (none_not_some (sym no_tag))

@@ -24,19 +24,24 @@ use Rattle.yaml_base.proofs.StreamScalarsFit.{styled_laid, body_cursor, body_fit
 use Rattle.yaml_base.proofs.StreamEmptyFits.{empty_fits}
 
 -- a scalar in a style fits where its body is tidy and reads as its value
-scalar_fits : (s : Effective) (own directives : List TagDirective) (anchor tag : Option Text) (bare : Bool) (style : ScalarStyle) (limit : Option ℕ) (indent : ℕ) (value : Text)
+scalar_fits : (s : Effective) (own directives : List TagDirective) (anchor tag : Option Text) (bare : Bool) (style : ScalarStyle) (limit : Option ℕ)
+    (indent : ℕ) (value : Text)
     (place : Place) (cursor : Cursor) → 2 ≤ s.indent → s.indent ≤ 9 → IsNamed anchor → TagStands s.portable own directives tag
     → (bare ≡ true → is_plain style ≡ false) → (is_block style ≡ true → allows_block (record { unicode = s.unicode; breaks12 = s.breaks12 }) value ≡ true)
     → is_tidy style s.breaks12 place.column (body_laid style s limit indent value (body_cursor s directives anchor tag bare style value cursor)).text ≡ true
-    → read_in_style style s.breaks12 false place.column (body_laid style s limit indent value (body_cursor s directives anchor tag bare style value cursor)).text ≡ Some value
+    → read_in_style style s.breaks12 false place.column
+    (body_laid style s limit indent value (body_cursor s directives anchor tag bare style value cursor)).text ≡ Some value
     → Fits (rules_of s own) 1 (styled_laid s directives anchor tag bare style limit indent value cursor) (scalar_in anchor tag style bare value) place cursor
-scalar_fits s own directives anchor tag bare style limit indent value place cursor low high named stands meant allowed tidy read = by style value bare meant allowed tidy read
+scalar_fits s own directives anchor tag bare style limit indent value place cursor low high named stands meant allowed tidy read =
+    by style value bare meant allowed tidy read
   where
     full : (style : ScalarStyle) (value : Text) (bare : Bool) → (is_plain style && is_empty value) ≡ false → (bare ≡ true → is_plain style ≡ false)
         → (is_block style ≡ true → allows_block (record { unicode = s.unicode; breaks12 = s.breaks12 }) value ≡ true)
         → is_tidy style s.breaks12 place.column (body_laid style s limit indent value (body_cursor s directives anchor tag bare style value cursor)).text ≡ true
-        → read_in_style style s.breaks12 false place.column (body_laid style s limit indent value (body_cursor s directives anchor tag bare style value cursor)).text ≡ Some value
-        → Fits (rules_of s own) 1 (styled_laid s directives anchor tag bare style limit indent value cursor) (scalar_in anchor tag style bare value) place cursor
+        → read_in_style style s.breaks12 false place.column
+        (body_laid style s limit indent value (body_cursor s directives anchor tag bare style value cursor)).text ≡ Some value
+        → Fits (rules_of s own) 1 (styled_laid s directives anchor tag bare style limit indent value cursor) (scalar_in anchor tag style bare value) place
+        cursor
     full style value bare some meant allowed tidy read =
         styled_fits s own directives anchor tag bare style limit indent value place cursor named stands meant some
         (body_fits s own place.column style limit indent value (body_cursor s directives anchor tag bare style value cursor) low high allowed some tidy read)
@@ -44,8 +49,10 @@ scalar_fits s own directives anchor tag bare style limit indent value place curs
     by : (style : ScalarStyle) (value : Text) (bare : Bool) → (bare ≡ true → is_plain style ≡ false)
         → (is_block style ≡ true → allows_block (record { unicode = s.unicode; breaks12 = s.breaks12 }) value ≡ true)
         → is_tidy style s.breaks12 place.column (body_laid style s limit indent value (body_cursor s directives anchor tag bare style value cursor)).text ≡ true
-        → read_in_style style s.breaks12 false place.column (body_laid style s limit indent value (body_cursor s directives anchor tag bare style value cursor)).text ≡ Some value
-        → Fits (rules_of s own) 1 (styled_laid s directives anchor tag bare style limit indent value cursor) (scalar_in anchor tag style bare value) place cursor
+        → read_in_style style s.breaks12 false place.column
+        (body_laid style s limit indent value (body_cursor s directives anchor tag bare style value cursor)).text ≡ Some value
+        → Fits (rules_of s own) 1 (styled_laid s directives anchor tag bare style limit indent value cursor) (scalar_in anchor tag style bare value) place
+        cursor
     by plain [] true meant allowed tidy read = absurd (true≢false (meant refl))
     by plain [] false meant allowed tidy read = empty_fits s own directives anchor tag limit indent place cursor named stands
     by plain (c ∷ value) bare meant allowed tidy read = full plain (c ∷ value) bare refl meant allowed tidy read
@@ -63,7 +70,8 @@ scalars_fit s own directives low high content role column cursor complex stands 
     let choice = choice_of s place simple content in
     let tag = scalar_tag s.canonical content in
     let allowed : Allowances = allowances (record { unicode = s.unicode; breaks12 = s.breaks12 }) content.value in
-    scalar_fits s own directives content.anchor tag choice.bare choice.style (if simple then None else s.width) (deeper s.indent column) content.value place cursor low high
+    scalar_fits s own directives content.anchor tag choice.bare choice.style (if simple then None else s.width)
+    (deeper s.indent column) content.value place cursor low high
     names.0 names.1
     (λ h. bare_not_plain (is_some tag) content.quoted_implicit (is_plain choice.style) h)
     (λ h.
