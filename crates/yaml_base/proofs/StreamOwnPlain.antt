@@ -4,7 +4,7 @@ use Rattle.std.proofs.lemmas.Bool.{true≢false, false≢true, eqb-true, and_par
 use Rattle.std.specs.List.{list_all}
 use Rattle.std.specs.Option.{option_or}
 use Rattle.std.specs.Prelude.{ℕ, Bool, true, false, Option, None, Some, List, [], ◌∷◌, ◌++◌, ◌==◌, ◌||◌, ◌&&◌, not, codes, if◌then◌else◌}
-use Rattle.yaml_base.specs.Characters.{Text, space, tab, is_among, is_blank, is_printable}
+use Rattle.yaml_base.specs.Characters.{Text, tab, is_among, is_blank, is_printable}
 use Rattle.yaml_base.specs.LineBreaks.{is_read_break}
 use Rattle.yaml_base.specs.Event.{plain}
 use Rattle.yaml_base.specs.ReadPlain.{is_read_white, begins_white, begins_with_three, begins_with_hash, begins_no_plain, holds_no_plain, read_plain}

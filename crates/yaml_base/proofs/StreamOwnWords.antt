@@ -6,7 +6,7 @@ use Rattle.std.specs.Option.{option_or}
 use Rattle.std.specs.Prelude.{ℕ, Bool, true, false, Option, None, Some, List, [], ◌∷◌, ◌++◌, ◌==◌, ◌||◌, ◌&&◌, not, unwrap_or, option_and_then, if◌then◌else◌}
 use Rattle.yaml_base.specs.Characters.{Text, line_feed, space, is_printable}
 use Rattle.yaml_base.specs.LineBreaks.{is_read_break}
-use Rattle.yaml_base.specs.Event.{ScalarStyle, plain, single_quoted, double_quoted}
+use Rattle.yaml_base.specs.Event.{ScalarStyle, single_quoted, double_quoted}
 use Rattle.yaml_base.specs.ReadTags.{TagSaid}
 use Rattle.yaml_base.specs.ReadPlain.{is_read_white}
 use Rattle.yaml_base.specs.ReadSingle.{read_single}
@@ -20,7 +20,6 @@ use Rattle.yaml_base.proofs.StreamInside.{AllInside}
 use Rattle.yaml_base.proofs.StreamTidyLaws.{first_text, lines_after_first, deep_lines_inside}
 use Rattle.yaml_base.proofs.StreamCuts.{double_quoted_whole, single_quoted_whole}
 use Rattle.yaml_base.proofs.StreamKeys.{no_alias_before, double_no_alias, single_no_alias}
-use Rattle.yaml_base.proofs.StreamPlainKeys.{begins}
 use Rattle.yaml_base.proofs.StreamProperties.{begins_content}
 use Rattle.yaml_base.proofs.StreamPropertyWords.{lead}
 use Rattle.yaml_base.proofs.StreamFlowWords.{Given, given_reads, double_kind, single_kind}
