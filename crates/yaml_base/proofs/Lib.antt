@@ -125,3 +125,5 @@ pub mod StreamScalarsFit
 pub mod StreamDocumentsRead
 pub mod StreamWholeReads
 pub mod StreamRootLeaves
+pub mod StreamEmptyFits
+pub mod StreamScalarLeaves

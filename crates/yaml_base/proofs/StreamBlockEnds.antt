@@ -34,7 +34,8 @@ ending_breaks (c ∷ []) h = by (is_break c) refl h
     by false e h = absurd (false≢true h)
 ending_breaks (c ∷ d ∷ []) h = by (is_break d) refl h
   where
-    by : (x : Bool) → is_break d ≡ x → ends_in_break (if x then (if is_break c then more_breaks else one_break) else without_break) ≡ true → EndsBreak (c ∷ d ∷ [])
+    by : (x : Bool) → is_break d ≡ x → ends_in_break (if x then (if is_break c then more_breaks else one_break) else without_break) ≡ true
+        → EndsBreak (c ∷ d ∷ [])
     by true e h = record { front = c ∷ []; last = d; is = refl; breaks = e }
     by false e h = absurd (false≢true h)
 ending_breaks (c ∷ d ∷ e ∷ rest) h =
@@ -55,12 +56,14 @@ parts_end (c ∷ front) b h = by (is_break c) (parts_end front b h)
     shown (line text ∷ front) = record { front = line (c ∷ text) ∷ front; is = refl }
     shown (line_break d ∷ front) = record { front = line (c ∷ []) ∷ line_break d ∷ front; is = refl }
 
-    by : (x : Bool) → EndsPart (parts (front ++ (b ∷ []))) b → EndsPart (if x then line_break c ∷ parts (front ++ (b ∷ [])) else begun c (parts (front ++ (b ∷ [])))) b
+    by : (x : Bool) → EndsPart (parts (front ++ (b ∷ []))) b
+        → EndsPart (if x then line_break c ∷ parts (front ++ (b ∷ [])) else begun c (parts (front ++ (b ∷ [])))) b
     by true more = record { front = line_break c ∷ more.front; is = ap (λ t. line_break c ∷ t) more.is }
     by false more = let s = shown more.front in record { front = s.front; is = ap (begun c) more.is ∙ s.is }
 
 -- and when long lines are cut
-folded_end : (limit : Option ℕ) (indent : ℕ) (even : Bool) (front : List Part) (b : ℕ) → EndsPart (folded_parts limit indent even (front ++ (line_break b ∷ []))) b
+folded_end : (limit : Option ℕ) (indent : ℕ) (even : Bool) (front : List Part) (b : ℕ)
+    → EndsPart (folded_parts limit indent even (front ++ (line_break b ∷ []))) b
 folded_end limit indent even [] b = by (even && b == line_feed && next_even [])
   where
     by : (x : Bool) → EndsPart ((if x then line_break b ∷ line_break b ∷ [] else line_break b ∷ []) ++ []) b
@@ -94,10 +97,15 @@ pub record EndsLines (lines : Text) (b : ℕ) : Type 0 where
 pub literal_end : (indent : ℕ) (value : Text) (end : EndsBreak value) → EndsLines (indented indent (parts value)) end.last
 literal_end indent value end =
     let cut = parts_end end.front end.last end.breaks in
-    record { front = indented indent cut.front; is = ap (λ t. indented indent (parts t)) end.is ∙ ap (indented indent) cut.is ∙ indented_end indent cut.front end.last }
+    record {
+      front = indented indent cut.front;
+      is = ap (λ t. indented indent (parts t)) end.is ∙ ap (indented indent) cut.is
+          ∙ indented_end indent cut.front end.last;
+    }
 
 -- and a folded one's
-pub folded_lines_end : (limit : Option ℕ) (indent : ℕ) (value : Text) (end : EndsBreak value) → EndsLines (indented indent (folded_parts limit indent false (parts value))) end.last
+pub folded_lines_end : (limit : Option ℕ) (indent : ℕ) (value : Text) (end : EndsBreak value)
+    → EndsLines (indented indent (folded_parts limit indent false (parts value))) end.last
 folded_lines_end limit indent value end =
     let cut = parts_end end.front end.last end.breaks in
     let folds = folded_end limit indent false cut.front end.last in
@@ -122,15 +130,20 @@ nowhere_last test [] b h = (or_parts (test b []) false h).0
 nowhere_last test (c ∷ front) b h = nowhere_last test front b (or_parts (test c (front ++ (b ∷ []))) (somewhere test (front ++ (b ∷ []))) h).1
 
 -- the last break of a value that may be a block scalar is one that is read
-pub last_is_read : (charset : Charset) (value : Text) (end : EndsBreak value) → allows_block charset value ≡ true → is_read_break charset.breaks12 end.last ≡ true
+pub last_is_read : (charset : Charset) (value : Text) (end : EndsBreak value) → allows_block charset value ≡ true
+    → is_read_break charset.breaks12 end.last ≡ true
 last_is_read charset value end allowed =
-    let nowhere = (or_parts (is_empty value) (somewhere (bars_block charset) value) (not_true (is_empty value || somewhere (bars_block charset) value) allowed)).1 in
+    let nowhere =
+    (or_parts (is_empty value) (somewhere (bars_block charset) value) (not_true (is_empty value || somewhere (bars_block charset) value) allowed)).1 in
     let bars = nowhere_last (bars_block charset) end.front end.last (ap (somewhere (bars_block charset)) (sym end.is) ∙ nowhere) in
     let special =
-    (or_parts (is_special charset end.last) (is_trailing_space end.last []) (or_parts (is_special charset end.last || is_trailing_space end.last []) (is_space end.last && true) bars).0).0 in
+    (or_parts (is_special charset end.last) (is_trailing_space end.last [])
+    (or_parts (is_special charset end.last || is_trailing_space end.last []) (is_space end.last && true) bars).0).0 in
     let parts =
-    or_parts (not (is_printable end.last) || (not charset.unicode && not (is_ascii end.last))) (charset.breaks12 && (end.last == line_separator || end.last == paragraph_separator)) special in
-    by charset.breaks12 end.last end.breaks (not_false (is_printable end.last) (or_parts (not (is_printable end.last)) (not charset.unicode && not (is_ascii end.last)) parts.0).0) parts.1
+    or_parts (not (is_printable end.last) || (not charset.unicode && not (is_ascii end.last)))
+    (charset.breaks12 && (end.last == line_separator || end.last == paragraph_separator)) special in
+    by charset.breaks12 end.last end.breaks
+    (not_false (is_printable end.last) (or_parts (not (is_printable end.last)) (not charset.unicode && not (is_ascii end.last)) parts.0).0) parts.1
   where
     not_true : (x : Bool) → not x ≡ true → x ≡ false
     not_true true h = absurd (false≢true h)
@@ -140,7 +153,8 @@ last_is_read charset value end allowed =
     not_false true h = refl
     not_false false h = absurd (true≢false h)
 
-    by : (breaks12 : Bool) (b : ℕ) → is_break b ≡ true → is_printable b ≡ true → (breaks12 && (b == line_separator || b == paragraph_separator)) ≡ false → is_read_break breaks12 b ≡ true
+    by : (breaks12 : Bool) (b : ℕ) → is_break b ≡ true → is_printable b ≡ true → (breaks12 && (b == line_separator || b == paragraph_separator)) ≡ false
+        → is_read_break breaks12 b ≡ true
     by true b breaks shown none = grind (arith, nat_tests, breaks, shown, none)
     by false b breaks shown none = grind (arith, nat_tests, breaks, shown)
 
@@ -175,7 +189,8 @@ is_block folded = true
 is_block _ = false
 
 -- one is chosen only where it fits
-pub block_fitting : (allowed : Allowances) (plain_fits block_fits : Bool) (asked : ScalarStyle) → is_block (style_fitting allowed plain_fits block_fits asked) ≡ true → block_fits ≡ true
+pub block_fitting : (allowed : Allowances) (plain_fits block_fits : Bool) (asked : ScalarStyle)
+    → is_block (style_fitting allowed plain_fits block_fits asked) ≡ true → block_fits ≡ true
 block_fitting allowed plain_fits block_fits plain h = absurd (false≢true (sym (quoted plain_fits allowed.single_quoted) ∙ h))
   where
     quoted : (x y : Bool) → is_block (if x then plain else if y then single_quoted else double_quoted) ≡ false

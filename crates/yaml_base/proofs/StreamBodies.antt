@@ -173,7 +173,8 @@ bodies_stand s bodies tidy mean = λ k d less. body_stands s (slice_index_or bod
 -- the bodies of the roots of an accepted list's documents stand
 pub roots_stand : (given : Settings) (encoding : Option Encoding) (stream : Stream) → BodiesAreTidy → MeaningIsKept
     → IsAccepted given.canonical (stream_events stream)
-    → list_all has_scalar_values (stream_events stream) ≡ true → DocumentsHold (BodyStands (effective given encoding)) stream.documents (effective given encoding)
+    → list_all has_scalar_values (stream_events stream) ≡ true
+    → DocumentsHold (BodyStands (effective given encoding)) stream.documents (effective given encoding)
 roots_stand given encoding stream tidy kept accepted scalars =
     let s = effective given encoding in
     let events = stream_events stream in

@@ -77,14 +77,22 @@ block_kind false (c ∷ d ∷ t) = refl
 
 -- and no alias
 block_no_alias : (rules : Rules) (l : Bool) (u : Text) → word_of_alias rules (block_sign l ∷ u) ≡ None
-block_no_alias rules true [] = scalar_no_alias no_properties stood_quoted (if is_tidy literal rules.breaks12 None (0x7C ∷ []) then read_block rules.breaks12 None (0x7C ∷ []) else None)
-block_no_alias rules true (c ∷ []) = scalar_no_alias no_properties stood_quoted (if is_tidy literal rules.breaks12 None (0x7C ∷ c ∷ []) then read_block rules.breaks12 None (0x7C ∷ c ∷ []) else None)
+block_no_alias rules true [] =
+    scalar_no_alias no_properties stood_quoted (if is_tidy literal rules.breaks12 None (0x7C ∷ []) then read_block rules.breaks12 None (0x7C ∷ []) else None)
+block_no_alias rules true (c ∷ []) =
+    scalar_no_alias no_properties stood_quoted
+    (if is_tidy literal rules.breaks12 None (0x7C ∷ c ∷ []) then read_block rules.breaks12 None (0x7C ∷ c ∷ []) else None)
 block_no_alias rules true (c ∷ d ∷ u) =
-    scalar_no_alias no_properties stood_quoted (if is_tidy literal rules.breaks12 None (0x7C ∷ c ∷ d ∷ u) then read_block rules.breaks12 None (0x7C ∷ c ∷ d ∷ u) else None)
-block_no_alias rules false [] = scalar_no_alias no_properties stood_quoted (if is_tidy folded rules.breaks12 None (0x3E ∷ []) then read_block rules.breaks12 None (0x3E ∷ []) else None)
-block_no_alias rules false (c ∷ []) = scalar_no_alias no_properties stood_quoted (if is_tidy folded rules.breaks12 None (0x3E ∷ c ∷ []) then read_block rules.breaks12 None (0x3E ∷ c ∷ []) else None)
+    scalar_no_alias no_properties stood_quoted
+    (if is_tidy literal rules.breaks12 None (0x7C ∷ c ∷ d ∷ u) then read_block rules.breaks12 None (0x7C ∷ c ∷ d ∷ u) else None)
+block_no_alias rules false [] =
+    scalar_no_alias no_properties stood_quoted (if is_tidy folded rules.breaks12 None (0x3E ∷ []) then read_block rules.breaks12 None (0x3E ∷ []) else None)
+block_no_alias rules false (c ∷ []) =
+    scalar_no_alias no_properties stood_quoted
+    (if is_tidy folded rules.breaks12 None (0x3E ∷ c ∷ []) then read_block rules.breaks12 None (0x3E ∷ c ∷ []) else None)
 block_no_alias rules false (c ∷ d ∷ u) =
-    scalar_no_alias no_properties stood_quoted (if is_tidy folded rules.breaks12 None (0x3E ∷ c ∷ d ∷ u) then read_block rules.breaks12 None (0x3E ∷ c ∷ d ∷ u) else None)
+    scalar_no_alias no_properties stood_quoted
+    (if is_tidy folded rules.breaks12 None (0x3E ∷ c ∷ d ∷ u) then read_block rules.breaks12 None (0x3E ∷ c ∷ d ∷ u) else None)
 
 -- the beginning of a header is no key
 header_part : (rules : Rules) (l : Bool) (anchor tag : Option Text) (said : Option TagSaid) (b : Text) → Given rules anchor tag said → OneLine rules.breaks12 b
@@ -101,20 +109,24 @@ header_part rules l anchor tag said b given one =
 
     by : (l : Bool) → word_by_kind a_scalar rules false None (record { anchor = anchor; tag = said }) (block_sign l ∷ b) ≡ None
     by true =
-        ap (λ v. scalar_said (record { anchor = anchor; tag = said }) stood_quoted (if is_tidy literal rules.breaks12 None (0x7C ∷ b) then v else None)) (no_block rules.breaks12 true b one)
+        ap (λ v. scalar_said (record { anchor = anchor; tag = said }) stood_quoted (if is_tidy literal rules.breaks12 None (0x7C ∷ b) then v else None))
+        (no_block rules.breaks12 true b one)
         ∙ none_said (record { anchor = anchor; tag = said }) stood_quoted (is_tidy literal rules.breaks12 None (0x7C ∷ b))
     by false =
-        ap (λ v. scalar_said (record { anchor = anchor; tag = said }) stood_quoted (if is_tidy folded rules.breaks12 None (0x3E ∷ b) then v else None)) (no_block rules.breaks12 false b one)
+        ap (λ v. scalar_said (record { anchor = anchor; tag = said }) stood_quoted (if is_tidy folded rules.breaks12 None (0x3E ∷ b) then v else None))
+        (no_block rules.breaks12 false b one)
         ∙ none_said (record { anchor = anchor; tag = said }) stood_quoted (is_tidy folded rules.breaks12 None (0x3E ∷ b))
 
 -- so no key ends in the first line
-header_nowhere : (rules : Rules) (l : Bool) (anchor tag : Option Text) (said : Option TagSaid) (b u : Text) → Given rules anchor tag said → OneLine rules.breaks12 b
+header_nowhere : (rules : Rules) (l : Bool) (anchor tag : Option Text) (said : Option TagSaid) (b u : Text) → Given rules anchor tag said
+    → OneLine rules.breaks12 b
     → KeyNowhere rules (lead anchor tag ++ (block_sign l ∷ b)) (first_text (lines_of rules.breaks12 u))
 header_nowhere rules l anchor tag said b [] given one = tt
 header_nowhere rules l anchor tag said b (c ∷ u) given one =
     by (is_read_break rules.breaks12 c) refl (λ longer. header_nowhere rules l anchor tag said (b ++ (c ∷ [])) u given longer)
   where
-    here : (f : Text) → KeyNowhere rules (lead anchor tag ++ (block_sign l ∷ (b ++ (c ∷ [])))) f → KeyNowhere rules (lead anchor tag ++ (block_sign l ∷ b)) (c ∷ f)
+    here : (f : Text) → KeyNowhere rules (lead anchor tag ++ (block_sign l ∷ (b ++ (c ∷ [])))) f
+        → KeyNowhere rules (lead anchor tag ++ (block_sign l ∷ b)) (c ∷ f)
     here f more = (
       λ h. header_part rules l anchor tag said b given one,
       subst (λ t. KeyNowhere rules t f) (sym (append_assoc (lead anchor tag) (block_sign l ∷ b) (c ∷ []))) more,
@@ -126,7 +138,8 @@ header_nowhere rules l anchor tag said b (c ∷ u) given one =
     extended (line ∷ rest) more = here line.text more
 
     by : (x : Bool) → is_read_break rules.breaks12 c ≡ x
-        → (OneLine rules.breaks12 (b ++ (c ∷ [])) → KeyNowhere rules (lead anchor tag ++ (block_sign l ∷ (b ++ (c ∷ [])))) (first_text (lines_of rules.breaks12 u)))
+        → (OneLine rules.breaks12 (b ++ (c ∷ [])) → KeyNowhere rules (lead anchor tag ++ (block_sign l ∷ (b ++ (c ∷ []))))
+        (first_text (lines_of rules.breaks12 u)))
         → KeyNowhere rules (lead anchor tag ++ (block_sign l ∷ b)) (first_text (character_before x c (lines_of rules.breaks12 u)))
     by true e more = tt
     by false e more = extended (lines_of rules.breaks12 u) (more (one_line_both rules.breaks12 b (c ∷ []) one (ap (λ x. x || false) e)))
@@ -153,7 +166,8 @@ own_block rules column true u v tidy read = record {
   no_key = refl;
   keyless = λ anchor tag said given.
       first_passes rules (lead anchor tag) (first_text (lines_of rules.breaks12 u)) 0x7C refl
-      (nowhere_alone rules (lead anchor tag ++ (0x7C ∷ [])) (first_text (lines_of rules.breaks12 u)) (header_nowhere rules true anchor tag said [] u given refl));
+      (nowhere_alone rules (lead anchor tag ++ (0x7C ∷ [])) (first_text (lines_of rules.breaks12 u))
+      (header_nowhere rules true anchor tag said [] u given refl));
   deeper = lines_deeper rules.breaks12 column 0x7C u (signs_go_on rules.breaks12 true) (tidy_deep literal rules.breaks12 column (0x7C ∷ u) tidy);
   read = λ properties.
       ap (λ x. scalar_said properties stood_quoted (if x then read_block rules.breaks12 column (0x7C ∷ u) else None)) tidy
@@ -169,7 +183,8 @@ own_block rules column false u v tidy read = record {
   no_key = refl;
   keyless = λ anchor tag said given.
       first_passes rules (lead anchor tag) (first_text (lines_of rules.breaks12 u)) 0x3E refl
-      (nowhere_alone rules (lead anchor tag ++ (0x3E ∷ [])) (first_text (lines_of rules.breaks12 u)) (header_nowhere rules false anchor tag said [] u given refl));
+      (nowhere_alone rules (lead anchor tag ++ (0x3E ∷ [])) (first_text (lines_of rules.breaks12 u))
+      (header_nowhere rules false anchor tag said [] u given refl));
   deeper = lines_deeper rules.breaks12 column 0x3E u (signs_go_on rules.breaks12 false) (tidy_deep folded rules.breaks12 column (0x3E ∷ u) tidy);
   read = λ properties.
       ap (λ x. scalar_said properties stood_quoted (if x then read_block rules.breaks12 column (0x3E ∷ u) else None)) tidy
@@ -177,15 +192,18 @@ own_block rules column false u v tidy read = record {
 }
 
 -- it stays tidy with a break more
-pub block_tidy_more : (l breaks12 : Bool) (column : Option ℕ) (t : Text) → is_tidy (block_style l) breaks12 column t ≡ true → is_tidy (block_style l) breaks12 column (t ++ feed) ≡ true
+pub block_tidy_more : (l breaks12 : Bool) (column : Option ℕ) (t : Text) → is_tidy (block_style l) breaks12 column t ≡ true
+    → is_tidy (block_style l) breaks12 column (t ++ feed) ≡ true
 block_tidy_more l breaks12 column t tidy = by l tidy
   where
     n : ℕ
     n = suc (unwrap_or column 0)
 
-    deep : (x : Bool) → ((list_all is_printable t && has_deep_lines breaks12 n t) && x) ≡ true → (list_all is_printable (t ++ feed) && has_deep_lines breaks12 n (t ++ feed)) ≡ true
+    deep : (x : Bool) → ((list_all is_printable t && has_deep_lines breaks12 n t) && x) ≡ true
+        → (list_all is_printable (t ++ feed) && has_deep_lines breaks12 n (t ++ feed)) ≡ true
     deep x tidy =
-        let both = and_parts (list_all is_printable t) (has_deep_lines breaks12 n t) (and_parts (list_all is_printable t && has_deep_lines breaks12 n t) x tidy).0 in
+        let both =
+        and_parts (list_all is_printable t) (has_deep_lines breaks12 n t) (and_parts (list_all is_printable t && has_deep_lines breaks12 n t) x tidy).0 in
         and_from (list_all is_printable (t ++ feed)) (has_deep_lines breaks12 n (t ++ feed))
         (list_all-append is_printable t feed ∙ ap (λ x. x && true) both.0) (deep_more breaks12 n t both.1)
 

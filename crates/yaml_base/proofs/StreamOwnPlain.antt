@@ -4,7 +4,7 @@ use Rattle.std.proofs.lemmas.Bool.{true≢false, false≢true, eqb-true, and_par
 use Rattle.std.specs.List.{list_all}
 use Rattle.std.specs.Option.{option_or}
 use Rattle.std.specs.Prelude.{ℕ, Bool, true, false, Option, None, Some, List, [], ◌∷◌, ◌++◌, ◌==◌, ◌||◌, ◌&&◌, not, codes, if◌then◌else◌}
-use Rattle.yaml_base.specs.Characters.{Text, space, tab, is_among, is_blank, is_printable}
+use Rattle.yaml_base.specs.Characters.{Text, tab, is_among, is_blank, is_printable}
 use Rattle.yaml_base.specs.LineBreaks.{is_read_break}
 use Rattle.yaml_base.specs.Event.{plain}
 use Rattle.yaml_base.specs.ReadPlain.{is_read_white, begins_white, begins_with_three, begins_with_hash, begins_no_plain, holds_no_plain, read_plain}
@@ -20,7 +20,8 @@ use Rattle.yaml_base.proofs.StreamOwnTexts.{OwnText}
 use Rattle.yaml_base.proofs.StreamOwnWords.{feed, deep_more, tidy_deep, lines_deeper, shown_trimmed}
 
 -- the first line after a character that breaks none
-first_after : (breaks12 : Bool) (c : ℕ) (t : Text) → is_read_break breaks12 c ≡ false → first_text (lines_of breaks12 (c ∷ t)) ≡ c ∷ first_text (lines_of breaks12 t)
+first_after : (breaks12 : Bool) (c : ℕ) (t : Text) → is_read_break breaks12 c ≡ false
+    → first_text (lines_of breaks12 (c ∷ t)) ≡ c ∷ first_text (lines_of breaks12 t)
 first_after breaks12 c t h = ap (λ x. first_text (character_before x c (lines_of breaks12 t))) h ∙ by (lines_of breaks12 t)
   where
     by : (lines : List Line) → first_text (extending c lines) ≡ c ∷ first_text lines
@@ -41,12 +42,16 @@ ends_begins breaks12 (c ∷ t) h = by (is_read_break breaks12 c) refl
     by false e = ap (λ x. (x || c == tab) || is_read_break breaks12 c) (sym (ap ends_sign (first_after breaks12 c (t ++ feed) e)) ∙ h)
 
 -- no key ends in the first line of plain text
-plain_keyless : (rules : Rules) (before t : Text) → holds_no_plain rules.breaks12 false t ≡ false → key_from rules before (first_text (lines_of rules.breaks12 (t ++ feed))) ≡ None
+plain_keyless : (rules : Rules) (before t : Text) → holds_no_plain rules.breaks12 false t ≡ false
+    → key_from rules before (first_text (lines_of rules.breaks12 (t ++ feed))) ≡ None
 plain_keyless rules before [] h = refl
 plain_keyless rules before (c ∷ t) h = by (is_read_break rules.breaks12 c) refl (plain_keyless rules (before ++ (c ∷ [])) t parts.1)
   where
-    parts : (((c == 58 && begins_white rules.breaks12 t) || (is_read_white rules.breaks12 c && begins_with_hash t) || false) ≡ false) × (holds_no_plain rules.breaks12 false t ≡ false)
-    parts = or_parts ((c == 58 && begins_white rules.breaks12 t) || (is_read_white rules.breaks12 c && begins_with_hash t) || false) (holds_no_plain rules.breaks12 false t) h
+    parts : (((c == 58 && begins_white rules.breaks12 t) || (is_read_white rules.breaks12 c && begins_with_hash t) || false) ≡ false) ×
+        (holds_no_plain rules.breaks12 false t ≡ false)
+    parts =
+        or_parts ((c == 58 && begins_white rules.breaks12 t) || (is_read_white rules.breaks12 c && begins_with_hash t) || false)
+        (holds_no_plain rules.breaks12 false t) h
 
     colon : (c == 58 && begins_white rules.breaks12 t) ≡ false
     colon =
@@ -63,7 +68,8 @@ plain_keyless rules before (c ∷ t) h = by (is_read_break rules.breaks12 c) ref
     by true e more = ap (λ x. key_from rules before (first_text (character_before x c (lines_of rules.breaks12 (t ++ feed))))) e
     by false e more =
         ap (key_from rules before) (first_after rules.breaks12 c (t ++ feed) e)
-        ∙ ap (λ x. option_or (key_ends rules x before (first_text (lines_of rules.breaks12 (t ++ feed)))) (key_from rules (before ++ (c ∷ [])) (first_text (lines_of rules.breaks12 (t ++ feed)))))
+        ∙ ap (λ x. option_or (key_ends rules x before (first_text (lines_of rules.breaks12 (t ++ feed))))
+        (key_from rules (before ++ (c ∷ [])) (first_text (lines_of rules.breaks12 (t ++ feed)))))
         (no_end (c == 0x3A) refl (ends_sign (first_text (lines_of rules.breaks12 (t ++ feed)))) refl)
         ∙ more
 
@@ -78,12 +84,15 @@ plain_signless breaks12 n c t sign h = by (c == n) refl (ends_sign (first_text (
     by true e true k =
         absurd (true≢false
         (sym (ap (λ x. x && begins_white breaks12 t) (ap (is_among (codes "?:-")) (eqb-true c n e) ∙ sign) ∙ ends_begins breaks12 t k)
-        ∙ (or_parts (begins_with_three 45 (c ∷ t) || begins_with_three 46 (c ∷ t) || is_among (codes "#,[]{}&*!|>'\"%@`") c) (is_among (codes "?:-") c && begins_white breaks12 t) h).1))
+        ∙ (or_parts (begins_with_three 45 (c ∷ t) || begins_with_three 46 (c ∷ t) || is_among (codes "#,[]{}&*!|>'\"%@`") c)
+        (is_among (codes "?:-") c && begins_white breaks12 t) h).1))
 
 -- a tidy plain text ends with nothing white
 plain_ends_shown : (breaks12 : Bool) (c : ℕ) (t : Text) → is_tidy plain breaks12 None (c ∷ t) ≡ true → ends_white breaks12 (c ∷ t) ≡ false
 plain_ends_shown breaks12 c t tidy =
-    let style = (and_parts (list_all is_printable (c ∷ t) && has_deep_lines breaks12 1 (c ∷ t)) (has_no_space_before_break breaks12 (c ∷ t) && has_clean_edges breaks12 (c ∷ t)) tidy).1 in
+    let style =
+    (and_parts (list_all is_printable (c ∷ t) && has_deep_lines breaks12 1 (c ∷ t))
+    (has_no_space_before_break breaks12 (c ∷ t) && has_clean_edges breaks12 (c ∷ t)) tidy).1 in
     let clean = (and_parts (has_no_space_before_break breaks12 (c ∷ t)) (has_clean_edges breaks12 (c ∷ t)) style).1 in
     by (ends_white breaks12 (c ∷ t)) (and_parts (not (is_read_white breaks12 c)) (not (ends_white breaks12 (c ∷ t))) clean).1
   where
@@ -109,7 +118,8 @@ own_plain rules column c t v tidy read =
       no_item = plain_signless rules.breaks12 0x2D c t refl parts.0;
       no_key = plain_signless rules.breaks12 0x3F c t refl parts.0;
       keyless = λ anchor tag said given.
-          ap (key_from rules (lead anchor tag)) (sym (first_after rules.breaks12 c (t ++ feed) goes_on)) ∙ plain_keyless rules (lead anchor tag) (c ∷ t) parts.1;
+          ap (key_from rules (lead anchor tag)) (sym (first_after rules.breaks12 c (t ++ feed) goes_on))
+          ∙ plain_keyless rules (lead anchor tag) (c ∷ t) parts.1;
       deeper = lines_deeper rules.breaks12 column c (t ++ feed) goes_on
           (λ d e. deep_more rules.breaks12 (suc d) (c ∷ t) (tidy_deep plain rules.breaks12 column (c ∷ t) tidy d e));
       read = λ properties.

@@ -51,7 +51,8 @@ deeper_all (Some c) lines h = deeper_inside c lines (h c refl)
 -- a text on its lines is read whole
 own_read : (rules : Rules) (column : Option ℕ) (properties : Properties) (c : ℕ) (t : Text) → is_read_break rules.breaks12 c ≡ false
     → all_deeper column (lines_after_first (lines_of rules.breaks12 t)) ≡ true
-    → text_read rules column properties (c ∷ first_text (lines_of rules.breaks12 t)) (first_ending (lines_of rules.breaks12 t)) (lines_after_first (lines_of rules.breaks12 t))
+    → text_read rules column properties (c ∷ first_text (lines_of rules.breaks12 t)) (first_ending (lines_of rules.breaks12 t))
+    (lines_after_first (lines_of rules.breaks12 t))
     ≡ text_by_kind (kind_of_text (c ∷ [])) rules column properties (c ∷ t)
 own_read rules column properties c t h deeper =
     let lines = lines_of rules.breaks12 t in
@@ -73,7 +74,8 @@ nowhere_skips rules before (c ∷ a) t none =
     by : (x : Bool) → (x ≡ true → key_of_text rules before ≡ None)
         → option_or (key_ends rules x before (a ++ t)) (key_from rules (before ++ (c ∷ [])) (a ++ t)) ≡ key_from rules (before ++ (c ∷ [])) (a ++ t)
     by true h =
-        ap (λ x. option_or (option_map (λ key. record { key = key; length = length before; after = a ++ t }) x) (key_from rules (before ++ (c ∷ [])) (a ++ t))) (h refl)
+        ap (λ x. option_or (option_map (λ key. record { key = key; length = length before; after = a ++ t }) x)
+        (key_from rules (before ++ (c ∷ [])) (a ++ t))) (h refl)
     by false h = refl
 
 -- Own texts
@@ -91,21 +93,25 @@ pub record OwnText (rules : Rules) (column : Option ℕ) (text : Text) (style : 
   pub keyless : (anchor tag : Option Text) (said : Option TagSaid) → Given rules anchor tag said
       → key_from rules (lead anchor tag) (head ∷ first_text (lines_of rules.breaks12 tail)) ≡ None
   pub deeper : (c : ℕ) → column ≡ Some c → AllInside true c (lines_after_first (lines_of rules.breaks12 tail))
-  pub read : (properties : Properties) → text_by_kind (kind_of_text (head ∷ [])) rules column properties (head ∷ tail) ≡ scalar_said properties (standing_of style) (Some value)
+  pub read : (properties : Properties)
+      → text_by_kind (kind_of_text (head ∷ [])) rules column properties (head ∷ tail) ≡ scalar_said properties (standing_of style) (Some value)
 
 -- its first line begins a text, behind properties or without them
 pub own_kind : (rules : Rules) (anchor tag : Option Text) (said : Option TagSaid) (c : ℕ) (f : Text) → Given rules anchor tag said
     → begins_with_sign 0x2D (c ∷ f) ≡ false → begins_with_sign 0x3F (c ∷ f) ≡ false → key_from rules (lead anchor tag) (c ∷ f) ≡ None
     → kind_of_node rules (lead anchor tag ++ (c ∷ f)) ≡ begins_text
 own_kind rules anchor tag said c f given no_item no_key keyless =
-    ap (λ x. if x then begins_sequence else (if begins_with_sign 0x3F line || is_some (key_from rules [] line) then begins_mapping else begins_text)) (signless 0x2D refl refl no_item)
+    ap (λ x. if x then begins_sequence else (if begins_with_sign 0x3F line || is_some (key_from rules [] line) then begins_mapping else begins_text))
+    (signless 0x2D refl refl no_item)
     ∙ ap (λ x. if x || is_some (key_from rules [] line) then begins_mapping else begins_text) (signless 0x3F refl refl no_key)
-    ∙ ap (λ x. if is_some x then begins_mapping else begins_text) (nowhere_skips rules [] (lead anchor tag) (c ∷ f) (lead_nowhere rules anchor tag said given.named given.tagged) ∙ keyless)
+    ∙ ap (λ x. if is_some x then begins_mapping else begins_text)
+    (nowhere_skips rules [] (lead anchor tag) (c ∷ f) (lead_nowhere rules anchor tag said given.named given.tagged) ∙ keyless)
   where
     line : Text
     line = lead anchor tag ++ (c ∷ f)
 
-    signless : (n : ℕ) → (0x26 == n) ≡ false → (0x21 == n) ≡ false → begins_with_sign n (c ∷ f) ≡ false → begins_with_sign n (lead anchor tag ++ (c ∷ f)) ≡ false
+    signless : (n : ℕ) → (0x26 == n) ≡ false → (0x21 == n) ≡ false → begins_with_sign n (c ∷ f) ≡ false
+        → begins_with_sign n (lead anchor tag ++ (c ∷ f)) ≡ false
     signless n no_anchor no_tag own = by anchor tag said given
       where
         by : (anchor tag : Option Text) (said : Option TagSaid) → Given rules anchor tag said → begins_with_sign n (lead anchor tag ++ (c ∷ f)) ≡ false
@@ -120,7 +126,8 @@ own_kind rules anchor tag said c f given no_item no_key keyless =
 -- Properties
 
 -- what stands behind spaces in the place of properties is read with them
-behind_reads : (rules : Rules) (reads : Reads) (column : Option ℕ) (properties : Properties) (k c : ℕ) (f ending : Text) (rest : List Line) → (c == space) ≡ false
+behind_reads : (rules : Rules) (reads : Reads) (column : Option ℕ) (properties : Properties) (k c : ℕ) (f ending : Text) (rest : List Line)
+    → (c == space) ≡ false
     → kind_of_node rules (c ∷ f) ≡ begins_text
     → node_lines rules reads (λ at. text_read rules column properties) properties false (record { text = spaces k ++ (c ∷ f); ending = ending } ∷ rest)
     ≡ text_read rules column properties (c ∷ f) ending rest
@@ -129,11 +136,13 @@ behind_reads rules reads column properties k c f ending rest shows kind =
     let by : ReadsText = λ at. text_read rules column properties in
     let begun : Indented = record { column = k; text = c ∷ f } in
     ap (λ x. node_at rules reads by properties (false || x) (not x) (if x then without_blank_lines rest else line ∷ rest)) (not_blank k c f shows)
-    ∙ ap (λ (i : Indented). node_by_kind (kind_of_node rules i.text) rules reads by properties false true i ending rest (line ∷ rest)) (indented_spaces k c f shows)
+    ∙ ap (λ (i : Indented). node_by_kind (kind_of_node rules i.text) rules reads by properties false true i ending rest (line ∷ rest))
+    (indented_spaces k c f shows)
     ∙ ap (λ x. node_by_kind x rules reads by properties false true begun ending rest (line ∷ rest)) kind
 
 -- a text behind properties or without them is read with these
-pub said_reads : (rules : Rules) (reads : Reads) (column : Option ℕ) (at : ℕ) (anchor tag : Option Text) (said : Option TagSaid) (c : ℕ) (f ending : Text) (rest : List Line)
+pub said_reads : (rules : Rules) (reads : Reads) (column : Option ℕ) (at : ℕ) (anchor tag : Option Text) (said : Option TagSaid) (c : ℕ) (f ending : Text)
+    (rest : List Line)
     → Given rules anchor tag said → begins_content (c ∷ f) ≡ true → kind_of_node rules (c ∷ f) ≡ begins_text
     → text_or_properties (begins_properties (lead anchor tag ++ (c ∷ f))) rules reads column at (lead anchor tag ++ (c ∷ f)) ending rest
     ≡ text_read rules column (record { anchor = anchor; tag = said }) (c ∷ f) ending rest
@@ -158,7 +167,8 @@ said_reads rules reads column at anchor tag said c f ending rest given content k
         ∙ ap (after_properties rules reads column at ending rest)
         (properties_said rules.directives anchor tag said (lead_spaces anchor tag) (c ∷ f) given.named given.tagged content
         (λ h. ap (λ x. ends_sign (spaces (if x then 1 else 0) ++ (c ∷ f))) has))
-        ∙ ap (λ t. node_lines rules reads (λ at. text_read rules column properties) properties false (record { text = t; ending = ending } ∷ rest)) (spaces_both at count (at + count) (c ∷ f) refl)
+        ∙ ap (λ t. node_lines rules reads (λ at. text_read rules column properties) properties false (record { text = t; ending = ending } ∷ rest))
+        (spaces_both at count (at + count) (c ∷ f) refl)
         ∙ behind_reads rules reads column properties (at + count) c f ending rest shown.0 kind
 
     by : (anchor tag : Option Text) (said : Option TagSaid) → Given rules anchor tag said
@@ -169,7 +179,8 @@ said_reads rules reads column at anchor tag said c f ending rest given content k
     by (Some name) None said given = behind (Some name) None said given refl
     by (Some name) (Some tag) said given = behind (Some name) (Some tag) said given refl
     by None (Some tag) (Some said) given =
-        ap (λ t. text_or_properties (begins_properties ((t ++ (space ∷ [])) ++ (c ∷ f))) rules reads column at (lead None (Some tag) ++ (c ∷ f)) ending rest) given.tagged.begins
+        ap (λ t. text_or_properties (begins_properties ((t ++ (space ∷ [])) ++ (c ∷ f))) rules reads column at (lead None (Some tag) ++ (c ∷ f)) ending rest)
+        given.tagged.begins
         ∙ behind None (Some tag) (Some said) given refl
     by None (Some tag) None given = absurd given.tagged
 
@@ -184,7 +195,8 @@ pub headed : (rules : Rules) (anchor tag : Option Text) (said : Option TagSaid) 
     → Headed (lead anchor tag ++ (c ∷ f))
 headed rules None None said c f given h = record { head = c; tail = f; is = refl; shows = h }
 headed rules (Some name) None said c f given h = record { head = 0x26; tail = (name ++ (space ∷ [])) ++ (c ∷ f); is = refl; shows = refl }
-headed rules (Some name) (Some tag) said c f given h = record { head = 0x26; tail = ((name ++ (space ∷ tag)) ++ (space ∷ [])) ++ (c ∷ f); is = refl; shows = refl }
+headed rules (Some name) (Some tag) said c f given h =
+    record { head = 0x26; tail = ((name ++ (space ∷ tag)) ++ (space ∷ [])) ++ (c ∷ f); is = refl; shows = refl }
 headed rules None (Some tag) (Some said) c f given h = record {
   head = 0x21;
   tail = (given.tagged.rest ++ (space ∷ [])) ++ (c ∷ f);

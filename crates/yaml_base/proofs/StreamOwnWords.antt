@@ -6,7 +6,7 @@ use Rattle.std.specs.Option.{option_or}
 use Rattle.std.specs.Prelude.{ℕ, Bool, true, false, Option, None, Some, List, [], ◌∷◌, ◌++◌, ◌==◌, ◌||◌, ◌&&◌, not, unwrap_or, option_and_then, if◌then◌else◌}
 use Rattle.yaml_base.specs.Characters.{Text, line_feed, space, is_printable}
 use Rattle.yaml_base.specs.LineBreaks.{is_read_break}
-use Rattle.yaml_base.specs.Event.{ScalarStyle, plain, single_quoted, double_quoted}
+use Rattle.yaml_base.specs.Event.{ScalarStyle, single_quoted, double_quoted}
 use Rattle.yaml_base.specs.ReadTags.{TagSaid}
 use Rattle.yaml_base.specs.ReadPlain.{is_read_white}
 use Rattle.yaml_base.specs.ReadSingle.{read_single}
@@ -20,7 +20,6 @@ use Rattle.yaml_base.proofs.StreamInside.{AllInside}
 use Rattle.yaml_base.proofs.StreamTidyLaws.{first_text, lines_after_first, deep_lines_inside}
 use Rattle.yaml_base.proofs.StreamCuts.{double_quoted_whole, single_quoted_whole}
 use Rattle.yaml_base.proofs.StreamKeys.{no_alias_before, double_no_alias, single_no_alias}
-use Rattle.yaml_base.proofs.StreamPlainKeys.{begins}
 use Rattle.yaml_base.proofs.StreamProperties.{begins_content}
 use Rattle.yaml_base.proofs.StreamPropertyWords.{lead}
 use Rattle.yaml_base.proofs.StreamFlowWords.{Given, given_reads, double_kind, single_kind}
@@ -107,7 +106,8 @@ last_shown breaks12 (c ∷ d ∷ a) q = last_shown breaks12 (d ∷ a) q
 -- No key
 
 -- behind properties or without them, what is no word and no alias is no key
-pub behind_no_key : (rules : Rules) (anchor tag : Option Text) (said : Option TagSaid) (c : ℕ) (t : Text) → Given rules anchor tag said → begins_content (c ∷ t) ≡ true
+pub behind_no_key : (rules : Rules) (anchor tag : Option Text) (said : Option TagSaid) (c : ℕ) (t : Text) → Given rules anchor tag said
+    → begins_content (c ∷ t) ≡ true
     → word_after rules false None (record { anchor = anchor; tag = said }) (c ∷ t) ≡ None → ((u : Text) → word_of_alias rules (c ∷ u) ≡ None)
     → key_of_text rules (lead anchor tag ++ (c ∷ t)) ≡ None
 behind_no_key rules anchor tag said c t given content no_word no_alias =
@@ -128,7 +128,8 @@ behind_no_key rules anchor tag said c t given content no_word no_alias =
     by None (Some tag) None given = absurd given.tagged
 
 -- where no key ends in a text, none ends in its first line
-first_nowhere : (rules : Rules) (breaks12 : Bool) (before t : Text) → KeyNowhere rules before t → KeyNowhere rules before (first_text (lines_of breaks12 (t ++ feed)))
+first_nowhere : (rules : Rules) (breaks12 : Bool) (before t : Text) → KeyNowhere rules before t
+    → KeyNowhere rules before (first_text (lines_of breaks12 (t ++ feed)))
 first_nowhere rules breaks12 before [] none = tt
 first_nowhere rules breaks12 before (c ∷ t) none = by (is_read_break breaks12 c) (first_nowhere rules breaks12 (before ++ (c ∷ [])) t none.1)
   where
@@ -147,7 +148,8 @@ none_said properties standing true = refl
 none_said properties standing false = refl
 
 -- the beginning of a text in double quotes is no key
-double_part : (rules : Rules) (anchor tag : Option Text) (said : Option TagSaid) (t : Text) → Given rules anchor tag said → read_double rules.breaks12 (0x22 ∷ t) ≡ None
+double_part : (rules : Rules) (anchor tag : Option Text) (said : Option TagSaid) (t : Text) → Given rules anchor tag said
+    → read_double rules.breaks12 (0x22 ∷ t) ≡ None
     → key_of_text rules (lead anchor tag ++ (0x22 ∷ t)) ≡ None
 double_part rules anchor tag said t given none =
     let properties : Properties = record { anchor = anchor; tag = said } in
@@ -157,7 +159,8 @@ double_part rules anchor tag said t given none =
     ∙ none_said properties stood_quoted (is_tidy double_quoted rules.breaks12 None (0x22 ∷ t)))
     (double_no_alias rules)
 
-single_part : (rules : Rules) (anchor tag : Option Text) (said : Option TagSaid) (t : Text) → Given rules anchor tag said → read_single rules.breaks12 (0x27 ∷ t) ≡ None
+single_part : (rules : Rules) (anchor tag : Option Text) (said : Option TagSaid) (t : Text) → Given rules anchor tag said
+    → read_single rules.breaks12 (0x27 ∷ t) ≡ None
     → key_of_text rules (lead anchor tag ++ (0x27 ∷ t)) ≡ None
 single_part rules anchor tag said t given none =
     let properties : Properties = record { anchor = anchor; tag = said } in
@@ -188,7 +191,8 @@ single_nowhere rules anchor tag said b (c ∷ t) v given read = (
 )
 
 -- a line that begins with a character that is no `:`
-pub first_passes : (rules : Rules) (before f : Text) (c : ℕ) → (c == 0x3A) ≡ false → key_from rules (before ++ (c ∷ [])) f ≡ None → key_from rules before (c ∷ f) ≡ None
+pub first_passes : (rules : Rules) (before f : Text) (c : ℕ) → (c == 0x3A) ≡ false → key_from rules (before ++ (c ∷ [])) f ≡ None
+    → key_from rules before (c ∷ f) ≡ None
 first_passes rules before f c other none =
     ap (λ x. option_or (key_ends rules (x && ends_sign f) before f) (key_from rules (before ++ (c ∷ [])) f)) other ∙ none
 
@@ -224,7 +228,8 @@ own_double rules column inside v tidy read =
       deeper = lines_deeper rules.breaks12 column 0x22 (t ++ feed) (quotes_go_on rules.breaks12).0
           (λ c e. deep_more rules.breaks12 (suc c) (0x22 ∷ t) (tidy_deep double_quoted rules.breaks12 column (0x22 ∷ t) tidy c e));
       read = λ properties.
-          ap (word_after rules false column properties) (shown_trimmed rules.breaks12 0x22 t (last_shown rules.breaks12 (0x22 ∷ inside) 0x22 ∙ (quotes_show rules.breaks12).0))
+          ap (word_after rules false column properties)
+          (shown_trimmed rules.breaks12 0x22 t (last_shown rules.breaks12 (0x22 ∷ inside) 0x22 ∙ (quotes_show rules.breaks12).0))
           ∙ ap (λ k. word_by_kind k rules false column properties (0x22 ∷ t)) (double_kind t)
           ∙ ap (λ x. scalar_said properties stood_quoted (if x then read_double rules.breaks12 (0x22 ∷ t) else None)) tidy
           ∙ ap (scalar_said properties stood_quoted) read;
@@ -250,7 +255,8 @@ own_single rules column inside v tidy read =
       deeper = lines_deeper rules.breaks12 column 0x27 (t ++ feed) (quotes_go_on rules.breaks12).1
           (λ c e. deep_more rules.breaks12 (suc c) (0x27 ∷ t) (tidy_deep single_quoted rules.breaks12 column (0x27 ∷ t) tidy c e));
       read = λ properties.
-          ap (word_after rules false column properties) (shown_trimmed rules.breaks12 0x27 t (last_shown rules.breaks12 (0x27 ∷ inside) 0x27 ∙ (quotes_show rules.breaks12).1))
+          ap (word_after rules false column properties)
+          (shown_trimmed rules.breaks12 0x27 t (last_shown rules.breaks12 (0x27 ∷ inside) 0x27 ∙ (quotes_show rules.breaks12).1))
           ∙ ap (λ k. word_by_kind k rules false column properties (0x27 ∷ t)) (single_kind t)
           ∙ ap (λ x. scalar_said properties stood_quoted (if x then read_single rules.breaks12 (0x27 ∷ t) else None)) tidy
           ∙ ap (scalar_said properties stood_quoted) read;

@@ -69,16 +69,19 @@ flow_body s own column plain limit indent value cursor flow some tidy read =
     broken_body (rules_of s own) column plain value (body_laid plain s limit indent value cursor) refl
     (by (body_laid plain s limit indent value cursor).text value some tidy read)
   where
-    by : (text value : Text) → is_empty value ≡ false → is_tidy plain s.breaks12 column text ≡ true → read_in_style plain s.breaks12 false column text ≡ Some value
+    by : (text value : Text) → is_empty value ≡ false → is_tidy plain s.breaks12 column text ≡ true
+        → read_in_style plain s.breaks12 false column text ≡ Some value
         → OwnText (rules_of s own) column (text ++ feed) plain value
     by [] [] some tidy read = absurd (true≢false some)
     by [] (c ∷ value) some tidy read = cc
     by (c ∷ text) value some tidy read = own_plain (rules_of s own) column c text value tidy read
 flow_body s own column single_quoted limit indent value cursor flow some tidy read =
-    broken_body (rules_of s own) column single_quoted value (body_laid single_quoted s limit indent value cursor) (body_ended s single_quoted limit indent value cursor refl).indention
+    broken_body (rules_of s own) column single_quoted value (body_laid single_quoted s limit indent value cursor)
+    (body_ended s single_quoted limit indent value cursor refl).indention
     (own_single (rules_of s own) column (runs_laid quotes_doubled limit indent true (runs value) (single_quote cursor).cursor).text value tidy read)
 flow_body s own column double_quoted limit indent value cursor flow some tidy read =
-    broken_body (rules_of s own) column double_quoted value (body_laid double_quoted s limit indent value cursor) (body_ended s double_quoted limit indent value cursor refl).indention
+    broken_body (rules_of s own) column double_quoted value (body_laid double_quoted s limit indent value cursor)
+    (body_ended s double_quoted limit indent value cursor refl).indention
     (own_double (rules_of s own) column (double_inside s.unicode limit indent None value (quote_laid cursor).cursor).text value tidy read)
 flow_body s own column any_style limit indent value cursor flow some tidy read = absurd (none_not_some read)
 flow_body s own column literal limit indent value cursor flow some tidy read = absurd (false≢true flow)
@@ -91,9 +94,11 @@ abbrev header_rest : ℕ → Text → Text → Text
 header_rest best_indent value lines = (indentation_hint best_indent value ++ ending_hint (ending value)) ++ (feed ++ lines)
 
 -- a block scalar's text is its sign and that
-block_text : (sign best_indent : ℕ) (value lines : Text) (cursor : Cursor) → (block_body sign best_indent value lines cursor).text ≡ sign ∷ header_rest best_indent value lines
+block_text : (sign best_indent : ℕ) (value lines : Text) (cursor : Cursor)
+    → (block_body sign best_indent value lines cursor).text ≡ sign ∷ header_rest best_indent value lines
 block_text sign best_indent value lines cursor =
-    ap (λ t. sign ∷ (((t ++ (hint_laid (ending_hint (ending value)) first.cursor).text) ++ feed) ++ lines)) (hint_text (indentation_hint best_indent value) signed)
+    ap (λ t. sign ∷ (((t ++ (hint_laid (ending_hint (ending value)) first.cursor).text) ++ feed) ++ lines))
+    (hint_text (indentation_hint best_indent value) signed)
     ∙ ap (λ t. sign ∷ (((indentation_hint best_indent value ++ t) ++ feed) ++ lines)) (hint_text (ending_hint (ending value)) first.cursor)
     ∙ ap (λ t. sign ∷ t) (append_assoc (indentation_hint best_indent value ++ ending_hint (ending value)) feed lines)
   where
@@ -114,7 +119,8 @@ block_kept s own column l value lines cursor h end lines_end allowed text =
     let header = header_laid (block_sign l) s.indent value cursor in
     let same : closed body ≡ body.text = ap (λ x. body.text ++ (if x then [] else feed)) h ∙ append-nil body.text in
     let front = header.text ++ lines_end.front in
-    let whole : body.text ≡ front ++ (end.last ∷ []) = ap (λ t. header.text ++ t) lines_end.is ∙ sym (append_assoc header.text lines_end.front (end.last ∷ [])) in
+    let whole : body.text ≡ front ++ (end.last ∷ []) =
+    ap (λ t. header.text ++ t) lines_end.is ∙ sym (append_assoc header.text lines_end.front (end.last ∷ [])) in
     record {
       settled = λ w. (ap (λ t. column_after t header.cursor.column) lines_end.is ∙ column_ended lines_end.front end.last header.cursor.column end.breaks, refl);
       ends =
@@ -158,7 +164,8 @@ block_fits_body s own column l value lines cursor low high lines_end allowed tid
         (strip_more s.breaks12 column (block_sign l) rest value (strips s.indent value (feed ++ lines) low high h) read_here)))
 
 -- a body that isn't empty fits in each style
-body_fits : (s : Effective) (own : List TagDirective) (column : Option ℕ) (style : ScalarStyle) (limit : Option ℕ) (indent : ℕ) (value : Text) (cursor : Cursor)
+pub body_fits : (s : Effective) (own : List TagDirective) (column : Option ℕ) (style : ScalarStyle) (limit : Option ℕ) (indent : ℕ) (value : Text)
+    (cursor : Cursor)
     → 2 ≤ s.indent → s.indent ≤ 9 → (is_block style ≡ true → allows_block (record { unicode = s.unicode; breaks12 = s.breaks12 }) value ≡ true)
     → (is_plain style && is_empty value) ≡ false
     → is_tidy style s.breaks12 column (body_laid style s limit indent value cursor).text ≡ true
@@ -167,8 +174,10 @@ body_fits : (s : Effective) (own : List TagDirective) (column : Option ℕ) (sty
 body_fits s own column literal limit indent value cursor low high allowed some tidy read =
     block_fits_body s own column true value (indented indent (parts value)) cursor low high (literal_end indent value) (allowed refl) tidy read
 body_fits s own column folded limit indent value cursor low high allowed some tidy read =
-    block_fits_body s own column false value (indented indent (folded_parts limit indent false (parts value))) cursor low high (folded_lines_end limit indent value) (allowed refl) tidy read
-body_fits s own column plain limit indent value cursor low high allowed some tidy read = flow_body s own column plain limit indent value cursor refl some tidy read
+    block_fits_body s own column false value (indented indent (folded_parts limit indent false (parts value))) cursor low high
+    (folded_lines_end limit indent value) (allowed refl) tidy read
+body_fits s own column plain limit indent value cursor low high allowed some tidy read =
+    flow_body s own column plain limit indent value cursor refl some tidy read
 body_fits s own column single_quoted limit indent value cursor low high allowed some tidy read =
     flow_body s own column single_quoted limit indent value cursor refl some tidy read
 body_fits s own column double_quoted limit indent value cursor low high allowed some tidy read =
@@ -202,7 +211,8 @@ separation_text literal value cursor h = refl
 separation_text folded value cursor h = refl
 
 -- the text up to its last line's end
-styled_closed : (s : Effective) (directives : List TagDirective) (anchor tag : Option Text) (bare : Bool) (style : ScalarStyle) (limit : Option ℕ) (indent : ℕ) (value : Text) (cursor : Cursor)
+styled_closed : (s : Effective) (directives : List TagDirective) (anchor tag : Option Text) (bare : Bool) (style : ScalarStyle) (limit : Option ℕ)
+    (indent : ℕ) (value : Text) (cursor : Cursor)
     → (is_plain style && is_empty value) ≡ false
     → closed (styled_laid s directives anchor tag bare style limit indent value cursor)
     ≡ space_if true cursor ++ (lead anchor (tag_written s.portable directives tag bare)
@@ -217,8 +227,10 @@ styled_closed s directives anchor tag bare style limit indent value cursor some 
     ∙ append_assoc (space_if true cursor) before (closed body)
 
 -- a scalar whose body fits does
-styled_fits : (s : Effective) (own directives : List TagDirective) (anchor tag : Option Text) (bare : Bool) (style : ScalarStyle) (limit : Option ℕ) (indent : ℕ) (value : Text)
-    (place : Place) (cursor : Cursor) → IsNamed anchor → TagStands s.portable own directives tag → (bare ≡ true → is_plain style ≡ false) → (is_plain style && is_empty value) ≡ false
+pub styled_fits : (s : Effective) (own directives : List TagDirective) (anchor tag : Option Text) (bare : Bool) (style : ScalarStyle) (limit : Option ℕ)
+    (indent : ℕ) (value : Text)
+    (place : Place) (cursor : Cursor) → IsNamed anchor → TagStands s.portable own directives
+    tag → (bare ≡ true → is_plain style ≡ false) → (is_plain style && is_empty value) ≡ false
     → BodyFits (rules_of s own) place.column style value (body_laid style s limit indent value (body_cursor s directives anchor tag bare style value cursor))
     → Fits (rules_of s own) 1 (styled_laid s directives anchor tag bare style limit indent value cursor) (scalar_in anchor tag style bare value) place cursor
 styled_fits s own directives anchor tag bare style limit indent value place cursor named stands meant some body = by cursor.whitespace refl
@@ -238,11 +250,14 @@ styled_fits s own directives anchor tag bare style limit indent value place curs
     text : Text
     text = closed (body_laid style s limit indent value (body_cursor s directives anchor tag bare style value cursor))
 
-    fits : (count : ℕ) → (space_if true cursor) ≡ spaces count → (cursor.whitespace ≡ false → 0 < count) → Fits rules 1 laid (scalar_in anchor tag style bare value) place cursor
+    fits : (count : ℕ) → (space_if true cursor) ≡ spaces count → (cursor.whitespace ≡ false → 0 < count)
+        → Fits rules 1 laid (scalar_in anchor tag style bare value) place cursor
     fits count spaced apart =
-        let same : closed laid ≡ spaces count ++ (before ++ text) = styled_closed s directives anchor tag bare style limit indent value cursor some ∙ ap (λ t. t ++ (before ++ text)) spaced in
+        let same : closed laid ≡ spaces count ++ (before ++ text) =
+        styled_closed s directives anchor tag bare style limit indent value cursor some ∙ ap (λ t. t ++ (before ++ text)) spaced in
         text_fits rules laid place cursor count (before ++ text) (scalar_in anchor tag style bare value) same
-        (ap (is_closed rules.breaks12) (same ∙ ap (λ t. spaces count ++ (before ++ t)) body.own.is ∙ sym (append_assoc (spaces count) before (body.own.head ∷ body.own.tail)))
+        (ap (is_closed rules.breaks12)
+        (same ∙ ap (λ t. spaces count ++ (before ++ t)) body.own.is ∙ sym (append_assoc (spaces count) before (body.own.head ∷ body.own.tail)))
         ∙ closed_behind rules.breaks12 (spaces count ++ before) body.own.head body.own.tail (ap (is_closed rules.breaks12) (sym body.own.is) ∙ body.ends))
         body.settled apart (own_reads rules place.column text value style anchor (tag_written s.portable directives tag bare) tag bare body.own given meant)
 
