@@ -127,3 +127,6 @@ pub mod StreamWholeReads
 pub mod StreamRootLeaves
 pub mod StreamEmptyFits
 pub mod StreamScalarLeaves
+pub mod StreamKeyReads
+pub mod StreamSimpleKeys
+pub mod StreamNodesStand
