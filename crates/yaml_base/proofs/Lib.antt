@@ -94,3 +94,4 @@ pub mod StreamFlowNodes
 pub mod StreamFlowReads
 pub mod StreamFlowLines
 pub mod StreamEachDocument
+pub mod StreamTags

@@ -173,7 +173,7 @@ forms_hold_no_flow_sign : (bs : List ℕ) → list_any is_flow_sign (flat_map by
 forms_hold_no_flow_sign [] = refl
 forms_hold_no_flow_sign (b ∷ bs) = rw (digit_is_no_flow_sign (b / 16), digit_is_no_flow_sign b, forms_hold_no_flow_sign bs) refl
 
-character_is_no_flow_sign : (kept : Bool) (c : ℕ) → (kept ≡ true → is_flow_sign c ≡ false) → list_any is_flow_sign (character_written kept c) ≡ false
+pub character_is_no_flow_sign : (kept : Bool) (c : ℕ) → (kept ≡ true → is_flow_sign c ≡ false) → list_any is_flow_sign (character_written kept c) ≡ false
 character_is_no_flow_sign true c k = rw (k refl) refl
 character_is_no_flow_sign false c k = forms_hold_no_flow_sign (encode c)
 

@@ -28,7 +28,7 @@ without_last-append (c ∷ []) end = refl
 without_last-append (c ∷ next ∷ rest) end = ap (λ x. c ∷ x) (without_last-append (next ∷ rest) end)
 
 -- what stands before the sign at the end
-end_sign_dropped : (text : Text) → without_end_sign (text ++ 0x3E ∷ []) ≡ Some text
+pub end_sign_dropped : (text : Text) → without_end_sign (text ++ 0x3E ∷ []) ≡ Some text
 end_sign_dropped [] = refl
 end_sign_dropped (c ∷ []) = refl
 end_sign_dropped (c ∷ d ∷ rest) = ap (option_map (λ text. c ∷ text)) (end_sign_dropped (d ∷ rest))
@@ -38,7 +38,7 @@ verbatim_reads portable own tag h = ap verbatim_read (end_sign_dropped (percent_
 
 -- A text up to its last `!`.
 
-abbrev no_mark : Text → Bool
+abbrev pub no_mark : Text → Bool
 no_mark text = list_all (λ c. not (c == tag_mark)) text
 
 uncut : (text : Text) → no_mark text ≡ true → cut_after_mark text ≡ record { front = []; rest = text }
@@ -54,7 +54,7 @@ cut_further [] c handle suffix text e = e
 cut_further (d ∷ []) c handle suffix text e = rw e refl
 cut_further (d ∷ f ∷ front) c handle suffix text e = rw (cut_further (f ∷ front) c handle suffix text e) refl
 
-stands_no_mark : (text : Text) → list_all stands_written text ≡ true → no_mark text ≡ true
+pub stands_no_mark : (text : Text) → list_all stands_written text ≡ true → no_mark text ≡ true
 stands_no_mark [] h = refl
 stands_no_mark (c ∷ rest) h =
     let both = and_parts (stands_written c) (list_all stands_written rest) h in
@@ -99,7 +99,7 @@ handle_form (c ∷ d ∷ rest) e =
 within_marks : (handle middle text : Text) → handle ≡ (tag_mark ∷ middle) ++ tag_mark ∷ [] → handle ++ text ≡ (tag_mark ∷ middle) ++ (tag_mark ∷ text)
 within_marks handle middle text e = ap (λ x. x ++ text) e ∙ append_assoc (tag_mark ∷ middle) (tag_mark ∷ []) text
 
-cut_at_handle : (handle text : Text) → IsHandle handle → no_mark text ≡ true → cut_after_mark (handle ++ text) ≡ record { front = handle; rest = text }
+pub cut_at_handle : (handle text : Text) → IsHandle handle → no_mark text ≡ true → cut_after_mark (handle ++ text) ≡ record { front = handle; rest = text }
 cut_at_handle handle text (inl e) h = rw e (cut_at_mark text h)
 cut_at_handle handle text (inr form) h =
     ap cut_after_mark (within_marks handle form.0 text form.1)
@@ -194,15 +194,15 @@ spelling_is P own (directive ∷ rest) tag found whole by =
 
 -- Directives in force are found.
 
-neither : {A : Type 0} (x y : Option A) → option_or x y ≡ None → (x ≡ None) × (y ≡ None)
+pub neither : {A : Type 0} (x y : Option A) → option_or x y ≡ None → (x ≡ None) × (y ≡ None)
 neither None y e = (refl, e)
 neither (Some x) y e = absurd (cc)
 
-not_given : (given : Bool) (number : ℕ) → cond {A = Option ℕ} given (Some number) None ≡ None → given ≡ false
+pub not_given : (given : Bool) (number : ℕ) → cond {A = Option ℕ} given (Some number) None ≡ None → given ≡ false
 not_given true number e = absurd (cc)
 not_given false number e = refl
 
-same_text : (text : Text) → bytes_eq text text ≡ true
+pub same_text : (text : Text) → bytes_eq text text ≡ true
 same_text text = (bytes_eq-Decides text text).1 refl
 
 -- directives that don't give a handle are passed over
@@ -263,7 +263,7 @@ written_tag_reads portable own tag h k =
     shorthand_reads portable own handle prefix c suffix f g (scalars_behind prefix (c ∷ suffix) (subst IsText (sym whole) k))
     ∙ ap (λ x. Some (name_said x)) whole)
 
-any-append : (p : ℕ → Bool) (xs ys : Text) → list_any p xs ≡ false → list_any p ys ≡ false → list_any p (xs ++ ys) ≡ false
+pub any-append : (p : ℕ → Bool) (xs ys : Text) → list_any p xs ≡ false → list_any p ys ≡ false → list_any p (xs ++ ys) ≡ false
 any-append p [] ys h k = k
 any-append p (x ∷ xs) ys h k =
     let both = or_parts (p x) (list_any p xs) h in or_from _ _ both.0 (any-append p xs ys both.1 k)
