@@ -78,11 +78,12 @@ by_handle : (own : List TagDirective) (d : ℕ) (rest handle : Text) (c : ℕ) (
     → cut_after_mark (tag_mark ∷ d ∷ rest) ≡ record { front = handle; rest = c ∷ suffix } → list_all is_suffix_character (c ∷ suffix) ≡ true
     → tag_said own (tag_mark ∷ d ∷ rest) ≡ tag_read own (tag_mark ∷ d ∷ rest)
 by_handle own d rest handle c suffix less cut h =
-    ap (λ x. if x then verbatim_said (without_end_sign rest) else shorthand_said own (cut_after_mark (tag_mark ∷ d ∷ rest)).front (cut_after_mark (tag_mark ∷ d ∷ rest)).rest) less
+    let made : CutText = cut_after_mark (tag_mark ∷ d ∷ rest) in
+    ap (λ x. if x then verbatim_said (without_end_sign rest) else shorthand_said own made.front made.rest) less
     ∙ ap (λ (cut : CutText). shorthand_said own cut.front cut.rest) cut
     ∙ ap (λ x. if x then name_joined (prefix_among (own ++ directives_assumed) handle) (percent_read (c ∷ suffix)) else None) h
     ∙ sym (ap (shorthand_read own) cut)
-    ∙ sym (ap (λ x. if x then verbatim_read (without_end_sign rest) else shorthand_read own (cut_after_mark (tag_mark ∷ d ∷ rest))) less)
+    ∙ sym (ap (λ x. if x then verbatim_read (without_end_sign rest) else shorthand_read own made) less)
 
 -- a handle and what stands after it go on so
 second_sign : (handle : Text) (c : ℕ) (suffix : Text) → IsHandle handle → stands_written c ≡ true
@@ -94,7 +95,8 @@ second_sign handle c suffix (inr form) h = by form.0 form.1 form.2
         → (d : ℕ) × (rest : Text) × (handle ++ (c ∷ suffix) ≡ tag_mark ∷ d ∷ rest) × ((d == 0x3C) ≡ false)
     by [] e k = (tag_mark, c ∷ suffix, ap (λ t. t ++ (c ∷ suffix)) e, refl)
     by (m ∷ middle) e k =
-        (m, (middle ++ tag_mark ∷ []) ++ (c ∷ suffix), ap (λ t. t ++ (c ∷ suffix)) e, alpha_is_no_less m (and_parts (is_alpha m) (list_all is_alpha middle) k).0)
+        let first = (and_parts (is_alpha m) (list_all is_alpha middle) k).0 in
+        (m, (middle ++ tag_mark ∷ []) ++ (c ∷ suffix), ap (λ t. t ++ (c ∷ suffix)) e, alpha_is_no_less m first)
 
 -- a shorthand says what a canonical one says
 shorthand_as_read : (own : List TagDirective) (handle : Text) (c : ℕ) (suffix : Text) → IsHandle handle → list_all stands_written (c ∷ suffix) ≡ true
@@ -102,7 +104,8 @@ shorthand_as_read : (own : List TagDirective) (handle : Text) (c : ℕ) (suffix 
 shorthand_as_read own handle c suffix form stands h =
     let second = second_sign handle c suffix form (and_parts (stands_written c) (list_all stands_written suffix) stands).0 in
     ap (tag_said own) second.2
-    ∙ by_handle own second.0 second.1 handle c suffix second.3 (ap cut_after_mark (sym second.2) ∙ cut_at_handle handle (c ∷ suffix) form (stands_no_mark (c ∷ suffix) stands)) h
+    ∙ by_handle own second.0 second.1 handle c suffix second.3
+    (ap cut_after_mark (sym second.2) ∙ cut_at_handle handle (c ∷ suffix) form (stands_no_mark (c ∷ suffix) stands)) h
     ∙ ap (tag_read own) (sym second.2)
 
 nothing_begins : {c : ℕ} {t : Text} → ◌≡◌ {A = Text} [] (c ∷ t) → ⊥
