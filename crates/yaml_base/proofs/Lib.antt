@@ -95,3 +95,4 @@ pub mod StreamFlowReads
 pub mod StreamFlowLines
 pub mod StreamEachDocument
 pub mod StreamTags
+pub mod StreamNames
