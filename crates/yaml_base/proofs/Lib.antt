@@ -96,3 +96,4 @@ pub mod StreamFlowLines
 pub mod StreamEachDocument
 pub mod StreamTags
 pub mod StreamNames
+pub mod StreamHeadings

@@ -110,7 +110,7 @@ forms_stand : (bs : List ℕ) → list_all stands_written (flat_map byte_escaped
 forms_stand [] = refl
 forms_stand (b ∷ bs) = rw (digit_stands (b / 16), digit_stands b, forms_stand bs) refl
 
-character_stands : (kept : Bool) (c : ℕ) → (kept ≡ true → is_tag_character c ≡ true) → list_all stands_written (character_written kept c) ≡ true
+pub character_stands : (kept : Bool) (c : ℕ) → (kept ≡ true → is_tag_character c ≡ true) → list_all stands_written (character_written kept c) ≡ true
 character_stands true c k = rw (k refl) refl
 character_stands false c k = forms_stand (encode c)
 

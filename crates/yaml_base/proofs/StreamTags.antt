@@ -21,7 +21,7 @@ use Rattle.yaml_base.proofs.StreamProperties.{WrittenTag}
 -- Characters
 
 -- what is written of a tag may stand in a URI
-uri_character : (c : ℕ) → stands_written c ≡ true → is_uri_character c ≡ true
+pub uri_character : (c : ℕ) → stands_written c ≡ true → is_uri_character c ≡ true
 uri_character c h = grind (arith, nat_tests)
 
 pub uri_text : (text : Text) → list_all stands_written text ≡ true → list_all is_uri_character text ≡ true

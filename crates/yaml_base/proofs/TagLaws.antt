@@ -281,7 +281,7 @@ letters_end_no_word (c ∷ rest) h =
     let both = and_parts (is_alpha c) (list_all is_alpha rest) h in
     or_from _ _ (alpha_ends_no_word c both.0) (letters_end_no_word rest both.1)
 
-handle_ends_no_word : (handle : Text) → IsHandle handle → list_any ends_word handle ≡ false
+pub handle_ends_no_word : (handle : Text) → IsHandle handle → list_any ends_word handle ≡ false
 handle_ends_no_word handle (inl e) = rw e refl
 handle_ends_no_word handle (inr form) =
     rw form.1 (any-append ends_word (tag_mark ∷ form.0) (tag_mark ∷ []) (letters_end_no_word form.0 form.2) refl)
