@@ -1,24 +1,24 @@
 -- A document's directives, as they are written, are lines that are read as these directives.
-use Rattle.std.proofs.Common.{◌≡◌, refl, sym, ap, ◌∙◌, inl, inr, append_assoc, arith}
-use Rattle.std.proofs.lemmas.Bool.{true≢false, false≢true, eqb-true, and_parts, and_from, or_parts, or_from, not-true}
+use Rattle.std.proofs.Common.{◌≡◌, refl, sym, ap, ◌∙◌, inl, inr, append_assoc, append-nil, arith, int_eq}
+use Rattle.std.proofs.lemmas.Bool.{false≢true, eqb-true, and_parts, and_from, or_from, not-true}
 use Rattle.std.proofs.lemmas.Bool.Decides.{nat_tests}
 use Rattle.std.proofs.lemmas.List.Splits.{slice_split-cons_yes, slice_split-cons_no}
-use Rattle.std.specs.List.{list_all, list_any, slice_split, onto_first}
-use Rattle.std.specs.Option.{option_or}
+use Rattle.std.specs.List.{list_all, slice_split, onto_first}
+use Rattle.std.proofs.lemmas.List.Sums.{fold-append}
 use Rattle.std.specs.Str.{all_scalars}
 use Rattle.std.proofs.lemmas.List.Folds.{list_all-append}
-use Rattle.std.specs.Prelude.{ℕ, ℤ, pos, negsuc, Bool, true, false, Option, None, Some, List, [], ◌∷◌, ◌++◌, ◌==◌, ◌||◌, ◌&&◌, not, codes, fold, bytes_eq, option_map, option_and_then, is_some, length, if◌then◌else◌}
+use Rattle.std.specs.Prelude.{ℕ, ℤ, pos, negsuc, Bool, true, false, Option, None, Some, List, [], ◌∷◌, ◌++◌, ◌==◌, ◌||◌, ◌&&◌, not, codes, fold, option_and_then, if◌then◌else◌}
 use Rattle.yaml_base.specs.Characters.{Text, space, line_feed, is_space, is_alpha, is_blank, is_break}
-use Rattle.yaml_base.specs.LineBreaks.{is_read_break}
 use Rattle.yaml_base.specs.Event.{Version, TagDirective, DocumentStart}
 use Rattle.yaml_base.specs.Percent.{percent_escaped, prefix_escaped, is_tag_character, character_written, percent_sign}
 use Rattle.yaml_base.specs.ReadPercent.{is_uri_character, percent_read}
 use Rattle.yaml_base.specs.ReadTags.{closes_handle, is_handle_text, prefix_said, is_given}
-use Rattle.yaml_base.specs.Tags.{tag_mark, prefix_fault, handle_fault, next_directive_fault, directive_fault, gives_handle, duplicate_directive}
+use Rattle.yaml_base.specs.Tags.{tag_mark, prefix_fault, handle_fault, next_directive_fault, directive_fault, gives_handle, duplicate_directive, incompatible_version, directives_fault_after, version_fault, directives_fault}
 use Rattle.yaml_base.specs.Meaning.{directive_scalars}
-use Rattle.yaml_base.specs.StreamLines.{Line, lines_of, is_spaces}
-use Rattle.yaml_base.specs.StreamDocuments.{Heading, with_directive, directive_by_words, directive_line, heading_of}
-use Rattle.yaml_base.proofs.PercentLaws.{stands_written, escaped_stands, stands_in_prefix, prefix_stands, prefix_begins, decoded_prefix, character_stands}
+use Rattle.yaml_base.specs.StreamLines.{Line}
+use Rattle.yaml_base.specs.Layout.{version_text}
+use Rattle.yaml_base.specs.StreamDocuments.{Heading, with_directive, directive_by_words, directive_line, heading_of, no_heading, version_said, with_version}
+use Rattle.yaml_base.proofs.PercentLaws.{escaped_stands, stands_in_prefix, prefix_stands, prefix_begins, decoded_prefix, character_stands}
 use Rattle.yaml_base.proofs.TagLaws.{IsHandle, handle_form, handle_ends_no_word, neither, not_given}
 use Rattle.yaml_base.proofs.StreamProperties.{holds_white, has_no_space, no_white_no_space}
 use Rattle.yaml_base.proofs.StreamTags.{uri_text, uri_character}
@@ -156,3 +156,87 @@ directive_reads portable version before directive ending sound scalars =
   where
     with_prefix : Option Heading
     with_prefix = Some (record { version = version; directives = before ++ directive ∷ [] })
+
+-- the lines of some directives
+abbrev pub tag_lines : (portable : Bool) → List TagDirective → List Line
+tag_lines portable [] = []
+tag_lines portable (directive ∷ rest) = record { text = directive_text portable directive; ending = line_feed ∷ [] } ∷ tag_lines portable rest
+
+-- directives without a fault are read after those before them
+tags_read : (portable : Bool) (version : Option Version) (before directives : List TagDirective) → directives_fault_after before directives ≡ None
+    → list_all directive_scalars directives ≡ true
+    → fold directive_line (Some (record { version = version; directives = before })) (tag_lines portable directives)
+    ≡ Some (record { version = version; directives = before ++ directives })
+tags_read portable version before [] sound scalars =
+    ap (λ (all : List TagDirective). let made : Option Heading = Some (record { version = version; directives = all }) in made) (sym (append-nil before))
+tags_read portable version before (directive ∷ rest) sound scalars =
+    let both = neither (next_directive_fault before directive) (directives_fault_after (before ++ directive ∷ []) rest) sound in
+    let texts = and_parts (directive_scalars directive) (list_all directive_scalars rest) scalars in
+    ap (λ (heading : Option Heading). fold directive_line heading (tag_lines portable rest))
+    (directive_reads portable version before directive (line_feed ∷ []) both.0 texts.0)
+    ∙ tags_read portable version (before ++ directive ∷ []) rest both.1 texts.1
+    ∙ ap (λ (all : List TagDirective). let made : Option Heading = Some (record { version = version; directives = all }) in made)
+    (append_assoc before (directive ∷ []) rest)
+
+-- Versions
+
+-- the tests of a version that passed
+version_tests : (a b c : Bool) → ◌≡◌ {A = Option ℕ} (if a && (b || c) then None else Some incompatible_version) None → (a ≡ true) × ((b || c) ≡ true)
+version_tests true true c h = (refl, refl)
+version_tests true false true h = (refl, refl)
+version_tests true false false h = absurd (cc)
+version_tests false b c h = absurd (cc)
+
+-- a version without a fault is read as it was given
+version_reads : (version : Version) → version_fault version ≡ None → version_said (version_text version) ≡ Some version
+version_reads version h = by version.major version.minor h
+  where
+    made : ℤ → ℤ → Version
+    made major minor = record { major = major; minor = minor }
+
+    minor_two : (m : ℕ) → (1 == m || 2 == m) ≡ true → version_said (version_text (made (pos 1) (pos m))) ≡ Some (made (pos 1) (pos m))
+    minor_two m h = at (1 == m) refl h
+      where
+        at : (x : Bool) → (1 == m) ≡ x → (x || 2 == m) ≡ true → version_said (version_text (made (pos 1) (pos m))) ≡ Some (made (pos 1) (pos m))
+        at true e h = let f : 1 ≡ m = eqb-true 1 m e in rw (← f) refl
+        at false e h = let f : 2 ≡ m = eqb-true 2 m h in rw (← f) refl
+
+    by : (major minor : ℤ) → version_fault (made major minor) ≡ None → version_said (version_text (made major minor)) ≡ Some (made major minor)
+    by (negsuc a) minor h = absurd (cc)
+    by (pos a) (negsuc b) h = absurd (false≢true (version_tests (1 == a) false false h).1)
+    by (pos a) (pos b) h =
+        let tests = version_tests (1 == a) (1 == b) (2 == b) h in
+        let e : 1 ≡ a = eqb-true 1 a tests.0 in
+        rw (← e) (minor_two b tests.1)
+
+-- the line of a version, if there is one
+abbrev pub version_lines : Option Version → List Line
+version_lines None = []
+version_lines (Some version) = record { text = codes "%YAML" ++ (space ∷ version_text version); ending = line_feed ∷ [] } ∷ []
+
+-- it is read as the version
+version_read : (version : Option Version) → option_and_then version_fault version ≡ None
+    → heading_of (version_lines version) ≡ Some (record { version = version; directives = [] })
+version_read None sound = refl
+version_read (Some version) sound =
+    ap (directive_by_words no_heading) (words (int_eq version.minor (pos 2)))
+    ∙ ap (with_version no_heading) (version_reads version sound)
+  where
+    words : (x : Bool) → slice_split is_space (codes "%YAML" ++ (space ∷ (if x then codes "1.2" else codes "1.1"))) ≡ codes "%YAML" ∷ (if x then codes "1.2" else codes "1.1") ∷ []
+    words true = refl
+    words false = refl
+
+-- Headings
+
+-- the lines of a document's version and directives
+abbrev pub heading_lines : (portable : Bool) → DocumentStart → List Line
+heading_lines portable start = version_lines start.version ++ tag_lines portable start.directives
+
+-- they are read as the version and the directives
+pub heading_reads : (portable : Bool) (start : DocumentStart) → option_and_then version_fault start.version ≡ None
+    → directives_fault start.directives ≡ None → list_all directive_scalars start.directives ≡ true
+    → heading_of (heading_lines portable start) ≡ Some (record { version = start.version; directives = start.directives })
+heading_reads portable start version directives scalars =
+    fold-append directive_line (Some no_heading) (version_lines start.version) (tag_lines portable start.directives)
+    ∙ ap (λ (heading : Option Heading). fold directive_line heading (tag_lines portable start.directives)) (version_read start.version version)
+    ∙ tags_read portable start.version [] start.directives directives scalars
