@@ -97,3 +97,4 @@ pub mod StreamEachDocument
 pub mod StreamTags
 pub mod StreamNames
 pub mod StreamHeadings
+pub mod StreamHeadingLines

@@ -63,7 +63,7 @@ handle_reads handle (inr form) = ap is_handle_text form.1 ∙ by form.0 (closes_
 prefix_shows : (c : ℕ) → stands_in_prefix c ≡ true → (is_blank c || is_break c) ≡ false
 prefix_shows c h = grind (arith, nat_tests)
 
-prefix_no_white : (text : Text) → list_all stands_in_prefix text ≡ true → holds_white text ≡ false
+pub prefix_no_white : (text : Text) → list_all stands_in_prefix text ≡ true → holds_white text ≡ false
 prefix_no_white [] h = refl
 prefix_no_white (c ∷ text) h =
     let parts = and_parts (stands_in_prefix c) (list_all stands_in_prefix text) h in

@@ -1,0 +1,117 @@
+-- What a document's start writes is these lines: each begins with `%`, is not blank, and is no mark.
+use Rattle.std.proofs.Common.{◌≡◌, refl, sym, ap, ◌∙◌, append_assoc, append-nil, int_eq, arith, pos}
+use Rattle.std.proofs.lemmas.Bool.{true≢false, false≢true, eqb-true, and_parts, and_from, or_parts, or_from}
+use Rattle.std.proofs.lemmas.Bool.Decides.{nat_tests}
+use Rattle.yaml_base.proofs.PercentLaws.{prefix_stands}
+use Rattle.std.specs.List.{list_all, list_any}
+use Rattle.std.specs.Prelude.{ℕ, Bool, true, false, Option, None, Some, List, [], ◌∷◌, ◌++◌, ◌==◌, ◌||◌, ◌&&◌, not, codes, option_and_then, is_some, length, if◌then◌else◌}
+use Rattle.yaml_base.specs.Characters.{Text, space, line_feed, is_break, is_blank}
+use Rattle.yaml_base.specs.LineBreaks.{is_read_break}
+use Rattle.yaml_base.specs.Settings.{Effective}
+use Rattle.yaml_base.specs.Cursor.{Cursor, Laid, first_cursor, then_laid}
+use Rattle.yaml_base.specs.Event.{Version, TagDirective, DocumentStart}
+use Rattle.yaml_base.specs.Percent.{prefix_escaped}
+use Rattle.yaml_base.specs.Tags.{directives_fault, handle_fault, directives_fault_after, next_directive_fault, directive_fault, gives_handle, duplicate_directive, prefix_fault}
+use Rattle.yaml_base.specs.Layout.{Standing, laid_if, closing_mark_laid, version_text, version_laid, tag_directives_laid, has_directives, is_explicit, document_mark_laid, document_start_laid}
+use Rattle.yaml_base.specs.StreamLines.{Line, lines_of, text_of_lines, is_spaces, without_blank_lines, all_blank}
+use Rattle.yaml_base.specs.StreamDocuments.{mark_of, directive_lines, begins_with_percent, front_kind}
+use Rattle.yaml_base.proofs.TagLaws.{handle_form, handle_ends_no_word, neither}
+use Rattle.yaml_base.proofs.StreamLineLaws.{OneLine, one_line_both}
+use Rattle.yaml_base.proofs.StreamClosed.{lines_broken, character_line}
+use Rattle.yaml_base.proofs.StreamSections.{is_unmarked, AllUnmarked}
+use Rattle.yaml_base.proofs.StreamRoots.{mark_cursor}
+use Rattle.yaml_base.proofs.StreamProperties.{holds_white}
+use Rattle.yaml_base.proofs.StreamHeadings.{directive_text, tag_lines, version_lines, heading_lines, prefix_no_white}
+
+-- Lines with their breaks
+
+-- each line is one, and a break ends it
+abbrev pub WholeLines : Bool → List Line → Type 0
+WholeLines breaks12 [] = Unit {0}
+WholeLines breaks12 (line ∷ rest) = OneLine breaks12 line.text × (line.ending ≡ line_feed ∷ []) × WholeLines breaks12 rest
+
+-- they are the first lines of what follows them
+pub whole_lines : (breaks12 : Bool) (lines : List Line) (rest : Text) → WholeLines breaks12 lines
+    → lines_of breaks12 (text_of_lines lines ++ rest) ≡ lines ++ lines_of breaks12 rest
+whole_lines breaks12 [] rest h = refl
+whole_lines breaks12 (line ∷ lines) rest h =
+    ap (lines_of breaks12) (append_assoc line.text (line.ending ++ text_of_lines lines) rest)
+    ∙ ap (λ ending. lines_of breaks12 (line.text ++ ((ending ++ text_of_lines lines) ++ rest))) h.1
+    ∙ lines_broken breaks12 line.text (text_of_lines lines ++ rest) h.0
+    ∙ ap (λ ending. let made : Line = record { text = line.text; ending = ending } in made ∷ lines_of breaks12 (text_of_lines lines ++ rest)) (sym h.1)
+    ∙ ap (λ all. line ∷ all) (whole_lines breaks12 lines rest h.2)
+
+-- lines, and then others
+whole_both : (breaks12 : Bool) (some others : List Line) → WholeLines breaks12 some → WholeLines breaks12 others → WholeLines breaks12 (some ++ others)
+whole_both breaks12 [] others h k = k
+whole_both breaks12 (line ∷ rest) others h k = (h.0, h.1, whole_both breaks12 rest others h.2 k)
+
+-- the text of lines, and then of others
+text_of_both : (some others : List Line) → text_of_lines (some ++ others) ≡ text_of_lines some ++ text_of_lines others
+text_of_both [] others = refl
+text_of_both (line ∷ rest) others =
+    ap (λ t. line.text ++ (line.ending ++ t)) (text_of_both rest others)
+    ∙ ap (λ t. line.text ++ t) (sym (append_assoc line.ending (text_of_lines rest) (text_of_lines others)))
+    ∙ sym (append_assoc line.text (line.ending ++ text_of_lines rest) (text_of_lines others))
+
+-- A heading's lines
+
+-- a text without white space is on one line
+dark_line : (breaks12 : Bool) (text : Text) → holds_white text ≡ false → OneLine breaks12 text
+dark_line breaks12 [] h = refl
+dark_line breaks12 (c ∷ text) h =
+    let parts = or_parts (is_blank c || is_break c) (holds_white text) h in
+    or_from (is_read_break breaks12 c) (list_any (is_read_break breaks12) text)
+    (by breaks12 (or_parts (is_blank c) (is_break c) parts.0).1) (dark_line breaks12 text parts.1)
+  where
+    by : (x : Bool) → is_break c ≡ false → is_read_break x c ≡ false
+    by true h = grind (arith, nat_tests)
+    by false h = grind (arith, nat_tests)
+
+-- a directive's line
+directive_whole : (breaks12 portable : Bool) (directive : TagDirective) → handle_fault directive.handle ≡ None → OneLine breaks12 (directive_text portable directive)
+directive_whole breaks12 portable directive sound =
+    let prefix = prefix_escaped portable directive.prefix in
+    one_line_both breaks12 (codes "%TAG" ++ space ∷ []) (directive.handle ++ (space ∷ prefix)) (by breaks12)
+    (one_line_both breaks12 directive.handle (space ∷ prefix) (dark_line breaks12 directive.handle (handle_ends_no_word directive.handle (handle_form directive.handle sound)))
+    (character_line breaks12 space prefix (at breaks12) (dark_line breaks12 prefix (prefix_no_white prefix (prefix_stands portable directive.prefix)))))
+  where
+    by : (x : Bool) → OneLine x (codes "%TAG" ++ space ∷ [])
+    by true = refl
+    by false = refl
+
+    at : (x : Bool) → is_read_break x space ≡ false
+    at true = refl
+    at false = refl
+
+tags_whole : (breaks12 portable : Bool) (before directives : List TagDirective) → directives_fault_after before directives ≡ None
+    → WholeLines breaks12 (tag_lines portable directives)
+tags_whole breaks12 portable before [] sound = tt
+tags_whole breaks12 portable before (directive ∷ rest) sound =
+    let both = neither (next_directive_fault before directive) (directives_fault_after (before ++ directive ∷ []) rest) sound in
+    let own = neither (directive_fault directive) (if gives_handle directive.handle before then Some duplicate_directive else None) both.0 in
+    let parts = neither (handle_fault directive.handle) (prefix_fault directive.prefix) own.0 in
+    (directive_whole breaks12 portable directive parts.0, refl, tags_whole breaks12 portable (before ++ directive ∷ []) rest both.1)
+
+version_whole : (breaks12 : Bool) (version : Option Version) → WholeLines breaks12 (version_lines version)
+version_whole breaks12 None = tt
+version_whole breaks12 (Some version) = (by breaks12 (int_eq version.minor (pos 2)), refl, tt)
+  where
+    by : (x two : Bool) → OneLine x (codes "%YAML" ++ (space ∷ (if two then codes "1.2" else codes "1.1")))
+    by true true = refl
+    by true false = refl
+    by false true = refl
+    by false false = refl
+
+-- the lines of a heading without a fault
+pub heading_whole : (breaks12 portable : Bool) (start : DocumentStart) → directives_fault start.directives ≡ None
+    → WholeLines breaks12 (heading_lines portable start)
+heading_whole breaks12 portable start sound =
+    whole_both breaks12 (version_lines start.version) (tag_lines portable start.directives)
+    (version_whole breaks12 start.version) (tags_whole breaks12 portable [] start.directives sound)
+
+-- they are the first lines of what follows
+pub heading_first : (breaks12 portable : Bool) (start : DocumentStart) (rest : Text) → directives_fault start.directives ≡ None
+    → lines_of breaks12 (text_of_lines (heading_lines portable start) ++ rest) ≡ heading_lines portable start ++ lines_of breaks12 rest
+heading_first breaks12 portable start rest sound =
+    whole_lines breaks12 (heading_lines portable start) rest (heading_whole breaks12 portable start sound)
