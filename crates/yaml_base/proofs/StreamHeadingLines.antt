@@ -1,5 +1,5 @@
 -- What a document's start writes is these lines: each begins with `%`, is not blank, and is no mark.
-use Rattle.std.proofs.Common.{◌≡◌, refl, sym, ap, ◌∙◌, append_assoc, append-nil, int_eq, arith, pos}
+use Rattle.std.proofs.Common.{◌≡◌, refl, sym, ap, ◌∙◌, append_assoc, append-nil, int_eq, arith, pos, suc}
 use Rattle.std.proofs.lemmas.Bool.{true≢false, false≢true, eqb-true, and_parts, and_from, or_parts, or_from}
 use Rattle.std.proofs.lemmas.Bool.Decides.{nat_tests}
 use Rattle.yaml_base.proofs.PercentLaws.{prefix_stands}
@@ -14,7 +14,7 @@ use Rattle.yaml_base.specs.Percent.{prefix_escaped}
 use Rattle.yaml_base.specs.Tags.{directives_fault, handle_fault, directives_fault_after, next_directive_fault, directive_fault, gives_handle, duplicate_directive, prefix_fault}
 use Rattle.yaml_base.specs.Layout.{Standing, laid_if, closing_mark_laid, version_text, version_laid, tag_directives_laid, has_directives, is_explicit, document_mark_laid, document_start_laid}
 use Rattle.yaml_base.specs.StreamLines.{Line, lines_of, text_of_lines, is_spaces, without_blank_lines, all_blank}
-use Rattle.yaml_base.specs.StreamDocuments.{mark_of, directive_lines, begins_with_percent, front_kind}
+use Rattle.yaml_base.specs.StreamDocuments.{mark_of, directive_lines, begins_with_percent, front_kind, document_lines}
 use Rattle.yaml_base.proofs.TagLaws.{handle_form, handle_ends_no_word, neither}
 use Rattle.yaml_base.proofs.StreamLineLaws.{OneLine, one_line_both}
 use Rattle.yaml_base.proofs.StreamClosed.{lines_broken, character_line}
@@ -115,3 +115,102 @@ pub heading_first : (breaks12 portable : Bool) (start : DocumentStart) (rest : T
     → lines_of breaks12 (text_of_lines (heading_lines portable start) ++ rest) ≡ heading_lines portable start ++ lines_of breaks12 rest
 heading_first breaks12 portable start rest sound =
     whole_lines breaks12 (heading_lines portable start) rest (heading_whole breaks12 portable start sound)
+
+-- Each begins with a `%`
+
+-- so does each of some lines
+abbrev pub AllPercent : List Line → Type 0
+AllPercent lines = list_all (λ line. begins_with_percent line.text) lines ≡ true
+
+tags_percent : (portable : Bool) (directives : List TagDirective) → AllPercent (tag_lines portable directives)
+tags_percent portable [] = refl
+tags_percent portable (directive ∷ rest) = tags_percent portable rest
+
+-- each line of a heading does
+pub heading_percent : (portable : Bool) (start : DocumentStart) → AllPercent (heading_lines portable start)
+heading_percent portable start = by start.version
+  where
+    by : (version : Option Version) → AllPercent (version_lines version ++ tag_lines portable start.directives)
+    by None = tags_percent portable start.directives
+    by (Some version) = tags_percent portable start.directives
+
+-- such a line is no mark
+percent_unmarked : (t : Text) → begins_with_percent t ≡ true → is_unmarked (mark_of t) ≡ true
+percent_unmarked [] h = refl
+percent_unmarked (c ∷ t) h = ap (λ d. is_unmarked (mark_of (d ∷ t))) (eqb-true c 0x25 h) ∙ by t
+  where
+    by : (t : Text) → is_unmarked (mark_of (0x25 ∷ t)) ≡ true
+    by [] = refl
+    by (b ∷ []) = refl
+    by (b ∷ c ∷ t) = refl
+
+-- nor is any of them
+all_percent_unmarked : (lines : List Line) → AllPercent lines → AllUnmarked lines
+all_percent_unmarked [] h = refl
+all_percent_unmarked (line ∷ rest) h =
+    let parts = and_parts (begins_with_percent line.text) (list_all (λ line. begins_with_percent line.text) rest) h in
+    and_from (is_unmarked (mark_of line.text)) (list_all (λ line. is_unmarked (mark_of line.text)) rest)
+    (percent_unmarked line.text parts.0) (all_percent_unmarked rest parts.1)
+
+-- no line of a heading is a mark
+pub heading_unmarked : (portable : Bool) (start : DocumentStart) → AllUnmarked (heading_lines portable start)
+heading_unmarked portable start = all_percent_unmarked (heading_lines portable start) (heading_percent portable start)
+
+-- such a line isn't blank
+percent_shows : (t : Text) → begins_with_percent t ≡ true → is_spaces t ≡ false
+percent_shows [] h = absurd (false≢true h)
+percent_shows (c ∷ t) h = ap (λ d. d == space && is_spaces t) (eqb-true c 0x25 h)
+
+-- Where there is a heading
+
+-- a document that says something has a first line, which begins with a `%`
+pub heading_begins : (portable : Bool) (start : DocumentStart) → has_directives start ≡ true
+    → (line : Line) × (more : List Line) × (heading_lines portable start ≡ line ∷ more) × (begins_with_percent line.text ≡ true)
+heading_begins portable start h = by start.version start.directives h
+  where
+    by : (version : Option Version) (directives : List TagDirective) → (is_some version || not (length directives == 0)) ≡ true
+        → (line : Line) × (more : List Line) × (version_lines version ++ tag_lines portable directives ≡ line ∷ more) × (begins_with_percent line.text ≡ true)
+    by None [] h = absurd (false≢true h)
+    by None (directive ∷ rest) h = (record { text = directive_text portable directive; ending = line_feed ∷ [] }, tag_lines portable rest, refl, refl)
+    by (Some version) directives h =
+        (record { text = codes "%YAML" ++ (space ∷ version_text version); ending = line_feed ∷ [] }, tag_lines portable directives, refl, refl)
+
+-- it tells the reader that directives stand there
+pub heading_front : (portable : Bool) (start : DocumentStart) (rest : List Line) → has_directives start ≡ true
+    → front_kind (heading_lines portable start ++ rest) ≡ directive_lines
+heading_front portable start rest h =
+    let begins = heading_begins portable start h in
+    ap (λ (lines : List Line). front_kind (lines ++ rest)) begins.2
+    ∙ ap (λ x. if x then directive_lines else document_lines) begins.3
+
+-- no blank line stands before it
+pub heading_shown : (portable : Bool) (start : DocumentStart) (rest : List Line) → has_directives start ≡ true
+    → without_blank_lines (heading_lines portable start ++ rest) ≡ heading_lines portable start ++ rest
+heading_shown portable start rest h =
+    let begins = heading_begins portable start h in
+    ap (λ (lines : List Line). without_blank_lines (lines ++ rest)) begins.2
+    ∙ ap (λ x. if x then without_blank_lines (begins.1 ++ rest) else begins.0 ∷ (begins.1 ++ rest)) (percent_shows begins.0.text begins.3)
+    ∙ ap (λ (lines : List Line). lines ++ rest) (sym begins.2)
+
+-- the lines aren't all blank
+pub heading_not_blank : (portable : Bool) (start : DocumentStart) (rest : List Line) → has_directives start ≡ true
+    → all_blank (heading_lines portable start ++ rest) ≡ false
+heading_not_blank portable start rest h =
+    let begins = heading_begins portable start h in
+    ap (λ (lines : List Line). all_blank (lines ++ rest)) begins.2
+    ∙ ap (λ x. x && all_blank (begins.1 ++ rest)) (percent_shows begins.0.text begins.3)
+
+-- what has a first has some
+some_length : (n : ℕ) → not (suc n == 0) ≡ true
+some_length n = grind (arith, nat_tests)
+
+-- where a document says nothing there is neither a version, nor a directive, nor a line
+pub nothing_said_before : (portable : Bool) (start : DocumentStart) → has_directives start ≡ false
+    → (start.version ≡ None) × (start.directives ≡ []) × (heading_lines portable start ≡ [])
+nothing_said_before portable start h = by start.version start.directives h
+  where
+    by : (version : Option Version) (directives : List TagDirective) → (is_some version || not (length directives == 0)) ≡ false
+        → (version ≡ None) × (directives ≡ []) × (version_lines version ++ tag_lines portable directives ≡ [])
+    by None [] h = (refl, refl, refl)
+    by None (directive ∷ rest) h = absurd (true≢false (sym (some_length (length rest)) ∙ h))
+    by (Some version) directives h = absurd (true≢false h)
