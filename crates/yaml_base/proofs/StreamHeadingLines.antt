@@ -1,10 +1,10 @@
 -- What a document's start writes is these lines: each begins with `%`, is not blank, and is no mark.
-use Rattle.std.proofs.Common.{◌≡◌, refl, sym, ap, ◌∙◌, append_assoc, append-nil, int_eq, arith, pos, suc}
+use Rattle.std.proofs.Common.{◌≡◌, refl, sym, ap, ◌∙◌, append_assoc, int_eq, arith, pos, suc}
 use Rattle.std.proofs.lemmas.Bool.{true≢false, false≢true, eqb-true, and_parts, and_from, or_parts, or_from}
 use Rattle.std.proofs.lemmas.Bool.Decides.{nat_tests}
 use Rattle.yaml_base.proofs.PercentLaws.{prefix_stands}
 use Rattle.std.specs.List.{list_all, list_any}
-use Rattle.std.specs.Prelude.{ℕ, Bool, true, false, Option, None, Some, List, [], ◌∷◌, ◌++◌, ◌==◌, ◌||◌, ◌&&◌, not, codes, option_and_then, is_some, length, if◌then◌else◌}
+use Rattle.std.specs.Prelude.{ℕ, Bool, true, false, Option, None, Some, List, [], ◌∷◌, ◌++◌, ◌==◌, ◌||◌, ◌&&◌, not, codes, is_some, length, if◌then◌else◌}
 use Rattle.yaml_base.specs.Characters.{Text, space, line_feed, is_break, is_blank}
 use Rattle.yaml_base.specs.LineBreaks.{is_read_break}
 use Rattle.yaml_base.specs.Settings.{Effective}
@@ -12,7 +12,7 @@ use Rattle.yaml_base.specs.Cursor.{Cursor, Laid, first_cursor, then_laid}
 use Rattle.yaml_base.specs.Event.{Version, TagDirective, DocumentStart}
 use Rattle.yaml_base.specs.Percent.{prefix_escaped}
 use Rattle.yaml_base.specs.Tags.{directives_fault, handle_fault, directives_fault_after, next_directive_fault, directive_fault, gives_handle, duplicate_directive, prefix_fault}
-use Rattle.yaml_base.specs.Layout.{Standing, laid_if, closing_mark_laid, version_text, version_laid, tag_directives_laid, has_directives, is_explicit, document_mark_laid, document_start_laid}
+use Rattle.yaml_base.specs.Layout.{laid_if, closing_mark_laid, version_text, version_laid, tag_directives_laid, has_directives, is_explicit, document_mark_laid, document_start_laid}
 use Rattle.yaml_base.specs.StreamLines.{Line, lines_of, text_of_lines, is_spaces, without_blank_lines, all_blank}
 use Rattle.yaml_base.specs.StreamDocuments.{mark_of, directive_lines, begins_with_percent, front_kind, document_lines}
 use Rattle.yaml_base.proofs.TagLaws.{handle_form, handle_ends_no_word, neither}
@@ -38,7 +38,8 @@ whole_lines breaks12 (line ∷ lines) rest h =
     ap (lines_of breaks12) (append_assoc line.text (line.ending ++ text_of_lines lines) rest)
     ∙ ap (λ ending. lines_of breaks12 (line.text ++ ((ending ++ text_of_lines lines) ++ rest))) h.1
     ∙ lines_broken breaks12 line.text (text_of_lines lines ++ rest) h.0
-    ∙ ap (λ ending. let made : Line = record { text = line.text; ending = ending } in made ∷ lines_of breaks12 (text_of_lines lines ++ rest)) (sym h.1)
+    ∙ ap (λ ending. let made : Line = record { text = line.text; ending = ending } in made ∷ lines_of breaks12 (text_of_lines lines ++ rest))
+    (sym h.1)
     ∙ ap (λ all. line ∷ all) (whole_lines breaks12 lines rest h.2)
 
 -- lines, and then others
@@ -69,11 +70,13 @@ dark_line breaks12 (c ∷ text) h =
     by false h = grind (arith, nat_tests)
 
 -- a directive's line
-directive_whole : (breaks12 portable : Bool) (directive : TagDirective) → handle_fault directive.handle ≡ None → OneLine breaks12 (directive_text portable directive)
+directive_whole : (breaks12 portable : Bool) (directive : TagDirective) → handle_fault directive.handle ≡ None
+    → OneLine breaks12 (directive_text portable directive)
 directive_whole breaks12 portable directive sound =
     let prefix = prefix_escaped portable directive.prefix in
     one_line_both breaks12 (codes "%TAG" ++ space ∷ []) (directive.handle ++ (space ∷ prefix)) (by breaks12)
-    (one_line_both breaks12 directive.handle (space ∷ prefix) (dark_line breaks12 directive.handle (handle_ends_no_word directive.handle (handle_form directive.handle sound)))
+    (one_line_both breaks12 directive.handle (space ∷ prefix)
+    (dark_line breaks12 directive.handle (handle_ends_no_word directive.handle (handle_form directive.handle sound)))
     (character_line breaks12 space prefix (at breaks12) (dark_line breaks12 prefix (prefix_no_white prefix (prefix_stands portable directive.prefix)))))
   where
     by : (x : Bool) → OneLine x (codes "%TAG" ++ space ∷ [])
@@ -214,3 +217,97 @@ nothing_said_before portable start h = by start.version start.directives h
     by None [] h = (refl, refl, refl)
     by None (directive ∷ rest) h = absurd (true≢false (sym (some_length (length rest)) ∙ h))
     by (Some version) directives h = absurd (true≢false h)
+
+-- What is laid out
+
+-- a text laid, and the cursor after it
+abbrev laid_as : Text → Cursor → Laid
+laid_as text cursor = record { text = text; cursor = cursor }
+
+version_is : (version : Option Version) → version_laid version first_cursor ≡ record { text = text_of_lines (version_lines version); cursor = first_cursor }
+version_is None = refl
+version_is (Some version) = refl
+
+tags_are : (portable : Bool) (directives : List TagDirective)
+    → tag_directives_laid portable directives first_cursor ≡ record { text = text_of_lines (tag_lines portable directives); cursor = first_cursor }
+tags_are portable [] = refl
+tags_are portable (directive ∷ rest) =
+    let text = directive_text portable directive in
+    ap (λ (after : Laid). laid_as ((text ++ line_feed ∷ []) ++ after.text) after.cursor) (tags_are portable rest)
+    ∙ ap (λ t. laid_as t first_cursor) (append_assoc text (line_feed ∷ []) (text_of_lines (tag_lines portable rest)))
+
+-- the version and the directives are laid out as these lines
+pub heading_laid : (portable : Bool) (start : DocumentStart)
+    → then_laid (version_laid start.version first_cursor) (tag_directives_laid portable start.directives)
+    ≡ record { text = text_of_lines (heading_lines portable start); cursor = first_cursor }
+heading_laid portable start =
+    ap (λ (laid : Laid). then_laid laid (tag_directives_laid portable start.directives)) (version_is start.version)
+    ∙ ap (λ (after : Laid). laid_as (text_of_lines (version_lines start.version) ++ after.text) after.cursor) (tags_are portable start.directives)
+    ∙ ap (λ t. laid_as t first_cursor) (sym (text_of_both (version_lines start.version) (tag_lines portable start.directives)))
+
+-- `...` on a line of its own, where a document before it is open
+abbrev pub closing_text : Bool → Text
+closing_text true = codes "...\n"
+closing_text false = []
+
+-- `---`, on a line of its own in canonical mode
+abbrev pub mark_text : (explicit canonical : Bool) → Text
+mark_text false canonical = []
+mark_text true true = codes "---\n"
+mark_text true false = codes "---"
+
+-- the cursor after it
+abbrev pub start_cursor : (explicit canonical : Bool) → Cursor
+start_cursor true false = mark_cursor
+start_cursor _ _ = first_cursor
+
+closing_is : (x : Bool) → laid_if x closing_mark_laid first_cursor ≡ record { text = closing_text x; cursor = first_cursor }
+closing_is true = refl
+closing_is false = refl
+
+mark_is : (explicit canonical : Bool)
+    → laid_if explicit (document_mark_laid canonical) first_cursor ≡ record { text = mark_text explicit canonical; cursor = start_cursor explicit canonical }
+mark_is true true = refl
+mark_is true false = refl
+mark_is false true = refl
+mark_is false false = refl
+
+-- a document's start is laid out as `...` where one is due, the lines of its heading, and `---` where one is
+pub start_laid : (s : Effective) (first : Bool) (start : DocumentStart) (mark : ℕ)
+    → document_start_laid s first start (record { cursor = first_cursor; mark = mark })
+    ≡ record {
+      text =
+          closing_text (has_directives start && not (mark == 0))
+          ++ (text_of_lines (heading_lines s.portable start) ++ mark_text (is_explicit (s.canonical || s.portable) first start) s.canonical);
+      cursor = start_cursor (is_explicit (s.canonical || s.portable) first start) s.canonical;
+    }
+start_laid s first start mark =
+    ap (λ (closing : Laid). then_laid (then_laid (then_laid closing (version_laid start.version)) (tag_directives_laid s.portable start.directives)) ending)
+    (closing_is closes)
+    ∙ ap (λ t. laid_as (t ++ (ending after.cursor).text) (ending after.cursor).cursor)
+    (append_assoc (closing_text closes) version.text (tags version.cursor).text)
+    ∙ ap (λ (heading : Laid). laid_as ((closing_text closes ++ heading.text) ++ (ending heading.cursor).text) (ending heading.cursor).cursor)
+    (heading_laid s.portable start)
+    ∙ ap (λ (last : Laid). laid_as ((closing_text closes ++ heading) ++ last.text) last.cursor) (mark_is explicit s.canonical)
+    ∙ ap (λ t. laid_as t (start_cursor explicit s.canonical)) (append_assoc (closing_text closes) heading (mark_text explicit s.canonical))
+  where
+    closes : Bool
+    closes = has_directives start && not (mark == 0)
+
+    explicit : Bool
+    explicit = is_explicit (s.canonical || s.portable) first start
+
+    ending : Cursor → Laid
+    ending = laid_if explicit (document_mark_laid s.canonical)
+
+    heading : Text
+    heading = text_of_lines (heading_lines s.portable start)
+
+    version : Laid
+    version = version_laid start.version first_cursor
+
+    tags : Cursor → Laid
+    tags = tag_directives_laid s.portable start.directives
+
+    after : Laid
+    after = then_laid version tags

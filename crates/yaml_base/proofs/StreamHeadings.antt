@@ -137,7 +137,8 @@ directive_words portable directive sound =
     split_word (codes "%TAG") (directive.handle ++ (space ∷ prefix)) refl
     ∙ ap (λ (words : List Text). codes "%TAG" ∷ words)
     (split_word directive.handle prefix (no_white_no_space directive.handle (handle_ends_no_word directive.handle (handle_form directive.handle sound)))
-    ∙ ap (λ (words : List Text). directive.handle ∷ words) (split_last prefix (no_white_no_space prefix (prefix_no_white prefix (prefix_stands portable directive.prefix)))))
+    ∙ ap (λ (words : List Text). directive.handle ∷ words)
+    (split_last prefix (no_white_no_space prefix (prefix_no_white prefix (prefix_stands portable directive.prefix)))))
 
 -- a directive without a fault whose handle isn't given yet is read after those before it
 directive_reads : (portable : Bool) (version : Option Version) (before : List TagDirective) (directive : TagDirective) (ending : Text)
@@ -222,7 +223,9 @@ version_read (Some version) sound =
     ap (directive_by_words no_heading) (words (int_eq version.minor (pos 2)))
     ∙ ap (with_version no_heading) (version_reads version sound)
   where
-    words : (x : Bool) → slice_split is_space (codes "%YAML" ++ (space ∷ (if x then codes "1.2" else codes "1.1"))) ≡ codes "%YAML" ∷ (if x then codes "1.2" else codes "1.1") ∷ []
+    words : (x : Bool)
+        → slice_split is_space (codes "%YAML" ++ (space ∷ (if x then codes "1.2" else codes "1.1")))
+        ≡ codes "%YAML" ∷ (if x then codes "1.2" else codes "1.1") ∷ []
     words true = refl
     words false = refl
 
