@@ -2,7 +2,6 @@
 use Rattle.std.proofs.Common.{◌≡◌, refl, sym, ap, ◌∙◌, append_assoc, int_eq, arith, pos, suc}
 use Rattle.std.proofs.lemmas.Bool.{true≢false, false≢true, eqb-true, and_parts, and_from, or_parts, or_from}
 use Rattle.std.proofs.lemmas.Bool.Decides.{nat_tests}
-use Rattle.yaml_base.proofs.PercentLaws.{prefix_stands}
 use Rattle.std.specs.List.{list_all, list_any}
 use Rattle.std.specs.Prelude.{ℕ, Bool, true, false, Option, None, Some, List, [], ◌∷◌, ◌++◌, ◌==◌, ◌||◌, ◌&&◌, not, codes, is_some, length, if◌then◌else◌}
 use Rattle.yaml_base.specs.Characters.{Text, space, line_feed, is_break, is_blank}
@@ -15,6 +14,7 @@ use Rattle.yaml_base.specs.Tags.{directives_fault, handle_fault, directives_faul
 use Rattle.yaml_base.specs.Layout.{laid_if, closing_mark_laid, version_text, version_laid, tag_directives_laid, has_directives, is_explicit, document_mark_laid, document_start_laid}
 use Rattle.yaml_base.specs.StreamLines.{Line, lines_of, text_of_lines, is_spaces, without_blank_lines, all_blank}
 use Rattle.yaml_base.specs.StreamDocuments.{mark_of, directive_lines, begins_with_percent, front_kind, document_lines}
+use Rattle.yaml_base.proofs.PercentLaws.{prefix_stands}
 use Rattle.yaml_base.proofs.TagLaws.{handle_form, handle_ends_no_word, neither}
 use Rattle.yaml_base.proofs.StreamLineLaws.{OneLine, one_line_both}
 use Rattle.yaml_base.proofs.StreamClosed.{lines_broken, character_line}
