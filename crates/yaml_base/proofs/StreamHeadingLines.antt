@@ -1,5 +1,5 @@
 -- What a document's start writes is these lines: each begins with `%`, is not blank, and is no mark.
-use Rattle.std.proofs.Common.{◌≡◌, refl, sym, ap, ◌∙◌, append_assoc, int_eq, arith, pos, suc}
+use Rattle.std.proofs.Common.{◌≡◌, refl, sym, ap, ◌∙◌, append_assoc, int_eq, arith, pos, suc, option_and_then, append-nil}
 use Rattle.std.proofs.lemmas.Bool.{true≢false, false≢true, eqb-true, and_parts, and_from, or_parts, or_from}
 use Rattle.std.proofs.lemmas.Bool.Decides.{nat_tests}
 use Rattle.std.specs.List.{list_all, list_any}
@@ -10,18 +10,19 @@ use Rattle.yaml_base.specs.Settings.{Effective}
 use Rattle.yaml_base.specs.Cursor.{Cursor, Laid, first_cursor, then_laid}
 use Rattle.yaml_base.specs.Event.{Version, TagDirective, DocumentStart}
 use Rattle.yaml_base.specs.Percent.{prefix_escaped}
-use Rattle.yaml_base.specs.Tags.{directives_fault, handle_fault, directives_fault_after, next_directive_fault, directive_fault, gives_handle, duplicate_directive, prefix_fault}
+use Rattle.yaml_base.specs.Tags.{directives_fault, handle_fault, directives_fault_after, next_directive_fault, directive_fault, gives_handle, duplicate_directive, prefix_fault, version_fault}
 use Rattle.yaml_base.specs.Layout.{laid_if, closing_mark_laid, version_text, version_laid, tag_directives_laid, has_directives, is_explicit, document_mark_laid, document_start_laid}
+use Rattle.yaml_base.specs.Meaning.{directive_scalars}
 use Rattle.yaml_base.specs.StreamLines.{Line, lines_of, text_of_lines, is_spaces, without_blank_lines, all_blank}
-use Rattle.yaml_base.specs.StreamDocuments.{mark_of, directive_lines, begins_with_percent, front_kind, document_lines}
+use Rattle.yaml_base.specs.StreamDocuments.{mark_of, directive_lines, begins_with_percent, front_kind, document_lines, heading_of}
 use Rattle.yaml_base.proofs.PercentLaws.{prefix_stands}
 use Rattle.yaml_base.proofs.TagLaws.{handle_form, handle_ends_no_word, neither}
-use Rattle.yaml_base.proofs.StreamLineLaws.{OneLine, one_line_both}
-use Rattle.yaml_base.proofs.StreamClosed.{lines_broken, character_line}
+use Rattle.yaml_base.proofs.StreamLineLaws.{OneLine, one_line_both, is_closed}
+use Rattle.yaml_base.proofs.StreamClosed.{lines_broken, character_line, closed_behind}
 use Rattle.yaml_base.proofs.StreamSections.{is_unmarked, AllUnmarked}
 use Rattle.yaml_base.proofs.StreamRoots.{mark_cursor}
 use Rattle.yaml_base.proofs.StreamProperties.{holds_white}
-use Rattle.yaml_base.proofs.StreamHeadings.{directive_text, tag_lines, version_lines, heading_lines, prefix_no_white}
+use Rattle.yaml_base.proofs.StreamHeadings.{directive_text, tag_lines, version_lines, heading_lines, prefix_no_white, heading_reads}
 
 -- Lines with their breaks
 
@@ -311,3 +312,43 @@ start_laid s first start mark =
 
     after : Laid
     after = then_laid version tags
+
+-- A heading as it is laid out
+
+-- the last of whole lines ends their text
+whole_closed : (breaks12 : Bool) (lines : List Line) → WholeLines breaks12 lines → is_closed breaks12 (text_of_lines lines) ≡ true
+whole_closed breaks12 [] h = refl
+whole_closed breaks12 (line ∷ rest) h =
+    ap (λ ending. is_closed breaks12 (line.text ++ (ending ++ text_of_lines rest))) h.1
+    ∙ closed_behind breaks12 line.text line_feed (text_of_lines rest) (by (text_of_lines rest) (whole_closed breaks12 rest h.2))
+  where
+    by : (t : Text) → is_closed breaks12 t ≡ true → is_closed breaks12 (line_feed ∷ t) ≡ true
+    by [] h = refl
+    by (c ∷ t) h = h
+
+-- its text
+abbrev pub laid_heading : (portable : Bool) → DocumentStart → Text
+laid_heading portable start = (then_laid (version_laid start.version first_cursor) (tag_directives_laid portable start.directives)).text
+
+-- the lines of that text
+pub laid_heading_lines : (breaks12 portable : Bool) (start : DocumentStart) → directives_fault start.directives ≡ None
+    → lines_of breaks12 (laid_heading portable start) ≡ heading_lines portable start
+laid_heading_lines breaks12 portable start sound =
+    ap (λ (laid : Laid). lines_of breaks12 laid.text) (heading_laid portable start)
+    ∙ ap (lines_of breaks12) (sym (append-nil (text_of_lines (heading_lines portable start))))
+    ∙ heading_first breaks12 portable start [] sound
+    ∙ append-nil (heading_lines portable start)
+
+-- it ends with a break, each of its lines begins with a `%`, and they are read as the version and the directives
+pub laid_heading_reads : (breaks12 portable : Bool) (start : DocumentStart) → option_and_then version_fault start.version ≡ None
+    → directives_fault start.directives ≡ None → list_all directive_scalars start.directives ≡ true
+    → (is_closed breaks12 (laid_heading portable start) ≡ true)
+    × AllPercent (lines_of breaks12 (laid_heading portable start))
+    × (heading_of (lines_of breaks12 (laid_heading portable start)) ≡ Some (record { version = start.version; directives = start.directives }))
+laid_heading_reads breaks12 portable start version directives scalars =
+    let lines = laid_heading_lines breaks12 portable start directives in (
+      ap (λ (laid : Laid). is_closed breaks12 laid.text) (heading_laid portable start)
+          ∙ whole_closed breaks12 (heading_lines portable start) (heading_whole breaks12 portable start directives),
+      ap (list_all (λ line. begins_with_percent line.text)) lines ∙ heading_percent portable start,
+      ap heading_of lines ∙ heading_reads portable start version directives scalars,
+    )

@@ -150,17 +150,17 @@ module _ (portable canonical : Bool) (own : List TagDirective) (sound : directiv
 
 -- Documents
 
--- of a document: its version and its directives are without a fault, its prefixes of scalar values, and its names and tags stand
-pub record DocumentStands (portable canonical : Bool) (document : Document) : Type 0 where
+-- of a sound document its version and its directives are without a fault, its prefixes are of scalar values, and its names and tags stand
+pub record IsSoundDocument (portable canonical : Bool) (document : Document) : Type 0 where
   pub version : option_and_then version_fault document.start.version ≡ None
   pub directives : directives_fault document.start.directives ≡ None
   pub prefixes : list_all directive_scalars document.start.directives ≡ true
   pub names : NamesStand portable document.start.directives canonical (directives_in_force document.start.directives) document.root
 
--- a document of such events stands, in portable mode or where no tag has a sign of flow
-document_stands : (portable canonical : Bool) (document : Document) → list_all (is_good canonical) (document_events document) ≡ true
-    → (portable || not (document_has_flow_sign canonical document)) ≡ true → DocumentStands portable canonical document
-document_stands portable canonical document good allowed =
+-- a document of such events is sound, in portable mode or where no tag has a sign of flow
+document_is_sound : (portable canonical : Bool) (document : Document) → list_all (is_good canonical) (document_events document) ≡ true
+    → (portable || not (document_has_flow_sign canonical document)) ≡ true → IsSoundDocument portable canonical document
+document_is_sound portable canonical document good allowed =
     let rest : List Event = node_events document.root ++ document_end document.end_implicit ∷ [] in
     let parts = and_parts (is_good canonical (document_start document.start)) (list_all (is_good canonical) rest) good in
     let facts = no_faults canonical (document_start document.start) parts.0 in
@@ -200,21 +200,21 @@ accepted_allowed portable canonical events stream tree h =
     by true h = (refl, refl)
     by false h = and_parts (not (is_lost canonical documents)) (not (list_any (document_has_flow_sign canonical) documents)) h
 
--- each document of an accepted list stands
+-- so is each document of an accepted list
 pub accepted_names_stand : (given : Settings) (events : List Event) (stream : Stream) → IsAccepted given.canonical events
     → list_all has_scalar_texts events ≡ true → is_portable given.portable given.canonical events ≡ true → tree_of events ≡ Some stream
-    → AllDocuments (DocumentStands given.portable given.canonical) (documents_in_order stream.documents)
+    → AllDocuments (IsSoundDocument given.portable given.canonical) (documents_in_order stream.documents)
 accepted_names_stand given events stream accepted texts portable tree =
     let canonical = given.canonical in
-    let stands = DocumentStands given.portable canonical in
+    let Sound = IsSoundDocument given.portable canonical in
     let Allowed : Document → Type 0 = λ document. (given.portable || not (document_has_flow_sign canonical document)) ≡ true in
     let own : list_all (is_good canonical) (stream_events stream) ≡ true =
     ap (list_all (is_good canonical)) events_of ∙ all_good canonical events accepted.sound texts in
     let rest : List Event = documents_events stream.documents ++ stream_end ∷ [] in
     let parts = and_parts (is_good canonical (stream_start stream.encoding)) (list_all (is_good canonical) rest) own in
     let good = all_of_both (is_good canonical) (documents_events stream.documents) (stream_end ∷ []) parts.1 in
-    documents_given Allowed stands (documents_in_order stream.documents)
-    (each_document (λ document. Allowed document → stands document) (is_good canonical) (document_stands given.portable canonical) stream.documents good.0)
+    documents_given Allowed Sound (documents_in_order stream.documents)
+    (each_document (λ document. Allowed document → Sound document) (is_good canonical) (document_is_sound given.portable canonical) stream.documents good.0)
     (all_allowed given.portable canonical (documents_in_order stream.documents)
     (accepted_allowed given.portable canonical events stream tree portable).1)
   where
