@@ -38,7 +38,7 @@ verbatim_reads portable own tag h = ap verbatim_read (end_sign_dropped (percent_
 
 -- A text up to its last `!`.
 
-abbrev pub no_mark : Text → Bool
+abbrev no_mark : Text → Bool
 no_mark text = list_all (λ c. not (c == tag_mark)) text
 
 uncut : (text : Text) → no_mark text ≡ true → cut_after_mark text ≡ record { front = []; rest = text }
@@ -202,7 +202,7 @@ pub not_given : (given : Bool) (number : ℕ) → cond {A = Option ℕ} given (S
 not_given true number e = absurd (cc)
 not_given false number e = refl
 
-pub same_text : (text : Text) → bytes_eq text text ≡ true
+same_text : (text : Text) → bytes_eq text text ≡ true
 same_text text = (bytes_eq-Decides text text).1 refl
 
 -- directives that don't give a handle are passed over
@@ -263,7 +263,7 @@ written_tag_reads portable own tag h k =
     shorthand_reads portable own handle prefix c suffix f g (scalars_behind prefix (c ∷ suffix) (subst IsText (sym whole) k))
     ∙ ap (λ x. Some (name_said x)) whole)
 
-pub any-append : (p : ℕ → Bool) (xs ys : Text) → list_any p xs ≡ false → list_any p ys ≡ false → list_any p (xs ++ ys) ≡ false
+any-append : (p : ℕ → Bool) (xs ys : Text) → list_any p xs ≡ false → list_any p ys ≡ false → list_any p (xs ++ ys) ≡ false
 any-append p [] ys h k = k
 any-append p (x ∷ xs) ys h k =
     let both = or_parts (p x) (list_any p xs) h in or_from _ _ both.0 (any-append p xs ys both.1 k)
