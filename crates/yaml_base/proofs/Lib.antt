@@ -130,3 +130,7 @@ pub mod StreamScalarLeaves
 pub mod StreamKeyReads
 pub mod StreamSimpleKeys
 pub mod StreamNodesStand
+pub mod StreamTags
+pub mod StreamNames
+pub mod StreamHeadings
+pub mod StreamHeadingLines
