@@ -105,3 +105,4 @@ pub mod StreamDocumentTexts
 pub mod StreamSizes
 pub mod StreamDocumentsRead
 pub mod StreamWholeReads
+pub mod StreamLawStands
