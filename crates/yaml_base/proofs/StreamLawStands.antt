@@ -24,8 +24,8 @@ use Rattle.yaml_base.proofs.Trees.{tree_of-stream_events}
 use Rattle.yaml_base.proofs.StreamBytes.{trees_of_bytes}
 use Rattle.yaml_base.proofs.StreamAgrees.{node_is_tagged, nodes_are_tagged, pairs_are_tagged, document_tree, document_tree_agrees}
 use Rattle.yaml_base.proofs.StreamEachDocument.{AllDocuments, all_of_both, each_document}
-use Rattle.yaml_base.proofs.StreamRootsStand.{DocumentStands}
-use Rattle.yaml_base.proofs.StreamWholeReads.{FirstWritten, documents_parts, document_trees, stream_reads}
+use Rattle.yaml_base.proofs.StreamRootsStand.{DocumentsStand}
+use Rattle.yaml_base.proofs.StreamWholeReads.{FirstWritten, document_trees, stream_reads}
 
 -- Tags
 
@@ -79,6 +79,11 @@ sound_documents canonical stream h =
     (all_of_both (is_sound canonical) (node_events document.root) (document_end document.end_implicit ∷ []) (after_first (is_sound canonical) (document_start document.start) (node_events document.root ++ (document_end document.end_implicit ∷ [])) each)).0)
     stream.documents
     (all_of_both (is_sound canonical) (documents_events stream.documents) (stream_end ∷ []) (after_first (is_sound canonical) (stream_start stream.encoding) (documents_events stream.documents ++ (stream_end ∷ [])) h)).0
+
+-- what holds of each of two lists' documents
+documents_parts : (P : Document → Type 0) (some others : List Document) → AllDocuments P (some ++ others) → AllDocuments P some × AllDocuments P others
+documents_parts P [] others h = (tt, h)
+documents_parts P (document ∷ rest) others h = let parts = documents_parts P rest others h.1 in ((h.0, parts.0), parts.1)
 
 -- Agreement
 
@@ -142,7 +147,7 @@ first_written s (document ∷ rest) kept = by s.portable refl
 -- what is asked beside the events: that each document of the stream stands, that the layout's text is printable, and that its
 -- characters are read from its bytes
 pub record StreamStands (s : Effective) (events : List Event) (stream : Stream) : Type 0 where
-  pub documents : AllDocuments (DocumentStands s) (documents_in_order stream.documents)
+  pub documents : DocumentsStand s stream.documents
   pub printable : list_all is_printable (text_of (list_layout s events)) ≡ true
   pub characters : characters_read (bytes_written s (list_layout s events)) ≡ Some (with_breaks_written s.line_break (text_of (list_layout s events)))
 
