@@ -1,26 +1,24 @@
 -- The documents of a stream, one after another: each that stands is one document more, and the stream may end after them.
 use Rattle.std.proofs.Common.{◌≡◌, ◌≤◌, refl, sym, ap, ◌∙◌, append_assoc, append-nil, subst}
-use Rattle.std.proofs.lemmas.Bool.{false≢true, true≢false, eqb-true, or_parts}
-use Rattle.std.specs.Prelude.{ℕ, Bool, true, false, Option, Some, List, [], ◌∷◌, ◌++◌, ◌==◌, ◌||◌, ◌&&◌, not, is_some, if◌then◌else◌}
+use Rattle.std.proofs.lemmas.Bool.{true≢false, or_parts}
+use Rattle.std.specs.Prelude.{ℕ, Bool, true, false, List, [], ◌++◌, ◌||◌, ◌&&◌, not, is_some}
 use Rattle.yaml_base.specs.Characters.{Text}
 use Rattle.yaml_base.specs.Settings.{Effective}
 use Rattle.yaml_base.specs.Event.{DocumentStart}
 use Rattle.yaml_base.specs.Analysis.{is_empty}
 use Rattle.yaml_base.specs.Refusal.{scalar_tag}
 use Rattle.yaml_base.specs.Grammar.{Node, alias_node, scalar_node, sequence_node, mapping_node, Document}
-use Rattle.yaml_base.specs.Layout.{has_directives, is_explicit, root_place}
+use Rattle.yaml_base.specs.Layout.{has_directives, is_explicit}
 use Rattle.yaml_base.specs.StreamContent.{DocumentTree}
-use Rattle.yaml_base.specs.StreamLines.{lines_of}
 use Rattle.yaml_base.specs.StreamDocuments.{after_root}
 use Rattle.yaml_base.specs.StreamLaw.{is_written_as_nothing}
 use Rattle.yaml_base.proofs.StreamClosed.{closed}
-use Rattle.yaml_base.proofs.StreamFits.{size, Fits}
+use Rattle.yaml_base.proofs.StreamFits.{size}
 use Rattle.yaml_base.proofs.StreamRootsStand.{root_laid, heading_text, HeadingStands, RootStands, DocumentStands}
-use Rattle.yaml_base.proofs.StreamRootLines.{Stood}
-use Rattle.yaml_base.proofs.StreamRootStood.{root_tree, root_fits, root_stood}
+use Rattle.yaml_base.proofs.StreamRootStood.{root_fits, root_stood}
 use Rattle.yaml_base.proofs.StreamSoFar.{SoFar}
-use Rattle.yaml_base.proofs.StreamDocumentReads.{Awaits, awaits_ended, dots_if, nothing_headed, headed, heading_said}
-use Rattle.yaml_base.proofs.StreamRootAdded.{with_document, marked_text, marked_added, unmarked_added}
+use Rattle.yaml_base.proofs.StreamDocumentReads.{Awaits, awaits_ended, dots_if, nothing_headed, headed}
+use Rattle.yaml_base.proofs.StreamRootAdded.{with_document, marked_added, unmarked_added}
 use Rattle.yaml_base.proofs.StreamDocumentTexts.{before_root, root_part, document_text}
 
 -- One document more

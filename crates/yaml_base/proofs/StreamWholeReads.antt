@@ -1,29 +1,29 @@
 -- A whole stream whose documents stand is read as their trees.
-use Rattle.std.proofs.Common.{◌≡◌, suc, ◌≤◌, refl, sym, ap, ◌∙◌, append_assoc, append-nil, subst, arith}
-use Rattle.std.proofs.lemmas.Bool.{false≢true, true≢false, eqb-true, and_parts, and_from}
+use Rattle.std.proofs.Common.{◌≡◌, suc, ◌≤◌, refl, sym, ap, ◌∙◌, append-nil, subst, arith}
+use Rattle.std.proofs.lemmas.Bool.{eqb-true, and_parts, and_from}
 use Rattle.std.proofs.lemmas.Grind.{flat_map-append}
 use Rattle.std.proofs.lemmas.List.{length-append}
 use Rattle.std.specs.List.{list_all}
-use Rattle.std.specs.Prelude.{ℕ, Bool, true, false, Option, None, Some, List, [], ◌∷◌, ◌++◌, ◌+◌, ◌==◌, ◌||◌, ◌&&◌, not, length, fold, codes, option_and_then, if◌then◌else◌}
+use Rattle.std.specs.Prelude.{ℕ, Bool, true, false, None, Some, List, [], ◌∷◌, ◌++◌, ◌==◌, ◌||◌, ◌&&◌, not, length, codes, option_and_then, if◌then◌else◌}
 use Rattle.yaml_base.specs.Characters.{Text, line_feed, space}
 use Rattle.yaml_base.specs.Settings.{Effective}
 use Rattle.yaml_base.specs.Tags.{directives_in_force}
 use Rattle.yaml_base.specs.Cursor.{Laid}
 use Rattle.yaml_base.specs.Grammar.{Document, Documents, no_documents, documents_and, Stream}
-use Rattle.yaml_base.specs.Layout.{Piece, piece_text, text_of, Standing, PiecesLaid, laid_if, closing_mark_laid, is_explicit, root_place, document_laid, documents_laid, first_standing, stream_end_piece, layout}
+use Rattle.yaml_base.specs.Layout.{piece_text, text_of, PiecesLaid, laid_if, closing_mark_laid, is_explicit, root_place, document_laid, documents_laid, first_standing, stream_end_piece, layout}
 use Rattle.yaml_base.specs.StreamContent.{DocumentTree, documents_in_order}
 use Rattle.yaml_base.specs.StreamLines.{Line, lines_of, is_spaces, all_blank, ends_sign}
 use Rattle.yaml_base.specs.StreamNodes.{node_read}
-use Rattle.yaml_base.specs.StreamDocuments.{mark_of, Sections, sections_of, no_heading, document_added, sections_read, documents_at_end, begins_with_percent, directive_lines, document_lines, front_kind, front_read, documents_of, StreamRead}
+use Rattle.yaml_base.specs.StreamDocuments.{mark_of, Sections, sections_of, no_heading, document_added, sections_read, documents_at_end, begins_with_percent, directive_lines, document_lines, front_kind, front_read, documents_of}
 use Rattle.yaml_base.specs.StreamLaw.{is_written_as_nothing}
 use Rattle.yaml_base.proofs.StreamCuts.{none_not_some}
 use Rattle.yaml_base.proofs.StreamSections.{is_unmarked, AllUnmarked, unmarked_before}
-use Rattle.yaml_base.proofs.StreamClosed.{closing, closed, margin_cursor}
+use Rattle.yaml_base.proofs.StreamClosed.{closing, margin_cursor}
 use Rattle.yaml_base.proofs.StreamFits.{size}
 use Rattle.yaml_base.proofs.StreamRootsStand.{rules_of, root_cursor, root_laid, RootStands, is_on_mark, DocumentStands, DocumentsStand}
 use Rattle.yaml_base.proofs.StreamRootStood.{root_fits}
 use Rattle.yaml_base.proofs.StreamSizes.{block_node}
-use Rattle.yaml_base.proofs.StreamSoFar.{SoFar, documents_so_far}
+use Rattle.yaml_base.proofs.StreamSoFar.{documents_so_far}
 use Rattle.yaml_base.proofs.StreamDocumentReads.{Awaits, awaits_first, awaits_ended, dots_if}
 use Rattle.yaml_base.proofs.StreamRootAdded.{with_document}
 use Rattle.yaml_base.proofs.StreamDocumentTexts.{before_root, root_part, document_text, DocumentLaid, document_joined, dots_laid}
