@@ -106,3 +106,7 @@ pub mod StreamSizes
 pub mod StreamDocumentsRead
 pub mod StreamWholeReads
 pub mod StreamLawStands
+pub mod StreamTags
+pub mod StreamNames
+pub mod StreamHeadings
+pub mod StreamHeadingLines

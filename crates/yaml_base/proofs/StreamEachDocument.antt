@@ -36,3 +36,9 @@ each_document P test tells no_documents h = tt
 each_document P test tells (documents_and before document) h =
     let parts = all_of_both test (documents_events before) (document_events document) h in
     documents_both P (documents_in_order before) (document ∷ []) (each_document P test tells before parts.0) (tells document parts.1, tt)
+
+-- what follows of each from another thing that holds of each
+pub documents_given : (P Q : Document → Type 0) (documents : List Document) → AllDocuments (λ document. P document → Q document) documents
+    → AllDocuments P documents → AllDocuments Q documents
+documents_given P Q [] then h = tt
+documents_given P Q (document ∷ rest) then h = (then.0 h.0, documents_given P Q rest then.1 h.1)
