@@ -110,3 +110,15 @@ pub mod StreamTags
 pub mod StreamNames
 pub mod StreamHeadings
 pub mod StreamHeadingLines
+pub mod StreamNoKeys
+pub mod StreamBegun
+pub mod StreamLeaves
+pub mod StreamBodies
+pub mod StreamOwnTexts
+pub mod StreamOwnWords
+pub mod StreamOwnPlain
+pub mod StreamOwnBlocks
+pub mod StreamBlockEnds
+pub mod StreamScalarsFit
+pub mod StreamEmptyFits
+pub mod StreamScalarLeaves
