@@ -112,6 +112,10 @@ pub mod StreamHeadings
 pub mod StreamHeadingLines
 pub mod StreamNoKeys
 pub mod StreamBegun
+pub mod StreamKeyBodies
+pub mod StreamKeyLengths
+pub mod StreamKeysFit
+pub mod StreamKeyFronts
 pub mod StreamLeaves
 pub mod StreamBodies
 pub mod StreamOwnTexts

@@ -14,7 +14,7 @@ use Rattle.yaml_base.specs.Refusal.{collection_tag}
 use Rattle.yaml_base.specs.Layout.{anchor_laid, properties_laid}
 use Rattle.yaml_base.specs.ReadTags.{TagSaid}
 use Rattle.yaml_base.specs.StreamLines.{is_spaces, spaces, ends_sign}
-use Rattle.yaml_base.specs.StreamScalars.{Rules, properties_read, collection_tag_said}
+use Rattle.yaml_base.specs.StreamScalars.{Rules, properties_read}
 use Rattle.yaml_base.specs.StreamNodes.{begins_sequence, begins_mapping, begins_text, kind_of_node, key_from, key_of_line}
 use Rattle.yaml_base.proofs.StreamLineLaws.{OneLine, one_line_both}
 use Rattle.yaml_base.proofs.StreamInside.{blank_spaces}
@@ -25,6 +25,7 @@ use Rattle.yaml_base.proofs.StreamProperties.{holds_white, IsTagged, IsNamed, pr
 use Rattle.yaml_base.proofs.StreamPropertyWords.{lead}
 use Rattle.yaml_base.proofs.StreamStands.{tag_written, tag_meant, TagStands}
 use Rattle.yaml_base.proofs.StreamLeads.{spelling_text, spelling_ended, tag_is_written}
+use Rattle.yaml_base.proofs.StreamFlowWords.{tag_of_collection}
 use Rattle.yaml_base.proofs.StreamFlowScalars.{rules_of}
 use Rattle.yaml_base.proofs.StreamNoKeys.{KeyNowhere, nowhere_alone, properties_nowhere}
 
@@ -117,11 +118,6 @@ before_spaces false = refl
 before_some : (white : Bool) → white ≡ false → 0 < before_count white
 before_some true h = absurd (true≢false h)
 before_some false h = omega arith
-
--- the tag of a collection is what its written tag says
-tag_of_collection : (tag : Option Text) → collection_tag_said (tag_meant tag false) ≡ Some tag
-tag_of_collection None = refl
-tag_of_collection (Some name) = refl
 
 -- properties that begin with `&` or `!` are read on their line
 properties_begun : (s : Effective) (own directives : List TagDirective) (anchor tag : Option Text) (cursor : Cursor) (c : ℕ) (t : Text)
