@@ -117,6 +117,10 @@ pub mod StreamKeyLengths
 pub mod StreamKeysFit
 pub mod StreamKeyFronts
 pub mod StreamLeaves
+pub mod StreamDeepBreaks
+pub mod StreamFlowDeep
+pub mod StreamFlowFits
+pub mod StreamLeafMarks
 pub mod StreamBodies
 pub mod StreamOwnTexts
 pub mod StreamOwnWords
@@ -126,3 +130,4 @@ pub mod StreamBlockEnds
 pub mod StreamScalarsFit
 pub mod StreamEmptyFits
 pub mod StreamScalarLeaves
+pub mod StreamRootBegins

@@ -108,7 +108,7 @@ plain_sign breaks12 c t after h sign member = by (c == sign) refl
 
     last : (is_among (codes "?:-") c && begins_white breaks12 t) ≡ false
     last = (or_parts (begins_with_three 45 (c ∷ t) || begins_with_three 46 (c ∷ t) || is_among (codes "#,[]{}&*!|>'\"%@`") c)
-    (is_among (codes "?:-") c && begins_white breaks12 t) h).1
+        (is_among (codes "?:-") c && begins_white breaks12 t) h).1
 
     by : (x : Bool) → (c == sign) ≡ x → (x && ends_sign (t ++ (0x3A ∷ after))) ≡ false
     by false e = refl
@@ -150,7 +150,7 @@ plain_front breaks12 c t h b =
         (c ∷ t) ≡ false
         → (after : Text) → begins_with_mark sign ((c ∷ t) ++ (0x3A ∷ after)) ≡ false
     by sign member true e dash dot after = subst (λ n. begins_with_mark n ((c ∷ t) ++ (0x3A ∷ after)) ≡ false) (sym (eqb-true sign 0x2D e))
-    (plain_mark c t after 0x2D refl dash)
+        (plain_mark c t after 0x2D refl dash)
     by sign member false e dash dot after =
         subst (λ n. begins_with_mark n ((c ∷ t) ++ (0x3A ∷ after)) ≡ false) (sym (eqb-true sign 0x2E
         (dotted (sign == 0x2E) (ap (λ x. x || ((sign == 0x2E) || false)) (sym e) ∙ member))))

@@ -1,14 +1,14 @@
 -- The parts of a node in a block are read, where its names and bodies stand: what is asked of scalars and of flow collections
 -- by themselves, and from it what the central law asks of the whole tree.
 use Rattle.std.proofs.Common.{◌≡◌, refl, sym, ◌∙◌}
-use Rattle.std.proofs.lemmas.Bool.{false≢true}
-use Rattle.std.specs.Prelude.{ℕ, Bool, true, false, Option, Some, List, [], ◌∷◌, ◌&&◌}
+use Rattle.std.proofs.lemmas.Bool.{false≢true, or_parts}
+use Rattle.std.specs.Prelude.{ℕ, Bool, true, false, Option, None, Some, List, [], ◌∷◌, ◌||◌, ◌&&◌}
 use Rattle.yaml_base.specs.Characters.{Text}
 use Rattle.yaml_base.specs.Settings.{Effective}
 use Rattle.yaml_base.specs.Event.{TagDirective, Scalar, Collection}
 use Rattle.yaml_base.specs.Cursor.{Cursor, Laid}
 use Rattle.yaml_base.specs.Grammar.{Node, alias_node, scalar_node, sequence_node, mapping_node, Nodes, no_nodes, nodes_and, Pairs, no_pairs, pairs_and}
-use Rattle.yaml_base.specs.Layout.{Role, as_item, as_key, as_value, is_key, is_in_mapping, Place, entries_column, has_no_nodes, has_no_pairs, is_simple, place_laid, is_written_in_flow}
+use Rattle.yaml_base.specs.Layout.{Role, as_item, as_key, as_value, is_key, is_in_mapping, Place, entries_column, has_no_nodes, has_no_pairs, is_simple, place_laid, asks_flow, is_written_in_flow}
 use Rattle.yaml_base.specs.StreamScalars.{name_read}
 use Rattle.yaml_base.proofs.StreamAgrees.{node_tree}
 use Rattle.yaml_base.proofs.StreamCuts.{none_not_some}
@@ -43,10 +43,15 @@ is_flow_node s place (sequence_node start items) = is_written_in_flow s place st
 is_flow_node s place (mapping_node start pairs) = is_written_in_flow s place start (has_no_pairs pairs)
 is_flow_node s place _ = false
 
+-- in canonical mode no node stands in a block but the root
+abbrev pub MayStand : Effective → Option ℕ → Type 0
+MayStand s column = s.canonical ≡ true → column ≡ None
+
 -- each flow collection in a block that is no simple key fits, where its names and its bodies stand
 abbrev pub FlowsFit : Effective → List TagDirective → List TagDirective → Type 0
 FlowsFit s own directives =
     (n : Node) (role : Role) (column : Option ℕ) (cursor : Cursor)
+    → MayStand s column
     → is_flow_node s (block_place role column) n ≡ true
     → (is_key role && is_simple s.canonical directives n) ≡ false
     → Stands column cursor
@@ -97,15 +102,24 @@ pair_leaves s own directives keys pairs key value e before names true h bodies o
 pair_leaves s own directives keys pairs key value e before names false h bodies of_key of_value =
     (of_key h bodies.0, of_value false (sign_cursor e) (refl, λ i. refl) bodies.1)
 
+-- what is written in a block isn't written in canonical mode
+no_canonical : (s : Effective) (start : Collection) (empty : Bool) → (s.canonical || asks_flow start.style || empty) ≡ false → s.canonical ≡ false
+no_canonical s start empty h =
+    (or_parts s.canonical (asks_flow start.style) (or_parts (s.canonical || asks_flow start.style) empty h).0).0
+
+-- so its parts may stand at any column
+may_stand : (s : Effective) (column : Option ℕ) → s.canonical ≡ false → MayStand s column
+may_stand s column block h = absurd (false≢true (sym block ∙ h))
+
 -- a sequence's parts are read, where those of its items are
 sequence_leaves : (s : Effective) (own directives : List TagDirective) (flows : FlowsFit s own directives) (start : Collection) (items : Nodes)
-    (role : Role) (column : Option ℕ) (cursor : Cursor)
+    (role : Role) (column : Option ℕ) (cursor : Cursor) → MayStand s column
     → (is_key role && is_simple s.canonical directives (sequence_node start items)) ≡ false → Stands column cursor
     → NamesStand s.portable own s.canonical directives (sequence_node start items)
     → BodiesHold (BodyStands s) (sequence_node start items) s directives (block_place role column) cursor
-    → ((e : ℕ) (at : Cursor) → ItemsHold (BodyStands s) items s directives false e at → ItemLeaves items (rules_of s own) s directives e)
+    → (s.canonical ≡ false → (e : ℕ) (at : Cursor) → ItemsHold (BodyStands s) items s directives false e at → ItemLeaves items (rules_of s own) s directives e)
     → Leaves (sequence_node start items) (rules_of s own) s directives (block_place role column) cursor
-sequence_leaves s own directives flows start items role column cursor simple stands names bodies each =
+sequence_leaves s own directives flows start items role column cursor may simple stands names bodies each =
     by (is_written_in_flow s (block_place role column) start (has_no_nodes items)) refl bodies
   where
     begun : Laid
@@ -116,21 +130,21 @@ sequence_leaves s own directives flows start items role column cursor simple sta
         → EitherType x (LeafFits (rules_of s own) s directives (sequence_node start items) (block_place role column) cursor)
         (BegunReads (rules_of s own) s directives start cursor
         × ItemLeaves items (rules_of s own) s directives (entries_column false (is_in_mapping role) s.indent column begun.cursor))
-    by true h hold = flows (sequence_node start items) role column cursor h simple stands names bodies
+    by true h hold = flows (sequence_node start items) role column cursor may h simple stands names bodies
     by false h hold = (
       begun_reads s own directives start cursor names.0 names.1,
-      each (entries_column false (is_in_mapping role) s.indent column begun.cursor) begun.cursor hold,
+      each (no_canonical s start (has_no_nodes items) h) (entries_column false (is_in_mapping role) s.indent column begun.cursor) begun.cursor hold,
     )
 
 -- and a mapping's, where those of its pairs are
 mapping_leaves : (s : Effective) (own directives : List TagDirective) (flows : FlowsFit s own directives) (start : Collection) (pairs : Pairs)
-    (role : Role) (column : Option ℕ) (cursor : Cursor)
+    (role : Role) (column : Option ℕ) (cursor : Cursor) → MayStand s column
     → (is_key role && is_simple s.canonical directives (mapping_node start pairs)) ≡ false → Stands column cursor
     → NamesStand s.portable own s.canonical directives (mapping_node start pairs)
     → BodiesHold (BodyStands s) (mapping_node start pairs) s directives (block_place role column) cursor
-    → ((e : ℕ) (at : Cursor) → PairsHold (BodyStands s) pairs s directives false e at → PairLeaves pairs (rules_of s own) s directives e)
+    → (s.canonical ≡ false → (e : ℕ) (at : Cursor) → PairsHold (BodyStands s) pairs s directives false e at → PairLeaves pairs (rules_of s own) s directives e)
     → Leaves (mapping_node start pairs) (rules_of s own) s directives (block_place role column) cursor
-mapping_leaves s own directives flows start pairs role column cursor simple stands names bodies each =
+mapping_leaves s own directives flows start pairs role column cursor may simple stands names bodies each =
     by (is_written_in_flow s (block_place role column) start (has_no_pairs pairs)) refl bodies
   where
     begun : Laid
@@ -141,50 +155,53 @@ mapping_leaves s own directives flows start pairs role column cursor simple stan
         → EitherType x (LeafFits (rules_of s own) s directives (mapping_node start pairs) (block_place role column) cursor)
         (BegunReads (rules_of s own) s directives start cursor
         × PairLeaves pairs (rules_of s own) s directives (entries_column false false s.indent column begun.cursor))
-    by true h hold = flows (mapping_node start pairs) role column cursor h simple stands names bodies
+    by true h hold = flows (mapping_node start pairs) role column cursor may h simple stands names bodies
     by false h hold = (
       begun_reads s own directives start cursor names.0 names.1,
-      each (entries_column false false s.indent column begun.cursor) begun.cursor hold,
+      each (no_canonical s start (has_no_pairs pairs) h) (entries_column false false s.indent column begun.cursor) begun.cursor hold,
     )
 
 -- what is asked of the parts of a node in a block, where its names and bodies stand
 mutual
   pub leaves_stand : (n : Node) (s : Effective) (own directives : List TagDirective) (scalars : ScalarsFit s own directives)
       (flows : FlowsFit s own directives) (keys : SimpleKeysFit s own directives) (role : Role) (column : Option ℕ) (cursor : Cursor)
-      → (is_key role && is_simple s.canonical directives n) ≡ false → Stands column cursor → NamesStand s.portable own s.canonical directives n
+      → MayStand s column → (is_key role && is_simple s.canonical directives n) ≡ false
+      → Stands column cursor → NamesStand s.portable own s.canonical directives n
       → BodiesHold (BodyStands s) n s directives (block_place role column) cursor
       → Leaves n (rules_of s own) s directives (block_place role column) cursor
-  leaves_stand (alias_node name) s own directives scalars flows keys role column cursor simple stands names bodies =
+  leaves_stand (alias_node name) s own directives scalars flows keys role column cursor may simple stands names bodies =
       alias_leaf s own directives name role column cursor simple names
-  leaves_stand (scalar_node content) s own directives scalars flows keys role column cursor simple stands names bodies =
+  leaves_stand (scalar_node content) s own directives scalars flows keys role column cursor may simple stands names bodies =
       scalars content role column cursor simple stands names bodies
-  leaves_stand (sequence_node start items) s own directives scalars flows keys role column cursor simple stands names bodies =
-      sequence_leaves s own directives flows start items role column cursor simple stands names bodies
-      (λ e at hold. items_stand items s own directives scalars flows keys e at names.2 hold)
-  leaves_stand (mapping_node start pairs) s own directives scalars flows keys role column cursor simple stands names bodies =
-      mapping_leaves s own directives flows start pairs role column cursor simple stands names bodies
-      (λ e at hold. pairs_stand pairs s own directives scalars flows keys e at names.2 hold)
+  leaves_stand (sequence_node start items) s own directives scalars flows keys role column cursor may simple stands names bodies =
+      sequence_leaves s own directives flows start items role column cursor may simple stands names bodies
+      (λ block e at hold. items_stand items s own directives scalars flows keys block e at names.2 hold)
+  leaves_stand (mapping_node start pairs) s own directives scalars flows keys role column cursor may simple stands names bodies =
+      mapping_leaves s own directives flows start pairs role column cursor may simple stands names bodies
+      (λ block e at hold. pairs_stand pairs s own directives scalars flows keys block e at names.2 hold)
 
   items_stand : (items : Nodes) (s : Effective) (own directives : List TagDirective) (scalars : ScalarsFit s own directives)
-      (flows : FlowsFit s own directives) (keys : SimpleKeysFit s own directives) (e : ℕ) (cursor : Cursor)
+      (flows : FlowsFit s own directives) (keys : SimpleKeysFit s own directives) → s.canonical ≡ false → (e : ℕ) (cursor : Cursor)
       → AllNamesStand s.portable own s.canonical directives items → ItemsHold (BodyStands s) items s directives false e cursor
       → ItemLeaves items (rules_of s own) s directives e
-  items_stand no_nodes s own directives scalars flows keys e cursor names hold = tt
-  items_stand (nodes_and items last) s own directives scalars flows keys e cursor names hold = (
-    items_stand items s own directives scalars flows keys e cursor names.0 hold.0,
-    leaves_stand last s own directives scalars flows keys (as_item (has_no_nodes items)) (Some e) (sign_cursor e) refl (refl, λ h. refl) names.1 hold.1,
+  items_stand no_nodes s own directives scalars flows keys block e cursor names hold = tt
+  items_stand (nodes_and items last) s own directives scalars flows keys block e cursor names hold = (
+    items_stand items s own directives scalars flows keys block e cursor names.0 hold.0,
+    leaves_stand last s own directives scalars flows keys (as_item (has_no_nodes items)) (Some e) (sign_cursor e)
+        (may_stand s (Some e) block) refl (refl, λ h. refl) names.1 hold.1,
   )
 
   pairs_stand : (pairs : Pairs) (s : Effective) (own directives : List TagDirective) (scalars : ScalarsFit s own directives)
-      (flows : FlowsFit s own directives) (keys : SimpleKeysFit s own directives) (e : ℕ) (cursor : Cursor)
+      (flows : FlowsFit s own directives) (keys : SimpleKeysFit s own directives) → s.canonical ≡ false → (e : ℕ) (cursor : Cursor)
       → PairsNamesStand s.portable own s.canonical directives pairs → PairsHold (BodyStands s) pairs s directives false e cursor
       → PairLeaves pairs (rules_of s own) s directives e
-  pairs_stand no_pairs s own directives scalars flows keys e cursor names hold = tt
-  pairs_stand (pairs_and pairs key value) s own directives scalars flows keys e cursor names hold = (
-    pairs_stand pairs s own directives scalars flows keys e cursor names.0 hold.0,
+  pairs_stand no_pairs s own directives scalars flows keys block e cursor names hold = tt
+  pairs_stand (pairs_and pairs key value) s own directives scalars flows keys block e cursor names hold = (
+    pairs_stand pairs s own directives scalars flows keys block e cursor names.0 hold.0,
     pair_leaves s own directives keys pairs key value e (pairs_own pairs s directives false e cursor).cursor names.1
         (is_simple s.canonical directives key) refl (hold.1, hold.2)
-        (λ h bodies. leaves_stand key s own directives scalars flows keys (as_key (has_no_pairs pairs)) (Some e) (sign_cursor e) h
+        (λ h bodies. leaves_stand key s own directives scalars flows keys (as_key (has_no_pairs pairs)) (Some e) (sign_cursor e) (may_stand s (Some e) block) h
         (refl, λ i. refl) names.1 bodies)
-        (λ y at stands bodies. leaves_stand value s own directives scalars flows keys (as_value y) (Some e) at refl stands names.2 bodies),
+        (λ y at stands bodies. leaves_stand value s own directives scalars flows keys (as_value y) (Some e) at
+        (may_stand s (Some e) block) refl stands names.2 bodies),
   )

@@ -200,7 +200,7 @@ body_cursor s directives anchor tag bare style value cursor =
     (separation_laid style false value (properties_laid s.portable directives anchor tag bare cursor).cursor).cursor
 
 -- a space stands before each body but an empty plain one
-separation_text : (style : ScalarStyle) (value : Text) (cursor : Cursor) → (is_plain style && is_empty value) ≡ false
+pub separation_text : (style : ScalarStyle) (value : Text) (cursor : Cursor) → (is_plain style && is_empty value) ≡ false
     → (separation_laid style false value cursor).text ≡ space_if true cursor
 separation_text plain [] cursor h = absurd (true≢false h)
 separation_text plain (c ∷ value) cursor h = refl
