@@ -131,3 +131,4 @@ pub mod StreamScalarsFit
 pub mod StreamEmptyFits
 pub mod StreamScalarLeaves
 pub mod StreamRootBegins
+pub mod StreamRootLeaves

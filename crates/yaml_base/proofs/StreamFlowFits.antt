@@ -30,6 +30,7 @@ use Rattle.yaml_base.proofs.StreamLeads.{lead_spaces, lead_then, tag_is_written}
 use Rattle.yaml_base.proofs.StreamFlowWords.{Given}
 use Rattle.yaml_base.proofs.StreamFlowReads.{FlowContent, content_read, sequence_reads, mapping_reads}
 use Rattle.yaml_base.proofs.StreamBegun.{lead_line}
+use Rattle.yaml_base.proofs.StreamOwnTexts.{deeper_all, said_reads, headed}
 use Rattle.yaml_base.proofs.StreamFits.{Fits}
 use Rattle.yaml_base.proofs.StreamNodesFit.{LeafFits}
 use Rattle.yaml_base.proofs.StreamLeaves.{block_place, FlowsFit}
@@ -77,24 +78,6 @@ first_line breaks12 (c ∷ t) = by (is_read_break breaks12 c) refl (first_line b
 
 -- Texts
 
--- what follows properties on their line is read with them
-led_node : (rules : Rules) (reads : Reads) (column : Option ℕ) (at count : ℕ) (properties : Properties) (c : ℕ)
-    (first ending : Text) (rest : List Line) (tree : Tree)
-    → (c == space) ≡ false → kind_of_node rules (c ∷ first) ≡ begins_text → text_read rules column properties (c ∷ first) ending rest ≡ Some tree
-    → node_lines rules reads (λ at. text_read rules column properties) properties false (blanked at (spaces count ++ (c ∷ first)) ending ∷ rest) ≡ Some tree
-led_node rules reads column at count properties c first ending rest tree shows kind read =
-    let line : Line = record { text = spaces (at + count) ++ (c ∷ first); ending = ending } in
-    let begun : Indented = record { column = at + count; text = c ∷ first } in
-    let by : ReadsText = λ at. text_read rules column properties in
-    ap (λ u. (let line : Line = record { text = u; ending = ending } in node_lines rules reads by properties false (line ∷ rest)))
-    (spaces_both at count (at + count) (c ∷ first) refl)
-    ∙ ap (λ x. node_at rules reads by properties (false || x) (not x)
-    (if x then without_blank_lines rest else line ∷ rest)) (not_blank (at + count) c first shows)
-    ∙ ap (λ (i : Indented). node_by_kind (kind_of_node rules i.text) rules reads by properties false true i ending rest (line ∷ rest))
-    (indented_spaces (at + count) c first shows)
-    ∙ ap (λ x. node_by_kind x rules reads by properties false true begun ending rest (line ∷ rest)) kind
-    ∙ read
-
 -- a line feed is white
 feed_white : (breaks12 : Bool) → list_all (is_read_white breaks12) (line_feed ∷ []) ≡ true
 feed_white breaks12 = refl
@@ -139,84 +122,33 @@ flow_lines rules cursor own anchor tag given_tag tree of one line =
     lines_behind rules.breaks12 (lead anchor tag) (of.bracket ∷ text) (of.bracket ∷ line.first) line.ending line.rest one
     (lines_behind rules.breaks12 (of.bracket ∷ []) text line.first line.ending line.rest of.one_line line.is)
 
--- it reads on its lines without properties
-bare_reads : (rules : Rules) (cursor : Cursor) (own : Laid) (tag : Option Text) (tree : Tree) (of : FlowContent rules cursor own None None tag tree)
-    (column : Option ℕ) → Given rules None None (tag_meant tag false) → (line : FirstLine rules.breaks12 (of.inside ++ (of.closing ∷ [])))
-    → ((c : ℕ) → column ≡ Some c → AllInside true c line.rest) → all_deeper column line.rest ≡ true
-    → TextReads rules column (flow_text rules cursor own None None tag tree of) tree
-bare_reads rules cursor own (Some name) tree of column given line deeper deep = absurd given.tagged
-bare_reads rules cursor own None tree of column given line deeper deep =
-    let shows = own_shows of.bracket of.content in
-    record {
-      head = of.bracket;
-      first = line.first;
-      ending = line.ending;
-      rest = line.rest;
-      is = flow_lines rules cursor own None None None tree of refl line;
-      shows = shows.0;
-      kind = of.line None None None given line.first line.more line.whole;
-      deeper = deeper;
-      read = λ reads at.
-          ap (λ x. text_or_properties x rules reads column at (of.bracket ∷ line.first) line.ending line.rest) shows.1
-          ∙ content_text rules cursor own None None None tree of column line deep;
-    }
-
--- and behind properties that begin with `&` or `!`
-led_text_reads : (rules : Rules) (cursor : Cursor) (own : Laid) (anchor tag given_tag : Option Text) (tree : Tree)
-    (of : FlowContent rules cursor own anchor tag given_tag tree) (column : Option ℕ) → Given rules anchor tag (tag_meant given_tag false)
-    → (line : FirstLine rules.breaks12 (of.inside ++ (of.closing ∷ []))) → ((c : ℕ) → column ≡ Some c → AllInside true c line.rest)
-    → all_deeper column line.rest ≡ true → (head : ℕ) (front : Text) → lead anchor tag ≡ head ∷ front → (head == space) ≡ false
-    → (head == 0x26 || head == 0x21) ≡ true → has_properties anchor tag ≡ true
-    → TextReads rules column (flow_text rules cursor own anchor tag given_tag tree of) tree
-led_text_reads rules cursor own anchor tag given_tag tree of column given line deeper deep head front e shows begins has =
-    let said = tag_meant given_tag false in
-    let core = of.bracket ∷ line.first in
-    let none : Given rules None None None = record { named = tt; tagged = tt } in
-    record {
-      head = head;
-      first = front ++ core;
-      ending = line.ending;
-      rest = line.rest;
-      is =
-          flow_lines rules cursor own anchor tag given_tag tree of
-          (lead_line rules anchor tag said given.named given.tagged) line
-          ∙ ap (λ t. record { text = t ++ core; ending = line.ending } ∷ line.rest) e;
-      shows = shows;
-      kind = ap (λ t. kind_of_node rules (t ++ core)) (sym e) ∙ of.line anchor tag said given line.first line.more line.whole;
-      deeper = deeper;
-      read = λ reads at.
-          ap (λ x. text_or_properties x rules reads column at ((head ∷ front) ++ core) line.ending line.rest) begins
-          ∙ ap (λ t. after_properties rules reads column at line.ending line.rest (properties_read rules.directives (t ++ core))) (sym e)
-          ∙ ap (λ t. after_properties rules reads column at line.ending line.rest (properties_read rules.directives t)) (lead_then anchor tag core)
-          ∙ ap (after_properties rules reads column at line.ending line.rest)
-          (properties_said rules.directives anchor tag said (lead_spaces anchor tag) core given.named given.tagged of.content
-          (ends (has_properties anchor tag)))
-          ∙ led_node rules reads column at (length (properties_text anchor tag) + lead_spaces anchor tag)
-          (record { anchor = anchor; tag = said }) of.bracket line.first
-          line.ending line.rest tree (own_shows of.bracket of.content).0 (of.line None None None none line.first line.more line.whole)
-          (content_text rules cursor own anchor tag given_tag tree of column line deep);
-    }
-  where
-    ends : (x : Bool) → x ≡ true → ends_sign (spaces (if x then 1 else 0) ++ (of.bracket ∷ line.first)) ≡ true
-    ends true h = refl
-    ends false h = absurd (false≢true h)
-
--- with properties or without them
+-- it reads on its lines, behind properties or without them
 text_reads : (rules : Rules) (cursor : Cursor) (own : Laid) (anchor tag given_tag : Option Text) (tree : Tree)
     (of : FlowContent rules cursor own anchor tag given_tag tree) (column : Option ℕ) → Given rules anchor tag (tag_meant given_tag false)
     → (line : FirstLine rules.breaks12 (of.inside ++ (of.closing ∷ []))) → ((c : ℕ) → column ≡ Some c → AllInside true c line.rest)
-    → all_deeper column line.rest ≡ true → TextReads rules column (flow_text rules cursor own anchor tag given_tag tree of) tree
-text_reads rules cursor own None None given_tag tree of column given line deeper deep =
-    bare_reads rules cursor own given_tag tree of column given line deeper deep
-text_reads rules cursor own (Some name) None given_tag tree of column given line deeper deep =
-    led_text_reads rules cursor own (Some name) None given_tag tree of column given line deeper deep 0x26 (name ++ (space ∷ [])) refl refl refl refl
-text_reads rules cursor own (Some name) (Some tag) given_tag tree of column given line deeper deep =
-    led_text_reads rules cursor own (Some name) (Some tag) given_tag tree of column given line deeper deep 0x26 ((name ++ (space ∷ tag)) ++ (space ∷ []))
-    refl refl refl refl
-text_reads rules cursor own None (Some tag) None tree of column given line deeper deep = absurd given.tagged
-text_reads rules cursor own None (Some tag) (Some name) tree of column given line deeper deep =
-    led_text_reads rules cursor own None (Some tag) (Some name) tree of column given line deeper deep 0x21 (given.tagged.rest ++ (space ∷ []))
-    (ap (λ t. t ++ (space ∷ [])) given.tagged.begins) refl refl refl
+    → TextReads rules column (flow_text rules cursor own anchor tag given_tag tree of) tree
+text_reads rules cursor own anchor tag given_tag tree of column given line deeper =
+    let said = tag_meant given_tag false in
+    let front = lead anchor tag ++ (of.bracket ∷ line.first) in
+    let h = headed rules anchor tag said of.bracket line.first given (own_shows of.bracket of.content).0 in
+    let none : Given rules None None None = record { named = tt; tagged = tt } in
+    record {
+      head = h.head;
+      first = h.tail;
+      ending = line.ending;
+      rest = line.rest;
+      is =
+          flow_lines rules cursor own anchor tag given_tag tree of (lead_line rules anchor tag said given.named given.tagged) line
+          ∙ ap (λ t. record { text = t; ending = line.ending } ∷ line.rest) h.is;
+      shows = h.shows;
+      kind = ap (kind_of_node rules) (sym h.is) ∙ of.line anchor tag said given line.first line.more line.whole;
+      deeper = deeper;
+      read = λ reads at.
+          ap (λ t. text_or_properties (begins_properties t) rules reads column at t line.ending line.rest) (sym h.is)
+          ∙ said_reads rules reads column at anchor tag said of.bracket line.first line.ending line.rest given of.content
+          (of.line None None None none line.first line.more line.whole)
+          ∙ content_text rules cursor own anchor tag given_tag tree of column line (deeper_all column line.rest deeper);
+    }
 
 -- Fits
 
@@ -241,7 +173,7 @@ spaced_fits rules place cursor own anchor tag given_tag tree of given deep count
     (ap (is_closed rules.breaks12) fed ∙ below_ends rules.breaks12 own.text [] refl)
     (λ h. absurd (false≢true (sym of.ended.indention ∙ h)))
     some
-    (text_reads rules cursor own anchor tag given_tag tree of place.column given line deeper (all place.column deeper))
+    (text_reads rules cursor own anchor tag given_tag tree of place.column given line deeper)
   where
     line : FirstLine rules.breaks12 (of.inside ++ (of.closing ∷ []))
     line = first_line rules.breaks12 (of.inside ++ (of.closing ∷ []))
@@ -259,10 +191,6 @@ spaced_fits rules place cursor own anchor tag given_tag tree of given deep count
 
     deeper : (c : ℕ) → place.column ≡ Some c → AllInside true c line.rest
     deeper c e = ap (list_all (λ line. is_inside true c line.text)) (sym after) ∙ deep_inside rules.breaks12 c own.text (deep c e)
-
-    all : (column : Option ℕ) → ((c : ℕ) → column ≡ Some c → AllInside true c line.rest) → all_deeper column line.rest ≡ true
-    all None h = refl
-    all (Some c) h = deeper_inside c line.rest (h c refl)
 
 -- behind the space that stands before it where one is needed
 pub content_fits : (rules : Rules) (place : Place) (cursor : Cursor) (own : Laid) (anchor tag given_tag : Option Text) (tree : Tree)

@@ -1,9 +1,9 @@
 -- A line that begins with the bracket of a collection in flow, after its properties, holds no simple key, so it begins no mapping
 -- in a block.
-use Rattle.std.proofs.Common.{◌≡◌, refl, sym, ap, ◌∙◌, append_assoc, append-nil}
+use Rattle.std.proofs.Common.{◌≡◌, refl, ap, ◌∙◌, append_assoc}
 use Rattle.std.proofs.lemmas.Bool.{false≢true, and_parts}
 use Rattle.std.specs.Option.{option_or}
-use Rattle.std.specs.Prelude.{ℕ, Bool, true, false, Option, None, Some, [], ◌∷◌, ◌++◌, ◌==◌, ◌||◌, ◌&&◌, not, nat_le, length, is_some, option_map, option_and_then, if◌then◌else◌}
+use Rattle.std.specs.Prelude.{ℕ, Bool, true, false, Option, None, Some, [], ◌∷◌, ◌++◌, ◌==◌, ◌&&◌, not, nat_le, length, option_map, option_and_then, if◌then◌else◌}
 use Rattle.yaml_base.specs.Characters.{Text, space}
 use Rattle.yaml_base.specs.Event.{plain}
 use Rattle.yaml_base.specs.ReadPlain.{read_plain}
@@ -13,12 +13,13 @@ use Rattle.yaml_base.specs.StreamContent.{stood_plain, Tree}
 use Rattle.yaml_base.specs.StreamLines.{ends_sign, begins_with_sign}
 use Rattle.yaml_base.specs.StreamScalars.{Rules, Properties, no_properties, scalar_said, scalar_of_style, empty_sequence, empty_mapping, a_scalar, word_by_kind, word_after}
 use Rattle.yaml_base.specs.StreamFlow.{is_alias, longest_key}
-use Rattle.yaml_base.specs.StreamNodes.{without_last_space, word_of_alias, key_of_text, key_ends, key_from, key_of_line, begins_sequence, begins_mapping, begins_text, kind_of_node}
+use Rattle.yaml_base.specs.StreamNodes.{without_last_space, word_of_alias, key_of_text, key_ends, key_from, begins_text, kind_of_node}
 use Rattle.yaml_base.proofs.StreamKeys.{no_alias_before, key_by_word}
 use Rattle.yaml_base.proofs.StreamProperties.{begins_content}
 use Rattle.yaml_base.proofs.StreamPropertyWords.{lead}
 use Rattle.yaml_base.proofs.StreamFlowWords.{opens_inside, Given, given_reads}
-use Rattle.yaml_base.proofs.StreamNoKeys.{KeyNowhere, lead_nowhere, tag_no_alias, anchor_no_alias}
+use Rattle.yaml_base.proofs.StreamNoKeys.{tag_no_alias, anchor_no_alias}
+use Rattle.yaml_base.proofs.StreamOwnTexts.{own_kind}
 
 -- the bracket that begins a sequence, and the one that begins a mapping
 abbrev pub opening : (is_sequence : Bool) → ℕ
@@ -155,78 +156,26 @@ no_key_from rules anchor tag said q b (x ∷ t) given h =
     ends true none = ap (option_map (λ k. record { key = k; length = length (lead anchor tag ++ (opening q ∷ b)); after = t })) none
     ends false none = refl
 
--- a key after what holds none is found behind it
-behind_nowhere : (rules : Rules) (before a t : Text) → KeyNowhere rules before a → key_from rules before (a ++ t) ≡ key_from rules (before ++ a) t
-behind_nowhere rules before [] t none = ap (λ u. key_from rules u t) (sym (append-nil before))
-behind_nowhere rules before (c ∷ a) t none =
-    by (c == 0x3A && ends_sign (a ++ t)) (λ h. none.0 (and_parts (c == 0x3A) (ends_sign (a ++ t)) h).0)
-    ∙ behind_nowhere rules (before ++ (c ∷ [])) a t none.1
-    ∙ ap (λ u. key_from rules u t) (append_assoc before (c ∷ []) a)
-  where
-    by : (x : Bool) → (x ≡ true → key_of_text rules before ≡ None)
-        → option_or (key_ends rules x before (a ++ t)) (key_from rules (before ++ (c ∷ [])) (a ++ t)) ≡ key_from rules (before ++ (c ∷ [])) (a ++ t)
-    by true h =
-        ap (λ x. option_or (option_map (λ k. record { key = k; length = length before; after = a ++ t }) x)
-        (key_from rules (before ++ (c ∷ [])) (a ++ t))) (h refl)
-    by false h = refl
-
--- the line has none
-no_key_line : (rules : Rules) (anchor tag : Option Text) (said : Option TagSaid) (q : Bool) (t : Text) → Given rules anchor tag said → keeps_open t ≡ true
-    → key_of_line rules (lead anchor tag ++ (opening q ∷ t)) ≡ None
-no_key_line rules anchor tag said q t given h =
-    behind_nowhere rules [] (lead anchor tag) (opening q ∷ t) (lead_nowhere rules anchor tag said given.named given.tagged)
-    ∙ at q
-    ∙ no_key_from rules anchor tag said q [] t given h
-  where
-    at : (q : Bool) → key_from rules (lead anchor tag) (opening q ∷ t) ≡ key_from rules (lead anchor tag ++ (opening q ∷ [])) t
-    at true = refl
-    at false = refl
-
--- nor has that of an empty collection
-no_key_empty : (rules : Rules) (anchor tag : Option Text) (said : Option TagSaid) → Given rules anchor tag said
-    → (key_of_line rules (lead anchor tag ++ (0x5B ∷ 0x5D ∷ [])) ≡ None) × (key_of_line rules (lead anchor tag ++ (0x7B ∷ 0x7D ∷ [])) ≡ None)
-no_key_empty rules anchor tag said given =
-    let none = lead_nowhere rules anchor tag said given.named given.tagged in
-    (behind_nowhere rules [] (lead anchor tag) (0x5B ∷ 0x5D ∷ []) none, behind_nowhere rules [] (lead anchor tag) (0x7B ∷ 0x7D ∷ []) none)
-
 -- Kinds
 
--- a line that has no key begins with a text where it begins with properties or a bracket
-led_kind : (rules : Rules) (anchor tag : Option Text) (said : Option TagSaid) (q : Bool) (t : Text) → Given rules anchor tag said
-    → key_of_line rules (lead anchor tag ++ (opening q ∷ t)) ≡ None → kind_of_node rules (lead anchor tag ++ (opening q ∷ t)) ≡ begins_text
-led_kind rules anchor tag said q t given none =
-    let text = lead anchor tag ++ (opening q ∷ t) in
-    let signs = no_sign anchor tag said given in
-    ap (λ x. if x then begins_sequence else (if begins_with_sign 0x3F text || is_some (key_of_line rules text) then begins_mapping else begins_text)) signs.0
-    ∙ ap (λ x. if x || is_some (key_of_line rules text) then begins_mapping else begins_text) signs.1
-    ∙ ap (λ key. if is_some key then begins_mapping else begins_text) none
-  where
-    bracket : (q : Bool) → (begins_with_sign 0x2D (opening q ∷ t) ≡ false) × (begins_with_sign 0x3F (opening q ∷ t) ≡ false)
-    bracket true = (refl, refl)
-    bracket false = (refl, refl)
-
-    no_sign : (anchor tag : Option Text) (said : Option TagSaid) → Given rules anchor tag said
-        → (begins_with_sign 0x2D (lead anchor tag ++ (opening q ∷ t)) ≡ false) × (begins_with_sign 0x3F (lead anchor tag ++ (opening q ∷ t)) ≡ false)
-    no_sign None None said given = bracket q
-    no_sign (Some name) None said given = (refl, refl)
-    no_sign (Some name) (Some tag) said given = (refl, refl)
-    no_sign None (Some tag) (Some said) given = (
-      ap (λ u. begins_with_sign 0x2D ((u ++ (space ∷ [])) ++ (opening q ∷ t))) given.tagged.begins,
-      ap (λ u. begins_with_sign 0x3F ((u ++ (space ∷ [])) ++ (opening q ∷ t))) given.tagged.begins,
-    )
-    no_sign None (Some tag) None given = absurd given.tagged
+-- a bracket is no sign of an item and none of a key
+bracket_sign : (q : Bool) (t : Text) → (begins_with_sign 0x2D (opening q ∷ t) ≡ false) × (begins_with_sign 0x3F (opening q ∷ t) ≡ false)
+bracket_sign true t = (refl, refl)
+bracket_sign false t = (refl, refl)
 
 -- the first line of a collection in flow that holds something is a text
 pub collection_kind : (rules : Rules) (anchor tag : Option Text) (said : Option TagSaid) (q : Bool) (t : Text)
     → Given rules anchor tag said → keeps_open t ≡ true
     → kind_of_node rules (lead anchor tag ++ (opening q ∷ t)) ≡ begins_text
-collection_kind rules anchor tag said q t given h = led_kind rules anchor tag said q t given (no_key_line rules anchor tag said q t given h)
+collection_kind rules anchor tag said q t given h =
+    own_kind rules anchor tag said (opening q) t given (bracket_sign q t).0 (bracket_sign q t).1 (at q ∙ no_key_from rules anchor tag said q [] t given h)
+  where
+    at : (q : Bool) → key_from rules (lead anchor tag) (opening q ∷ t) ≡ key_from rules (lead anchor tag ++ (opening q ∷ [])) t
+    at true = refl
+    at false = refl
 
 -- and so is an empty one
 pub empty_kind : (rules : Rules) (anchor tag : Option Text) (said : Option TagSaid) → Given rules anchor tag said
     → (kind_of_node rules (lead anchor tag ++ (0x5B ∷ 0x5D ∷ [])) ≡ begins_text) × (kind_of_node rules (lead anchor tag ++ (0x7B ∷ 0x7D ∷ [])) ≡ begins_text)
 empty_kind rules anchor tag said given =
-    let none = no_key_empty rules anchor tag said given in (
-      led_kind rules anchor tag said true (0x5D ∷ []) given none.0,
-      led_kind rules anchor tag said false (0x7D ∷ []) given none.1,
-    )
+    (own_kind rules anchor tag said 0x5B (0x5D ∷ []) given refl refl refl, own_kind rules anchor tag said 0x7B (0x7D ∷ []) given refl refl refl)

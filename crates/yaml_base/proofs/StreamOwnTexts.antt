@@ -44,7 +44,7 @@ lines_shown breaks12 c t h = ap (λ x. character_before x c (lines_of breaks12 t
     by (line ∷ rest) = refl
 
 -- lines inside a column, if there is one
-deeper_all : (column : Option ℕ) (lines : List Line) → ((c : ℕ) → column ≡ Some c → AllInside true c lines) → all_deeper column lines ≡ true
+pub deeper_all : (column : Option ℕ) (lines : List Line) → ((c : ℕ) → column ≡ Some c → AllInside true c lines) → all_deeper column lines ≡ true
 deeper_all None lines h = refl
 deeper_all (Some c) lines h = deeper_inside c lines (h c refl)
 
@@ -97,7 +97,7 @@ pub record OwnText (rules : Rules) (column : Option ℕ) (text : Text) (style : 
       → text_by_kind (kind_of_text (head ∷ [])) rules column properties (head ∷ tail) ≡ scalar_said properties (standing_of style) (Some value)
 
 -- its first line begins a text, behind properties or without them
-own_kind : (rules : Rules) (anchor tag : Option Text) (said : Option TagSaid) (c : ℕ) (f : Text) → Given rules anchor tag said
+pub own_kind : (rules : Rules) (anchor tag : Option Text) (said : Option TagSaid) (c : ℕ) (f : Text) → Given rules anchor tag said
     → begins_with_sign 0x2D (c ∷ f) ≡ false → begins_with_sign 0x3F (c ∷ f) ≡ false → key_from rules (lead anchor tag) (c ∷ f) ≡ None
     → kind_of_node rules (lead anchor tag ++ (c ∷ f)) ≡ begins_text
 own_kind rules anchor tag said c f given no_item no_key keyless =
@@ -141,7 +141,7 @@ behind_reads rules reads column properties k c f ending rest shows kind =
     ∙ ap (λ x. node_by_kind x rules reads by properties false true begun ending rest (line ∷ rest)) kind
 
 -- a text behind properties or without them is read with these
-said_reads : (rules : Rules) (reads : Reads) (column : Option ℕ) (at : ℕ) (anchor tag : Option Text) (said : Option TagSaid) (c : ℕ) (f ending : Text)
+pub said_reads : (rules : Rules) (reads : Reads) (column : Option ℕ) (at : ℕ) (anchor tag : Option Text) (said : Option TagSaid) (c : ℕ) (f ending : Text)
     (rest : List Line)
     → Given rules anchor tag said → begins_content (c ∷ f) ≡ true → kind_of_node rules (c ∷ f) ≡ begins_text
     → text_or_properties (begins_properties (lead anchor tag ++ (c ∷ f))) rules reads column at (lead anchor tag ++ (c ∷ f)) ending rest
@@ -185,13 +185,13 @@ said_reads rules reads column at anchor tag said c f ending rest given content k
     by None (Some tag) None given = absurd given.tagged
 
 -- the first character of a line that begins so
-record Headed (text : Text) : Type 0 where
+pub record Headed (text : Text) : Type 0 where
   pub head : ℕ
   pub tail : Text
   pub is : text ≡ head ∷ tail
   pub shows : (head == space) ≡ false
 
-headed : (rules : Rules) (anchor tag : Option Text) (said : Option TagSaid) (c : ℕ) (f : Text) → Given rules anchor tag said → (c == space) ≡ false
+pub headed : (rules : Rules) (anchor tag : Option Text) (said : Option TagSaid) (c : ℕ) (f : Text) → Given rules anchor tag said → (c == space) ≡ false
     → Headed (lead anchor tag ++ (c ∷ f))
 headed rules None None said c f given h = record { head = c; tail = f; is = refl; shows = h }
 headed rules (Some name) None said c f given h = record { head = 0x26; tail = (name ++ (space ∷ [])) ++ (c ∷ f); is = refl; shows = refl }

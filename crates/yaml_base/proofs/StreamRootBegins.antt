@@ -83,7 +83,7 @@ led_begins rules cursor own None (Some tag) None c t given shows goes_on e = abs
 -- Properties
 
 -- properties, if there are some
-properties_begin : (s : Effective) (own directives : List TagDirective) (anchor tag : Option Text) (cursor : Cursor) → TagStands s.portable own directives tag
+pub properties_begin : (s : Effective) (own directives : List TagDirective) (anchor tag : Option Text) (cursor : Cursor) → TagStands s.portable own directives tag
     → (anchor ≡ None → tag ≡ None → ⊥) → Begins s.breaks12 cursor (properties_laid s.portable directives anchor tag false cursor)
 properties_begin s own directives None None cursor stands some = absurd (some refl refl)
 properties_begin s own directives (Some name) None cursor stands some =
@@ -100,7 +100,7 @@ properties_begin s own directives (Some name) (Some tag) cursor stands some =
 -- Aliases
 
 -- an alias
-alias_begins : (s : Effective) (name : Text) (cursor : Cursor) → Begins s.breaks12 cursor (alias_laid name false cursor)
+pub alias_begins : (s : Effective) (name : Text) (cursor : Cursor) → Begins s.breaks12 cursor (alias_laid name false cursor)
 alias_begins s name cursor =
     spaced_begins s.breaks12 cursor (alias_laid name false cursor) 0x2A name
     (append-nil ((space_if true cursor ++ (0x2A ∷ [])) ++ name) ∙ append_assoc (space_if true cursor) (0x2A ∷ []) name) refl (star s.breaks12)
@@ -112,7 +112,7 @@ alias_begins s name cursor =
 -- Collections in flow
 
 -- a collection in flow
-flow_begins : (rules : Rules) (cursor : Cursor) (own : Laid) (anchor tag given_tag : Option Text) (tree : Tree)
+pub flow_begins : (rules : Rules) (cursor : Cursor) (own : Laid) (anchor tag given_tag : Option Text) (tree : Tree)
     → FlowContent rules cursor own anchor tag given_tag tree → Given rules anchor tag (tag_meant given_tag false) → Begins rules.breaks12 cursor own
 flow_begins rules cursor own anchor tag given_tag tree of given =
     led_begins rules cursor own anchor tag (tag_meant given_tag false) of.bracket (of.inside ++ (of.closing ∷ [])) given (own_shows of.bracket of.content).0
@@ -121,7 +121,7 @@ flow_begins rules cursor own anchor tag given_tag tree of given =
 -- Scalars
 
 -- a text begins with a character that no reader skips
-record Headed (breaks12 : Bool) (text : Text) : Type 0 where
+pub record HeadShows (breaks12 : Bool) (text : Text) : Type 0 where
   pub head : ℕ
   pub tail : Text
   pub is : text ≡ head ∷ tail
@@ -129,7 +129,7 @@ record Headed (breaks12 : Bool) (text : Text) : Type 0 where
   pub goes_on : is_read_break breaks12 head ≡ false
 
 -- what isn't white
-shown_head : (breaks12 : Bool) (c : ℕ) (t : Text) → is_read_white breaks12 c ≡ false → Headed breaks12 (c ∷ t)
+shown_head : (breaks12 : Bool) (c : ℕ) (t : Text) → is_read_white breaks12 c ≡ false → HeadShows breaks12 (c ∷ t)
 shown_head breaks12 c t h =
     let parts = or_parts (is_blank c) (is_read_break breaks12 c) h in
     record { head = c; tail = t; is = refl; shows = (or_parts (c == space) (c == tab) parts.0).0; goes_on = parts.1 }
@@ -142,7 +142,7 @@ sign_shows false = (refl, refl, refl, refl)
 
 -- a tidy plain text that reads as more than nothing
 plain_head : (breaks12 : Bool) (text value : Text) → is_empty value ≡ false → has_clean_edges breaks12 text ≡ true → read_plain breaks12 false text ≡ Some value
-    → Headed breaks12 text
+    → HeadShows breaks12 text
 plain_head breaks12 [] [] some clean read = absurd (true≢false some)
 plain_head breaks12 [] (c ∷ value) some clean read = cc
 plain_head breaks12 (c ∷ text) value some clean read =
@@ -153,10 +153,10 @@ plain_head breaks12 (c ∷ text) value some clean read =
     by false h = refl
 
 -- a body that isn't empty
-body_head : (s : Effective) (style : ScalarStyle) (limit : Option ℕ) (indent : ℕ) (column : Option ℕ) (value : Text) (cursor : Cursor)
+pub body_head : (s : Effective) (style : ScalarStyle) (limit : Option ℕ) (indent : ℕ) (column : Option ℕ) (value : Text) (cursor : Cursor)
     → (is_plain style && is_empty value) ≡ false → is_tidy_style style s.breaks12 (body_laid style s limit indent value cursor).text ≡ true
     → read_in_style style s.breaks12 false column (body_laid style s limit indent value cursor).text ≡ Some value
-    → Headed s.breaks12 (body_laid style s limit indent value cursor).text
+    → HeadShows s.breaks12 (body_laid style s limit indent value cursor).text
 body_head s plain limit indent column value cursor some tidy read =
     let text = (body_laid plain s limit indent value cursor).text in
     plain_head s.breaks12 text value some (and_parts (has_no_space_before_break s.breaks12 text) (has_clean_edges s.breaks12 text) tidy).1 read
@@ -181,7 +181,7 @@ begins_alike breaks12 cursor own other e b = record {
 }
 
 -- an empty plain scalar with properties
-empty_begins : (s : Effective) (own directives : List TagDirective) (anchor tag : Option Text) (bare : Bool) (style : ScalarStyle) (limit : Option ℕ)
+pub empty_begins : (s : Effective) (own directives : List TagDirective) (anchor tag : Option Text) (bare : Bool) (style : ScalarStyle) (limit : Option ℕ)
     (indent : ℕ) (value : Text) (cursor : Cursor) → TagStands s.portable own directives tag → is_plain style ≡ true → is_empty value ≡ true → bare ≡ false
     → (anchor ≡ None → tag ≡ None → ⊥) → Begins s.breaks12 cursor (styled_laid s directives anchor tag bare style limit indent value cursor)
 empty_begins s own directives anchor tag true plain limit indent [] cursor stands is empty h some = absurd (true≢false h)
@@ -197,9 +197,9 @@ empty_begins s own directives anchor tag bare literal limit indent value cursor 
 empty_begins s own directives anchor tag bare folded limit indent value cursor stands is empty h some = absurd (false≢true is)
 
 -- a scalar whose body isn't empty
-styled_begins : (s : Effective) (own directives : List TagDirective) (anchor tag : Option Text) (bare : Bool) (style : ScalarStyle) (limit : Option ℕ)
+pub styled_begins : (s : Effective) (own directives : List TagDirective) (anchor tag : Option Text) (bare : Bool) (style : ScalarStyle) (limit : Option ℕ)
     (indent : ℕ) (value : Text) (cursor : Cursor) → IsNamed anchor → TagStands s.portable own directives tag → (is_plain style && is_empty value) ≡ false
-    → Headed s.breaks12 (body_laid style s limit indent value (body_cursor s directives anchor tag bare style value cursor)).text
+    → HeadShows s.breaks12 (body_laid style s limit indent value (body_cursor s directives anchor tag bare style value cursor)).text
     → Begins s.breaks12 cursor (styled_laid s directives anchor tag bare style limit indent value cursor)
 styled_begins s own directives anchor tag bare style limit indent value cursor named stands some h =
     let properties = properties_laid s.portable directives anchor tag bare cursor in
@@ -214,7 +214,7 @@ styled_begins s own directives anchor tag bare style limit indent value cursor n
     ∙ ap (λ t. space_if true cursor ++ (before ++ t)) h.is)
 
 -- plain is chosen only where it is asked for and fits
-plain_asked : (allowed : Allowances) (plain_fits block_fits : Bool) (asked : ScalarStyle) → is_plain (style_fitting allowed plain_fits block_fits asked) ≡ true
+pub plain_asked : (allowed : Allowances) (plain_fits block_fits : Bool) (asked : ScalarStyle) → is_plain (style_fitting allowed plain_fits block_fits asked) ≡ true
     → (is_plain asked ≡ true) × (plain_fits ≡ true)
 plain_asked allowed true block_fits plain h = (refl, refl)
 plain_asked allowed false block_fits plain h = absurd (quotes allowed.single_quoted h)
