@@ -132,3 +132,4 @@ pub mod StreamEmptyFits
 pub mod StreamScalarLeaves
 pub mod StreamRootBegins
 pub mod StreamRootLeaves
+pub mod StreamAllStand

@@ -81,7 +81,7 @@ sound_documents canonical stream h =
     (all_of_both (is_sound canonical) (documents_events stream.documents) (stream_end ∷ []) (after_first (is_sound canonical) (stream_start stream.encoding) (documents_events stream.documents ++ (stream_end ∷ [])) h)).0
 
 -- what holds of each of two lists' documents
-documents_parts : (P : Document → Type 0) (some others : List Document) → AllDocuments P (some ++ others) → AllDocuments P some × AllDocuments P others
+pub documents_parts : (P : Document → Type 0) (some others : List Document) → AllDocuments P (some ++ others) → AllDocuments P some × AllDocuments P others
 documents_parts P [] others h = (tt, h)
 documents_parts P (document ∷ rest) others h = let parts = documents_parts P rest others h.1 in ((h.0, parts.0), parts.1)
 
@@ -110,7 +110,7 @@ trees_agree s (documents_and before document) tagged =
 -- Settings
 
 -- an indent is at least 2
-indent_deep : (indent : Option ℤ) → 2 ≤ effective_indent indent
+pub indent_deep : (indent : Option ℤ) → 2 ≤ effective_indent indent
 indent_deep None = omega arith
 indent_deep (Some (negsuc n)) = omega arith
 indent_deep (Some (pos n)) = by (nat_le 2 n) refl (nat_le n 9)
