@@ -1,30 +1,18 @@
 -- One document more of a stream: its directives, its `---` and its root, or a root without `---` at the stream's start.
-use Rattle.std.proofs.Common.{◌≡◌, ◌≤◌, refl, sym, ap, ◌∙◌, append_assoc, append-nil, subst, arith}
-use Rattle.std.proofs.lemmas.Bool.{false≢true, eqb-true, and_from, or_parts}
-use Rattle.std.specs.List.{list_all}
-use Rattle.std.specs.Prelude.{ℕ, Bool, true, false, Option, None, Some, List, [], ◌∷◌, ◌++◌, ◌==◌, ◌||◌, ◌&&◌, not, length, codes, is_some, if◌then◌else◌}
+use Rattle.std.proofs.Common.{◌≡◌, refl, sym, ap, ◌∙◌, append_assoc, append-nil, subst, arith}
+use Rattle.std.proofs.lemmas.Bool.{false≢true, eqb-true, or_parts}
+use Rattle.std.specs.Prelude.{ℕ, Bool, true, false, Option, None, Some, List, [], ◌∷◌, ◌++◌, ◌==◌, ◌&&◌, not, length, codes, is_some}
 use Rattle.yaml_base.specs.Characters.{Text, line_feed}
 use Rattle.yaml_base.specs.Settings.{Effective}
 use Rattle.yaml_base.specs.Event.{Version, TagDirective, DocumentStart}
-use Rattle.yaml_base.specs.Cursor.{Laid, then_laid}
-use Rattle.yaml_base.specs.Grammar.{Document}
-use Rattle.yaml_base.specs.Layout.{has_directives, root_place, version_laid, tag_directives_laid}
-use Rattle.yaml_base.specs.StreamContent.{Tree, DocumentTree}
-use Rattle.yaml_base.specs.StreamLines.{Line, lines_of, ends_sign, is_spaces, without_blank_lines}
-use Rattle.yaml_base.specs.StreamScalars.{Rules}
-use Rattle.yaml_base.specs.StreamNodes.{node_read}
-use Rattle.yaml_base.specs.StreamDocuments.{MarkKind, start_mark, end_mark, no_mark, mark_of, Section, Heading, no_heading, heading_of, root_below, stands_at_margin, StreamPlace, after_root, after_heading, document_added, document_read, heading_added, section_by_kind, directive_lines, document_lines, front_kind, front_read, begins_with_percent}
-use Rattle.yaml_base.proofs.StreamAgrees.{document_tree}
+use Rattle.yaml_base.specs.Cursor.{then_laid}
+use Rattle.yaml_base.specs.Layout.{has_directives, version_laid, tag_directives_laid}
+use Rattle.yaml_base.specs.StreamContent.{DocumentTree}
+use Rattle.yaml_base.specs.StreamLines.{lines_of}
+use Rattle.yaml_base.specs.StreamDocuments.{start_mark, Section, Heading, no_heading, heading_of, StreamPlace, after_root, after_heading, document_read, heading_added, section_by_kind}
 use Rattle.yaml_base.proofs.StreamLineLaws.{is_closed, OneLine}
-use Rattle.yaml_base.proofs.StreamTidyLaws.{lines_after_first}
-use Rattle.yaml_base.proofs.StreamSections.{is_unmarked, AllUnmarked}
-use Rattle.yaml_base.proofs.StreamClosed.{closed, margin_cursor, lines_behind, lines_broken, closed_behind, closed_both}
-use Rattle.yaml_base.proofs.StreamFits.{size, Opens, Fits, signed_ends}
-use Rattle.yaml_base.proofs.StreamRoots.{mark_cursor, root_reads, root_marked_reads}
-use Rattle.yaml_base.proofs.StreamRootsStand.{rules_of, root_cursor, root_laid, heading_text, HeadingStands}
-use Rattle.yaml_base.proofs.StreamRootLines.{begins_shown, stands_below, Stood}
-use Rattle.yaml_base.proofs.StreamRootStood.{root_tree}
-use Rattle.yaml_base.proofs.StreamUnread.{read_unmarked, read_no_percent}
+use Rattle.yaml_base.proofs.StreamClosed.{margin_cursor, lines_broken, closed_both}
+use Rattle.yaml_base.proofs.StreamRootsStand.{heading_text, HeadingStands}
 use Rattle.yaml_base.proofs.StreamSoFar.{SoFar, front_alone, one_more, Percents, percents_unmarked, percents_shown, front_heading}
 
 -- Ends

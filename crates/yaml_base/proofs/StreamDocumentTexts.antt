@@ -1,7 +1,7 @@
 -- The text of a document by itself: its directives, its mark, its root and its end, as one text in place of pieces.
 use Rattle.std.proofs.Common.{◌≡◌, refl, sym, ap, ◌∙◌, append_assoc, append-nil, subst}
 use Rattle.std.proofs.lemmas.Grind.{flat_map-append}
-use Rattle.std.specs.Prelude.{ℕ, Bool, true, false, Option, None, Some, List, [], ◌∷◌, ◌++◌, ◌==◌, ◌||◌, ◌&&◌, not, codes, if◌then◌else◌}
+use Rattle.std.specs.Prelude.{Bool, true, false, Option, None, Some, List, [], ◌∷◌, ◌++◌, ◌==◌, ◌||◌, ◌&&◌, not, codes, if◌then◌else◌}
 use Rattle.yaml_base.specs.Characters.{Text, line_feed}
 use Rattle.yaml_base.specs.Settings.{Effective}
 use Rattle.yaml_base.specs.Event.{Version, TagDirective, DocumentStart}
@@ -9,7 +9,7 @@ use Rattle.yaml_base.specs.Tags.{directives_in_force}
 use Rattle.yaml_base.specs.Cursor.{Cursor, Laid, new_line, then_laid}
 use Rattle.yaml_base.specs.Grammar.{Document}
 use Rattle.yaml_base.specs.Layout.{Piece, piece_text, text_of, Standing, PieceLaid, PiecesLaid, one_piece, node_laid, root_place, laid_if, closing_mark_laid, version_laid, tag_directives_laid, has_directives, is_explicit, document_mark_laid, document_start_laid, document_start_piece, document_end_piece, document_laid}
-use Rattle.yaml_base.proofs.StreamTexts.{node_own, Joined, node_joined}
+use Rattle.yaml_base.proofs.StreamTexts.{node_own, node_joined}
 use Rattle.yaml_base.proofs.StreamClosed.{closing, closed, Settled, new_line_closes, margin_cursor}
 use Rattle.yaml_base.proofs.StreamRootsStand.{root_cursor, root_laid, heading_text}
 use Rattle.yaml_base.proofs.StreamDocumentReads.{dots, dots_if}

@@ -1,26 +1,24 @@
 -- A root behind `---`, or one without it at a stream's start, is one document more of the stream.
 use Rattle.std.proofs.Common.{◌≡◌, ◌≤◌, refl, sym, ap, ◌∙◌}
-use Rattle.std.proofs.lemmas.Bool.{false≢true, true≢false, and_from}
+use Rattle.std.proofs.lemmas.Bool.{false≢true, and_from}
 use Rattle.std.specs.List.{list_all}
 use Rattle.std.specs.Prelude.{ℕ, Bool, true, false, Option, None, Some, List, [], ◌∷◌, ◌++◌, ◌==◌, ◌||◌, ◌&&◌, not, codes, if◌then◌else◌}
 use Rattle.yaml_base.specs.Characters.{Text, line_feed, space}
 use Rattle.yaml_base.specs.Settings.{Effective}
-use Rattle.yaml_base.specs.Cursor.{Laid}
-use Rattle.yaml_base.specs.Event.{TagDirective}
 use Rattle.yaml_base.specs.Grammar.{Document}
 use Rattle.yaml_base.specs.Layout.{has_directives, root_place}
 use Rattle.yaml_base.specs.StreamContent.{Tree, DocumentTree}
 use Rattle.yaml_base.specs.StreamLines.{Line, lines_of, ends_sign, is_spaces, without_blank_lines}
 use Rattle.yaml_base.specs.StreamScalars.{Rules}
 use Rattle.yaml_base.specs.StreamNodes.{node_read}
-use Rattle.yaml_base.specs.StreamDocuments.{MarkKind, start_mark, end_mark, no_mark, begins_with_mark, mark_of, Section, Heading, root_below, root_marked, stands_at_margin, after_root, document_added, section_by_kind, directive_lines, document_lines, front_kind, front_read, begins_with_percent}
+use Rattle.yaml_base.specs.StreamDocuments.{start_mark, end_mark, no_mark, begins_with_mark, mark_of, Heading, root_below, stands_at_margin, after_root, document_added, section_by_kind, directive_lines, document_lines, front_kind, front_read}
 use Rattle.yaml_base.proofs.StreamAgrees.{document_tree}
-use Rattle.yaml_base.proofs.StreamLineLaws.{is_closed, OneLine}
+use Rattle.yaml_base.proofs.StreamLineLaws.{OneLine}
 use Rattle.yaml_base.proofs.StreamTidyLaws.{lines_after_first}
-use Rattle.yaml_base.proofs.StreamSections.{is_unmarked, AllUnmarked, IsMark}
-use Rattle.yaml_base.proofs.StreamClosed.{closed, margin_cursor, lines_behind, lines_broken, closed_behind, closed_both}
+use Rattle.yaml_base.proofs.StreamSections.{is_unmarked, AllUnmarked}
+use Rattle.yaml_base.proofs.StreamClosed.{closed, lines_behind, lines_broken, closed_behind, closed_both}
 use Rattle.yaml_base.proofs.StreamFits.{size, Opens, Fits, signed_ends}
-use Rattle.yaml_base.proofs.StreamRoots.{mark_cursor, root_reads, root_marked_reads}
+use Rattle.yaml_base.proofs.StreamRoots.{root_reads, root_marked_reads}
 use Rattle.yaml_base.proofs.StreamRootsStand.{rules_of, root_cursor, root_laid}
 use Rattle.yaml_base.proofs.StreamRootLines.{begins_shown, stands_below, Stood}
 use Rattle.yaml_base.proofs.StreamRootStood.{root_tree}

@@ -1,25 +1,23 @@
 -- The lines of a root: no line after its first is a mark, and its first stands where a root may begin.
-use Rattle.std.proofs.Common.{◌≡◌, ◌≤◌, refl, sym, ap, ◌∙◌, append_assoc, subst}
-use Rattle.std.proofs.lemmas.Bool.{false≢true, true≢false, and_parts}
+use Rattle.std.proofs.Common.{◌≡◌, refl, sym, ap, ◌∙◌, append_assoc, subst}
+use Rattle.std.proofs.lemmas.Bool.{true≢false, and_parts}
 use Rattle.std.specs.List.{list_all, list_any}
-use Rattle.std.specs.Prelude.{ℕ, zero, suc, Bool, true, false, Option, None, Some, List, [], ◌∷◌, ◌++◌, ◌==◌, ◌||◌, not, if◌then◌else◌}
+use Rattle.std.specs.Prelude.{ℕ, zero, suc, Bool, true, false, Option, List, [], ◌∷◌, ◌++◌, ◌==◌, ◌||◌, not}
 use Rattle.yaml_base.specs.Characters.{Text, line_feed, space}
 use Rattle.yaml_base.specs.LineBreaks.{is_read_break}
-use Rattle.yaml_base.specs.Settings.{Effective}
-use Rattle.yaml_base.specs.Event.{TagDirective, Collection}
 use Rattle.yaml_base.specs.Analysis.{is_empty}
-use Rattle.yaml_base.specs.Cursor.{Cursor, Laid, nothing_laid}
+use Rattle.yaml_base.specs.Cursor.{Laid, nothing_laid}
 use Rattle.yaml_base.specs.StreamLines.{Line, character_before, extending, lines_of, ends_sign, is_spaces, without_blank_lines, spaces}
 use Rattle.yaml_base.specs.StreamScalars.{Rules}
 use Rattle.yaml_base.specs.StreamNodes.{NodeKind}
 use Rattle.yaml_base.specs.StreamDocuments.{mark_of, stands_at_margin}
-use Rattle.yaml_base.proofs.StreamLineLaws.{OneLine, one_line_both}
+use Rattle.yaml_base.proofs.StreamLineLaws.{one_line_both}
 use Rattle.yaml_base.proofs.StreamInside.{not_blank}
 use Rattle.yaml_base.proofs.StreamTidyLaws.{lines_after_first}
 use Rattle.yaml_base.proofs.StreamSections.{is_unmarked, AllUnmarked}
 use Rattle.yaml_base.proofs.StreamClosed.{closing, closed, spaces_line, lines_behind, lines_broken}
 use Rattle.yaml_base.proofs.StreamItems.{Lays}
-use Rattle.yaml_base.proofs.StreamBlocks.{Opened, opened_shows, Said, BegunKind, unsaid, is_said, block_own, own_closed, below}
+use Rattle.yaml_base.proofs.StreamBlocks.{Opened, opened_shows, BegunKind, unsaid, is_said, block_own, own_closed, below}
 use Rattle.yaml_base.proofs.StreamRootsStand.{root_cursor, Begins}
 
 -- the first of some lines begins with a character that is no space
@@ -115,9 +113,11 @@ block_stands rules on_mark anchor tag begun entries text kind (is_said said) lay
     let b = properties (λ e. not_empty said.count (sym said.text ∙ e)) in
     let is = ap (lines_of rules.breaks12) (own_closed begun entries ∙ ap (λ t. begun.text ++ t) (below rules 0 begun.cursor entries text lays said.ends))
     ∙ lines_broken rules.breaks12 begun.text text (ap (λ t. list_any (is_read_break rules.breaks12) t) said.text ∙ one_line_both rules.breaks12 (spaces said.count) core (spaces_line rules.breaks12 said.count) said.one_line) in
-    subst (Stood on_mark) (sym is)
-    (unmarked, subst (λ t. FirstStands on_mark (record { text = t; ending = line_feed ∷ [] } ∷ lines_of rules.breaks12 text)) (sym b.text)
-    (first_stands on_mark b.count b.head b.tail (line_feed ∷ []) (lines_of rules.breaks12 text) b.margin b.shows))
+    subst (Stood on_mark) (sym is) (
+      unmarked,
+      subst (λ t. FirstStands on_mark (record { text = t; ending = line_feed ∷ [] } ∷ lines_of rules.breaks12 text)) (sym b.text)
+          (first_stands on_mark b.count b.head b.tail (line_feed ∷ []) (lines_of rules.breaks12 text) b.margin b.shows),
+    )
   where
     not_empty : (k : ℕ) → spaces k ++ (said.head ∷ said.tail) ≡ [] → ⊥
     not_empty zero e = absurd (true≢false (sym (ap is_empty e)))

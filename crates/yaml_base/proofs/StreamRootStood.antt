@@ -1,7 +1,7 @@
 -- A root that stands, as a document's directives are given, fits where it begins, and its lines are those of a root.
-use Rattle.std.proofs.Common.{◌≡◌, zero, suc, ◌≤◌, refl, sym, ap, ◌∙◌, subst, arith}
+use Rattle.std.proofs.Common.{◌≡◌, suc, ◌≤◌, refl, sym, ap, ◌∙◌, subst, arith}
 use Rattle.std.proofs.lemmas.Bool.{false≢true, true≢false, or_parts}
-use Rattle.std.specs.Prelude.{ℕ, Bool, true, false, Option, None, Some, List, [], ◌∷◌, ◌++◌, ◌||◌, not, option_map, if◌then◌else◌}
+use Rattle.std.specs.Prelude.{ℕ, Bool, true, false, Option, None, Some, List, [], ◌∷◌, ◌||◌, not, option_map, if◌then◌else◌}
 use Rattle.yaml_base.specs.Characters.{Text}
 use Rattle.yaml_base.specs.Settings.{Effective}
 use Rattle.yaml_base.specs.Event.{TagDirective, Collection}
@@ -10,7 +10,7 @@ use Rattle.yaml_base.specs.Cursor.{Laid}
 use Rattle.yaml_base.specs.Grammar.{Node, alias_node, scalar_node, sequence_node, mapping_node, Nodes, Pairs, Document}
 use Rattle.yaml_base.specs.Refusal.{collection_tag}
 use Rattle.yaml_base.specs.Layout.{has_no_nodes, has_no_pairs, asks_flow, is_written_in_flow, root_place, square, curly}
-use Rattle.yaml_base.specs.StreamContent.{Tagging, Tree, alias_tree, scalar_tree, sequence_tree, mapping_tree}
+use Rattle.yaml_base.specs.StreamContent.{Tagging, Tree, scalar_tree, sequence_tree, mapping_tree}
 use Rattle.yaml_base.specs.StreamLines.{Line, lines_of, is_spaces, without_blank_lines, indented, blanked}
 use Rattle.yaml_base.specs.StreamScalars.{Rules, no_properties}
 use Rattle.yaml_base.specs.StreamNodes.{NodeKind, begins_sequence, begins_mapping, begins_text, kind_of_node, Reads, ReadsText, node_by_kind, node_at, begins_properties, text_or_properties, node_read}

@@ -2,15 +2,15 @@
 -- that its lines are no marks, and that its directives are read.
 use Rattle.std.proofs.Common.{◌≡◌}
 use Rattle.std.specs.List.{list_all}
-use Rattle.std.specs.Prelude.{ℕ, Bool, true, false, Some, List, [], ◌∷◌, ◌++◌, ◌==◌, if◌then◌else◌}
+use Rattle.std.specs.Prelude.{ℕ, Bool, true, false, Some, List, [], ◌∷◌, ◌++◌, ◌==◌, ◌||◌, ◌&&◌, not, if◌then◌else◌}
 use Rattle.yaml_base.specs.Characters.{Text, space}
 use Rattle.yaml_base.specs.LineBreaks.{is_read_break}
 use Rattle.yaml_base.specs.Settings.{Effective}
 use Rattle.yaml_base.specs.Event.{TagDirective, DocumentStart}
 use Rattle.yaml_base.specs.Tags.{directives_in_force}
 use Rattle.yaml_base.specs.Cursor.{Cursor, Laid, then_laid}
-use Rattle.yaml_base.specs.Grammar.{Node, alias_node, scalar_node, sequence_node, mapping_node, Document}
-use Rattle.yaml_base.specs.Layout.{has_no_nodes, has_no_pairs, is_written_in_flow, root_place, version_laid, tag_directives_laid}
+use Rattle.yaml_base.specs.Grammar.{Node, alias_node, scalar_node, sequence_node, mapping_node, Document, Documents, no_documents, documents_and}
+use Rattle.yaml_base.specs.Layout.{has_no_nodes, has_no_pairs, is_written_in_flow, is_explicit, root_place, has_no_documents, version_laid, tag_directives_laid}
 use Rattle.yaml_base.specs.StreamLines.{lines_of, spaces}
 use Rattle.yaml_base.specs.StreamScalars.{Rules}
 use Rattle.yaml_base.specs.StreamDocuments.{heading_of, begins_with_percent}
@@ -92,7 +92,16 @@ pub record HeadingStands (s : Effective) (start : DocumentStart) : Type 0 where
 
 -- Documents
 
--- a document's root and its directives
-pub record DocumentStands (s : Effective) (document : Document) : Type 0 where
-  pub root : (on_mark : Bool) → RootStands s document on_mark
+-- a root begins on the line of `---`, where that is written and doesn't stand alone
+abbrev pub is_on_mark : Effective → (first : Bool) → DocumentStart → Bool
+is_on_mark s first start = is_explicit (s.canonical || s.portable) first start && not s.canonical
+
+-- a document's root, where it is laid out, and its directives
+pub record DocumentStands (s : Effective) (first : Bool) (document : Document) : Type 0 where
+  pub root : RootStands s document (is_on_mark s first document.start)
   pub heading : HeadingStands s document.start
+
+-- each of some documents
+abbrev pub DocumentsStand : Effective → Documents → Type 0
+DocumentsStand s no_documents = Unit {0}
+DocumentsStand s (documents_and before document) = DocumentsStand s before × DocumentStands s (has_no_documents before) document

@@ -2,7 +2,7 @@
 use Rattle.std.proofs.Common.{◌≡◌, suc, ◌≤◌, refl, ap, ◌∙◌, append_assoc, arith}
 use Rattle.std.proofs.lemmas.Bool.{false≢true}
 use Rattle.std.proofs.lemmas.List.{length-append}
-use Rattle.std.specs.Prelude.{ℕ, Bool, true, false, Option, Some, List, [], ◌∷◌, ◌++◌, ◌+◌, ◌&&◌, length, codes}
+use Rattle.std.specs.Prelude.{ℕ, Bool, true, false, Some, List, [], ◌++◌, ◌+◌, length, codes}
 use Rattle.yaml_base.specs.Characters.{Text}
 use Rattle.yaml_base.specs.Settings.{Effective}
 use Rattle.yaml_base.specs.Event.{TagDirective, Collection}
@@ -279,8 +279,8 @@ mutual
       let x = is_simple s.canonical directives key in
       let before = pairs_own pairs s directives false e cursor in
       let one = pair_within x pairs key value rules s directives e before.cursor refl leaves.1
-          (λ y cursor each. block_node value rules s directives (value_place y e) cursor each)
-          (λ each. block_node key rules s directives (key_place pairs e) (sign_cursor e) each) in
+      (λ y cursor each. block_node value rules s directives (value_place y e) cursor each)
+      (λ each. block_node key rules s directives (key_place pairs e) (sign_cursor e) each) in
       let each = block_pairs pairs rules s directives e cursor leaves.0 in
       let same = pair_regrouped x pairs key value s directives e before in
       omega arith

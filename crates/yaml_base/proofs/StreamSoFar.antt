@@ -1,11 +1,10 @@
 -- A stream's text as far as it is read: its lines cut into sections, whatever marks follow them, and what they are read as.
-use Rattle.std.proofs.Common.{◌≡◌, refl, sym, ap, ◌∙◌, append_assoc, append-nil, subst}
+use Rattle.std.proofs.Common.{◌≡◌, refl, sym, ap, ◌∙◌, append_assoc, append-nil}
 use Rattle.std.proofs.lemmas.Bool.{false≢true, eqb-true, and_parts, and_from}
 use Rattle.std.proofs.lemmas.Grind.{fold-append}
 use Rattle.std.specs.List.{list_all}
-use Rattle.std.specs.Prelude.{ℕ, Bool, true, false, Option, None, Some, List, [], ◌∷◌, ◌++◌, ◌==◌, ◌&&◌, fold, option_and_then, option_map, if◌then◌else◌}
-use Rattle.yaml_base.specs.Characters.{Text, space}
-use Rattle.yaml_base.specs.StreamContent.{DocumentTree}
+use Rattle.std.specs.Prelude.{ℕ, Bool, true, false, None, Some, List, [], ◌∷◌, ◌++◌, fold, option_and_then, if◌then◌else◌}
+use Rattle.yaml_base.specs.Characters.{Text}
 use Rattle.yaml_base.specs.StreamLines.{Line, lines_of, is_spaces, without_blank_lines}
 use Rattle.yaml_base.specs.StreamDocuments.{mark_of, Section, sections_of, Heading, heading_of, after_heading, StreamRead, section_read, begins_with_percent, directive_lines, document_lines, front_kind, front_read, heading_added, may_end, documents_at_end, sections_read}
 use Rattle.yaml_base.proofs.StreamLineLaws.{is_closed, lines_after_break}

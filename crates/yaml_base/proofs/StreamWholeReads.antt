@@ -1,41 +1,35 @@
 -- A whole stream whose documents stand is read as their trees.
-use Rattle.std.proofs.Common.{◌≡◌, suc, ◌≤◌, refl, sym, ap, ◌∙◌, append_assoc, append-nil, subst, arith}
-use Rattle.std.proofs.lemmas.Bool.{false≢true, true≢false, eqb-true, and_parts, and_from}
+use Rattle.std.proofs.Common.{◌≡◌, suc, ◌≤◌, refl, sym, ap, ◌∙◌, append-nil, subst, arith}
+use Rattle.std.proofs.lemmas.Bool.{eqb-true, and_parts, and_from}
 use Rattle.std.proofs.lemmas.Grind.{flat_map-append}
 use Rattle.std.proofs.lemmas.List.{length-append}
 use Rattle.std.specs.List.{list_all}
-use Rattle.std.specs.Prelude.{ℕ, Bool, true, false, Option, None, Some, List, [], ◌∷◌, ◌++◌, ◌+◌, ◌==◌, ◌||◌, ◌&&◌, not, length, fold, codes, option_and_then, if◌then◌else◌}
+use Rattle.std.specs.Prelude.{ℕ, Bool, true, false, None, Some, List, [], ◌∷◌, ◌++◌, ◌==◌, ◌||◌, ◌&&◌, not, length, codes, option_and_then, if◌then◌else◌}
 use Rattle.yaml_base.specs.Characters.{Text, line_feed, space}
 use Rattle.yaml_base.specs.Settings.{Effective}
 use Rattle.yaml_base.specs.Tags.{directives_in_force}
 use Rattle.yaml_base.specs.Cursor.{Laid}
 use Rattle.yaml_base.specs.Grammar.{Document, Documents, no_documents, documents_and, Stream}
-use Rattle.yaml_base.specs.Layout.{Piece, piece_text, text_of, Standing, PiecesLaid, laid_if, closing_mark_laid, is_explicit, root_place, document_laid, documents_laid, first_standing, stream_end_piece, layout}
+use Rattle.yaml_base.specs.Layout.{piece_text, text_of, PiecesLaid, laid_if, closing_mark_laid, is_explicit, root_place, document_laid, documents_laid, first_standing, stream_end_piece, layout}
 use Rattle.yaml_base.specs.StreamContent.{DocumentTree, documents_in_order}
 use Rattle.yaml_base.specs.StreamLines.{Line, lines_of, is_spaces, all_blank, ends_sign}
 use Rattle.yaml_base.specs.StreamNodes.{node_read}
-use Rattle.yaml_base.specs.StreamDocuments.{mark_of, Sections, sections_of, no_heading, document_added, sections_read, documents_at_end, begins_with_percent, directive_lines, document_lines, front_kind, front_read, documents_of, StreamRead}
+use Rattle.yaml_base.specs.StreamDocuments.{mark_of, Sections, sections_of, no_heading, document_added, sections_read, documents_at_end, begins_with_percent, directive_lines, document_lines, front_kind, front_read, documents_of}
 use Rattle.yaml_base.specs.StreamLaw.{is_written_as_nothing}
 use Rattle.yaml_base.proofs.StreamCuts.{none_not_some}
 use Rattle.yaml_base.proofs.StreamSections.{is_unmarked, AllUnmarked, unmarked_before}
-use Rattle.yaml_base.proofs.StreamClosed.{closing, closed, margin_cursor}
+use Rattle.yaml_base.proofs.StreamClosed.{closing, margin_cursor}
 use Rattle.yaml_base.proofs.StreamFits.{size}
-use Rattle.yaml_base.proofs.StreamEachDocument.{AllDocuments}
-use Rattle.yaml_base.proofs.StreamRootsStand.{rules_of, root_cursor, root_laid, DocumentStands}
+use Rattle.yaml_base.proofs.StreamRootsStand.{rules_of, root_cursor, root_laid, RootStands, is_on_mark, DocumentStands, DocumentsStand}
 use Rattle.yaml_base.proofs.StreamRootStood.{root_fits}
 use Rattle.yaml_base.proofs.StreamSizes.{block_node}
-use Rattle.yaml_base.proofs.StreamSoFar.{SoFar, documents_so_far}
+use Rattle.yaml_base.proofs.StreamSoFar.{documents_so_far}
 use Rattle.yaml_base.proofs.StreamDocumentReads.{Awaits, awaits_first, awaits_ended, dots_if}
 use Rattle.yaml_base.proofs.StreamRootAdded.{with_document}
 use Rattle.yaml_base.proofs.StreamDocumentTexts.{before_root, root_part, document_text, DocumentLaid, document_joined, dots_laid}
 use Rattle.yaml_base.proofs.StreamDocumentsRead.{first_more, later_more}
 
 -- Lists of documents
-
--- what holds of each of two lists' documents
-pub documents_parts : (P : Document → Type 0) (some others : List Document) → AllDocuments P (some ++ others) → AllDocuments P some × AllDocuments P others
-documents_parts P [] others h = (tt, h)
-documents_parts P (document ∷ rest) others h = let parts = documents_parts P rest others h.1 in ((h.0, parts.0), parts.1)
 
 -- the first document is written as something, where no mark is written before it
 abbrev pub FirstWritten : Effective → List Document → Type 0
@@ -64,8 +58,8 @@ root_length before mark own rest ending =
     omega arith
 
 -- the root of a document is no deeper than the document's text is long, and one
-document_size : (s : Effective) (first ended : Bool) (document : Document) → DocumentStands s document → size document.root ≤ suc (length (document_text s first ended document))
-document_size s first ended document stands = by (is_explicit (s.canonical || s.portable) first document.start)
+document_size : (s : Effective) (first ended : Bool) (document : Document) → DocumentStands s first document → size document.root ≤ suc (length (document_text s first ended document))
+document_size s first ended document stands = by (is_explicit (s.canonical || s.portable) first document.start) stands.root
   where
     before : Text
     before = before_root s ended document.start
@@ -73,18 +67,18 @@ document_size s first ended document stands = by (is_explicit (s.canonical || s.
     ending : Text
     ending = dots_if (not document.end_implicit)
 
-    own : (on_mark : Bool) → size document.root ≤ suc (length (root_laid on_mark s document).text)
-    own on_mark = block_node document.root (rules_of s document) s (directives_in_force document.start.directives) root_place (root_cursor on_mark) (stands.root on_mark).leaves
+    own : (on_mark : Bool) → RootStands s document on_mark → size document.root ≤ suc (length (root_laid on_mark s document).text)
+    own on_mark root = block_node document.root (rules_of s document) s (directives_in_force document.start.directives) root_place (root_cursor on_mark) root.leaves
 
-    by : (x : Bool) → size document.root ≤ suc (length (before ++ (root_part x s document ++ ending)))
-    by true =
+    by : (x : Bool) → RootStands s document (x && not s.canonical) → size document.root ≤ suc (length (before ++ (root_part x s document ++ ending)))
+    by true stood =
         let root = root_laid (not s.canonical) s document in
-        let deep = own (not s.canonical) in
+        let deep = own (not s.canonical) stood in
         let within = root_length before (if not s.canonical then codes "---" else codes "---" ++ (line_feed ∷ [])) root.text (closing root.cursor) ending in
         omega arith
-    by false =
+    by false stood =
         let root = root_laid false s document in
-        let deep = own false in
+        let deep = own false stood in
         let within = root_length before [] root.text (closing root.cursor) ending in
         omega arith
 
@@ -96,7 +90,7 @@ record SoLaid (s : Effective) (documents : Documents) (laid : PiecesLaid) : Type
   awaits : (depth : ℕ) → suc (length (text_of laid.pieces)) ≤ depth → Awaits s.breaks12 depth (text_of laid.pieces) (document_trees s documents) (laid.standing.mark == 0)
 
 -- one document more
-document_so_laid : (s : Effective) (first : Bool) (documents : Documents) (laid : PiecesLaid) (document : Document) → 2 ≤ s.indent → DocumentStands s document → laid.standing.cursor ≡ margin_cursor 0
+document_so_laid : (s : Effective) (first : Bool) (documents : Documents) (laid : PiecesLaid) (document : Document) → 2 ≤ s.indent → DocumentStands s first document → laid.standing.cursor ≡ margin_cursor 0
     → ((depth : ℕ) → suc (length (text_of laid.pieces ++ document_text s first (laid.standing.mark == 0) document)) ≤ depth → size document.root ≤ depth
     → Awaits s.breaks12 depth (text_of laid.pieces ++ document_text s first (laid.standing.mark == 0) document) (document_trees s (documents_and documents document)) (not document.end_implicit))
     → SoLaid s (documents_and documents document)
@@ -115,11 +109,8 @@ document_so_laid s first documents laid document deep stands at awaits = record 
     text : Text
     text = document_text s first (laid.standing.mark == 0) document
 
-    explicit : Bool
-    explicit = is_explicit (s.canonical || s.portable) first document.start
-
     joined : DocumentLaid s first document laid.standing
-    joined = document_joined s first document laid.standing at (root_fits s document (explicit && not s.canonical) deep (stands.root (explicit && not s.canonical))).settled
+    joined = document_joined s first document laid.standing at (root_fits s document (is_on_mark s first document.start) deep stands.root).settled
 
     same : text_of (laid.pieces ++ next.pieces) ≡ text_of laid.pieces ++ text
     same = flat_map-append piece_text laid.pieces next.pieces ∙ ap (λ t. text_of laid.pieces ++ t) joined.text
@@ -131,19 +122,18 @@ document_so_laid s first documents laid document deep stands at awaits = record 
         omega arith
 
 -- all documents
-documents_so_laid : (s : Effective) (documents : Documents) → 2 ≤ s.indent → AllDocuments (DocumentStands s) (documents_in_order documents) → FirstWritten s (documents_in_order documents)
+documents_so_laid : (s : Effective) (documents : Documents) → 2 ≤ s.indent → DocumentsStand s documents → FirstWritten s (documents_in_order documents)
     → SoLaid s documents (documents_laid s documents first_standing)
 documents_so_laid s no_documents deep stands written = record { cursor = refl; awaits = λ depth long. awaits_first s.breaks12 depth }
 documents_so_laid s (documents_and no_documents document) deep stands written =
-    document_so_laid s true no_documents (documents_laid s no_documents first_standing) document deep stands.0 refl
-    (λ depth long small. first_more s depth document deep stands.0 small written (awaits_first s.breaks12 depth))
+    document_so_laid s true no_documents (documents_laid s no_documents first_standing) document deep stands.1 refl
+    (λ depth long small. first_more s depth document deep stands.1 small written (awaits_first s.breaks12 depth))
 documents_so_laid s (documents_and (documents_and before last) document) deep stands written =
-    let parts = documents_parts (DocumentStands s) (documents_in_order (documents_and before last)) (document ∷ []) stands in
     let laid = documents_laid s (documents_and before last) first_standing in
-    let so = documents_so_laid s (documents_and before last) deep parts.0 (first_front s (documents_in_order (documents_and before last)) (document ∷ []) written) in
+    let so = documents_so_laid s (documents_and before last) deep stands.0 (first_front s (documents_in_order (documents_and before last)) (document ∷ []) written) in
     let text = document_text s false (laid.standing.mark == 0) document in
-    document_so_laid s false (documents_and before last) laid document deep parts.1.0 so.cursor
-    (λ depth long small. later_more s depth (text_of laid.pieces) (document_trees s (documents_and before last)) document (laid.standing.mark == 0) deep parts.1.0 small
+    document_so_laid s false (documents_and before last) laid document deep stands.1 so.cursor
+    (λ depth long small. later_more s depth (text_of laid.pieces) (document_trees s (documents_and before last)) document (laid.standing.mark == 0) deep stands.1 small
     (so.awaits depth (shorter depth (text_of laid.pieces) text long)))
   where
     shorter : (depth : ℕ) (a b : Text) → suc (length (a ++ b)) ≤ depth → suc (length a) ≤ depth
@@ -223,7 +213,7 @@ stream_text s stream at =
     ∙ ap (λ c. (laid_if (documents.standing.mark == 2) closing_mark_laid c).text) at ∙ ap (λ (l : Laid). l.text) (dots_laid (documents.standing.mark == 2)))
 
 -- a stream whose documents stand is read as their trees
-pub stream_reads : (s : Effective) (stream : Stream) → 2 ≤ s.indent → AllDocuments (DocumentStands s) (documents_in_order stream.documents) → FirstWritten s (documents_in_order stream.documents)
+pub stream_reads : (s : Effective) (stream : Stream) → 2 ≤ s.indent → DocumentsStand s stream.documents → FirstWritten s (documents_in_order stream.documents)
     → documents_of s.breaks12 (text_of (layout s stream)) ≡ Some (document_trees s stream.documents)
 stream_reads s stream deep stands written =
     by (all_blank (lines_of s.breaks12 text)) refl
