@@ -99,4 +99,7 @@ pub mod StreamKeyBodies
 pub mod StreamKeyLengths
 pub mod StreamKeysFit
 pub mod StreamKeyFronts
+pub mod StreamKeyReads
 pub mod StreamLeaves
+pub mod StreamSimpleKeys
+pub mod StreamNodesStand
