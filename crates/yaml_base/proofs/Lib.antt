@@ -116,6 +116,7 @@ pub mod StreamKeyBodies
 pub mod StreamKeyLengths
 pub mod StreamKeysFit
 pub mod StreamKeyFronts
+pub mod StreamKeyReads
 pub mod StreamLeaves
 pub mod StreamDeepBreaks
 pub mod StreamFlowDeep
@@ -131,7 +132,6 @@ pub mod StreamScalarsFit
 pub mod StreamRootLeaves
 pub mod StreamEmptyFits
 pub mod StreamScalarLeaves
-pub mod StreamKeyReads
 pub mod StreamSimpleKeys
 pub mod StreamNodesStand
 pub mod StreamRootBegins
