@@ -1,4 +1,4 @@
--- A simple key behind its anchor and its tag is read as its tree, and no `:` inside it ends a key earlier.
+-- A simple key after its anchor and its tag is read as its tree, and no `:` inside it ends a key earlier.
 use Rattle.std.proofs.Common.{◌≡◌, refl, sym, ap, ◌∙◌, append_assoc, subst}
 use Rattle.std.proofs.lemmas.Bool.{true≢false, false≢true, eqb-true, and_parts}
 use Rattle.std.specs.Prelude.{ℕ, Bool, true, false, Option, None, Some, [], ◌∷◌, ◌++◌, ◌==◌, ◌&&◌, not, nat_le, length, option_map, option_and_then, if◌then◌else◌}
@@ -24,7 +24,7 @@ use Rattle.yaml_base.proofs.StreamStands.{tag_meant}
 use Rattle.yaml_base.proofs.StreamFlowWords.{Given, given_reads, scalar_in, scalar_meant, double_kind, single_kind, tag_of_collection}
 use Rattle.yaml_base.proofs.StreamNoKeys.{nowhere_then, reads_alias, alias_left, other_kept, kind_other, tag_no_alias, anchor_no_alias, lead_nowhere}
 
--- Words behind properties
+-- Words after properties
 
 -- a text that doesn't begin with `*` is no alias
 not_star : (c : ℕ) (t : Text) → (c == 0x2A) ≡ false → kind_of_word (c ∷ t) ≡ an_alias → ⊥
@@ -47,7 +47,7 @@ not_star c (d ∷ f ∷ t) h e = by (c == 0x2A) h e
     by true h e = true≢false h
     by false h e = cc
 
--- so it is none behind properties
+-- so it is none after properties
 content_other : (rules : Rules) (properties : Properties) (c : ℕ) (t : Text) → (c == 0x2A) ≡ false
     → reads_alias (word_after rules false None properties (c ∷ t)) ≡ false
 content_other rules properties c t star = kind_other (kind_of_word (c ∷ t)) rules false properties (c ∷ t) (not_star c t star)
@@ -73,7 +73,7 @@ lead_no_alias rules None (Some tag) (Some said) c t given own star =
 lead_no_alias rules None (Some tag) None c t given own star = absurd given.tagged
 lead_no_alias rules None None (Some said) c t given own star = absurd given.tagged
 
--- a text behind properties is a key where it is a word behind them
+-- a text after properties is a key where it is a word after them
 lead_key_text : (rules : Rules) (anchor tag : Option Text) (said : Option TagSaid) (c : ℕ) (t : Text) (read : Option Tree) → Given rules anchor tag said
     → begins_content (c ∷ t) ≡ true → (c == 0x2A) ≡ false → word_after rules false None (record { anchor = anchor; tag = said }) (c ∷ t) ≡ read
     → key_of_text rules (lead anchor tag ++ (c ∷ t)) ≡ (if nat_le (length (lead anchor tag ++ (c ∷ t))) longest_key then read else None)
@@ -103,7 +103,7 @@ lead_text : (rules : Rules) (anchor tag : Option Text) (said : Option TagSaid) (
 lead_text rules anchor tag said c t tree given own star e short =
     lead_key_text rules anchor tag said c t (Some tree) given own star e ∙ ap (λ x. if x then Some tree else None) short
 
--- what a text behind properties is to a line
+-- what a text after properties is to a line
 pub record KeyRead (rules : Rules) (text : Text) (tree : Tree) : Type 0 where
   pub clear : (after : Text) → NoKey rules [] text after
   pub reads : key_of_text rules text ≡ Some tree
@@ -153,7 +153,7 @@ single_no_key rules anchor tag said b (c ∷ t) after v given read = (
       (single_no_key rules anchor tag said (b ++ (c ∷ [])) t after v given (ap (read_single rules.breaks12) (append_assoc (0x27 ∷ b) (c ∷ []) t) ∙ read)),
 )
 
--- Keys behind properties
+-- Keys after properties
 
 -- a key in double quotes
 pub double_key_read : (rules : Rules) (anchor tag given_tag : Option Text) (bare : Bool) (column : Option ℕ) (t v : Text)

@@ -94,7 +94,7 @@ written_given s own directives anchor tag bare named stands =
 key_short : {breaks12 : Bool} {text : Text} → KeyText breaks12 text → nat_le (length text) longest_key ≡ true
 key_short {breaks12} {text} of = let short = of.short in le-leb (length text) longest_key (omega arith)
 
--- a key of a style, behind its anchor and its tag
+-- a key of a style, after its anchor and its tag
 scalar_key_fits : (s : Effective) (own : List TagDirective) (anchor tag given_tag : Option Text) (style : ScalarStyle) (bare : Bool) (column : Option ℕ)
     (value : Text)
     → Given (rules_of s own) anchor tag (tag_meant given_tag bare) → is_flow_style style ≡ true → (bare ≡ true → is_plain style ≡ false)
