@@ -46,7 +46,8 @@ documents_end s (documents_and before document) = end_cursor document.end_implic
 -- each document
 documents_stand : (s : Effective) (documents : Documents) → 2 ≤ s.indent → s.indent ≤ 9
     → ((own : List TagDirective) → SimpleKeysFit s own (directives_in_force own))
-    → AllDocuments (IsSoundDocument s.portable s.canonical) (documents_in_order documents) → DocumentsHold (BodyStands s) documents s → DocumentsStand s documents
+    → AllDocuments (IsSoundDocument s.portable s.canonical) (documents_in_order documents) → DocumentsHold (BodyStands s) documents s
+    → DocumentsStand s documents
 documents_stand s no_documents low high keys sound bodies = tt
 documents_stand s (documents_and before document) low high keys sound bodies =
     let parts = documents_parts (IsSoundDocument s.portable s.canonical) (documents_in_order before) (document ∷ []) sound in
@@ -55,7 +56,8 @@ documents_stand s (documents_and before document) low high keys sound bodies =
     let at = start_laid s (has_no_documents before) document.start (documents_laid s before first_standing).standing (documents_end s before) in (
       documents_stand s before low high keys parts.0 bodies.0,
       record {
-        root = root_stands s document (is_on_mark s (has_no_documents before) document.start) low (scalars_fit s own (directives_in_force own) low high) (keys own)
+        root = root_stands s document (is_on_mark s (has_no_documents before) document.start) low (scalars_fit s own (directives_in_force own) low high)
+            (keys own)
             (keys_fit s own (directives_in_force own)) parts.1.0.names
             (subst (λ (l : Laid). BodiesHold (BodyStands s) document.root s (directives_in_force own) root_place l.cursor) at bodies.1);
         heading = record { ends = says.0; percents = says.1; reads = says.2 };
