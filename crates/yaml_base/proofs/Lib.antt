@@ -116,6 +116,7 @@ pub mod StreamKeyBodies
 pub mod StreamKeyLengths
 pub mod StreamKeysFit
 pub mod StreamKeyFronts
+pub mod StreamKeyReads
 pub mod StreamLeaves
 pub mod StreamDeepBreaks
 pub mod StreamFlowDeep
@@ -133,3 +134,5 @@ pub mod StreamScalarLeaves
 pub mod StreamRootBegins
 pub mod StreamRootLeaves
 pub mod StreamAllStand
+pub mod StreamSimpleKeys
+pub mod StreamNodesStand

@@ -1,4 +1,4 @@
--- The properties of a collection in a block are on one line, behind a space where one is needed, and are read there.
+-- The properties of a collection in a block are on one line, after a space where one is needed, and are read there.
 use Rattle.std.proofs.Common.{◌≡◌, ◌<◌, refl, sym, ap, ◌∙◌, append_assoc, append-nil, arith, subst}
 use Rattle.std.proofs.lemmas.Bool.{true≢false, or_parts}
 use Rattle.std.proofs.lemmas.Bool.Decides.{nat_tests}
@@ -76,7 +76,7 @@ lead_line rules (Some name) (Some tag) said named tagged =
 
 -- Layout
 
--- properties are laid out behind a space where one is needed
+-- properties are laid out after a space where one is needed
 pub properties_whole : (portable : Bool) (directives : List TagDirective) (anchor tag : Option Text) (cursor : Cursor) (c : ℕ) (t : Text)
     → properties_text anchor (tag_written portable directives tag false) ≡ c ∷ t
     → (properties_laid portable directives anchor tag false cursor).text ≡ space_if true cursor ++ (c ∷ t)

@@ -9,7 +9,7 @@ use Rattle.yaml_base.specs.StreamContent.{Tree}
 use Rattle.yaml_base.specs.StreamLines.{ends_sign, begins_with_sign}
 use Rattle.yaml_base.specs.StreamScalars.{Rules}
 use Rattle.yaml_base.specs.StreamNodes.{key_of_text, simple_entry, key_entry, value_entry}
-use Rattle.yaml_base.specs.StreamDocuments.{start_mark, end_mark, no_mark, begins_with_mark}
+use Rattle.yaml_base.specs.StreamDocuments.{start_mark, end_mark, no_mark, begins_with_mark, mark_of}
 use Rattle.yaml_base.proofs.StreamSections.{is_unmarked}
 use Rattle.yaml_base.proofs.StreamPairs.{KeyFits}
 use Rattle.yaml_base.proofs.StreamKeys.{NoKey, key_found}
@@ -27,6 +27,13 @@ pub record KeyFront (text : Text) : Type 0 where
   pub no_sign : (sign : ℕ) → is_among (codes "?:-") sign ≡ true → (after : Text) → begins_with_sign sign (text ++ (0x3A ∷ after)) ≡ false
   pub no_mark : (sign : ℕ) → is_among (codes "-.") sign ≡ true → (after : Text) → begins_with_mark sign (text ++ (0x3A ∷ after)) ≡ false
 
+-- a line with it is no mark
+pub front_unmarked : (text : Text) → KeyFront text → (after : Text) → is_unmarked (mark_of (text ++ (0x3A ∷ after))) ≡ true
+front_unmarked text front after =
+    ap (λ x. is_unmarked (if x then start_mark else (if begins_with_mark 0x2E (text ++ (0x3A ∷ after)) then end_mark else no_mark)))
+    (front.no_mark 0x2D refl after)
+    ∙ ap (λ x. is_unmarked (if x then end_mark else no_mark)) (front.no_mark 0x2E refl after)
+
 -- such a text is a simple key's, where it is cut off
 pub key_fits : (rules : Rules) (text : Text) (tree : Tree) → KeyFront text → KeyText rules.breaks12 text → ((after : Text) → NoKey rules [] text after)
     → key_of_text rules text ≡ Some tree → KeyFits rules text tree
@@ -40,10 +47,7 @@ key_fits rules text tree front of clear read = record {
   simple = λ after h.
       ap (λ x. if x then key_entry else (if begins_with_sign 0x3A (text ++ (0x3A ∷ after)) then value_entry else simple_entry)) (front.no_sign 0x3F refl after)
       ∙ ap (λ x. if x then value_entry else simple_entry) (front.no_sign 0x3A refl after);
-  unmarked = λ after h.
-      ap (λ x. is_unmarked (if x then start_mark else (if begins_with_mark 0x2E (text ++ (0x3A ∷ after)) then end_mark else no_mark)))
-      (front.no_mark 0x2D refl after)
-      ∙ ap (λ x. is_unmarked (if x then end_mark else no_mark)) (front.no_mark 0x2E refl after);
+  unmarked = λ after h. front_unmarked text front after;
   cut = λ after h. key_found rules [] text after tree (clear after) read h;
 }
 

@@ -167,7 +167,7 @@ simple_collection canonical empty count h =
 
 -- In flow
 
--- what is laid out behind a space is the key's text
+-- what is laid out after a space is the key's text
 cancelled : (cursor : Cursor) (text whole laid : Text) → laid ≡ space_if true cursor ++ (text ++ []) → laid ≡ space_if true cursor ++ whole → text ≡ whole
 cancelled cursor text whole laid e f = sym (append-nil text) ∙ append_cancel_left (space_if true cursor) (text ++ []) whole (sym e ∙ f)
 

@@ -147,7 +147,7 @@ abbrev anchored : Option Text → Text
 anchored None = []
 anchored (Some name) = 0x26 ∷ (name ++ (space ∷ []))
 
--- behind an anchor or not it is no word
+-- after an anchor or not it is no word
 tag_no_word : (rules : Rules) (flow : Bool) (anchor : Option Text) (b : Text) → IsNamed anchor → has_no_space b ≡ true
     → word_read rules flow (anchored anchor ++ (0x21 ∷ b)) ≡ None
 tag_no_word rules flow None b named h = tag_alone rules flow None 0 b h
@@ -224,7 +224,7 @@ no_key_text rules text no_word none =
     neither true = refl
     neither false = refl
 
--- the beginning of a tag behind an anchor or not is no key
+-- the beginning of a tag after an anchor or not is no key
 tag_no_key : (rules : Rules) (anchor : Option Text) (b : Text) → IsNamed anchor → has_no_space b ≡ true → key_of_text rules (anchored anchor ++ (0x21 ∷ b))
     ≡ None
 tag_no_key rules None b named h =
