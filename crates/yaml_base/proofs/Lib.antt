@@ -129,10 +129,10 @@ pub mod StreamOwnPlain
 pub mod StreamOwnBlocks
 pub mod StreamBlockEnds
 pub mod StreamScalarsFit
+pub mod StreamRootLeaves
 pub mod StreamEmptyFits
 pub mod StreamScalarLeaves
 pub mod StreamRootBegins
-pub mod StreamRootLeaves
 pub mod StreamAllStand
 pub mod StreamSimpleKeys
 pub mod StreamNodesStand

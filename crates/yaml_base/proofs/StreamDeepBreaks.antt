@@ -1,8 +1,8 @@
 -- Texts after each of whose breaks something stands: another break, or spaces enough to stand deeper than a column.
-use Rattle.std.proofs.Common.{◌≡◌, zero, suc, ◌≤◌, refl, sym, ap, ◌∙◌, arith}
-use Rattle.std.proofs.lemmas.Bool.{true≢false, false≢true, and_parts, and_from, or_parts}
+use Rattle.std.proofs.Common.{◌≡◌, zero, suc, ◌≤◌, refl, ap, ◌∙◌, arith}
+use Rattle.std.proofs.lemmas.Bool.{false≢true, and_parts, and_from, or_parts}
 use Rattle.std.specs.List.{list_all, list_any}
-use Rattle.std.specs.Prelude.{ℕ, Bool, true, false, Option, List, [], ◌∷◌, ◌++◌, ◌-◌, ◌==◌, ◌||◌, ◌&&◌, not, if◌then◌else◌}
+use Rattle.std.specs.Prelude.{ℕ, Bool, true, false, List, [], ◌∷◌, ◌++◌, ◌-◌, ◌==◌, ◌||◌, ◌&&◌, not, if◌then◌else◌}
 use Rattle.yaml_base.specs.Characters.{Text, space, line_feed, is_blank}
 use Rattle.yaml_base.specs.LineBreaks.{is_read_break}
 use Rattle.yaml_base.specs.ReadPlain.{is_read_white}

@@ -1,8 +1,8 @@
 -- A collection in flow fits where it stands in a block.
-use Rattle.std.proofs.Common.{◌≡◌, suc, ◌≤◌, ◌<◌, refl, sym, ap, ◌∙◌, append_assoc, arith, subst}
-use Rattle.std.proofs.lemmas.Bool.{true≢false, false≢true, and_parts}
-use Rattle.std.specs.List.{list_all, list_any}
-use Rattle.std.specs.Prelude.{ℕ, Bool, true, false, Option, None, Some, List, [], ◌∷◌, ◌++◌, ◌+◌, ◌==◌, ◌||◌, ◌&&◌, not, length, if◌then◌else◌}
+use Rattle.std.proofs.Common.{◌≡◌, suc, ◌≤◌, ◌<◌, refl, sym, ap, ◌∙◌, append_assoc, arith}
+use Rattle.std.proofs.lemmas.Bool.{true≢false, false≢true}
+use Rattle.std.specs.List.{list_all}
+use Rattle.std.specs.Prelude.{ℕ, Bool, true, false, Option, None, Some, List, [], ◌∷◌, ◌++◌, ◌==◌, ◌||◌, ◌&&◌, not, if◌then◌else◌}
 use Rattle.yaml_base.specs.Characters.{Text, space, line_feed}
 use Rattle.yaml_base.specs.LineBreaks.{is_read_break}
 use Rattle.yaml_base.specs.ReadPlain.{is_read_white}
@@ -12,21 +12,20 @@ use Rattle.yaml_base.specs.Cursor.{Cursor, Laid, space_if}
 use Rattle.yaml_base.specs.Grammar.{alias_node, scalar_node, sequence_node, mapping_node, Nodes, Pairs}
 use Rattle.yaml_base.specs.Refusal.{collection_tag}
 use Rattle.yaml_base.specs.Layout.{Place, line_column, deeper, has_no_nodes, has_no_pairs, is_written_in_flow}
-use Rattle.yaml_base.specs.ReadTags.{TagSaid}
 use Rattle.yaml_base.specs.StreamContent.{Tree}
-use Rattle.yaml_base.specs.StreamLines.{Line, lines_of, text_of_lines, character_before, extending, ends_sign, without_blank_lines, is_inside, all_deeper, Indented, spaces, blanked}
-use Rattle.yaml_base.specs.StreamScalars.{Rules, Properties, PropertiesRead, properties_read}
-use Rattle.yaml_base.specs.StreamNodes.{begins_text, kind_of_node, Reads, ReadsText, node_by_kind, node_at, node_lines, begins_properties, after_properties, text_or_properties, text_read, kind_of_text, text_by_kind}
+use Rattle.yaml_base.specs.StreamLines.{Line, lines_of, text_of_lines, character_before, extending, is_inside, all_deeper, spaces}
+use Rattle.yaml_base.specs.StreamScalars.{Rules, Properties}
+use Rattle.yaml_base.specs.StreamNodes.{kind_of_node, begins_properties, text_or_properties, text_read, kind_of_text, text_by_kind}
 use Rattle.yaml_base.proofs.StreamLineLaws.{is_closed, OneLine, text_of_lines_of}
-use Rattle.yaml_base.proofs.StreamInside.{AllInside, indented_spaces, not_blank, deeper_inside}
+use Rattle.yaml_base.proofs.StreamInside.{AllInside}
 use Rattle.yaml_base.proofs.StreamTidyLaws.{lines_after_first}
 use Rattle.yaml_base.proofs.StreamClosed.{closed, lines_behind, after_line}
-use Rattle.yaml_base.proofs.StreamBlocks.{spaces_both, below_ends}
+use Rattle.yaml_base.proofs.StreamBlocks.{below_ends}
 use Rattle.yaml_base.proofs.StreamLeafFits.{TextReads, text_fits}
-use Rattle.yaml_base.proofs.StreamProperties.{properties_text, has_properties, begins_content, properties_said}
+use Rattle.yaml_base.proofs.StreamProperties.{begins_content}
 use Rattle.yaml_base.proofs.StreamPropertyWords.{lead}
 use Rattle.yaml_base.proofs.StreamStands.{tag_written, tag_meant, NamesStand, BodyStands, BodiesHold}
-use Rattle.yaml_base.proofs.StreamLeads.{lead_spaces, lead_then, tag_is_written}
+use Rattle.yaml_base.proofs.StreamLeads.{tag_is_written}
 use Rattle.yaml_base.proofs.StreamFlowWords.{Given}
 use Rattle.yaml_base.proofs.StreamFlowReads.{FlowContent, content_read, sequence_reads, mapping_reads}
 use Rattle.yaml_base.proofs.StreamBegun.{lead_line}

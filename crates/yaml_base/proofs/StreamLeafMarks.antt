@@ -27,7 +27,7 @@ use Rattle.yaml_base.proofs.StreamStands.{TagStands, NamesStand, BodyStands, bod
 use Rattle.yaml_base.proofs.StreamFlowTakes.{and_false}
 use Rattle.yaml_base.proofs.StreamOwnWords.{deep_more}
 use Rattle.yaml_base.proofs.StreamRootsStand.{is_leaf}
-use Rattle.yaml_base.proofs.StreamDeepBreaks.{after_breaks, begins_deep, Deep, Keeps, Implies, after_both, after_weaker, after_line_of, space_line, deep_keeps, lines_pass, deep_first}
+use Rattle.yaml_base.proofs.StreamDeepBreaks.{after_breaks, begins_deep, Deep, Keeps, after_both, after_weaker, after_line_of, space_line, deep_keeps, lines_pass, deep_first}
 use Rattle.yaml_base.proofs.StreamFlowDeep.{properties_line, signs_line, brackets_line, sign_deep, alias_deep, items_deep, pairs_deep}
 
 -- Collections in flow
@@ -79,7 +79,7 @@ first_unmarked breaks12 (c ∷ u) h = by (begins_deep breaks12 1 (c ∷ u)) refl
     line = first_text (lines_of breaks12 (c ∷ (u ++ (line_feed ∷ []))))
 
     shown : (x : Bool) → is_read_break breaks12 c ≡ x → (c == 0x5D || c == 0x7D) ≡ true → is_unmarked (mark_of line) ≡ true
-    shown true e h = ap (λ x. is_unmarked (mark_of (first_text (character_before x c (lines_of breaks12 (u ++ (line_feed ∷ [])))))))  e
+    shown true e h = ap (λ x. is_unmarked (mark_of (first_text (character_before x c (lines_of breaks12 (u ++ (line_feed ∷ []))))))) e
     shown false e h =
         ap (λ x. is_unmarked (mark_of (first_text (character_before x c (lines_of breaks12 (u ++ (line_feed ∷ []))))))) e
         ∙ ap (λ t. is_unmarked (mark_of t)) (first_extended c (lines_of breaks12 (u ++ (line_feed ∷ []))))
@@ -113,7 +113,8 @@ bracket_below breaks12 closing one h =
     or_true false h = h
 
 -- the end of a collection at the root
-end_unmarked : (s : Effective) (brackets : Brackets) (empty : Bool) (cursor : Cursor) → OneLine s.breaks12 brackets.opening → OneLine s.breaks12 brackets.closing
+end_unmarked : (s : Effective) (brackets : Brackets) (empty : Bool) (cursor : Cursor)
+    → OneLine s.breaks12 brackets.opening → OneLine s.breaks12 brackets.closing
     → begins_closing brackets.closing ≡ true → Unmarked s.breaks12 (end_laid s brackets true empty None cursor).text
 end_unmarked s brackets true cursor opening closing h =
     unmarked_text s.breaks12 (indicator brackets.opening true true false cursor).text brackets.closing
@@ -214,7 +215,8 @@ scalar_unmarked s own directives cursor content names stands =
     (separation_line s.breaks12 choice.style false content.value properties.cursor) in
     let tidy = and_parts (list_all is_printable body.text && has_deep_lines s.breaks12 1 body.text)
     (is_tidy_style choice.style s.breaks12 body.text) stands.tidy in
-    ap (λ t. list_all (λ line. is_unmarked (mark_of line.text)) (lines_after_first (lines_of s.breaks12 t))) (append_assoc front body.text (closing body.cursor))
+    ap (λ t. list_all (λ line. is_unmarked (mark_of line.text)) (lines_after_first (lines_of s.breaks12 t)))
+    (append_assoc front body.text (closing body.cursor))
     ∙ ap (list_all (λ line. is_unmarked (mark_of line.text))) (after_line s.breaks12 front (closed body) one)
     ∙ all_unmarked true (lines_after_first (lines_of s.breaks12 (closed body)))
     (deep_lines_inside s.breaks12 0 (closed body)
@@ -238,7 +240,8 @@ sequence_unmarked s own directives cursor start items deep in_flow names bodies 
     by false h hold = absurd (false≢true h)
     by true h hold =
         collection_unmarked s own directives square start.anchor (collection_tag s.canonical start) (has_no_nodes items) cursor
-        (items_own items s directives true (deeper s.indent None) begun.cursor) (brackets_line s.breaks12).0.0 (brackets_line s.breaks12).0.1 refl names.0 names.1
+        (items_own items s directives true (deeper s.indent None) begun.cursor) (brackets_line s.breaks12).0.0 (brackets_line s.breaks12).0.1
+        refl names.0 names.1
         (items_deep items s own directives 1 (deeper s.indent None) begun.cursor (omega arith) names.2 hold)
 
 -- and a mapping
@@ -257,7 +260,8 @@ mapping_unmarked s own directives cursor start pairs deep in_flow names bodies =
     by false h hold = absurd (false≢true h)
     by true h hold =
         collection_unmarked s own directives curly start.anchor (collection_tag s.canonical start) (has_no_pairs pairs) cursor
-        (pairs_own pairs s directives true (deeper s.indent None) begun.cursor) (brackets_line s.breaks12).1.0 (brackets_line s.breaks12).1.1 refl names.0 names.1
+        (pairs_own pairs s directives true (deeper s.indent None) begun.cursor) (brackets_line s.breaks12).1.0 (brackets_line s.breaks12).1.1
+        refl names.0 names.1
         (pairs_deep pairs s own directives 1 (deeper s.indent None) begun.cursor (omega arith) names.2 hold)
 
 -- no line of a leaf at the root after its first is a mark, where its names and bodies stand
@@ -266,5 +270,7 @@ pub leaf_unmarked : (n : Node) (s : Effective) (own directives : List TagDirecti
     → AfterUnmarked s.breaks12 (node_own n s directives root_place cursor)
 leaf_unmarked (alias_node name) s own directives cursor deep leaf names bodies = alias_unmarked s name false cursor names
 leaf_unmarked (scalar_node content) s own directives cursor deep leaf names bodies = scalar_unmarked s own directives cursor content names bodies
-leaf_unmarked (sequence_node start items) s own directives cursor deep leaf names bodies = sequence_unmarked s own directives cursor start items deep leaf names bodies
-leaf_unmarked (mapping_node start pairs) s own directives cursor deep leaf names bodies = mapping_unmarked s own directives cursor start pairs deep leaf names bodies
+leaf_unmarked (sequence_node start items) s own directives cursor deep leaf names bodies =
+    sequence_unmarked s own directives cursor start items deep leaf names bodies
+leaf_unmarked (mapping_node start pairs) s own directives cursor deep leaf names bodies =
+    mapping_unmarked s own directives cursor start pairs deep leaf names bodies

@@ -1,11 +1,11 @@
 -- What a root that stands begins with, behind a space where one is needed: a character that no reader skips.
-use Rattle.std.proofs.Common.{◌≡◌, refl, sym, ap, ◌∙◌, append_assoc, append-nil, subst}
+use Rattle.std.proofs.Common.{◌≡◌, refl, sym, ap, ◌∙◌, append_assoc, append-nil}
 use Rattle.std.proofs.lemmas.Bool.{true≢false, false≢true, and_parts, or_parts}
-use Rattle.std.specs.Prelude.{ℕ, Bool, true, false, Option, None, Some, List, [], ◌∷◌, ◌++◌, ◌==◌, ◌||◌, ◌&&◌, not, is_some, codes, if◌then◌else◌}
+use Rattle.std.specs.Prelude.{ℕ, Bool, true, false, Option, None, Some, List, [], ◌∷◌, ◌++◌, ◌==◌, ◌&&◌, not, if◌then◌else◌}
 use Rattle.yaml_base.specs.Characters.{Text, space, tab, is_blank}
 use Rattle.yaml_base.specs.LineBreaks.{is_read_break}
 use Rattle.yaml_base.specs.Settings.{Effective}
-use Rattle.yaml_base.specs.Event.{ScalarStyle, any_style, plain, single_quoted, double_quoted, literal, folded, TagDirective, Scalar}
+use Rattle.yaml_base.specs.Event.{ScalarStyle, any_style, plain, single_quoted, double_quoted, literal, folded, TagDirective}
 use Rattle.yaml_base.specs.Analysis.{Allowances, is_empty}
 use Rattle.yaml_base.specs.Style.{is_plain, style_fitting}
 use Rattle.yaml_base.specs.Plain.{runs, runs_laid}
@@ -13,18 +13,16 @@ use Rattle.yaml_base.specs.SingleQuoted.{quotes_doubled, single_quote}
 use Rattle.yaml_base.specs.DoubleQuoted.{double_inside, quote_laid}
 use Rattle.yaml_base.specs.Meaning.{read_in_style}
 use Rattle.yaml_base.specs.ReadPlain.{is_read_white, read_plain}
-use Rattle.yaml_base.specs.TidyBodies.{has_no_space_before_break, has_clean_edges, ends_white, is_tidy_style, is_tidy}
+use Rattle.yaml_base.specs.TidyBodies.{has_no_space_before_break, has_clean_edges, ends_white, is_tidy_style}
 use Rattle.yaml_base.specs.StreamContent.{Tree}
 use Rattle.yaml_base.specs.Cursor.{Cursor, Laid, space_if}
 use Rattle.yaml_base.specs.Tags.{spelling, spelled}
-use Rattle.yaml_base.specs.Grammar.{Node, alias_node, scalar_node, sequence_node, mapping_node}
 use Rattle.yaml_base.specs.Layout.{alias_laid, properties_laid, body_laid}
 use Rattle.yaml_base.specs.ReadTags.{TagSaid}
-use Rattle.yaml_base.specs.StreamLines.{spaces}
 use Rattle.yaml_base.specs.StreamScalars.{Rules}
-use Rattle.yaml_base.proofs.StreamProperties.{IsNamed, properties_text}
+use Rattle.yaml_base.proofs.StreamProperties.{IsNamed}
 use Rattle.yaml_base.proofs.StreamPropertyWords.{lead}
-use Rattle.yaml_base.proofs.StreamStands.{tag_written, tag_meant, TagStands, NamesStand}
+use Rattle.yaml_base.proofs.StreamStands.{tag_written, tag_meant, TagStands}
 use Rattle.yaml_base.proofs.StreamFlowWords.{Given}
 use Rattle.yaml_base.proofs.StreamBegun.{properties_whole}
 use Rattle.yaml_base.proofs.StreamFlowReads.{FlowContent}
@@ -83,7 +81,8 @@ led_begins rules cursor own None (Some tag) None c t given shows goes_on e = abs
 -- Properties
 
 -- properties, if there are some
-pub properties_begin : (s : Effective) (own directives : List TagDirective) (anchor tag : Option Text) (cursor : Cursor) → TagStands s.portable own directives tag
+pub properties_begin : (s : Effective) (own directives : List TagDirective) (anchor tag : Option Text) (cursor : Cursor)
+    → TagStands s.portable own directives tag
     → (anchor ≡ None → tag ≡ None → ⊥) → Begins s.breaks12 cursor (properties_laid s.portable directives anchor tag false cursor)
 properties_begin s own directives None None cursor stands some = absurd (some refl refl)
 properties_begin s own directives (Some name) None cursor stands some =
@@ -161,7 +160,8 @@ body_head s plain limit indent column value cursor some tidy read =
     let text = (body_laid plain s limit indent value cursor).text in
     plain_head s.breaks12 text value some (and_parts (has_no_space_before_break s.breaks12 text) (has_clean_edges s.breaks12 text) tidy).1 read
 body_head s single_quoted limit indent column value cursor some tidy read =
-    shown_head s.breaks12 0x27 ((runs_laid quotes_doubled limit indent true (runs value) (single_quote cursor).cursor).text ++ (0x27 ∷ [])) (sign_shows s.breaks12).0
+    shown_head s.breaks12 0x27 ((runs_laid quotes_doubled limit indent true (runs value) (single_quote cursor).cursor).text ++ (0x27 ∷ []))
+    (sign_shows s.breaks12).0
 body_head s double_quoted limit indent column value cursor some tidy read =
     shown_head s.breaks12 0x22 ((double_inside s.unicode limit indent None value (quote_laid cursor).cursor).text ++ (0x22 ∷ [])) (sign_shows s.breaks12).1
 body_head s any_style limit indent column value cursor some tidy read = absurd (false≢true tidy)
@@ -214,7 +214,8 @@ styled_begins s own directives anchor tag bare style limit indent value cursor n
     ∙ ap (λ t. space_if true cursor ++ (before ++ t)) h.is)
 
 -- plain is chosen only where it is asked for and fits
-pub plain_asked : (allowed : Allowances) (plain_fits block_fits : Bool) (asked : ScalarStyle) → is_plain (style_fitting allowed plain_fits block_fits asked) ≡ true
+pub plain_asked : (allowed : Allowances) (plain_fits block_fits : Bool) (asked : ScalarStyle)
+    → is_plain (style_fitting allowed plain_fits block_fits asked) ≡ true
     → (is_plain asked ≡ true) × (plain_fits ≡ true)
 plain_asked allowed true block_fits plain h = (refl, refl)
 plain_asked allowed false block_fits plain h = absurd (quotes allowed.single_quoted h)

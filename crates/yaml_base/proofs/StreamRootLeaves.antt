@@ -1,11 +1,11 @@
 -- A document's root that is a leaf stands, where its names, its bodies and the keys in it do.
-use Rattle.std.proofs.Common.{◌≡◌, suc, ◌≤◌, refl, sym, ap, ◌∙◌, arith}
+use Rattle.std.proofs.Common.{◌≡◌, ◌≤◌, refl, sym, ap, ◌∙◌, arith}
 use Rattle.std.proofs.lemmas.Bool.{true≢false, false≢true, and_parts, and_from}
 use Rattle.std.specs.List.{list_all}
-use Rattle.std.specs.Prelude.{ℕ, Bool, true, false, Option, None, Some, List, [], ◌∷◌, ◌||◌, ◌&&◌, not, is_some}
+use Rattle.std.specs.Prelude.{Bool, true, false, Option, None, List, [], ◌||◌, ◌&&◌, not, is_some}
 use Rattle.yaml_base.specs.Characters.{Text, is_printable}
 use Rattle.yaml_base.specs.Settings.{Effective}
-use Rattle.yaml_base.specs.Event.{ScalarStyle, TagDirective, Scalar}
+use Rattle.yaml_base.specs.Event.{TagDirective, Scalar}
 use Rattle.yaml_base.specs.Analysis.{Allowances, is_empty, allowances}
 use Rattle.yaml_base.specs.Style.{Choice, is_plain, style_asked, fits_plain}
 use Rattle.yaml_base.specs.Tags.{directives_in_force}
@@ -37,7 +37,8 @@ use Rattle.yaml_base.proofs.StreamRootBegins.{properties_begin, alias_begins, fl
 nothing_written : (s : Effective) (content : Scalar) → is_plain (choice_of s root_place false content).style ≡ true → is_empty content.value ≡ true
     → content.anchor ≡ None → scalar_tag s.canonical content ≡ None → is_written_as_nothing s.canonical (scalar_node content) ≡ true
 nothing_written s content is empty no_anchor no_tag =
-    and_from (is_empty content.value && not (is_some content.anchor) && not (is_some tag) && content.plain_implicit) (is_plain (style_asked s.canonical content.style))
+    and_from (is_empty content.value && not (is_some content.anchor) && not (is_some tag) && content.plain_implicit)
+    (is_plain (style_asked s.canonical content.style))
     (and_from (is_empty content.value && not (is_some content.anchor) && not (is_some tag)) content.plain_implicit
     (and_from (is_empty content.value && not (is_some content.anchor)) (not (is_some tag))
     (and_from (is_empty content.value) (not (is_some content.anchor)) empty (ap (λ a. not (is_some a)) no_anchor)) (ap (λ t. not (is_some t)) no_tag)) implicit)
@@ -77,7 +78,8 @@ scalar_begins s own directives cursor content names stands some = by (is_plain c
     tag : Option Text
     tag = scalar_tag s.canonical content
 
-    by : (x : Bool) → (is_plain choice.style && is_empty content.value) ≡ x → Begins s.breaks12 cursor (node_own (scalar_node content) s directives root_place cursor)
+    by : (x : Bool) → (is_plain choice.style && is_empty content.value) ≡ x
+        → Begins s.breaks12 cursor (node_own (scalar_node content) s directives root_place cursor)
     by false h =
         let body = body_from s directives root_place content cursor in
         styled_begins s own directives content.anchor tag choice.bare choice.style s.width (deeper s.indent None) content.value cursor names.0 names.1 h
@@ -155,7 +157,8 @@ root_stands s document on_mark deep scalars simple_keys keys names bodies =
     let directives = directives_in_force own in
     record {
       leaves =
-          leaves_stand document.root s own directives scalars (flows_fit s own directives keys deep) simple_keys as_root None (root_cursor on_mark) (λ h. refl) refl
+          leaves_stand document.root s own directives scalars (flows_fit s own directives keys deep) simple_keys as_root None
+          (root_cursor on_mark) (λ h. refl) refl
           (by on_mark) names bodies;
       leaf = λ leaf. leaf_stands s document on_mark (omega arith) keys names bodies leaf;
       block = λ block. properties_stand document.root s own directives on_mark names;
