@@ -15,11 +15,10 @@ use Rattle.yaml_base.specs.Layout.{Piece, text_of, layout, has_directives, is_ex
 use Rattle.yaml_base.specs.Pieces.{list_layout}
 use Rattle.yaml_base.specs.Output.{bytes_written}
 use Rattle.yaml_base.specs.CanonicalReader.{characters_read}
-use Rattle.yaml_base.specs.Meaning.{has_scalar_texts}
 use Rattle.yaml_base.specs.StreamContent.{DocumentTree, documents_in_order, document_agrees, documents_agree, agrees}
 use Rattle.yaml_base.specs.StreamDocuments.{documents_of}
 use Rattle.yaml_base.specs.StreamReader.{stream_trees}
-use Rattle.yaml_base.specs.StreamLaw.{is_written_as_nothing, is_lost, are_portable, document_has_flow_sign, is_portable, StreamReadsBack}
+use Rattle.yaml_base.specs.StreamLaw.{is_written_as_nothing, is_lost, are_portable, document_has_flow_sign, is_portable}
 use Rattle.yaml_base.proofs.Trees.{tree_of-stream_events}
 use Rattle.yaml_base.proofs.StreamBytes.{trees_of_bytes}
 use Rattle.yaml_base.proofs.StreamAgrees.{node_is_tagged, nodes_are_tagged, pairs_are_tagged, document_tree, document_tree_agrees}
@@ -208,10 +207,3 @@ stream_agrees given encoding events accepted portable stands =
     (ap tree_of (sym accepted.is_stream) ∙ tree_of-stream_events accepted.stream)
     ∙ trees_agree (effective given encoding) accepted.stream.documents
     (sound_documents given.canonical accepted.stream (ap (list_all (is_sound given.canonical)) accepted.is_stream ∙ accepted.sound))
-
--- every stream reads back, where each stream that may be written stands
-pub streams_read_back : ((given : Settings) (encoding : Option Encoding) (events : List Event) (accepted : IsAccepted given.canonical events)
-    → list_all has_scalar_texts events ≡ true
-    → is_portable given.portable given.canonical events ≡ true → StreamStands (effective given encoding) events accepted.stream) → StreamReadsBack
-streams_read_back stand = λ given encoding events accepted scalars portable.
-    stream_agrees given encoding events accepted portable (stand given encoding events accepted scalars portable)
