@@ -132,7 +132,7 @@ pub mod StreamScalarsFit
 pub mod StreamRootLeaves
 pub mod StreamEmptyFits
 pub mod StreamScalarLeaves
-pub mod StreamSimpleKeys
-pub mod StreamNodesStand
 pub mod StreamRootBegins
 pub mod StreamAllStand
+pub mod StreamSimpleKeys
+pub mod StreamNodesStand

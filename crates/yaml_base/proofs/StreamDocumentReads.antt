@@ -45,11 +45,13 @@ dashes_line true = refl
 dashes_line false = refl
 
 -- and behind `...`
-pub awaits_ended : (breaks12 : Bool) (depth : ℕ) (text : Text) (documents : List DocumentTree) → SoFar breaks12 depth text (record { documents = documents; place = after_root })
+pub awaits_ended : (breaks12 : Bool) (depth : ℕ) (text : Text) (documents : List DocumentTree)
+    → SoFar breaks12 depth text (record { documents = documents; place = after_root })
     → Awaits breaks12 depth (text ++ dots) documents true
 awaits_ended breaks12 depth text documents so = λ lines said ends percents reads.
     subst (λ t. SoFar breaks12 depth t (record { documents = documents; place = after_heading said })) (sym (append_assoc text dots lines))
-    (one_more breaks12 depth text (dots ++ lines) (record { documents = documents; place = after_root }) (record { documents = documents; place = after_heading said })
+    (one_more breaks12 depth text (dots ++ lines) (record { documents = documents; place = after_root })
+    (record { documents = documents; place = after_heading said })
     (record { text = codes "..."; ending = line_feed ∷ [] }) (lines_of breaks12 lines) so (closed_both breaks12 dots lines refl ends)
     (lines_broken breaks12 (codes "...") lines (dots_line breaks12)) refl (percents_unmarked (lines_of breaks12 lines) percents)
     (ap (λ ls. heading_added documents (heading_of ls)) (percents_shown (lines_of breaks12 lines) percents) ∙ ap (heading_added documents) reads))
@@ -74,7 +76,8 @@ dots_if false = []
 -- no directives
 pub no_directives : (start : DocumentStart) → has_directives start ≡ false → (start.version ≡ None) × (start.directives ≡ [])
 no_directives start h =
-    let parts : (is_some start.version ≡ false) × (not (length start.directives == 0) ≡ false) = or_parts (is_some start.version) (not (length start.directives == 0)) h in
+    let parts : (is_some start.version ≡ false) × (not (length start.directives == 0) ≡ false) =
+    or_parts (is_some start.version) (not (length start.directives == 0)) h in
     (none start.version parts.0, empty start.directives parts.1)
   where
     none : (o : Option Version) → is_some o ≡ false → o ≡ None
@@ -104,7 +107,8 @@ nothing_said start h =
     ∙ ap (λ l. let made : Heading = record { version = None; directives = l } in made) parts.1)
 
 -- the directives of a document, behind `...` where the document before them is open
-pub headed : (s : Effective) (depth : ℕ) (text : Text) (documents : List DocumentTree) (start : DocumentStart) (ended : Bool) → Awaits s.breaks12 depth text documents ended → HeadingStands s start
+pub headed : (s : Effective) (depth : ℕ) (text : Text) (documents : List DocumentTree) (start : DocumentStart) (ended : Bool)
+    → Awaits s.breaks12 depth text documents ended → HeadingStands s start
     → Headed s.breaks12 depth (text ++ (dots_if (has_directives start && not ended) ++ heading_text s start)) documents (heading_said start)
 headed s depth text documents start true awaits stands =
     subst (λ x. Headed s.breaks12 depth (text ++ (dots_if x ++ heading_text s start)) documents (heading_said start)) (sym (and_no (has_directives start)))

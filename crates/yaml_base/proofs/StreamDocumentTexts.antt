@@ -31,7 +31,8 @@ version_ends : (version : Option Version) → (version_laid version (margin_curs
 version_ends None = refl
 version_ends (Some version) = refl
 
-directives_end : (portable : Bool) (directives : List TagDirective) (cursor : Cursor) → cursor ≡ margin_cursor 0 → (tag_directives_laid portable directives cursor).cursor ≡ margin_cursor 0
+directives_end : (portable : Bool) (directives : List TagDirective) (cursor : Cursor) → cursor ≡ margin_cursor 0
+    → (tag_directives_laid portable directives cursor).cursor ≡ margin_cursor 0
 directives_end portable [] cursor h = h
 directives_end portable (directive ∷ rest) cursor h = directives_end portable rest (margin_cursor 0) refl
 
@@ -58,19 +59,24 @@ start_laid s first start standing at =
     let need = has_directives start && not (standing.mark == 0) in
     let version = version_laid start.version (margin_cursor 0) in
     let directives = tag_directives_laid s.portable start.directives version.cursor in
-    ap (λ c. then_laid (then_laid (then_laid (laid_if need closing_mark_laid c) (version_laid start.version)) (tag_directives_laid s.portable start.directives)) (laid_if explicit (document_mark_laid s.canonical))) at
-    ∙ ap (λ l. then_laid (then_laid (then_laid l (version_laid start.version)) (tag_directives_laid s.portable start.directives)) (laid_if explicit (document_mark_laid s.canonical))) (dots_laid need)
+    ap (λ c. then_laid (then_laid (then_laid (laid_if need closing_mark_laid c) (version_laid start.version))
+    (tag_directives_laid s.portable start.directives)) (laid_if explicit (document_mark_laid s.canonical))) at
+    ∙ ap (λ l. then_laid (then_laid (then_laid l (version_laid start.version)) (tag_directives_laid s.portable start.directives))
+    (laid_if explicit (document_mark_laid s.canonical))) (dots_laid need)
     ∙ ap (λ c. let made : Laid = record {
       text = ((dots_if need ++ version.text) ++ directives.text) ++ (laid_if explicit (document_mark_laid s.canonical) c).text;
       cursor = (laid_if explicit (document_mark_laid s.canonical) c).cursor;
     } in made) (directives_end s.portable start.directives version.cursor (version_ends start.version))
-    ∙ ap (λ (l : Laid). let made : Laid = record { text = ((dots_if need ++ version.text) ++ directives.text) ++ l.text; cursor = l.cursor } in made) (mark_laid explicit s.canonical)
-    ∙ ap (λ t. let made : Laid = record { text = t ++ mark_text explicit s.canonical; cursor = root_cursor (explicit && not s.canonical) } in made) (append_assoc (dots_if need) version.text directives.text)
+    ∙ ap (λ (l : Laid). let made : Laid = record { text = ((dots_if need ++ version.text) ++ directives.text) ++ l.text; cursor = l.cursor } in made)
+    (mark_laid explicit s.canonical)
+    ∙ ap (λ t. let made : Laid = record { text = t ++ mark_text explicit s.canonical; cursor = root_cursor (explicit && not s.canonical) } in made)
+    (append_assoc (dots_if need) version.text directives.text)
 
 -- Ends
 
 -- an end, on a new line
-end_text : (implicit : Bool) (standing : Standing) → Settled standing.cursor → text_of (one_piece (document_end_piece implicit standing)).pieces ≡ closing standing.cursor ++ dots_if (not implicit)
+end_text : (implicit : Bool) (standing : Standing) → Settled standing.cursor
+    → text_of (one_piece (document_end_piece implicit standing)).pieces ≡ closing standing.cursor ++ dots_if (not implicit)
 end_text true standing settled =
     append-nil ((new_line 0 standing.cursor).text ++ []) ∙ append-nil (new_line 0 standing.cursor).text ∙ new_line_closes 0 standing.cursor settled
 end_text false standing settled =
@@ -104,7 +110,8 @@ document_text s first ended document =
     ++ (root_part (is_explicit (s.canonical || s.portable) first document.start) s document ++ dots_if (not document.end_implicit))
 
 -- a root behind its mark
-marked_root : (explicit : Bool) (s : Effective) (document : Document) → mark_text explicit s.canonical ++ closed (root_laid (explicit && not s.canonical) s document) ≡ root_part explicit s document
+marked_root : (explicit : Bool) (s : Effective) (document : Document)
+    → mark_text explicit s.canonical ++ closed (root_laid (explicit && not s.canonical) s document) ≡ root_part explicit s document
 marked_root true s document = refl
 marked_root false s document = refl
 
@@ -130,10 +137,12 @@ document_joined s first document standing at settled = record {
       flat_map-append piece_text ((start ∷ []) ++ root.pieces) (ending.piece ∷ [])
       ∙ ap (λ t. t ++ text_of (ending.piece ∷ [])) (flat_map-append piece_text (start ∷ []) root.pieces)
       ∙ ap (λ t. (text_of (start ∷ []) ++ text_of root.pieces) ++ t) (end_text document.end_implicit root.standing (subst_settled cursors))
-      ∙ ap (λ t. (text_of (start ∷ []) ++ t) ++ (closing root.standing.cursor ++ dots_if (not document.end_implicit))) (joined.0 ∙ ap (λ c. (own c).text) (ap (λ (l : Laid). l.cursor) starts))
+      ∙ ap (λ t. (text_of (start ∷ []) ++ t) ++ (closing root.standing.cursor ++ dots_if (not document.end_implicit)))
+      (joined.0 ∙ ap (λ c. (own c).text) (ap (λ (l : Laid). l.cursor) starts))
       ∙ ap (λ c. (text_of (start ∷ []) ++ laid.text) ++ (closing c ++ dots_if (not document.end_implicit))) cursors
       ∙ ap (λ (l : Laid). (((l.text ++ []) ++ []) ++ laid.text) ++ (closing laid.cursor ++ dots_if (not document.end_implicit))) starts
-      ∙ regrouped (before_root s (standing.mark == 0) document.start) (mark_text explicit s.canonical) laid.text (closing laid.cursor) (dots_if (not document.end_implicit))
+      ∙ regrouped (before_root s (standing.mark == 0) document.start) (mark_text explicit s.canonical) laid.text (closing laid.cursor)
+      (dots_if (not document.end_implicit))
       ∙ ap (λ t. before_root s (standing.mark == 0) document.start ++ (t ++ dots_if (not document.end_implicit))) (marked_root explicit s document);
   cursor = end_cursor document.end_implicit root.standing;
   ended = end_mark document.end_implicit root.standing;
@@ -142,7 +151,11 @@ document_joined s first document standing at settled = record {
     explicit : Bool
     explicit = is_explicit (s.canonical || s.portable) first document.start
 
-    starts : document_start_laid s first document.start standing ≡ record { text = before_root s (standing.mark == 0) document.start ++ mark_text explicit s.canonical; cursor = root_cursor (explicit && not s.canonical) }
+    starts : document_start_laid s first document.start standing
+        ≡ record {
+          text = before_root s (standing.mark == 0) document.start ++ mark_text explicit s.canonical;
+          cursor = root_cursor (explicit && not s.canonical);
+        }
     starts = start_laid s first document.start standing at
 
     start : Piece

@@ -37,15 +37,18 @@ something_canonical canonical (sequence_node start items) h = refl
 something_canonical canonical (mapping_node start pairs) h = refl
 
 -- the end of a document, behind its root
-ended_more : (breaks12 : Bool) (depth : ℕ) (text : Text) (documents : List DocumentTree) (implicit : Bool) → SoFar breaks12 depth text (record { documents = documents; place = after_root })
+ended_more : (breaks12 : Bool) (depth : ℕ) (text : Text) (documents : List DocumentTree) (implicit : Bool)
+    → SoFar breaks12 depth text (record { documents = documents; place = after_root })
     → Awaits breaks12 depth (text ++ dots_if (not implicit)) documents (not implicit)
-ended_more breaks12 depth text documents true so = subst (λ t. SoFar breaks12 depth t (record { documents = documents; place = after_root })) (sym (append-nil text)) so
+ended_more breaks12 depth text documents true so =
+    subst (λ t. SoFar breaks12 depth t (record { documents = documents; place = after_root })) (sym (append-nil text)) so
 ended_more breaks12 depth text documents false so = awaits_ended breaks12 depth text documents so
 
 -- a document with its mark
 explicit_more : (s : Effective) (depth : ℕ) (text : Text) (documents : List DocumentTree) (document : Document) (ended : Bool) → 2 ≤ s.indent
     → RootStands s document (not s.canonical) → HeadingStands s document.start → size document.root ≤ depth → Awaits s.breaks12 depth text documents ended
-    → Awaits s.breaks12 depth (text ++ (before_root s ended document.start ++ (root_part true s document ++ dots_if (not document.end_implicit)))) (with_document s documents document)
+    → Awaits s.breaks12 depth (text ++ (before_root s ended document.start ++ (root_part true s document ++ dots_if (not document.end_implicit))))
+    (with_document s documents document)
     (not document.end_implicit)
 explicit_more s depth text documents document ended deep stands heading small awaits =
     let before = before_root s ended document.start in
@@ -64,10 +67,12 @@ explicit_more s depth text documents document ended deep stands heading small aw
 -- the first document, without a mark
 implicit_more : (s : Effective) (depth : ℕ) (document : Document) (ended : Bool) → 2 ≤ s.indent → RootStands s document false
     → size document.root ≤ depth → has_directives document.start ≡ false → is_written_as_nothing s.canonical document.root ≡ false
-    → Awaits s.breaks12 depth (before_root s ended document.start ++ (root_part false s document ++ dots_if (not document.end_implicit))) (with_document s [] document) (not document.end_implicit)
+    → Awaits s.breaks12 depth (before_root s ended document.start ++ (root_part false s document ++ dots_if (not document.end_implicit)))
+    (with_document s [] document) (not document.end_implicit)
 implicit_more s depth document ended deep stands small none some =
     let stood = root_stood s document false deep stands (λ e. some) in
-    subst (λ t. Awaits s.breaks12 depth (t ++ (root_part false s document ++ dots_if (not document.end_implicit))) (with_document s [] document) (not document.end_implicit))
+    subst (λ t. Awaits s.breaks12 depth (t ++ (root_part false s document ++ dots_if (not document.end_implicit))) (with_document s [] document)
+    (not document.end_implicit))
     (sym (ap (λ x. dots_if (x && not ended) ++ heading_text s document.start) none ∙ nothing_headed s document.start none))
     (ended_more s.breaks12 depth (closed (root_laid false s document)) (with_document s [] document) document.end_implicit
     (unmarked_added s depth document none (root_fits s document false deep stands) small stood))
@@ -85,24 +90,29 @@ without_mark : (each first : Bool) (start : DocumentStart) → is_explicit each 
 without_mark each first start h = (or_parts (not start.implicit || not first || each) (has_directives start) h).1
 
 -- one document more, that isn't the first
-pub later_more : (s : Effective) (depth : ℕ) (text : Text) (documents : List DocumentTree) (document : Document) (ended : Bool) → 2 ≤ s.indent → DocumentStands s false document
+pub later_more : (s : Effective) (depth : ℕ) (text : Text) (documents : List DocumentTree) (document : Document) (ended : Bool) → 2 ≤ s.indent
+    → DocumentStands s false document
     → size document.root ≤ depth → Awaits s.breaks12 depth text documents ended
     → Awaits s.breaks12 depth (text ++ document_text s false ended document) (with_document s documents document) (not document.end_implicit)
 later_more s depth text documents document ended deep stands small awaits =
-    subst (λ x. Awaits s.breaks12 depth (text ++ (before_root s ended document.start ++ (root_part x s document ++ dots_if (not document.end_implicit)))) (with_document s documents document)
+    subst (λ x. Awaits s.breaks12 depth (text ++ (before_root s ended document.start ++ (root_part x s document ++ dots_if (not document.end_implicit))))
+    (with_document s documents document)
     (not document.end_implicit))
-    (sym explicit) (explicit_more s depth text documents document ended deep (subst (λ x. RootStands s document (x && not s.canonical)) explicit stands.root) stands.heading small awaits)
+    (sym explicit) (explicit_more s depth text documents document ended deep
+    (subst (λ x. RootStands s document (x && not s.canonical)) explicit stands.root) stands.heading small awaits)
   where
     explicit : is_explicit (s.canonical || s.portable) false document.start ≡ true
     explicit = later_explicit (s.canonical || s.portable) document.start
 
 -- the first, where it isn't lost
 pub first_more : (s : Effective) (depth : ℕ) (document : Document) → 2 ≤ s.indent → DocumentStands s true document → size document.root ≤ depth
-    → (is_explicit (s.canonical || s.portable) true document.start ≡ false → is_written_as_nothing s.canonical document.root ≡ false) → Awaits s.breaks12 depth [] [] true
+    → (is_explicit (s.canonical || s.portable) true document.start ≡ false → is_written_as_nothing s.canonical document.root ≡ false)
+    → Awaits s.breaks12 depth [] [] true
     → Awaits s.breaks12 depth (document_text s true true document) (with_document s [] document) (not document.end_implicit)
 first_more s depth document deep stands small some awaits = by (is_explicit (s.canonical || s.portable) true document.start) refl stands.root
   where
     by : (x : Bool) → is_explicit (s.canonical || s.portable) true document.start ≡ x → RootStands s document (x && not s.canonical)
-        → Awaits s.breaks12 depth (before_root s true document.start ++ (root_part x s document ++ dots_if (not document.end_implicit))) (with_document s [] document) (not document.end_implicit)
+        → Awaits s.breaks12 depth (before_root s true document.start ++ (root_part x s document ++ dots_if (not document.end_implicit)))
+        (with_document s [] document) (not document.end_implicit)
     by true e root = explicit_more s depth [] [] document true deep root stands.heading small awaits
     by false e root = implicit_more s depth document true deep root small (without_mark (s.canonical || s.portable) true document.start e) (some e)

@@ -15,11 +15,10 @@ use Rattle.yaml_base.specs.Layout.{Piece, text_of, layout, has_directives, is_ex
 use Rattle.yaml_base.specs.Pieces.{list_layout}
 use Rattle.yaml_base.specs.Output.{bytes_written}
 use Rattle.yaml_base.specs.CanonicalReader.{characters_read}
-use Rattle.yaml_base.specs.Meaning.{has_scalar_texts}
 use Rattle.yaml_base.specs.StreamContent.{DocumentTree, documents_in_order, document_agrees, documents_agree, agrees}
 use Rattle.yaml_base.specs.StreamDocuments.{documents_of}
 use Rattle.yaml_base.specs.StreamReader.{stream_trees}
-use Rattle.yaml_base.specs.StreamLaw.{is_written_as_nothing, is_lost, are_portable, document_has_flow_sign, is_portable, StreamReadsBack}
+use Rattle.yaml_base.specs.StreamLaw.{is_written_as_nothing, is_lost, are_portable, document_has_flow_sign, is_portable}
 use Rattle.yaml_base.proofs.Trees.{tree_of-stream_events}
 use Rattle.yaml_base.proofs.StreamBytes.{trees_of_bytes}
 use Rattle.yaml_base.proofs.StreamAgrees.{node_is_tagged, nodes_are_tagged, pairs_are_tagged, document_tree, document_tree_agrees}
@@ -32,7 +31,9 @@ use Rattle.yaml_base.proofs.StreamWholeReads.{FirstWritten, document_trees, stre
 -- a scalar that is accepted has a tag that is written, or a flag
 sound_scalar : (canonical : Bool) (content : Scalar) → is_sound canonical (scalar content) ≡ true
     → not (lacks_tag_and_flags (is_some (scalar_tag canonical content)) content.plain_implicit content.quoted_implicit) ≡ true
-sound_scalar canonical content h = by (name_or_tag_fault canonical (scalar content)) (lacks_tag_and_flags (is_some (scalar_tag canonical content)) content.plain_implicit content.quoted_implicit) h
+sound_scalar canonical content h =
+    by (name_or_tag_fault canonical (scalar content))
+    (lacks_tag_and_flags (is_some (scalar_tag canonical content)) content.plain_implicit content.quoted_implicit) h
   where
     by : (fault : Option ℕ) (x : Bool) → is_none (option_or fault (fault_if x no_tag_nor_implicit)) ≡ true → not x ≡ true
     by (Some n) x h = absurd (false≢true h)
@@ -49,9 +50,13 @@ mutual
   sound_node (alias_node name) canonical h = refl
   sound_node (scalar_node content) canonical h = sound_scalar canonical content (and_parts (is_sound canonical (scalar content)) true h).0
   sound_node (sequence_node start items) canonical h =
-      sound_nodes items canonical (all_of_both (is_sound canonical) (nodes_events items) (sequence_end ∷ []) (after_first (is_sound canonical) (sequence_start start) (nodes_events items ++ (sequence_end ∷ [])) h)).0
+      sound_nodes items canonical
+      (all_of_both (is_sound canonical) (nodes_events items) (sequence_end ∷ [])
+      (after_first (is_sound canonical) (sequence_start start) (nodes_events items ++ (sequence_end ∷ [])) h)).0
   sound_node (mapping_node start pairs) canonical h =
-      sound_pairs pairs canonical (all_of_both (is_sound canonical) (pairs_events pairs) (mapping_end ∷ []) (after_first (is_sound canonical) (mapping_start start) (pairs_events pairs ++ (mapping_end ∷ [])) h)).0
+      sound_pairs pairs canonical
+      (all_of_both (is_sound canonical) (pairs_events pairs) (mapping_end ∷ [])
+      (after_first (is_sound canonical) (mapping_start start) (pairs_events pairs ++ (mapping_end ∷ [])) h)).0
 
   sound_nodes : (items : Nodes) (canonical : Bool) → list_all (is_sound canonical) (nodes_events items) ≡ true → nodes_are_tagged canonical items ≡ true
   sound_nodes no_nodes canonical h = refl
@@ -72,13 +77,16 @@ mutual
 abbrev IsTaggedRoot : Bool → Document → Type 0
 IsTaggedRoot canonical document = node_is_tagged canonical document.root ≡ true
 
-sound_documents : (canonical : Bool) (stream : Stream) → list_all (is_sound canonical) (stream_events stream) ≡ true → AllDocuments (IsTaggedRoot canonical) (documents_in_order stream.documents)
+sound_documents : (canonical : Bool) (stream : Stream) → list_all (is_sound canonical) (stream_events stream) ≡ true
+    → AllDocuments (IsTaggedRoot canonical) (documents_in_order stream.documents)
 sound_documents canonical stream h =
     each_document (IsTaggedRoot canonical) (is_sound canonical)
     (λ document each. sound_node document.root canonical
-    (all_of_both (is_sound canonical) (node_events document.root) (document_end document.end_implicit ∷ []) (after_first (is_sound canonical) (document_start document.start) (node_events document.root ++ (document_end document.end_implicit ∷ [])) each)).0)
+    (all_of_both (is_sound canonical) (node_events document.root) (document_end document.end_implicit ∷ [])
+    (after_first (is_sound canonical) (document_start document.start) (node_events document.root ++ (document_end document.end_implicit ∷ [])) each)).0)
     stream.documents
-    (all_of_both (is_sound canonical) (documents_events stream.documents) (stream_end ∷ []) (after_first (is_sound canonical) (stream_start stream.encoding) (documents_events stream.documents ++ (stream_end ∷ [])) h)).0
+    (all_of_both (is_sound canonical) (documents_events stream.documents) (stream_end ∷ [])
+    (after_first (is_sound canonical) (stream_start stream.encoding) (documents_events stream.documents ++ (stream_end ∷ [])) h)).0
 
 -- what holds of each of two lists' documents
 pub documents_parts : (P : Document → Type 0) (some others : List Document) → AllDocuments P (some ++ others) → AllDocuments P some × AllDocuments P others
@@ -88,7 +96,8 @@ documents_parts P (document ∷ rest) others h = let parts = documents_parts P r
 -- Agreement
 
 -- one document more agrees
-agree_more : (canonical : Bool) (some : List Document) (trees : List DocumentTree) (document : Document) (tree : DocumentTree) → documents_agree canonical some trees ≡ true
+agree_more : (canonical : Bool) (some : List Document) (trees : List DocumentTree) (document : Document) (tree : DocumentTree)
+    → documents_agree canonical some trees ≡ true
     → document_agrees canonical document tree ≡ true → documents_agree canonical (some ++ document ∷ []) (trees ++ tree ∷ []) ≡ true
 agree_more canonical [] [] document tree h k = and_from (document_agrees canonical document tree) true k refl
 agree_more canonical [] (other ∷ others) document tree h k = absurd (false≢true h)
@@ -163,7 +172,8 @@ pub stream_read_back : (given : Settings) (encoding : Option Encoding) (events :
 stream_read_back given encoding events accepted portable stands =
     trees_of_bytes given.breaks12 s.line_break (text_of (list_layout s events)) (bytes_written s (list_layout s events)) stands.printable stands.characters
     ∙ ap (λ (pieces : List Piece). documents_of given.breaks12 (text_of pieces)) (stream_layout s events accepted.stream accepted.is_stream)
-    ∙ stream_reads s accepted.stream (indent_deep given.indent) stands.documents (first_written s (documents_in_order accepted.stream.documents) (kept given.portable portable))
+    ∙ stream_reads s accepted.stream (indent_deep given.indent) stands.documents
+    (first_written s (documents_in_order accepted.stream.documents) (kept given.portable portable))
   where
     s : Effective
     s = effective given encoding
@@ -177,7 +187,8 @@ stream_read_back given encoding events accepted portable stands =
         not_true (is_lost given.canonical (documents_in_order accepted.stream.documents))
         (and_parts (not (is_lost given.canonical (documents_in_order accepted.stream.documents)))
         (not (list_any (document_has_flow_sign given.canonical) (documents_in_order accepted.stream.documents)))
-        (sym (ap (λ found. unwrap_or (option_map (λ (stream : Stream). are_portable given.canonical (documents_in_order stream.documents)) found) false) found) ∙ h)).0
+        (sym (ap (λ found. unwrap_or (option_map (λ (stream : Stream). are_portable given.canonical (documents_in_order stream.documents)) found) false) found)
+        ∙ h)).0
       where
         not_true : (x : Bool) → not x ≡ true → x ≡ false
         not_true true h = absurd (false≢true h)
@@ -186,15 +197,13 @@ stream_read_back given encoding events accepted portable stands =
 -- and these agree with its events
 pub stream_agrees : (given : Settings) (encoding : Option Encoding) (events : List Event) (accepted : IsAccepted given.canonical events)
     → is_portable given.portable given.canonical events ≡ true → StreamStands (effective given encoding) events accepted.stream
-    → agrees given.canonical events (stream_trees given.breaks12 (bytes_written (effective given encoding) (list_layout (effective given encoding) events))) ≡ true
+    → agrees given.canonical events (stream_trees given.breaks12 (bytes_written (effective given encoding) (list_layout (effective given encoding) events)))
+    ≡ true
 stream_agrees given encoding events accepted portable stands =
     ap (agrees given.canonical events) (stream_read_back given encoding events accepted portable stands)
-    ∙ ap (λ found. unwrap_or (option_map (λ (stream : Stream). documents_agree given.canonical (documents_in_order stream.documents) (document_trees (effective given encoding) accepted.stream.documents)) found) false)
+    ∙ ap (λ found. unwrap_or
+    (option_map (λ (stream : Stream). documents_agree given.canonical (documents_in_order stream.documents)
+    (document_trees (effective given encoding) accepted.stream.documents)) found) false)
     (ap tree_of (sym accepted.is_stream) ∙ tree_of-stream_events accepted.stream)
     ∙ trees_agree (effective given encoding) accepted.stream.documents
     (sound_documents given.canonical accepted.stream (ap (list_all (is_sound given.canonical)) accepted.is_stream ∙ accepted.sound))
-
--- every stream reads back, where each stream that may be written stands
-pub streams_read_back : ((given : Settings) (encoding : Option Encoding) (events : List Event) (accepted : IsAccepted given.canonical events) → list_all has_scalar_texts events ≡ true
-    → is_portable given.portable given.canonical events ≡ true → StreamStands (effective given encoding) events accepted.stream) → StreamReadsBack
-streams_read_back stand = λ given encoding events accepted scalars portable. stream_agrees given encoding events accepted portable (stand given encoding events accepted scalars portable)

@@ -47,11 +47,13 @@ shown_whole (line ∷ rest) h = ap (λ x. if x then without_blank_lines rest els
         step false e h = ap (λ y. y && is_spaces t) e
 
 -- no line of what reads as a node is a mark, where none after its first is
-unmarked_whole : (lines : List Line) (depth : ℕ) (rules : Rules) (here : Bool) (column : Option ℕ) (tree : Tree) → node_read depth rules here column lines ≡ Some tree
+unmarked_whole : (lines : List Line) (depth : ℕ) (rules : Rules) (here : Bool) (column : Option ℕ) (tree : Tree)
+    → node_read depth rules here column lines ≡ Some tree
     → AllUnmarked (lines_after_first lines) → AllUnmarked lines
 unmarked_whole [] depth rules here column tree reads after = refl
 unmarked_whole (line ∷ rest) depth rules here column tree reads after =
-    and_from (is_unmarked (mark_of line.text)) (list_all (λ line. is_unmarked (mark_of line.text)) rest) (read_unmarked line rest depth rules here column tree reads) after
+    and_from (is_unmarked (mark_of line.text)) (list_all (λ line. is_unmarked (mark_of line.text)) rest)
+    (read_unmarked line rest depth rules here column tree reads) after
 
 -- Documents behind `---`
 
@@ -69,8 +71,10 @@ abbrev pub marked_text : (on_mark : Bool) → Effective → Document → Text
 marked_text on_mark s document = (if on_mark then codes "---" else codes "---" ++ (line_feed ∷ [])) ++ closed (root_laid on_mark s document)
 
 -- a root that begins on the line of `---`
-on_mark_added : (s : Effective) (depth : ℕ) (text : Text) (documents : List DocumentTree) (document : Document) → Headed s.breaks12 depth text documents (heading_said document.start)
-    → (fit : Fits (rules_of s document) (size document.root) (root_laid true s document) (root_tree s document) root_place (root_cursor true)) → size document.root ≤ depth
+on_mark_added : (s : Effective) (depth : ℕ) (text : Text) (documents : List DocumentTree) (document : Document)
+    → Headed s.breaks12 depth text documents (heading_said document.start)
+    → (fit : Fits (rules_of s document) (size document.root) (root_laid true s document) (root_tree s document) root_place (root_cursor true))
+    → size document.root ≤ depth
     → Stood true (lines_of s.breaks12 (closed (root_laid true s document)))
     → SoFar s.breaks12 depth (text ++ marked_text true s document) (record { documents = with_document s documents document; place = after_root })
 on_mark_added s depth text documents document headed fit deep stood =
@@ -81,7 +85,8 @@ on_mark_added s depth text documents document headed fit deep stood =
     (ap is_unmarked marks) (ap (λ ls. list_all (λ line. is_unmarked (mark_of line.text)) (lines_after_first ls)) (sym o.is) ∙ stood.0)
     (ap (λ m. section_by_kind m depth s.breaks12 documents headed.place (record { mark = m; line = line; rest = o.rest })) marks
     ∙ headed.opens (record { mark = start_mark; line = line; rest = o.rest })
-    ∙ ap (document_added documents (heading_said document.start)) (root_marked_reads (rules_of s document) (size document.root) (root_laid true s document) (root_tree s document) fit margin depth deep))
+    ∙ ap (document_added documents (heading_said document.start))
+    (root_marked_reads (rules_of s document) (size document.root) (root_laid true s document) (root_tree s document) fit margin depth deep))
   where
     own : Text
     own = closed (root_laid true s document)
@@ -99,8 +104,10 @@ on_mark_added s depth text documents document headed fit deep stood =
     margin e = ap (λ x. not x || stands_at_margin (without_blank_lines o.rest)) (sym e) ∙ ap stands_below (sym o.is) ∙ stood.1
 
 -- a root on lines of its own below `---`
-below_mark_added : (s : Effective) (depth : ℕ) (text : Text) (documents : List DocumentTree) (document : Document) → Headed s.breaks12 depth text documents (heading_said document.start)
-    → (fit : Fits (rules_of s document) (size document.root) (root_laid false s document) (root_tree s document) root_place (root_cursor false)) → size document.root ≤ depth
+below_mark_added : (s : Effective) (depth : ℕ) (text : Text) (documents : List DocumentTree) (document : Document)
+    → Headed s.breaks12 depth text documents (heading_said document.start)
+    → (fit : Fits (rules_of s document) (size document.root) (root_laid false s document) (root_tree s document) root_place (root_cursor false))
+    → size document.root ≤ depth
     → Stood false (lines_of s.breaks12 (closed (root_laid false s document)))
     → SoFar s.breaks12 depth (text ++ marked_text false s document) (record { documents = with_document s documents document; place = after_root })
 below_mark_added s depth text documents document headed fit deep stood =
@@ -111,7 +118,8 @@ below_mark_added s depth text documents document headed fit deep stood =
     (unmarked_whole lines depth rules true None (root_tree s document) (fit.reads depth deep true 0 (λ h. (refl, refl))) stood.0)
     (headed.opens (record { mark = start_mark; line = line; rest = lines })
     ∙ ap (λ ls. document_added documents (heading_said document.start) (root_below depth rules ls)) (shown_whole lines stood.1)
-    ∙ ap (document_added documents (heading_said document.start)) (root_reads rules (size document.root) (root_laid false s document) (root_tree s document) fit (shown_margin lines stood.1) depth deep))
+    ∙ ap (document_added documents (heading_said document.start))
+    (root_reads rules (size document.root) (root_laid false s document) (root_tree s document) fit (shown_margin lines stood.1) depth deep))
   where
     own : Text
     own = closed (root_laid false s document)
@@ -126,8 +134,10 @@ below_mark_added s depth text documents document headed fit deep stood =
     line = record { text = codes "---"; ending = line_feed ∷ [] }
 
 -- either
-pub marked_added : (on_mark : Bool) (s : Effective) (depth : ℕ) (text : Text) (documents : List DocumentTree) (document : Document) → Headed s.breaks12 depth text documents (heading_said document.start)
-    → (fit : Fits (rules_of s document) (size document.root) (root_laid on_mark s document) (root_tree s document) root_place (root_cursor on_mark)) → size document.root ≤ depth
+pub marked_added : (on_mark : Bool) (s : Effective) (depth : ℕ) (text : Text) (documents : List DocumentTree) (document : Document)
+    → Headed s.breaks12 depth text documents (heading_said document.start)
+    → (fit : Fits (rules_of s document) (size document.root) (root_laid on_mark s document) (root_tree s document) root_place (root_cursor on_mark))
+    → size document.root ≤ depth
     → Stood on_mark (lines_of s.breaks12 (closed (root_laid on_mark s document)))
     → SoFar s.breaks12 depth (text ++ marked_text on_mark s document) (record { documents = with_document s documents document; place = after_root })
 marked_added true = on_mark_added
@@ -136,7 +146,8 @@ marked_added false = below_mark_added
 -- Documents without `---`
 
 -- what a first line that reads as a node begins
-front_document : (lines : List Line) (depth : ℕ) (rules : Rules) (here : Bool) (column : Option ℕ) (tree : Tree) → node_read depth rules here column lines ≡ Some tree
+front_document : (lines : List Line) (depth : ℕ) (rules : Rules) (here : Bool) (column : Option ℕ) (tree : Tree)
+    → node_read depth rules here column lines ≡ Some tree
     → begins_shown lines ≡ true → front_kind lines ≡ document_lines
 front_document [] depth rules here column tree reads shown = absurd (false≢true shown)
 front_document (line ∷ rest) depth rules here column tree reads shown =
@@ -144,15 +155,18 @@ front_document (line ∷ rest) depth rules here column tree reads shown =
 
 -- a root at the stream's start
 pub unmarked_added : (s : Effective) (depth : ℕ) (document : Document) → has_directives document.start ≡ false
-    → (fit : Fits (rules_of s document) (size document.root) (root_laid false s document) (root_tree s document) root_place (root_cursor false)) → size document.root ≤ depth
+    → (fit : Fits (rules_of s document) (size document.root) (root_laid false s document) (root_tree s document) root_place (root_cursor false))
+    → size document.root ≤ depth
     → Stood false (lines_of s.breaks12 (closed (root_laid false s document)))
     → SoFar s.breaks12 depth (closed (root_laid false s document)) (record { documents = with_document s [] document; place = after_root })
 unmarked_added s depth document none fit deep stood =
     front_alone s.breaks12 depth own (record { documents = with_document s [] document; place = after_root }) fit.ends
     (unmarked_whole lines depth rules true None (root_tree s document) reads stood.0)
     (ap (λ k. front_read k depth s.breaks12 lines) (front_document lines depth rules true None (root_tree s document) reads stood.1)
-    ∙ ap (λ (h : Heading). document_added [] h (root_below depth (record { breaks12 = s.breaks12; directives = h.directives }) lines)) (nothing_said document.start none)
-    ∙ ap (document_added [] (heading_said document.start)) (root_reads rules (size document.root) (root_laid false s document) (root_tree s document) fit (shown_margin lines stood.1) depth deep))
+    ∙ ap (λ (h : Heading). document_added [] h (root_below depth (record { breaks12 = s.breaks12; directives = h.directives }) lines))
+    (nothing_said document.start none)
+    ∙ ap (document_added [] (heading_said document.start))
+    (root_reads rules (size document.root) (root_laid false s document) (root_tree s document) fit (shown_margin lines stood.1) depth deep))
   where
     own : Text
     own = closed (root_laid false s document)

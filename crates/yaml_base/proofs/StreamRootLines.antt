@@ -112,7 +112,8 @@ block_stands rules on_mark anchor tag begun entries text kind (is_said said) lay
     let core = said.head ∷ said.tail in
     let b = properties (λ e. not_empty said.count (sym said.text ∙ e)) in
     let is = ap (lines_of rules.breaks12) (own_closed begun entries ∙ ap (λ t. begun.text ++ t) (below rules 0 begun.cursor entries text lays said.ends))
-    ∙ lines_broken rules.breaks12 begun.text text (ap (λ t. list_any (is_read_break rules.breaks12) t) said.text ∙ one_line_both rules.breaks12 (spaces said.count) core (spaces_line rules.breaks12 said.count) said.one_line) in
+    ∙ lines_broken rules.breaks12 begun.text text (ap (λ t. list_any (is_read_break rules.breaks12) t) said.text
+    ∙ one_line_both rules.breaks12 (spaces said.count) core (spaces_line rules.breaks12 said.count) said.one_line) in
     subst (Stood on_mark) (sym is) (
       unmarked,
       subst (λ t. FirstStands on_mark (record { text = t; ending = line_feed ∷ [] } ∷ lines_of rules.breaks12 text)) (sym b.text)
@@ -128,7 +129,8 @@ block_stands rules on_mark anchor tag begun entries text kind (unsaid no_anchor 
   where
     by : (x : Bool) → Lays 0 (root_cursor x) entries text → Stood x (lines_of rules.breaks12 (closed (block_own (nothing_laid (root_cursor x)) entries)))
     by true lays =
-        subst (Stood true) (sym (ap (lines_of rules.breaks12) (own_closed (nothing_laid (root_cursor true)) entries ∙ below rules 0 (root_cursor true) entries text lays refl)))
+        subst (Stood true) (sym (ap (lines_of rules.breaks12) (own_closed (nothing_laid (root_cursor true)) entries
+        ∙ below rules 0 (root_cursor true) entries text lays refl)))
         (unmarked, opened_below rules (lines_of rules.breaks12 text) kind opened)
     by false lays =
         subst (Stood false) (sym (ap (lines_of rules.breaks12) (own_closed (nothing_laid (root_cursor false)) entries ∙ lays.lays ∙ sym lays.is)))

@@ -43,13 +43,15 @@ opening_sign bracket true cursor h = sign_last (space_if true cursor) bracket h
 opening_sign bracket false cursor h = omega arith
 
 -- before an item in flow stands a sign
-item_sign : (s : Effective) (first : Bool) (column : ℕ) (cursor : Cursor) → 1 ≤ length (place_laid s (entry_place true (as_item first) column) false cursor).text
+item_sign : (s : Effective) (first : Bool) (column : ℕ) (cursor : Cursor)
+    → 1 ≤ length (place_laid s (entry_place true (as_item first) column) false cursor).text
 item_sign s first column cursor =
     let opening = opening_or_comma (codes "[") first cursor in
     sign_first opening.text (flow_break s (Some column) opening.cursor).text (opening_sign (codes "[") first cursor (omega arith))
 
 -- before a key
-flow_key_sign : (s : Effective) (first simple : Bool) (column : ℕ) (cursor : Cursor) → 1 ≤ length (place_laid s (entry_place true (as_key first) column) simple cursor).text
+flow_key_sign : (s : Effective) (first simple : Bool) (column : ℕ) (cursor : Cursor)
+    → 1 ≤ length (place_laid s (entry_place true (as_key first) column) simple cursor).text
 flow_key_sign s first simple column cursor =
     let opening = opening_or_comma (codes "{") first cursor in
     let break = flow_break s (Some column) opening.cursor in
@@ -57,7 +59,8 @@ flow_key_sign s first simple column cursor =
     (sign_first opening.text break.text (opening_sign (codes "{") first cursor (omega arith)))
 
 -- and before a value
-flow_value_sign : (s : Effective) (simple : Bool) (column : ℕ) (cursor : Cursor) → 1 ≤ length (place_laid s (entry_place true (as_value simple) column) false cursor).text
+flow_value_sign : (s : Effective) (simple : Bool) (column : ℕ) (cursor : Cursor)
+    → 1 ≤ length (place_laid s (entry_place true (as_value simple) column) false cursor).text
 flow_value_sign s true column cursor = omega arith
 flow_value_sign s false column cursor =
     let break = flow_break s (Some column) cursor in
@@ -65,7 +68,8 @@ flow_value_sign s false column cursor =
 
 -- a pair's size, by the lengths of its parts
 pair_length : (a k m v n : Text) → length ((a ++ (k ++ m)) ++ (v ++ n)) ≡ length a + (length k + length m) + (length v + length n)
-pair_length a k m v n = length-append (a ++ (k ++ m)) (v ++ n) ∙ ap (λ x. x + length (v ++ n)) (length_signs a k m) ∙ ap (λ x. length a + (length k + length m) + x) (length-append v n)
+pair_length a k m v n = length-append (a ++ (k ++ m)) (v ++ n) ∙ ap (λ x. x + length (v ++ n)) (length_signs a k m)
+    ∙ ap (λ x. length a + (length k + length m) + x) (length-append v n)
 
 -- In flow
 
@@ -89,7 +93,8 @@ mutual
       let each = flow_pairs pairs s directives e begun.cursor in
       omega arith
 
-  pub flow_items : (items : Nodes) (s : Effective) (directives : List TagDirective) (e : ℕ) (cursor : Cursor) → items_size items ≤ length (items_own items s directives true e cursor).text
+  pub flow_items : (items : Nodes) (s : Effective) (directives : List TagDirective) (e : ℕ) (cursor : Cursor)
+      → items_size items ≤ length (items_own items s directives true e cursor).text
   flow_items no_nodes s directives e cursor = omega arith
   flow_items (nodes_and items last) s directives e cursor =
       let before = items_own items s directives true e cursor in
@@ -102,7 +107,8 @@ mutual
       let sign = item_sign s (has_no_nodes items) e before.cursor in
       omega arith
 
-  pub flow_pairs : (pairs : Pairs) (s : Effective) (directives : List TagDirective) (e : ℕ) (cursor : Cursor) → pairs_size pairs ≤ length (pairs_own pairs s directives true e cursor).text
+  pub flow_pairs : (pairs : Pairs) (s : Effective) (directives : List TagDirective) (e : ℕ) (cursor : Cursor)
+      → pairs_size pairs ≤ length (pairs_own pairs s directives true e cursor).text
   flow_pairs no_pairs s directives e cursor = omega arith
   flow_pairs (pairs_and pairs key value) s directives e cursor =
       let simple = is_simple s.canonical directives key in
@@ -135,7 +141,8 @@ simple_size true directives (mapping_node start (pairs_and pairs key value)) h =
 simple_size false directives (mapping_node start (pairs_and pairs key value)) h = absurd (false≢true h)
 
 -- a sign on a new line
-line_sign : (column : ℕ) (sign : Text) (cursor : Cursor) → 1 ≤ length sign → 1 ≤ length (then_laid (new_line column cursor) (indicator sign true false true)).text
+line_sign : (column : ℕ) (sign : Text) (cursor : Cursor) → 1 ≤ length sign
+    → 1 ≤ length (then_laid (new_line column cursor) (indicator sign true false true)).text
 line_sign column sign cursor h =
     let line = new_line column cursor in
     sign_last line.text (space_if true line.cursor ++ sign) (sign_last (space_if true line.cursor) sign h)
@@ -155,8 +162,10 @@ sequence_within start items rules s directives place cursor leaves each = by (is
     begun = begun_laid s directives start cursor
 
     by : (x : Bool) → EitherType x (LeafFits rules s directives (sequence_node start items) place cursor)
-        (BegunReads rules s directives start cursor × ItemLeaves items rules s directives (entries_column false (is_in_mapping place.role) s.indent place.column begun.cursor))
-        → suc (items_size items) ≤ suc (length (collection_own s square x (is_in_mapping place.role) (has_no_nodes items) place.column begun (items_own items s directives x)).text)
+        (BegunReads rules s directives start cursor
+        × ItemLeaves items rules s directives (entries_column false (is_in_mapping place.role) s.indent place.column begun.cursor))
+        → suc (items_size items) ≤ suc
+        (length (collection_own s square x (is_in_mapping place.role) (has_no_nodes items) place.column begun (items_own items s directives x)).text)
     by true leaf =
         let e = entries_column true (is_in_mapping place.role) s.indent place.column begun.cursor in
         let entries = items_own items s directives true e begun.cursor in
@@ -224,8 +233,10 @@ pair_within : (x : Bool) (pairs : Pairs) (key value : Node) (rules : Rules) (s :
     (KeyFits rules (simple_key pairs key s directives e).text (node_tree key s directives (key_place pairs e))
     × Leaves value rules s directives (value_place true e) (colon_cursor (simple_key pairs key s directives e).cursor))
     (Leaves key rules s directives (key_place pairs e) (sign_cursor e) × Leaves value rules s directives (value_place false e) (sign_cursor e))
-    → ((y : Bool) (cursor : Cursor) → Leaves value rules s directives (value_place y e) cursor → size value ≤ suc (length (node_own value s directives (value_place y e) cursor).text))
-    → (Leaves key rules s directives (key_place pairs e) (sign_cursor e) → size key ≤ suc (length (node_own key s directives (key_place pairs e) (sign_cursor e)).text))
+    → ((y : Bool) (cursor : Cursor) → Leaves value rules s directives (value_place y e) cursor
+    → size value ≤ suc (length (node_own value s directives (value_place y e) cursor).text))
+    → (Leaves key rules s directives (key_place pairs e) (sign_cursor e)
+    → size key ≤ suc (length (node_own key s directives (key_place pairs e) (sign_cursor e)).text))
     → size key + size value ≤ length (pair_own x pairs key value s directives e cursor).text
 pair_within true pairs key value rules s directives e cursor is leaves value_each key_each =
     let line = new_line e cursor in
@@ -250,7 +261,8 @@ pair_within false pairs key value rules s directives e cursor is leaves value_ea
 
 -- a node in a block, whose parts are read, and the items of a sequence and the pairs of a mapping there
 mutual
-  pub block_node : (n : Node) (rules : Rules) (s : Effective) (directives : List TagDirective) (place : Place) (cursor : Cursor) → Leaves n rules s directives place cursor
+  pub block_node : (n : Node) (rules : Rules) (s : Effective) (directives : List TagDirective) (place : Place) (cursor : Cursor)
+      → Leaves n rules s directives place cursor
       → size n ≤ suc (length (node_own n s directives place cursor).text)
   block_node (alias_node name) rules s directives place cursor leaves = omega arith
   block_node (scalar_node content) rules s directives place cursor leaves = omega arith
@@ -259,7 +271,8 @@ mutual
   block_node (mapping_node start pairs) rules s directives place cursor leaves =
       mapping_within start pairs rules s directives place cursor leaves (λ e cursor each. block_pairs pairs rules s directives e cursor each)
 
-  block_items : (items : Nodes) (rules : Rules) (s : Effective) (directives : List TagDirective) (e : ℕ) (cursor : Cursor) → ItemLeaves items rules s directives e
+  block_items : (items : Nodes) (rules : Rules) (s : Effective) (directives : List TagDirective) (e : ℕ) (cursor : Cursor)
+      → ItemLeaves items rules s directives e
       → items_size items ≤ length (items_own items s directives false e cursor).text
   block_items no_nodes rules s directives e cursor leaves = omega arith
   block_items (nodes_and items last) rules s directives e cursor leaves =
@@ -272,7 +285,8 @@ mutual
       let sign = line_sign e (codes "-") before.cursor (omega arith) in
       omega arith
 
-  block_pairs : (pairs : Pairs) (rules : Rules) (s : Effective) (directives : List TagDirective) (e : ℕ) (cursor : Cursor) → PairLeaves pairs rules s directives e
+  block_pairs : (pairs : Pairs) (rules : Rules) (s : Effective) (directives : List TagDirective) (e : ℕ) (cursor : Cursor)
+      → PairLeaves pairs rules s directives e
       → pairs_size pairs ≤ length (pairs_own pairs s directives false e cursor).text
   block_pairs no_pairs rules s directives e cursor leaves = omega arith
   block_pairs (pairs_and pairs key value) rules s directives e cursor leaves =

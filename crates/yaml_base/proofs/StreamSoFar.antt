@@ -89,7 +89,8 @@ pub percents_unmarked : (lines : List Line) → Percents lines → AllUnmarked l
 percents_unmarked [] h = refl
 percents_unmarked (line ∷ rest) h =
     let parts = and_parts (begins_with_percent line.text) (list_all (λ line. begins_with_percent line.text) rest) h in
-    and_from (is_unmarked (mark_of line.text)) (list_all (λ line. is_unmarked (mark_of line.text)) rest) (percent_unmarked line.text parts.0) (percents_unmarked rest parts.1)
+    and_from (is_unmarked (mark_of line.text)) (list_all (λ line. is_unmarked (mark_of line.text)) rest) (percent_unmarked line.text parts.0)
+    (percents_unmarked rest parts.1)
 
 -- nor is such a line blank
 percent_shows : (t : Text) → begins_with_percent t ≡ true → is_spaces t ≡ false

@@ -39,12 +39,16 @@ percent_plain breaks12 [] = refl
 percent_plain breaks12 (a ∷ []) = refl
 percent_plain breaks12 (a ∷ b ∷ t) = refl
 
-sign_word : (sign : Sign) (t : Text) (rules : Rules) (column : Option ℕ) (properties : Properties) → word_after rules false column properties (sign_text sign ++ t) ≡ None
-sign_word percent [] rules column properties = unsaid (is_tidy plain rules.breaks12 column (0x25 ∷ [])) properties (read_plain rules.breaks12 false (0x25 ∷ [])) refl
+sign_word : (sign : Sign) (t : Text) (rules : Rules) (column : Option ℕ) (properties : Properties)
+    → word_after rules false column properties (sign_text sign ++ t) ≡ None
+sign_word percent [] rules column properties =
+    unsaid (is_tidy plain rules.breaks12 column (0x25 ∷ [])) properties (read_plain rules.breaks12 false (0x25 ∷ [])) refl
 sign_word percent (a ∷ []) rules column properties =
-    unsaid (is_tidy plain rules.breaks12 column (0x25 ∷ a ∷ [])) properties (read_plain rules.breaks12 false (0x25 ∷ a ∷ [])) (percent_plain rules.breaks12 (a ∷ []))
+    unsaid (is_tidy plain rules.breaks12 column (0x25 ∷ a ∷ [])) properties (read_plain rules.breaks12 false (0x25 ∷ a ∷ []))
+    (percent_plain rules.breaks12 (a ∷ []))
 sign_word percent (a ∷ b ∷ t) rules column properties =
-    unsaid (is_tidy plain rules.breaks12 column (0x25 ∷ a ∷ b ∷ t)) properties (read_plain rules.breaks12 false (0x25 ∷ a ∷ b ∷ t)) (percent_plain rules.breaks12 (a ∷ b ∷ t))
+    unsaid (is_tidy plain rules.breaks12 column (0x25 ∷ a ∷ b ∷ t)) properties (read_plain rules.breaks12 false (0x25 ∷ a ∷ b ∷ t))
+    (percent_plain rules.breaks12 (a ∷ b ∷ t))
 sign_word dashes t rules column properties =
     unsaid (is_tidy plain rules.breaks12 column (codes "---" ++ t)) properties (read_plain rules.breaks12 false (codes "---" ++ t)) refl
 sign_word dots t rules column properties =
@@ -91,7 +95,8 @@ sign_key sign t rules = by (nat_le (length text) longest_key)
     by : (x : Bool) → (if x then option_or (word_but_alias rules text) (option_and_then (word_of_alias rules) (without_last_space text)) else None) ≡ None
     by false = refl
     by true =
-        ap (λ o. option_or o (option_and_then (word_of_alias rules) (without_last_space text))) (word_alone (word_read rules false text) (sign_read sign t rules))
+        ap (λ o. option_or o (option_and_then (word_of_alias rules) (without_last_space text)))
+        (word_alone (word_read rules false text) (sign_read sign t rules))
         ∙ ap (option_and_then (word_of_alias rules)) (space_after sign t) ∙ alias_alone (without_last_space t)
 
 -- nor does one stand before a `:` later on
@@ -104,7 +109,8 @@ no_key_after sign before (c ∷ t) rules =
   where
     by : (x : Bool) → key_ends rules x (sign_text sign ++ before) t ≡ None
     by false = refl
-    by true = ap (option_map (λ key. let found : SimpleKey = record { key = key; length = length (sign_text sign ++ before); after = t } in found)) (sign_key sign before rules)
+    by true = ap (option_map (λ key. let found : SimpleKey = record { key = key; length = length (sign_text sign ++ before); after = t } in found))
+        (sign_key sign before rules)
 
 -- so such a line begins with no key
 sign_line : (sign : Sign) (t : Text) (rules : Rules) → key_of_line rules (sign_text sign ++ t) ≡ None
@@ -155,15 +161,18 @@ sign_unread : (sign : Sign) (t ending : Text) (rest : List Line) (depth : ℕ) (
 sign_unread sign t ending rest zero rules here column = refl
 sign_unread percent t ending rest (suc depth) rules here column =
     ap (λ k. node_by_kind k rules (node_read depth rules) (λ at text. text_or_properties (begins_properties text) rules (node_read depth rules) column at text)
-    no_properties (here || false) true (record { column = 0; text = codes "%" ++ t }) ending rest (record { text = codes "%" ++ t; ending = ending } ∷ rest)) (sign_kind percent t rules)
+    no_properties (here || false) true (record { column = 0; text = codes "%" ++ t }) ending rest (record { text = codes "%" ++ t; ending = ending } ∷ rest))
+        (sign_kind percent t rules)
     ∙ sign_text_read percent t ending rest rules column no_properties
 sign_unread dashes t ending rest (suc depth) rules here column =
     ap (λ k. node_by_kind k rules (node_read depth rules) (λ at text. text_or_properties (begins_properties text) rules (node_read depth rules) column at text)
-    no_properties (here || false) true (record { column = 0; text = codes "---" ++ t }) ending rest (record { text = codes "---" ++ t; ending = ending } ∷ rest)) (sign_kind dashes t rules)
+    no_properties (here || false) true (record { column = 0; text = codes "---" ++ t }) ending rest
+        (record { text = codes "---" ++ t; ending = ending } ∷ rest)) (sign_kind dashes t rules)
     ∙ sign_text_read dashes t ending rest rules column no_properties
 sign_unread dots t ending rest (suc depth) rules here column =
     ap (λ k. node_by_kind k rules (node_read depth rules) (λ at text. text_or_properties (begins_properties text) rules (node_read depth rules) column at text)
-    no_properties (here || false) true (record { column = 0; text = codes "..." ++ t }) ending rest (record { text = codes "..." ++ t; ending = ending } ∷ rest)) (sign_kind dots t rules)
+    no_properties (here || false) true (record { column = 0; text = codes "..." ++ t }) ending rest
+        (record { text = codes "..." ++ t; ending = ending } ∷ rest)) (sign_kind dots t rules)
     ∙ sign_text_read dots t ending rest rules column no_properties
 
 -- First lines

@@ -58,7 +58,8 @@ root_length before mark own rest ending =
     omega arith
 
 -- the root of a document is no deeper than the document's text is long, and one
-document_size : (s : Effective) (first ended : Bool) (document : Document) → DocumentStands s first document → size document.root ≤ suc (length (document_text s first ended document))
+document_size : (s : Effective) (first ended : Bool) (document : Document) → DocumentStands s first document
+    → size document.root ≤ suc (length (document_text s first ended document))
 document_size s first ended document stands = by (is_explicit (s.canonical || s.portable) first document.start) stands.root
   where
     before : Text
@@ -68,7 +69,8 @@ document_size s first ended document stands = by (is_explicit (s.canonical || s.
     ending = dots_if (not document.end_implicit)
 
     own : (on_mark : Bool) → RootStands s document on_mark → size document.root ≤ suc (length (root_laid on_mark s document).text)
-    own on_mark root = block_node document.root (rules_of s document) s (directives_in_force document.start.directives) root_place (root_cursor on_mark) root.leaves
+    own on_mark root = block_node document.root (rules_of s document) s (directives_in_force document.start.directives) root_place
+        (root_cursor on_mark) root.leaves
 
     by : (x : Bool) → RootStands s document (x && not s.canonical) → size document.root ≤ suc (length (before ++ (root_part x s document ++ ending)))
     by true stood =
@@ -87,14 +89,18 @@ document_size s first ended document stands = by (is_explicit (s.canonical || s.
 -- documents that are laid out up to here, and are read at each depth that their text has
 record SoLaid (s : Effective) (documents : Documents) (laid : PiecesLaid) : Type 0 where
   cursor : laid.standing.cursor ≡ margin_cursor 0
-  awaits : (depth : ℕ) → suc (length (text_of laid.pieces)) ≤ depth → Awaits s.breaks12 depth (text_of laid.pieces) (document_trees s documents) (laid.standing.mark == 0)
+  awaits : (depth : ℕ) → suc (length (text_of laid.pieces)) ≤ depth
+      → Awaits s.breaks12 depth (text_of laid.pieces) (document_trees s documents) (laid.standing.mark == 0)
 
 -- one document more
-document_so_laid : (s : Effective) (first : Bool) (documents : Documents) (laid : PiecesLaid) (document : Document) → 2 ≤ s.indent → DocumentStands s first document → laid.standing.cursor ≡ margin_cursor 0
+document_so_laid : (s : Effective) (first : Bool) (documents : Documents) (laid : PiecesLaid) (document : Document) → 2 ≤ s.indent
+    → DocumentStands s first document → laid.standing.cursor ≡ margin_cursor 0
     → ((depth : ℕ) → suc (length (text_of laid.pieces ++ document_text s first (laid.standing.mark == 0) document)) ≤ depth → size document.root ≤ depth
-    → Awaits s.breaks12 depth (text_of laid.pieces ++ document_text s first (laid.standing.mark == 0) document) (document_trees s (documents_and documents document)) (not document.end_implicit))
+    → Awaits s.breaks12 depth (text_of laid.pieces ++ document_text s first (laid.standing.mark == 0) document)
+    (document_trees s (documents_and documents document)) (not document.end_implicit))
     → SoLaid s (documents_and documents document)
-    (record { pieces = laid.pieces ++ (document_laid s first document laid.standing).pieces; standing = (document_laid s first document laid.standing).standing })
+    (record { pieces = laid.pieces ++ (document_laid s first document laid.standing).pieces; standing =
+    (document_laid s first document laid.standing).standing })
 document_so_laid s first documents laid document deep stands at awaits = record {
   cursor = joined.cursor;
   awaits = λ depth long.
@@ -130,10 +136,12 @@ documents_so_laid s (documents_and no_documents document) deep stands written =
     (λ depth long small. first_more s depth document deep stands.1 small written (awaits_first s.breaks12 depth))
 documents_so_laid s (documents_and (documents_and before last) document) deep stands written =
     let laid = documents_laid s (documents_and before last) first_standing in
-    let so = documents_so_laid s (documents_and before last) deep stands.0 (first_front s (documents_in_order (documents_and before last)) (document ∷ []) written) in
+    let so = documents_so_laid s (documents_and before last) deep stands.0
+    (first_front s (documents_in_order (documents_and before last)) (document ∷ []) written) in
     let text = document_text s false (laid.standing.mark == 0) document in
     document_so_laid s false (documents_and before last) laid document deep stands.1 so.cursor
-    (λ depth long small. later_more s depth (text_of laid.pieces) (document_trees s (documents_and before last)) document (laid.standing.mark == 0) deep stands.1 small
+    (λ depth long small. later_more s depth (text_of laid.pieces) (document_trees s (documents_and before last)) document
+    (laid.standing.mark == 0) deep stands.1 small
     (so.awaits depth (shorter depth (text_of laid.pieces) text long)))
   where
     shorter : (depth : ℕ) (a b : Text) → suc (length (a ++ b)) ≤ depth → suc (length a) ≤ depth
@@ -174,7 +182,8 @@ blank_lines_unmarked : (lines : List Line) → all_blank lines ≡ true → AllU
 blank_lines_unmarked [] h = refl
 blank_lines_unmarked (line ∷ rest) h =
     let parts = and_parts (is_spaces line.text) (all_blank rest) h in
-    and_from (is_unmarked (mark_of line.text)) (list_all (λ line. is_unmarked (mark_of line.text)) rest) (blank_unmarked line.text parts.0) (blank_lines_unmarked rest parts.1)
+    and_from (is_unmarked (mark_of line.text)) (list_all (λ line. is_unmarked (mark_of line.text)) rest) (blank_unmarked line.text parts.0)
+    (blank_lines_unmarked rest parts.1)
 
 blank_no_text : (t : Text) → is_spaces t ≡ true → (begins_with_percent t ≡ false) × (ends_sign t ≡ true)
 blank_no_text [] h = (refl, refl)
@@ -183,12 +192,15 @@ blank_no_text (c ∷ t) h =
     (ap (λ d. begins_with_percent (d ∷ t)) (eqb-true c space parts.0), parts.0)
 
 -- so blank lines are read as no documents
-blank_read : (breaks12 : Bool) (depth : ℕ) (lines : List Line) (documents : List DocumentTree) → all_blank lines ≡ true → sections_read depth breaks12 (sections_of lines) ≡ Some documents → documents ≡ []
+blank_read : (breaks12 : Bool) (depth : ℕ) (lines : List Line) (documents : List DocumentTree) → all_blank lines ≡ true
+    → sections_read depth breaks12 (sections_of lines) ≡ Some documents → documents ≡ []
 blank_read breaks12 depth lines documents blank reads =
-    let alone = ap sections_of (sym (append-nil lines)) ∙ unmarked_before lines [] (blank_lines_unmarked lines blank) ∙ ap (λ b. let all : Sections = record { before = b; sections = [] } in all) (append-nil lines) in
+    let alone = ap sections_of (sym (append-nil lines)) ∙ unmarked_before lines [] (blank_lines_unmarked lines blank)
+    ∙ ap (λ b. let all : Sections = record { before = b; sections = [] } in all) (append-nil lines) in
     by lines blank (ap (sections_read depth breaks12) (sym alone) ∙ reads)
   where
-    by : (lines : List Line) → all_blank lines ≡ true → option_and_then documents_at_end (front_read (front_kind lines) depth breaks12 lines) ≡ Some documents → documents ≡ []
+    by : (lines : List Line) → all_blank lines ≡ true → option_and_then documents_at_end (front_read (front_kind lines) depth breaks12 lines) ≡ Some documents
+        → documents ≡ []
     by [] blank reads = sym (cc_some reads)
       where
         cc_some : {a b : List DocumentTree} → Some a ≡ Some b → a ≡ b
@@ -197,7 +209,9 @@ blank_read breaks12 depth lines documents blank reads =
         let text = blank_no_text line.text (and_parts (is_spaces line.text) (all_blank rest) blank).0 in
         absurd (none_not_some
         (sym (ap (λ x. option_and_then documents_at_end (front_read (if x then directive_lines else document_lines) depth breaks12 (line ∷ rest))) text.0
-        ∙ ap (λ x. option_and_then documents_at_end (document_added [] no_heading (if not x then node_read depth (record { breaks12 = breaks12; directives = [] }) true None (line ∷ rest) else None))) text.1)
+        ∙ ap (λ x. option_and_then documents_at_end
+        (document_added [] no_heading (if not x then node_read depth (record { breaks12 = breaks12; directives = [] }) true None (line ∷ rest) else None)))
+        text.1)
         ∙ reads))
 
 -- Streams
@@ -209,7 +223,8 @@ pub stream_text : (s : Effective) (stream : Stream) → (documents_laid s stream
 stream_text s stream at =
     let documents = documents_laid s stream.documents first_standing in
     flat_map-append piece_text (record { lead = []; body = None } ∷ documents.pieces) ((stream_end_piece documents.standing).piece ∷ [])
-    ∙ ap (λ t. text_of documents.pieces ++ t) (append-nil ((stream_end_piece documents.standing).piece.lead ++ []) ∙ append-nil (stream_end_piece documents.standing).piece.lead
+    ∙ ap (λ t. text_of documents.pieces ++ t) (append-nil ((stream_end_piece documents.standing).piece.lead ++ [])
+    ∙ append-nil (stream_end_piece documents.standing).piece.lead
     ∙ ap (λ c. (laid_if (documents.standing.mark == 2) closing_mark_laid c).text) at ∙ ap (λ (l : Laid). l.text) (dots_laid (documents.standing.mark == 2)))
 
 -- a stream whose documents stand is read as their trees
@@ -239,9 +254,12 @@ stream_reads s stream deep stands written =
     reads : sections_read (suc (length text)) s.breaks12 (sections_of (lines_of s.breaks12 text)) ≡ Some (document_trees s stream.documents)
     reads =
         ap (λ t. sections_read (suc (length text)) s.breaks12 (sections_of (lines_of s.breaks12 t))) same
-        ∙ ended_read s.breaks12 (suc (length text)) (text_of documents.pieces) (document_trees s stream.documents) documents.standing.mark (so.awaits (suc (length text)) long)
+        ∙ ended_read s.breaks12 (suc (length text)) (text_of documents.pieces) (document_trees s stream.documents) documents.standing.mark
+        (so.awaits (suc (length text)) long)
 
     by : (x : Bool) → all_blank (lines_of s.breaks12 text) ≡ x
-        → (if x then Some [] else sections_read (suc (length text)) s.breaks12 (sections_of (lines_of s.breaks12 text))) ≡ Some (document_trees s stream.documents)
+        → (if x then Some [] else sections_read (suc (length text)) s.breaks12 (sections_of (lines_of s.breaks12 text)))
+        ≡ Some (document_trees s stream.documents)
     by false e = reads
-    by true e = ap (λ (ds : List DocumentTree). Some ds) (sym (blank_read s.breaks12 (suc (length text)) (lines_of s.breaks12 text) (document_trees s stream.documents) e reads))
+    by true e = ap (λ (ds : List DocumentTree). Some ds)
+        (sym (blank_read s.breaks12 (suc (length text)) (lines_of s.breaks12 text) (document_trees s stream.documents) e reads))
