@@ -72,7 +72,8 @@ raw_parts p u b1 b2 b3 s1 s2 q k h =
 -- such a character isn't special
 special_raw : (breaks12 unicode : Bool) (c : ℕ) → needs_escape unicode c ≡ false → is_special (record { unicode = unicode; breaks12 = breaks12 }) c ≡ false
 special_raw breaks12 unicode c h =
-    let parts = raw_parts (is_printable c) (not unicode && not (is_ascii c)) (c == line_feed) (c == carriage_return) (c == next_line) (c == line_separator) (c == paragraph_separator) (c == quote) (c == backslash) h in
+    let parts = raw_parts (is_printable c) (not unicode && not (is_ascii c)) (c == line_feed) (c == carriage_return) (c == next_line) (c == line_separator)
+    (c == paragraph_separator) (c == quote) (c == backslash) h in
     by breaks12 parts
   where
     by : (breaks12 : Bool)
@@ -93,7 +94,8 @@ special_bodies s is place single_quoted limit value cursor h =
     lacks_single (is_special (charset_of s)) (special_spares (charset_of s)) limit (deeper s.indent place.column) value cursor
     (single_unspecial (charset_of s) value h)
 special_bodies s is place double_quoted limit value cursor h =
-    lacks_double (is_special (charset_of s)) (special_spares (charset_of s)) s.unicode (special_raw s.breaks12 s.unicode) limit (deeper s.indent place.column) value cursor
+    lacks_double (is_special (charset_of s)) (special_spares (charset_of s)) s.unicode (special_raw s.breaks12 s.unicode) limit
+    (deeper s.indent place.column) value cursor
 special_bodies s is place literal limit value cursor h =
     lacks_literal (is_special (charset_of s)) (special_spares (charset_of s)) (deeper s.indent place.column) s.indent value cursor is.high
     (block_unspecial (charset_of s) value h)

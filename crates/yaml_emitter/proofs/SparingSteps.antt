@@ -115,7 +115,8 @@ module _ (s : Effective) (test : ℕ → Bool) (spared : Spared s test) where
       let lead = scalar_lead s directives place simple choice content standing.cursor in
       any_both test lead.text _
       (lacks_then test spared.spares named (separation_laid choice.style place.in_flow content.value)
-      (lacks_then test spared.spares placed (properties_laid s.portable directives content.anchor tag choice.bare) (lacks_place test spared.spares s place simple standing.cursor)
+      (lacks_then test spared.spares placed (properties_laid s.portable directives content.anchor tag choice.bare)
+      (lacks_place test spared.spares s place simple standing.cursor)
       (λ after. lacks_properties test spared.spares s.portable found.0 directives content.anchor tag choice.bare after found.1 ok))
       (λ after. lacks_separation test spared.spares choice.style place.in_flow content.value after))
       (spared.bodies place choice.style (if simple then None else s.width) content.value lead.cursor
@@ -129,7 +130,8 @@ module _ (s : Effective) (test : ℕ → Bool) (spared : Spared s test) where
       let placed = place_laid s place simple standing.cursor in
       let tag = collection_tag s.canonical start in
       lacks_alone (then_laid placed (properties_laid s.portable directives start.anchor tag false))
-      (lacks_then test spared.spares placed (properties_laid s.portable directives start.anchor tag false) (lacks_place test spared.spares s place simple standing.cursor)
+      (lacks_then test spared.spares placed (properties_laid s.portable directives start.anchor tag false)
+      (lacks_place test spared.spares s place simple standing.cursor)
       (λ after. lacks_properties test spared.spares s.portable found.0 directives start.anchor tag false after found.1 ok))
 
   -- a collection's end
@@ -145,7 +147,8 @@ module _ (s : Effective) (test : ℕ → Bool) (spared : Spared s test) where
       let place = next_place frames in
       let simple = is_key place.role && (not s.canonical && is_simple_alias name) in
       lacks_alone (then_laid (place_laid s place simple standing.cursor) (alias_laid name simple))
-      (lacks_then test spared.spares (place_laid s place simple standing.cursor) (alias_laid name simple) (lacks_place test spared.spares s place simple standing.cursor)
+      (lacks_then test spared.spares (place_laid s place simple standing.cursor) (alias_laid name simple)
+      (lacks_place test spared.spares s place simple standing.cursor)
       (λ after. lacks_alias test spared.spares name simple after ok))
   lacks_node_step directives frames (scalar content) empty standing found ok = lacks_scalar directives (next_place frames) _ content standing found ok
   lacks_node_step directives frames (sequence_start start) empty standing found ok = lacks_start directives (next_place frames) _ start standing found ok
@@ -165,7 +168,8 @@ module _ (s : Effective) (test : ℕ → Bool) (spared : Spared s test) where
   lacks_document_end true standing = lacks_alone (new_line 0 standing.cursor) (lacks_line test spared.spares 0 standing.cursor)
   lacks_document_end false standing =
       lacks_alone (then_laid (new_line 0 standing.cursor) closing_mark_laid)
-      (lacks_then test spared.spares (new_line 0 standing.cursor) closing_mark_laid (lacks_line test spared.spares 0 standing.cursor) (lacks_closing test spared.spares))
+      (lacks_then test spared.spares (new_line 0 standing.cursor) closing_mark_laid (lacks_line test spared.spares 0 standing.cursor)
+      (lacks_closing test spared.spares))
 
   -- an event at any stage
   lacks_step : (stage : Stage) (event : Event) (empty : Bool) (standing : Standing) → StageFound stage → NamesOk event

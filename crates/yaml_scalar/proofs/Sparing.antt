@@ -102,7 +102,8 @@ module _ (test : ℕ → Bool) (spares : Spares test) where
   lacks_single limit indent value cursor own =
       let quote_spared : test 39 ≡ false = spares.graph 39 refl in
       let text = inside limit indent value cursor in
-      let bare : list_any test text ≡ false = any_bare test spares.feed spares.blank quotes_doubled limit indent spaces value (single_quote cursor).cursor own in
+      let bare : list_any test text ≡ false = any_bare test spares.feed spares.blank quotes_doubled limit indent spaces value
+      (single_quote cursor).cursor own in
       ap (list_any test) (body-inside limit indent value cursor)
       ∙ any_one test 39 (quotes_doubled text ++ 39 ∷ []) quote_spared
       (any_both test (quotes_doubled text) (39 ∷ []) (any_doubled test quote_spared text bare) (any_one test 39 [] quote_spared refl))

@@ -57,7 +57,8 @@ module _ (breaks12 : Bool) where
     lines_begin [] h = refl
     lines_begin (line text ∷ rest) h =
         or_right _ _ (and_from _ _
-        (ap (begins_with_spaces count) (append_assoc (replicate indent space) text (indented indent rest)) ∙ enough_spaces breaks12 count indent (text ++ indented indent rest) enough)
+        (ap (begins_with_spaces count) (append_assoc (replicate indent space) text (indented indent rest))
+        ∙ enough_spaces breaks12 count indent (text ++ indented indent rest) enough)
         (ap not (spaces_blank indent text (indented indent rest) h.0 h.1)))
     lines_begin (line_break b ∷ rest) h = deep_break breaks12 count (b ∷ indented indent rest) h.0
 

@@ -268,7 +268,8 @@ pub single_even : (charset : Charset) (count : ℕ) (limit : Option ℕ) (indent
     → allows_single_quoted charset value ≡ true → IsEven charset.breaks12 count (single_quoted_body limit indent value cursor).text
 single_even charset count limit indent value cursor enough allowed =
     let after = (single_quote cursor).cursor in
-    let each : InksEach charset count indent enough true quotes_doubled = record { inks = doubled_inks charset.breaks12; begins = doubled_begins charset.breaks12 } in
+    let each : InksEach charset count indent enough true
+    quotes_doubled = record { inks = doubled_inks charset.breaks12; begins = doubled_begins charset.breaks12 } in
     let inside = lines_even charset count indent enough true quotes_doubled each limit spaces value after (not-true _ allowed) (ends_always value) in
     rw (runs_by_steps quotes_doubled doubled_writes limit indent value after)
     (even_ink charset.breaks12 count (39 ∷ []) _ (quote_ink charset.breaks12, tt) inside.is_even)
@@ -289,7 +290,8 @@ plain_even charset flow count limit indent value cursor enough allowed =
     let bars = plain_bars charset flow value allowed in
     let each : InksEach charset count indent enough false (λ text. text) = record { inks = λ c ink. (ink, tt); begins = λ c text ink. ink } in
     let text = (steps_laid (λ text. text) limit indent spaces value cursor).text in
-    let lines = lines_even charset count indent enough false (λ text. text) each limit spaces value cursor (plain_is_single charset flow value bars) (plain_ends charset flow value bars) in
+    let lines = lines_even charset count indent enough false (λ text. text) each limit spaces value cursor (plain_is_single charset flow value bars)
+    (plain_ends charset flow value bars) in
     rw (runs_by_steps (λ text. text) itself_writes limit indent value cursor) (subst (IsEven charset.breaks12 count) (append-nil text) lines.is_even)
 
 -- a text that isn't empty ends as what it ends with
@@ -324,7 +326,8 @@ step_some folds indent before spaces c rest = by (folds && not (is_same_kind bef
 step_some folds indent before breaks c rest = by (c == line_feed && not (is_same_kind before breaks))
   where
     by : (twice : Bool)
-        → (first : ℕ) × (more : Text) × (((if twice then line_feed ∷ [] else []) ++ (c ∷ (if begins_kind breaks rest then [] else indentation indent))) ≡ first ∷ more)
+        → (first : ℕ) × (more : Text) × (((if twice then line_feed ∷ [] else []) ++ (c ∷ (if begins_kind breaks rest then [] else indentation indent)))
+        ≡ first ∷ more)
     by true = (line_feed, c ∷ (if begins_kind breaks rest then [] else indentation indent), refl)
     by false = (c, (if begins_kind breaks rest then [] else indentation indent), refl)
 step_some folds indent before others c rest = (c, [], refl)

@@ -93,7 +93,8 @@ module _ (breaks12 unicode : Bool) (count indent : ℕ) (enough : count ≤ inde
       → QuotedEven before (space ∷ rest) (((line_feed ∷ replicate indent space) ++ space_kept rest) ++ text)
   quoted_fold before rest text other ih =
       let spaces = replicate indent space in
-      let regroup : ((line_feed ∷ spaces) ++ space_kept rest) ++ text ≡ line_feed ∷ (spaces ++ (space_kept rest ++ text)) = ap (λ t. line_feed ∷ t) (append_assoc spaces (space_kept rest) text) in
+      let regroup : ((line_feed ∷ spaces) ++ space_kept rest) ++ text
+      ≡ line_feed ∷ (spaces ++ (space_kept rest ++ text)) = ap (λ t. line_feed ∷ t) (append_assoc spaces (space_kept rest) text) in
       subst (λ (t : Text). QuotedEven before (space ∷ rest) t) (sym regroup) (record {
         is_even = even_line breaks12 count indent line_feed (space_kept rest ++ text) enough refl (ih.kept refl) (ih.kept_even refl);
         unbroken = λ e. absurd (true≢false (sym other ∙ e));
@@ -104,11 +105,13 @@ module _ (breaks12 unicode : Bool) (count indent : ℕ) (enough : count ≤ inde
   module _ (limit : Option ℕ) where
     -- what follows a character
     abbrev Follows : (c : ℕ) (rest : Text) → Type 0
-    Follows c rest = (next : Cursor) → Fits indent (Some c) next → QuotedEven (Some c) rest ((double_inside unicode limit indent (Some c) rest next).text ++ quote ∷ [])
+    Follows c rest = (next : Cursor) → Fits indent (Some c) next
+        → QuotedEven (Some c) rest ((double_inside unicode limit indent (Some c) rest next).text ++ quote ∷ [])
 
     -- a character, laid so, and what follows it
     abbrev Goes : (before : Option ℕ) (rest : Text) → Laid → ℕ → Type 0
-    Goes before rest laid c = Follows c rest → QuotedEven before (c ∷ rest) ((then_laid laid (double_inside unicode limit indent (Some c) rest)).text ++ quote ∷ [])
+    Goes before rest laid c = Follows c rest
+        → QuotedEven before (c ∷ rest) ((then_laid laid (double_inside unicode limit indent (Some c) rest)).text ++ quote ∷ [])
 
     -- a fold
     fold_goes : (before : Option ℕ) (rest : Text) (cursor : Cursor) → is_other before ≡ true → breaks_line indent cursor ≡ true

@@ -14,10 +14,12 @@ returns-then-frame g c = λ mark.
     let place = seen_place c.args.outer.now.place in
     let frame = c.args.frame.now in
     end_in_flow s (brackets_of c.args.mapping) frame.place.in_flow (is_first (seen_role frame.place.role)) c.is_first-empty.result place.column mark
-    (signs_laid s place c.flow_end_signs.result) (λ cursor. c.flow_end_signs.ensures.laid s place cursor refl) c.is_first-empty.ensures c.if-frame.true c.write_signs.ensures
+    (signs_laid s place c.flow_end_signs.result)
+    (λ cursor. c.flow_end_signs.ensures.laid s place cursor refl) c.is_first-empty.ensures c.if-frame.true c.write_signs.ensures
 
 pub returns-else-frame : goal.returns-else-frame
 returns-else-frame g c = λ mark.
     let frame = c.args.frame.now in
-    end_in_block (seen_effective c.args.outer.now.settings.now) (brackets_of c.args.mapping) frame.place.in_flow (is_first (seen_role frame.place.role)) c.args.outer.now.place.column mark
+    end_in_block (seen_effective c.args.outer.now.settings.now) (brackets_of c.args.mapping) frame.place.in_flow
+    (is_first (seen_role frame.place.role)) c.args.outer.now.place.column mark
     c.if-frame.false c.write_nothing.ensures
