@@ -1,36 +1,24 @@
 -- The work of a collection's start and end, as a step of the emitter.
-use Rattle.std.proofs.Common.{◌≡◌, ℕ, Bool, true, false, not, ◌&&◌, Option, None, Some, Result, Ok, Err, List, [], ◌∷◌, refl, sym, ap, subst, ◌∙◌}
+use Rattle.std.proofs.Common.{◌≡◌, ℕ, Bool, true, false, not, ◌&&◌, Option, None, Some, Result, Ok, Err, List, ◌∷◌, refl, sym, ap, subst, ◌∙◌}
 use Rattle.std.specs.Option.{option_or}
-use Rattle.yaml_base.specs.Characters.{Text}
-use Rattle.std.specs.Prelude.{nat_lt, length, is_some, option_and_then}
+use Rattle.std.specs.Prelude.{nat_lt, length}
 use Rattle.yaml_base.specs.Cursor.{Cursor}
 use Rattle.yaml_base.specs.Settings.{Effective}
-use Rattle.yaml_base.specs.Event.{Event, TagDirective, Scalar, Collection, CollectionStyle, alias, scalar}
-use Rattle.yaml_base.specs.Layout.{Place, Brackets, is_key, is_simple_alias, is_simple_scalar, is_simple_collection, alias_piece, scalar_piece, start_piece, end_piece, is_written_in_flow, entry_place, entries_column}
-use Rattle.yaml_base.specs.Refusal.{name_or_tag_fault, scalar_tag, collection_tag, fault_if, expected_node, no_tag_nor_implicit, too_deep, most_open}
-use Rattle.yaml_base.specs.Style.{lacks_tag_and_flags}
-use Rattle.yaml_base.specs.Tags.{alias_fault, anchor_fault, tag_fault}
+use Rattle.yaml_base.specs.Event.{TagDirective, Collection, CollectionStyle}
+use Rattle.yaml_base.specs.Layout.{Place, Brackets, is_key, is_simple_collection, start_piece, end_piece, is_written_in_flow, entry_place, entries_column}
+use Rattle.yaml_base.specs.Refusal.{name_or_tag_fault, fault_if, expected_node, too_deep, most_open}
 use Rattle.yaml_base.specs.Output.{hands_out}
 use Rattle.yaml_base.specs.Steps.{Frame, Stage, at_node, next_place, stage_after, stage_refusal, step, node_allowed, is_first}
 use Rattle.yaml_base.specs.declared.errors.yaml_error_t.{yaml_error_t}
-use Rattle.yaml_pen.specs.Page.{Page, IsReady}
+use Rattle.yaml_pen.specs.Page.{Page}
 use Rattle.yaml_pen.specs.Wrote.{Wrote}
-use Rattle.yaml_emitter.specs.State.{State, FitsPage, is_at_stream}
-use Rattle.yaml_emitter.specs.Stages.{seen_stage}
-use Rattle.yaml_emitter.specs.Inside.{IsEmitter, state_of}
-use Rattle.yaml_emitter.specs.NodeEvents.{is_at_node, start_event, end_event, brackets_of, first_entry, is_undented}
-use Rattle.yaml_emitter.specs.Signs.{name_breaks}
+use Rattle.yaml_emitter.specs.State.{State}
+use Rattle.yaml_emitter.specs.NodeEvents.{start_event, end_event, brackets_of, first_entry, is_undented}
 use Rattle.yaml_emitter.specs.WrittenPieces.{piece_at}
 use Rattle.yaml_emitter.specs.Processing.{Processed}
 use Rattle.yaml_pen.specs.Page.{encoded, told}
-use Rattle.yaml_emitter.specs.declared.stage.Stage as stage
-use Rattle.yaml_emitter.specs.declared.stage.Stage.TheVariants.{Stream, Document, Node, DocumentEnd, Nothing}
-use Rattle.yaml_base.specs.declared.errors.yaml_error_t.TheVariants.{ExpectedNode, NoTagNorImplicit, TooDeep, Memory}
-use Rattle.yaml_emitter.specs.declared.writing.marks.OpenMark.{OpenMark}
-use Rattle.yaml_emitter.specs.declared.emitter.yaml_emitter_t.TheInside.{Inside}
-use Rattle.yaml_emitter.proofs.KeptInside.{kept_writing, fits_ready}
+use Rattle.yaml_base.specs.declared.errors.yaml_error_t.TheVariants.{ExpectedNode, TooDeep, Memory}
 use Rattle.yaml_emitter.proofs.ProcessedBy.{IsInStream, processed_after_writing, processed_cut_at, processed_refused_at, processed_written_at}
-use Rattle.yaml_emitter.proofs.WritingNames.{sound_anchor}
 
 -- Starts of collections
 

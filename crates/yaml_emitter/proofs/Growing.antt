@@ -1,5 +1,5 @@
 -- Nothing that was written is lost by an event.
-use Rattle.std.proofs.Common.{◌≡◌, refl, sym, ap, subst, Bool, Option, None, Some, Result, Ok, Err, List, IsSome}
+use Rattle.std.proofs.Common.{◌≡◌, refl, sym, ap, subst, Bool, Option, None, Some, Result, Ok, Err, IsSome}
 use Rattle.yaml_base.specs.Event.{Event, stream_start}
 use Rattle.yaml_base.specs.declared.errors.yaml_error_t.{yaml_error_t}
 use Rattle.yaml_base.specs.declared.errors.yaml_error_t.TheVariants.{WriteError, Memory}

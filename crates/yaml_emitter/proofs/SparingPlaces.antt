@@ -1,9 +1,9 @@
 -- What stands before a node, and on lines outside nodes, holds no character that meets a test which spares printable ASCII and
 -- LF: signs, spaces, breaks, names, and tags in percent forms.
-use Rattle.std.proofs.Common.{◌≡◌, ◌⊎◌, refl, ap, ◌∙◌, inl, inr, ℕ, [], ◌∷◌, ◌++◌, Bool, true, false, arith}
+use Rattle.std.proofs.Common.{◌≡◌, refl, ap, ◌∙◌, ℕ, [], ◌∷◌, ◌++◌, Bool, true, false, arith}
 use Rattle.std.proofs.lemmas.Bool.{and_from, and_parts}
 use Rattle.std.proofs.lemmas.Bool.Decides.{nat_tests}
-use Rattle.std.specs.Prelude.{Option, None, Some, List, ◌==◌, ◌&&◌, ◌||◌, not, codes, length, is_some, if◌then◌else◌}
+use Rattle.std.specs.Prelude.{Option, None, Some, List, ◌==◌, ◌&&◌, ◌||◌, not, codes, if◌then◌else◌}
 use Rattle.std.specs.List.{list_all, list_any}
 use Rattle.yaml_base.specs.Characters.{Text, is_alpha, space}
 use Rattle.yaml_base.specs.Cursor.{Cursor, Laid, nothing_laid, then_laid, new_line, space_if, indicator, name_laid, is_past_width}
@@ -12,11 +12,11 @@ use Rattle.yaml_base.specs.Percent.{percent_escaped, suffix_escaped, prefix_esca
 use Rattle.yaml_base.specs.Settings.{Effective}
 use Rattle.yaml_base.specs.Tags.{Spelling, spelling, tag_mark}
 use Rattle.yaml_base.specs.Indicators.{indicator_laid, spaced, document_start, document_end, yaml_directive, version_1_1, version_1_2, tag_directive}
-use Rattle.yaml_base.specs.Layout.{line_column, Role, as_root, as_item, as_key, as_value, Place, flow_break, opening_or_comma, key_sign, flow_place_laid, block_place_laid, place_laid, anchor_laid, handle_laid, spelling_laid, tag_laid, properties_laid, alias_laid, separation_laid, Brackets, square, curly, empty_or_comma, end_laid, Standing, line_ended, laid_if, closing_mark_laid, version_word, version_laid, tag_directive_laid, tag_directives_laid, has_directives, is_explicit, document_mark_laid, document_start_laid}
+use Rattle.yaml_base.specs.Layout.{line_column, Role, as_root, as_item, as_key, as_value, Place, flow_break, opening_or_comma, key_sign, flow_place_laid, block_place_laid, place_laid, anchor_laid, handle_laid, spelling_laid, tag_laid, properties_laid, alias_laid, separation_laid, Brackets, empty_or_comma, end_laid, Standing, line_ended, laid_if, closing_mark_laid, version_word, version_laid, tag_directive_laid, tag_directives_laid, has_directives, is_explicit, document_mark_laid, document_start_laid}
 use Rattle.yaml_base.proofs.TagLaws.{IsHandle, handle_form, AreFound, spelling_is}
 use Rattle.yaml_scalar.proofs.LineTexts.{any_both, any_cond, any_one}
 use Rattle.yaml_scalar.proofs.Sparing.{Spares, is_graph, lacks_graph, lacks_line}
-use Rattle.yaml_emitter.proofs.CanonicalNames.{IsName, is_written, all_written, escaped-written, suffix-written, prefix-written, alphas-written, handle_text}
+use Rattle.yaml_emitter.proofs.CanonicalNames.{is_written, all_written, escaped-written, suffix-written, prefix-written, alphas-written, handle_text}
 use Rattle.yaml_emitter.proofs.CanonicalPlaces.{AnchorOk}
 
 -- what stands in a tag is printable ASCII

@@ -1,19 +1,18 @@
 -- The pieces of a stream's events hold no character that meets a test which spares printable ASCII and LF, where no body that a
 -- value allows does.
-use Rattle.std.proofs.Common.{◌≡◌, refl, ap, ◌∙◌, ℕ, [], ◌∷◌, ◌++◌, Bool, true, false}
+use Rattle.std.proofs.Common.{◌≡◌, refl, ℕ, [], ◌∷◌, ◌++◌, Bool, true, false}
 use Rattle.std.proofs.lemmas.Bool.{and_parts}
-use Rattle.std.specs.Option.{option_or}
-use Rattle.std.specs.Prelude.{Option, None, Some, List, ◌==◌, ◌&&◌, not, is_some, option_and_then, codes, if◌then◌else◌}
+use Rattle.std.specs.Prelude.{Option, None, List, ◌==◌, ◌&&◌, not, is_some, option_and_then, if◌then◌else◌}
 use Rattle.std.specs.List.{list_all, list_any}
 use Rattle.yaml_base.specs.Analysis.{allowances, is_empty}
 use Rattle.yaml_base.specs.Characters.{Text, is_alpha}
-use Rattle.yaml_base.specs.Cursor.{Cursor, Laid, nothing_laid, then_laid, new_line}
+use Rattle.yaml_base.specs.Cursor.{Cursor, Laid, then_laid, new_line}
 use Rattle.yaml_base.specs.Event.{ScalarStyle, TagDirective, Scalar, Collection, Event, stream_start, stream_end, document_start, document_end, alias, scalar, sequence_start, sequence_end, mapping_start, mapping_end}
-use Rattle.yaml_base.specs.Layout.{Place, Piece, piece_text, text_of, Standing, deeper, body_laid, choice_of, scalar_lead, scalar_piece, place_laid, properties_laid, separation_laid, alias_laid, alias_piece, start_piece, Brackets, square, curly, end_laid, end_piece, laid_if, closing_mark_laid, is_key, is_simple_alias, document_start_laid, document_start_piece, document_end_piece, stream_end_piece}
-use Rattle.yaml_base.specs.Refusal.{is_sound, name_or_tag_fault, content_fault, properties_fault, scalar_tag, collection_tag}
+use Rattle.yaml_base.specs.Layout.{Place, Piece, piece_text, text_of, Standing, deeper, body_laid, choice_of, scalar_lead, scalar_piece, place_laid, properties_laid, separation_laid, alias_laid, start_piece, Brackets, square, curly, end_laid, end_piece, laid_if, closing_mark_laid, is_key, is_simple_alias, document_start_laid, document_end_piece}
+use Rattle.yaml_base.specs.Refusal.{is_sound, name_or_tag_fault, content_fault, scalar_tag, collection_tag}
 use Rattle.yaml_base.specs.Settings.{Effective}
-use Rattle.yaml_base.specs.Steps.{Frame, Stage, at_stream, at_document, at_node, at_document_end, at_nothing, next_place, stage_after, is_first, step, node_step, ends_next, steps}
-use Rattle.yaml_base.specs.Tags.{anchor_fault, anchor_empty, anchor_alphabet, alias_empty, alias_alphabet, tag_fault, version_fault, directives_fault, directives_in_force}
+use Rattle.yaml_base.specs.Steps.{Frame, Stage, at_stream, at_document, at_node, at_document_end, next_place, stage_after, is_first, step, node_step, ends_next, steps}
+use Rattle.yaml_base.specs.Tags.{alias_empty, alias_alphabet, version_fault, directives_fault}
 use Rattle.yaml_base.proofs.TagLaws.{AreFound, in_force_found}
 use Rattle.yaml_scalar.proofs.LineTexts.{any_both}
 use Rattle.yaml_scalar.proofs.Sparing.{Spares, lacks_line}

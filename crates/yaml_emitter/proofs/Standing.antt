@@ -1,24 +1,23 @@
 -- An emitter stands after its events: as one more comes, as each that is ready is written, and when no more is ready.
 use Rattle.std.proofs.Common.{◌≡◌, refl, sym, ap, ◌∙◌, subst, arith, append_assoc, append-nil, inl}
-use Rattle.std.proofs.lemmas.List.{take-append-drop, length-take-le, length-append, take_at, drop_at}
+use Rattle.std.proofs.lemmas.List.{take-append-drop, length-take-le}
 use Rattle.std.proofs.lemmas.List.Concat.{flat_map-append}
-use Rattle.std.specs.Prelude.{suc, ◌+◌, ◌≤◌, Bool, true, false, ◌&&◌, Option, None, Some, Result, Ok, List, [], ◌∷◌, ◌++◌, length, take, drop, option_and_then, if◌then◌else◌}
+use Rattle.std.specs.Prelude.{◌+◌, Bool, true, false, ◌&&◌, Option, None, Some, Result, Ok, List, [], ◌∷◌, ◌++◌, length, take, option_and_then}
 use Rattle.yaml_base.specs.Settings.{Encoding, Settings, Effective, effective}
 use Rattle.yaml_base.specs.LineBreaks.{with_breaks_written}
 use Rattle.yaml_base.specs.Cursor.{Cursor, Laid}
-use Rattle.yaml_base.specs.Event.{Event, stream_start, document_start, sequence_start, sequence_end, mapping_start, mapping_end}
+use Rattle.yaml_base.specs.Event.{Event, stream_start, sequence_start, sequence_end, mapping_start, mapping_end}
 use Rattle.yaml_base.specs.Grammar.{at_item, at_key, at_value, Partial, before_stream, within_document, push, pushed, partial_of}
 use Rattle.yaml_base.specs.Refusal.{begins_collection, ends_collection, BeginsAccepted, refusal}
-use Rattle.yaml_base.specs.Ready.{is_ready, written, awaited, held_back}
+use Rattle.yaml_base.specs.Ready.{written, held_back}
 use Rattle.yaml_base.specs.Layout.{Piece, Standing, first_standing, piece_text, text_of, stream_start_piece}
 use Rattle.yaml_base.specs.Steps.{at_stream, Stepped, Steps, step, steps, progress, stage_refusal}
 use Rattle.yaml_base.specs.Pieces.{begins_last, ends_first}
-use Rattle.yaml_base.specs.Output.{encoding_asked, settings_for, text_written, hands_out, hands_out_last}
+use Rattle.yaml_base.specs.Output.{encoding_asked, settings_for, text_written, hands_out_last}
 use Rattle.yaml_base.specs.declared.errors.yaml_error_t.{yaml_error_t}
 use Rattle.yaml_base.proofs.Accepted.{stands_from_begins, refused_exactly}
-use Rattle.yaml_base.proofs.Completions.{pushed-append}
 use Rattle.yaml_base.proofs.Pushes.{partial_of_events}
-use Rattle.yaml_base.proofs.QueueLaws.{written_within, open_at_written, no_end_held, held_is_short}
+use Rattle.yaml_base.proofs.QueueLaws.{written_within, open_at_written}
 use Rattle.yaml_base.proofs.Progress.{written-append}
 use Rattle.yaml_base.proofs.PieceLaws.{steps-append, steps_same}
 use Rattle.yaml_base.proofs.Stages.{stage_refusal_after}
@@ -26,8 +25,7 @@ use Rattle.yaml_pen.specs.Page.{Page, encoded, new_page}
 use Rattle.yaml_pen.specs.Wrote.{Wrote, named_text}
 use Rattle.yaml_pen.proofs.Composing.{with_breaks_written-append, wrote_all, wrote_no_error}
 use Rattle.yaml_emitter.specs.State.{State, standing_of}
-use Rattle.yaml_emitter.specs.Queue.{is_head_ready}
-use Rattle.yaml_emitter.specs.Processing.{closes_at_once, event_stepped, event_laid, refusal_now, WritesPage, Written, Processed}
+use Rattle.yaml_emitter.specs.Processing.{closes_at_once, event_laid, refusal_now, WritesPage, Written}
 use Rattle.yaml_emitter.specs.StandsAfter.{IsPage, HoldsPieces, IsSettled, HasTaken, StandsWell, closes_last, Reached}
 
 -- Settings are those of the first event.

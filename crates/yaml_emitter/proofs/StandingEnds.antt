@@ -1,40 +1,28 @@
 -- What an emitter that stands promises at the stream's end, and of a list that is written whole.
-use Rattle.std.proofs.Common.{◌≡◌, refl, sym, ap, ◌∙◌, subst, arith, append_assoc, append-nil, inl, inr}
-use Rattle.std.proofs.lemmas.List.{take-append-drop, length-take-le, length-append}
-use Rattle.std.proofs.lemmas.Bool.{false≢true}
-use Rattle.std.specs.Prelude.{ℕ, zero, suc, ◌<◌, ◌≤◌, Bool, true, false, ◌&&◌, Option, None, Some, List, [], ◌∷◌, ◌++◌, length, take, drop, option_and_then}
+use Rattle.std.proofs.Common.{◌≡◌, refl, sym, ap, ◌∙◌, subst, arith, append_assoc, append-nil}
+use Rattle.std.proofs.lemmas.List.{take-append-drop}
+use Rattle.std.specs.Prelude.{ℕ, zero, suc, ◌≤◌, Bool, false, Option, None, Some, List, [], ◌∷◌, ◌++◌, length, take, drop, option_and_then}
 use Rattle.yaml_base.specs.Settings.{Settings, Effective}
 use Rattle.yaml_base.specs.Encoding.{encode, cut}
-use Rattle.yaml_base.specs.Prefix.{IsPrefix}
-use Rattle.yaml_base.specs.Event.{Event, stream_end, document_start, sequence_start, sequence_end, mapping_start, mapping_end}
+use Rattle.yaml_base.specs.Event.{Event, stream_end}
 use Rattle.yaml_base.specs.Grammar.{at_item, at_key, at_value, Stream, stream_events, Partial, before_stream, between_documents, within_document, after_stream, pushed, partial_of}
-use Rattle.yaml_base.specs.Refusal.{begins_collection, ends_collection, IsAccepted, BeginsAccepted, refusal_at, refusal}
-use Rattle.yaml_base.specs.Ready.{is_ready, written, held_back}
-use Rattle.yaml_base.specs.Layout.{Piece, first_standing}
-use Rattle.yaml_base.specs.Steps.{Steps, at_stream, ends_next, steps}
-use Rattle.yaml_base.specs.Pieces.{list_layout, pieces, begins_last, ends_first}
-use Rattle.yaml_base.specs.Pieces as closes
+use Rattle.yaml_base.specs.Refusal.{IsAccepted, BeginsAccepted}
+use Rattle.yaml_base.specs.Ready.{written}
+use Rattle.yaml_base.specs.Layout.{first_standing}
+use Rattle.yaml_base.specs.Steps.{at_stream, steps}
+use Rattle.yaml_base.specs.Pieces.{list_layout}
 use Rattle.yaml_base.specs.Output.{settings_for, text_written, bytes_written, output_of}
 use Rattle.yaml_base.specs.declared.errors.yaml_error_t.{yaml_error_t}
-use Rattle.yaml_base.specs.declared.errors.yaml_error_t.TheVariants.{WriteError, Memory}
-use Rattle.yaml_base.proofs.Accepted.{stands_from_begins, refused_exactly}
+use Rattle.yaml_base.proofs.Accepted.{stands_from_begins}
 use Rattle.yaml_base.proofs.Completions.{front_begins, pushed-append}
-use Rattle.yaml_base.proofs.Prefixes.{prefix_same, prefix_then}
 use Rattle.yaml_base.proofs.Trees.{stream_pushed}
-use Rattle.yaml_base.proofs.PieceLaws.{steps_count, steps-append, steps_same, front_layout, list_layout_steps}
-use Rattle.yaml_base.proofs.Progress.{progress_pieces}
-use Rattle.yaml_base.proofs.QueueLaws.{held_is_short, held_waits, written_within, open_at_written, stream_written}
-use Rattle.yaml_pen.specs.Page.{Page, encoded, IsHandedOut}
+use Rattle.yaml_base.proofs.PieceLaws.{list_layout_steps}
+use Rattle.yaml_base.proofs.QueueLaws.{stream_written}
+use Rattle.yaml_pen.specs.Page.{Page, encoded}
 use Rattle.yaml_emitter.specs.State.{State}
-use Rattle.yaml_emitter.specs.Queue.{is_head_ready}
-use Rattle.yaml_emitter.specs.Processing.{closes_at_once}
-use Rattle.yaml_emitter.specs.StandsAfter.{HoldsPiecesWith, StandsWell, closes_last, StandsRefused, holds_before, holds_part, StandsCut, StandsUnflushed, StandsStopped, StandsFailed, StandsBy, StandsSo}
-use Rattle.yaml_emitter.specs.Promises.{HasText, begins_with_start, most_held, HoldsWaiting, RefusedAt, BeginsOutput, StopsWriting, stops_before, stops_within, OutputBegins, FillsLimit, IsRefusal, HasRoom, EndsExactly}
-use Rattle.yaml_emitter.proofs.Standing.{open_last, own_end, end_next, settings_grown}
-use Rattle.yaml_emitter.proofs.StandingSteps.{awaits_few, closes_last-append}
-use Rattle.yaml_emitter.proofs.StandingFailed.{own_accepted}
-use Rattle.yaml_emitter.proofs.StandingMore.{ready_at, settings_failed}
-use Rattle.yaml_emitter.proofs.StandingTexts.{holds_text, pieces_front, begin_taken, begin_take, front_longer, GoesOn, goes_on, output_begins, output_fills, holds_output}
+use Rattle.yaml_emitter.specs.StandsAfter.{HoldsPiecesWith, StandsWell, StandsSo}
+use Rattle.yaml_emitter.specs.Promises.{RefusedAt, HasRoom, EndsExactly}
+use Rattle.yaml_emitter.proofs.StandingTexts.{holds_text}
 use Rattle.yaml_emitter.proofs.StandingPromises.{stands_well, promises_refusal}
 use Rattle.yaml_emitter.proofs.StandingFull.{drop-all, take-length}
 

@@ -1,5 +1,5 @@
 -- An emitter that failed stands after the events that it was given, and after those that come later.
-use Rattle.std.proofs.Common.{◌≡◌, refl, sym, ap, ◌∙◌, subst, arith, append_assoc, inl, inr}
+use Rattle.std.proofs.Common.{◌≡◌, refl, sym, ap, ◌∙◌, subst, arith, append_assoc, inl}
 use Rattle.std.proofs.lemmas.Bool.{false≢true}
 use Rattle.std.specs.Prelude.{ℕ, suc, Bool, true, false, Option, None, Some, IsSome, Result, Err, List, [], ◌∷◌, ◌++◌, option_and_then, if◌then◌else◌}
 use Rattle.yaml_base.specs.Errors.{refusal_number}

@@ -1,34 +1,24 @@
 -- An emitter stands as each event that is ready is written, and when no more is.
-use Rattle.std.proofs.Common.{◌≡◌, refl, sym, ap, ◌∙◌, subst, arith, append_assoc, append-nil, inl}
-use Rattle.std.proofs.lemmas.List.{take-append-drop, length-take-le, length-append, take_at, drop_at}
-use Rattle.std.proofs.lemmas.List.Concat.{flat_map-append}
-use Rattle.std.specs.Prelude.{suc, ◌+◌, ◌≤◌, Bool, true, false, ◌&&◌, Option, None, Some, Result, Ok, List, [], ◌∷◌, ◌++◌, length, take, drop, option_and_then, if◌then◌else◌}
-use Rattle.yaml_base.specs.Settings.{Encoding, Settings, Effective, effective}
-use Rattle.yaml_base.specs.LineBreaks.{with_breaks_written}
-use Rattle.yaml_base.specs.Cursor.{Cursor, Laid}
-use Rattle.yaml_base.specs.Event.{Event, stream_start, document_start, sequence_start, sequence_end, mapping_start, mapping_end}
-use Rattle.yaml_base.specs.Grammar.{at_item, at_key, at_value, Partial, before_stream, within_document, push, pushed, partial_of}
-use Rattle.yaml_base.specs.Refusal.{begins_collection, ends_collection, BeginsAccepted, refusal}
+use Rattle.std.proofs.Common.{◌≡◌, refl, sym, ap, ◌∙◌, subst, arith, append_assoc}
+use Rattle.std.proofs.lemmas.List.{length-append, take_at, drop_at}
+use Rattle.std.specs.Prelude.{suc, ◌+◌, ◌≤◌, Bool, true, false, ◌&&◌, Some, Ok, List, [], ◌∷◌, ◌++◌, length, take, drop, option_and_then, if◌then◌else◌}
+use Rattle.yaml_base.specs.Settings.{Settings}
+use Rattle.yaml_base.specs.Event.{Event, document_start, sequence_start, mapping_start}
+use Rattle.yaml_base.specs.Grammar.{Partial, before_stream, pushed, partial_of}
+use Rattle.yaml_base.specs.Refusal.{BeginsAccepted}
 use Rattle.yaml_base.specs.Ready.{is_ready, written, awaited, held_back}
-use Rattle.yaml_base.specs.Layout.{Piece, Standing, first_standing, piece_text, text_of, stream_start_piece}
-use Rattle.yaml_base.specs.Steps.{at_stream, Stepped, Steps, step, steps, progress, stage_refusal}
+use Rattle.yaml_base.specs.Layout.{Standing, first_standing}
+use Rattle.yaml_base.specs.Steps.{at_stream, step, steps}
 use Rattle.yaml_base.specs.Pieces.{begins_last, ends_first}
-use Rattle.yaml_base.specs.Output.{encoding_asked, settings_for, text_written, hands_out, hands_out_last}
-use Rattle.yaml_base.specs.declared.errors.yaml_error_t.{yaml_error_t}
-use Rattle.yaml_base.proofs.Accepted.{stands_from_begins, refused_exactly}
+use Rattle.yaml_base.specs.Output.{settings_for, hands_out, hands_out_last}
+use Rattle.yaml_base.proofs.Accepted.{stands_from_begins}
 use Rattle.yaml_base.proofs.Completions.{pushed-append}
-use Rattle.yaml_base.proofs.Pushes.{partial_of_events}
-use Rattle.yaml_base.proofs.QueueLaws.{written_within, open_at_written, no_end_held, held_is_short}
-use Rattle.yaml_base.proofs.Progress.{written-append}
-use Rattle.yaml_base.proofs.PieceLaws.{steps-append, steps_same}
-use Rattle.yaml_base.proofs.Stages.{stage_refusal_after}
-use Rattle.yaml_pen.specs.Page.{Page, encoded, new_page}
-use Rattle.yaml_pen.specs.Wrote.{Wrote, named_text}
-use Rattle.yaml_pen.proofs.Composing.{with_breaks_written-append, wrote_all, wrote_no_error}
+use Rattle.yaml_base.proofs.QueueLaws.{no_end_held, held_is_short}
+use Rattle.yaml_pen.proofs.Composing.{wrote_all}
 use Rattle.yaml_emitter.specs.State.{State, standing_of}
 use Rattle.yaml_emitter.specs.Queue.{is_head_ready}
-use Rattle.yaml_emitter.specs.Processing.{closes_at_once, event_stepped, event_laid, refusal_now, WritesPage, Written, Processed}
-use Rattle.yaml_emitter.specs.StandsAfter.{IsPage, HoldsPieces, IsSettled, HasTaken, StandsWell, closes_last, Reached}
+use Rattle.yaml_emitter.specs.Processing.{closes_at_once, event_stepped, event_laid, Written, Processed}
+use Rattle.yaml_emitter.specs.StandsAfter.{HasTaken, StandsWell, closes_last, Reached}
 use Rattle.yaml_emitter.proofs.Standing.{open_last, taken_same, IsLater, starts_only, not_begun, pushes_later, one_more, next_steps, accepted_next, page_more, writes_later, taken_first}
 
 -- Any later event: its piece is the next.

@@ -1,5 +1,5 @@
 -- A piece without a body is its lead; the pieces of documents as their parts.
-use Rattle.std.proofs.Common.{◌≡◌, ℕ, Bool, true, false, not, ◌&&◌, ◌||◌, ◌==◌, ◌∙◌, Result, refl, sym, ap, append-nil, append_assoc, codes, if◌then◌else◌}
+use Rattle.std.proofs.Common.{◌≡◌, ℕ, Bool, true, false, not, ◌&&◌, ◌||◌, ◌==◌, ◌∙◌, Result, sym, ap, append-nil, append_assoc, if◌then◌else◌}
 use Rattle.yaml_base.specs.Characters.{Text}
 use Rattle.yaml_base.specs.Cursor.{Cursor, Laid, then_laid, new_line}
 use Rattle.yaml_base.specs.Event.{DocumentStart}

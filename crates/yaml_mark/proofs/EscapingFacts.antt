@@ -5,7 +5,7 @@ use Rattle.std.proofs.lemmas.Bool.Decides.{nat_tests}
 use Rattle.std.proofs.lemmas.Grind.{flat_map-append}
 use Rattle.std.proofs.lemmas.List.{take_more, take_all, take-append-drop}
 use Rattle.std.proofs.lemmas.Str.{encodes-chars, encode_ascii, chars-nil, chars_past_char}
-use Rattle.std.specs.Prelude.{◌==◌, ◌||◌, ◌≢◌, nat_le, IsUtf8, flat_map, not, codes}
+use Rattle.std.specs.Prelude.{◌==◌, ◌≢◌, nat_le, IsUtf8, flat_map, not, codes}
 use Rattle.std.specs.List.{list_all}
 use Rattle.std.specs.Str.{chars}
 use lib.Utf8.{encode, encodes}

@@ -1,5 +1,5 @@
 -- What is handed out of a buffer is added to the output.
-use Rattle.std.proofs.Common.{◌≡◌, sym, subst, ℕ, ◌≤◌, Result, Ok, Err, List, length}
+use Rattle.std.proofs.Common.{sym, subst, ℕ, ◌≤◌, Result, Ok, Err, List, length}
 use Rattle.yaml_base.specs.Prefix.{IsPrefix}
 use Rattle.yaml_base.specs.declared.errors.yaml_error_t.{yaml_error_t}
 use Rattle.yaml_base.specs.declared.errors.yaml_error_t.TheVariants.{WriteError, Memory}

@@ -6,10 +6,10 @@ use Rattle.std.proofs.lemmas.List.Folds.{list_all-append}
 use Rattle.std.proofs.lemmas.Str.{IsUtf8-take, chars_from_encodes, encode_ascii}
 use Rattle.std.specs.Int.Bits.{bit_and}
 use Rattle.std.specs.List.{list_all}
-use Rattle.std.specs.Prelude.{ℕ, Bool, true, false, List, [], ◌∷◌, ◌++◌, ◌==◌, ◌||◌, ◌&&◌, not, ◌+◌, ◌-◌, ◌/◌, ◌%◌, ◌<◌, ◌≤◌, ◌⊎◌, codes, length, slice_index, take}
+use Rattle.std.specs.Prelude.{ℕ, Bool, true, false, List, [], ◌∷◌, ◌==◌, ◌||◌, ◌&&◌, not, ◌+◌, ◌-◌, ◌/◌, ◌%◌, ◌<◌, ◌≤◌, ◌⊎◌, codes, slice_index, take}
 use Rattle.std.specs.Str.{IsCharBoundary, chars}
 use lib.Utf8.{scalar, scalars, encode, encodes, next, scalar_cases}
-use Rattle.yaml_base.specs.Characters.{Text, is_among, is_break, is_printable, is_space}
+use Rattle.yaml_base.specs.Characters.{Text, is_among, is_break, is_printable}
 use Rattle.yaml_scalar.specs.Barred.{is_quiet}
 use Rattle.yaml_scalar.specs.declared.classes.TheConstants.{CLASSES}
 use Rattle.yaml_scalar.specs.ByteClasses.{IsFreeRun, Tells, is_free}

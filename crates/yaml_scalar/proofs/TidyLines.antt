@@ -1,19 +1,17 @@
 -- Plain and single-quoted texts are tidy: their lines after the first stand at their indentation, and no space stands before a
 -- break; a plain text has no blank and no break at its edges.
-use Rattle.std.proofs.Common.{◌≡◌, ◌≤◌, refl, sym, ap, ◌∙◌, subst, ℕ, suc, zero, [], ◌∷◌, ◌++◌, Bool, true, false, append-nil, append_assoc, arith}
+use Rattle.std.proofs.Common.{◌≡◌, ◌≤◌, refl, sym, ap, ◌∙◌, subst, ℕ, [], ◌∷◌, ◌++◌, Bool, true, false, append-nil, append_assoc}
 use Rattle.std.specs.Prelude.{Option, ◌==◌, ◌||◌, ◌&&◌, not, if◌then◌else◌}
 use Rattle.std.proofs.lemmas.Bool.{and_from, and_parts, eqb-true, false≢true, true≢false, not-true, or_from, or_parts}
 use Rattle.yaml_base.specs.Analysis.{Charset, allows_plain, allows_single_quoted, bars_plain, bars_single_quoted, begins_unlike_plain, begins_with, is_empty, is_special, somewhere}
 use Rattle.yaml_base.specs.Characters.{Text, is_break, is_space, line_feed, space}
 use Rattle.yaml_base.specs.Cursor.{Cursor, text_laid, is_past_width}
-use Rattle.yaml_base.specs.Event.{plain, single_quoted}
 use Rattle.yaml_base.specs.LineBreaks.{is_read_break}
 use Rattle.yaml_base.specs.Plain.{Kind, spaces, breaks, others, kind_of, is_same_kind, indentation, plain_body}
 use Rattle.yaml_base.specs.ReadPlain.{is_read_white}
 use Rattle.yaml_base.specs.SingleQuoted.{quotes_doubled, single_quote, single_quoted_body}
-use Rattle.yaml_base.specs.TidyBodies.{begins_with_break, ends_white, has_clean_edges, has_deep_lines, has_no_space_before_break}
+use Rattle.yaml_base.specs.TidyBodies.{begins_with_break, ends_white, has_clean_edges}
 use Rattle.yaml_scalar.specs.LineSteps.{begins_kind, step_text, steps_laid}
-use Rattle.yaml_scalar.proofs.BlockParts.{Ordinary}
 use Rattle.yaml_scalar.proofs.BlockReads.{ordinary}
 use Rattle.yaml_scalar.proofs.DeepLines.{AllInk, BeginsInk, Ink, IsEven, deep_break, even_break, even_ink, even_line, even_nothing, even_space, ink_unbroken, space_unbroken}
 use Rattle.yaml_scalar.proofs.LineFolds.{breaks_only, spaces_only}

@@ -1,13 +1,13 @@
 -- A double-quoted body is tidy: each of its lines after the first stands at its indentation and goes on with a character that is
 -- no space, and no space stands before a break.
 use Rattle.std.proofs.Common.{◌≡◌, ◌≤◌, refl, sym, subst, ap, ◌∙◌, ℕ, [], ◌∷◌, ◌++◌, Bool, true, false, append_assoc, inl, inr, arith}
-use Rattle.std.proofs.lemmas.Bool.{and_parts, and_right, eqb-true, false≢true, true≢false}
+use Rattle.std.proofs.lemmas.Bool.{and_parts, and_right, eqb-true, true≢false}
 use Rattle.std.proofs.lemmas.Bool.Decides.{nat_tests}
-use Rattle.std.specs.Prelude.{Option, None, Some, ◌&&◌, ◌==◌, ◌||◌, not, replicate, if◌then◌else◌}
+use Rattle.std.specs.Prelude.{Option, None, Some, ◌&&◌, ◌==◌, replicate, if◌then◌else◌}
 use Rattle.std.specs.List.{list_all}
-use Rattle.yaml_base.specs.Characters.{Text, is_break, is_space, line_feed, space}
+use Rattle.yaml_base.specs.Characters.{Text, is_space, line_feed, space}
 use Rattle.yaml_base.specs.Cursor.{Cursor, Laid, breaks_line, is_past_width, text_laid, then_laid}
-use Rattle.yaml_base.specs.DoubleQuoted.{backslash, character_text, double_fold, double_inside, double_quoted_body, escape_text, is_other, may_fold, needs_escape, quote, quote_laid, space_kept}
+use Rattle.yaml_base.specs.DoubleQuoted.{backslash, character_text, double_fold, double_inside, double_quoted_body, escape_text, is_other, may_fold, needs_escape, quote, space_kept}
 use Rattle.yaml_base.specs.LineBreaks.{is_read_break}
 use Rattle.yaml_base.specs.TidyBodies.{begins_with_break}
 use Rattle.yaml_scalar.proofs.DeepLines.{AllInk, BeginsInk, Ink, IsEven, even_ink, even_line, even_nothing, even_space, ink_unbroken, space_unbroken}

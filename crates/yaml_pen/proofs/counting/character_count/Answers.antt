@@ -1,4 +1,4 @@
-use Rattle.std.proofs.Common.{ap, ◌∙◌, arith, List, ℕ, ◌≡◌, get_or}
+use Rattle.std.proofs.Common.{ap, ◌∙◌, arith, List, ℕ, get_or}
 use Rattle.std.proofs.lemmas.List.{take_all}
 use Rattle.std.specs.Fmt.{is_char_start}
 use Rattle.yaml_pen.proofs.CharacterStarts.{bool_byte_most, starts, starts-chars, starts_step}

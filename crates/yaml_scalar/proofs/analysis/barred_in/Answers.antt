@@ -1,4 +1,4 @@
-use Rattle.std.proofs.Common.{◌≡◌, ℕ, List, sym, ap, subst, ◌∙◌, IsUtf8, chars}
+use Rattle.std.proofs.Common.{ℕ, List, sym, ap, subst, ◌∙◌, IsUtf8, chars}
 use Rattle.std.proofs.lemmas.Bool.{and_parts}
 use Rattle.std.specs.Prelude.{◌&&◌}
 use Rattle.yaml_scalar.specs.Barred.{barred_in, either, seen_barred}

@@ -1,8 +1,8 @@
-use Rattle.std.proofs.Common.{sym, subst, chars, Ok}
+use Rattle.std.proofs.Common.{subst, chars}
 use Rattle.yaml_base.specs.Plain.{Kind}
 use Rattle.yaml_pen.proofs.Composing.{wrote_exit}
 use Rattle.yaml_pen.specs.Wrote.{Wrote}
-use Rattle.yaml_scalar.specs.LineSteps.{seen_kind, steps_laid, written_as}
+use Rattle.yaml_scalar.specs.LineSteps.{steps_laid, written_as}
 use Rattle.yaml_scalar.specs.Width.{limit_where}
 use Rattle.yaml_scalar.proofs.LinesWritten.{wrote_runs}
 use Rattle.yaml_scalar.proofs.RunsWritten.{standing_failed, standing_more}

@@ -1,6 +1,6 @@
-use Rattle.std.proofs.Common.{◌≡◌, ap, ◌∙◌, option_map}
+use Rattle.std.proofs.Common.{ap, ◌∙◌, option_map}
 use Rattle.std.specs.Prelude.{length, nat_lt}
-use Rattle.yaml_base.specs.Event.{CollectionStyle, any_layout}
+use Rattle.yaml_base.specs.Event.{any_layout}
 use Rattle.yaml_base.specs.Refusal.{collection_tag, most_open}
 use Rattle.yaml_base.specs.Tags.{spelling}
 use Rattle.yaml_emitter.specs.WrittenSigns.{seen_tag}

@@ -1,4 +1,4 @@
-use Rattle.std.proofs.Common.{◌≡◌, true, false, ap, ◌∙◌, option_map}
+use Rattle.std.proofs.Common.{true, false, ap, ◌∙◌, option_map}
 use Rattle.yaml_base.specs.Refusal.{scalar_tag}
 use Rattle.yaml_base.specs.Tags.{spelling}
 use Rattle.yaml_emitter.specs.WrittenSigns.{seen_tag}

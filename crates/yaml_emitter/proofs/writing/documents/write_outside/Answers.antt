@@ -1,9 +1,7 @@
 use Rattle.std.proofs.Common.{subst}
 use Rattle.yaml_base.specs.Layout.{Place}
-use Rattle.yaml_base.specs.Settings.{Effective}
 use Rattle.yaml_pen.specs.Wrote.{Wrote}
 use Rattle.yaml_emitter.specs.Given.{seen_effective}
-use Rattle.yaml_emitter.specs.Places.{seen_place}
 use Rattle.yaml_emitter.specs.WrittenSigns.{signs_laid}
 use Rattle.yaml_emitter.proofs.writing.documents.write_outside.Goals as goal
 

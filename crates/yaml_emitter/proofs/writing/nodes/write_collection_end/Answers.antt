@@ -1,10 +1,9 @@
-use Rattle.std.proofs.Common.{refl, sym, true, false}
+use Rattle.std.proofs.Common.{refl}
 use Rattle.yaml_base.specs.Steps.{is_first}
 use Rattle.yaml_emitter.specs.Given.{seen_effective}
 use Rattle.yaml_emitter.specs.NodeEvents.{brackets_of}
 use Rattle.yaml_emitter.specs.Places.{seen_place, seen_role}
 use Rattle.yaml_emitter.specs.WrittenSigns.{signs_laid}
-use Rattle.yaml_base.specs.Cursor.{nothing_laid}
 use Rattle.yaml_emitter.proofs.SignsWritten.{end_in_flow, end_in_block}
 use Rattle.yaml_emitter.proofs.writing.nodes.write_collection_end.Goals as goal
 
