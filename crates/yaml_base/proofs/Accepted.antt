@@ -42,12 +42,14 @@ and_both false b h k = h
 pub stands_from_begins : (canonical : Bool) (events : List Event) → BeginsAccepted canonical events → Stands canonical events
 stands_from_begins canonical events given =
     let rest = given.rest in
-    let whole : partial_of (events ++ rest) ≡ Some (after_stream given.accepted.stream) = ap partial_of (sym given.accepted.is_stream) ∙ stream_pushed given.accepted.stream in
+    let whole : partial_of (events ++ rest) ≡ Some (after_stream given.accepted.stream) = ap partial_of (sym given.accepted.is_stream)
+    ∙ stream_pushed given.accepted.stream in
     let begun = front_begins events rest (after_stream given.accepted.stream) whole in
     record {
       partial = begun.0;
       is_partial = begun.1;
-      sound = and_left (list_all (is_sound canonical) events) (list_all (is_sound canonical) rest) (sym (list_all-append (is_sound canonical) events rest) ∙ given.accepted.sound);
+      sound = and_left (list_all (is_sound canonical) events) (list_all (is_sound canonical) rest)
+          (sym (list_all-append (is_sound canonical) events rest) ∙ given.accepted.sound);
       shallow = (λ front more is. given.accepted.shallow front (more ++ rest) (sym (append_assoc front more rest) ∙ ap (λ events. events ++ rest) is));
     }
 
@@ -65,10 +67,14 @@ easy_both canonical a b h k =
 
 outer_easy : (canonical : Bool) (outer : List Level) → Easy canonical (flat_map outer_missing outer)
 outer_easy canonical [] = record { sound = refl; none = refl }
-outer_easy canonical (at_item c items ∷ outer) = easy_both canonical (sequence_end ∷ []) (flat_map outer_missing outer) (record { sound = refl; none = refl }) (outer_easy canonical outer)
-outer_easy true (at_key c pairs ∷ outer) = easy_both true (empty_scalar ∷ mapping_end ∷ []) (flat_map outer_missing outer) (record { sound = refl; none = refl }) (outer_easy true outer)
-outer_easy false (at_key c pairs ∷ outer) = easy_both false (empty_scalar ∷ mapping_end ∷ []) (flat_map outer_missing outer) (record { sound = refl; none = refl }) (outer_easy false outer)
-outer_easy canonical (at_value c pairs key ∷ outer) = easy_both canonical (mapping_end ∷ []) (flat_map outer_missing outer) (record { sound = refl; none = refl }) (outer_easy canonical outer)
+outer_easy canonical (at_item c items ∷ outer) = easy_both canonical (sequence_end ∷ []) (flat_map outer_missing outer) (record { sound = refl; none = refl })
+    (outer_easy canonical outer)
+outer_easy true (at_key c pairs ∷ outer) = easy_both true (empty_scalar ∷ mapping_end ∷ []) (flat_map outer_missing outer)
+    (record { sound = refl; none = refl }) (outer_easy true outer)
+outer_easy false (at_key c pairs ∷ outer) = easy_both false (empty_scalar ∷ mapping_end ∷ []) (flat_map outer_missing outer)
+    (record { sound = refl; none = refl }) (outer_easy false outer)
+outer_easy canonical (at_value c pairs key ∷ outer) = easy_both canonical (mapping_end ∷ []) (flat_map outer_missing outer)
+    (record { sound = refl; none = refl }) (outer_easy canonical outer)
 
 innermost_easy : (canonical : Bool) (level : Level) → Easy canonical (innermost_missing level)
 innermost_easy true (at_item c no_nodes) = record { sound = refl; none = refl }
@@ -83,12 +89,14 @@ innermost_easy false (at_value c pairs key) = record { sound = refl; none = refl
 levels_easy : (canonical : Bool) (levels : List Level) → Easy canonical (levels_missing levels)
 levels_easy true [] = record { sound = refl; none = refl }
 levels_easy false [] = record { sound = refl; none = refl }
-levels_easy canonical (level ∷ outer) = easy_both canonical (innermost_missing level) (flat_map outer_missing outer) (innermost_easy canonical level) (outer_easy canonical outer)
+levels_easy canonical (level ∷ outer) = easy_both canonical (innermost_missing level) (flat_map outer_missing outer) (innermost_easy canonical level)
+    (outer_easy canonical outer)
 
 missing_easy : (canonical : Bool) (p : Partial) → Easy canonical (missing p)
 missing_easy canonical before_stream = record { sound = refl; none = refl }
 missing_easy canonical (between_documents e d) = record { sound = refl; none = refl }
-missing_easy canonical (within_document e d s levels) = easy_both canonical (levels_missing levels) (document_end true ∷ stream_end ∷ []) (levels_easy canonical levels) (record { sound = refl; none = refl })
+missing_easy canonical (within_document e d s levels) = easy_both canonical (levels_missing levels) (document_end true ∷ stream_end ∷ [])
+    (levels_easy canonical levels) (record { sound = refl; none = refl })
 missing_easy canonical (after_root e d s root) = record { sound = refl; none = refl }
 missing_easy canonical (after_stream t) = record { sound = refl; none = refl }
 
@@ -122,7 +130,8 @@ cut_at (y ∷ a) r (z ∷ b) c same =
     cut_more y z a r b c first (cut_at a r b c others)
 
 -- More events with few enough starts keep a list shallow.
-shallow_cut : (events more : List Event) (front rest : List Event) → IsShallow events → open_count events + starts more ≤ most_open → Cut front rest events more → open_count front ≤ most_open
+shallow_cut : (events more : List Event) (front rest : List Event) → IsShallow events → open_count events + starts more ≤ most_open → Cut front rest events more
+    → open_count front ≤ most_open
 shallow_cut events more front rest shallow few (within x is) = shallow front x is
 shallow_cut events more front rest shallow few (past x is others) =
     let counted : starts x + starts rest ≡ starts more = sym (starts-append x rest) ∙ ap starts others in
@@ -149,7 +158,8 @@ begins_from_stands canonical events stands =
           record {
             stream = stream_completed p;
             is_stream = partial_of_events (completion events) (after_stream (stream_completed p)) (completion_pushed events p stands.is_partial) ∙ same;
-            sound = list_all-append (is_sound canonical) events (missing p) ∙ and_both (list_all (is_sound canonical) events) (list_all (is_sound canonical) (missing p)) stands.sound easy.sound;
+            sound = list_all-append (is_sound canonical) events (missing p)
+                ∙ and_both (list_all (is_sound canonical) events) (list_all (is_sound canonical) (missing p)) stands.sound easy.sound;
             shallow = shallow_more events (missing p) stands.shallow (bound most_open all);
           };
     }
@@ -187,22 +197,26 @@ room_if true true h = refl
 room_if true false h = let no : false ≡ true = h refl in cc
 room_if false room h = refl
 
-pushed_next : (before : List Event) (event : Event) (p : Partial) → partial_of before ≡ Some p → partial_of (before ++ event ∷ []) ≡ option_and_then (λ next. Some next) (push p event)
+pushed_next : (before : List Event) (event : Event) (p : Partial) → partial_of before ≡ Some p
+    → partial_of (before ++ event ∷ []) ≡ option_and_then (λ next. Some next) (push p event)
 pushed_next before event p given =
     pushed-append before (event ∷ []) before_stream ∙ ap (λ o. option_and_then (λ q. pushed q (event ∷ [])) o) given
 
-refusal_here : (canonical : Bool) (before : List Event) (event : Event) (p : Partial) → partial_of before ≡ Some p → refusal canonical before event ≡ refusal_at canonical p event
+refusal_here : (canonical : Bool) (before : List Event) (event : Event) (p : Partial) → partial_of before ≡ Some p
+    → refusal canonical before event ≡ refusal_at canonical p event
 refusal_here canonical before event p given = ap (λ o. option_and_then (λ q. refusal_at canonical q event) o) given
 
 starts_one : (event : Event) (begins : Bool) → begins_collection event ≡ begins → starts (event ∷ []) ≡ cond begins 1 0
 starts_one event true is = ap (λ x. 0 + cond x 1 0) is
 starts_one event false is = ap (λ x. 0 + cond x 1 0) is
 
-few_starts : (before : List Event) (event : Event) (m n : ℕ) (begins : Bool) → begins_collection event ≡ begins → open_count before ≡ n → open_count before ≤ m → (begins ≡ true → n < m) → open_count before + starts (event ∷ []) ≤ m
+few_starts : (before : List Event) (event : Event) (m n : ℕ) (begins : Bool) → begins_collection event ≡ begins → open_count before ≡ n → open_count before ≤ m
+    → (begins ≡ true → n < m) → open_count before + starts (event ∷ []) ≤ m
 few_starts before event m n true is count h room = let k : n < m = room refl in omega (arith, starts_one event true is)
 few_starts before event m n false is count h room = omega (arith, starts_one event false is)
 
-next_stands : (canonical : Bool) (before : List Event) (event : Event) → (given : Stands canonical before) → refusal_at canonical given.partial event ≡ None → Stands canonical (before ++ event ∷ [])
+next_stands : (canonical : Bool) (before : List Event) (event : Event) → (given : Stands canonical before) → refusal_at canonical given.partial event ≡ None
+    → Stands canonical (before ++ event ∷ [])
 next_stands canonical before event given accepted =
     let p = given.partial in
     let names = name_or_tag_fault canonical event in
@@ -218,13 +232,17 @@ next_stands canonical before event given accepted =
     let sound_event : is_sound canonical event ≡ true = ap is_none (or_none names content names_none content_none) in
     let pushes : (q : Partial) × (push p event ≡ Some q) = is_some_value (push p event) (no_fault (is_none (push p event)) (expected p) place_none) in
     let room : begins_collection event ≡ true → length (open_levels p) < most_open =
-    (λ begins. ltb-true (length (open_levels p)) most_open (has_room (begins_collection event) (nat_lt (length (open_levels p)) most_open) (no_fault wrong_depth too_deep depth_none) begins)) in
+    (λ begins. ltb-true (length (open_levels p)) most_open
+    (has_room (begins_collection event) (nat_lt (length (open_levels p)) most_open) (no_fault wrong_depth too_deep depth_none) begins)) in
     let all : open_count before ≤ most_open = given.shallow before [] (append-nil before) in
     record {
       partial = pushes.0;
       is_partial = pushed_next before event p given.is_partial ∙ ap (λ o. option_and_then (λ next. Some next) o) pushes.1;
-      sound = list_all-append (is_sound canonical) before (event ∷ []) ∙ and_both (list_all (is_sound canonical) before) (list_all (is_sound canonical) (event ∷ [])) given.sound (and_both (is_sound canonical event) true sound_event refl);
-      shallow = shallow_more before (event ∷ []) given.shallow (few_starts before event most_open (length (open_levels p)) (begins_collection event) refl (open_count-levels before p given.is_partial) all room);
+      sound = list_all-append (is_sound canonical) before (event ∷ [])
+          ∙ and_both (list_all (is_sound canonical) before) (list_all (is_sound canonical) (event ∷ [])) given.sound
+          (and_both (is_sound canonical event) true sound_event refl);
+      shallow = shallow_more before (event ∷ []) given.shallow
+          (few_starts before event most_open (length (open_levels p)) (begins_collection event) refl (open_count-levels before p given.is_partial) all room);
     }
 
 begins_no_end : (event : Event) → begins_collection event ≡ true → stops (event ∷ []) ≡ 0
@@ -236,24 +254,31 @@ some_pushed : (o : Option Partial) (q : Partial) → option_and_then (λ next. S
 some_pushed None q h = cc
 some_pushed (Some r) q h = refl
 
-room_left : (before : List Event) (event : Event) (m n : ℕ) → 0 < m → open_count before ≡ n → open_count (before ++ event ∷ []) ≤ m → begins_collection event ≡ true → n < m
+room_left : (before : List Event) (event : Event) (m n : ℕ) → 0 < m → open_count before ≡ n → open_count (before ++ event ∷ []) ≤ m
+    → begins_collection event ≡ true → n < m
 room_left before event m n positive count h begins =
     omega (arith, starts-append before (event ∷ []), stops-append before (event ∷ []), starts_one event true begins, begins_no_end event begins)
 
-not_refused : (canonical : Bool) (before : List Event) (event : Event) → (given : Stands canonical before) → Stands canonical (before ++ event ∷ []) → refusal_at canonical given.partial event ≡ None
+not_refused : (canonical : Bool) (before : List Event) (event : Event) → (given : Stands canonical before) → Stands canonical (before ++ event ∷ [])
+    → refusal_at canonical given.partial event ≡ None
 not_refused canonical before event given next =
     let p = given.partial in
     let names = name_or_tag_fault canonical event in
     let content = content_fault canonical event in
     let room = nat_lt (length (open_levels p)) most_open in
-    let sounds : list_all (is_sound canonical) before && list_all (is_sound canonical) (event ∷ []) ≡ true = sym (list_all-append (is_sound canonical) before (event ∷ [])) ∙ next.sound in
-    let sound_event : is_sound canonical event ≡ true = and_left (is_sound canonical event) true (and_right (list_all (is_sound canonical) before) (list_all (is_sound canonical) (event ∷ [])) sounds) in
+    let sounds : list_all (is_sound canonical) before
+    && list_all (is_sound canonical) (event ∷ []) ≡ true = sym (list_all-append (is_sound canonical) before (event ∷ [])) ∙ next.sound in
+    let sound_event : is_sound canonical event
+    ≡ true = and_left (is_sound canonical event) true
+    (and_right (list_all (is_sound canonical) before) (list_all (is_sound canonical) (event ∷ [])) sounds) in
     let own_none : option_or names content ≡ None = is_none_none (option_or names content) sound_event in
-    let stands_at : is_none (push p event) ≡ false = some_pushed (push p event) next.partial (sym (pushed_next before event p given.is_partial) ∙ next.is_partial) in
+    let stands_at : is_none (push p event)
+    ≡ false = some_pushed (push p event) next.partial (sym (pushed_next before event p given.is_partial) ∙ next.is_partial) in
     let all : open_count (before ++ event ∷ []) ≤ most_open = next.shallow (before ++ event ∷ []) [] (append-nil (before ++ event ∷ [])) in
     let deep : begins_collection event && not room ≡ false =
     room_if (begins_collection event) room
-    (λ begins. lt-ltb (length (open_levels p)) most_open (room_left before event most_open (length (open_levels p)) (omega arith) (open_count-levels before p given.is_partial) all begins)) in
+    (λ begins. lt-ltb (length (open_levels p)) most_open
+    (room_left before event most_open (length (open_levels p)) (omega arith) (open_count-levels before p given.is_partial) all begins)) in
     or_none names (option_or (place_fault p event) (option_or content (depth_fault p event))) (none_left names content own_none)
     (or_none (place_fault p event) (option_or content (depth_fault p event)) (ap (λ b. fault_if b (expected p)) stands_at)
     (or_none content (depth_fault p event) (none_right names content own_none) (ap (λ b. fault_if b too_deep) deep)))

@@ -30,7 +30,8 @@ then_false : (a b : Bool) → a ≡ true → a && b ≡ false → b ≡ false
 then_false true b is h = h
 then_false false b is h = cc
 
-inside_here : (breaks12 flow : Bool) (before : Text) (c : ℕ) (rest : Text) → holds_no_plain breaks12 flow (before ++ c ∷ rest) ≡ false → IsPlainInside breaks12 flow c rest
+inside_here : (breaks12 flow : Bool) (before : Text) (c : ℕ) (rest : Text) → holds_no_plain breaks12 flow (before ++ c ∷ rest) ≡ false
+    → IsPlainInside breaks12 flow c rest
 inside_here breaks12 flow [] c rest h =
     let parts = or_parts _ _ (or_parts _ _ h).0 in
     let first = or_parts _ _ parts.0 in
@@ -46,7 +47,8 @@ read_if true b read value h = cc
 read_if false true read value h = cc
 read_if false false read value h = refl
 
-read_holds : (breaks12 flow : Bool) (c : ℕ) (rest value : Text) → read_plain breaks12 flow (c ∷ rest) ≡ Some value → holds_no_plain breaks12 flow (c ∷ rest) ≡ false
+read_holds : (breaks12 flow : Bool) (c : ℕ) (rest value : Text) → read_plain breaks12 flow (c ∷ rest) ≡ Some value
+    → holds_no_plain breaks12 flow (c ∷ rest) ≡ false
 read_holds breaks12 flow c rest value h = read_if (begins_no_plain breaks12 (c ∷ rest)) (holds_no_plain breaks12 flow (c ∷ rest)) _ value h
 
 pub plain_holds_no_sign : PlainHoldsNoSign
@@ -66,7 +68,8 @@ flow_place_other s e limit (as_key first) simple column cursor = refl
 flow_place_other s e limit (as_value true) simple column cursor = refl
 flow_place_other s e limit (as_value false) simple column cursor = refl
 
-place_other : (s : Effective) (e : Encoding) (limit : ℕ) (place : Place) (simple : Bool) (cursor : Cursor) → place_laid (other s e limit) place simple cursor ≡ place_laid s place simple cursor
+place_other : (s : Effective) (e : Encoding) (limit : ℕ) (place : Place) (simple : Bool) (cursor : Cursor)
+    → place_laid (other s e limit) place simple cursor ≡ place_laid s place simple cursor
 place_other s e limit place simple cursor =
     ap (λ (laid : Laid). if place.in_flow then laid else block_place_laid place.role simple place.column cursor)
     (flow_place_other s e limit place.role simple place.column cursor)
@@ -94,7 +97,8 @@ scalar_made place choice content mark lead body =
       standing = record { cursor = body.cursor; mark = mark_after choice.style content.value mark };
     }
 
-scalar_other : (s : Effective) (e : Encoding) (limit : ℕ) (directives : List TagDirective) (place : Place) (simple : Bool) (content : Scalar) (standing : Standing)
+scalar_other : (s : Effective) (e : Encoding) (limit : ℕ) (directives : List TagDirective) (place : Place) (simple : Bool) (content : Scalar)
+    (standing : Standing)
     → scalar_piece (other s e limit) directives place simple content standing ≡ scalar_piece s directives place simple content standing
 scalar_other s e limit directives place simple content standing =
     let choice = choice_of s place simple content in
@@ -102,7 +106,8 @@ scalar_other s e limit directives place simple content standing =
     let indent = deeper s.indent place.column in
     let lead = λ (placed : Laid). lead_after s directives place choice content placed in
     let placed = place_laid s place simple standing.cursor in
-    ap (λ (placed : Laid). scalar_made place choice content standing.mark (lead placed) (body_laid choice.style (other s e limit) width indent content.value (lead placed).cursor))
+    ap (λ (placed : Laid). scalar_made place choice content standing.mark (lead placed)
+    (body_laid choice.style (other s e limit) width indent content.value (lead placed).cursor))
     (place_other s e limit place simple standing.cursor)
     ∙ ap (λ (body : Laid). scalar_made place choice content standing.mark (lead placed) body)
     (body_other choice.style s e limit width indent content.value (lead placed).cursor)
@@ -113,12 +118,15 @@ end_other s e limit brackets false empty column cursor = refl
 end_other s e limit brackets true true column cursor = refl
 end_other s e limit brackets true false column cursor = refl
 
-start_other : (s : Effective) (e : Encoding) (limit : ℕ) (directives : List TagDirective) (frames : List Frame) (undented simple empty : Bool) (role : Role) (start : Collection) (standing : Standing)
-    → start_step (other s e limit) directives frames undented simple empty role start standing ≡ start_step s directives frames undented simple empty role start standing
+start_other : (s : Effective) (e : Encoding) (limit : ℕ) (directives : List TagDirective) (frames : List Frame) (undented simple empty : Bool) (role : Role)
+    (start : Collection) (standing : Standing)
+    → start_step (other s e limit) directives frames undented simple empty role start standing
+    ≡ start_step s directives frames undented simple empty role start standing
 start_other s e limit directives frames undented simple empty role start standing =
     let place = next_place frames in
     ap (λ (placed : Laid).
-    let laid : PieceLaid = lead_alone standing.mark (then_laid placed (properties_laid s.portable directives start.anchor (collection_tag s.canonical start) false)) in
+    let laid : PieceLaid = lead_alone standing.mark
+    (then_laid placed (properties_laid s.portable directives start.anchor (collection_tag s.canonical start) false)) in
     let made : Stepped = record {
       laid = laid;
       stage = at_node directives (frame_opened s place (is_written_in_flow s place start empty) undented simple role laid ∷ frames);
@@ -135,7 +143,8 @@ end_step_other s e limit brackets directives (frame ∷ outer) standing =
     made)
     (end_other s e limit brackets frame.place.in_flow (is_first frame.place.role) (next_place outer).column standing.cursor)
 
-node_other : (s : Effective) (e : Encoding) (limit : ℕ) (directives : List TagDirective) (frames : List Frame) (event : Event) (empty : Bool) (standing : Standing)
+node_other : (s : Effective) (e : Encoding) (limit : ℕ) (directives : List TagDirective) (frames : List Frame) (event : Event) (empty : Bool)
+    (standing : Standing)
     → node_step (other s e limit) directives frames event empty standing ≡ node_step s directives frames event empty standing
 node_other s e limit directives frames (alias name) empty standing =
     let simple = is_key (next_place frames).role && (not s.canonical && is_simple_alias name) in
@@ -156,7 +165,8 @@ node_other s e limit directives frames sequence_end empty standing = end_step_ot
 node_other s e limit directives frames mapping_end empty standing = end_step_other s e limit curly directives frames standing
 node_other s e limit directives frames event empty standing = refl
 
-step_other : (s : Effective) (e : Encoding) (limit : ℕ) (stage : Stage) (event : Event) (empty : Bool) (standing : Standing) → step (other s e limit) stage event empty standing ≡ step s stage event empty standing
+step_other : (s : Effective) (e : Encoding) (limit : ℕ) (stage : Stage) (event : Event) (empty : Bool) (standing : Standing)
+    → step (other s e limit) stage event empty standing ≡ step s stage event empty standing
 step_other s e limit (at_node directives frames) event empty standing = node_other s e limit directives frames event empty standing
 step_other s e limit at_stream (stream_start encoding) empty standing = refl
 step_other s e limit (at_document first) (document_start start) empty standing = refl

@@ -6,7 +6,8 @@ use Rattle.yaml_base.specs.Event.{any_style, DocumentStart, Event, stream_end, d
 use Rattle.yaml_base.specs.Grammar.{Node, scalar_node, sequence_node, mapping_node, no_nodes, nodes_and, no_pairs, pairs_and, Documents, no_documents, documents_and, Stream, Level, at_item, at_key, at_value, Partial, before_stream, between_documents, within_document, after_root, after_stream, with_node, push, pushed, partial_of}
 use Rattle.yaml_base.specs.Pieces.{outer_missing, levels_missing, missing, missing_after, completion}
 
-append_next : (a b : List Event) (next : Option Partial) → ((q : Partial) → pushed q (a ++ b) ≡ option_and_then (λ r. pushed r b) (pushed q a)) → option_and_then (λ q. pushed q (a ++ b)) next ≡ option_and_then (λ q. pushed q b) (option_and_then (λ q. pushed q a) next)
+append_next : (a b : List Event) (next : Option Partial) → ((q : Partial) → pushed q (a ++ b) ≡ option_and_then (λ r. pushed r b) (pushed q a))
+    → option_and_then (λ q. pushed q (a ++ b)) next ≡ option_and_then (λ q. pushed q b) (option_and_then (λ q. pushed q a) next)
 append_next a b None others = refl
 append_next a b (Some q) others = others q
 
@@ -49,13 +50,15 @@ stream_completed (within_document e d s levels) = with_document e d s (root_comp
 stream_completed (after_root e d s root) = with_document e d s root
 stream_completed (after_stream t) = t
 
-outer_pushed : (outer : List Level) (n : Node) (e : Option Encoding) (d : Documents) (s : DocumentStart) (rest : List Event) → pushed (with_node e d s outer n) (flat_map outer_missing outer ++ rest) ≡ pushed (after_root e d s (root_around outer n)) rest
+outer_pushed : (outer : List Level) (n : Node) (e : Option Encoding) (d : Documents) (s : DocumentStart) (rest : List Event)
+    → pushed (with_node e d s outer n) (flat_map outer_missing outer ++ rest) ≡ pushed (after_root e d s (root_around outer n)) rest
 outer_pushed [] n e d s rest = refl
 outer_pushed (at_item c items ∷ outer) n e d s rest = outer_pushed outer (sequence_node c (nodes_and items n)) e d s rest
 outer_pushed (at_key c pairs ∷ outer) n e d s rest = outer_pushed outer (mapping_node c (pairs_and pairs n empty_node)) e d s rest
 outer_pushed (at_value c pairs key ∷ outer) n e d s rest = outer_pushed outer (mapping_node c (pairs_and pairs key n)) e d s rest
 
-levels_pushed : (levels : List Level) (e : Option Encoding) (d : Documents) (s : DocumentStart) (rest : List Event) → pushed (within_document e d s levels) (levels_missing levels ++ rest) ≡ pushed (after_root e d s (root_completed levels)) rest
+levels_pushed : (levels : List Level) (e : Option Encoding) (d : Documents) (s : DocumentStart) (rest : List Event)
+    → pushed (within_document e d s levels) (levels_missing levels ++ rest) ≡ pushed (after_root e d s (root_completed levels)) rest
 levels_pushed [] e d s rest = refl
 levels_pushed (at_item c no_nodes ∷ outer) e d s rest = outer_pushed outer (sequence_node c (nodes_and no_nodes empty_node)) e d s rest
 levels_pushed (at_item c (nodes_and items last) ∷ outer) e d s rest = outer_pushed outer (sequence_node c (nodes_and items last)) e d s rest
@@ -70,7 +73,8 @@ missing_pushed (within_document e d s levels) = levels_pushed levels e d s (docu
 missing_pushed (after_root e d s root) = refl
 missing_pushed (after_stream t) = refl
 
-pub completion_pushed : (events : List Event) (p : Partial) → partial_of events ≡ Some p → partial_of (completion events) ≡ Some (after_stream (stream_completed p))
+pub completion_pushed : (events : List Event) (p : Partial) → partial_of events ≡ Some p
+    → partial_of (completion events) ≡ Some (after_stream (stream_completed p))
 completion_pushed events p begins =
     pushed-append events (missing_after (partial_of events)) before_stream
     ∙ ap (λ (o : Option Partial). option_and_then (λ q. pushed q (missing_after o)) o) begins

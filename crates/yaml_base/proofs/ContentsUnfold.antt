@@ -33,7 +33,8 @@ label_unstyled None = refl
 label_unstyled (Some node) = ap (λ (kind : Kind). Some (record { tag = Some node.tag; kind = kind })) (kind_unstyled node.held)
 
 -- a label without its style, from the label
-labels_same : (found : Option GraphNode) (label : Label) → option_map (label_of true) found ≡ Some label → option_map (label_of false) found ≡ Some (unstyled label)
+labels_same : (found : Option GraphNode) (label : Label) → option_map (label_of true) found ≡ Some label
+    → option_map (label_of false) found ≡ Some (unstyled label)
 labels_same found label is = label_unstyled found ∙ ap (option_map unstyled) is
 
 -- a node of a graph has a tag, so it is told
@@ -45,7 +46,8 @@ told_some : (tag : Option Text) (text : Text) (implicit : Bool) → Some text �
 told_some None text implicit is = cc
 told_some (Some other) text implicit is = refl
 
-tag_kept : (found : Option GraphNode) (label : Label) (implicit : Bool) → option_map (label_of true) found ≡ Some label → label.tag ≡ tag_told (scalar_tag label.tag implicit)
+tag_kept : (found : Option GraphNode) (label : Label) (implicit : Bool) → option_map (label_of true) found ≡ Some label
+    → label.tag ≡ tag_told (scalar_tag label.tag implicit)
 unfolding tag_in
 tag_kept None label implicit is = cc
 tag_kept (Some node) label implicit is = told_some label.tag node.tag implicit (ap tag_in is)
@@ -56,13 +58,15 @@ scalar_label found label implicit is =
     labels_same found label is ∙ ap (λ (tag : Option Text). Some (record { tag = tag; kind = unstyled_kind label.kind })) (tag_kept found label implicit is)
 
 mutual
-  content_fits : (graph : Graph) (tree : Node) (placed : Placed) → HasShape true graph placed (node_shape_of tree) → HasShape false graph placed (content_shape (node_content tree))
+  content_fits : (graph : Graph) (tree : Node) (placed : Placed) → HasShape true graph placed (node_shape_of tree)
+      → HasShape false graph placed (content_shape (node_content tree))
   content_fits graph (alias_node name) (alias_placed told number) fits = fits
   content_fits graph (alias_node name) (node_placed anchor number below) fits = fits
   content_fits graph (scalar_node content) (alias_placed told number) fits = fits
   content_fits graph (scalar_node content) (node_placed anchor number none_placed) fits = (
     fits.0,
-    scalar_label (node_numbered graph number) (record { tag = content.tag; kind = scalar_kind content.value (Some content.style) }) content.quoted_implicit fits.1,
+    scalar_label (node_numbered graph number)
+        (record { tag = content.tag; kind = scalar_kind content.value (Some content.style) }) content.quoted_implicit fits.1,
     fits.2,
     fits.3,
   )
@@ -82,13 +86,15 @@ mutual
     content_pairs_fit graph pairs below fits.3,
   )
 
-  contents_fit : (graph : Graph) (items : Nodes) (below : PlacedAll) → HaveShapes true graph below (nodes_shapes items) → HaveShapes false graph below (contents_shapes (nodes_content items))
+  contents_fit : (graph : Graph) (items : Nodes) (below : PlacedAll) → HaveShapes true graph below (nodes_shapes items)
+      → HaveShapes false graph below (contents_shapes (nodes_content items))
   contents_fit graph no_nodes none_placed fit = fit
   contents_fit graph no_nodes (placed_and before last) fit = fit
   contents_fit graph (nodes_and items item) none_placed fit = fit
   contents_fit graph (nodes_and items item) (placed_and before last) fit = (contents_fit graph items before fit.0, content_fits graph item last fit.1)
 
-  content_pairs_fit : (graph : Graph) (pairs : Pairs) (below : PlacedAll) → HaveShapes true graph below (pairs_shapes pairs) → HaveShapes false graph below (content_pairs_shapes (pairs_content pairs))
+  content_pairs_fit : (graph : Graph) (pairs : Pairs) (below : PlacedAll) → HaveShapes true graph below (pairs_shapes pairs)
+      → HaveShapes false graph below (content_pairs_shapes (pairs_content pairs))
   content_pairs_fit graph no_pairs none_placed fit = fit
   content_pairs_fit graph no_pairs (placed_and before last) fit = fit
   content_pairs_fit graph (pairs_and pairs key value) none_placed fit = fit
@@ -120,7 +126,13 @@ record Follow (graphs : List Graph) (before : Documents) : Type 0 where
 
 follow : (graphs : List Graph) (before : Documents) → All IsDocument graphs → Follow graphs before
 follow [] before are =
-    record { all = before; contents = []; events = sym (append-nil (documents_events before)); content = sym (append-nil (documents_content before)); unfolds = tt }
+    record {
+      all = before;
+      contents = [];
+      events = sym (append-nil (documents_events before));
+      content = sym (append-nil (documents_content before));
+      unfolds = tt;
+    }
 follow (graph ∷ graphs) before are =
     let first = document_unfolds graph (All-head IsDocument graph graphs are) in
     let rest = follow graphs (documents_and before first.document) (All-tail IsDocument graph graphs are) in

@@ -90,8 +90,10 @@ text_of_units-units_of (c ∷ rest) s =
 pub decode-encode : (encoding : Encoding) (text : Text) → all_scalars text ≡ true → decode (Some encoding) (encode (Some encoding) text) ≡ text
 unfolding decode
 decode-encode utf8 text s = ap chars (text_bytes-utf8 text) ∙ chars-encodes text s
-decode-encode utf16_little text s = ap text_of_units (ap units_lower_first (text_bytes-little text) ∙ units_lower_first-lower_first (units_of text)) ∙ text_of_units-units_of text s
-decode-encode utf16_big text s = ap text_of_units (ap units_upper_first (text_bytes-big text) ∙ units_upper_first-upper_first (units_of text)) ∙ text_of_units-units_of text s
+decode-encode utf16_little text s = ap text_of_units (ap units_lower_first (text_bytes-little text) ∙ units_lower_first-lower_first (units_of text))
+    ∙ text_of_units-units_of text s
+decode-encode utf16_big text s = ap text_of_units (ap units_upper_first (text_bytes-big text) ∙ units_upper_first-upper_first (units_of text))
+    ∙ text_of_units-units_of text s
 
 -- So texts with the same bytes are the same.
 pub one_text : OneText

@@ -24,18 +24,21 @@ count_cons : {X : Type 0} (test : X → Bool) (x : X) (xs : List X) → count_by
 count_cons test x xs = sum_by-append (λ y. cond (test y) 1 0) (x ∷ []) xs ∙ omega arith
 
 -- by a test that tells the place of one node
-places_counted : (named : ℕ → Option Text) (test : Place → Bool) (number : ℕ) → ((other : ℕ) → test (node_place (named other) other) ≡ (number == other)) → ((name : Text) (other : ℕ) → test (alias_place name other) ≡ false)
+places_counted : (named : ℕ → Option Text) (test : Place → Bool) (number : ℕ) → ((other : ℕ) → test (node_place (named other) other) ≡ (number == other))
+    → ((name : Text) (other : ℕ) → test (alias_place name other) ≡ false)
     → (walk : List Step) → count_by test (filter_map (place_of named) walk) ≡ count_by (is_entry_of number) walk
 places_counted named test number nodes aliases [] = refl
 places_counted named test number nodes aliases (enters other ∷ walk) =
     let rest = places_counted named test number nodes aliases walk in
-    let now : ◌≡◌ {A = ℕ} (cond (test (node_place (named other) other)) 1 0) (cond (number == other) 1 0) = ap {B = ℕ} (λ (b : Bool). cond b 1 0) (nodes other) in
+    let now : ◌≡◌ {A = ℕ} (cond (test (node_place (named other) other)) 1 0) (cond (number == other) 1 0) = ap {B = ℕ} (λ (b : Bool). cond b 1 0)
+    (nodes other) in
     count_cons test (node_place (named other) other) (filter_map (place_of named) walk)
     ∙ omega (arith, rest, now)
     ∙ sym (count_cons (is_entry_of number) (enters other) walk)
 places_counted named test number nodes aliases (meets_again other ∷ walk) =
     let rest = places_counted named test number nodes aliases walk in
-    let now : ◌≡◌ {A = ℕ} (cond (test (alias_place (unwrap_or (named other) []) other)) 1 0) 0 = ap {B = ℕ} (λ (b : Bool). cond b 1 0) (aliases (unwrap_or (named other) []) other) in
+    let now : ◌≡◌ {A = ℕ} (cond (test (alias_place (unwrap_or (named other) []) other)) 1 0) 0 = ap {B = ℕ} (λ (b : Bool). cond b 1 0)
+    (aliases (unwrap_or (named other) []) other) in
     count_cons test (alias_place (unwrap_or (named other) []) other) (filter_map (place_of named) walk)
     ∙ omega (arith, rest, now)
     ∙ sym (count_cons (is_entry_of number) (meets_again other) walk)
@@ -45,7 +48,8 @@ places_counted named test number nodes aliases (leaves other ∷ walk) =
 -- ---- names
 
 -- a node's anchor is carried by its place alone
-carried_by : (walk : List Step) (number : ℕ) (name : Text) → anchor_of walk number ≡ Some name → (other : ℕ) (anchor : Option Text) → anchor_of walk other ≡ anchor
+carried_by : (walk : List Step) (number : ℕ) (name : Text) → anchor_of walk number ≡ Some name → (other : ℕ) (anchor : Option Text)
+    → anchor_of walk other ≡ anchor
     → carries name (node_place anchor other) ≡ (number == other)
 carried_by walk number name is other None none =
     sym (ne_eqb number other (λ same. let both : Some name ≡ None = sym is ∙ ap (anchor_of walk) same ∙ none in cc))
@@ -78,7 +82,8 @@ again_met number (enters other ∷ walk) is = ap (λ (b : Bool). number == other
 again_met number (leaves other ∷ walk) is = again_met number walk is
 again_met number (meets_again other ∷ walk) is =
     elim (or_cases (other == number) (list_any (is_again number) walk) is) as (λ _. (number == other || list_any (is_meeting_of number) walk) ≡ true) [
-      | inl now ↦ ap (λ (b : Bool). b || list_any (is_meeting_of number) walk) (same_from_decides (number == other) true (Decides-eqb number other) (λ _. sym (eqb-true other number now), λ _. refl))
+      | inl now ↦ ap (λ (b : Bool). b || list_any (is_meeting_of number) walk)
+          (same_from_decides (number == other) true (Decides-eqb number other) (λ _. sym (eqb-true other number now), λ _. refl))
       | inr later ↦ ap (λ (b : Bool). number == other || b) (again_met number walk later) ∙ or-true (number == other)
     ]
 
@@ -95,34 +100,46 @@ names_shared graph walk orderly number again =
       name = named.0;
       is = named.1;
       once =
-          places_counted (anchor_of walk) (carries named.0) number (λ other. carried_by walk number named.0 named.1 other (anchor_of walk other) refl) (λ name other. refl) walk
+          places_counted (anchor_of walk) (carries named.0) number (λ other. carried_by walk number named.0 named.1 other (anchor_of walk other) refl)
+          (λ name other. refl) walk
           ∙ orderly.once number ∙ ap {B = ℕ} (λ (b : Bool). cond b 1 0) (orderly.met number (again_met number walk again));
     }
 
 -- a node that was entered has its place
-has_place : (named : ℕ → Option Text) (number : ℕ) (walk : List Step) → list_any (is_entry_of number) walk ≡ true → Contains (filter_map (place_of named) walk) (node_place (named number) number)
+has_place : (named : ℕ → Option Text) (number : ℕ) (walk : List Step) → list_any (is_entry_of number) walk ≡ true
+    → Contains (filter_map (place_of named) walk) (node_place (named number) number)
 has_place named number [] some = cc
 has_place named number (enters other ∷ walk) some =
-    elim (or_cases (number == other) (list_any (is_entry_of number) walk) some) as (λ _. Contains (node_place (named other) other ∷ filter_map (place_of named) walk) (node_place (named number) number)) [
+    elim (or_cases (number == other) (list_any (is_entry_of number) walk) some) as
+    (λ _. Contains (node_place (named other) other ∷ filter_map (place_of named) walk) (node_place (named number) number)) [
       | inl now ↦
-          subst (λ (n : ℕ). Contains (node_place (named other) other ∷ filter_map (place_of named) walk) (node_place (named n) n)) (sym (eqb-true number other now))
-          (Contains-append_left (node_place (named other) other ∷ []) (filter_map (place_of named) walk) (node_place (named other) other) (0, omega arith, refl))
-      | inr later ↦ Contains-append_right (node_place (named other) other ∷ []) (filter_map (place_of named) walk) (node_place (named number) number) (has_place named number walk later)
+          subst (λ (n : ℕ). Contains (node_place (named other) other ∷ filter_map (place_of named) walk) (node_place (named n) n))
+          (sym (eqb-true number other now))
+          (Contains-append_left (node_place (named other) other ∷ []) (filter_map (place_of named) walk) (node_place (named other) other)
+          (0, omega arith, refl))
+      | inr later ↦ Contains-append_right (node_place (named other) other ∷ []) (filter_map (place_of named) walk) (node_place (named number) number)
+          (has_place named number walk later)
     ]
 has_place named number (leaves other ∷ walk) some = has_place named number walk some
 has_place named number (meets_again other ∷ walk) some =
-    Contains-append_right (alias_place (unwrap_or (named other) []) other ∷ []) (filter_map (place_of named) walk) (node_place (named number) number) (has_place named number walk some)
+    Contains-append_right (alias_place (unwrap_or (named other) []) other ∷ []) (filter_map (place_of named) walk) (node_place (named number) number)
+    (has_place named number walk some)
 
 -- one more place
-place_more : (named : ℕ → Option Text) (before : List Step) (step : Step) → filter_map (place_of named) (before ++ step ∷ []) ≡ filter_map (place_of named) before ++ cons_option (place_of named step) []
+place_more : (named : ℕ → Option Text) (before : List Step) (step : Step)
+    → filter_map (place_of named) (before ++ step ∷ []) ≡ filter_map (place_of named) before ++ cons_option (place_of named step) []
 place_more named before step = filter_map-append (place_of named) before (step ∷ [])
 
-alias_named : (named : ℕ → Option Text) (before : List Step) (all : List Place) (number : ℕ) (name : Text) → named number ≡ Some name → count_by (carries name) all ≡ 1
+alias_named : (named : ℕ → Option Text) (before : List Step) (all : List Place) (number : ℕ) (name : Text) → named number ≡ Some name
+    → count_by (carries name) all ≡ 1
     → list_any (is_entry_of number) before ≡ true → IsNamed all (filter_map (place_of named) before) (alias_place (unwrap_or (named number) []) number)
 alias_named named before all number name is once entered =
     let told : unwrap_or (named number) [] ≡ name = ap (λ (o : Option Text). unwrap_or o []) is in
-    subst (λ (alias : Text). IsNamed all (filter_map (place_of named) before) (alias_place alias number)) (sym told)
-    (once, subst (λ (anchor : Option Text). Contains (filter_map (place_of named) before) (node_place anchor number)) is (has_place named number before entered))
+    subst (λ (alias : Text). IsNamed all (filter_map (place_of named) before) (alias_place alias number)) (sym told) (
+      once,
+      subst (λ (anchor : Option Text). Contains (filter_map (place_of named) before) (node_place anchor number)) is
+          (has_place named number before entered),
+    )
 
 all_named : (walk before rest : List Step) → FollowEntries before rest → ((number : ℕ) → list_any (is_again number) rest ≡ true → HasName walk number)
     → AreNamed (filter_map (place_of (anchor_of walk)) walk) (filter_map (place_of (anchor_of walk)) before) (filter_map (place_of (anchor_of walk)) rest)
@@ -135,19 +152,23 @@ all_named walk before (enters number ∷ rest) follow names =
     )
 all_named walk before (leaves number ∷ rest) follow names =
     let all = filter_map (place_of (anchor_of walk)) walk in
-    subst (λ (earlier : List Place). AreNamed all earlier (filter_map (place_of (anchor_of walk)) rest)) (place_more (anchor_of walk) before (leaves number) ∙ append-nil (filter_map (place_of (anchor_of walk)) before))
+    subst (λ (earlier : List Place). AreNamed all earlier (filter_map (place_of (anchor_of walk)) rest))
+    (place_more (anchor_of walk) before (leaves number) ∙ append-nil (filter_map (place_of (anchor_of walk)) before))
     (all_named walk (before ++ leaves number ∷ []) rest follow.1 names)
 all_named walk before (meets_again number ∷ rest) follow names =
     let all = filter_map (place_of (anchor_of walk)) walk in
     let has_name = names number (ap (λ (b : Bool). b || list_any (is_again number) rest) ((Decides-eqb number number).1 refl)) in (
       alias_named (anchor_of walk) before all number has_name.name has_name.is has_name.once follow.0,
-      subst (λ (earlier : List Place). AreNamed all earlier (filter_map (place_of (anchor_of walk)) rest)) (place_more (anchor_of walk) before (meets_again number))
-          (all_named walk (before ++ meets_again number ∷ []) rest follow.1 (λ other later. names other (ap (λ (b : Bool). number == other || b) later ∙ or-true (number == other)))),
+      subst (λ (earlier : List Place). AreNamed all earlier (filter_map (place_of (anchor_of walk)) rest))
+          (place_more (anchor_of walk) before (meets_again number))
+          (all_named walk (before ++ meets_again number ∷ []) rest follow.1
+          (λ other later. names other (ap (λ (b : Bool). number == other || b) later ∙ or-true (number == other)))),
     )
 
 -- ---- nodes that are reached are entered, and no others
 
-reached_entered : (graph : Graph) (walk : List Step) (placed : Placed) → IsOrderly graph walk → Fits (anchor_of walk) graph placed → walk ≡ placed_steps placed → list_any (is_meeting_of 1) walk ≡ true
+reached_entered : (graph : Graph) (walk : List Step) (placed : Placed) → IsOrderly graph walk → Fits (anchor_of walk) graph placed → walk ≡ placed_steps placed
+    → list_any (is_meeting_of 1) walk ≡ true
     → {number : ℕ} → IsReached graph number → list_any (is_entry_of number) walk ≡ true
 reached_entered graph walk placed orderly fits is root first_reached = orderly.met 1 root
 reached_entered graph walk placed orderly fits is root (child_reached {number = parent} {child = child} reached within) =
@@ -161,21 +182,27 @@ not_entered false unreached = refl
 
 -- ---- the law
 
-tree_unfolds : (graph : Graph) (walk : List Step) (made : Walks (anchor_of walk) graph [] walk 1) → IsOrderly graph walk → TreeUnfolds graph (node_at graph made.placed)
+tree_unfolds : (graph : Graph) (walk : List Step) (made : Walks (anchor_of walk) graph [] walk 1) → IsOrderly graph walk
+    → TreeUnfolds graph (node_at graph made.placed)
 tree_unfolds graph walk made orderly =
     let named = anchor_of walk in
-    let at : places made.placed ≡ filter_map (place_of named) walk = places_are named graph made.placed made.fits ∙ ap (filter_map (place_of named)) (sym made.adds) in
+    let at : places made.placed ≡ filter_map (place_of named) walk = places_are named graph made.placed made.fits
+    ∙ ap (filter_map (place_of named)) (sym made.adds) in
     let root : list_any (is_meeting_of 1) walk ≡ true =
-    ap (list_any (is_meeting_of 1)) made.adds ∙ subst (λ (n : ℕ). list_any (is_meeting_of n) (placed_steps made.placed) ≡ true) made.root (root_met made.placed) in
-    let counted = λ (number : ℕ). ap (count_by (is_place_of number)) at ∙ places_counted named (is_place_of number) number (λ other. refl) (λ name other. refl) walk ∙ orderly.once number in
+    ap (list_any (is_meeting_of 1)) made.adds
+    ∙ subst (λ (n : ℕ). list_any (is_meeting_of n) (placed_steps made.placed) ≡ true) made.root (root_met made.placed) in
+    let counted = λ (number : ℕ). ap (count_by (is_place_of number)) at
+    ∙ places_counted named (is_place_of number) number (λ other. refl) (λ name other. refl) walk ∙ orderly.once number in
     record {
       placed = made.placed;
       root = made.root;
       fits = node_at_shape named graph made.placed made.fits;
       named = subst (λ (all : List Place). AreNamed all [] all) (sym at) (all_named walk [] walk orderly.follow (names_shared graph walk orderly));
-      once = λ number reached. counted number ∙ ap {B = ℕ} (λ (b : Bool). cond b 1 0) (reached_entered graph walk made.placed orderly made.fits made.adds root reached);
+      once = λ number reached. counted number
+          ∙ ap {B = ℕ} (λ (b : Bool). cond b 1 0) (reached_entered graph walk made.placed orderly made.fits made.adds root reached);
       no_other = λ number unreached.
-          counted number ∙ ap {B = ℕ} (λ (b : Bool). cond b 1 0) (not_entered (list_any (is_entry_of number) walk) (λ entered. unreached (orderly.reached number entered)));
+          counted number ∙ ap {B = ℕ} (λ (b : Bool). cond b 1 0)
+          (not_entered (list_any (is_entry_of number) walk) (λ entered. unreached (orderly.reached number entered)));
     }
 
 some_nodes : (count : ℕ) → (count == 0) ≡ false → 1 ≤ count
@@ -188,12 +215,14 @@ document_unfolds graph is =
     let made = walk_placed (anchor_of walk) graph is.whole (some_nodes (length graph.nodes) is.has_nodes) in
     let orderly = orderly_steps graph (suc (length graph.nodes)) 1 first_reached in
     let root = node_at graph made.placed in
-    let events : node_events root ≡ flat_map (step_events graph walk) walk = node_at_events graph walk made.placed made.fits ∙ ap (flat_map (step_events graph walk)) (sym made.adds) in
+    let events : node_events root ≡ flat_map (step_events graph walk) walk = node_at_events graph walk made.placed made.fits
+    ∙ ap (flat_map (step_events graph walk)) (sym made.adds) in
     record {
       document = record { start = graph.start; root = root; end_implicit = graph.end_implicit };
       is_document =
           ap (λ (inside : List Event). document_start graph.start ∷ (inside ++ document_end graph.end_implicit ∷ [])) events
-          ∙ sym (ap (λ (none : Bool). if none then [] else document_start graph.start ∷ (flat_map (step_events graph walk) walk ++ document_end graph.end_implicit ∷ [])) is.has_nodes);
+          ∙ sym (ap (λ (none : Bool). if none then [] else
+          document_start graph.start ∷ (flat_map (step_events graph walk) walk ++ document_end graph.end_implicit ∷ [])) is.has_nodes);
       start = refl;
       end_implicit = refl;
       unfolds = tree_unfolds graph walk made orderly;

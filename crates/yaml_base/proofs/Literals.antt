@@ -13,7 +13,8 @@ are_plain bytes = list_all (λ b. nat_lt b 128 && not (is_break b)) bytes
 
 plain_ascii : (bytes : List ℕ) → are_plain bytes ≡ true → IsAscii bytes
 plain_ascii [] h i = omega arith
-plain_ascii (b ∷ bytes) h zero = ltb-true b 128 (and_parts (nat_lt b 128) (not (is_break b)) (and_parts (nat_lt b 128 && not (is_break b)) (are_plain bytes) h).0).0
+plain_ascii (b ∷ bytes) h zero = ltb-true b 128
+    (and_parts (nat_lt b 128) (not (is_break b)) (and_parts (nat_lt b 128 && not (is_break b)) (are_plain bytes) h).0).0
 plain_ascii (b ∷ bytes) h (suc i) = plain_ascii bytes (and_parts (nat_lt b 128 && not (is_break b)) (are_plain bytes) h).1 i
 
 plain_unbroken : (bytes : List ℕ) → are_plain bytes ≡ true → list_any is_break bytes ≡ false

@@ -15,23 +15,28 @@ use Rattle.yaml_base.specs.declared.nodes.yaml_node_t.{yaml_node_t}
 
 -- at a place of the list: the node's numbers, and then those behind it
 at_place : {A : Type 0} (count i : ℕ) (nodes : List (yaml_node_t A)) (node : yaml_node_t A) → i < length nodes → node ≡ get_or nodes i node
-    → first_outside count (all_numbers (drop i nodes)) ≡ option_or (first_outside count (numbers_of node.contents)) (first_outside count (all_numbers (drop (i + 1) nodes)))
+    → first_outside count (all_numbers (drop i nodes))
+    ≡ option_or (first_outside count (numbers_of node.contents)) (first_outside count (all_numbers (drop (i + 1) nodes)))
 at_place {A} count i nodes node within is =
-    let opened : drop i nodes ≡ node ∷ drop (suc i) nodes = drop-cons nodes i node within ∙ ap (λ (first : yaml_node_t A). first ∷ drop (suc i) nodes) (sym is) in
+    let opened : drop i nodes ≡ node ∷ drop (suc i) nodes = drop-cons nodes i node within
+    ∙ ap (λ (first : yaml_node_t A). first ∷ drop (suc i) nodes) (sym is) in
     ap (λ (rest : List (yaml_node_t A)). first_outside count (all_numbers rest)) opened
     ∙ find-append (λ number. not (names_node count number)) (numbers_of node.contents) (all_numbers (drop (suc i) nodes))
     ∙ ap (λ (n : ℕ). option_or (first_outside count (numbers_of node.contents)) (first_outside count (all_numbers (drop n nodes)))) (sym (add-one i))
 
 -- a node that holds one gives it
-pub held_outside : {A : Type 0} (count i : ℕ) (nodes : List (yaml_node_t A)) (node : yaml_node_t A) (found : Option ℤ) → i < length nodes → node ≡ get_or nodes i node
+pub held_outside : {A : Type 0} (count i : ℕ) (nodes : List (yaml_node_t A)) (node : yaml_node_t A) (found : Option ℤ) → i < length nodes
+    → node ≡ get_or nodes i node
     → found ≡ first_outside count (numbers_of node.contents) → is_some found ≡ true → first_outside count (all_numbers (drop i nodes)) ≡ found
 held_outside count i nodes node None within is gives some = cc
 held_outside count i nodes node (Some number) within is gives some =
     at_place count i nodes node within is ∙ ap (λ (first : Option ℤ). option_or first (first_outside count (all_numbers (drop (i + 1) nodes)))) (sym gives)
 
 -- a node that holds none leaves it to those behind it
-pub none_held : {A : Type 0} (count i : ℕ) (nodes : List (yaml_node_t A)) (node : yaml_node_t A) (found : Option ℤ) → i < length nodes → node ≡ get_or nodes i node
-    → found ≡ first_outside count (numbers_of node.contents) → is_some found ≡ false → first_outside count (all_numbers (drop i nodes)) ≡ first_outside count (all_numbers (drop (i + 1) nodes))
+pub none_held : {A : Type 0} (count i : ℕ) (nodes : List (yaml_node_t A)) (node : yaml_node_t A) (found : Option ℤ) → i < length nodes
+    → node ≡ get_or nodes i node
+    → found ≡ first_outside count (numbers_of node.contents) → is_some found ≡ false
+    → first_outside count (all_numbers (drop i nodes)) ≡ first_outside count (all_numbers (drop (i + 1) nodes))
 none_held count i nodes node (Some number) within is gives none = cc
 none_held count i nodes node None within is gives none =
     at_place count i nodes node within is ∙ ap (λ (first : Option ℤ). option_or first (first_outside count (all_numbers (drop (i + 1) nodes)))) (sym gives)
@@ -45,13 +50,16 @@ all_within : (count : ℕ) (numbers : List ℤ) → first_outside count numbers 
 unfolding within_count
 all_within count [] none = refl
 all_within count (negsuc n ∷ rest) none = cc
-all_within count (pos n ∷ rest) none = first_within (within_count count n) (first_outside count rest) (list_all (within_count count) (map seen_number rest)) (pos n) none (all_within count rest)
+all_within count (pos n ∷ rest) none = first_within (within_count count n) (first_outside count rest) (list_all (within_count count) (map seen_number rest))
+    (pos n) none (all_within count rest)
   where
-    first_within : (is : Bool) (found : Option ℤ) (others : Bool) (number : ℤ) → cond (not is) (Some number) found ≡ None → (found ≡ None → others ≡ true) → (is && others) ≡ true
+    first_within : (is : Bool) (found : Option ℤ) (others : Bool) (number : ℤ) → cond (not is) (Some number) found ≡ None → (found ≡ None → others ≡ true)
+        → (is && others) ≡ true
     first_within true found others number none rest = rest none
     first_within false found others number none rest = cc
 
-held_seen_pairs : (pairs : List yaml_node_pair_t) → flat_map (λ pair. pair.key ∷ pair.value ∷ []) (map seen_pair pairs) ≡ map seen_number (numbers_of_pairs pairs)
+held_seen_pairs : (pairs : List yaml_node_pair_t)
+    → flat_map (λ pair. pair.key ∷ pair.value ∷ []) (map seen_pair pairs) ≡ map seen_number (numbers_of_pairs pairs)
 held_seen_pairs [] = refl
 held_seen_pairs (pair ∷ pairs) = ap (λ (rest : List ℕ). seen_number pair.key ∷ seen_number pair.value ∷ rest) (held_seen_pairs pairs)
 
@@ -69,15 +77,20 @@ nodes_within : {A : Type 0} (count : ℕ) (nodes : List (yaml_node_t A)) → fir
     → list_all (λ node. list_all (within_count count) (numbers_held node.held)) (map seen_node nodes) ≡ true
 nodes_within count [] none = refl
 nodes_within count (node ∷ nodes) none =
-    let both = both_none (first_outside count (numbers_of node.contents)) (first_outside count (all_numbers nodes)) (sym (find-append (λ number. not (names_node count number)) (numbers_of node.contents) (all_numbers nodes)) ∙ none) in
-    let here : list_all (within_count count) (numbers_held (seen_held node.contents)) ≡ true = ap (list_all (within_count count)) (held_seen node.contents) ∙ all_within count (numbers_of node.contents) both.0 in
-    ap (λ (b : Bool). b && list_all (λ other. list_all (within_count count) (numbers_held other.held)) (map seen_node nodes)) here ∙ nodes_within count nodes both.1
+    let both = both_none (first_outside count (numbers_of node.contents)) (first_outside count (all_numbers nodes))
+    (sym (find-append (λ number. not (names_node count number)) (numbers_of node.contents) (all_numbers nodes)) ∙ none) in
+    let here : list_all (within_count count) (numbers_held (seen_held node.contents)) ≡ true = ap (list_all (within_count count)) (held_seen node.contents)
+    ∙ all_within count (numbers_of node.contents) both.0 in
+    ap (λ (b : Bool). b && list_all (λ other. list_all (within_count count) (numbers_held other.held)) (map seen_node nodes)) here
+    ∙ nodes_within count nodes both.1
 
-pub whole_graph : {A : Type 0} (version : Option yaml_version_directive_t) (directives : List (yaml_tag_directive_t A)) (nodes : List (yaml_node_t A)) (start_implicit end_implicit : Bool)
+pub whole_graph : {A : Type 0} (version : Option yaml_version_directive_t) (directives : List (yaml_tag_directive_t A)) (nodes : List (yaml_node_t A))
+    (start_implicit end_implicit : Bool)
     → first_outside (length nodes) (all_numbers nodes) ≡ None → is_whole (seen_document version directives nodes start_implicit end_implicit) ≡ true
 unfolding within_count
 whole_graph version directives nodes start_implicit end_implicit none =
-    ap (λ (count : ℕ). list_all (λ node. list_all (within_count count) (numbers_held node.held)) (map seen_node nodes)) (length-map nodes seen_node) ∙ nodes_within (length nodes) nodes none
+    ap (λ (count : ℕ). list_all (λ node. list_all (within_count count) (numbers_held node.held)) (map seen_node nodes)) (length-map nodes seen_node)
+    ∙ nodes_within (length nodes) nodes none
 
 -- what the test of a document's numbers tells
 pub none_of_test : {X : Type 0} (found : Option X) → IsTrue (is_none found) → found ≡ None

@@ -28,7 +28,8 @@ both : (a b : List Event) (m n : ℕ) → Leaves a m → Leaves b n → Leaves (
 both a b m n h k = record { counts = omega (arith, begins-append a b, ends-append a b, h.counts, k.counts) }
 
 -- one more start before a list, and one more end after it
-started : (event : Event) (rest : List Event) (n : ℕ) → begins_collection event ≡ true → ends_collection event ≡ false → Leaves rest n → Leaves (event ∷ rest) (1 + n)
+started : (event : Event) (rest : List Event) (n : ℕ) → begins_collection event ≡ true → ends_collection event ≡ false → Leaves rest n
+    → Leaves (event ∷ rest) (1 + n)
 started event rest n begin end h =
     let b : begins (event ∷ []) ≡ 1 = ap (λ x. 0 + cond x 1 0) begin in
     let e : ends (event ∷ []) ≡ 0 = ap (λ x. 0 + cond x 1 0) end in
@@ -60,7 +61,8 @@ mutual
       (both (node_events key) (node_events value) 0 0 (node_leaves key) (node_leaves value))
 
 -- an event that is neither
-none_more : (event : Event) (rest : List Event) (n : ℕ) → begins_collection event ≡ false → ends_collection event ≡ false → Leaves rest n → Leaves (event ∷ rest) n
+none_more : (event : Event) (rest : List Event) (n : ℕ) → begins_collection event ≡ false → ends_collection event ≡ false → Leaves rest n
+    → Leaves (event ∷ rest) n
 none_more event rest n begin end h =
     let b : begins (event ∷ []) ≡ 0 = ap (λ x. 0 + cond x 1 0) begin in
     let e : ends (event ∷ []) ≡ 0 = ap (λ x. 0 + cond x 1 0) end in
@@ -68,7 +70,8 @@ none_more event rest n begin end h =
 
 document_leaves : (x : Document) → Leaves (document_events x) 0
 document_leaves x =
-    none_more (document_start x.start) (node_events x.root ++ document_end x.end_implicit ∷ []) 0 refl refl (both (node_events x.root) (document_end x.end_implicit ∷ []) 0 0 (node_leaves x.root) (record { counts = refl }))
+    none_more (document_start x.start) (node_events x.root ++ document_end x.end_implicit ∷ []) 0 refl refl
+    (both (node_events x.root) (document_end x.end_implicit ∷ []) 0 0 (node_leaves x.root) (record { counts = refl }))
 
 documents_leave : (d : Documents) → Leaves (documents_events d) 0
 documents_leave no_documents = record { counts = refl }
@@ -101,7 +104,8 @@ partial_leaves (between_documents e d) = none_more (stream_start e) (documents_e
 partial_leaves (within_document e d s levels) = begun_leaves e d s (levels_events levels) (length levels) (levels_leave levels)
 partial_leaves (after_root e d s root) = begun_leaves e d s (node_events root) 0 (node_leaves root)
 partial_leaves (after_stream t) =
-    none_more (stream_start t.encoding) (documents_events t.documents ++ stream_end ∷ []) 0 refl refl (both (documents_events t.documents) (stream_end ∷ []) 0 0 (documents_leave t.documents) (record { counts = refl }))
+    none_more (stream_start t.encoding) (documents_events t.documents ++ stream_end ∷ []) 0 refl refl
+    (both (documents_events t.documents) (stream_end ∷ []) 0 0 (documents_leave t.documents) (record { counts = refl }))
 
 -- The open collections of a list's partial tree are those that its events leave open.
 pub open_count-levels : (events : List Event) (p : Partial) → partial_of events ≡ Some p → open_count events ≡ length (open_levels p)

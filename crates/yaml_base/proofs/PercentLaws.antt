@@ -18,12 +18,14 @@ are_bytes bs = list_all (λ b. nat_lt b 256) bs
 
 -- the two digits of a byte give the byte
 digits_read : (b : ℕ) → b < 256 → byte_given (digit_given (hex_digit (b / 16 % 16))) (digit_given (hex_digit (b % 16))) ≡ b
-digits_read b h = eqb-true _ _ (agree_below_at (λ n. byte_given (digit_given (hex_digit (n / 16 % 16))) (digit_given (hex_digit (n % 16))) == n) (λ n. true) 256 b refl h)
+digits_read b h = eqb-true _ _ (agree_below_at (λ n. byte_given (digit_given (hex_digit (n / 16 % 16))) (digit_given (hex_digit (n % 16))) == n)
+    (λ n. true) 256 b refl h)
 
 form_read : (b : ℕ) (rest : Text) → b < 256 → form_bytes between_forms (byte_escaped b ++ rest) ≡ b ∷ form_bytes between_forms rest
 form_read b rest h = ap (λ x. x ∷ form_bytes between_forms rest) (digits_read b h)
 
-forms_read : (bs : List ℕ) (rest : Text) → are_bytes bs ≡ true → form_bytes between_forms (flat_map byte_escaped bs ++ rest) ≡ bs ++ form_bytes between_forms rest
+forms_read : (bs : List ℕ) (rest : Text) → are_bytes bs ≡ true
+    → form_bytes between_forms (flat_map byte_escaped bs ++ rest) ≡ bs ++ form_bytes between_forms rest
 forms_read [] rest h = refl
 forms_read (b ∷ bs) rest h =
     let both = and_parts (nat_lt b 256) (are_bytes bs) h in
@@ -42,7 +44,8 @@ tag_character_is_no_percent : (c : ℕ) → is_tag_character c ≡ true → (c =
 tag_character_is_no_percent c h = grind (arith, nat_tests)
 
 -- a character that stands as itself only where it is no `%` reads as its bytes
-character_read : (stands : Bool) (c : ℕ) (rest : Text) → (stands ≡ true → (c == percent_sign) ≡ false) → scalar c ≡ true → form_bytes between_forms (character_written stands c ++ rest) ≡ encode c ++ form_bytes between_forms rest
+character_read : (stands : Bool) (c : ℕ) (rest : Text) → (stands ≡ true → (c == percent_sign) ≡ false) → scalar c ≡ true
+    → form_bytes between_forms (character_written stands c ++ rest) ≡ encode c ++ form_bytes between_forms rest
 character_read true c rest k h = rw (k refl) refl
 character_read false c rest k h = forms_read (encode c) rest (encode_is_bytes c (scalar_below c h))
 
@@ -203,7 +206,8 @@ pub alpha_is_no_less : (c : ℕ) → is_alpha c ≡ true → (c == 0x3C) ≡ fal
 alpha_is_no_less c h = grind (arith, nat_tests)
 
 -- a character is written in at least one
-escaped_begins_by : (kept : Bool) (c : ℕ) (bs : List ℕ) (rest : Text) → length bs ≡ len_utf8 c → (d : ℕ) × (more : Text) × (cond kept (c ∷ []) (flat_map byte_escaped bs) ++ rest ≡ d ∷ more)
+escaped_begins_by : (kept : Bool) (c : ℕ) (bs : List ℕ) (rest : Text) → length bs ≡ len_utf8 c → (d : ℕ) × (more : Text)
+    × (cond kept (c ∷ []) (flat_map byte_escaped bs) ++ rest ≡ d ∷ more)
 escaped_begins_by true c bs rest e = (c, rest, refl)
 escaped_begins_by false c [] rest e = absurd (omega (arith, (len_utf8_bounds c).0))
 escaped_begins_by false c (b ∷ bs) rest e = (percent_sign, _, refl)

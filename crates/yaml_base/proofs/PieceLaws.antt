@@ -15,7 +15,8 @@ use Rattle.yaml_base.proofs.Pushes.{partial_of_events}
 use Rattle.yaml_base.proofs.Completions.{stream_completed, completion_pushed, front_begins}
 
 -- Each event gives one piece.
-pub steps_count : (events : List Event) (s : Effective) (follows : Bool) (stage : Stage) (standing : Standing) → length (steps s follows events stage standing).pieces ≡ length events
+pub steps_count : (events : List Event) (s : Effective) (follows : Bool) (stage : Stage) (standing : Standing)
+    → length (steps s follows events stage standing).pieces ≡ length events
 steps_count [] s follows stage standing = refl
 steps_count (event ∷ rest) s follows stage standing =
     let stepped = step s stage event (ends_next rest follows) standing in
@@ -30,7 +31,8 @@ ends_next-append [] b follows = refl
 ends_next-append (event ∷ a) b follows = refl
 
 -- The steps of a list and then another.
-pub steps-append : (a b : List Event) (s : Effective) (follows : Bool) (stage : Stage) (standing : Standing) → steps s follows (a ++ b) stage standing ≡ joined_steps (steps s (ends_next b follows) a stage standing) (steps s follows b)
+pub steps-append : (a b : List Event) (s : Effective) (follows : Bool) (stage : Stage) (standing : Standing)
+    → steps s follows (a ++ b) stage standing ≡ joined_steps (steps s (ends_next b follows) a stage standing) (steps s follows b)
 steps-append [] b s follows stage standing = refl
 steps-append (event ∷ a) b s follows stage standing =
     let stepped = step s stage event (ends_next a (ends_next b follows)) standing in
@@ -39,14 +41,16 @@ steps-append (event ∷ a) b s follows stage standing =
     (steps-append a b s follows stepped.stage stepped.laid.standing)
 
 -- The first pieces are those of the front.
-pub front_pieces : (a b : List Event) (s : Effective) (follows : Bool) (stage : Stage) (standing : Standing) → take (length a) (steps s follows (a ++ b) stage standing).pieces ≡ (steps s (ends_next b follows) a stage standing).pieces
+pub front_pieces : (a b : List Event) (s : Effective) (follows : Bool) (stage : Stage) (standing : Standing)
+    → take (length a) (steps s follows (a ++ b) stage standing).pieces ≡ (steps s (ends_next b follows) a stage standing).pieces
 front_pieces a b s follows stage standing =
     let front = steps s (ends_next b follows) a stage standing in
     ap (λ (made : Steps). take (length a) made.pieces) (steps-append a b s follows stage standing)
     ∙ take_at front.pieces (steps s follows b front.stage front.standing).pieces (length a) (steps_count a s (ends_next b follows) stage standing)
 
 -- What follows matters to a collection's start alone.
-pub step_same : (event : Event) (stage : Stage) (s : Effective) (f g : Bool) (standing : Standing) → begins_collection event ≡ false → step s stage event f standing ≡ step s stage event g standing
+pub step_same : (event : Event) (stage : Stage) (s : Effective) (f g : Bool) (standing : Standing) → begins_collection event ≡ false
+    → step s stage event f standing ≡ step s stage event g standing
 step_same (sequence_start c) stage s f g standing other = cc
 step_same (mapping_start c) stage s f g standing other = cc
 step_same (stream_start e) at_stream s f g standing other = refl
@@ -59,7 +63,8 @@ step_same mapping_end (at_node d frames) s f g standing other = refl
 step_same (document_end implicit) at_document_end s f g standing other = refl
 step_same event stage s f g standing other = refl
 
-pub steps_same : (events : List Event) (s : Effective) (f g : Bool) (stage : Stage) (standing : Standing) → begins_last events ≡ false → steps s f events stage standing ≡ steps s g events stage standing
+pub steps_same : (events : List Event) (s : Effective) (f g : Bool) (stage : Stage) (standing : Standing) → begins_last events ≡ false
+    → steps s f events stage standing ≡ steps s g events stage standing
 steps_same [] s f g stage standing other = refl
 steps_same (event ∷ []) s f g stage standing other =
     ap (λ stepped. then_steps stepped (steps s f [])) (step_same event stage s f g standing other)
@@ -72,7 +77,8 @@ ends_next-first : (rest : List Event) → ends_next rest false ≡ ends_first re
 ends_next-first [] = refl
 ends_next-first (event ∷ rest) = refl
 
-open_steps : (front rest : List Event) (s : Effective) (b c : Bool) → begins_last front ≡ b → ends_first rest ≡ c → b && c ≡ false → (steps s (ends_next rest false) front at_stream first_standing).pieces ≡ (steps s false front at_stream first_standing).pieces
+open_steps : (front rest : List Event) (s : Effective) (b c : Bool) → begins_last front ≡ b → ends_first rest ≡ c → b && c ≡ false
+    → (steps s (ends_next rest false) front at_stream first_standing).pieces ≡ (steps s false front at_stream first_standing).pieces
 open_steps front rest s false c last first other =
     ap (λ (made : Steps). made.pieces) (steps_same front s (ends_next rest false) false at_stream first_standing last)
 open_steps front rest s true false last first other =
@@ -80,14 +86,16 @@ open_steps front rest s true false last first other =
 open_steps front rest s true true last first other = cc
 
 -- The layout of a whole list, event by event.
-pub list_layout_steps : (events : List Event) (t : Stream) (s : Effective) → partial_of events ≡ Some (after_stream t) → list_layout s events ≡ (steps s false events at_stream first_standing).pieces
+pub list_layout_steps : (events : List Event) (t : Stream) (s : Effective) → partial_of events ≡ Some (after_stream t)
+    → list_layout s events ≡ (steps s false events at_stream first_standing).pieces
 list_layout_steps events t s whole =
     ap (λ o. unwrap_or (option_map (layout s) (option_and_then finished o)) []) whole
     ∙ sym (stream_steps t s)
     ∙ ap (λ all. (steps s false all at_stream first_standing).pieces) (partial_of_events events (after_stream t) whole)
 
 -- A front's pieces in any whole list that begins with it and doesn't at once close a collection that it begins last.
-pub front_layout : (front rest : List Event) (t : Stream) (s : Effective) → partial_of (front ++ rest) ≡ Some (after_stream t) → closes_at_once front rest ≡ false → take (length front) (list_layout s (front ++ rest)) ≡ (steps s false front at_stream first_standing).pieces
+pub front_layout : (front rest : List Event) (t : Stream) (s : Effective) → partial_of (front ++ rest) ≡ Some (after_stream t)
+    → closes_at_once front rest ≡ false → take (length front) (list_layout s (front ++ rest)) ≡ (steps s false front at_stream first_standing).pieces
 front_layout front rest t s whole other =
     ap (take (length front)) (list_layout_steps (front ++ rest) t s whole)
     ∙ front_pieces front rest s false at_stream first_standing
@@ -115,7 +123,8 @@ start_not_closed mapping_end p q given = refl
 abbrev NotClosed : List Event → Partial → Partial → Type 0
 NotClosed events p q = pushed p events ≡ Some q → closes_at_once events (missing q) ≡ false
 
-not_closed_next : (event : Event) (rest : List Event) (p q : Partial) (made : Option Partial) → push p event ≡ made → option_and_then (λ r. pushed r rest) made ≡ Some q → ((r : Partial) → NotClosed rest r q) → closes_at_once (event ∷ rest) (missing q) ≡ false
+not_closed_next : (event : Event) (rest : List Event) (p q : Partial) (made : Option Partial) → push p event ≡ made
+    → option_and_then (λ r. pushed r rest) made ≡ Some q → ((r : Partial) → NotClosed rest r q) → closes_at_once (event ∷ rest) (missing q) ≡ false
 not_closed_next event rest p q None is given others = cc
 not_closed_next event [] p q (Some r) is given others =
     let same : r ≡ q = cc in start_not_closed event p q (is ∙ ap (λ x. Some x) same)
@@ -127,7 +136,8 @@ completion_not_closed (event ∷ rest) p q given =
     not_closed_next event rest p q (push p event) refl given (λ r. completion_not_closed rest r q)
 
 -- The pieces of a beginning, event by event.
-pub begun_pieces : (front : List Event) (p : Partial) (s : Effective) → partial_of front ≡ Some p → take (length front) (list_layout s (completion front)) ≡ (steps s false front at_stream first_standing).pieces
+pub begun_pieces : (front : List Event) (p : Partial) (s : Effective) → partial_of front ≡ Some p
+    → take (length front) (list_layout s (completion front)) ≡ (steps s false front at_stream first_standing).pieces
 begun_pieces front p s begins =
     let same : completion front ≡ front ++ missing p = ap (λ o. front ++ missing_after o) begins in
     ap (λ events. take (length front) (list_layout s events)) same

@@ -26,17 +26,20 @@ partial_events (after_root e d s root) = begun_events e d s (node_events root)
 partial_events (after_stream t) = stream_events t
 
 -- A node more: its events come last.
-added : (e : Option Encoding) (d : Documents) (s : DocumentStart) (outer : List Event) (level node : List Event) → begun_events e d s (outer ++ (level ++ node)) ≡ begun_events e d s (outer ++ level) ++ node
+added : (e : Option Encoding) (d : Documents) (s : DocumentStart) (outer : List Event) (level node : List Event)
+    → begun_events e d s (outer ++ (level ++ node)) ≡ begun_events e d s (outer ++ level) ++ node
 added e d s outer level node =
     let head = stream_start e ∷ (documents_events d ++ document_start s ∷ []) in
     ap (λ inside. head ++ inside) (sym (append_assoc outer level node)) ∙ sym (append_assoc head (outer ++ level) node)
 
-with_node_events : (e : Option Encoding) (d : Documents) (s : DocumentStart) (levels : List Level) (n : Node) → partial_events (with_node e d s levels n) ≡ begun_events e d s (levels_events levels) ++ node_events n
+with_node_events : (e : Option Encoding) (d : Documents) (s : DocumentStart) (levels : List Level) (n : Node)
+    → partial_events (with_node e d s levels n) ≡ begun_events e d s (levels_events levels) ++ node_events n
 with_node_events e d s [] n = ap (λ events. events ++ node_events n) (sym (append-nil (stream_start e ∷ (documents_events d ++ document_start s ∷ []))))
 with_node_events e d s (at_item c items ∷ outer) n = added e d s (levels_events outer) (sequence_start c ∷ nodes_events items) (node_events n)
 with_node_events e d s (at_key c pairs ∷ outer) n = added e d s (levels_events outer) (mapping_start c ∷ pairs_events pairs) (node_events n)
 with_node_events e d s (at_value c pairs key ∷ outer) n =
-    ap (λ events. begun_events e d s (levels_events outer ++ (mapping_start c ∷ events))) (sym (append_assoc (pairs_events pairs) (node_events key) (node_events n)))
+    ap (λ events. begun_events e d s (levels_events outer ++ (mapping_start c ∷ events)))
+    (sym (append_assoc (pairs_events pairs) (node_events key) (node_events n)))
     ∙ added e d s (levels_events outer) (mapping_start c ∷ (pairs_events pairs ++ node_events key)) (node_events n)
 
 -- The end of the innermost collection.
@@ -50,7 +53,9 @@ closed_events level event n is = cc
 abbrev AddsEvent : Partial → Event → Partial → Type 0
 AddsEvent p event q = partial_events q ≡ partial_events p ++ event ∷ []
 
-closed_added : (e : Option Encoding) (d : Documents) (s : DocumentStart) (level : Level) (outer : List Level) (event : Event) (made : Option Node) (q : Partial) → closed level event ≡ made → option_and_then (λ node. Some (with_node e d s outer node)) made ≡ Some q → AddsEvent (within_document e d s (level ∷ outer)) event q
+closed_added : (e : Option Encoding) (d : Documents) (s : DocumentStart) (level : Level) (outer : List Level) (event : Event) (made : Option Node) (q : Partial)
+    → closed level event ≡ made → option_and_then (λ node. Some (with_node e d s outer node)) made ≡ Some q
+    → AddsEvent (within_document e d s (level ∷ outer)) event q
 closed_added e d s level outer event None q is given = cc
 closed_added e d s level outer event (Some n) q is given =
     let same : with_node e d s outer n ≡ q = cc in
@@ -60,12 +65,14 @@ closed_added e d s level outer event (Some n) q is given =
     ∙ append_assoc (stream_start e ∷ (documents_events d ++ document_start s ∷ [])) (levels_events outer) (level_events level ++ event ∷ [])
     ∙ added e d s (levels_events outer) (level_events level) (event ∷ [])
 
-node_added : (e : Option Encoding) (d : Documents) (s : DocumentStart) (levels : List Level) (n : Node) (q : Partial) → Some (with_node e d s levels n) ≡ Some q → partial_events q ≡ begun_events e d s (levels_events levels) ++ node_events n
+node_added : (e : Option Encoding) (d : Documents) (s : DocumentStart) (levels : List Level) (n : Node) (q : Partial) → Some (with_node e d s levels n) ≡ Some q
+    → partial_events q ≡ begun_events e d s (levels_events levels) ++ node_events n
 node_added e d s levels n q given =
     let same : with_node e d s levels n ≡ q = cc in
     ap partial_events (sym same) ∙ with_node_events e d s levels n
 
-level_added : (e : Option Encoding) (d : Documents) (s : DocumentStart) (levels : List Level) (level : Level) (event : Event) (q : Partial) → level_events level ≡ event ∷ [] → Some (within_document e d s (level ∷ levels)) ≡ Some q → AddsEvent (within_document e d s levels) event q
+level_added : (e : Option Encoding) (d : Documents) (s : DocumentStart) (levels : List Level) (level : Level) (event : Event) (q : Partial)
+    → level_events level ≡ event ∷ [] → Some (within_document e d s (level ∷ levels)) ≡ Some q → AddsEvent (within_document e d s levels) event q
 level_added e d s levels level event q only given =
     let same : within_document e d s (level ∷ levels) ≡ q = cc in
     let head = stream_start e ∷ (documents_events d ++ document_start s ∷ []) in
@@ -73,7 +80,8 @@ level_added e d s levels level event q only given =
     ∙ ap (λ events. begun_events e d s (levels_events levels ++ events)) only
     ∙ sym (append_assoc head (levels_events levels) (event ∷ []))
 
-within_added : (e : Option Encoding) (d : Documents) (s : DocumentStart) (levels : List Level) (event : Event) (q : Partial) → push_within e d s levels event ≡ Some q → AddsEvent (within_document e d s levels) event q
+within_added : (e : Option Encoding) (d : Documents) (s : DocumentStart) (levels : List Level) (event : Event) (q : Partial)
+    → push_within e d s levels event ≡ Some q → AddsEvent (within_document e d s levels) event q
 within_added e d s levels (alias name) q given = node_added e d s levels (alias_node name) q given
 within_added e d s levels (scalar content) q given = node_added e d s levels (scalar_node content) q given
 within_added e d s levels (sequence_start c) q given = level_added e d s levels (at_item c no_nodes) (sequence_start c) q refl given
@@ -81,7 +89,8 @@ within_added e d s levels (mapping_start c) q given = level_added e d s levels (
 within_added e d s (level ∷ levels) event q given = closed_added e d s level levels event (closed level event) q refl given
 within_added e d s [] event q given = cc
 
-document_added : (e : Option Encoding) (d : Documents) (x : Document) → stream_start e ∷ documents_events (documents_and d x) ≡ begun_events e d x.start (node_events x.root) ++ document_end x.end_implicit ∷ []
+document_added : (e : Option Encoding) (d : Documents) (x : Document)
+    → stream_start e ∷ documents_events (documents_and d x) ≡ begun_events e d x.start (node_events x.root) ++ document_end x.end_implicit ∷ []
 document_added e d x =
     let head = documents_events d ++ document_start x.start ∷ [] in
     ap (λ events. stream_start e ∷ events)
@@ -107,7 +116,8 @@ push_events p event q given = cc
 abbrev AddsEvents : List Event → Partial → Partial → Type 0
 AddsEvents events p q = pushed p events ≡ Some q → partial_events q ≡ partial_events p ++ events
 
-one_more : (event : Event) (events : List Event) (p q : Partial) → ((r : Partial) → AddsEvents events r q) → (next : Option Partial) → push p event ≡ next → option_and_then (λ r. pushed r events) next ≡ Some q → partial_events q ≡ partial_events p ++ event ∷ events
+one_more : (event : Event) (events : List Event) (p q : Partial) → ((r : Partial) → AddsEvents events r q) → (next : Option Partial) → push p event ≡ next
+    → option_and_then (λ r. pushed r events) next ≡ Some q → partial_events q ≡ partial_events p ++ event ∷ events
 one_more event events p q others None is given = cc
 one_more event events p q others (Some r) is given =
     others r given

@@ -26,7 +26,8 @@ written_within (event ∷ rest) = written_if (is_ready event rest) (written rest
 abbrev HeldWaits : List Event → ℕ → Type 0
 HeldWaits events k = (event : Event) (rest : List Event) → drop k events ≡ event ∷ rest → is_ready event rest ≡ false
 
-held_if : (first : Event) (others : List Event) (b : Bool) → is_ready first others ≡ b → HeldWaits others (written others) → HeldWaits (first ∷ others) (if b then suc (written others) else 0)
+held_if : (first : Event) (others : List Event) (b : Bool) → is_ready first others ≡ b → HeldWaits others (written others)
+    → HeldWaits (first ∷ others) (if b then suc (written others) else 0)
 held_if first others true is h event rest given = h event rest given
 held_if first others false is h event rest given =
     let same : first ≡ event = cc in
@@ -70,11 +71,13 @@ and_false : (a b : Bool) → b ≡ false → a && b ≡ false
 and_false true b h = h
 and_false false b h = refl
 
-open_next : (first next : Event) (rest more : List Event) (b : Bool) → is_ready next rest ≡ b → OpenAt (next ∷ rest) more (if b then suc (written rest) else 0) → OpenAt (first ∷ next ∷ rest) more (suc (if b then suc (written rest) else 0))
+open_next : (first next : Event) (rest more : List Event) (b : Bool) → is_ready next rest ≡ b → OpenAt (next ∷ rest) more (if b then suc (written rest) else 0)
+    → OpenAt (first ∷ next ∷ rest) more (suc (if b then suc (written rest) else 0))
 open_next first next rest more true is others = others
 open_next first next rest more false is others = and_false (begins_collection first) (ends_collection next) (no_end_held next rest is)
 
-open_first : (first : Event) (rest more : List Event) (b : Bool) → is_ready first rest ≡ b → OpenAt rest more (written rest) → OpenAt (first ∷ rest) more (if b then suc (written rest) else 0)
+open_first : (first : Event) (rest more : List Event) (b : Bool) → is_ready first rest ≡ b → OpenAt rest more (written rest)
+    → OpenAt (first ∷ rest) more (if b then suc (written rest) else 0)
 open_first first rest more false is others = refl
 open_first first [] more true is others = ap (λ a. a && ends_first more) (no_start_alone first is)
 open_first first (next ∷ rest) more true is others = open_next first next rest more (is_ready next rest) refl others
@@ -91,7 +94,8 @@ balanced_both : (a b : List Event) → Balanced a → Balanced b → Balanced (a
 balanced_both a b h k =
     record { counts = omega (arith, sum_by-append (λ x. cond (is_start x) 1 0) a b, sum_by-append (λ x. cond (is_end x) 1 0) a b, h.counts, k.counts) }
 
-balanced_around : (start end : Event) (inside : List Event) → count_by is_start (start ∷ []) ≡ 1 → count_by is_end (start ∷ []) ≡ 0 → count_by is_start (end ∷ []) ≡ 0 → count_by is_end (end ∷ []) ≡ 1 → Balanced inside → Balanced (start ∷ (inside ++ end ∷ []))
+balanced_around : (start end : Event) (inside : List Event) → count_by is_start (start ∷ []) ≡ 1 → count_by is_end (start ∷ []) ≡ 0
+    → count_by is_start (end ∷ []) ≡ 0 → count_by is_end (end ∷ []) ≡ 1 → Balanced inside → Balanced (start ∷ (inside ++ end ∷ []))
 balanced_around start end inside a b c d h =
     let tail = inside ++ end ∷ [] in
     record {
@@ -120,7 +124,8 @@ mutual
   pairs_balanced : (pairs : Pairs) → Balanced (pairs_events pairs)
   pairs_balanced no_pairs = record { counts = refl }
   pairs_balanced (pairs_and pairs key value) =
-      balanced_both (pairs_events pairs) (node_events key ++ node_events value) (pairs_balanced pairs) (balanced_both (node_events key) (node_events value) (node_balanced key) (node_balanced value))
+      balanced_both (pairs_events pairs) (node_events key ++ node_events value) (pairs_balanced pairs)
+      (balanced_both (node_events key) (node_events value) (node_balanced key) (node_balanced value))
 
 document_balanced : (x : Document) → Balanced (document_events x)
 document_balanced x = balanced_around (document_start x.start) (document_end x.end_implicit) (node_events x.root) refl refl refl refl (node_balanced x.root)
@@ -158,9 +163,12 @@ whole_both : (a b rest : List Event) → Whole a (b ++ rest) → Whole b rest �
 whole_both a b rest h k =
     record { count = ap written (append_assoc a b rest) ∙ omega (arith, length-append a b, h.count, k.count) }
 
-whole_around : (start : Event) (end : Event) (inside rest : List Event) → is_ready end rest ≡ true → Balanced (start ∷ (inside ++ end ∷ [])) → Whole inside (end ∷ rest) → Whole (start ∷ (inside ++ end ∷ [])) rest
+whole_around : (start : Event) (end : Event) (inside rest : List Event) → is_ready end rest ≡ true → Balanced (start ∷ (inside ++ end ∷ []))
+    → Whole inside (end ∷ rest) → Whole (start ∷ (inside ++ end ∷ [])) rest
 whole_around start end inside rest ends balanced h =
-    let first : written (start ∷ ((inside ++ end ∷ []) ++ rest)) ≡ suc (written ((inside ++ end ∷ []) ++ rest)) = ap (λ b. if b then suc (written ((inside ++ end ∷ []) ++ rest)) else 0) (balanced_ready start (inside ++ end ∷ []) rest balanced) in
+    let first : written (start ∷ ((inside ++ end ∷ []) ++ rest))
+    ≡ suc (written ((inside ++ end ∷ []) ++ rest)) = ap (λ b. if b then suc (written ((inside ++ end ∷ []) ++ rest)) else 0)
+    (balanced_ready start (inside ++ end ∷ []) rest balanced) in
     let others : written ((inside ++ end ∷ []) ++ rest) ≡ written (inside ++ end ∷ rest) = ap written (append_assoc inside (end ∷ []) rest) in
     let last : written (end ∷ rest) ≡ suc (written rest) = ap (λ b. if b then suc (written rest) else 0) ends in
     record { count = omega (arith, length-append inside (end ∷ []), h.count) }
@@ -169,12 +177,15 @@ mutual
   node_whole : (n : Node) (rest : List Event) → Whole (node_events n) rest
   node_whole (alias_node name) rest = record { count = omega arith }
   node_whole (scalar_node content) rest = record { count = omega arith }
-  node_whole (sequence_node c items) rest = whole_around (sequence_start c) sequence_end (nodes_events items) rest refl (node_balanced (sequence_node c items)) (nodes_whole items (sequence_end ∷ rest))
-  node_whole (mapping_node c pairs) rest = whole_around (mapping_start c) mapping_end (pairs_events pairs) rest refl (node_balanced (mapping_node c pairs)) (pairs_whole pairs (mapping_end ∷ rest))
+  node_whole (sequence_node c items) rest = whole_around (sequence_start c) sequence_end (nodes_events items) rest refl (node_balanced (sequence_node c items))
+      (nodes_whole items (sequence_end ∷ rest))
+  node_whole (mapping_node c pairs) rest = whole_around (mapping_start c) mapping_end (pairs_events pairs) rest refl (node_balanced (mapping_node c pairs))
+      (pairs_whole pairs (mapping_end ∷ rest))
 
   nodes_whole : (items : Nodes) (rest : List Event) → Whole (nodes_events items) rest
   nodes_whole no_nodes rest = record { count = omega arith }
-  nodes_whole (nodes_and items last) rest = whole_both (nodes_events items) (node_events last) rest (nodes_whole items (node_events last ++ rest)) (node_whole last rest)
+  nodes_whole (nodes_and items last) rest = whole_both (nodes_events items) (node_events last) rest (nodes_whole items (node_events last ++ rest))
+      (node_whole last rest)
 
   pairs_whole : (pairs : Pairs) (rest : List Event) → Whole (pairs_events pairs) rest
   pairs_whole no_pairs rest = record { count = omega arith }
@@ -183,11 +194,13 @@ mutual
       (whole_both (node_events key) (node_events value) rest (node_whole key (node_events value ++ rest)) (node_whole value rest))
 
 document_whole : (x : Document) (rest : List Event) → Whole (document_events x) rest
-document_whole x rest = whole_around (document_start x.start) (document_end x.end_implicit) (node_events x.root) rest refl (document_balanced x) (node_whole x.root (document_end x.end_implicit ∷ rest))
+document_whole x rest = whole_around (document_start x.start) (document_end x.end_implicit) (node_events x.root) rest refl (document_balanced x)
+    (node_whole x.root (document_end x.end_implicit ∷ rest))
 
 documents_whole : (d : Documents) (rest : List Event) → Whole (documents_events d) rest
 documents_whole no_documents rest = record { count = omega arith }
-documents_whole (documents_and d x) rest = whole_both (documents_events d) (document_events x) rest (documents_whole d (document_events x ++ rest)) (document_whole x rest)
+documents_whole (documents_and d x) rest = whole_both (documents_events d) (document_events x) rest (documents_whole d (document_events x ++ rest))
+    (document_whole x rest)
 
 -- Nothing of a whole stream is held back.
 pub stream_written : (t : Stream) → written (stream_events t) ≡ length (stream_events t)

@@ -38,7 +38,8 @@ ready_stays event rest more given =
     (list_any is_balanced (fronts (event ∷ rest)))
     (awaited event == 0 || nat_lt (awaited event) (length (event ∷ (rest ++ more))))
     (list_any is_balanced (fronts (event ∷ (rest ++ more))))
-    (either (awaited event == 0) (nat_lt (awaited event) (length (event ∷ rest))) (nat_lt (awaited event) (length (event ∷ (rest ++ more)))) (more_stand (awaited event) (event ∷ rest) more))
+    (either (awaited event == 0) (nat_lt (awaited event) (length (event ∷ rest))) (nat_lt (awaited event) (length (event ∷ (rest ++ more))))
+    (more_stand (awaited event) (event ∷ rest) more))
     (any_front (event ∷ rest) more is_balanced)
     given
 

@@ -23,7 +23,8 @@ unfolding chars is_utf8 encode_utf8
 no_documents_at_all = refl
 
 two_documents : canonical_content false (codes "---\n\"a\"\n...\n%YAML 1.1\n---\n\"b\"\n")
-    ≡ Some (root (scalar_of (codes "a")) ∷ record { version = Some (record { major = pos 1; minor = pos 1 }); directives = []; root = scalar_of (codes "b") } ∷ [])
+    ≡ Some (root (scalar_of (codes "a")) ∷ record { version = Some (record { major = pos 1; minor = pos 1 }); directives = []; root = scalar_of (codes "b") }
+    ∷ [])
 unfolding chars is_utf8 encode_utf8
 two_documents = refl
 
@@ -33,12 +34,14 @@ a_folded_text = refl
 
 a_mapping : canonical_content false (codes "---\n!!map {\n  ? &a !!str \"k\"\n  : *a,\n}\n")
     ≡ Some (root (mapping_content None (Some (codes "tag:yaml.org,2002:map"))
-    (content_pairs_and no_content_pairs (scalar_content (Some (codes "a")) (tagged (codes "tag:yaml.org,2002:str")) (codes "k")) (alias_content (codes "a")))) ∷ [])
+    (content_pairs_and no_content_pairs (scalar_content (Some (codes "a")) (tagged (codes "tag:yaml.org,2002:str")) (codes "k")) (alias_content (codes "a"))))
+    ∷ [])
 unfolding chars is_utf8 encode_utf8
 a_mapping = refl
 
 nested_collections : canonical_content false (codes "---\n[\n  {},\n  \"a\",\n]\n")
-    ≡ Some (root (sequence_content None None (contents_and (contents_and no_contents (mapping_content None None no_content_pairs)) (scalar_of (codes "a")))) ∷ [])
+    ≡ Some (root (sequence_content None None (contents_and (contents_and no_contents (mapping_content None None no_content_pairs)) (scalar_of (codes "a"))))
+    ∷ [])
 unfolding chars is_utf8 encode_utf8
 nested_collections = refl
 
@@ -51,7 +54,11 @@ unfolding chars is_utf8 encode_utf8
 a_verbatim_tag = refl
 
 own_directive : canonical_content false (codes "%TAG !e! %21x\n---\n!e!y \"x\"\n")
-    ≡ Some (record { version = None; directives = record { handle = codes "!e!"; prefix = codes "!x" } ∷ []; root = scalar_content None (tagged (codes "!xy")) (codes "x") } ∷ [])
+    ≡ Some (record {
+      version = None;
+      directives = record { handle = codes "!e!"; prefix = codes "!x" } ∷ [];
+      root = scalar_content None (tagged (codes "!xy")) (codes "x");
+    } ∷ [])
 unfolding chars is_utf8 encode_utf8
 own_directive = refl
 
@@ -63,7 +70,8 @@ utf16_upper_first : canonical_content false (0xFE ∷ 0xFF ∷ 0 ∷ 0x2D ∷ 0 
     ≡ Some (root (scalar_of (codes "a")) ∷ [])
 utf16_upper_first = refl
 
-utf16_lower_first : canonical_content false (0xFF ∷ 0xFE ∷ 0x2D ∷ 0 ∷ 0x2D ∷ 0 ∷ 0x2D ∷ 0 ∷ 0x0A ∷ 0 ∷ 0x22 ∷ 0 ∷ 0x3D ∷ 0xD8 ∷ 0 ∷ 0xDE ∷ 0x22 ∷ 0 ∷ 0x0A ∷ 0 ∷ [])
+utf16_lower_first : canonical_content false
+    (0xFF ∷ 0xFE ∷ 0x2D ∷ 0 ∷ 0x2D ∷ 0 ∷ 0x2D ∷ 0 ∷ 0x0A ∷ 0 ∷ 0x22 ∷ 0 ∷ 0x3D ∷ 0xD8 ∷ 0 ∷ 0xDE ∷ 0x22 ∷ 0 ∷ 0x0A ∷ 0 ∷ [])
     ≡ Some (root (scalar_of (0x1F600 ∷ [])) ∷ [])
 utf16_lower_first = refl
 

@@ -46,11 +46,15 @@ unfolding lib.Utf8.encode
 short_key = refl
 
 -- 65 characters of two bytes
-long_key_in_bytes : laid_under unicode_settings (alone (mapping block (leaf (replicate 65 0xE9) ∷ leaf (codes "v") ∷ []))) ≡ codes "? " ++ (replicate 65 0xE9 ++ codes "\n: v\n")
+long_key_in_bytes : laid_under unicode_settings (alone (mapping block (leaf (replicate 65 0xE9) ∷ leaf (codes "v") ∷ []))) ≡ codes "? "
+    ++ (replicate 65 0xE9 ++ codes "\n: v\n")
 unfolding lib.Utf8.encode
 long_key_in_bytes = refl
 
-tag_directive : laid (stream_of (document_of (leaf (codes "a") ∷ []) ++ (document_start (record { version = None; directives = record { handle = codes "!e!"; prefix = codes "tag:e.com,2000:" } ∷ []; implicit = true }) ∷ tagged None (Some (codes "tag:e.com,2000:t")) (codes "x") ∷ document_end true ∷ []))) ≡ codes "a\n...\n%TAG !e! tag:e.com,2000:\n--- !e!t x\n"
+tag_directive : laid (stream_of
+    (document_of (leaf (codes "a") ∷ [])
+    ++ (document_start (record { version = None; directives = record { handle = codes "!e!"; prefix = codes "tag:e.com,2000:" } ∷ []; implicit = true })
+    ∷ tagged None (Some (codes "tag:e.com,2000:t")) (codes "x") ∷ document_end true ∷ []))) ≡ codes "a\n...\n%TAG !e! tag:e.com,2000:\n--- !e!t x\n"
 tag_directive = refl
 
 tag_of_a_mark_alone : laid (alone (tagged None (Some (codes "!")) (codes "x") ∷ [])) ≡ codes "!<%21> x\n"
@@ -70,10 +74,21 @@ default_tag = refl
 own_tag : laid (alone (tagged None (Some (codes "!foo")) (codes "x") ∷ [])) ≡ codes "!foo x\n"
 own_tag = refl
 
-canonical_mapping : laid_under canonical_settings (alone (mapping_start (record { anchor = None; tag = Some (codes "tag:yaml.org,2002:map"); implicit = true; style = any_layout }) ∷ scalar (record { anchor = Some (codes "a"); tag = Some (codes "tag:yaml.org,2002:str"); value = codes "k"; plain_implicit = true; quoted_implicit = true; style = any_style }) ∷ alias (codes "a") ∷ mapping_end ∷ [])) ≡ codes "---\n!!map {\n  ? &a !!str \"k\"\n  : *a,\n}\n"
+canonical_mapping : laid_under canonical_settings
+    (alone (mapping_start (record { anchor = None; tag = Some (codes "tag:yaml.org,2002:map"); implicit = true; style = any_layout }) ∷ scalar
+    (record {
+      anchor = Some (codes "a");
+      tag = Some (codes "tag:yaml.org,2002:str");
+      value = codes "k";
+      plain_implicit = true;
+      quoted_implicit = true;
+      style = any_style;
+    }) ∷ alias (codes "a") ∷ mapping_end ∷ [])) ≡ codes "---\n!!map {\n  ? &a !!str \"k\"\n  : *a,\n}\n"
 canonical_mapping = refl
 
-canonical_bare_tag : laid_under canonical_settings (alone (scalar (record { anchor = None; tag = None; value = codes "a"; plain_implicit = true; quoted_implicit = false; style = any_style }) ∷ [])) ≡ codes "---\n! \"a\"\n"
+canonical_bare_tag : laid_under canonical_settings
+    (alone (scalar (record { anchor = None; tag = None; value = codes "a"; plain_implicit = true; quoted_implicit = false; style = any_style }) ∷ []))
+    ≡ codes "---\n! \"a\"\n"
 canonical_bare_tag = refl
 
 canonical_sequence : laid_under canonical_settings (alone (sequence any_layout (leaf (codes "a") ∷ []))) ≡ codes "---\n[\n  \"a\",\n]\n"
@@ -82,10 +97,14 @@ canonical_sequence = refl
 canonical_root : laid_under (record canonical_settings { width = Some (negsuc 0) }) (alone (leaf (codes "a") ∷ [])) ≡ codes "---\n\"a\"\n"
 canonical_root = refl
 
-shared_node : laid (alone (sequence_start (in_style block) ∷ sequence_start (in_style block) ∷ scalar (record { anchor = Some (codes "id001"); tag = None; value = codes "a"; plain_implicit = true; quoted_implicit = true; style = any_style }) ∷ alias (codes "id001") ∷ sequence_end ∷ sequence_end ∷ [])) ≡ codes "- - &id001 a\n  - *id001\n"
+shared_node : laid (alone (sequence_start (in_style block) ∷ sequence_start (in_style block) ∷ scalar
+    (record { anchor = Some (codes "id001"); tag = None; value = codes "a"; plain_implicit = true; quoted_implicit = true; style = any_style }) ∷ alias
+    (codes "id001") ∷ sequence_end ∷ sequence_end ∷ [])) ≡ codes "- - &id001 a\n  - *id001\n"
 shared_node = refl
 
-anchored_root_sequence : laid (alone (sequence_start (record { anchor = Some (codes "id001"); tag = None; implicit = true; style = block }) ∷ alias (codes "id001") ∷ sequence_end ∷ [])) ≡ codes "&id001\n- *id001\n"
+anchored_root_sequence : laid (alone
+    (sequence_start (record { anchor = Some (codes "id001"); tag = None; implicit = true; style = block }) ∷ alias (codes "id001") ∷ sequence_end ∷ []))
+    ≡ codes "&id001\n- *id001\n"
 anchored_root_sequence = refl
 
 nothing : laid (stream_of []) ≡ []
@@ -111,10 +130,12 @@ plain_fold = refl
 dash_first : laid (alone (leaf (codes "- x") ∷ [])) ≡ codes "'- x'\n"
 dash_first = refl
 
-explicit_marks : laid (stream_of (document_start (record { version = None; directives = []; implicit = false }) ∷ leaf (codes "foo") ∷ document_end false ∷ [])) ≡ codes "--- foo\n...\n"
+explicit_marks : laid (stream_of (document_start (record { version = None; directives = []; implicit = false }) ∷ leaf (codes "foo") ∷ document_end false ∷ []))
+    ≡ codes "--- foo\n...\n"
 explicit_marks = refl
 
-version : laid (stream_of (document_start (record { version = Some (record { major = pos 1; minor = pos 1 }); directives = []; implicit = true }) ∷ leaf (codes "foo") ∷ document_end true ∷ [])) ≡ codes "%YAML 1.1\n--- foo\n"
+version : laid (stream_of (document_start (record { version = Some (record { major = pos 1; minor = pos 1 }); directives = []; implicit = true }) ∷ leaf
+    (codes "foo") ∷ document_end true ∷ [])) ≡ codes "%YAML 1.1\n--- foo\n"
 version = refl
 
 flow_alias_key : laid (alone (mapping flow (alias (codes "a") ∷ leaf (codes "v") ∷ []))) ≡ codes "{*a : v}\n"
@@ -125,7 +146,8 @@ literal_item : laid (alone (sequence block (untagged (codes " a") literal ∷ []
 literal_item = refl
 
 -- a raw U+2028 after LF
-line_separator_folded : laid_under unicode_settings (alone (untagged (codes "a\n" ++ 0x2028 ∷ codes "b") folded ∷ [])) ≡ codes ">-\n  a\n\n" ++ 0x2028 ∷ codes "  b\n"
+line_separator_folded : laid_under unicode_settings (alone (untagged (codes "a\n" ++ 0x2028 ∷ codes "b") folded ∷ [])) ≡ codes ">-\n  a\n\n"
+    ++ 0x2028 ∷ codes "  b\n"
 line_separator_folded = refl
 
 wide_indent : laid_under (of_indent (pos 4)) (alone (sequence block (sequence block (leaf (codes "a") ∷ [])))) ≡ codes "-   - a\n"
@@ -134,7 +156,9 @@ wide_indent = refl
 sequence_as_key : laid (alone (mapping block ((sequence block (leaf (codes "b") ∷ [])) ++ (leaf (codes "v") ∷ [])))) ≡ codes "? - b\n: v\n"
 sequence_as_key = refl
 
-anchored_undented_sequence : laid (alone (mapping block (leaf (codes "a") ∷ sequence_start (record { anchor = Some (codes "x"); tag = None; implicit = true; style = block }) ∷ leaf (codes "b") ∷ sequence_end ∷ []))) ≡ codes "a: &x\n- b\n"
+anchored_undented_sequence : laid
+    (alone (mapping block (leaf (codes "a") ∷ sequence_start (record { anchor = Some (codes "x"); tag = None; implicit = true; style = block }) ∷ leaf
+    (codes "b") ∷ sequence_end ∷ []))) ≡ codes "a: &x\n- b\n"
 unfolding lib.Utf8.encode
 anchored_undented_sequence = refl
 
@@ -157,7 +181,8 @@ empty_key : laid (alone (mapping block (leaf (codes "") ∷ leaf (codes "v") ∷
 empty_key = refl
 
 -- a mark before a document that follows an open one
-open_document_goes_on : laid (stream_of (document_of (untagged (codes "a\n\n") literal ∷ []) ++ document_of (leaf (codes "b") ∷ []))) ≡ codes "|+\n  a\n\n--- b\n"
+open_document_goes_on : laid (stream_of (document_of (untagged (codes "a\n\n") literal ∷ []) ++ document_of (leaf (codes "b") ∷ [])))
+    ≡ codes "|+\n  a\n\n--- b\n"
 open_document_goes_on = refl
 
 wide_flow : laid_under (of_width (pos 5)) (alone (sequence flow (leaf (codes "aaaa") ∷ leaf (codes "bb") ∷ []))) ≡ codes "[aaaa,\n  bb]\n"

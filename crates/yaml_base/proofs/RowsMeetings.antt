@@ -25,7 +25,14 @@ graph_of nodes = record { start = start; nodes = nodes; end_implicit = true }
 
 -- their events
 abbrev a_string : Option Text → Text → Event
-a_string anchor value = scalar (record { anchor = anchor; tag = Some string_tag; value = value; plain_implicit = true; quoted_implicit = true; style = any_style })
+a_string anchor value = scalar (record {
+  anchor = anchor;
+  tag = Some string_tag;
+  value = value;
+  plain_implicit = true;
+  quoted_implicit = true;
+  style = any_style;
+})
 
 abbrev a_sequence : Option Text → Event
 a_sequence anchor = sequence_start (record { anchor = anchor; tag = Some sequence_tag; implicit = true; style = block })
@@ -60,9 +67,17 @@ unfolding decimal_digits
 mapping_within_itself = refl
 
 -- a scalar with another tag has its flags off; a node that isn't reached is left out; no nodes have no events
-other_tag : (document_event_list (graph_of (record { tag = codes "tag:yaml.org,2002:int"; held = scalar_held (codes "5") any_style } ∷ string_of (codes "b") ∷ []))
+other_tag : (document_event_list
+    (graph_of (record { tag = codes "tag:yaml.org,2002:int"; held = scalar_held (codes "5") any_style } ∷ string_of (codes "b") ∷ []))
     ≡ document_start start
-    ∷ scalar (record { anchor = None; tag = Some (codes "tag:yaml.org,2002:int"); value = codes "5"; plain_implicit = false; quoted_implicit = false; style = any_style })
+    ∷ scalar (record {
+      anchor = None;
+      tag = Some (codes "tag:yaml.org,2002:int");
+      value = codes "5";
+      plain_implicit = false;
+      quoted_implicit = false;
+      style = any_style;
+    })
     ∷ document_end true ∷ [])
     × (document_event_list (graph_of []) ≡ [])
 other_tag = (refl, refl)

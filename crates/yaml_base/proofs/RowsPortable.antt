@@ -1,5 +1,5 @@
 -- Worked rows of portable mode, computed, each beside what is written without it.
-use Rattle.std.specs.Prelude.{◌≡◌, ℕ, zero, suc, true, false, Option, None, Some, List, [], ◌∷◌, ◌++◌, codes, replicate, refl}
+use Rattle.std.specs.Prelude.{◌≡◌, ℕ, zero, suc, true, false, None, Some, List, [], ◌∷◌, ◌++◌, codes, replicate, refl}
 use Rattle.std.specs.Char.{encode_utf8}
 use Rattle.std.specs.Str.{chars, is_utf8}
 use Rattle.yaml_base.specs.Characters.{Text}

@@ -155,7 +155,8 @@ canonical_scalars_otherwise = (refl, refl, refl, refl)
 canonical_trees_otherwise :
     (canonical_content false (codes "---\n{\n  ? \"v\"\n  : \"k\",\n}\n")
     ≡ alone [] (mapping_content None None (content_pairs_and no_content_pairs (a_scalar (untagged true) (codes "v")) (a_scalar (untagged true) (codes "k")))))
-    × (canonical_content false (codes "---\n[\n  [],\n]\n") ≡ alone [] (sequence_content None None (contents_and no_contents (sequence_content None None no_contents))))
+    × (canonical_content false (codes "---\n[\n  [],\n]\n")
+    ≡ alone [] (sequence_content None None (contents_and no_contents (sequence_content None None no_contents))))
     × (canonical_content false (codes "%TAG !! x:\n---\n!!str \"a\"\n")
     ≡ alone (record { handle = codes "!!"; prefix = codes "x:" } ∷ []) (a_scalar (tagged (codes "x:str")) (codes "a")))
 unfolding chars is_utf8 encode_utf8

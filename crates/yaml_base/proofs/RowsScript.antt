@@ -11,7 +11,11 @@ a_whole_script : script_of (codes "canonical on\nwidth -1\n+STR any\n+DOC 1 -\n=
     ≡ understood (record unset { canonical = true; width = Some (negsuc 0) }) (
     record { line = 3; event = stream_start None }
     ∷ record { line = 4; event = document_start (record { version = None; directives = []; implicit = true }) }
-    ∷ record { line = 5; event = scalar (record { anchor = None; tag = None; value = codes "a"; plain_implicit = true; quoted_implicit = true; style = any_style }) }
+    ∷ record {
+      line = 5;
+      event = scalar
+          (record { anchor = None; tag = None; value = codes "a"; plain_implicit = true; quoted_implicit = true; style = any_style });
+    }
     ∷ record { line = 6; event = document_end true }
     ∷ record { line = 7; event = stream_end } ∷ [])
 unfolding chars is_utf8 encode_utf8
@@ -19,7 +23,17 @@ a_whole_script = refl
 
 -- every setting; comments and empty lines are skipped and counted, zeros in front change nothing
 every_setting : script_of (codes "limit 007\n# c \"x\nencoding utf16be\n\ncanonical on\nunicode on\nindent -007\nwidth 2147483647\nbreak crln\nbreaks12 on\nportable on")
-    ≡ understood (record { encoding = Some utf16_big; canonical = true; unicode = true; indent = Some (negsuc 6); width = Some (pos 2147483647); line_break = Some both_break; breaks12 = true; portable = true; limit = 7 }) []
+    ≡ understood (record {
+      encoding = Some utf16_big;
+      canonical = true;
+      unicode = true;
+      indent = Some (negsuc 6);
+      width = Some (pos 2147483647);
+      line_break = Some both_break;
+      breaks12 = true;
+      portable = true;
+      limit = 7;
+    }) []
 unfolding chars is_utf8 encode_utf8
 every_setting = refl
 
@@ -37,7 +51,11 @@ every_event : script_of (codes "+STR utf16le\n+DOC 0 1.02 \"!e!\" \"a b\" \"\" \
     }
     ∷ record { line = 3; event = mapping_start (record { anchor = None; tag = Some (codes "t"); implicit = false; style = flow }) }
     ∷ record { line = 4; event = alias [] }
-    ∷ record { line = 5; event = scalar (record { anchor = Some (codes "-"); tag = None; value = codes "\\\"\n #"; plain_implicit = false; quoted_implicit = true; style = folded }) }
+    ∷ record {
+      line = 5;
+      event = scalar
+          (record { anchor = Some (codes "-"); tag = None; value = codes "\\\"\n #"; plain_implicit = false; quoted_implicit = true; style = folded });
+    }
     ∷ record { line = 6; event = mapping_end }
     ∷ record { line = 7; event = document_end false }
     ∷ record { line = 8; event = sequence_start (record { anchor = Some (codes "a"); tag = None; implicit = true; style = any_layout }) }

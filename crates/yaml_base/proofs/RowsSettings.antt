@@ -29,7 +29,17 @@ width_at_ten = refl
 
 -- where nothing is set
 nothing_set : effective plain_settings None
-    ≡ record { encoding = utf8; canonical = false; unicode = false; indent = 2; width = Some 80; line_break = line_feed_break; breaks12 = false; portable = false; limit = 1000000000 }
+    ≡ record {
+      encoding = utf8;
+      canonical = false;
+      unicode = false;
+      indent = 2;
+      width = Some 80;
+      line_break = line_feed_break;
+      breaks12 = false;
+      portable = false;
+      limit = 1000000000;
+    }
 nothing_set = refl
 
 -- the emitter's encoding comes before the stream's

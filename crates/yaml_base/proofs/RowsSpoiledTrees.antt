@@ -18,10 +18,12 @@ abbrev graph_of : List GraphNode → Graph
 graph_of nodes = record { start = record { version = None; directives = []; implicit = true }; nodes = nodes; end_implicit = true }
 
 abbrev a_string : Option Text → Text → ScalarStyle → Node
-a_string anchor value style = scalar_node (record { anchor = anchor; tag = Some string_tag; value = value; plain_implicit = true; quoted_implicit = true; style = style })
+a_string anchor value style = scalar_node
+    (record { anchor = anchor; tag = Some string_tag; value = value; plain_implicit = true; quoted_implicit = true; style = style })
 
 abbrev a_sequence : Option Text → Node → Node → Node
-a_sequence anchor first second = sequence_node (record { anchor = anchor; tag = Some sequence_tag; implicit = true; style = block }) (nodes_and (nodes_and no_nodes first) second)
+a_sequence anchor first second = sequence_node (record { anchor = anchor; tag = Some sequence_tag; implicit = true; style = block })
+    (nodes_and (nodes_and no_nodes first) second)
 
 -- ---- an alias before its node
 
@@ -35,12 +37,14 @@ abbrev anchor_told : Place → Option Text
 anchor_told (alias_place name number) = None
 anchor_told (node_place anchor number) = anchor
 
-not_before : (anchor : Option Text) (number other : ℕ) (name : Text) → anchor ≡ None → Contains (node_place anchor number ∷ []) (node_place (Some name) other) → ⊥
+not_before : (anchor : Option Text) (number other : ℕ) (name : Text) → anchor ≡ None → Contains (node_place anchor number ∷ []) (node_place (Some name) other)
+    → ⊥
 not_before anchor number other name none (zero, within, is) = let both : None ≡ Some name = sym none ∙ ap anchor_told is in cc
 not_before anchor number other name none (suc k, within, is) = omega (arith, within)
 
 alias_first_fails : (p : Placed) → HasShape true shared p (node_shape_of alias_first) → AreNamed (places p) [] (places p) → ⊥
-alias_first_fails (node_placed anchor number (placed_and (placed_and none_placed (alias_placed name first)) (node_placed given second none_placed))) fits named =
+alias_first_fails (node_placed anchor number (placed_and (placed_and none_placed (alias_placed name first)) (node_placed given second none_placed))) fits
+    named =
     not_before anchor number first name fits.0 named.1.0.1
 alias_first_fails p fits named = absurd assumption
 
@@ -64,7 +68,8 @@ abbrev value_told : Option Label → Text
 value_told None = []
 value_told (Some label) = value_in label.kind
 
-first_differs : (number first second : ℕ) → number ≡ 1 → first ∷ second ∷ [] ≡ children two_strings number → value_told (option_map (label_of true) (node_numbered two_strings first)) ≡ codes "b" → ⊥
+first_differs : (number first second : ℕ) → number ≡ 1 → first ∷ second ∷ [] ≡ children two_strings number
+    → value_told (option_map (label_of true) (node_numbered two_strings first)) ≡ codes "b" → ⊥
 first_differs number first second root numbers told =
     let at_root : first ∷ second ∷ [] ≡ 2 ∷ 3 ∷ [] = subst (λ n. first ∷ second ∷ [] ≡ children two_strings n) root numbers in
     let first_is : first ≡ 2 = ap (λ xs. slice_index xs 0) at_root in
@@ -72,7 +77,8 @@ first_differs number first second root numbers told =
     omega (arith, ap (λ text. slice_index text 0) is)
 
 exchanged_fails : (p : Placed) → number_at p ≡ 1 → HasShape true two_strings p (node_shape_of exchanged) → ⊥
-exchanged_fails (node_placed anchor number (placed_and (placed_and none_placed (node_placed given first none_placed)) (node_placed other second none_placed))) root fits =
+exchanged_fails (node_placed anchor number (placed_and (placed_and none_placed (node_placed given first none_placed)) (node_placed other second none_placed)))
+    root fits =
     first_differs number first second root fits.2 (ap value_told fits.3.0.1.1)
 exchanged_fails p root fits = absurd assumption
 
@@ -100,7 +106,8 @@ quotes_told None = false
 quotes_told (Some label) = quotes_in label.kind
 
 style_differs : (number : ℕ) → number ≡ 1 → quotes_told (option_map (label_of true) (node_numbered one_string number)) ≡ true → ⊥
-style_differs number root told = let is : false ≡ true = subst (λ n. quotes_told (option_map (label_of true) (node_numbered one_string n)) ≡ true) root told in cc
+style_differs number root told = let is : false
+    ≡ true = subst (λ n. quotes_told (option_map (label_of true) (node_numbered one_string n)) ≡ true) root told in cc
 
 quoted_fails : (p : Placed) → number_at p ≡ 1 → HasShape true one_string p (node_shape_of quoted) → ⊥
 quoted_fails (node_placed anchor number none_placed) root fits = style_differs number root (ap quotes_told fits.1)
@@ -120,7 +127,8 @@ a_sequence_of_one item = sequence_node (record { anchor = None; tag = Some seque
 abbrev without_anchor : Node
 without_anchor = a_sequence_of_one (a_sequence None (a_string None (codes "a") any_style) (alias_node []))
 
-none_carries : (a b c : Option Text) (w x y z : ℕ) (name : Text) → a ≡ None → b ≡ None → c ≡ None → count_by (carries name) (node_place a w ∷ node_place b x ∷ node_place c y ∷ alias_place name z ∷ []) ≡ 1 → ⊥
+none_carries : (a b c : Option Text) (w x y z : ℕ) (name : Text) → a ≡ None → b ≡ None → c ≡ None
+    → count_by (carries name) (node_place a w ∷ node_place b x ∷ node_place c y ∷ alias_place name z ∷ []) ≡ 1 → ⊥
 none_carries a b c w x y z name is_a is_b is_c counted =
     let one = subst (λ o. count_by (carries name) (node_place o w ∷ node_place b x ∷ node_place c y ∷ alias_place name z ∷ []) ≡ 1) is_a counted in
     let two = subst (λ o. count_by (carries name) (node_place None w ∷ node_place o x ∷ node_place c y ∷ alias_place name z ∷ []) ≡ 1) is_b one in
@@ -128,7 +136,8 @@ none_carries a b c w x y z name is_a is_b is_c counted =
     omega (arith, three)
 
 without_anchor_fails : (p : Placed) → HasShape true shared_below p (node_shape_of without_anchor) → AreNamed (places p) [] (places p) → ⊥
-without_anchor_fails (node_placed a w (placed_and none_placed (node_placed b x (placed_and (placed_and none_placed (node_placed c y none_placed)) (alias_placed name z))))) fits named =
+without_anchor_fails (node_placed a w
+    (placed_and none_placed (node_placed b x (placed_and (placed_and none_placed (node_placed c y none_placed)) (alias_placed name z))))) fits named =
     none_carries a b c w x y z name fits.0 fits.3.1.0 fits.3.1.3.0.1.0 named.1.1.1.0.0
 without_anchor_fails p fits named = absurd assumption
 
@@ -148,12 +157,15 @@ counted_twice : (a b c : Option Text) (number first second : ℕ) → number ≡
 counted_twice a b c number first second root numbers once =
     let at_root : first ∷ second ∷ [] ≡ 2 ∷ 2 ∷ [] = subst (λ n. first ∷ second ∷ [] ≡ children shared n) root numbers in
     let one = subst (λ n. count_by (is_place_of 2) (node_place a n ∷ node_place b first ∷ node_place c second ∷ []) ≡ 1) root once in
-    let two = subst (λ n. count_by (is_place_of 2) (node_place a 1 ∷ node_place b n ∷ node_place c second ∷ []) ≡ 1) (ap (λ xs. slice_index xs 0) at_root) one in
-    let three : 2 ≡ 1 = subst (λ n. count_by (is_place_of 2) (node_place a 1 ∷ node_place b 2 ∷ node_place c n ∷ []) ≡ 1) (ap (λ xs. slice_index xs 1) at_root) two in
+    let two = subst (λ n. count_by (is_place_of 2) (node_place a 1 ∷ node_place b n ∷ node_place c second ∷ []) ≡ 1)
+    (ap (λ xs. slice_index xs 0) at_root) one in
+    let three : 2 ≡ 1 = subst (λ n. count_by (is_place_of 2) (node_place a 1 ∷ node_place b 2 ∷ node_place c n ∷ []) ≡ 1)
+    (ap (λ xs. slice_index xs 1) at_root) two in
     omega (arith, three)
 
 written_twice_fails : (p : Placed) → number_at p ≡ 1 → HasShape true shared p (node_shape_of written_twice) → count_by (is_place_of 2) (places p) ≡ 1 → ⊥
-written_twice_fails (node_placed a number (placed_and (placed_and none_placed (node_placed b first none_placed)) (node_placed c second none_placed))) root fits once =
+written_twice_fails (node_placed a number (placed_and (placed_and none_placed (node_placed b first none_placed)) (node_placed c second none_placed))) root fits
+    once =
     counted_twice a b c number first second root fits.2 once
 written_twice_fails p root fits once = absurd assumption
 

@@ -14,18 +14,24 @@ three_documents : stream_trees false (codes "a\n--- b\n---\n- c\n")
 unfolding chars is_utf8 encode_utf8
 three_documents = refl
 
-empty_documents : stream_trees false (codes "---\n---\n...\n---\n...\n") ≡ Some (document (bare_word []) ∷ document (bare_word []) ∷ document (bare_word []) ∷ [])
+empty_documents : stream_trees false (codes "---\n---\n...\n---\n...\n")
+    ≡ Some (document (bare_word []) ∷ document (bare_word []) ∷ document (bare_word []) ∷ [])
 unfolding chars is_utf8 encode_utf8
 empty_documents = refl
 
 directives_before_documents : stream_trees false (codes "%YAML 1.1\n%TAG !e! tag:e.com,2000:\n--- !e!t x\n...\n%TAG ! !a%20\n---\n!b y\n...\n")
-    ≡ Some (record { version = Some (record { major = pos 1; minor = pos 1 }); directives = record { handle = codes "!e!"; prefix = codes "tag:e.com,2000:" } ∷ []; root = of_tag (codes "tag:e.com,2000:t") (codes "x") }
+    ≡ Some (record {
+      version = Some (record { major = pos 1; minor = pos 1 });
+      directives = record { handle = codes "!e!"; prefix = codes "tag:e.com,2000:" } ∷ [];
+      root = of_tag (codes "tag:e.com,2000:t") (codes "x");
+    }
     ∷ record { version = None; directives = record { handle = codes "!"; prefix = codes "!a " } ∷ []; root = of_tag (codes "!a b") (codes "y") } ∷ [])
 unfolding chars is_utf8 encode_utf8
 directives_before_documents = refl
 
 blank_lines_after_an_end : stream_trees false (codes "--- |+\n  a\n\n...\n\n\n%YAML 1.2\n--- b\n")
-    ≡ Some (document (in_quotes (codes "a\n\n")) ∷ record { version = Some (record { major = pos 1; minor = pos 2 }); directives = []; root = bare_word (codes "b") } ∷ [])
+    ≡ Some (document (in_quotes (codes "a\n\n"))
+    ∷ record { version = Some (record { major = pos 1; minor = pos 2 }); directives = []; root = bare_word (codes "b") } ∷ [])
 unfolding chars is_utf8 encode_utf8
 blank_lines_after_an_end = refl
 

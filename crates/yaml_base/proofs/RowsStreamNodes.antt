@@ -44,7 +44,8 @@ root_below_its_mark : stream_trees false (codes "---\n\"a\"\n") ≡ only (in_quo
 unfolding chars is_utf8 encode_utf8
 root_below_its_mark = refl
 
-root_with_properties : stream_trees false (codes "--- &a !!str x y\n") ≡ only (scalar_tree (Some (codes "a")) (with_tag (codes "tag:yaml.org,2002:str")) (codes "x y"))
+root_with_properties : stream_trees false (codes "--- &a !!str x y\n")
+    ≡ only (scalar_tree (Some (codes "a")) (with_tag (codes "tag:yaml.org,2002:str")) (codes "x y"))
 unfolding chars is_utf8 encode_utf8
 root_with_properties = refl
 
@@ -80,7 +81,8 @@ undented_sequence : stream_trees false (codes "a:\n- b\n- c\nd:\n  e:\n  - f\n")
 unfolding chars is_utf8 encode_utf8
 undented_sequence = refl
 
-deeper_sequence_at_a_key : stream_trees false (codes "a:\n    - b\n    - c\n") ≡ only (pairs (pair (bare_word (codes "a")) (items (bare_word (codes "b") ∷ bare_word (codes "c") ∷ [])) ∷ []))
+deeper_sequence_at_a_key : stream_trees false (codes "a:\n    - b\n    - c\n")
+    ≡ only (pairs (pair (bare_word (codes "a")) (items (bare_word (codes "b") ∷ bare_word (codes "c") ∷ [])) ∷ []))
 unfolding chars is_utf8 encode_utf8
 deeper_sequence_at_a_key = refl
 
@@ -101,7 +103,8 @@ unfolding chars is_utf8 encode_utf8
 lines_of_quotes_and_plain_text = refl
 
 folded_lines_in_blocks : stream_trees false (codes "- a\n  b\n- 'c\n\n  d'\n- - \"e\n    f\"\n- k: g\n    h\n")
-    ≡ only (items (bare_word (codes "a b") ∷ in_quotes (codes "c\nd") ∷ items (in_quotes (codes "e f") ∷ []) ∷ pairs (pair (bare_word (codes "k")) (bare_word (codes "g h")) ∷ []) ∷ []))
+    ≡ only (items (bare_word (codes "a b") ∷ in_quotes (codes "c\nd") ∷ items (in_quotes (codes "e f") ∷ []) ∷ pairs
+    (pair (bare_word (codes "k")) (bare_word (codes "g h")) ∷ []) ∷ []))
 unfolding chars is_utf8 encode_utf8
 folded_lines_in_blocks = refl
 
@@ -145,13 +148,15 @@ percent_forms = refl
 -- Flow
 
 flow_sequences : stream_trees false (codes "[a, 'b, c', \"d]\", [], [e], *f, &g h, !t i]\n")
-    ≡ only (items (bare_word (codes "a") ∷ in_quotes (codes "b, c") ∷ in_quotes (codes "d]") ∷ items [] ∷ items (bare_word (codes "e") ∷ []) ∷ alias_tree (codes "f")
+    ≡ only (items (bare_word (codes "a") ∷ in_quotes (codes "b, c") ∷ in_quotes (codes "d]") ∷ items [] ∷ items (bare_word (codes "e") ∷ []) ∷ alias_tree
+    (codes "f")
     ∷ scalar_tree (Some (codes "g")) (without_tag stood_plain) (codes "h") ∷ of_tag (codes "!t") (codes "i") ∷ []))
 unfolding chars is_utf8 encode_utf8
 flow_sequences = refl
 
 flow_mappings : stream_trees false (codes "{a: b, 'c': [d], *e : f, []: {}, ? g : h, ? [i] : {j: k}}\n")
-    ≡ only (pairs (pair (bare_word (codes "a")) (bare_word (codes "b")) ∷ pair (in_quotes (codes "c")) (items (bare_word (codes "d") ∷ [])) ∷ pair (alias_tree (codes "e")) (bare_word (codes "f"))
+    ≡ only (pairs (pair (bare_word (codes "a")) (bare_word (codes "b")) ∷ pair (in_quotes (codes "c")) (items (bare_word (codes "d") ∷ [])) ∷ pair
+    (alias_tree (codes "e")) (bare_word (codes "f"))
     ∷ pair (items []) (pairs []) ∷ pair (bare_word (codes "g")) (bare_word (codes "h"))
     ∷ pair (items (bare_word (codes "i") ∷ [])) (pairs (pair (bare_word (codes "j")) (bare_word (codes "k")) ∷ [])) ∷ []))
 unfolding chars is_utf8 encode_utf8
@@ -173,7 +178,8 @@ canonical_flow : stream_trees false (codes "---\n!!map {\n  ? &a !!str \"k\"\n  
 unfolding chars is_utf8 encode_utf8
 canonical_flow = refl
 
-quotes_in_flow : stream_trees false (codes "['a''b', '', \"\\\"]\\\\\"]\n") ≡ only (items (in_quotes (codes "a'b") ∷ in_quotes [] ∷ in_quotes (codes "\"]\\") ∷ []))
+quotes_in_flow : stream_trees false (codes "['a''b', '', \"\\\"]\\\\\"]\n") ≡ only (items (in_quotes (codes "a'b") ∷ in_quotes [] ∷ in_quotes (codes "\"]\\")
+    ∷ []))
 unfolding chars is_utf8 encode_utf8
 quotes_in_flow = refl
 
@@ -183,7 +189,8 @@ signs_inside_plain_text : stream_trees false (codes "-a: b:c -d #e\n") ≡ None
 unfolding chars is_utf8 encode_utf8
 signs_inside_plain_text = refl
 
-plain_text_with_signs : stream_trees false (codes "-a: b:c -d# [e] ?f\n") ≡ only (pairs (pair (bare_word (codes "-a")) (bare_word (codes "b:c -d# [e] ?f")) ∷ []))
+plain_text_with_signs : stream_trees false (codes "-a: b:c -d# [e] ?f\n")
+    ≡ only (pairs (pair (bare_word (codes "-a")) (bare_word (codes "b:c -d# [e] ?f")) ∷ []))
 unfolding chars is_utf8 encode_utf8
 plain_text_with_signs = refl
 
@@ -192,6 +199,7 @@ keys_in_quotes_with_colons : stream_trees false (codes "'a: b': c\n\"d\\\": e\":
 unfolding chars is_utf8 encode_utf8
 keys_in_quotes_with_colons = refl
 
-block_lines_like_entries : stream_trees false (codes "- |\n  - a\n  b: c\n  --- d\n- e\n") ≡ only (items (in_quotes (codes "- a\nb: c\n--- d\n") ∷ bare_word (codes "e") ∷ []))
+block_lines_like_entries : stream_trees false (codes "- |\n  - a\n  b: c\n  --- d\n- e\n")
+    ≡ only (items (in_quotes (codes "- a\nb: c\n--- d\n") ∷ bare_word (codes "e") ∷ []))
 unfolding chars is_utf8 encode_utf8
 block_lines_like_entries = refl

@@ -100,7 +100,14 @@ one_for_two =
     sequence_node (record { anchor = None; tag = Some sequence_tag; implicit = true; style = block })
     (nodes_and
     (nodes_and no_nodes
-    (scalar_node (record { anchor = Some (codes "id001"); tag = Some string_tag; value = codes "k"; plain_implicit = true; quoted_implicit = true; style = any_style })))
+    (scalar_node (record {
+      anchor = Some (codes "id001");
+      tag = Some string_tag;
+      value = codes "k";
+      plain_implicit = true;
+      quoted_implicit = true;
+      style = any_style;
+    })))
     (alias_node (codes "id001")))
 
 third_reached : IsReached two_equal 3
@@ -114,7 +121,8 @@ third_missing number first second root numbers once =
     let first_is : first ≡ 2 = ap (λ xs. slice_index xs 0) at_root in
     let counted : count_by (is_place_of 3) (node_place None 1 ∷ node_place (Some (codes "id001")) 2 ∷ alias_place (codes "id001") second ∷ []) ≡ 1 =
     subst (λ m. count_by (is_place_of 3) (node_place None 1 ∷ node_place (Some (codes "id001")) m ∷ alias_place (codes "id001") second ∷ []) ≡ 1) first_is
-    (subst (λ n. count_by (is_place_of 3) (node_place None n ∷ node_place (Some (codes "id001")) first ∷ alias_place (codes "id001") second ∷ []) ≡ 1) root once) in
+    (subst (λ n. count_by (is_place_of 3) (node_place None n ∷ node_place (Some (codes "id001")) first ∷ alias_place (codes "id001") second ∷ []) ≡ 1) root
+    once) in
     omega (arith, counted)
 
 refuted : (p : Placed) → number_at p ≡ 1 → HasShape true two_equal p (node_shape_of one_for_two)
@@ -125,7 +133,8 @@ refuted (node_placed anchor number (placed_and none_placed last)) root fits once
 refuted (node_placed anchor number (placed_and (placed_and (placed_and all more) item) last)) root fits once = fits.3.0.0
 refuted (node_placed anchor number (placed_and (placed_and none_placed (alias_placed name item)) last)) root fits once = fits.3.0.1
 refuted (node_placed anchor number (placed_and (placed_and none_placed (node_placed given item (placed_and all more))) last)) root fits once = fits.3.0.1.3
-refuted (node_placed anchor number (placed_and (placed_and none_placed (node_placed given item none_placed)) (node_placed other last below))) root fits once = fits.3.1
+refuted (node_placed anchor number (placed_and (placed_and none_placed (node_placed given item none_placed)) (node_placed other last below))) root fits
+    once = fits.3.1
 refuted (node_placed anchor number (placed_and (placed_and none_placed (node_placed given item none_placed)) (alias_placed name last))) root fits once =
     third_missing number item last root fits.2 (once 3 third_reached)
 

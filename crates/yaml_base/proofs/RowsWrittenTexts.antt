@@ -1,9 +1,8 @@
 -- Written texts, computed: what may stand raw in them, and values with U+2028 under the line breaks of YAML 1.2.
-use Rattle.std.specs.Prelude.{◌≡◌, ℕ, Bool, true, false, List, [], ◌∷◌, ◌++◌, codes, map, refl}
+use Rattle.std.specs.Prelude.{◌≡◌, true, false, [], ◌∷◌, ◌++◌, codes, map, refl}
 use Rattle.std.specs.List.{list_all, list_any}
-use Rattle.std.specs.Str.{all_scalars}
 use Rattle.yaml_base.specs.Characters.{Text}
-use Rattle.yaml_base.specs.Event.{ScalarStyle, any_style, plain, single_quoted, double_quoted, literal, folded, block, scalar, Event}
+use Rattle.yaml_base.specs.Event.{plain, single_quoted, double_quoted, literal, folded, block}
 use Rattle.yaml_base.specs.Settings.{Settings}
 use Rattle.yaml_base.specs.WrittenTexts.{is_separator, may_stand_raw}
 use Rattle.yaml_base.proofs.RowEvents.{unicode_settings, untagged, leaf, mapping, sequence, alone, laid_under}

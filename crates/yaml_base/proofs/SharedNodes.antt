@@ -15,7 +15,8 @@ use Rattle.yaml_base.specs.Meetings.{Step, node_met_again, first_of_each, shared
 abbrev pub has : ℕ → List ℕ → Bool
 has number xs = list_any (λ other. other == number) xs
 
-one_without : (b : Bool) (number y : ℕ) (ys : List ℕ) → (b ≡ true → (y == number) ≡ false) → has number (cond (not b) (y ∷ ys) ys) ≡ (y == number || has number ys)
+one_without : (b : Bool) (number y : ℕ) (ys : List ℕ) → (b ≡ true → (y == number) ≡ false)
+    → has number (cond (not b) (y ∷ ys) ys) ≡ (y == number || has number ys)
 one_without false number y ys h = refl
 one_without true number y ys h = ap (λ (t : Bool). t || has number ys) (sym (h refl))
 
@@ -56,12 +57,14 @@ value_of_digit digit small =
     ap digit_value glyph ∙ omega (arith, value)
 
 -- digits that were written tell their number, before those that follow
-digits_value : (room number : ℕ) (rest : List ℕ) → number < room → digits_value_after 10 0 (digits_onto room 10 false number rest) ≡ digits_value_after 10 number rest
+digits_value : (room number : ℕ) (rest : List ℕ) → number < room
+    → digits_value_after 10 0 (digits_onto room 10 false number rest) ≡ digits_value_after 10 number rest
 digits_value zero number rest small = absurd (omega (arith, small))
 digits_value (suc room) number rest small =
     let last = value_of_digit (number % 10) (omega arith) in
     let glyph = digit_glyph false (number % 10) in
-    (elim (number / 10 == 0) as (λ one. (number / 10 == 0) ≡ one → digits_value_after 10 0 (cond one (glyph ∷ rest) (digits_onto room 10 false (number / 10) (glyph ∷ rest))) ≡ digits_value_after 10 number rest) [
+    (elim (number / 10 == 0) as (λ one. (number / 10 == 0) ≡ one
+    → digits_value_after 10 0 (cond one (glyph ∷ rest) (digits_onto room 10 false (number / 10) (glyph ∷ rest))) ≡ digits_value_after 10 number rest) [
       | true ↦ λ is.
           let none = eqb-true (number / 10) 0 is in
           let same : 0 * 10 + digit_value glyph ≡ number = omega (arith, last, none) in

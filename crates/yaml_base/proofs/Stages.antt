@@ -42,7 +42,8 @@ awaits_next (at_key c pairs) (as_key first) n simple h = tt
 awaits_next (at_value c pairs key) (as_value was) n simple h = tt
 awaits_next level role n simple h = absurd h
 
-node_stands : (e : Option Encoding) (d : Documents) (s : DocumentStart) (levels : List Level) (n : Node) (t : List TagDirective) (frames : List Frame) (simple : Bool) → AllAwait levels frames → StandsFor (with_node e d s levels n) (stage_after t frames simple)
+node_stands : (e : Option Encoding) (d : Documents) (s : DocumentStart) (levels : List Level) (n : Node) (t : List TagDirective) (frames : List Frame)
+    (simple : Bool) → AllAwait levels frames → StandsFor (with_node e d s levels n) (stage_after t frames simple)
 node_stands e d s [] n t [] simple h = tt
 node_stands e d s (at_item c items ∷ levels) n t (frame ∷ frames) simple h = (awaits_next (at_item c items) frame.place.role n simple h.0, h.1)
 node_stands e d s (at_key c pairs ∷ levels) n t (frame ∷ frames) simple h = (awaits_next (at_key c pairs) frame.place.role n simple h.0, h.1)
@@ -51,12 +52,15 @@ node_stands e d s levels n t frames simple h = absurd h
 
 -- the stage after an event stands for the tree after it
 abbrev Follows : Partial → Stage → Event → Type 0
-Follows p stage event = (q : Partial) (s : Effective) (empty : Bool) (standing : Standing) → push p event ≡ Some q → StandsFor q (step s stage event empty standing).stage
+Follows p stage event = (q : Partial) (s : Effective) (empty : Bool) (standing : Standing) → push p event ≡ Some q
+    → StandsFor q (step s stage event empty standing).stage
 
 stands_as : (p q : Partial) (stage : Stage) → Some p ≡ Some q → StandsFor p stage → StandsFor q stage
 stands_as p q stage given h = let same : p ≡ q = cc in subst (λ r. StandsFor r stage) same h
 
-end_follows : (e : Option Encoding) (d : Documents) (s : DocumentStart) (level : Level) (levels : List Level) (t : List TagDirective) (frame : Frame) (frames : List Frame) (event : Event) (q : Partial) (made : Option Node) → AllAwait levels frames → option_and_then (λ node. Some (with_node e d s levels node)) made ≡ Some q → StandsFor q (stage_after t frames frame.simple)
+end_follows : (e : Option Encoding) (d : Documents) (s : DocumentStart) (level : Level) (levels : List Level) (t : List TagDirective) (frame : Frame)
+    (frames : List Frame) (event : Event) (q : Partial) (made : Option Node) → AllAwait levels frames
+    → option_and_then (λ node. Some (with_node e d s levels node)) made ≡ Some q → StandsFor q (stage_after t frames frame.simple)
 end_follows e d s level levels t frame frames event q None h given = cc
 end_follows e d s level levels t frame frames event q (Some n) h given =
     stands_as (with_node e d s levels n) q (stage_after t frames frame.simple) given (node_stands e d s levels n t frames frame.simple h)
@@ -66,7 +70,8 @@ closed_none (at_item c items) sequence_end h = cc
 closed_none (at_key c pairs) mapping_end h = cc
 closed_none level event h = refl
 
-within_follows : (e : Option Encoding) (d : Documents) (s : DocumentStart) (levels : List Level) (t : List TagDirective) (frames : List Frame) (event : Event) → AllAwait levels frames → Follows (within_document e d s levels) (at_node t frames) event
+within_follows : (e : Option Encoding) (d : Documents) (s : DocumentStart) (levels : List Level) (t : List TagDirective) (frames : List Frame) (event : Event)
+    → AllAwait levels frames → Follows (within_document e d s levels) (at_node t frames) event
 within_follows e d s levels t frames (alias name) h q eff empty standing given =
     let after = (step eff (at_node t frames) (alias name) empty standing).stage in
     stands_as (with_node e d s levels (alias_node name)) q after given (node_stands e d s levels (alias_node name) t frames _ h)
@@ -113,9 +118,12 @@ step_stands p stage event h q s empty standing given = absurd h
 
 -- The stage after a list stands for its partial tree.
 abbrev ListStands : List Event → Type 0
-ListStands events = (p q : Partial) (stage : Stage) (s : Effective) (follows : Bool) (standing : Standing) → StandsFor p stage → pushed p events ≡ Some q → StandsFor q (steps s follows events stage standing).stage
+ListStands events = (p q : Partial) (stage : Stage) (s : Effective) (follows : Bool) (standing : Standing) → StandsFor p stage → pushed p events ≡ Some q
+    → StandsFor q (steps s follows events stage standing).stage
 
-next_stands : (event : Event) (rest : List Event) → ListStands rest → (p q : Partial) (stage : Stage) (s : Effective) (follows : Bool) (standing : Standing) → StandsFor p stage → (made : Option Partial) → push p event ≡ made → option_and_then (λ r. pushed r rest) made ≡ Some q → StandsFor q (steps s follows (event ∷ rest) stage standing).stage
+next_stands : (event : Event) (rest : List Event) → ListStands rest → (p q : Partial) (stage : Stage) (s : Effective) (follows : Bool) (standing : Standing)
+    → StandsFor p stage → (made : Option Partial) → push p event ≡ made → option_and_then (λ r. pushed r rest) made ≡ Some q
+    → StandsFor q (steps s follows (event ∷ rest) stage standing).stage
 next_stands event rest others p q stage s follows standing h None is given = cc
 next_stands event rest others p q stage s follows standing h (Some r) is given =
     let stepped = step s stage event (ends_next rest follows) standing in
@@ -126,26 +134,31 @@ list_stands [] = λ p q stage s follows standing h given. stands_as p q stage gi
 list_stands (event ∷ rest) = λ p q stage s follows standing h given.
     next_stands event rest (list_stands rest) p q stage s follows standing h (push p event) refl given
 
-pub stage_stands : (events : List Event) (p : Partial) (s : Effective) (follows : Bool) → partial_of events ≡ Some p → StandsFor p (steps s follows events at_stream first_standing).stage
+pub stage_stands : (events : List Event) (p : Partial) (s : Effective) (follows : Bool) → partial_of events ≡ Some p
+    → StandsFor p (steps s follows events at_stream first_standing).stage
 stage_stands events p s follows given = list_stands events before_stream p at_stream s follows first_standing tt given
 
 -- A stage allows what may be pushed.
-item_allowed : (level : Level) (role : Role) (f : Node → Partial) → Awaits level role → not (is_item role) ≡ is_none (option_and_then (λ node. Some (f node)) (closed level sequence_end))
+item_allowed : (level : Level) (role : Role) (f : Node → Partial) → Awaits level role
+    → not (is_item role) ≡ is_none (option_and_then (λ node. Some (f node)) (closed level sequence_end))
 item_allowed (at_item c items) (as_item first) f h = refl
 item_allowed (at_key c pairs) (as_key first) f h = refl
 item_allowed (at_value c pairs key) (as_value simple) f h = refl
 item_allowed level role f h = absurd h
 
-key_allowed : (level : Level) (role : Role) (f : Node → Partial) → Awaits level role → not (is_key role) ≡ is_none (option_and_then (λ node. Some (f node)) (closed level mapping_end))
+key_allowed : (level : Level) (role : Role) (f : Node → Partial) → Awaits level role
+    → not (is_key role) ≡ is_none (option_and_then (λ node. Some (f node)) (closed level mapping_end))
 key_allowed (at_item c items) (as_item first) f h = refl
 key_allowed (at_key c pairs) (as_key first) f h = refl
 key_allowed (at_value c pairs key) (as_value simple) f h = refl
 key_allowed level role f h = absurd h
 
-none_allowed : (level : Level) (event : Event) (f : Node → Partial) → ends_collection event ≡ false → true ≡ is_none (option_and_then (λ node. Some (f node)) (closed level event))
+none_allowed : (level : Level) (event : Event) (f : Node → Partial) → ends_collection event ≡ false
+    → true ≡ is_none (option_and_then (λ node. Some (f node)) (closed level event))
 none_allowed level event f h = ap (λ o. is_none (option_and_then (λ node. Some (f node)) o)) (sym (closed_none level event h))
 
-within_allowed : (e : Option Encoding) (d : Documents) (s : DocumentStart) (levels : List Level) (t : List TagDirective) (frames : List Frame) (event : Event) → AllAwait levels frames → not (node_allowed frames event) ≡ is_none (push_within e d s levels event)
+within_allowed : (e : Option Encoding) (d : Documents) (s : DocumentStart) (levels : List Level) (t : List TagDirective) (frames : List Frame) (event : Event)
+    → AllAwait levels frames → not (node_allowed frames event) ≡ is_none (push_within e d s levels event)
 within_allowed e d s levels t frames (alias name) h = refl
 within_allowed e d s levels t frames (scalar content) h = refl
 within_allowed e d s levels t frames (sequence_start c) h = refl
@@ -193,7 +206,8 @@ frames_open (after_stream t) at_nothing h = refl
 frames_open p stage h = absurd h
 
 -- The refusal at a stage is the refusal after the list.
-pub stage_refuses : (canonical : Bool) (p : Partial) (stage : Stage) (event : Event) → StandsFor p stage → stage_refusal canonical stage event ≡ refusal_at canonical p event
+pub stage_refuses : (canonical : Bool) (p : Partial) (stage : Stage) (event : Event) → StandsFor p stage
+    → stage_refusal canonical stage event ≡ refusal_at canonical p event
 stage_refuses canonical p stage event h =
     let names = name_or_tag_fault canonical event in
     let content = content_fault canonical event in
@@ -202,7 +216,8 @@ stage_refuses canonical p stage event h =
     ∙ ap (λ x. option_or names (option_or (fault_if (is_none (push p event)) x) (option_or content (full (open_frames stage))))) (stage_expects p stage h)
     ∙ ap (λ n. option_or names (option_or (fault_if (is_none (push p event)) (expected p)) (option_or content (full n)))) (frames_open p stage h)
 
-pub stage_refusal_after : (canonical : Bool) (events : List Event) (event : Event) (p : Partial) (s : Effective) (follows : Bool) → partial_of events ≡ Some p → stage_refusal canonical (steps s follows events at_stream first_standing).stage event ≡ refusal canonical events event
+pub stage_refusal_after : (canonical : Bool) (events : List Event) (event : Event) (p : Partial) (s : Effective) (follows : Bool) → partial_of events ≡ Some p
+    → stage_refusal canonical (steps s follows events at_stream first_standing).stage event ≡ refusal canonical events event
 stage_refusal_after canonical events event p s follows given =
     stage_refuses canonical p (steps s follows events at_stream first_standing).stage event (stage_stands events p s follows given)
     ∙ sym (ap (λ o. option_and_then (λ q. refusal_at canonical q event) o) given)

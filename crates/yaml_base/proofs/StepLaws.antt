@@ -15,7 +15,8 @@ after_pieces laid next =
     record { pieces = laid.pieces ++ after.pieces; standing = after.standing; stage = after.stage }
 
 -- More pieces and then steps: the pieces, then the more, then the steps.
-after_pieces-then_pieces : (a : PiecesLaid) (f : Standing → PiecesLaid) (g : Standing → Steps) → after_pieces (then_pieces a f) g ≡ after_pieces a (λ standing. after_pieces (f standing) g)
+after_pieces-then_pieces : (a : PiecesLaid) (f : Standing → PiecesLaid) (g : Standing → Steps)
+    → after_pieces (then_pieces a f) g ≡ after_pieces a (λ standing. after_pieces (f standing) g)
 after_pieces-then_pieces a f g =
     let b = f a.standing in
     let c = g b.standing in
@@ -61,14 +62,18 @@ mapping_ends (pairs_and pairs key value) rest follows =
     ap (λ events. ends_next events follows)
     (append_assoc (pairs_events pairs) (node_events key ++ node_events value) (mapping_end ∷ rest)
     ∙ ap (λ after. pairs_events pairs ++ after) (append_assoc (node_events key) (node_events value) (mapping_end ∷ rest)))
-    ∙ pairs_begin pairs (node_events key ++ (node_events value ++ mapping_end ∷ rest)) follows (node_begins key (node_events value ++ mapping_end ∷ rest) follows)
+    ∙ pairs_begin pairs (node_events key ++ (node_events value ++ mapping_end ∷ rest)) follows
+    (node_begins key (node_events value ++ mapping_end ∷ rest) follows)
 
 abbrev frame_at : (in_flow : Bool) → Role → ℕ → (simple : Bool) → Frame
 frame_at in_flow role column simple = record { place = entry_place in_flow role column; simple = simple }
 
 -- Steps over a tree's events give its pieces and go on.
 mutual
-  pub node_steps : (n : Node) (s : Effective) (follows : Bool) (rest : List Event) (d : List TagDirective) (frames : List Frame) (standing : Standing) → steps s follows (node_events n ++ rest) (at_node d frames) standing ≡ after_pieces (node_laid n s d (next_place frames) standing) (steps s follows rest (stage_after d frames (is_simple_at (next_place frames) s.canonical d n)))
+  pub node_steps : (n : Node) (s : Effective) (follows : Bool) (rest : List Event) (d : List TagDirective) (frames : List Frame) (standing : Standing)
+      → steps s follows (node_events n ++ rest) (at_node d frames) standing
+      ≡ after_pieces (node_laid n s d (next_place frames) standing)
+      (steps s follows rest (stage_after d frames (is_simple_at (next_place frames) s.canonical d n)))
   node_steps (alias_node name) s follows rest d frames standing = refl
   node_steps (scalar_node content) s follows rest d frames standing = refl
   node_steps (sequence_node c items) s follows rest d frames standing =
@@ -82,8 +87,12 @@ mutual
       let end : Standing → PiecesLaid = (λ after. one_piece (end_piece s square in_flow empty place.column after)) in
       let next = steps s follows rest (stage_after d frames simple) in
       ap (λ events. steps s follows (sequence_start c ∷ events) (at_node d frames) standing) (append_assoc (nodes_events items) (sequence_end ∷ []) rest)
-      ∙ ap (λ ends. then_steps (step s (at_node d frames) (sequence_start c) ends standing) (steps s follows (nodes_events items ++ sequence_end ∷ rest))) (sequence_ends items rest follows)
-      ∙ after_pieces-same (one_piece start) (steps s follows (nodes_events items ++ sequence_end ∷ rest) (at_node d (frame_at in_flow (as_item true) column simple ∷ frames))) (λ after. after_pieces (entries after) (λ last. after_pieces (end last) next)) (nodes_steps items s follows (sequence_end ∷ rest) d in_flow column simple frames start.standing)
+      ∙ ap (λ ends. then_steps (step s (at_node d frames) (sequence_start c) ends standing) (steps s follows (nodes_events items ++ sequence_end ∷ rest)))
+      (sequence_ends items rest follows)
+      ∙ after_pieces-same (one_piece start)
+      (steps s follows (nodes_events items ++ sequence_end ∷ rest) (at_node d (frame_at in_flow (as_item true) column simple ∷ frames)))
+      (λ after. after_pieces (entries after) (λ last. after_pieces (end last) next))
+      (nodes_steps items s follows (sequence_end ∷ rest) d in_flow column simple frames start.standing)
       ∙ sym (after_pieces-then_pieces (then_pieces (one_piece start) entries) end next
       ∙ after_pieces-then_pieces (one_piece start) entries (λ last. after_pieces (end last) next))
   node_steps (mapping_node c pairs) s follows rest d frames standing =
@@ -97,23 +106,38 @@ mutual
       let end : Standing → PiecesLaid = (λ after. one_piece (end_piece s curly in_flow empty place.column after)) in
       let next = steps s follows rest (stage_after d frames simple) in
       ap (λ events. steps s follows (mapping_start c ∷ events) (at_node d frames) standing) (append_assoc (pairs_events pairs) (mapping_end ∷ []) rest)
-      ∙ ap (λ ends. then_steps (step s (at_node d frames) (mapping_start c) ends standing) (steps s follows (pairs_events pairs ++ mapping_end ∷ rest))) (mapping_ends pairs rest follows)
-      ∙ after_pieces-same (one_piece start) (steps s follows (pairs_events pairs ++ mapping_end ∷ rest) (at_node d (frame_at in_flow (as_key true) column simple ∷ frames))) (λ after. after_pieces (entries after) (λ last. after_pieces (end last) next)) (pairs_steps pairs s follows (mapping_end ∷ rest) d in_flow column simple frames start.standing)
+      ∙ ap (λ ends. then_steps (step s (at_node d frames) (mapping_start c) ends standing) (steps s follows (pairs_events pairs ++ mapping_end ∷ rest)))
+      (mapping_ends pairs rest follows)
+      ∙ after_pieces-same (one_piece start)
+      (steps s follows (pairs_events pairs ++ mapping_end ∷ rest) (at_node d (frame_at in_flow (as_key true) column simple ∷ frames)))
+      (λ after. after_pieces (entries after) (λ last. after_pieces (end last) next))
+      (pairs_steps pairs s follows (mapping_end ∷ rest) d in_flow column simple frames start.standing)
       ∙ sym (after_pieces-then_pieces (then_pieces (one_piece start) entries) end next
       ∙ after_pieces-then_pieces (one_piece start) entries (λ last. after_pieces (end last) next))
 
-  pub nodes_steps : (items : Nodes) (s : Effective) (follows : Bool) (rest : List Event) (d : List TagDirective) (in_flow : Bool) (column : ℕ) (simple : Bool) (frames : List Frame) (standing : Standing) → steps s follows (nodes_events items ++ rest) (at_node d (frame_at in_flow (as_item true) column simple ∷ frames)) standing ≡ after_pieces (nodes_laid items s d in_flow column standing) (steps s follows rest (at_node d (frame_at in_flow (as_item (has_no_nodes items)) column simple ∷ frames)))
+  pub nodes_steps : (items : Nodes) (s : Effective) (follows : Bool) (rest : List Event) (d : List TagDirective) (in_flow : Bool) (column : ℕ) (simple : Bool)
+      (frames : List Frame) (standing : Standing)
+      → steps s follows (nodes_events items ++ rest) (at_node d (frame_at in_flow (as_item true) column simple ∷ frames)) standing
+      ≡ after_pieces (nodes_laid items s d in_flow column standing)
+      (steps s follows rest (at_node d (frame_at in_flow (as_item (has_no_nodes items)) column simple ∷ frames)))
   nodes_steps no_nodes s follows rest d in_flow column simple frames standing = refl
   nodes_steps (nodes_and items last) s follows rest d in_flow column simple frames standing =
       let place = entry_place in_flow (as_item (has_no_nodes items)) column in
       let before = nodes_laid items s d in_flow column standing in
       let next = steps s follows rest (at_node d (frame_at in_flow (as_item false) column simple ∷ frames)) in
-      ap (λ events. steps s follows events (at_node d (frame_at in_flow (as_item true) column simple ∷ frames)) standing) (append_assoc (nodes_events items) (node_events last) rest)
+      ap (λ events. steps s follows events (at_node d (frame_at in_flow (as_item true) column simple ∷ frames)) standing)
+      (append_assoc (nodes_events items) (node_events last) rest)
       ∙ nodes_steps items s follows (node_events last ++ rest) d in_flow column simple frames standing
-      ∙ after_pieces-same before (steps s follows (node_events last ++ rest) (at_node d (frame_at in_flow (as_item (has_no_nodes items)) column simple ∷ frames))) (λ after. after_pieces (node_laid last s d place after) next) (node_steps last s follows rest d (frame_at in_flow (as_item (has_no_nodes items)) column simple ∷ frames) before.standing)
+      ∙ after_pieces-same before (steps s follows (node_events last ++ rest)
+      (at_node d (frame_at in_flow (as_item (has_no_nodes items)) column simple ∷ frames))) (λ after. after_pieces (node_laid last s d place after) next)
+      (node_steps last s follows rest d (frame_at in_flow (as_item (has_no_nodes items)) column simple ∷ frames) before.standing)
       ∙ sym (after_pieces-then_pieces before (node_laid last s d place) next)
 
-  pub pairs_steps : (pairs : Pairs) (s : Effective) (follows : Bool) (rest : List Event) (d : List TagDirective) (in_flow : Bool) (column : ℕ) (simple : Bool) (frames : List Frame) (standing : Standing) → steps s follows (pairs_events pairs ++ rest) (at_node d (frame_at in_flow (as_key true) column simple ∷ frames)) standing ≡ after_pieces (pairs_laid pairs s d in_flow column standing) (steps s follows rest (at_node d (frame_at in_flow (as_key (has_no_pairs pairs)) column simple ∷ frames)))
+  pub pairs_steps : (pairs : Pairs) (s : Effective) (follows : Bool) (rest : List Event) (d : List TagDirective) (in_flow : Bool) (column : ℕ) (simple : Bool)
+      (frames : List Frame) (standing : Standing)
+      → steps s follows (pairs_events pairs ++ rest) (at_node d (frame_at in_flow (as_key true) column simple ∷ frames)) standing
+      ≡ after_pieces (pairs_laid pairs s d in_flow column standing)
+      (steps s follows rest (at_node d (frame_at in_flow (as_key (has_no_pairs pairs)) column simple ∷ frames)))
   pairs_steps no_pairs s follows rest d in_flow column simple frames standing = refl
   pairs_steps (pairs_and pairs last_key last_value) s follows rest d in_flow column simple frames standing =
       let key_place = entry_place in_flow (as_key (has_no_pairs pairs)) column in
@@ -128,24 +152,34 @@ mutual
       (append_assoc (pairs_events pairs) (node_events last_key ++ node_events last_value) rest
       ∙ ap (λ after. pairs_events pairs ++ after) (append_assoc (node_events last_key) (node_events last_value) rest))
       ∙ pairs_steps pairs s follows (node_events last_key ++ (node_events last_value ++ rest)) d in_flow column simple frames standing
-      ∙ after_pieces-same before (steps s follows (node_events last_key ++ (node_events last_value ++ rest)) (at_node d at_the_key)) (λ after. after_pieces (node_laid last_key s d key_place after) (steps s follows (node_events last_value ++ rest) (at_node d at_the_value))) (node_steps last_key s follows (node_events last_value ++ rest) d at_the_key before.standing)
+      ∙ after_pieces-same before (steps s follows (node_events last_key ++ (node_events last_value ++ rest)) (at_node d at_the_key))
+      (λ after. after_pieces (node_laid last_key s d key_place after) (steps s follows (node_events last_value ++ rest) (at_node d at_the_value)))
+      (node_steps last_key s follows (node_events last_value ++ rest) d at_the_key before.standing)
       ∙ sym (after_pieces-then_pieces before (node_laid last_key s d key_place) (steps s follows (node_events last_value ++ rest) (at_node d at_the_value)))
-      ∙ after_pieces-same keyed (steps s follows (node_events last_value ++ rest) (at_node d at_the_value)) (λ after. after_pieces (node_laid last_value s d value_place after) next) (node_steps last_value s follows rest d at_the_value keyed.standing)
+      ∙ after_pieces-same keyed (steps s follows (node_events last_value ++ rest) (at_node d at_the_value))
+      (λ after. after_pieces (node_laid last_value s d value_place after) next) (node_steps last_value s follows rest d at_the_value keyed.standing)
       ∙ sym (after_pieces-then_pieces keyed (node_laid last_value s d value_place) next)
 
-pub document_steps : (x : Document) (s : Effective) (first follows : Bool) (rest : List Event) (standing : Standing) → steps s follows (document_events x ++ rest) (at_document first) standing ≡ after_pieces (document_laid s first x standing) (steps s follows rest (at_document false))
+pub document_steps : (x : Document) (s : Effective) (first follows : Bool) (rest : List Event) (standing : Standing)
+    → steps s follows (document_events x ++ rest) (at_document first) standing
+    ≡ after_pieces (document_laid s first x standing) (steps s follows rest (at_document false))
 document_steps x s first follows rest standing =
     let d = directives_in_force x.start.directives in
     let start = document_start_piece s first x.start standing in
     let root = node_laid x.root s d root_place in
     let end : Standing → PiecesLaid = (λ after. one_piece (document_end_piece x.end_implicit after)) in
     let next = steps s follows rest (at_document false) in
-    ap (λ events. steps s follows (document_start x.start ∷ events) (at_document first) standing) (append_assoc (node_events x.root) (document_end x.end_implicit ∷ []) rest)
-    ∙ after_pieces-same (one_piece start) (steps s follows (node_events x.root ++ document_end x.end_implicit ∷ rest) (at_node d [])) (λ after. after_pieces (root after) (λ last. after_pieces (end last) next)) (node_steps x.root s follows (document_end x.end_implicit ∷ rest) d [] start.standing)
+    ap (λ events. steps s follows (document_start x.start ∷ events) (at_document first) standing)
+    (append_assoc (node_events x.root) (document_end x.end_implicit ∷ []) rest)
+    ∙ after_pieces-same (one_piece start) (steps s follows (node_events x.root ++ document_end x.end_implicit ∷ rest) (at_node d []))
+    (λ after. after_pieces (root after) (λ last. after_pieces (end last) next))
+    (node_steps x.root s follows (document_end x.end_implicit ∷ rest) d [] start.standing)
     ∙ sym (after_pieces-then_pieces (then_pieces (one_piece start) root) end next
     ∙ after_pieces-then_pieces (one_piece start) root (λ last. after_pieces (end last) next))
 
-pub documents_steps : (x : Documents) (s : Effective) (follows : Bool) (rest : List Event) (standing : Standing) → steps s follows (documents_events x ++ rest) (at_document true) standing ≡ after_pieces (documents_laid s x standing) (steps s follows rest (at_document (has_no_documents x)))
+pub documents_steps : (x : Documents) (s : Effective) (follows : Bool) (rest : List Event) (standing : Standing)
+    → steps s follows (documents_events x ++ rest) (at_document true) standing
+    ≡ after_pieces (documents_laid s x standing) (steps s follows rest (at_document (has_no_documents x)))
 documents_steps no_documents s follows rest standing = refl
 documents_steps (documents_and x last) s follows rest standing =
     let before = documents_laid s x standing in
@@ -153,7 +187,8 @@ documents_steps (documents_and x last) s follows rest standing =
     let next = steps s follows rest (at_document false) in
     ap (λ events. steps s follows events (at_document true) standing) (append_assoc (documents_events x) (document_events last) rest)
     ∙ documents_steps x s follows (document_events last ++ rest) standing
-    ∙ after_pieces-same before (steps s follows (document_events last ++ rest) (at_document first)) (λ after. after_pieces (document_laid s first last after) next) (document_steps last s first follows rest before.standing)
+    ∙ after_pieces-same before (steps s follows (document_events last ++ rest) (at_document first))
+    (λ after. after_pieces (document_laid s first last after) next) (document_steps last s first follows rest before.standing)
     ∙ sym (after_pieces-then_pieces before (document_laid s first last) next)
 
 -- The layout of a stream is what its events give, one after another.
@@ -164,7 +199,8 @@ stream_steps t s =
     let end : Standing → PiecesLaid = (λ after. one_piece (stream_end_piece after)) in
     let next : Standing → Steps = steps s false [] at_nothing in
     ap (λ (made : Steps). made.pieces)
-    (after_pieces-same (one_piece start) (steps s false (documents_events t.documents ++ stream_end ∷ []) (at_document true)) (λ after. after_pieces (inside after) (λ last. after_pieces (end last) next)) (documents_steps t.documents s false (stream_end ∷ []) start.standing)
+    (after_pieces-same (one_piece start) (steps s false (documents_events t.documents ++ stream_end ∷ []) (at_document true))
+    (λ after. after_pieces (inside after) (λ last. after_pieces (end last) next)) (documents_steps t.documents s false (stream_end ∷ []) start.standing)
     ∙ sym (after_pieces-then_pieces (then_pieces (one_piece start) inside) end next
     ∙ after_pieces-then_pieces (one_piece start) inside (λ last. after_pieces (end last) next)))
     ∙ append-nil (layout s t)

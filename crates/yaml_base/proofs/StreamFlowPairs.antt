@@ -1,15 +1,15 @@
 -- The entries of a collection in flow, one after another, where each of its nodes is read in flow.
-use Rattle.std.proofs.Common.{◌≡◌, refl, sym, ap, ◌∙◌, append_assoc, append-nil}
-use Rattle.std.proofs.lemmas.Bool.{true≢false, false≢true, eqb-true, and_parts}
-use Rattle.std.specs.Prelude.{ℕ, Bool, true, false, Option, None, Some, List, [], ◌∷◌, ◌++◌, ◌==◌, ◌||◌, codes}
+use Rattle.std.proofs.Common.{◌≡◌, refl, sym, ap, ◌∙◌, append_assoc}
+use Rattle.std.proofs.lemmas.Bool.{false≢true, eqb-true, and_parts}
+use Rattle.std.specs.Prelude.{ℕ, Bool, true, false, Option, None, List, [], ◌∷◌, ◌++◌, ◌==◌, ◌||◌}
 use Rattle.yaml_base.specs.Characters.{Text, space, line_feed}
 use Rattle.yaml_base.specs.Settings.{Effective}
-use Rattle.yaml_base.specs.Cursor.{Cursor, Laid, nothing_laid, then_laid, space_if, indicator}
+use Rattle.yaml_base.specs.Cursor.{Cursor, Laid, space_if}
 use Rattle.yaml_base.specs.Layout.{as_value, flow_break, key_sign, flow_place_laid}
-use Rattle.yaml_base.specs.StreamContent.{Tree, Trees, no_trees, trees_and, TreePairs, no_tree_pairs, tree_pairs_and}
+use Rattle.yaml_base.specs.StreamContent.{Tree, Trees, trees_and, TreePairs, tree_pairs_and}
 use Rattle.yaml_base.specs.StreamScalars.{Rules}
 use Rattle.yaml_base.specs.StreamTokens.{is_flow_sign, class_of}
-use Rattle.yaml_base.specs.StreamFlow.{no_key, key_due, key_held, Level, in_sequence, in_mapping, at_once, after_white, entry_awaited, node_awaited, comma_awaited, colon_awaited, FlowReading, within, level_opened}
+use Rattle.yaml_base.specs.StreamFlow.{no_key, key_due, key_held, Level, in_sequence, in_mapping, at_once, after_white, entry_awaited, node_awaited, comma_awaited, colon_awaited, within, level_opened}
 use Rattle.yaml_base.proofs.StreamPlainWords.{ends_by, ends_word}
 use Rattle.yaml_base.proofs.StreamWhites.{space_class, line_feed_class}
 use Rattle.yaml_base.proofs.StreamSays.{EndsWord, sign_ends, comma_class, colon_class}

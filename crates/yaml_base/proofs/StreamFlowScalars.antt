@@ -1,19 +1,19 @@
 -- A scalar of the layout in flow is one word that reads as its tree.
-use Rattle.std.proofs.Common.{◌≡◌, refl, sym, ap, ◌∙◌, append_assoc, append-nil}
+use Rattle.std.proofs.Common.{◌≡◌, refl, ap, ◌∙◌, append_assoc}
 use Rattle.std.proofs.lemmas.Bool.{true≢false, false≢true, and_parts}
-use Rattle.std.specs.Prelude.{ℕ, Bool, true, false, Option, None, Some, List, [], ◌∷◌, ◌++◌, ◌||◌, ◌&&◌, not, is_some, codes, if◌then◌else◌}
-use Rattle.yaml_base.specs.Characters.{Text, space}
+use Rattle.std.specs.Prelude.{ℕ, Bool, true, false, Option, None, Some, List, [], ◌∷◌, ◌++◌, ◌||◌, ◌&&◌, not, is_some, if◌then◌else◌}
+use Rattle.yaml_base.specs.Characters.{Text}
 use Rattle.yaml_base.specs.Settings.{Effective}
 use Rattle.yaml_base.specs.Cursor.{Cursor, Laid, space_if}
 use Rattle.yaml_base.specs.Event.{ScalarStyle, any_style, plain, single_quoted, double_quoted, literal, folded, TagDirective, Scalar}
 use Rattle.yaml_base.specs.Analysis.{Allowances, is_empty, allowances}
-use Rattle.yaml_base.specs.Style.{Choice, is_plain, style_asked, style_quoted, style_fitting, fits_plain, chosen}
+use Rattle.yaml_base.specs.Style.{is_plain, style_asked, style_quoted, style_fitting, fits_plain}
 use Rattle.yaml_base.specs.Plain.{runs, runs_laid}
 use Rattle.yaml_base.specs.SingleQuoted.{quotes_doubled, single_quote}
 use Rattle.yaml_base.specs.DoubleQuoted.{double_inside, quote_laid}
 use Rattle.yaml_base.specs.Meaning.{read_in_style}
 use Rattle.yaml_base.specs.ReadPlain.{read_plain}
-use Rattle.yaml_base.specs.Layout.{deeper, properties_laid, separation_laid, body_laid, choice_of, entry_place, Role}
+use Rattle.yaml_base.specs.Layout.{properties_laid, separation_laid, body_laid, choice_of, entry_place, Role}
 use Rattle.yaml_base.specs.Refusal.{scalar_tag}
 use Rattle.yaml_base.specs.TidyBodies.{is_tidy}
 use Rattle.yaml_base.specs.StreamScalars.{Rules}
@@ -21,7 +21,6 @@ use Rattle.yaml_base.proofs.StreamCuts.{none_not_some}
 use Rattle.yaml_base.proofs.StreamPropertyWords.{lead}
 use Rattle.yaml_base.proofs.StreamStands.{tag_written, tag_meant}
 use Rattle.yaml_base.proofs.StreamLeads.{Ended, lead_laid}
-use Rattle.yaml_base.proofs.StreamTexts.{scalar_own}
 use Rattle.yaml_base.proofs.StreamFlowWords.{FlowWord, Given, scalar_in, double_flow_word, single_flow_word, plain_flow_word}
 use Rattle.yaml_base.proofs.StreamFlowTakes.{and_false}
 

@@ -1,7 +1,7 @@
 -- What a node in flow, and the entries of a collection in flow, are to the reader of flow collections.
 use Rattle.std.proofs.Common.{◌≡◌, refl, sym, ap, ◌∙◌, append_assoc, append-nil}
-use Rattle.std.proofs.lemmas.Bool.{true≢false, false≢true, eqb-true, and_parts}
-use Rattle.std.specs.Prelude.{ℕ, Bool, true, false, Option, None, Some, List, [], ◌∷◌, ◌++◌, ◌==◌, ◌||◌, ◌&&◌, ◌+◌, not, length, codes, if◌then◌else◌}
+use Rattle.std.proofs.lemmas.Bool.{false≢true, eqb-true, and_parts}
+use Rattle.std.specs.Prelude.{ℕ, Bool, true, false, Option, List, [], ◌∷◌, ◌++◌, ◌==◌, ◌||◌, ◌&&◌, ◌+◌, not, length, codes, if◌then◌else◌}
 use Rattle.yaml_base.specs.Characters.{Text, space, line_feed}
 use Rattle.yaml_base.specs.Settings.{Effective}
 use Rattle.yaml_base.specs.Cursor.{Cursor, Laid, space_if, new_line, indicator}
@@ -9,7 +9,7 @@ use Rattle.yaml_base.specs.Layout.{line_column, Brackets, square, curly, end_lai
 use Rattle.yaml_base.specs.ReadTags.{TagSaid}
 use Rattle.yaml_base.specs.StreamContent.{Tree, sequence_tree, mapping_tree, Trees, TreePairs}
 use Rattle.yaml_base.specs.StreamLines.{spaces, is_spaces, ends_sign}
-use Rattle.yaml_base.specs.StreamScalars.{Rules, PropertiesRead, properties_read, collection_tag_said, word_read}
+use Rattle.yaml_base.specs.StreamScalars.{Rules, properties_read, collection_tag_said}
 use Rattle.yaml_base.specs.StreamTokens.{word, opens, sign, begins_bracket, class_of, is_pair, flow_tokens, free}
 use Rattle.yaml_base.specs.StreamFlow.{no_key, key_due, key_held, Level, in_sequence, in_mapping, at_once, Awaited, entry_awaited, node_awaited, comma_awaited, colon_awaited, FlowReading, failed, within, with_tree, with_word, word_step, level_opened, opened, may_open, opened_with}
 use Rattle.yaml_base.proofs.StreamInside.{blank_spaces}

@@ -1,22 +1,22 @@
 -- A node's own word in flow, with its anchor and tag: it is one word among the tokens, and reads as the node's tree.
-use Rattle.std.proofs.Common.{◌≡◌, refl, sym, ap, ◌∙◌, append_assoc, append-nil, arith}
+use Rattle.std.proofs.Common.{◌≡◌, refl, ap, ◌∙◌, arith}
 use Rattle.std.proofs.lemmas.Bool.Decides.{nat_tests}
-use Rattle.std.proofs.lemmas.Bool.{true≢false, false≢true, eqb-true, and_parts, or_parts}
+use Rattle.std.proofs.lemmas.Bool.{true≢false, false≢true, and_parts, or_parts}
 use Rattle.std.specs.List.{list_all}
-use Rattle.std.specs.Prelude.{ℕ, Bool, true, false, Option, None, Some, List, [], ◌∷◌, ◌++◌, ◌==◌, ◌||◌, ◌&&◌, not, codes, option_map, option_and_then, if◌then◌else◌}
+use Rattle.std.specs.Prelude.{ℕ, Bool, true, false, Option, None, Some, [], ◌∷◌, ◌++◌, ◌==◌, ◌||◌, ◌&&◌, not, codes, option_map, if◌then◌else◌}
 use Rattle.yaml_base.specs.Characters.{Text, space, is_alpha, is_among, is_blank, is_printable}
 use Rattle.yaml_base.specs.LineBreaks.{is_read_break}
-use Rattle.yaml_base.specs.Event.{ScalarStyle, any_style, plain, single_quoted, double_quoted, literal, folded, TagDirective}
-use Rattle.yaml_base.specs.Style.{Choice, is_plain}
-use Rattle.yaml_base.specs.ReadTags.{TagSaid, bare_said, name_said}
+use Rattle.yaml_base.specs.Event.{ScalarStyle, any_style, plain, single_quoted, double_quoted, literal, folded}
+use Rattle.yaml_base.specs.Style.{is_plain}
+use Rattle.yaml_base.specs.ReadTags.{TagSaid}
 use Rattle.yaml_base.specs.ReadPlain.{is_read_white, begins_white, begins_with_hash, holds_no_plain, read_plain}
 use Rattle.yaml_base.specs.ReadSingle.{read_single}
 use Rattle.yaml_base.specs.ReadDouble.{read_double}
 use Rattle.yaml_base.specs.TidyBodies.{is_tidy, has_deep_lines, has_no_space_before_break, has_clean_edges}
-use Rattle.yaml_base.specs.StreamContent.{Standing, Tree, alias_tree, scalar_tree, sequence_tree, mapping_tree, no_trees, no_tree_pairs}
+use Rattle.yaml_base.specs.StreamContent.{Tree, alias_tree, scalar_tree, sequence_tree, mapping_tree, no_trees, no_tree_pairs}
 use Rattle.yaml_base.specs.StreamLines.{spaces, ends_sign}
-use Rattle.yaml_base.specs.StreamScalars.{Rules, Properties, name_read, tagging_said, standing_of, scalar_said, scalar_of_style, collection_tag_said, a_scalar, word_by_kind, kind_of_word, word_after, word_read}
-use Rattle.yaml_base.specs.StreamTokens.{word, FlowClass, begins_plain, begins_bracket, class_of, is_pair, flow_tokens, free, begun, FlowTurn}
+use Rattle.yaml_base.specs.StreamScalars.{Rules, name_read, tagging_said, standing_of, scalar_said, scalar_of_style, collection_tag_said, a_scalar, word_by_kind, kind_of_word, word_after, word_read}
+use Rattle.yaml_base.specs.StreamTokens.{word, begins_plain, class_of, flow_tokens, begun, FlowTurn}
 use Rattle.yaml_base.proofs.StreamAgrees.{tagging_in}
 use Rattle.yaml_base.proofs.StreamTidyLaws.{tidy_at_root}
 use Rattle.yaml_base.proofs.StreamPlainWords.{all_stay, ends_shown, stays_plain, is_white_class, plain_text_word}
@@ -24,7 +24,7 @@ use Rattle.yaml_base.proofs.StreamPlainKeys.{Begins, begins, not_among, reads_pl
 use Rattle.yaml_base.proofs.StreamCuts.{none_not_some}
 use Rattle.yaml_base.proofs.StreamAliasKeys.{alias_word}
 use Rattle.yaml_base.proofs.StreamSays.{Says, bracket_class}
-use Rattle.yaml_base.proofs.StreamProperties.{IsTagged, IsNamed, has_properties, properties_text, begins_content, name_letters, word_with_properties}
+use Rattle.yaml_base.proofs.StreamProperties.{IsTagged, IsNamed, has_properties, begins_content, name_letters, word_with_properties}
 use Rattle.yaml_base.proofs.StreamPropertyWords.{lead, Leads, lead_passes, says_double_after, says_single_after, says_plain_after, says_empty_after}
 use Rattle.yaml_base.proofs.StreamStands.{tag_meant}
 use Rattle.yaml_base.proofs.StreamLeads.{lead_spaces, lead_then}

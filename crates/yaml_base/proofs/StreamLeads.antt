@@ -1,16 +1,14 @@
 -- The text of a node's anchor and tag as the layout puts it: a space where one is needed, and then each with a space after it.
 use Rattle.std.proofs.Common.{◌≡◌, refl, sym, ap, ◌∙◌, append_assoc, append-nil}
-use Rattle.std.proofs.lemmas.Bool.{true≢false, false≢true}
 use Rattle.std.specs.Prelude.{ℕ, Bool, true, false, Option, None, Some, List, [], ◌∷◌, ◌++◌, codes, ◌&&◌, not, if◌then◌else◌}
 use Rattle.yaml_base.specs.Characters.{Text, space}
 use Rattle.yaml_base.specs.Event.{TagDirective}
 use Rattle.yaml_base.specs.Cursor.{Cursor, Laid, space_if}
 use Rattle.yaml_base.specs.Percent.{percent_escaped, suffix_escaped}
 use Rattle.yaml_base.specs.Tags.{Spelling, shorthand, verbatim, spelling, spelled}
-use Rattle.yaml_base.specs.Layout.{anchor_laid, tag_laid, spelling_laid, properties_laid}
-use Rattle.yaml_base.specs.ReadTags.{TagSaid}
+use Rattle.yaml_base.specs.Layout.{anchor_laid, spelling_laid, properties_laid}
 use Rattle.yaml_base.specs.StreamLines.{spaces}
-use Rattle.yaml_base.proofs.StreamProperties.{WrittenTag, IsTagged, properties_text, has_properties}
+use Rattle.yaml_base.proofs.StreamProperties.{IsTagged, properties_text, has_properties}
 use Rattle.yaml_base.proofs.StreamPropertyWords.{lead}
 use Rattle.yaml_base.proofs.StreamStands.{tag_written, tag_meant, TagStands}
 

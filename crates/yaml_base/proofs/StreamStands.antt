@@ -1,7 +1,7 @@
 -- What is asked of a layout's parts so that it is read: names and tags that are read as they were given, and tidy bodies that
 -- read as their values.
-use Rattle.std.proofs.Common.{◌≡◌, refl, sym, ap, ◌∙◌}
-use Rattle.std.specs.Prelude.{ℕ, Bool, true, false, Option, None, Some, List, [], ◌∷◌, ◌++◌, codes, if◌then◌else◌}
+use Rattle.std.proofs.Common.{◌≡◌}
+use Rattle.std.specs.Prelude.{ℕ, Bool, true, false, Option, None, Some, List, codes, if◌then◌else◌}
 use Rattle.yaml_base.specs.Characters.{Text}
 use Rattle.yaml_base.specs.Settings.{Effective}
 use Rattle.yaml_base.specs.Event.{TagDirective, Scalar}
@@ -14,7 +14,7 @@ use Rattle.yaml_base.specs.Layout.{as_item, as_key, as_value, Place, is_in_mappi
 use Rattle.yaml_base.specs.ReadTags.{TagSaid, bare_said, name_said}
 use Rattle.yaml_base.specs.StreamScalars.{name_read}
 use Rattle.yaml_base.specs.TidyBodies.{IsTidy}
-use Rattle.yaml_base.proofs.StreamProperties.{WrittenTag, IsTagged, IsNamed}
+use Rattle.yaml_base.proofs.StreamProperties.{WrittenTag, IsNamed}
 use Rattle.yaml_base.proofs.StreamTexts.{items_own, pairs_own, node_own}
 
 -- Names and tags

@@ -33,7 +33,8 @@ end_sign_dropped [] = refl
 end_sign_dropped (c ∷ []) = refl
 end_sign_dropped (c ∷ d ∷ rest) = ap (option_map (λ text. c ∷ text)) (end_sign_dropped (d ∷ rest))
 
-pub verbatim_reads : (portable : Bool) (own : List TagDirective) (tag : Text) → scalars tag ≡ true → tag_read own (spelled portable (verbatim tag)) ≡ Some (name_said tag)
+pub verbatim_reads : (portable : Bool) (own : List TagDirective) (tag : Text) → scalars tag ≡ true
+    → tag_read own (spelled portable (verbatim tag)) ≡ Some (name_said tag)
 verbatim_reads portable own tag h = ap verbatim_read (end_sign_dropped (percent_escaped tag)) ∙ ap (option_map name_said) (decoded_escaped tag h)
 
 -- A text up to its last `!`.
@@ -49,7 +50,8 @@ uncut (c ∷ rest) h =
 cut_at_mark : (text : Text) → no_mark text ≡ true → cut_after_mark (tag_mark ∷ text) ≡ record { front = tag_mark ∷ []; rest = text }
 cut_at_mark text h = rw (uncut text h) refl
 
-cut_further : (front : Text) (c : ℕ) (handle suffix text : Text) → cut_after_mark text ≡ record { front = c ∷ handle; rest = suffix } → cut_after_mark (front ++ text) ≡ record { front = front ++ (c ∷ handle); rest = suffix }
+cut_further : (front : Text) (c : ℕ) (handle suffix text : Text) → cut_after_mark text ≡ record { front = c ∷ handle; rest = suffix }
+    → cut_after_mark (front ++ text) ≡ record { front = front ++ (c ∷ handle); rest = suffix }
 cut_further [] c handle suffix text e = e
 cut_further (d ∷ []) c handle suffix text e = rw e refl
 cut_further (d ∷ f ∷ front) c handle suffix text e = rw (cut_further (f ∷ front) c handle suffix text e) refl
@@ -107,15 +109,18 @@ cut_at_handle handle text (inr form) h =
     ∙ ap (λ x. record { front = x; rest = text }) (sym form.1)
 
 -- a text that begins with `!` and goes on with another character than `<`
-by_shorthand : (own : List TagDirective) (d : ℕ) (rest : Text) → (d == 0x3C) ≡ false → tag_read own (tag_mark ∷ d ∷ rest) ≡ shorthand_read own (cut_after_mark (tag_mark ∷ d ∷ rest))
+by_shorthand : (own : List TagDirective) (d : ℕ) (rest : Text) → (d == 0x3C) ≡ false
+    → tag_read own (tag_mark ∷ d ∷ rest) ≡ shorthand_read own (cut_after_mark (tag_mark ∷ d ∷ rest))
 by_shorthand own d rest h = rw h refl
 
-alpha_first : (own : List TagDirective) (middle text : Text) → list_all is_alpha middle ≡ true → tag_read own ((tag_mark ∷ middle) ++ (tag_mark ∷ text)) ≡ shorthand_read own (cut_after_mark ((tag_mark ∷ middle) ++ (tag_mark ∷ text)))
+alpha_first : (own : List TagDirective) (middle text : Text) → list_all is_alpha middle ≡ true
+    → tag_read own ((tag_mark ∷ middle) ++ (tag_mark ∷ text)) ≡ shorthand_read own (cut_after_mark ((tag_mark ∷ middle) ++ (tag_mark ∷ text)))
 alpha_first own [] text h = by_shorthand own tag_mark text refl
 alpha_first own (m ∷ middle) text h =
     by_shorthand own m (middle ++ (tag_mark ∷ text)) (alpha_is_no_less m (and_parts (is_alpha m) (list_all is_alpha middle) h).0)
 
-handle_first : (own : List TagDirective) (handle : Text) (d : ℕ) (rest : Text) → IsHandle handle → stands_written d ≡ true → tag_read own (handle ++ (d ∷ rest)) ≡ shorthand_read own (cut_after_mark (handle ++ (d ∷ rest)))
+handle_first : (own : List TagDirective) (handle : Text) (d : ℕ) (rest : Text) → IsHandle handle → stands_written d ≡ true
+    → tag_read own (handle ++ (d ∷ rest)) ≡ shorthand_read own (cut_after_mark (handle ++ (d ∷ rest)))
 handle_first own handle d rest (inl e) h = rw e (by_shorthand own d rest (written_is_no_less d h))
 handle_first own handle d rest (inr form) h =
     let P : Text → Type 0 = λ text. tag_read own text ≡ shorthand_read own (cut_after_mark text) in
@@ -123,7 +128,8 @@ handle_first own handle d rest (inr form) h =
 
 -- What stands behind a prefix.
 
-behind_step : (same : Bool) (p c : ℕ) (prefix text suffix : Text) → (p == c) ≡ same → cond same (behind prefix text) None ≡ Some suffix → (p ≡ c) × (behind prefix text ≡ Some suffix)
+behind_step : (same : Bool) (p c : ℕ) (prefix text suffix : Text) → (p == c) ≡ same → cond same (behind prefix text) None ≡ Some suffix → (p ≡ c)
+    × (behind prefix text ≡ Some suffix)
 behind_step true p c prefix text suffix h e = (eqb-true p c h, e)
 behind_step false p c prefix text suffix h e = absurd (cc)
 
@@ -149,7 +155,9 @@ scalars_behind [] suffix h = h
 scalars_behind (p ∷ prefix) suffix h = scalars_behind prefix suffix (and_parts (scalar p) (scalars (prefix ++ suffix)) h).1
 
 -- a handle whose prefix is known, and the rest of a tag
-shorthand_reads : (portable : Bool) (own : List TagDirective) (handle prefix : Text) (c : ℕ) (suffix : Text) → handle_fault handle ≡ None → prefix_among (own ++ directives_assumed) handle ≡ Some prefix → scalars (c ∷ suffix) ≡ true → tag_read own (handle ++ suffix_escaped portable (c ∷ suffix)) ≡ Some (name_said (prefix ++ (c ∷ suffix)))
+shorthand_reads : (portable : Bool) (own : List TagDirective) (handle prefix : Text) (c : ℕ) (suffix : Text) → handle_fault handle ≡ None
+    → prefix_among (own ++ directives_assumed) handle ≡ Some prefix → scalars (c ∷ suffix) ≡ true
+    → tag_read own (handle ++ suffix_escaped portable (c ∷ suffix)) ≡ Some (name_said (prefix ++ (c ∷ suffix)))
 shorthand_reads portable own handle prefix c suffix f g h =
     let written = suffix_escaped portable (c ∷ suffix) in
     let form = handle_form handle f in
@@ -180,13 +188,17 @@ ByHandle own tag P =
     prefix ++ (c ∷ suffix) ≡ tag →
     P (shorthand handle (c ∷ suffix))
 
-spelled_step : (P : Spelling → Type 0) (own : List TagDirective) (directive : TagDirective) (tag : Text) (otherwise : Spelling) (suffix : Option Text) → behind directive.prefix tag ≡ suffix → handle_fault directive.handle ≡ None → prefix_among (own ++ directives_assumed) directive.handle ≡ Some directive.prefix → ByHandle own tag P → P otherwise → P (spelling_by directive.handle suffix otherwise)
+spelled_step : (P : Spelling → Type 0) (own : List TagDirective) (directive : TagDirective) (tag : Text) (otherwise : Spelling) (suffix : Option Text)
+    → behind directive.prefix tag ≡ suffix → handle_fault directive.handle ≡ None
+    → prefix_among (own ++ directives_assumed) directive.handle ≡ Some directive.prefix → ByHandle own tag P → P otherwise
+    → P (spelling_by directive.handle suffix otherwise)
 spelled_step P own directive tag otherwise None e f g by known = known
 spelled_step P own directive tag otherwise (Some []) e f g by known = absurd (behind_begins directive.prefix tag e)
 spelled_step P own directive tag otherwise (Some (c ∷ suffix)) e f g by known =
     by directive.handle directive.prefix c suffix f g (behind-whole directive.prefix tag (c ∷ suffix) e)
 
-pub spelling_is : (P : Spelling → Type 0) (own directives : List TagDirective) (tag : Text) → AreFound own directives → P (verbatim tag) → ByHandle own tag P → P (spelling directives tag)
+pub spelling_is : (P : Spelling → Type 0) (own directives : List TagDirective) (tag : Text) → AreFound own directives → P (verbatim tag) → ByHandle own tag P
+    → P (spelling directives tag)
 spelling_is P own [] tag found whole by = whole
 spelling_is P own (directive ∷ rest) tag found whole by =
     spelled_step P own directive tag (spelling rest tag) (behind directive.prefix tag) refl found.0 found.1 by
@@ -206,13 +218,15 @@ same_text : (text : Text) → bytes_eq text text ≡ true
 same_text text = (bytes_eq-Decides text text).1 refl
 
 -- directives that don't give a handle are passed over
-passed_over : (before more : List TagDirective) (handle : Text) → gives_handle handle before ≡ false → prefix_among (before ++ more) handle ≡ prefix_among more handle
+passed_over : (before more : List TagDirective) (handle : Text) → gives_handle handle before ≡ false
+    → prefix_among (before ++ more) handle ≡ prefix_among more handle
 passed_over [] more handle h = refl
 passed_over (d ∷ before) more handle h =
     let both = or_parts (bytes_eq d.handle handle) (gives_handle handle before) h in
     rw both.0 (passed_over before more handle both.1)
 
-found_after : (before : List TagDirective) (directive : TagDirective) (more : List TagDirective) → gives_handle directive.handle before ≡ false → prefix_among (before ++ (directive ∷ more)) directive.handle ≡ Some directive.prefix
+found_after : (before : List TagDirective) (directive : TagDirective) (more : List TagDirective) → gives_handle directive.handle before ≡ false
+    → prefix_among (before ++ (directive ∷ more)) directive.handle ≡ Some directive.prefix
 found_after before directive more h =
     passed_over before (directive ∷ more) directive.handle h ∙ rw (same_text directive.handle) refl
 
@@ -236,7 +250,8 @@ primary = record { handle = codes "!"; prefix = codes "!" }
 abbrev secondary : TagDirective
 secondary = record { handle = codes "!!"; prefix = codes "tag:yaml.org,2002:" }
 
-defaults_found_by : (own : List TagDirective) (first second : Bool) → gives_handle primary.handle own ≡ first → gives_handle secondary.handle own ≡ second → AreFound own (cond (not first) (primary ∷ cond (not second) (secondary ∷ []) []) (cond (not second) (secondary ∷ []) []))
+defaults_found_by : (own : List TagDirective) (first second : Bool) → gives_handle primary.handle own ≡ first → gives_handle secondary.handle own ≡ second
+    → AreFound own (cond (not first) (primary ∷ cond (not second) (secondary ∷ []) []) (cond (not second) (secondary ∷ []) []))
 defaults_found_by own true true e f = tt
 defaults_found_by own true false e f = (refl, passed_over own directives_assumed (codes "!!") f, tt)
 defaults_found_by own false true e f = (refl, passed_over own directives_assumed (codes "!") e, tt)
@@ -254,7 +269,8 @@ in_force_found own h =
 
 -- Written tags.
 
-pub written_tag_reads : (portable : Bool) (own : List TagDirective) (tag : Text) → directives_fault own ≡ None → scalars tag ≡ true → tag_read own (spelled portable (spelling (directives_in_force own) tag)) ≡ Some (name_said tag)
+pub written_tag_reads : (portable : Bool) (own : List TagDirective) (tag : Text) → directives_fault own ≡ None → scalars tag ≡ true
+    → tag_read own (spelled portable (spelling (directives_in_force own) tag)) ≡ Some (name_said tag)
 written_tag_reads portable own tag h k =
     let P : Spelling → Type 0 = λ s. tag_read own (spelled portable s) ≡ Some (name_said tag) in
     let IsText : Text → Type 0 = λ text. scalars text ≡ true in
@@ -310,7 +326,8 @@ suffix_ends_no_word portable text =
     separates_not_ends (suffix_escaped portable text) (never_separates (suffix_escaped portable text) (suffix_stands portable text))
 
 -- a written tag holds no blank and no break
-pub written_tag_ends_no_word : (portable : Bool) (own : List TagDirective) (tag : Text) → directives_fault own ≡ None → list_any ends_word (spelled portable (spelling (directives_in_force own) tag)) ≡ false
+pub written_tag_ends_no_word : (portable : Bool) (own : List TagDirective) (tag : Text) → directives_fault own ≡ None
+    → list_any ends_word (spelled portable (spelling (directives_in_force own) tag)) ≡ false
 written_tag_ends_no_word portable own tag h =
     let P : Spelling → Type 0 = λ s. list_any ends_word (spelled portable s) ≡ false in
     spelling_is P own (directives_in_force own) tag (in_force_found own h)
@@ -325,7 +342,8 @@ two_at_least (x ∷ []) d more f e = cc
 two_at_least (x ∷ y ∷ handle) d more f e = cc
 
 -- a written tag is never the bare tag
-pub written_tag_is_not_bare : (portable : Bool) (own : List TagDirective) (tag : Text) → directives_fault own ≡ None → spelled portable (spelling (directives_in_force own) tag) ≡ tag_mark ∷ [] → ⊥
+pub written_tag_is_not_bare : (portable : Bool) (own : List TagDirective) (tag : Text) → directives_fault own ≡ None
+    → spelled portable (spelling (directives_in_force own) tag) ≡ tag_mark ∷ [] → ⊥
 written_tag_is_not_bare portable own tag h =
     let P : Spelling → Type 0 = λ s. spelled portable s ≡ tag_mark ∷ [] → ⊥ in
     spelling_is P own (directives_in_force own) tag (in_force_found own h)

@@ -7,7 +7,8 @@ use Rattle.yaml_base.specs.Grammar.{Node, alias_node, scalar_node, sequence_node
 
 -- Pushing a node's events appends the node.
 mutual
-  pub node_pushed : (node : Node) (e : Option Encoding) (d : Documents) (s : DocumentStart) (levels : List Level) (rest : List Event) → pushed (within_document e d s levels) (node_events node ++ rest) ≡ pushed (with_node e d s levels node) rest
+  pub node_pushed : (node : Node) (e : Option Encoding) (d : Documents) (s : DocumentStart) (levels : List Level) (rest : List Event)
+      → pushed (within_document e d s levels) (node_events node ++ rest) ≡ pushed (with_node e d s levels node) rest
   node_pushed (alias_node name) e d s levels rest = refl
   node_pushed (scalar_node content) e d s levels rest = refl
   node_pushed (sequence_node c items) e d s levels rest =
@@ -17,14 +18,17 @@ mutual
       ap (pushed (within_document e d s (at_key c no_pairs ∷ levels))) (append_assoc (pairs_events pairs) (mapping_end ∷ []) rest)
       ∙ pairs_pushed pairs c e d s levels (mapping_end ∷ rest)
 
-  pub nodes_pushed : (items : Nodes) (c : Collection) (e : Option Encoding) (d : Documents) (s : DocumentStart) (levels : List Level) (rest : List Event) → pushed (within_document e d s (at_item c no_nodes ∷ levels)) (nodes_events items ++ rest) ≡ pushed (within_document e d s (at_item c items ∷ levels)) rest
+  pub nodes_pushed : (items : Nodes) (c : Collection) (e : Option Encoding) (d : Documents) (s : DocumentStart) (levels : List Level) (rest : List Event)
+      → pushed (within_document e d s (at_item c no_nodes ∷ levels)) (nodes_events items ++ rest)
+      ≡ pushed (within_document e d s (at_item c items ∷ levels)) rest
   nodes_pushed no_nodes c e d s levels rest = refl
   nodes_pushed (nodes_and items item) c e d s levels rest =
       ap (pushed (within_document e d s (at_item c no_nodes ∷ levels))) (append_assoc (nodes_events items) (node_events item) rest)
       ∙ nodes_pushed items c e d s levels (node_events item ++ rest)
       ∙ node_pushed item e d s (at_item c items ∷ levels) rest
 
-  pub pairs_pushed : (pairs : Pairs) (c : Collection) (e : Option Encoding) (d : Documents) (s : DocumentStart) (levels : List Level) (rest : List Event) → pushed (within_document e d s (at_key c no_pairs ∷ levels)) (pairs_events pairs ++ rest) ≡ pushed (within_document e d s (at_key c pairs ∷ levels)) rest
+  pub pairs_pushed : (pairs : Pairs) (c : Collection) (e : Option Encoding) (d : Documents) (s : DocumentStart) (levels : List Level) (rest : List Event)
+      → pushed (within_document e d s (at_key c no_pairs ∷ levels)) (pairs_events pairs ++ rest) ≡ pushed (within_document e d s (at_key c pairs ∷ levels)) rest
   pairs_pushed no_pairs c e d s levels rest = refl
   pairs_pushed (pairs_and pairs key value) c e d s levels rest =
       ap (pushed (within_document e d s (at_key c no_pairs ∷ levels)))
@@ -35,12 +39,14 @@ mutual
       ∙ node_pushed value e d s (at_value c pairs key ∷ levels) rest
 
 -- A document's, and several documents'.
-pub document_pushed : (x : Document) (e : Option Encoding) (d : Documents) (rest : List Event) → pushed (between_documents e d) (document_events x ++ rest) ≡ pushed (between_documents e (documents_and d x)) rest
+pub document_pushed : (x : Document) (e : Option Encoding) (d : Documents) (rest : List Event)
+    → pushed (between_documents e d) (document_events x ++ rest) ≡ pushed (between_documents e (documents_and d x)) rest
 document_pushed x e d rest =
     ap (pushed (within_document e d x.start [])) (append_assoc (node_events x.root) (document_end x.end_implicit ∷ []) rest)
     ∙ node_pushed x.root e d x.start [] (document_end x.end_implicit ∷ rest)
 
-pub documents_pushed : (d : Documents) (e : Option Encoding) (rest : List Event) → pushed (between_documents e no_documents) (documents_events d ++ rest) ≡ pushed (between_documents e d) rest
+pub documents_pushed : (d : Documents) (e : Option Encoding) (rest : List Event)
+    → pushed (between_documents e no_documents) (documents_events d ++ rest) ≡ pushed (between_documents e d) rest
 documents_pushed no_documents e rest = refl
 documents_pushed (documents_and d x) e rest =
     ap (pushed (between_documents e no_documents)) (append_assoc (documents_events d) (document_events x) rest)

@@ -54,14 +54,20 @@ even_pairs (placed_and (placed_and before key) value) zero even =
     absurd (omega (arith, even, length-append (numbers_at (placed_and before key)) (numbers_at (placed_and none_placed value))))
 even_pairs (placed_and (placed_and before key) value) (suc half) even =
     even_pairs before half
-    (omega (arith, even, length-append (numbers_at (placed_and before key)) (numbers_at (placed_and none_placed value)), length-append (numbers_at before) (numbers_at (placed_and none_placed key))))
+    (omega (
+      arith,
+      even,
+      length-append (numbers_at (placed_and before key)) (numbers_at (placed_and none_placed value)),
+      length-append (numbers_at before) (numbers_at (placed_and none_placed key)),
+    ))
 
 two_each : (pairs : List NumberPair) → length (flat_map (λ (pair : NumberPair). pair.key ∷ pair.value ∷ []) pairs) ≡ length pairs + length pairs
 two_each [] = omega arith
 two_each (pair ∷ pairs) = omega (arith, two_each pairs)
 
 -- what a mapping's node has below it
-held_pairs : (below : PlacedAll) (pairs : List NumberPair) → numbers_at below ≡ flat_map (λ (pair : NumberPair). pair.key ∷ pair.value ∷ []) pairs → are_pairs below ≡ true
+held_pairs : (below : PlacedAll) (pairs : List NumberPair) → numbers_at below ≡ flat_map (λ (pair : NumberPair). pair.key ∷ pair.value ∷ []) pairs
+    → are_pairs below ≡ true
 held_pairs below pairs is = even_pairs below (length pairs) (ap length is ∙ two_each pairs)
 
 -- a scalar has nothing below it
@@ -72,8 +78,10 @@ none_held (placed_and before last) is = absurd (omega (arith, ap length is, leng
 -- ---- its events
 
 -- of a node whose children have these
-holding_events : (anchor : Option Text) (tag : Text) (held : Held) (graph : Graph) (below : PlacedAll) (inside : List Event) → numbers_at below ≡ numbers_held held
-    → nodes_events (items_at graph below) ≡ inside → (are_pairs below ≡ true → pairs_events (pairs_at graph below) ≡ inside) → (below ≡ none_placed → inside ≡ [])
+holding_events : (anchor : Option Text) (tag : Text) (held : Held) (graph : Graph) (below : PlacedAll) (inside : List Event)
+    → numbers_at below ≡ numbers_held held
+    → nodes_events (items_at graph below) ≡ inside → (are_pairs below ≡ true → pairs_events (pairs_at graph below) ≡ inside)
+    → (below ≡ none_placed → inside ≡ [])
     → node_events (node_holding anchor tag held (items_at graph below) (pairs_at graph below)) ≡ beginning_of anchor tag held ∷ (inside ++ ending_of held)
 holding_events anchor tag (scalar_held value style) graph below inside is items pairs none =
     ap (λ (events : List Event). beginning_of anchor tag (scalar_held value style) ∷ events) (sym (none (none_held below is)) ∙ sym (append-nil inside))
@@ -82,11 +90,14 @@ holding_events anchor tag (sequence_held numbers style) graph below inside is it
 holding_events anchor tag (mapping_held numbers style) graph below inside is items pairs none =
     ap (λ (events : List Event). beginning_of anchor tag (mapping_held numbers style) ∷ (events ++ mapping_end ∷ [])) (pairs (held_pairs below numbers is))
 
-with_events : (anchor : Option Text) (graph : Graph) (number : ℕ) (found : Option GraphNode) (node : GraphNode) (below : PlacedAll) (inside : List Event) → found ≡ Some node
-    → numbers_at below ≡ numbers_in found → nodes_events (items_at graph below) ≡ inside → (are_pairs below ≡ true → pairs_events (pairs_at graph below) ≡ inside) → (below ≡ none_placed → inside ≡ [])
+with_events : (anchor : Option Text) (graph : Graph) (number : ℕ) (found : Option GraphNode) (node : GraphNode) (below : PlacedAll) (inside : List Event)
+    → found ≡ Some node
+    → numbers_at below ≡ numbers_in found → nodes_events (items_at graph below) ≡ inside
+    → (are_pairs below ≡ true → pairs_events (pairs_at graph below) ≡ inside) → (below ≡ none_placed → inside ≡ [])
     → node_events (node_with anchor found (items_at graph below) (pairs_at graph below)) ≡ beginning_events anchor found ++ (inside ++ ending_events found)
 with_events anchor graph number None node below inside has is items pairs none = cc
-with_events anchor graph number (Some other) node below inside has is items pairs none = holding_events anchor other.tag other.held graph below inside is items pairs none
+with_events anchor graph number
+    (Some other) node below inside has is items pairs none = holding_events anchor other.tag other.held graph below inside is items pairs none
 
 -- the events of the steps below a node, and of its end
 end_events : (of : Step → List Event) (below : List Step) (end : Step) → flat_map of (below ++ end ∷ []) ≡ flat_map of below ++ of end
@@ -96,36 +107,48 @@ no_steps : (of : Step → List Event) (below : PlacedAll) → below ≡ none_pla
 no_steps of below is = ap (λ (all : PlacedAll). flat_map of (below_steps all)) is
 
 mutual
-  pub node_at_events : (graph : Graph) (walk : List Step) (placed : Placed) → Fits (anchor_of walk) graph placed → node_events (node_at graph placed) ≡ flat_map (step_events graph walk) (placed_steps placed)
+  pub node_at_events : (graph : Graph) (walk : List Step) (placed : Placed) → Fits (anchor_of walk) graph placed
+      → node_events (node_at graph placed) ≡ flat_map (step_events graph walk) (placed_steps placed)
   node_at_events graph walk (alias_placed name number) fits = ap (λ (told : Text). alias told ∷ []) fits
   node_at_events graph walk (node_placed anchor number below) fits =
       with_events anchor graph number (node_numbered graph number) fits.1.node below (flat_map (step_events graph walk) (below_steps below)) fits.1.is fits.2
       (items_at_events graph walk below fits.3) (pairs_at_events graph walk below fits.3) (no_steps (step_events graph walk) below)
-      ∙ ap (λ (told : Option Text). beginning_events told (node_numbered graph number) ++ (flat_map (step_events graph walk) (below_steps below) ++ ending_events (node_numbered graph number))) fits.0
-      ∙ ap (λ (events : List Event). beginning_events (anchor_of walk number) (node_numbered graph number) ++ events) (sym (end_events (step_events graph walk) (below_steps below) (leaves number)))
+      ∙ ap (λ (told : Option Text). beginning_events told (node_numbered graph number)
+      ++ (flat_map (step_events graph walk) (below_steps below) ++ ending_events (node_numbered graph number))) fits.0
+      ∙ ap (λ (events : List Event). beginning_events (anchor_of walk number) (node_numbered graph number) ++ events)
+      (sym (end_events (step_events graph walk) (below_steps below) (leaves number)))
 
-  items_at_events : (graph : Graph) (walk : List Step) (below : PlacedAll) → AllFit (anchor_of walk) graph below → nodes_events (items_at graph below) ≡ flat_map (step_events graph walk) (below_steps below)
+  items_at_events : (graph : Graph) (walk : List Step) (below : PlacedAll) → AllFit (anchor_of walk) graph below
+      → nodes_events (items_at graph below) ≡ flat_map (step_events graph walk) (below_steps below)
   items_at_events graph walk none_placed fit = refl
   items_at_events graph walk (placed_and before last) fit =
       ap (λ (events : List Event). events ++ node_events (node_at graph last)) (items_at_events graph walk before fit.0)
       ∙ ap (λ (events : List Event). flat_map (step_events graph walk) (below_steps before) ++ events) (node_at_events graph walk last fit.1)
       ∙ sym (flat_map-append (step_events graph walk) (below_steps before) (placed_steps last))
 
-  pairs_at_events : (graph : Graph) (walk : List Step) (below : PlacedAll) → AllFit (anchor_of walk) graph below → are_pairs below ≡ true → pairs_events (pairs_at graph below) ≡ flat_map (step_events graph walk) (below_steps below)
+  pairs_at_events : (graph : Graph) (walk : List Step) (below : PlacedAll) → AllFit (anchor_of walk) graph below → are_pairs below ≡ true
+      → pairs_events (pairs_at graph below) ≡ flat_map (step_events graph walk) (below_steps below)
   pairs_at_events graph walk none_placed fit even = refl
   pairs_at_events graph walk (placed_and none_placed last) fit even = cc
   pairs_at_events graph walk (placed_and (placed_and before key) value) fit even =
-      ap (λ (events : List Event). events ++ (node_events (node_at graph key) ++ node_events (node_at graph value))) (pairs_at_events graph walk before fit.0.0 even)
-      ∙ ap (λ (events : List Event). flat_map (step_events graph walk) (below_steps before) ++ (events ++ node_events (node_at graph value))) (node_at_events graph walk key fit.0.1)
-      ∙ ap (λ (events : List Event). flat_map (step_events graph walk) (below_steps before) ++ (flat_map (step_events graph walk) (placed_steps key) ++ events)) (node_at_events graph walk value fit.1)
-      ∙ sym (append_assoc (flat_map (step_events graph walk) (below_steps before)) (flat_map (step_events graph walk) (placed_steps key)) (flat_map (step_events graph walk) (placed_steps value)))
-      ∙ ap (λ (events : List Event). events ++ flat_map (step_events graph walk) (placed_steps value)) (sym (flat_map-append (step_events graph walk) (below_steps before) (placed_steps key)))
+      ap (λ (events : List Event). events ++ (node_events (node_at graph key) ++ node_events (node_at graph value)))
+      (pairs_at_events graph walk before fit.0.0 even)
+      ∙ ap (λ (events : List Event). flat_map (step_events graph walk) (below_steps before) ++ (events ++ node_events (node_at graph value)))
+      (node_at_events graph walk key fit.0.1)
+      ∙ ap (λ (events : List Event). flat_map (step_events graph walk) (below_steps before) ++ (flat_map (step_events graph walk) (placed_steps key) ++ events))
+      (node_at_events graph walk value fit.1)
+      ∙ sym (append_assoc (flat_map (step_events graph walk) (below_steps before)) (flat_map (step_events graph walk) (placed_steps key))
+      (flat_map (step_events graph walk) (placed_steps value)))
+      ∙ ap (λ (events : List Event). events ++ flat_map (step_events graph walk) (placed_steps value))
+      (sym (flat_map-append (step_events graph walk) (below_steps before) (placed_steps key)))
       ∙ sym (flat_map-append (step_events graph walk) (below_steps before ++ placed_steps key) (placed_steps value))
 
 -- ---- its shape
 
-holding_shape : (anchor : Option Text) (tag : Text) (held : Held) (node : GraphNode) (graph : Graph) (number : ℕ) (below : PlacedAll) → node_numbered graph number ≡ Some (record { tag = tag; held = held })
-    → numbers_at below ≡ children graph number → numbers_at below ≡ numbers_held held → HaveShapes true graph below (nodes_shapes (items_at graph below)) → (are_pairs below ≡ true → HaveShapes true graph below (pairs_shapes (pairs_at graph below)))
+holding_shape : (anchor : Option Text) (tag : Text) (held : Held) (node : GraphNode) (graph : Graph) (number : ℕ) (below : PlacedAll)
+    → node_numbered graph number ≡ Some (record { tag = tag; held = held })
+    → numbers_at below ≡ children graph number → numbers_at below ≡ numbers_held held → HaveShapes true graph below (nodes_shapes (items_at graph below))
+    → (are_pairs below ≡ true → HaveShapes true graph below (pairs_shapes (pairs_at graph below)))
     → HasShape true graph (node_placed anchor number below) (node_shape_of (node_holding anchor tag held (items_at graph below) (pairs_at graph below)))
 holding_shape anchor tag (scalar_held value style) node graph number below is all held items pairs =
     (refl, ap (option_map (label_of true)) is, all, subst (λ (places : PlacedAll). HaveShapes true graph places no_shapes) (sym (none_held below held)) tt)
@@ -133,23 +156,30 @@ holding_shape anchor tag (sequence_held numbers style) node graph number below i
 holding_shape anchor tag (mapping_held numbers style) node graph number below is all held items pairs =
     (refl, ap (option_map (label_of true)) is, all, pairs (held_pairs below numbers held))
 
-with_shape : (anchor : Option Text) (graph : Graph) (number : ℕ) (found : Option GraphNode) (node : GraphNode) (below : PlacedAll) → node_numbered graph number ≡ found → found ≡ Some node → numbers_at below ≡ children graph number
-    → numbers_at below ≡ numbers_in found → HaveShapes true graph below (nodes_shapes (items_at graph below)) → (are_pairs below ≡ true → HaveShapes true graph below (pairs_shapes (pairs_at graph below)))
+with_shape : (anchor : Option Text) (graph : Graph) (number : ℕ) (found : Option GraphNode) (node : GraphNode) (below : PlacedAll)
+    → node_numbered graph number ≡ found → found ≡ Some node → numbers_at below ≡ children graph number
+    → numbers_at below ≡ numbers_in found → HaveShapes true graph below (nodes_shapes (items_at graph below))
+    → (are_pairs below ≡ true → HaveShapes true graph below (pairs_shapes (pairs_at graph below)))
     → HasShape true graph (node_placed anchor number below) (node_shape_of (node_with anchor found (items_at graph below) (pairs_at graph below)))
 with_shape anchor graph number None node below is has all held items pairs = cc
-with_shape anchor graph number (Some other) node below is has all held items pairs = holding_shape anchor other.tag other.held other graph number below is all held items pairs
+with_shape anchor graph number (Some other) node below is has all held items pairs = holding_shape anchor other.tag other.held other graph number below is all
+    held items pairs
 
 mutual
-  pub node_at_shape : (named : ℕ → Option Text) (graph : Graph) (placed : Placed) → Fits named graph placed → HasShape true graph placed (node_shape_of (node_at graph placed))
+  pub node_at_shape : (named : ℕ → Option Text) (graph : Graph) (placed : Placed) → Fits named graph placed
+      → HasShape true graph placed (node_shape_of (node_at graph placed))
   node_at_shape named graph (alias_placed name number) fits = refl
   node_at_shape named graph (node_placed anchor number below) fits =
-      with_shape anchor graph number (node_numbered graph number) fits.1.node below refl fits.1.is fits.2 fits.2 (items_at_shapes named graph below fits.3) (pairs_at_shapes named graph below fits.3)
+      with_shape anchor graph number (node_numbered graph number) fits.1.node below refl fits.1.is fits.2 fits.2 (items_at_shapes named graph below fits.3)
+      (pairs_at_shapes named graph below fits.3)
 
-  items_at_shapes : (named : ℕ → Option Text) (graph : Graph) (below : PlacedAll) → AllFit named graph below → HaveShapes true graph below (nodes_shapes (items_at graph below))
+  items_at_shapes : (named : ℕ → Option Text) (graph : Graph) (below : PlacedAll) → AllFit named graph below
+      → HaveShapes true graph below (nodes_shapes (items_at graph below))
   items_at_shapes named graph none_placed fit = tt
   items_at_shapes named graph (placed_and before last) fit = (items_at_shapes named graph before fit.0, node_at_shape named graph last fit.1)
 
-  pairs_at_shapes : (named : ℕ → Option Text) (graph : Graph) (below : PlacedAll) → AllFit named graph below → are_pairs below ≡ true → HaveShapes true graph below (pairs_shapes (pairs_at graph below))
+  pairs_at_shapes : (named : ℕ → Option Text) (graph : Graph) (below : PlacedAll) → AllFit named graph below → are_pairs below ≡ true
+      → HaveShapes true graph below (pairs_shapes (pairs_at graph below))
   pairs_at_shapes named graph none_placed fit even = tt
   pairs_at_shapes named graph (placed_and none_placed last) fit even = cc
   pairs_at_shapes named graph (placed_and (placed_and before key) value) fit even =

@@ -19,11 +19,13 @@ from_node depth graph before number false = fold (steps_from depth graph) (befor
 -- a list of steps has a property: that of no steps, and each step that a walk adds keeps it
 pub record Keeps (graph : Graph) (P : List Step → Type 0) : Type 0 where
   pub met : (before : List Step) (number : ℕ) → list_any (is_entry_of number) before ≡ true → P before → P (before ++ meets_again number ∷ [])
-  pub entered : (before : List Step) (number : ℕ) → IsReached graph number → list_any (is_entry_of number) before ≡ false → P before → P (before ++ enters number ∷ [])
+  pub entered : (before : List Step) (number : ℕ) → IsReached graph number → list_any (is_entry_of number) before ≡ false → P before
+      → P (before ++ enters number ∷ [])
   pub left : (before : List Step) (number : ℕ) → P before → P (before ++ leaves number ∷ [])
 
 -- each of some numbers
-fold_keeps : (Q : ℕ → Type 0) (P : List Step → Type 0) (step : List Step → ℕ → List Step) → ((before : List Step) (number : ℕ) → Q number → P before → P (step before number))
+fold_keeps : (Q : ℕ → Type 0) (P : List Step → Type 0) (step : List Step → ℕ → List Step)
+    → ((before : List Step) (number : ℕ) → Q number → P before → P (step before number))
     → (numbers : List ℕ) → ((number : ℕ) → Contains numbers number → Q number) → (before : List Step) → P before → P (fold step before numbers)
 fold_keeps Q P step keeps [] all before p = p
 fold_keeps Q P step keeps (number ∷ numbers) all before p =
@@ -31,14 +33,17 @@ fold_keeps Q P step keeps (number ∷ numbers) all before p =
     (keeps before number (all number (Contains-append_left (number ∷ []) numbers number (0, omega arith, refl))) p)
 
 -- a walk from a node that is reached
-pub steps_keep : (graph : Graph) (P : List Step → Type 0) → Keeps graph P → (depth : ℕ) (before : List Step) (number : ℕ) → IsReached graph number → P before → P (steps_from depth graph before number)
+pub steps_keep : (graph : Graph) (P : List Step → Type 0) → Keeps graph P → (depth : ℕ) (before : List Step) (number : ℕ) → IsReached graph number → P before
+    → P (steps_from depth graph before number)
 steps_keep graph P keeps zero before number reached p = p
 steps_keep graph P keeps (suc depth) before number reached p =
-    (elim (list_any (is_entry_of number) before) as (λ entered. list_any (is_entry_of number) before ≡ entered → P (from_node depth graph before number entered)) [
+    (elim (list_any (is_entry_of number) before) as
+    (λ entered. list_any (is_entry_of number) before ≡ entered → P (from_node depth graph before number entered)) [
       | true ↦ λ is. keeps.met before number is p
       | false ↦ λ is.
           keeps.left (fold (steps_from depth graph) (before ++ enters number ∷ []) (children graph number)) number
-          (fold_keeps (IsReached graph) P (steps_from depth graph) (λ earlier child r q. steps_keep graph P keeps depth earlier child r q) (children graph number)
+          (fold_keeps (IsReached graph) P (steps_from depth graph) (λ earlier child r q. steps_keep graph P keeps depth earlier child r q)
+          (children graph number)
           (λ child within. child_reached reached within) (before ++ enters number ∷ []) (keeps.entered before number reached is p))
     ]) refl
 
@@ -95,14 +100,16 @@ once_added true false counted is fails = omega (arith, is)
 once_added false true counted is fails = omega (arith, is)
 once_added false false counted is fails = omega (arith, is)
 
-once_more : (test : Step → Bool) (before : List Step) (step : Step) → count_by test before ≡ cond (list_any test before) 1 0 → (list_any test before ≡ true → test step ≡ false)
+once_more : (test : Step → Bool) (before : List Step) (step : Step) → count_by test before ≡ cond (list_any test before) 1 0
+    → (list_any test before ≡ true → test step ≡ false)
     → count_by test (before ++ step ∷ []) ≡ cond (list_any test (before ++ step ∷ [])) 1 0
 once_more test before step is fails =
     count_added test before step ∙ once_added (list_any test before) (test step) (count_by test before) is fails
     ∙ ap (λ (b : Bool). cond b 1 0) (sym (any_added test before step))
 
 -- another number than that of a node which isn't entered yet
-differs : (before : List Step) (number other : ℕ) → list_any (is_entry_of number) before ≡ false → list_any (is_entry_of other) before ≡ true → (other == number) ≡ false
+differs : (before : List Step) (number other : ℕ) → list_any (is_entry_of number) before ≡ false → list_any (is_entry_of other) before ≡ true
+    → (other == number) ≡ false
 differs before number other none some =
     elim (cases_eq other number) as (λ _. (other == number) ≡ false) [
       | inl same ↦ let both = sym some ∙ ap (λ (n : ℕ). list_any (is_entry_of n) before) same ∙ none in cc
@@ -110,20 +117,26 @@ differs before number other none some =
     ]
 
 -- one more step that comes after the entry of its node
-follow_more : (before walk : List Step) (step : Step) → FollowEntries before walk → FollowsEntry (before ++ walk) step → FollowEntries before (walk ++ step ∷ [])
+follow_more : (before walk : List Step) (step : Step) → FollowEntries before walk → FollowsEntry (before ++ walk) step
+    → FollowEntries before (walk ++ step ∷ [])
 follow_more before [] step follow now = (subst (λ steps. FollowsEntry steps step) (append-nil before) now, tt)
-follow_more before (first ∷ walk) step follow now =
-    (follow.0, follow_more (before ++ first ∷ []) walk step follow.1 (subst (λ steps. FollowsEntry steps step) (sym (append_assoc before (first ∷ []) walk)) now))
+follow_more before (first ∷ walk) step follow now = (
+  follow.0,
+  follow_more (before ++ first ∷ []) walk step follow.1
+      (subst (λ steps. FollowsEntry steps step) (sym (append_assoc before (first ∷ []) walk)) now),
+)
 
 -- a property of the steps before a step, where the step has no part in it
 kept : (graph : Graph) (before : List Step) (step : Step) → IsOrderly graph before → ((number : ℕ) → is_entry_of number step ≡ false)
-    → ((number : ℕ) → is_meeting_of number step ≡ true → list_any (is_entry_of number) before ≡ true) → FollowsEntry before step → IsOrderly graph (before ++ step ∷ [])
+    → ((number : ℕ) → is_meeting_of number step ≡ true → list_any (is_entry_of number) before ≡ true) → FollowsEntry before step
+    → IsOrderly graph (before ++ step ∷ [])
 kept graph before step orderly enters_none meets follows =
     record {
       once = λ number. once_more (is_entry_of number) before step (orderly.once number) (λ some. enters_none number);
       met = λ number some.
           let was : list_any (is_entry_of number) before ≡ true =
-          elim (or_cases (list_any (is_meeting_of number) before) (is_meeting_of number step) (sym (any_added (is_meeting_of number) before step) ∙ some)) as (λ _. list_any (is_entry_of number) before ≡ true) [
+          elim (or_cases (list_any (is_meeting_of number) before) (is_meeting_of number step) (sym (any_added (is_meeting_of number) before step) ∙ some)) as
+          (λ _. list_any (is_entry_of number) before ≡ true) [
             | inl earlier ↦ orderly.met number earlier
             | inr now ↦ meets number now
           ] in
@@ -133,18 +146,21 @@ kept graph before step orderly enters_none meets follows =
     }
 
 -- a node is entered
-kept_entered : (graph : Graph) (before : List Step) (number : ℕ) → IsReached graph number → list_any (is_entry_of number) before ≡ false → IsOrderly graph before → IsOrderly graph (before ++ enters number ∷ [])
+kept_entered : (graph : Graph) (before : List Step) (number : ℕ) → IsReached graph number → list_any (is_entry_of number) before ≡ false
+    → IsOrderly graph before → IsOrderly graph (before ++ enters number ∷ [])
 kept_entered graph before number reached none orderly =
     record {
       once = λ other. once_more (is_entry_of other) before (enters number) (orderly.once other) (differs before number other none);
       met = λ other some.
-          elim (or_cases (list_any (is_meeting_of other) before) (other == number) (sym (any_added (is_meeting_of other) before (enters number)) ∙ some)) as (λ _. list_any (is_entry_of other) (before ++ enters number ∷ []) ≡ true) [
+          elim (or_cases (list_any (is_meeting_of other) before) (other == number) (sym (any_added (is_meeting_of other) before (enters number)) ∙ some)) as
+          (λ _. list_any (is_entry_of other) (before ++ enters number ∷ []) ≡ true) [
             | inl earlier ↦ still_any (is_entry_of other) before (enters number ∷ []) (orderly.met other earlier)
             | inr now ↦ one_added (is_entry_of other) before (enters number) now
           ];
       follow = follow_more [] before (enters number) orderly.follow tt;
       reached = λ other some.
-          elim (or_cases (list_any (is_entry_of other) before) (other == number) (sym (any_added (is_entry_of other) before (enters number)) ∙ some)) as (λ _. IsReached graph other) [
+          elim (or_cases (list_any (is_entry_of other) before) (other == number) (sym (any_added (is_entry_of other) before (enters number)) ∙ some)) as
+          (λ _. IsReached graph other) [
             | inl earlier ↦ orderly.reached other earlier
             | inr now ↦ subst (λ (n : ℕ). IsReached graph n) (sym (eqb-true other number now)) reached
           ];

@@ -68,10 +68,12 @@ found count [] place all within = absurd (omega (arith, within))
 found count (node ∷ nodes) zero all within =
     (node, refl, (both_true (name_nodes count (numbers_held node.held)) (list_all (λ other. name_nodes count (numbers_held other.held)) nodes) all).0)
 found count (node ∷ nodes) (suc place) all within =
-    found count nodes place (both_true (name_nodes count (numbers_held node.held)) (list_all (λ other. name_nodes count (numbers_held other.held)) nodes) all).1 (omega (arith, within))
+    found count nodes place (both_true (name_nodes count (numbers_held node.held)) (list_all (λ other. name_nodes count (numbers_held other.held)) nodes) all).1
+    (omega (arith, within))
 
 -- a whole graph has the node of a number, and the numbers of its children name nodes
-numbered : (graph : Graph) (number : ℕ) → is_whole graph ≡ true → Names (length graph.nodes) number → HasNode graph number × (name_nodes (length graph.nodes) (children graph number) ≡ true)
+numbered : (graph : Graph) (number : ℕ) → is_whole graph ≡ true → Names (length graph.nodes) number → HasNode graph number
+    × (name_nodes (length graph.nodes) (children graph number) ≡ true)
 numbered graph zero whole names = absurd (omega (arith, names.first))
 numbered graph (suc place) whole names =
     let at = found (length graph.nodes) graph.nodes place whole (omega (arith, names.last)) in
@@ -99,10 +101,12 @@ unentered_grown : (count : ℕ) (walk more : List Step) → unentered count (wal
 unfolding unentered
 unentered_grown zero walk more = omega arith
 unentered_grown (suc count) walk more =
-    let one = no_more (list_any (is_entry_of (suc count)) walk) (list_any (is_entry_of (suc count)) more) (list_any (is_entry_of (suc count)) (walk ++ more)) (list_any-append (is_entry_of (suc count)) walk more) in
+    let one = no_more (list_any (is_entry_of (suc count)) walk) (list_any (is_entry_of (suc count)) more) (list_any (is_entry_of (suc count)) (walk ++ more))
+    (list_any-append (is_entry_of (suc count)) walk more) in
     omega (arith, unentered_grown count walk more, one)
 
-now_entered : (walk : List Step) (number : ℕ) → list_any (is_entry_of number) walk ≡ false → suc (cond (list_any (is_entry_of number) (walk ++ enters number ∷ [])) 0 1) ≤ cond (list_any (is_entry_of number) walk) 0 1
+now_entered : (walk : List Step) (number : ℕ) → list_any (is_entry_of number) walk ≡ false
+    → suc (cond (list_any (is_entry_of number) (walk ++ enters number ∷ [])) 0 1) ≤ cond (list_any (is_entry_of number) walk) 0 1
 now_entered walk number none =
     let some : list_any (is_entry_of number) (walk ++ enters number ∷ []) ≡ true =
     list_any-append (is_entry_of number) walk (enters number ∷ [])
@@ -110,17 +114,20 @@ now_entered walk number none =
     omega (arith, ap {B = ℕ} (λ (b : Bool). cond b 0 1) some, ap {B = ℕ} (λ (b : Bool). cond b 0 1) none)
 
 -- an entry leaves one fewer
-unentered_fewer : (count : ℕ) (walk : List Step) (number : ℕ) → Names count number → list_any (is_entry_of number) walk ≡ false → suc (unentered count (walk ++ enters number ∷ [])) ≤ unentered count walk
+unentered_fewer : (count : ℕ) (walk : List Step) (number : ℕ) → Names count number → list_any (is_entry_of number) walk ≡ false
+    → suc (unentered count (walk ++ enters number ∷ [])) ≤ unentered count walk
 unfolding unentered
 unentered_fewer zero walk number names none = absurd (omega (arith, names.first, names.last))
 unentered_fewer (suc count) walk number names none =
     elim (cases_eq number (suc count)) as (λ _. suc (unentered (suc count) (walk ++ enters number ∷ [])) ≤ unentered (suc count) walk) [
       | inl same ↦
           let now : suc (cond (list_any (is_entry_of (suc count)) (walk ++ enters number ∷ [])) 0 1) ≤ cond (list_any (is_entry_of (suc count)) walk) 0 1 =
-          subst (λ (n : ℕ). suc (cond (list_any (is_entry_of n) (walk ++ enters number ∷ [])) 0 1) ≤ cond (list_any (is_entry_of n) walk) 0 1) same (now_entered walk number none) in
+          subst (λ (n : ℕ). suc (cond (list_any (is_entry_of n) (walk ++ enters number ∷ [])) 0 1) ≤ cond (list_any (is_entry_of n) walk) 0 1) same
+          (now_entered walk number none) in
           omega (arith, unentered_grown count walk (enters number ∷ []), now)
       | inr apart ↦
-          let one = no_more (list_any (is_entry_of (suc count)) walk) (list_any (is_entry_of (suc count)) (enters number ∷ [])) (list_any (is_entry_of (suc count)) (walk ++ enters number ∷ [])) (list_any-append (is_entry_of (suc count)) walk (enters number ∷ [])) in
+          let one = no_more (list_any (is_entry_of (suc count)) walk) (list_any (is_entry_of (suc count)) (enters number ∷ []))
+          (list_any (is_entry_of (suc count)) (walk ++ enters number ∷ [])) (list_any-append (is_entry_of (suc count)) walk (enters number ∷ [])) in
           let fewer = unentered_fewer count walk number (record { first = names.first; last = omega (arith, names.last, apart) }) none in
           omega (arith, fewer, one)
     ]
@@ -142,9 +149,11 @@ pub record WalksAll (named : ℕ → Option Text) (graph : Graph) (before after 
   pub adds : after ≡ before ++ below_steps placed
 
 all_walk : (named : ℕ → Option Text) (graph : Graph) (step : List Step → ℕ → List Step) (room : ℕ)
-    → ((from : List Step) (number : ℕ) → unentered (length graph.nodes) from < room → Names (length graph.nodes) number → Walks named graph from (step from number) number)
+    → ((from : List Step) (number : ℕ) → unentered (length graph.nodes) from < room → Names (length graph.nodes) number
+    → Walks named graph from (step from number) number)
     → (numbers : List ℕ) (before from : List Step) (earlier : PlacedAll) → from ≡ before ++ below_steps earlier → AllFit named graph earlier
-    → name_nodes (length graph.nodes) numbers ≡ true → unentered (length graph.nodes) from < room → WalksAll named graph before (fold step from numbers) earlier numbers
+    → name_nodes (length graph.nodes) numbers ≡ true → unentered (length graph.nodes) from < room
+    → WalksAll named graph before (fold step from numbers) earlier numbers
 all_walk named graph step room each [] before from earlier is fit names less =
     record { placed = earlier; roots = sym (append-nil (numbers_at earlier)); fit = fit; adds = is }
 all_walk named graph step room each (number ∷ numbers) before from earlier is fit names less =
@@ -152,7 +161,8 @@ all_walk named graph step room each (number ∷ numbers) before from earlier is 
     let now : step from number ≡ before ++ below_steps (placed_and earlier one.placed) =
     one.adds ∙ ap (λ (steps : List Step). steps ++ placed_steps one.placed) is ∙ append_assoc before (below_steps earlier) (placed_steps one.placed) in
     let grown : unentered (length graph.nodes) (step from number) ≤ unentered (length graph.nodes) from =
-    subst (λ (steps : List Step). unentered (length graph.nodes) steps ≤ unentered (length graph.nodes) from) (sym one.adds) (unentered_grown (length graph.nodes) from (placed_steps one.placed)) in
+    subst (λ (steps : List Step). unentered (length graph.nodes) steps ≤ unentered (length graph.nodes) from) (sym one.adds)
+    (unentered_grown (length graph.nodes) from (placed_steps one.placed)) in
     let more = all_walk named graph step room each numbers before (step from number) (placed_and earlier one.placed) now (fit, one.fits)
     (rest_names (length graph.nodes) number numbers names) (omega (arith, grown, less)) in
     record {
@@ -172,27 +182,33 @@ regrouped : (before below : List Step) (entry end : Step) → ((before ++ entry 
 regrouped before below entry end = append_assoc (before ++ entry ∷ []) below (end ∷ []) ∙ append_assoc before (entry ∷ []) (below ++ end ∷ [])
 
 -- while enough nodes may be entered inside each other
-pub walks : (named : ℕ → Option Text) (graph : Graph) → is_whole graph ≡ true → (depth : ℕ) (before : List Step) (number : ℕ) → unentered (length graph.nodes) before < depth
+pub walks : (named : ℕ → Option Text) (graph : Graph) → is_whole graph ≡ true → (depth : ℕ) (before : List Step) (number : ℕ)
+    → unentered (length graph.nodes) before < depth
     → Names (length graph.nodes) number → Walks named graph before (steps_from depth graph before number) number
 walks named graph whole zero before number room names = absurd (omega (arith, room))
 walks named graph whole (suc depth) before number room names =
-    (elim (list_any (is_entry_of number) before) as (λ entered. list_any (is_entry_of number) before ≡ entered → Walks named graph before (from_node depth graph before number entered) number) [
+    (elim (list_any (is_entry_of number) before) as
+    (λ entered. list_any (is_entry_of number) before ≡ entered → Walks named graph before (from_node depth graph before number entered) number) [
       | true ↦ λ is. record { placed = alias_placed (unwrap_or (named number) []) number; root = refl; fits = refl; adds = refl }
       | false ↦ λ is.
           let at = numbered graph number whole names in
           let fewer = unentered_fewer (length graph.nodes) before number names is in
-          let below = all_walk named graph (steps_from depth graph) depth (λ from child less named_child. walks named graph whole depth from child less named_child) (children graph number)
-          (before ++ enters number ∷ []) (before ++ enters number ∷ []) none_placed (sym (append-nil (before ++ enters number ∷ []))) tt at.1 (omega (arith, fewer, room)) in
+          let below = all_walk named graph (steps_from depth graph) depth
+          (λ from child less named_child. walks named graph whole depth from child less named_child) (children graph number)
+          (before ++ enters number ∷ []) (before ++ enters number ∷ []) none_placed (sym (append-nil (before ++ enters number ∷ []))) tt at.1
+          (omega (arith, fewer, room)) in
           record {
             placed = node_placed (named number) number below.placed;
             root = refl;
             fits = (refl, at.0, below.roots, below.fit);
-            adds = ap (λ (steps : List Step). steps ++ leaves number ∷ []) below.adds ∙ regrouped before (below_steps below.placed) (enters number) (leaves number);
+            adds = ap (λ (steps : List Step). steps ++ leaves number ∷ []) below.adds
+                ∙ regrouped before (below_steps below.placed) (enters number) (leaves number);
           }
     ]) refl
 
 -- from node 1 of a graph that has nodes
-pub walk_placed : (named : ℕ → Option Text) (graph : Graph) → is_whole graph ≡ true → 1 ≤ length graph.nodes → Walks named graph [] (steps_from (suc (length graph.nodes)) graph [] 1) 1
+pub walk_placed : (named : ℕ → Option Text) (graph : Graph) → is_whole graph ≡ true → 1 ≤ length graph.nodes
+    → Walks named graph [] (steps_from (suc (length graph.nodes)) graph [] 1) 1
 walk_placed named graph whole some =
     walks named graph whole (suc (length graph.nodes)) [] 1 (omega (arith, none_entered (length graph.nodes))) (record { first = omega arith; last = some })
 
@@ -216,7 +232,8 @@ only_one x y (suc k, within, is) = absurd (omega (arith, within))
 numbers_met : (below : PlacedAll) (child : ℕ) → Contains (numbers_at below) child → list_any (is_meeting_of child) (below_steps below) ≡ true
 numbers_met none_placed child (k, within, is) = absurd (omega (arith, within))
 numbers_met (placed_and before last) child within =
-    elim (Contains-append_cases (numbers_at before) (number_at last ∷ []) child within) as (λ _. list_any (is_meeting_of child) (below_steps before ++ placed_steps last) ≡ true) [
+    elim (Contains-append_cases (numbers_at before) (number_at last ∷ []) child within) as
+    (λ _. list_any (is_meeting_of child) (below_steps before ++ placed_steps last) ≡ true) [
       | inl earlier ↦ any_left (is_meeting_of child) (below_steps before) (placed_steps last) (numbers_met before child earlier)
       | inr now ↦
           any_right (is_meeting_of child) (below_steps before) (placed_steps last)
@@ -224,29 +241,36 @@ numbers_met (placed_and before last) child within =
     ]
 
 -- behind an entry, and before its end
-within_met : (child number : ℕ) (below : List Step) → list_any (is_meeting_of child) below ≡ true → list_any (is_meeting_of child) (enters number ∷ (below ++ leaves number ∷ [])) ≡ true
-within_met child number below is = any_right (is_meeting_of child) (enters number ∷ []) (below ++ leaves number ∷ []) (any_left (is_meeting_of child) below (leaves number ∷ []) is)
+within_met : (child number : ℕ) (below : List Step) → list_any (is_meeting_of child) below ≡ true
+    → list_any (is_meeting_of child) (enters number ∷ (below ++ leaves number ∷ [])) ≡ true
+within_met child number below is = any_right (is_meeting_of child) (enters number ∷ []) (below ++ leaves number ∷ [])
+    (any_left (is_meeting_of child) below (leaves number ∷ []) is)
 
 mutual
-  pub children_met : (named : ℕ → Option Text) (graph : Graph) (placed : Placed) (number child : ℕ) → Fits named graph placed → list_any (is_entry_of number) (placed_steps placed) ≡ true
+  pub children_met : (named : ℕ → Option Text) (graph : Graph) (placed : Placed) (number child : ℕ) → Fits named graph placed
+      → list_any (is_entry_of number) (placed_steps placed) ≡ true
       → Contains (children graph number) child → list_any (is_meeting_of child) (placed_steps placed) ≡ true
   children_met named graph (alias_placed name other) number child fits entered within = cc
   children_met named graph (node_placed anchor other below) number child fits entered within =
-      elim (or_cases (number == other) (list_any (is_entry_of number) (below_steps below ++ leaves other ∷ [])) entered) as (λ _. list_any (is_meeting_of child) (enters other ∷ (below_steps below ++ leaves other ∷ [])) ≡ true) [
+      elim (or_cases (number == other) (list_any (is_entry_of number) (below_steps below ++ leaves other ∷ [])) entered) as
+      (λ _. list_any (is_meeting_of child) (enters other ∷ (below_steps below ++ leaves other ∷ [])) ≡ true) [
         | inl here ↦
             let same : number ≡ other = eqb-true number other here in
-            let held : Contains (numbers_at below) child = subst (λ (numbers : List ℕ). Contains numbers child) (ap (λ (n : ℕ). children graph n) same ∙ sym fits.2) within in
+            let held : Contains (numbers_at below) child = subst (λ (numbers : List ℕ). Contains numbers child)
+            (ap (λ (n : ℕ). children graph n) same ∙ sym fits.2) within in
             within_met child other (below_steps below) (numbers_met below child held)
         | inr deeper ↦
             within_met child other (below_steps below)
             (below_met named graph below number child fits.3 (sym (none_added (is_entry_of number) (below_steps below) (leaves other) refl) ∙ deeper) within)
       ]
 
-  below_met : (named : ℕ → Option Text) (graph : Graph) (below : PlacedAll) (number child : ℕ) → AllFit named graph below → list_any (is_entry_of number) (below_steps below) ≡ true
+  below_met : (named : ℕ → Option Text) (graph : Graph) (below : PlacedAll) (number child : ℕ) → AllFit named graph below
+      → list_any (is_entry_of number) (below_steps below) ≡ true
       → Contains (children graph number) child → list_any (is_meeting_of child) (below_steps below) ≡ true
   below_met named graph none_placed number child fit entered within = cc
   below_met named graph (placed_and before last) number child fit entered within =
-      elim (or_cases (list_any (is_entry_of number) (below_steps before)) (list_any (is_entry_of number) (placed_steps last)) (sym (list_any-append (is_entry_of number) (below_steps before) (placed_steps last)) ∙ entered))
+      elim (or_cases (list_any (is_entry_of number) (below_steps before)) (list_any (is_entry_of number) (placed_steps last))
+      (sym (list_any-append (is_entry_of number) (below_steps before) (placed_steps last)) ∙ entered))
       as (λ _. list_any (is_meeting_of child) (below_steps before ++ placed_steps last) ≡ true) [
         | inl earlier ↦ any_left (is_meeting_of child) (below_steps before) (placed_steps last) (below_met named graph before number child fit.0 earlier within)
         | inr now ↦ any_right (is_meeting_of child) (below_steps before) (placed_steps last) (children_met named graph last number child fit.1 now within)
@@ -261,7 +285,8 @@ place_of named (meets_again number) = Some (alias_place (unwrap_or (named number
 place_of named (leaves number) = None
 
 mutual
-  pub places_are : (named : ℕ → Option Text) (graph : Graph) (placed : Placed) → Fits named graph placed → places placed ≡ filter_map (place_of named) (placed_steps placed)
+  pub places_are : (named : ℕ → Option Text) (graph : Graph) (placed : Placed) → Fits named graph placed
+      → places placed ≡ filter_map (place_of named) (placed_steps placed)
   places_are named graph (alias_placed name number) fits = ap (λ (told : Text). alias_place told number ∷ []) fits
   places_are named graph (node_placed anchor number below) fits =
       ap (λ (told : Option Text). node_place told number ∷ places_below below) fits.0
@@ -270,7 +295,8 @@ mutual
       ∙ sym (append-nil (filter_map (place_of named) (below_steps below)))
       ∙ sym (filter_map-append (place_of named) (below_steps below) (leaves number ∷ [])))
 
-  places_below_are : (named : ℕ → Option Text) (graph : Graph) (below : PlacedAll) → AllFit named graph below → places_below below ≡ filter_map (place_of named) (below_steps below)
+  places_below_are : (named : ℕ → Option Text) (graph : Graph) (below : PlacedAll) → AllFit named graph below
+      → places_below below ≡ filter_map (place_of named) (below_steps below)
   places_below_are named graph none_placed fit = refl
   places_below_are named graph (placed_and before last) fit =
       ap (λ (earlier : List Place). earlier ++ places last) (places_below_are named graph before fit.0)

@@ -1,5 +1,5 @@
 -- Which styles a scalar's value allows, as tests on the whole value (YAML 1.1, sections 9.1 and 9.3; libyaml's own rules).
-use Rattle.std.specs.Prelude.{ℕ, Bool, true, false, List, [], ◌∷◌, ◌==◌, ◌||◌, ◌&&◌, not, codes}
+use Rattle.std.specs.Prelude.{ℕ, Bool, true, false, [], ◌∷◌, ◌==◌, ◌||◌, ◌&&◌, not, codes}
 use Rattle.std.specs.List.{list_any}
 use Rattle.yaml_base.specs.Characters.{Text, is_among, is_ascii, is_blank, is_break, is_printable, is_space, line_separator, paragraph_separator}
 

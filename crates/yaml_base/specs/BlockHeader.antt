@@ -1,5 +1,5 @@
 -- The header of literal and folded scalars (YAML 1.1, section 9.2).
-use Rattle.std.specs.Prelude.{ℕ, Bool, true, false, Option, None, Some, List, [], ◌∷◌, ◌++◌, ◌||◌, ◌+◌, ◌≡◌, if◌then◌else◌}
+use Rattle.std.specs.Prelude.{ℕ, Bool, true, false, Option, None, Some, [], ◌∷◌, ◌||◌, ◌+◌, ◌≡◌, if◌then◌else◌}
 use Rattle.yaml_base.specs.Characters.{Text, is_break, is_space, line_feed}
 use Rattle.yaml_base.specs.Analysis.{begins_with}
 use Rattle.yaml_base.specs.Cursor.{Cursor, Laid, nothing_laid, then_laid, text_laid, with_flags, indicator}

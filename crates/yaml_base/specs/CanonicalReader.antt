@@ -288,7 +288,8 @@ abbrev pub entry_read : List DocumentContent → Head → List OpenContent → T
 entry_read documents head (open_sequence given named items ∷ levels) closes_sequence = with_content documents head levels (sequence_content given named items)
 entry_read documents head (open_sequence given named items ∷ levels) token = node_read documents head (open_sequence given named items ∷ levels) None None token
 entry_read documents head (open_mapping given named pairs None ∷ levels) closes_mapping = with_content documents head levels (mapping_content given named pairs)
-entry_read documents head (open_mapping given named pairs None ∷ levels) key_sign = within documents head (open_mapping given named pairs None ∷ levels) (node_awaited None None)
+entry_read documents head (open_mapping given named pairs None ∷ levels) key_sign = within documents head (open_mapping given named pairs None ∷ levels)
+    (node_awaited None None)
 entry_read documents head _ _ = failed
 
 -- a token within a document

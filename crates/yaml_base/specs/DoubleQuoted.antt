@@ -1,6 +1,6 @@
 -- The layout of a double-quoted scalar (YAML 1.1, sections 5.6 and 9.1.1; folds by libyaml's own rule).
-use Rattle.std.specs.Prelude.{ℕ, Bool, true, false, Option, None, Some, List, [], ◌∷◌, ◌++◌, ◌==◌, ◌||◌, ◌&&◌, not, nat_le, if◌then◌else◌}
-use Rattle.yaml_base.specs.Characters.{Text, hex_digits, is_ascii, is_break, is_printable, is_space, space}
+use Rattle.std.specs.Prelude.{ℕ, Bool, true, false, Option, None, Some, List, [], ◌∷◌, ◌==◌, ◌||◌, ◌&&◌, not, nat_le, if◌then◌else◌}
+use Rattle.yaml_base.specs.Characters.{Text, hex_digits, is_ascii, is_break, is_printable, is_space}
 use Rattle.yaml_base.specs.Cursor.{Cursor, Laid, indicator, is_past_width, new_line, nothing_laid, space_if, text_laid, then_laid}
 
 -- U+0022

@@ -32,6 +32,10 @@ tight text = record { text = text; needs_space = false; leaves_space = false; ke
 abbrev pub indented : Text → Indicator
 indented text = record { text = text; needs_space = true; leaves_space = false; keeps_indention = true }
 
+-- the sign of a key that isn't simple, in flow or in a block
+abbrev pub key : (in_block : Bool) → Indicator
+key in_block = record { text = codes "?"; needs_space = true; leaves_space = false; keeps_indention = in_block }
+
 -- Documents
 
 abbrev pub document_start : Indicator
@@ -70,7 +74,7 @@ abbrev pub flow_entry : Indicator
 flow_entry = tight (codes ",")
 
 abbrev pub flow_key : Indicator
-flow_key = spaced (codes "?")
+flow_key = key false
 
 abbrev pub flow_value : Indicator
 flow_value = spaced (codes ":")
@@ -81,7 +85,7 @@ abbrev pub block_entry : Indicator
 block_entry = indented (codes "-")
 
 abbrev pub block_key : Indicator
-block_key = indented (codes "?")
+block_key = key true
 
 abbrev pub block_value : Indicator
 block_value = indented (codes ":")

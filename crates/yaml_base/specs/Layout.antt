@@ -1,19 +1,15 @@
 -- The text of a stream, one piece for each event (libyaml's own rules; YAML 1.1, chapter 7, for the signs).
-use Rattle.std.specs.Prelude.{◌≡◌, Bool, true, false, Option, None, Some, List, [], ◌∷◌, ◌==◌, ◌||◌, ◌&&◌, not, length, codes, is_some, pos, if◌then◌else◌}
+use Rattle.std.specs.Prelude.{◌≡◌, Bool, true, false, Option, None, Some, List, [], ◌∷◌, ◌==◌, ◌||◌, ◌&&◌, not, length, is_some, pos, if◌then◌else◌}
 use Rattle.std.specs.Ordering.{int_eq}
-use Rattle.yaml_base.specs.Characters.{Text}
 use Rattle.yaml_base.specs.Settings.{Effective}
-use Rattle.yaml_base.specs.Cursor.{Cursor, Laid, first_cursor, nothing_laid, then_laid, new_line, indicator}
+use Rattle.yaml_base.specs.Cursor.{Cursor, Laid, first_cursor, nothing_laid, then_laid, new_line}
+use Rattle.yaml_base.specs.Indicators.{Indicator, indicator_laid, document_start, document_end, yaml_directive, version_1_1, version_1_2, tag_directive}
 use Rattle.yaml_base.specs.Event.{Version, TagDirective, DocumentStart}
 use Rattle.yaml_base.specs.Percent.{prefix_escaped}
 use Rattle.yaml_base.specs.Tags.{directives_in_force}
 use Rattle.yaml_base.specs.Grammar.{Document, Documents, no_documents, documents_and, Stream, stream_events}
 pub use Rattle.yaml_base.specs.Places.{Role, as_root, as_item, as_key, as_value, Place, is_key, is_in_mapping, line_column, deeper, entries_column, byte_count, name_count, spelling_count, tag_count, is_short, is_simple_alias, is_simple_scalar, is_simple_collection, has_no_nodes, has_no_pairs, is_simple, is_simple_at, flow_break, opening_or_comma, key_sign, flow_place_laid, block_place_laid, place_laid}
 pub use Rattle.yaml_base.specs.NodeLayout.{Body, Piece, body_text, piece_text, text_of, bodies_of, Standing, PieceLaid, PiecesLaid, no_pieces, one_piece, then_pieces, lead_alone, anchor_laid, handle_laid, spelling_laid, tag_laid, properties_laid, alias_laid, separation_laid, body_laid, mark_after, choice_of, scalar_lead, body_at, scalar_piece, alias_piece, start_piece, asks_flow, is_written_in_flow, Brackets, square, curly, empty_or_comma, end_laid, end_piece, entry_place, collection_laid, node_laid, nodes_laid, pairs_laid}
-
--- `---` or `...`, or a word of a directive's line
-abbrev pub sign_laid : Text → Cursor → Laid
-sign_laid sign cursor = indicator sign true false false cursor
 
 -- a line of its own
 abbrev pub line_ended : Laid → Laid
@@ -26,24 +22,24 @@ laid_if false next cursor = nothing_laid cursor
 
 -- `...` by itself
 abbrev pub closing_mark_laid : Cursor → Laid
-closing_mark_laid cursor = line_ended (sign_laid (codes "...") cursor)
+closing_mark_laid cursor = line_ended (indicator_laid document_end cursor)
 
 -- a version as `%YAML` names it
-abbrev pub version_text : Version → Text
-version_text version = if int_eq version.minor (pos 2) then codes "1.2" else codes "1.1"
+abbrev pub version_word : Version → Indicator
+version_word version = if int_eq version.minor (pos 2) then version_1_2 else version_1_1
 
 -- the `%YAML` line (section 7.1.1)
 abbrev pub version_laid : Option Version → Cursor → Laid
 version_laid None cursor = nothing_laid cursor
 version_laid (Some version) cursor =
-    line_ended (then_laid (sign_laid (codes "%YAML") cursor) (sign_laid (version_text version)))
+    line_ended (then_laid (indicator_laid yaml_directive cursor) (indicator_laid (version_word version)))
 
 -- a `%TAG` line (section 7.1.2)
 abbrev pub tag_directive_laid : (portable : Bool) → TagDirective → Cursor → Laid
 tag_directive_laid portable directive cursor =
     line_ended
     (then_laid
-    (then_laid (sign_laid (codes "%TAG") cursor) (handle_laid directive.handle))
+    (then_laid (indicator_laid tag_directive cursor) (handle_laid directive.handle))
     (handle_laid (prefix_escaped portable directive.prefix)))
 
 -- the `%TAG` lines, in order
@@ -63,7 +59,7 @@ is_explicit each first start = not start.implicit || not first || each || has_di
 -- `---` on a new line, and in canonical mode a new line after it (section 7.2)
 abbrev pub document_mark_laid : Bool → Cursor → Laid
 document_mark_laid canonical cursor =
-    then_laid (then_laid (new_line 0 cursor) (sign_laid (codes "---"))) (laid_if canonical (new_line 0))
+    then_laid (then_laid (new_line 0 cursor) (indicator_laid document_start)) (laid_if canonical (new_line 0))
 
 -- directives after a document that wasn't closed are preceded by `...`; in canonical and in portable mode each start is
 -- written

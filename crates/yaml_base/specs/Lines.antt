@@ -1,5 +1,5 @@
 -- A value as its nonempty lines and its breaks, in their order (YAML 1.1, section 5.4).
-use Rattle.std.specs.Prelude.{ℕ, Bool, true, false, List, [], ◌∷◌, ◌++◌, if◌then◌else◌}
+use Rattle.std.specs.Prelude.{ℕ, List, [], ◌∷◌, if◌then◌else◌}
 use Rattle.yaml_base.specs.Characters.{Text, is_break}
 
 -- a line that isn't empty, without its break, or one break; an empty line is no part

@@ -1,5 +1,5 @@
 -- How a literal scalar is laid out (YAML 1.1, section 9.3.1).
-use Rattle.std.specs.Prelude.{ℕ, Bool, true, List, [], ◌∷◌, ◌++◌, replicate}
+use Rattle.std.specs.Prelude.{ℕ, true, List, [], ◌∷◌, ◌++◌, replicate}
 use Rattle.yaml_base.specs.Characters.{Text, space}
 use Rattle.yaml_base.specs.Cursor.{Cursor, Laid, then_laid, text_laid, space_if}
 use Rattle.yaml_base.specs.Lines.{Part, line, line_break, parts}

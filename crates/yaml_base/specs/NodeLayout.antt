@@ -1,8 +1,9 @@
 -- The text of a node, one piece for each of its events (libyaml's own rules; YAML 1.1, chapters 8 to 10, for the signs).
-use Rattle.std.specs.Prelude.{ℕ, Bool, true, false, Option, None, Some, List, [], ◌∷◌, ◌++◌, ◌||◌, ◌+◌, not, codes, is_some, filter_map, flat_map, if◌then◌else◌}
+use Rattle.std.specs.Prelude.{ℕ, Bool, true, false, Option, None, Some, List, [], ◌∷◌, ◌++◌, ◌||◌, not, codes, is_some, filter_map, flat_map, if◌then◌else◌}
 use Rattle.yaml_base.specs.Characters.{Text}
 use Rattle.yaml_base.specs.Settings.{Effective}
-use Rattle.yaml_base.specs.Cursor.{Cursor, Laid, nothing_laid, then_laid, text_laid, new_line, space_if, indicator, name_laid}
+use Rattle.yaml_base.specs.Cursor.{Cursor, Laid, nothing_laid, then_laid, text_laid, new_line, space_if, name_laid}
+use Rattle.yaml_base.specs.Indicators as indicators
 use Rattle.yaml_base.specs.Event.{ScalarStyle, plain, single_quoted, literal, folded, CollectionStyle, flow, TagDirective, Scalar, Collection}
 use Rattle.yaml_base.specs.Percent.{percent_escaped, suffix_escaped}
 use Rattle.yaml_base.specs.Tags.{Spelling, shorthand, verbatim, spelling}
@@ -94,7 +95,7 @@ lead_alone mark laid =
 -- `&` and the name, where there is an anchor (section 8.1.2)
 abbrev pub anchor_laid : Option Text → Cursor → Laid
 anchor_laid None cursor = nothing_laid cursor
-anchor_laid (Some name) cursor = then_laid (indicator (codes "&") true false false cursor) (name_laid name)
+anchor_laid (Some name) cursor = then_laid (indicators.indicator_laid indicators.anchor cursor) (name_laid name)
 
 -- a tag handle, a space before it where one is needed
 abbrev pub handle_laid : Text → Cursor → Laid
@@ -106,8 +107,8 @@ spelling_laid portable (shorthand handle suffix) cursor =
     then_laid (handle_laid handle cursor) (name_laid (suffix_escaped portable suffix))
 spelling_laid portable (verbatim tag) cursor =
     then_laid
-    (then_laid (indicator (codes "!<") true false false cursor) (name_laid (percent_escaped tag)))
-    (indicator (codes ">") false false false)
+    (then_laid (indicators.indicator_laid indicators.verbatim_start cursor) (name_laid (percent_escaped tag)))
+    (indicators.indicator_laid indicators.verbatim_end)
 
 -- the tag that is written, or the bare tag
 abbrev pub tag_laid : (portable : Bool) → List TagDirective → Option Text → (bare : Bool) → Cursor → Laid
@@ -126,7 +127,7 @@ properties_laid portable directives anchor tag bare cursor =
 -- an alias; as a simple key it is followed by a space
 abbrev pub alias_laid : Text → (simple : Bool) → Cursor → Laid
 alias_laid name simple cursor =
-    then_laid (then_laid (indicator (codes "*") true false false cursor) (name_laid name))
+    then_laid (then_laid (indicators.indicator_laid indicators.alias cursor) (name_laid name))
     (text_laid (if simple then codes " " else []))
 
 -- the space before a scalar's body: an empty plain scalar in a block needs none
@@ -220,17 +221,17 @@ curly = record { opening = codes "{"; closing = codes "}" }
 -- before the closing bracket stands the opening one where nothing is between them; in canonical mode a comma
 -- after the last entry, and a new line
 abbrev pub empty_or_comma : Effective → Text → (empty : Bool) → Option ℕ → Cursor → Laid
-empty_or_comma s opening true column cursor = indicator opening true true false cursor
-empty_or_comma s opening false column cursor =
+empty_or_comma s bracket true column cursor = indicators.indicator_laid (indicators.opening bracket) cursor
+empty_or_comma s bracket false column cursor =
     if s.canonical
-    then then_laid (indicator (codes ",") false false false cursor) (new_line (line_column column))
+    then then_laid (indicators.indicator_laid indicators.flow_entry cursor) (new_line (line_column column))
     else nothing_laid cursor
 
 -- a collection's end: a block collection's writes nothing
 abbrev pub end_laid : Effective → Brackets → (in_flow empty : Bool) → Option ℕ → Cursor → Laid
 end_laid s brackets false empty column cursor = nothing_laid cursor
 end_laid s brackets true empty column cursor =
-    then_laid (empty_or_comma s brackets.opening empty column cursor) (indicator brackets.closing false false false)
+    then_laid (empty_or_comma s brackets.opening empty column cursor) (indicators.indicator_laid (indicators.tight brackets.closing))
 
 -- a collection's end as a piece
 abbrev pub end_piece : Effective → Brackets → (in_flow empty : Bool) → Option ℕ → Standing → PieceLaid

@@ -4,7 +4,8 @@ use Rattle.std.specs.Prelude.{ℕ, Bool, true, false, Option, None, Some, List, 
 use Rattle.std.specs.List.{list_any}
 use Rattle.yaml_base.specs.Characters.{Text, is_break}
 use Rattle.yaml_base.specs.Settings.{Effective}
-use Rattle.yaml_base.specs.Cursor.{Cursor, Laid, nothing_laid, then_laid, new_line, indicator, is_past_width}
+use Rattle.yaml_base.specs.Cursor.{Cursor, Laid, nothing_laid, then_laid, new_line, is_past_width}
+use Rattle.yaml_base.specs.Indicators.{indicator_laid, opening, flow_entry, key, flow_value, block_entry, block_value, simple_value}
 use Rattle.yaml_base.specs.Event.{TagDirective, Scalar, Collection}
 use Rattle.yaml_base.specs.Tags.{Spelling, shorthand, verbatim, spelling}
 use Rattle.yaml_base.specs.Grammar.{Node, alias_node, scalar_node, sequence_node, mapping_node, Nodes, no_nodes, nodes_and, Pairs, no_pairs, pairs_and}
@@ -71,9 +72,13 @@ abbrev pub tag_count : List TagDirective → Option Text → ℕ
 tag_count directives None = 0
 tag_count directives (Some tag) = spelling_count (spelling directives tag)
 
--- a simple key has at most so many bytes (YAML 1.1, chapter 10, allows 1024; this is libyaml's)
+-- a simple key has at most so many bytes (YAML 1.1, chapter 10, allows 1024 characters; this is libyaml's)
+abbrev pub most_key_bytes : ℕ
+most_key_bytes = 128
+
+-- a length that a simple key may have
 abbrev pub is_short : ℕ → Bool
-is_short count = nat_le count 128
+is_short count = nat_le count most_key_bytes
 
 -- an alias, a scalar without a break or an empty collection, whose names, tag and value are short
 abbrev pub is_simple_alias : Text → Bool
@@ -123,13 +128,13 @@ flow_break s column cursor =
 
 -- the opening bracket before the first entry, a comma before another
 abbrev pub opening_or_comma : Text → Bool → Cursor → Laid
-opening_or_comma bracket true cursor = indicator bracket true true false cursor
-opening_or_comma bracket false cursor = indicator (codes ",") false false false cursor
+opening_or_comma bracket true cursor = indicator_laid (opening bracket) cursor
+opening_or_comma bracket false cursor = indicator_laid flow_entry cursor
 
 -- the sign of a key that isn't simple
-abbrev pub key_sign : (simple ind : Bool) → Cursor → Laid
-key_sign true ind cursor = nothing_laid cursor
-key_sign false ind cursor = indicator (codes "?") true false ind cursor
+abbrev pub key_sign : (simple in_block : Bool) → Cursor → Laid
+key_sign true in_block cursor = nothing_laid cursor
+key_sign false in_block cursor = indicator_laid (key in_block) cursor
 
 -- what a place in flow puts before its node (sections 10.1.1 and 10.2.1)
 abbrev pub flow_place_laid : Effective → Role → (simple : Bool) → Option ℕ → Cursor → Laid
@@ -138,20 +143,20 @@ flow_place_laid s (as_item first) simple column cursor =
     then_laid (opening_or_comma (codes "[") first cursor) (flow_break s column)
 flow_place_laid s (as_key first) simple column cursor =
     then_laid (then_laid (opening_or_comma (codes "{") first cursor) (flow_break s column)) (key_sign simple false)
-flow_place_laid s (as_value true) simple column cursor = indicator (codes ":") false false false cursor
+flow_place_laid s (as_value true) simple column cursor = indicator_laid simple_value cursor
 flow_place_laid s (as_value false) simple column cursor =
-    then_laid (flow_break s column cursor) (indicator (codes ":") true false false)
+    then_laid (flow_break s column cursor) (indicator_laid flow_value)
 
 -- what a place in a block puts before its node (sections 10.1.2 and 10.2.2)
 abbrev pub block_place_laid : Role → (simple : Bool) → Option ℕ → Cursor → Laid
 block_place_laid as_root simple column cursor = nothing_laid cursor
 block_place_laid (as_item first) simple column cursor =
-    then_laid (new_line (line_column column) cursor) (indicator (codes "-") true false true)
+    then_laid (new_line (line_column column) cursor) (indicator_laid block_entry)
 block_place_laid (as_key first) simple column cursor =
     then_laid (new_line (line_column column) cursor) (key_sign simple true)
-block_place_laid (as_value true) simple column cursor = indicator (codes ":") false false false cursor
+block_place_laid (as_value true) simple column cursor = indicator_laid simple_value cursor
 block_place_laid (as_value false) simple column cursor =
-    then_laid (new_line (line_column column) cursor) (indicator (codes ":") true false true)
+    then_laid (new_line (line_column column) cursor) (indicator_laid block_value)
 
 -- what a place puts before its node
 abbrev pub place_laid : Effective → Place → (simple : Bool) → Cursor → Laid

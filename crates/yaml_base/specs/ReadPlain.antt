@@ -1,5 +1,5 @@
 -- Reading a plain scalar (YAML 1.1, section 9.1.3; which texts are read is this library's own rule).
-use Rattle.std.specs.Prelude.{ℕ, Bool, true, false, Option, None, Some, List, [], ◌∷◌, ◌==◌, ◌||◌, ◌&&◌, not, map, codes, if◌then◌else◌}
+use Rattle.std.specs.Prelude.{ℕ, Bool, true, false, Option, None, Some, [], ◌∷◌, ◌==◌, ◌||◌, ◌&&◌, map, codes, if◌then◌else◌}
 use Rattle.yaml_base.specs.Characters.{Text, is_among, is_blank}
 use Rattle.yaml_base.specs.LineBreaks.{is_read_break}
 use Rattle.yaml_base.specs.ReadFolding.{unit_of, folding_read}

@@ -1,5 +1,5 @@
 -- Reading a single-quoted scalar (YAML 1.1, section 9.1.2).
-use Rattle.std.specs.Prelude.{ℕ, Bool, Option, None, Some, List, [], ◌∷◌, ◌==◌, map, option_map, if◌then◌else◌}
+use Rattle.std.specs.Prelude.{Bool, Option, None, Some, [], ◌∷◌, ◌==◌, map, option_map, if◌then◌else◌}
 use Rattle.yaml_base.specs.Characters.{Text}
 use Rattle.yaml_base.specs.ReadFolding.{unit_of, folding_read}
 

@@ -1,14 +1,14 @@
 -- Scripts of events: what the bytes of a script say, line by line (this project's own notation).
 --     line_read text       what a line says, or nothing where it is bad by itself
 --     script_of bytes      the settings and the numbered events of a script, or the number of its first bad line
-use Rattle.std.specs.Prelude.{ℕ, suc, ℤ, pos, neg_ℤ, Bool, true, false, Option, None, Some, List, [], ◌∷◌, ◌++◌, ◌==◌, ◌||◌, ◌&&◌, not, nat_le, length, codes, chars, bytes_eq, option_map, option_and_then, if◌then◌else◌}
+use Rattle.std.specs.Prelude.{ℕ, suc, ℤ, pos, neg_ℤ, Bool, true, false, Option, None, Some, List, [], ◌∷◌, ◌++◌, ◌==◌, ◌||◌, ◌&&◌, ◌+◌, not, nat_le, length, codes, chars, bytes_eq, option_map, option_and_then, if◌then◌else◌}
 use Rattle.std.specs.Option.{option_or}
 use Rattle.std.specs.List.{list_any, list_all, onto_first, slice_split}
 use Rattle.std.specs.Char.{is_digit}
 use Rattle.std.specs.Str.{is_utf8, all_scalars}
 use Rattle.std.specs.Str.Parse.{digits_value}
 use Rattle.yaml_base.specs.Characters.{Text, is_between, line_feed, carriage_return, space}
-use Rattle.yaml_base.specs.Settings.{Settings, Encoding, utf8, utf16_little, utf16_big, LineBreak, carriage_return_break, line_feed_break, both_break}
+use Rattle.yaml_base.specs.Settings.{largest_i32, Settings, Encoding, utf8, utf16_little, utf16_big, LineBreak, carriage_return_break, line_feed_break, both_break}
 use Rattle.yaml_base.specs.Event.{Event, stream_start, stream_end, document_start, document_end, alias, scalar, sequence_start, sequence_end, mapping_start, mapping_end, ScalarStyle, any_style, plain, single_quoted, double_quoted, literal, folded, CollectionStyle, any_layout, block, flow, Version, TagDirective, Collection}
 
 -- ---- what a script says
@@ -184,7 +184,8 @@ line_breaks = (codes "any", None) ∷ (codes "cr", Some carriage_return_break) �
 
 -- the words for styles of scalars
 abbrev pub scalar_styles : List (Text × ScalarStyle)
-scalar_styles = (codes "any", any_style) ∷ (codes "plain", plain) ∷ (codes "single", single_quoted) ∷ (codes "double", double_quoted) ∷ (codes "literal", literal) ∷ (codes "folded", folded) ∷ []
+scalar_styles = (codes "any", any_style) ∷ (codes "plain", plain) ∷ (codes "single", single_quoted) ∷ (codes "double", double_quoted) ∷
+    (codes "literal", literal) ∷ (codes "folded", folded) ∷ []
 
 -- the words for styles of collections
 abbrev pub collection_styles : List (Text × CollectionStyle)
@@ -200,8 +201,8 @@ number_up_to most word =
 abbrev pub signed_number : Text → Option ℤ
 signed_number [] = None
 signed_number (c ∷ rest) =
-    if c == 0x2D then option_map (λ number. neg_ℤ (pos number)) (number_up_to 2147483648 rest)
-    else option_map pos (number_up_to 2147483647 (c ∷ rest))
+    if c == 0x2D then option_map (λ number. neg_ℤ (pos number)) (number_up_to (largest_i32 + 1) rest)
+    else option_map pos (number_up_to largest_i32 (c ∷ rest))
 
 -- ---- settings
 
@@ -271,7 +272,7 @@ text_or_none (bare word) = if is_word word (codes "-") then Some None else None
 -- `major.minor`
 abbrev pub version_of : List Text → Option Version
 version_of (major ∷ minor ∷ []) =
-    option_and_then (λ high. option_map (λ low. record { major = pos high; minor = pos low }) (number_up_to 2147483647 minor)) (number_up_to 2147483647 major)
+    option_and_then (λ high. option_map (λ low. record { major = pos high; minor = pos low }) (number_up_to largest_i32 minor)) (number_up_to largest_i32 major)
 version_of _ = None
 
 -- a version, or `-` for none
@@ -291,7 +292,8 @@ stream_start_of _ = None
 
 -- a document's start, where each of its parts has a reading
 abbrev pub document_start_with : Option Bool → Option (Option Version) → Option (List TagDirective) → Option Event
-document_start_with (Some implicit) (Some version) (Some directives) = Some (document_start (record { version = version; directives = directives; implicit = implicit }))
+document_start_with (Some implicit) (Some version) (Some directives) = Some
+    (document_start (record { version = version; directives = directives; implicit = implicit }))
 document_start_with _ _ _ = None
 
 -- `+DOC`: whether it is implicit, a version, directives

@@ -1,6 +1,14 @@
 -- What the caller sets, and what it comes to at the stream's start (libyaml's own rules).
 use Rattle.std.specs.Prelude.{ℕ, ℤ, pos, Bool, Option, None, Some, ◌==◌, ◌&&◌, ◌*◌, nat_le, if◌then◌else◌, unwrap_or}
 
+-- the largest `i32`, which as a width is no limit
+abbrev pub largest_i32 : ℕ
+largest_i32 = 2147483647
+
+-- the largest `usize`, which as a limit of the output's bytes is none
+abbrev pub largest_usize : ℕ
+largest_usize = 18446744073709551615
+
 -- how characters become bytes (section 5.2)
 pub data Encoding : Type 0 where
   utf8 : Encoding
@@ -46,7 +54,7 @@ effective_indent _ = 2
 abbrev pub effective_width : Option ℤ → ℕ → Option ℕ
 effective_width None indent = Some 80
 effective_width (Some (pos n)) indent =
-    if n == 2147483647 then None else Some (if nat_le n (2 * indent) then 80 else n)
+    if n == largest_i32 then None else Some (if nat_le n (2 * indent) then 80 else n)
 effective_width (Some _) indent = None
 
 -- the emitter's encoding, else the stream's, else UTF-8

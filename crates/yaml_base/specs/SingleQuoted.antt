@@ -1,5 +1,5 @@
 -- Laying out a single-quoted scalar (YAML 1.1, section 9.1.2; where folds stand is libyaml's own rule).
-use Rattle.std.specs.Prelude.{ℕ, Bool, true, false, Option, List, [], ◌∷◌, ◌++◌, ◌==◌, codes, if◌then◌else◌}
+use Rattle.std.specs.Prelude.{ℕ, true, false, Option, [], ◌∷◌, ◌++◌, ◌==◌, codes, if◌then◌else◌}
 use Rattle.yaml_base.specs.Characters.{Text}
 use Rattle.yaml_base.specs.Cursor.{Cursor, Laid, then_laid, text_laid, indicator, space_if}
 use Rattle.yaml_base.specs.Plain.{runs, runs_laid}

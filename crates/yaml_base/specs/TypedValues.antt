@@ -4,7 +4,7 @@ use Rattle.std.specs.Prelude.{◌≡◌, ℕ, suc, ℤ, pos, negsuc, ◌+◌, �
 use Rattle.std.specs.Fmt.{signed_decimal}
 use Rattle.std.specs.Int.Signed.{mag}
 use Rattle.yaml_base.specs.Characters.{Text}
-use Rattle.yaml_base.specs.Settings.{Settings, utf8, line_feed_break}
+use Rattle.yaml_base.specs.Settings.{largest_usize, Settings, utf8, line_feed_break}
 use Rattle.yaml_base.specs.Event.{Event, Collection, any_style, any_layout}
 use Rattle.yaml_base.specs.Grammar.{Node, scalar_node, sequence_node, mapping_node, Nodes, no_nodes, nodes_and, Pairs, no_pairs, pairs_and, Stream, no_documents, documents_and, stream_events}
 use Rattle.yaml_base.specs.Output.{output_of}
@@ -192,7 +192,7 @@ typed_settings =
       line_break = Some line_feed_break;
       breaks12 = false;
       portable = false;
-      limit = 18446744073709551615;
+      limit = largest_usize;
     }
 
 -- the bytes of a value

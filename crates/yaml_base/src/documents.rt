@@ -4,6 +4,7 @@ ghost use Rattle.yaml_base.specs.Meetings.{node_numbered};
 ghost use Rattle.yaml_base.specs.Seen.{seen_version, seen_directive};
 ghost use Rattle.yaml_base.specs.Meetings.{is_whole};
 ghost use Rattle.yaml_base.specs.SeenNodes.{seen_number, seen_node, seen_document, names_node as is_named, numbers_of, numbers_of_pairs, all_numbers, first_outside};
+ghost use Rattle.yaml_base.specs.Settings.{largest_i32};
 
 use crate::directives::{yaml_tag_directive_t, yaml_version_directive_t};
 use crate::nodes::{yaml_node_data_t, yaml_node_pair_t, yaml_node_t};
@@ -33,7 +34,7 @@ pub struct yaml_document_t<A: Allocator> {
     nodes: Vec<yaml_node_t<A>, A>,
     start_implicit: bool,
     end_implicit: bool,
-    ghost countable: { vec_len nodes ≤ 2147483647 },
+    ghost countable: { vec_len nodes ≤ largest_i32 },
     ghost whole: { IsTrue (is_none (first_outside (length nodes.items) (all_numbers nodes.items))) },
 }
 
@@ -104,7 +105,7 @@ impl<A: Allocator> yaml_document_t<A> {
         start_implicit: bool,
         end_implicit: bool,
     ) -> Result<yaml_document_t<A>, NodeNumber>
-        requires { vec_len nodes ≤ 2147483647 }
+        requires { vec_len nodes ≤ largest_i32 }
         ensures whole { MatchResult result
             (λ document. first_outside (length nodes.items) (all_numbers nodes.items) ≡ None)
             (λ number. first_outside (length nodes.items) (all_numbers nodes.items) ≡ Some number.0) }

@@ -35,7 +35,8 @@ none_so : (o : Option ℕ) → is_none o ≡ true → o ≡ None
 none_so None h = refl
 none_so (Some n) h = cc
 
-no_refusal : (before front : List Event) (event : Event) (later : List Event) → unrefused before (front ++ event ∷ later) ≡ true → refusal true (before ++ front) event ≡ None
+no_refusal : (before front : List Event) (event : Event) (later : List Event) → unrefused before (front ++ event ∷ later) ≡ true
+    → refusal true (before ++ front) event ≡ None
 no_refusal before [] event later none =
     ap (λ events. refusal true events event) (append-nil before)
     ∙ none_so (refusal true before event) (and_left (is_none (refusal true before event)) (unrefused (before ++ event ∷ []) later) none)
@@ -97,7 +98,8 @@ never_full all rest state begins filled =
     not_so h = cc
 
 -- where an emitter stands after a front of the stream, its error is want of memory
-only_memory : (all rest : List Event) (state : State) (error : yaml_error_t) → all ++ rest ≡ letter_events → Promised letter_settings all state → state.error ≡ Some error → error ≡ Memory
+only_memory : (all rest : List Event) (state : State) (error : yaml_error_t) → all ++ rest ≡ letter_events → Promised letter_settings all state
+    → state.error ≡ Some error → error ≡ Memory
 only_memory all rest state WriteError begins promised is = absurd (never_full all rest state begins (promised.full is))
 only_memory all rest state Memory begins promised is = refl
 only_memory all rest state error begins promised is = absurd (never_refused all rest error state begins (promised.refused error is tt))
@@ -110,7 +112,8 @@ failed error state is = by state.error is
     by (Some other) is = cc
 
 -- what a call answers that has given so many of the events
-pub call_memory : (count : ℕ) (directives : List TagDirective) (value : Text) (state : State) (answer : Result (Unit {0}) yaml_error_t) → directives ≡ [] → value ≡ codes "a"
+pub call_memory : (count : ℕ) (directives : List TagDirective) (value : Text) (state : State) (answer : Result (Unit {0}) yaml_error_t) → directives ≡ []
+    → value ≡ codes "a"
     → Promised letter_settings (take count (events_of directives value)) state → answer ≡ told state.error → IfErr answer (λ error. error ≡ Memory)
 call_memory count directives value state (Ok _) none letter promised is = tt
 call_memory count directives value state (Err error) none letter promised is =

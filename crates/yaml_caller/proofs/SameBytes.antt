@@ -4,7 +4,8 @@ use Rattle.std.proofs.lemmas.Slice.Eq.{bytes_eq-Decides}
 use Rattle.std.specs.Prelude.{ℕ, Bool, Decides, List, bytes_eq}
 use Rattle.yaml_base.specs.TypedValues.{TypedValue, ReadsAs, WritesValue, typed_output}
 
-pub same_decides : (first second : TypedValue) (first_bytes second_bytes : List ℕ) (answer : Bool) → WritesValue first first_bytes → WritesValue second second_bytes
+pub same_decides : (first second : TypedValue) (first_bytes second_bytes : List ℕ) (answer : Bool) → WritesValue first first_bytes
+    → WritesValue second second_bytes
     → answer ≡ bytes_eq first_bytes second_bytes → Decides answer (first ≡ second)
 same_decides first second first_bytes second_bytes answer writes_first writes_second is = (
   λ yes. let same = (bytes_eq-Decides first_bytes second_bytes).0 (sym is ∙ yes) in

@@ -28,7 +28,8 @@ written events bytes state ended ready row promised none =
 
 -- a whole stream's bytes, where nothing failed
 pub stream_bytes : (events : List Event) (bytes : List ℕ) (answer : Result (Unit {0}) yaml_error_t) (state : State) → ends_stream events ≡ true
-    → held_back events ≡ [] → output_of letter_settings events ≡ bytes → Promised letter_settings events state → answer ≡ told state.error → OnOk answer (state.page.output ≡ bytes)
+    → held_back events ≡ [] → output_of letter_settings events ≡ bytes → Promised letter_settings events state → answer ≡ told state.error
+    → OnOk answer (state.page.output ≡ bytes)
 stream_bytes events bytes (Ok _) state ended ready row promised is = written events bytes state ended ready row promised (told_none state is)
 stream_bytes events bytes (Err error) state ended ready row promised is = tt
 

@@ -41,7 +41,8 @@ first_of_more (x ∷ xs) number =
     ∙ ap (λ (ys : List ℕ). x ∷ (others (first_of_each xs) ++ ys)) (one_kept (has number xs) number x)
 
 -- a step that meets no node again changes nothing, and any other adds its node where it isn't there yet
-pub shared_more : (walk : List Step) (number : ℕ) → shared_nodes (walk ++ meets_again number ∷ []) ≡ shared_nodes walk ++ cond (has number (shared_nodes walk)) [] (number ∷ [])
+pub shared_more : (walk : List Step) (number : ℕ)
+    → shared_nodes (walk ++ meets_again number ∷ []) ≡ shared_nodes walk ++ cond (has number (shared_nodes walk)) [] (number ∷ [])
 shared_more walk number =
     let met = filter_map node_met_again walk in
     ap first_of_each (filter_map-append node_met_again walk (meets_again number ∷ []))
@@ -67,7 +68,8 @@ place_of_position : (b : Bool) (k : ℕ) → unwrap_or (option_map (λ place. pl
 place_of_position true k = refl
 place_of_position false k = refl
 
-place_is : (xs : List ℕ) (number : ℕ) → place_in xs number ≡ cond (nat_lt (position_or_len (λ other. other == number) xs) (length xs)) (position_or_len (λ other. other == number) xs + 1) 0
+place_is : (xs : List ℕ) (number : ℕ)
+    → place_in xs number ≡ cond (nat_lt (position_or_len (λ other. other == number) xs) (length xs)) (position_or_len (λ other. other == number) xs + 1) 0
 place_is xs number = place_of_position (nat_lt (position_or_len (λ other. other == number) xs) (length xs)) (position_or_len (λ other. other == number) xs)
 
 within : (number : ℕ) (xs : List ℕ) → position_or_len (λ other. other == number) xs ≤ length xs
@@ -92,11 +94,13 @@ is_there xs number is =
     let k = position_or_len (λ other. other == number) xs in
     has_position number xs ∙ some_at (nat_lt k (length xs)) k (λ none. is (place_is xs number ∙ none))
 
-new_at : (k l after whole : ℕ) (same : Bool) → k ≤ l → nat_lt k l ≡ false → after ≡ cond (k == l) (l + cond same 0 1) k → same ≡ true → whole ≡ l + 1 → cond (nat_lt after whole) (after + 1) 0 ≡ l + 1
+new_at : (k l after whole : ℕ) (same : Bool) → k ≤ l → nat_lt k l ≡ false → after ≡ cond (k == l) (l + cond same 0 1) k → same ≡ true → whole ≡ l + 1
+    → cond (nat_lt after whole) (after + 1) 0 ≡ l + 1
 new_at k l after whole true in_it past is same long = grind (arith, nat_tests)
 new_at k l after whole false in_it past is same long = cc
 
-old_at : (k l after whole : ℕ) (same : Bool) → k ≤ l → after ≡ cond (k == l) (l + cond same 0 1) k → same ≡ false → whole ≡ l + 1 → cond (nat_lt after whole) (after + 1) 0 ≡ cond (nat_lt k l) (k + 1) 0
+old_at : (k l after whole : ℕ) (same : Bool) → k ≤ l → after ≡ cond (k == l) (l + cond same 0 1) k → same ≡ false → whole ≡ l + 1
+    → cond (nat_lt after whole) (after + 1) 0 ≡ cond (nat_lt k l) (k + 1) 0
 old_at k l after whole true in_it is same long = cc
 old_at k l after whole false in_it is same long = grind (arith, nat_tests)
 
@@ -107,19 +111,23 @@ one_longer xs number = length-append xs (number ∷ [])
 pub new_place : (xs : List ℕ) (number : ℕ) → has number xs ≡ false → place_in (xs ++ number ∷ []) number ≡ length xs + 1
 new_place xs number none =
     place_is (xs ++ number ∷ []) number
-    ∙ new_at (position_or_len (λ other. other == number) xs) (length xs) (position_or_len (λ other. other == number) (xs ++ number ∷ [])) (length (xs ++ number ∷ [])) (number == number)
-    (within number xs) (sym (has_position number xs) ∙ none) (position_or_len_push (λ other. other == number) xs number) (grind (arith, nat_tests)) (one_longer xs number)
+    ∙ new_at (position_or_len (λ other. other == number) xs) (length xs) (position_or_len (λ other. other == number) (xs ++ number ∷ []))
+    (length (xs ++ number ∷ [])) (number == number)
+    (within number xs) (sym (has_position number xs) ∙ none) (position_or_len_push (λ other. other == number) xs number) (grind (arith, nat_tests))
+    (one_longer xs number)
 
 -- and leaves the others' places as they are
 pub old_place : (xs : List ℕ) (number last : ℕ) → number ≢ last → place_in (xs ++ last ∷ []) number ≡ place_in xs number
 old_place xs number last differs =
     place_is (xs ++ last ∷ []) number
-    ∙ old_at (position_or_len (λ other. other == number) xs) (length xs) (position_or_len (λ other. other == number) (xs ++ last ∷ [])) (length (xs ++ last ∷ [])) (last == number)
+    ∙ old_at (position_or_len (λ other. other == number) xs) (length xs) (position_or_len (λ other. other == number) (xs ++ last ∷ []))
+    (length (xs ++ last ∷ [])) (last == number)
     (within number xs) (position_or_len_push (λ other. other == number) xs last) (grind (arith, nat_tests)) (one_longer xs last)
     ∙ sym (place_is xs number)
 
 -- a step that meets no node again gives none
-pub other_step : (walk : List Step) (step : Step) (shared : ℕ) (places : List ℕ) → node_met_again step ≡ None → Places walk shared places → Places (walk ++ step ∷ []) shared places
+pub other_step : (walk : List Step) (step : Step) (shared : ℕ) (places : List ℕ) → node_met_again step ≡ None → Places walk shared places
+    → Places (walk ++ step ∷ []) shared places
 other_step walk step shared places none before =
     let same = shared_same walk step none in record {
       counted = before.counted ∙ ap length (sym same);
@@ -127,11 +135,13 @@ other_step walk step shared places none before =
     }
 
 -- nor does one that meets a node of a place
-pub met_before : (walk : List Step) (met shared : ℕ) (places : List ℕ) → 1 ≤ met → met ≤ length places → get_or places (met - 1) 0 ≢ 0 → Places walk shared places → Places (walk ++ meets_again met ∷ []) shared places
+pub met_before : (walk : List Step) (met shared : ℕ) (places : List ℕ) → 1 ≤ met → met ≤ length places → get_or places (met - 1) 0 ≢ 0
+    → Places walk shared places → Places (walk ++ meets_again met ∷ []) shared places
 met_before walk met shared places first last is before =
     let numbers = shared_nodes walk in
     let there : has met numbers ≡ true = is_there numbers met (λ none. is (before.given.placed met first last ∙ none)) in
-    let same : shared_nodes (walk ++ meets_again met ∷ []) ≡ numbers = shared_more walk met ∙ ap (λ (b : Bool). numbers ++ cond b [] (met ∷ [])) there ∙ append-nil numbers in record {
+    let same : shared_nodes (walk ++ meets_again met ∷ []) ≡ numbers = shared_more walk met ∙ ap (λ (b : Bool). numbers ++ cond b [] (met ∷ [])) there
+    ∙ append-nil numbers in record {
       counted = before.counted ∙ ap length (sym same);
       given = record { placed = λ number low high. before.given.placed number low high ∙ ap (λ (all : List ℕ). place_in all number) (sym same) };
     }
@@ -150,12 +160,14 @@ one_placed false numbers places met shared number differs first last low none co
     get_or-set_other places (met - 1) (number - 1) (shared + 1) 0 elsewhere ∙ given ∙ sym (old_place numbers number met other)
 
 -- a node without a place gets the next
-pub met_first : (walk : List Step) (met shared : ℕ) (places : List ℕ) → 1 ≤ met → met ≤ length places → get_or places (met - 1) 0 ≡ 0 → Places walk shared places
+pub met_first : (walk : List Step) (met shared : ℕ) (places : List ℕ) → 1 ≤ met → met ≤ length places → get_or places (met - 1) 0 ≡ 0
+    → Places walk shared places
     → Places (walk ++ meets_again met ∷ []) (shared + 1) (set places (met - 1) (shared + 1))
 met_first walk met shared places first last is before =
     let numbers = shared_nodes walk in
     let none : has met numbers ≡ false = not_there numbers met (sym (before.given.placed met first last) ∙ is) in
-    let more : shared_nodes (walk ++ meets_again met ∷ []) ≡ numbers ++ met ∷ [] = shared_more walk met ∙ ap (λ (b : Bool). numbers ++ cond b [] (met ∷ [])) none in record {
+    let more : shared_nodes (walk ++ meets_again met ∷ []) ≡ numbers ++ met ∷ [] = shared_more walk met
+    ∙ ap (λ (b : Bool). numbers ++ cond b [] (met ∷ [])) none in record {
       counted = ap (λ (n : ℕ). n + 1) before.counted ∙ sym (ap length more ∙ one_longer numbers met);
       given = record {
         placed = λ number low high.
@@ -165,7 +177,8 @@ met_first walk met shared places first last is before =
       };
     }
 
-option_anchor : (found : Option ℕ) → option_map (λ place. numbered_name (place + 1)) found ≡ anchor_of_place (unwrap_or (option_map (λ place. place + 1) found) 0)
+option_anchor : (found : Option ℕ)
+    → option_map (λ place. numbered_name (place + 1)) found ≡ anchor_of_place (unwrap_or (option_map (λ place. place + 1) found) 0)
 option_anchor None = refl
 option_anchor (Some place) = rw add-one
 
@@ -179,17 +192,22 @@ bounds : (count number : ℕ) → (nat_le 1 number && nat_le number count) ≡ t
 bounds count number is = grind (arith, nat_tests)
 
 -- each step of a numbered walk is numbered
-pub step_numbered : (walk : List declared.Step) (count index size : ℕ) (default : declared.Step) → is_numbered count (map seen_step walk) ≡ true → index < length walk → size ≡ count
+pub step_numbered : (walk : List declared.Step) (count index size : ℕ) (default : declared.Step) → is_numbered count (map seen_step walk) ≡ true
+    → index < length walk → size ≡ count
     → IsNumbered size (seen_step (get_or walk index default))
 step_numbered walk count index size default is inside same =
     let test = λ (step : Step). nat_le 1 (number_in step) && nat_le (number_in step) count in
-    let each = AllPass-from_list_all (λ (step : declared.Step). test (seen_step step)) walk (sym (list_all-map test seen_step walk) ∙ is) index default inside in
-    let both : (1 ≤ number_in (seen_step (get_or walk index default))) × (number_in (seen_step (get_or walk index default)) ≤ count) = bounds count (number_in (seen_step (get_or walk index default))) each in
+    let each = AllPass-from_list_all (λ (step : declared.Step). test (seen_step step)) walk
+    (sym (list_all-map test seen_step walk) ∙ is) index default inside in
+    let both : (1 ≤ number_in (seen_step (get_or walk index default)))
+    × (number_in (seen_step (get_or walk index default)) ≤ count) = bounds count (number_in (seen_step (get_or walk index default))) each in
     record { first = both.0; last = omega (arith, both.1) }
 
 -- one more step of a walk
-pub seen_more : (walk : List declared.Step) (index : ℕ) (default : declared.Step) → index < length walk → map seen_step (take (index + 1) walk) ≡ map seen_step (take index walk) ++ seen_step (get_or walk index default) ∷ []
-seen_more walk index default inside = ap (map seen_step) (take_more walk index default inside) ∙ map-append seen_step (take index walk) (get_or walk index default ∷ [])
+pub seen_more : (walk : List declared.Step) (index : ℕ) (default : declared.Step) → index < length walk
+    → map seen_step (take (index + 1) walk) ≡ map seen_step (take index walk) ++ seen_step (get_or walk index default) ∷ []
+seen_more walk index default inside = ap (map seen_step) (take_more walk index default inside)
+    ∙ map-append seen_step (take index walk) (get_or walk index default ∷ [])
 
 -- a slice that keeps its length is all of what it came from
 pub whole_slice : (len : ℕ) (written old : List ℕ) → len ≡ length written → take len (written ++ drop (length written) old) ≡ written
@@ -201,7 +219,8 @@ has_behind : (first : Option ℕ) (number : ℕ) (rest : List ℕ) → has numbe
 has_behind None number rest is = is
 has_behind (Some other) number rest is = grind (arith, nat_tests)
 
-has_met : (walk : List Step) (index number : ℕ) (default : Step) → index < length walk → get_or walk index default ≡ meets_again number → has number (filter_map node_met_again walk) ≡ true
+has_met : (walk : List Step) (index number : ℕ) (default : Step) → index < length walk → get_or walk index default ≡ meets_again number
+    → has number (filter_map node_met_again walk) ≡ true
 has_met [] index number default inside is = absurd (omega arith)
 has_met (step ∷ walk) zero number default inside is =
     let first : has number (number ∷ filter_map node_met_again walk) ≡ true = grind (arith, nat_tests) in
@@ -219,12 +238,14 @@ has_place numbers number is =
     subst (λ (n : ℕ). 0 < n) (sym (place_is numbers number)) (some_place (nat_lt k (length numbers)) k (sym (has_position number numbers) ∙ is))
 
 -- a node that is met again has a place
-pub met_has_place : (walk : List Step) (index number : ℕ) (default : Step) → index < length walk → get_or walk index default ≡ meets_again number → 0 < place_in (shared_nodes walk) number
+pub met_has_place : (walk : List Step) (index number : ℕ) (default : Step) → index < length walk → get_or walk index default ≡ meets_again number
+    → 0 < place_in (shared_nodes walk) number
 met_has_place walk index number default inside is =
     has_place (shared_nodes walk) number (has_first number (filter_map node_met_again walk) ∙ has_met walk index number default inside is)
 
 -- each step of a walk is numbered, and its node has a place where it is met again
-pub step_placed : (walk : List declared.Step) (count index : ℕ) (places : List ℕ) (default : declared.Step) → is_numbered count (map seen_step walk) ≡ true → index < length walk → length places ≡ count → HasPlaces (map seen_step walk) places
+pub step_placed : (walk : List declared.Step) (count index : ℕ) (places : List ℕ) (default : declared.Step) → is_numbered count (map seen_step walk) ≡ true
+    → index < length walk → length places ≡ count → HasPlaces (map seen_step walk) places
     → IsPlaced places (seen_step (get_or walk index default))
 step_placed walk count index places default is inside same has_places =
     let numbered = step_numbered walk count index (length places) default is inside same in record {
@@ -232,6 +253,8 @@ step_placed walk count index places default is inside same has_places =
       shared = λ number again.
           let bounds = subst (λ step. IsNumbered (length places) step) again numbered in
           let within : index < length (map seen_step walk) = omega (arith, length-map walk seen_step) in
-          let met : get_or (map seen_step walk) index (seen_step default) ≡ meets_again number = get_or-map seen_step walk index default (seen_step default) inside ∙ again in
-          subst (λ (place : ℕ). 0 < place) (sym (has_places.placed number bounds.first bounds.last)) (met_has_place (map seen_step walk) index number (seen_step default) within met);
+          let met : get_or (map seen_step walk) index (seen_step default)
+          ≡ meets_again number = get_or-map seen_step walk index default (seen_step default) inside ∙ again in
+          subst (λ (place : ℕ). 0 < place) (sym (has_places.placed number bounds.first bounds.last))
+          (met_has_place (map seen_step walk) index number (seen_step default) within met);
     }

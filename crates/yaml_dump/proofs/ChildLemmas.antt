@@ -27,7 +27,8 @@ unfolding numbers_seen
 none_behind pairs place behind = slice_get_past (numbers_seen pairs) place (omega (arith, length-numbers_seen pairs))
 
 -- the key of a pair stands at twice its place
-key_at : (pairs : List yaml_node_pair_t) (half : ℕ) (default : yaml_node_pair_t) → half < length pairs → slice_get (numbers_seen pairs) (half + half) ≡ Some (seen_number (get_or pairs half default).key)
+key_at : (pairs : List yaml_node_pair_t) (half : ℕ) (default : yaml_node_pair_t) → half < length pairs
+    → slice_get (numbers_seen pairs) (half + half) ≡ Some (seen_number (get_or pairs half default).key)
 unfolding numbers_seen
 key_at [] half default within = absurd (omega arith)
 key_at (pair ∷ pairs) zero default within = refl
@@ -36,7 +37,8 @@ key_at (pair ∷ pairs) (suc half) default within =
     ap (slice_get (seen_number pair.key ∷ seen_number pair.value ∷ numbers_seen pairs)) two ∙ key_at pairs half default (omega arith)
 
 -- and its value behind it
-value_at : (pairs : List yaml_node_pair_t) (half : ℕ) (default : yaml_node_pair_t) → half < length pairs → slice_get (numbers_seen pairs) (suc (half + half)) ≡ Some (seen_number (get_or pairs half default).value)
+value_at : (pairs : List yaml_node_pair_t) (half : ℕ) (default : yaml_node_pair_t) → half < length pairs
+    → slice_get (numbers_seen pairs) (suc (half + half)) ≡ Some (seen_number (get_or pairs half default).value)
 unfolding numbers_seen
 value_at [] half default within = absurd (omega arith)
 value_at (pair ∷ pairs) zero default within = refl
@@ -45,7 +47,8 @@ value_at (pair ∷ pairs) (suc half) default within =
     ap (slice_get (seen_number pair.key ∷ seen_number pair.value ∷ numbers_seen pairs)) two ∙ value_at pairs half default (omega arith)
 
 -- at an even place
-pub key_seen : (pairs : List yaml_node_pair_t) (place : ℕ) (pair : yaml_node_pair_t) → place / 2 < length pairs → pair ≡ get_or pairs (place / 2) pair → place % 2 ≡ 0
+pub key_seen : (pairs : List yaml_node_pair_t) (place : ℕ) (pair : yaml_node_pair_t) → place / 2 < length pairs → pair ≡ get_or pairs (place / 2) pair
+    → place % 2 ≡ 0
     → slice_get (pair_numbers (map seen_pair pairs)) place ≡ Some (seen_number pair.key)
 unfolding numbers_seen
 key_seen pairs place pair within is even =
@@ -53,7 +56,8 @@ key_seen pairs place pair within is even =
     ap (slice_get (numbers_seen pairs)) halves ∙ key_at pairs (place / 2) pair within ∙ ap (λ (p : yaml_node_pair_t). Some (seen_number p.key)) (sym is)
 
 -- at an odd one
-pub value_seen : (pairs : List yaml_node_pair_t) (place : ℕ) (pair : yaml_node_pair_t) → place / 2 < length pairs → pair ≡ get_or pairs (place / 2) pair → (place % 2 ≡ 0 → ⊥)
+pub value_seen : (pairs : List yaml_node_pair_t) (place : ℕ) (pair : yaml_node_pair_t) → place / 2 < length pairs → pair ≡ get_or pairs (place / 2) pair
+    → (place % 2 ≡ 0 → ⊥)
     → slice_get (pair_numbers (map seen_pair pairs)) place ≡ Some (seen_number pair.value)
 unfolding numbers_seen
 value_seen pairs place pair within is odd =
@@ -61,7 +65,8 @@ value_seen pairs place pair within is odd =
     ap (slice_get (numbers_seen pairs)) halves ∙ value_at pairs (place / 2) pair within ∙ ap (λ (p : yaml_node_pair_t). Some (seen_number p.value)) (sym is)
 
 -- a place that can be counted on from: a list of pairs fits in memory
-pub pairs_countable : (pairs : List yaml_node_pair_t) (place : ℕ) (found : Option ℕ) → length pairs < 2 ^ 63 → found ≡ slice_get (pair_numbers (map seen_pair pairs)) place → IfSome found (λ _. place + 1 < 2 ^ 64)
+pub pairs_countable : (pairs : List yaml_node_pair_t) (place : ℕ) (found : Option ℕ) → length pairs < 2 ^ 63
+    → found ≡ slice_get (pair_numbers (map seen_pair pairs)) place → IfSome found (λ _. place + 1 < 2 ^ 64)
 unfolding numbers_seen
 pairs_countable pairs place None small is = tt
 pairs_countable pairs place (Some number) small is =
@@ -75,7 +80,8 @@ all_found test (first ∷ xs) zero x all is = let same : first ≡ x = cc in ap 
 all_found test (first ∷ xs) (suc place) x all is = all_found test xs place x (both_true (test first) (list_all test xs) all).1 is
 
 -- a number that a node of a whole graph holds
-number_named : (graph : Graph) (before place child : ℕ) (found : Option GraphNode) → is_whole graph ≡ true → slice_get graph.nodes before ≡ found → Some child ≡ slice_get (numbers_in found) place
+number_named : (graph : Graph) (before place child : ℕ) (found : Option GraphNode) → is_whole graph ≡ true → slice_get graph.nodes before ≡ found
+    → Some child ≡ slice_get (numbers_in found) place
     → IsNamed (length graph.nodes) child
 number_named graph before place child None whole known is = cc
 number_named graph before place child (Some node) whole known is =
@@ -85,7 +91,8 @@ number_named graph before place child (Some node) whole known is =
     record { first = leb-true 1 child both.0; last = leb-true child (length graph.nodes) both.1 }
 
 -- children of a whole graph's nodes are nodes of it
-pub child_named : (graph : Graph) (number place : ℕ) (found : Option ℕ) → is_whole graph ≡ true → found ≡ slice_get (children graph number) place → IfSome found (λ child. IsNamed (length graph.nodes) child)
+pub child_named : (graph : Graph) (number place : ℕ) (found : Option ℕ) → is_whole graph ≡ true → found ≡ slice_get (children graph number) place
+    → IfSome found (λ child. IsNamed (length graph.nodes) child)
 child_named graph number place None whole is = tt
 child_named graph zero place (Some child) whole is = cc
 child_named graph (suc before) place (Some child) whole is = number_named graph before place child (slice_get graph.nodes before) whole refl is

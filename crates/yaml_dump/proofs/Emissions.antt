@@ -46,14 +46,18 @@ events_more all emitted next =
     append_assoc all (map seen_event emitted) (seen_event next ∷ [])
     ∙ ap (λ events. all ++ events) (sym (map-append seen_event emitted (next ∷ [])))
 
-pub parts_more : {A : Type 0} (emitted : List (yaml_event_t A)) (next : yaml_event_t A) (rest left all : List (yaml_event_t A)) → emitted ++ left ≡ all → left ≡ next ∷ rest → (emitted ++ next ∷ []) ++ rest ≡ all
+pub parts_more : {A : Type 0} (emitted : List (yaml_event_t A)) (next : yaml_event_t A) (rest left all : List (yaml_event_t A)) → emitted ++ left ≡ all
+    → left ≡ next ∷ rest → (emitted ++ next ∷ []) ++ rest ≡ all
 parts_more emitted next rest left all parts is =
     append_assoc emitted (next ∷ []) rest ∙ ap (λ left. emitted ++ left) (sym is) ∙ parts
 
 -- the call that was given an event failed
-pub failed_at : {A : Type 0} (given : Settings) (all : List Event) (emitted : List (yaml_event_t A)) (next : yaml_event_t A) (rest left events : List (yaml_event_t A)) (error : yaml_error_t) (earlier state : State)
-    → emitted ++ left ≡ events → left ≡ next ∷ rest → earlier.error ≡ None → StandsAfter given (all ++ map seen_event emitted) earlier → state.error ≡ Some error
-    → StandsAfter given ((all ++ map seen_event emitted) ++ seen_event next ∷ []) state → Promised given ((all ++ map seen_event emitted) ++ seen_event next ∷ []) state
+pub failed_at : {A : Type 0} (given : Settings) (all : List Event) (emitted : List (yaml_event_t A)) (next : yaml_event_t A)
+    (rest left events : List (yaml_event_t A)) (error : yaml_error_t) (earlier state : State)
+    → emitted ++ left ≡ events → left ≡ next ∷ rest → earlier.error ≡ None → StandsAfter given (all ++ map seen_event emitted) earlier
+    → state.error ≡ Some error
+    → StandsAfter given ((all ++ map seen_event emitted) ++ seen_event next ∷ []) state
+    → Promised given ((all ++ map seen_event emitted) ++ seen_event next ∷ []) state
     → FailsAt given all (map seen_event events) error state
 failed_at given all emitted next rest left events error earlier state parts is none stood failed stands kept =
     record {
@@ -100,7 +104,8 @@ emits_one given all event before after (Err error) none stood stands kept is =
     }
 
 -- more events after some
-pub emits_then : (given : Settings) (all first second : List Event) (middle after : State) (answer : Result (Unit {0}) yaml_error_t) → EmitsAll given all first middle
+pub emits_then : (given : Settings) (all first second : List Event) (middle after : State) (answer : Result (Unit {0}) yaml_error_t)
+    → EmitsAll given all first middle
     → EmitsEach given (all ++ first) second answer after → EmitsEach given all (first ++ second) answer after
 emits_then given all first second middle after (Ok _) begun more =
     let joined = append_assoc all first second in
@@ -125,7 +130,8 @@ emits_then given all first second middle after (Err error) begun more =
     }
 
 -- a failure before others
-pub emits_failed : (given : Settings) (all first second : List Event) (error : yaml_error_t) (after : State) → FailsAt given all first error after → FailsAt given all (first ++ second) error after
+pub emits_failed : (given : Settings) (all first second : List Event) (error : yaml_error_t) (after : State) → FailsAt given all first error after
+    → FailsAt given all (first ++ second) error after
 emits_failed given all first second error after h =
     record {
       before = h.before;
@@ -146,7 +152,8 @@ on_ok (Ok _) p = p
 on_ok (Err error) p = tt
 
 -- a stream is closed that was, or that a document without nodes closes
-pub closed_by : (answer : Result (Unit {0}) yaml_error_t) (closed was empty : Bool) → empty ≡ true → OnOk answer (closed ≡ true) → OnOk answer (closed ≡ (was || empty))
+pub closed_by : (answer : Result (Unit {0}) yaml_error_t) (closed was empty : Bool) → empty ≡ true → OnOk answer (closed ≡ true)
+    → OnOk answer (closed ≡ (was || empty))
 closed_by (Ok _) closed was empty is h = h ∙ sym (ap (λ b. was || b) is ∙ or-true was)
 closed_by (Err error) closed was empty is h = tt
 
@@ -158,8 +165,10 @@ opened_some true now more is = is
 opened_some false now more is = is
 
 -- a dump's events behind the start
-dumps_then : (given : Settings) (all : List Event) (opened : Bool) (more : List Event) (middle after : State) (answer : Result (Unit {0}) yaml_error_t) → after.opened ≡ true
-    → EmitsAll given all (opening opened) middle → EmitsEach given (all ++ opening opened) more answer after → EmitsDump opened given all (opening opened ++ more) answer after
+dumps_then : (given : Settings) (all : List Event) (opened : Bool) (more : List Event) (middle after : State) (answer : Result (Unit {0}) yaml_error_t)
+    → after.opened ≡ true
+    → EmitsAll given all (opening opened) middle → EmitsEach given (all ++ opening opened) more answer after
+    → EmitsDump opened given all (opening opened ++ more) answer after
 unfolding emits_then
 dumps_then given all opened more middle after (Ok done) now begun emitted = emits_then given all (opening opened) more middle after (Ok done) begun emitted
 dumps_then given all opened more middle after (Err error) now begun emitted =
@@ -178,7 +187,8 @@ opening_one true = omega arith
 opening_one false = omega arith
 
 -- the start failed
-dumps_failed : (given : Settings) (all : List Event) (opened : Bool) (more : List Event) (error : yaml_error_t) (after : State) → opened ≡ false → after.opened ≡ false
+dumps_failed : (given : Settings) (all : List Event) (opened : Bool) (more : List Event) (error : yaml_error_t) (after : State) → opened ≡ false
+    → after.opened ≡ false
     → FailsAt given all (opening opened) error after → FailsDump opened given all (opening opened ++ more) error after
 unfolding emits_failed
 dumps_failed given all opened more error after was now h =
@@ -188,17 +198,21 @@ dumps_failed given all opened more error after was now h =
     }
 
 -- its error is passed on
-pub exit_dumps : (given : Settings) (all : List Event) (opened : Bool) (more : List Event) (error : yaml_error_t) (answer : Result (Unit {0}) yaml_error_t) (after : State) → (opened ≡ false) × (after.opened ≡ false)
-    → FailsAt given all (opening opened) error after → IsErr answer × IsErrAnd answer (λ told. told ≡ error) → EmitsDump opened given all (opening opened ++ more) answer after
+pub exit_dumps : (given : Settings) (all : List Event) (opened : Bool) (more : List Event) (error : yaml_error_t) (answer : Result (Unit {0}) yaml_error_t)
+    (after : State) → (opened ≡ false) × (after.opened ≡ false)
+    → FailsAt given all (opening opened) error after → IsErr answer × IsErrAnd answer (λ told. told ≡ error)
+    → EmitsDump opened given all (opening opened ++ more) answer after
 exit_dumps given all opened more error (Ok _) after unopened h is = absurd (false≢true is.0)
 exit_dumps given all opened more error (Err other) after unopened h is =
-    subst (λ (e : yaml_error_t). FailsDump opened given all (opening opened ++ more) e after) (sym is.1) (dumps_failed given all opened more error after unopened.0 unopened.1 h)
+    subst (λ (e : yaml_error_t). FailsDump opened given all (opening opened ++ more) e after) (sym is.1)
+    (dumps_failed given all opened more error after unopened.0 unopened.1 h)
 
 -- a document without nodes, and one with nodes
 abbrev chosen : Bool → (empty events : List Event) → List Event
 chosen b empty events = if b then empty else events
 
-pub dumps_closing : (given : Settings) (all : List Event) (opened : Bool) (events : List Event) (closed empty : Bool) (middle after : State) (answer : Result (Unit {0}) yaml_error_t) → middle.closed ≡ closed → empty ≡ true → after.opened ≡ true
+pub dumps_closing : (given : Settings) (all : List Event) (opened : Bool) (events : List Event) (closed empty : Bool) (middle after : State)
+    (answer : Result (Unit {0}) yaml_error_t) → middle.closed ≡ closed → empty ≡ true → after.opened ≡ true
     → EmitsAll given all (opening opened) middle → EmitsEach given (all ++ opening opened) (closing middle.closed) answer after
     → EmitsDump opened given all (opening opened ++ chosen empty (closing closed) events) answer after
 dumps_closing given all opened events closed empty middle after answer same is now begun more =
@@ -206,7 +220,8 @@ dumps_closing given all opened events closed empty middle after answer same is n
     (subst (λ (b : Bool). EmitsDump opened given all (opening opened ++ closing b) answer after) same
     (dumps_then given all opened (closing middle.closed) middle after answer now begun more))
 
-pub dumps_events : (given : Settings) (all : List Event) (opened : Bool) (ending events emitted : List Event) (empty : Bool) (middle after : State) (answer : Result (Unit {0}) yaml_error_t) → emitted ≡ events → empty ≡ false → after.opened ≡ true
+pub dumps_events : (given : Settings) (all : List Event) (opened : Bool) (ending events emitted : List Event) (empty : Bool) (middle after : State)
+    (answer : Result (Unit {0}) yaml_error_t) → emitted ≡ events → empty ≡ false → after.opened ≡ true
     → EmitsAll given all (opening opened) middle → EmitsEach given (all ++ opening opened) emitted answer after
     → EmitsDump opened given all (opening opened ++ chosen empty ending events) answer after
 dumps_events given all opened ending events emitted empty middle after answer same is now begun more =

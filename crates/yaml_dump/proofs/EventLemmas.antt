@@ -17,19 +17,24 @@ use Rattle.yaml_dump.specs.Steps.{seen_step}
 use Rattle.yaml_dump.proofs.AnchorLemmas.{anchor_placed, seen_more}
 
 -- a node begins with the anchor of its place
-pub entered : (graph : Graph) (walk : List Step) (places : List ℕ) (number : ℕ) (events : List Event) → IsNumbered (length places) (enters number) → HasPlaces walk places
+pub entered : (graph : Graph) (walk : List Step) (places : List ℕ) (number : ℕ) (events : List Event) → IsNumbered (length places) (enters number)
+    → HasPlaces walk places
     → events ≡ beginning_events (anchor_of_place (get_or places (number - 1) 0)) (node_numbered graph number) → events ≡ step_events graph walk (enters number)
 entered graph walk places number events numbered has_places is =
-    is ∙ ap (λ (anchor : Option Text). beginning_events anchor (node_numbered graph number)) (ap anchor_of_place (has_places.placed number numbered.first numbered.last) ∙ sym (anchor_placed walk number))
+    is ∙ ap (λ (anchor : Option Text). beginning_events anchor (node_numbered graph number))
+    (ap anchor_of_place (has_places.placed number numbered.first numbered.last) ∙ sym (anchor_placed walk number))
 
 -- one more event
-pub pushed : {A : Type 0} (events grown : List (yaml_event_t A)) (event : yaml_event_t A) (found : Option (yaml_event_t A)) (more : List Event) → grown ≡ events ++ event ∷ [] → found ≡ Some event → seen_events_of found ≡ more
+pub pushed : {A : Type 0} (events grown : List (yaml_event_t A)) (event : yaml_event_t A) (found : Option (yaml_event_t A)) (more : List Event)
+    → grown ≡ events ++ event ∷ [] → found ≡ Some event → seen_events_of found ≡ more
     → seen_events grown ≡ seen_events events ++ more
 pushed events grown event found more grows is seen =
-    ap seen_events grows ∙ map-append seen_event events (event ∷ []) ∙ ap (λ (others : List Event). seen_events events ++ others) (sym (ap seen_events_of is) ∙ seen)
+    ap seen_events grows ∙ map-append seen_event events (event ∷ [])
+    ∙ ap (λ (others : List Event). seen_events events ++ others) (sym (ap seen_events_of is) ∙ seen)
 
 -- the events of the steps so far, and those of the next
-pub events_more : (of : Step → List Event) (walk : List declared.Step) (index : ℕ) (default : declared.Step) (start : Event) (before after : List Event) → index < length walk
+pub events_more : (of : Step → List Event) (walk : List declared.Step) (index : ℕ) (default : declared.Step) (start : Event) (before after : List Event)
+    → index < length walk
     → before ≡ start ∷ flat_map of (map seen_step (take index walk)) → after ≡ before ++ of (seen_step (get_or walk index default))
     → after ≡ start ∷ flat_map of (map seen_step (take (index + 1) walk))
 events_more of walk index default start before after inside is adds =
@@ -47,7 +52,8 @@ named_numbered count [] named = refl
 named_numbered count (step ∷ rest) named =
     let first = named 0 step (omega arith) in
     both_true (nat_le 1 (number_in (seen_step step)) && nat_le (number_in (seen_step step)) count) (is_numbered count (map seen_step rest))
-    (both_true (nat_le 1 (number_in (seen_step step))) (nat_le (number_in (seen_step step)) count) (grind (arith, nat_tests, first.first)) (grind (arith, nat_tests, first.last)))
+    (both_true (nat_le 1 (number_in (seen_step step))) (nat_le (number_in (seen_step step)) count) (grind (arith, nat_tests, first.first))
+    (grind (arith, nat_tests, first.last)))
     (named_numbered count rest (λ place default inside. named (suc place) default (omega (arith, inside))))
   where
     both_true : (a b : Bool) → a ≡ true → b ≡ true → a && b ≡ true

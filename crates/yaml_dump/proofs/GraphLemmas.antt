@@ -41,7 +41,8 @@ ends_last (event ∷ []) = ends_later event stream_end []
 ends_last (event ∷ next ∷ rest) = ends_later event next (rest ++ stream_end ∷ []) ∙ ends_last (next ∷ rest)
 
 -- graphs that were dumped whole in canonical mode are read back
-pub graphs_read : (given : Settings) (before : List Event) (graphs : List Graph) (state : State) → Promised given (before ++ stream_end ∷ []) state → state.error ≡ None → given.canonical ≡ true
+pub graphs_read : (given : Settings) (before : List Event) (graphs : List Graph) (state : State) → Promised given (before ++ stream_end ∷ []) state
+    → state.error ≡ None → given.canonical ≡ true
     → IsUncut given (before ++ stream_end ∷ []) → AreDumped graphs (before ++ stream_end ∷ []) → GraphsRead given.breaks12 graphs state.page.output
 graphs_read given before graphs state promised none canonical uncut dumped =
     let all = before ++ stream_end ∷ [] in

@@ -9,6 +9,7 @@ use Rattle.std.proofs.lemmas.Str.Ascii.{IsAscii-nil, IsAscii-cons}
 use Rattle.std.specs.Fmt.{decimal, digits, digits_onto, digit_glyph, format_spec, padded_integral, styled_decimal, char_count}
 use Rattle.std.specs.Str.{IsAscii, chars}
 use Rattle.yaml_base.specs.Meetings.{decimal_digits, numbered_name}
+use Rattle.yaml_base.specs.Settings.{largest_usize}
 
 ascii_zeros : (count : ℕ) → IsAscii (replicate count 0x30)
 ascii_zeros zero = IsAscii-nil
@@ -21,7 +22,8 @@ bare short number =
     rw (same, append-nil)
 
 -- as many turns as there are digits are enough
-turns_same : (turns others number : ℕ) (rest : List ℕ) → number < turns → number < 10 ^ suc others → digits_onto turns 10 false number rest ≡ digits_onto (suc others) 10 false number rest
+turns_same : (turns others number : ℕ) (rest : List ℕ) → number < turns → number < 10 ^ suc others
+    → digits_onto turns 10 false number rest ≡ digits_onto (suc others) 10 false number rest
 turns_same zero others number rest small bound = absurd (omega (arith, small))
 turns_same (suc turns) zero number rest small bound =
     let glyph = digit_glyph false (number % 10) in
@@ -31,7 +33,8 @@ turns_same (suc turns) zero number rest small bound =
 turns_same (suc turns) (suc others) number rest small bound =
     let glyph = digit_glyph false (number % 10) in
     (elim (number / 10 == 0) as (λ one. (number / 10 == 0) ≡ one
-    → cond one (glyph ∷ rest) (digits_onto turns 10 false (number / 10) (glyph ∷ rest)) ≡ cond one (glyph ∷ rest) (digits_onto (suc others) 10 false (number / 10) (glyph ∷ rest))) [
+    → cond one (glyph ∷ rest) (digits_onto turns 10 false (number / 10) (glyph ∷ rest))
+    ≡ cond one (glyph ∷ rest) (digits_onto (suc others) 10 false (number / 10) (glyph ∷ rest))) [
       | true ↦ λ is. refl
       | false ↦ λ is.
           let less : number / 10 < turns = grind (arith, nat_tests, small, is) in
@@ -47,7 +50,7 @@ digits_are place small = turns_same (suc place) 63 place [] (omega arith) (omega
 abbrev name_of : List ℕ → List ℕ
 name_of number = 105 ∷ 100 ∷ (replicate (3 - length number) 0x30 ++ number)
 
-padded_name : (place : ℕ) → place < 2 ^ 64 → 105 ∷ 100 ∷ padded_integral (format_spec 32 0 4 3 18446744073709551615) false [] (decimal place) ≡ numbered_name place
+padded_name : (place : ℕ) → place < 2 ^ 64 → 105 ∷ 100 ∷ padded_integral (format_spec 32 0 4 3 largest_usize) false [] (decimal place) ≡ numbered_name place
 unfolding padded_integral char_count
 padded_name place small = bare (3 - length (decimal place)) (decimal place) ∙ sym (ap name_of (digits_are place small))
 
@@ -57,10 +60,11 @@ ascii_padded short number ascii =
     (IsAscii-cons 100 (replicate short 0x30 ++ number) (omega arith) (IsAscii-append (replicate short 0x30) number (ascii_zeros short) ascii))
 
 ascii_name : (place : ℕ) → place < 2 ^ 64 → IsAscii (numbered_name place)
-ascii_name place small = subst IsAscii (sym (ap name_of (digits_are place small))) (ascii_padded (3 - length (decimal place)) (decimal place) (IsAscii-decimal place small))
+ascii_name place small = subst IsAscii (sym (ap name_of (digits_are place small)))
+    (ascii_padded (3 - length (decimal place)) (decimal place) (IsAscii-decimal place small))
 
 -- the characters of a printed name
-pub printed_name : (place : ℕ) (printed bytes : List ℕ) → place < 2 ^ 64 → printed ≡ styled_decimal (format_spec 32 0 4 3 18446744073709551615) place
+pub printed_name : (place : ℕ) (printed bytes : List ℕ) → place < 2 ^ 64 → printed ≡ styled_decimal (format_spec 32 0 4 3 largest_usize) place
     → bytes ≡ 105 ∷ 100 ∷ printed → chars bytes ≡ numbered_name place
 printed_name place printed bytes small is_printed is =
     let named : bytes ≡ numbered_name place = is ∙ ap (λ (digits : List ℕ). 105 ∷ 100 ∷ digits) is_printed ∙ padded_name place small in

@@ -49,7 +49,8 @@ pub record Meets (graph : Graph) (number : ℕ) (standing : Standing) : Type 0 w
 -- ---- one more step
 
 -- a step that enters none
-sound_step : (graph : Graph) (standing : Standing) (step : meetings.Step) → IsSound graph standing → ((number : ℕ) → is_entry_of number step ≡ false) → IsNamed (length graph.nodes) (number_in step)
+sound_step : (graph : Graph) (standing : Standing) (step : meetings.Step) → IsSound graph standing → ((number : ℕ) → is_entry_of number step ≡ false)
+    → IsNamed (length graph.nodes) (number_in step)
     → IsSound graph (with_step step standing)
 sound_step graph standing step sound enters_none named = record {
   counted = sound.counted;
@@ -85,7 +86,8 @@ stands_left graph standing visit stands none =
           sym (ap (λ (depth : ℕ). finish depth graph standing.visits (standing.steps ++ leaves visit.number ∷ [])) out)
           ∙ sym (finish_left (depth_of graph (with_visit visit standing)) graph visit standing.visits standing.steps none)
           ∙ stands.finished;
-      sound = sound_step graph standing (leaves visit.number) (sound_outer graph standing visit stands.sound) (λ number. refl) (visit_named graph standing visit stands.sound);
+      sound = sound_step graph standing (leaves visit.number) (sound_outer graph standing visit stands.sound) (λ number. refl)
+          (visit_named graph standing visit stands.sound);
     }
 
 -- ---- a node is met
@@ -129,7 +131,8 @@ flag_set flags place other before within is (inr differs) =
     ∙ sym (none_added (is_entry_of (suc other)) before (enters (suc place)) (ne_eqb (suc other) (suc place) (λ same. differs (omega arith))))
 
 -- one node fewer is unentered
-unentered_set : (flags : List Bool) (place : ℕ) → place < length flags → get_or flags place false ≡ false → suc (unentered (set flags place true)) ≡ unentered flags
+unentered_set : (flags : List Bool) (place : ℕ) → place < length flags → get_or flags place false ≡ false
+    → suc (unentered (set flags place true)) ≡ unentered flags
 unfolding unentered
 unentered_set flags place within is =
     let set_sum = sum_by-set (λ (entered : Bool). cond entered 0 1) flags place true false within in
@@ -137,7 +140,8 @@ unentered_set flags place within is =
     omega (arith, set_sum, one)
 
 -- a node that was not entered
-sound_entered : (graph : Graph) (standing : Standing) (number : ℕ) → IsSound graph standing → IsNamed (length graph.nodes) number → get_or standing.entered (number - 1) false ≡ false
+sound_entered : (graph : Graph) (standing : Standing) (number : ℕ) → IsSound graph standing → IsNamed (length graph.nodes) number
+    → get_or standing.entered (number - 1) false ≡ false
     → IsSound graph (with_node false number standing)
 sound_entered graph standing number sound named entered =
     let first = named.first in
@@ -150,9 +154,11 @@ sound_entered graph standing number sound named entered =
     let fewer = unentered_set standing.entered place within entered in
     record {
       counted = length-set standing.entered place true ∙ counted;
-      flagged = λ other other_within. flag_set standing.entered place other standing.steps within (sound.flagged other other_within) (cases_eq other place) ∙ ap (λ (n : ℕ). list_any (is_entry_of (suc other)) (standing.steps ++ enters n ∷ [])) is;
+      flagged = λ other other_within. flag_set standing.entered place other standing.steps within (sound.flagged other other_within) (cases_eq other place)
+          ∙ ap (λ (n : ℕ). list_any (is_entry_of (suc other)) (standing.steps ++ enters n ∷ [])) is;
       room = omega (arith, fewer);
-      visits_named = All-cons (λ visit. IsNamed (length graph.nodes) visit.number) (record { number = number; met = 0 }) standing.visits named sound.visits_named;
+      visits_named = All-cons (λ visit. IsNamed (length graph.nodes) visit.number)
+          (record { number = number; met = 0 }) standing.visits named sound.visits_named;
       steps_named = All-push (λ step. IsNamed (length graph.nodes) (number_in step)) standing.steps (enters number) sound.steps_named named;
     }
 
@@ -174,7 +180,8 @@ stands_entered graph standing number meets entered =
     }
 
 -- by its flag
-stands_flagged : (graph : Graph) (standing : Standing) (number : ℕ) (entered : Bool) → Meets graph number standing → get_or standing.entered (number - 1) false ≡ entered
+stands_flagged : (graph : Graph) (standing : Standing) (number : ℕ) (entered : Bool) → Meets graph number standing
+    → get_or standing.entered (number - 1) false ≡ entered
     → Stands graph (with_node entered number standing)
 stands_flagged graph standing number true meets entered = stands_again graph standing number meets entered
 stands_flagged graph standing number false meets entered = stands_entered graph standing number meets entered
@@ -193,7 +200,8 @@ meets_child graph standing visit child stands some named =
     let depth = depth_of graph (with_visit visit standing) in
     record {
       finished =
-          ap (λ (met : ℕ). finish depth graph (record { number = visit.number; met = met } ∷ standing.visits) (steps_from depth graph standing.steps child)) (sym more)
+          ap (λ (met : ℕ). finish depth graph (record { number = visit.number; met = met } ∷ standing.visits) (steps_from depth graph standing.steps child))
+          (sym more)
           ∙ sym (finish_met depth graph visit standing.visits standing.steps child some)
           ∙ stands.finished;
       named = named;
@@ -201,7 +209,9 @@ meets_child graph standing visit child stands some named =
         counted = stands.sound.counted;
         flagged = stands.sound.flagged;
         room = stands.sound.room;
-        visits_named = All-cons (λ other. IsNamed (length graph.nodes) other.number) (record { number = visit.number; met = visit.met + 1 }) standing.visits (visit_named graph standing visit stands.sound) (All-tail (λ other. IsNamed (length graph.nodes) other.number) visit standing.visits stands.sound.visits_named);
+        visits_named = All-cons (λ other. IsNamed (length graph.nodes) other.number) (record { number = visit.number; met = visit.met + 1 }) standing.visits
+            (visit_named graph standing visit stands.sound)
+            (All-tail (λ other. IsNamed (length graph.nodes) other.number) visit standing.visits stands.sound.visits_named);
         steps_named = stands.sound.steps_named;
       };
     }
@@ -211,7 +221,8 @@ stands_turned : (graph : Graph) (standing : Standing) (visit : Visit) (child : O
     → child ≡ child_of graph visit → IfSome child (λ number. IsNamed (length graph.nodes) number) → Stands graph (with_child visit child standing)
 stands_turned graph standing visit None stands is named = stands_left graph standing visit stands (sym is)
 stands_turned graph standing visit (Some child) stands is named =
-    stands_met graph (with_visit (record { number = visit.number; met = visit.met + 1 }) standing) child (meets_child graph standing visit child stands (sym is) named)
+    stands_met graph (with_visit (record { number = visit.number; met = visit.met + 1 }) standing) child
+    (meets_child graph standing visit child stands (sym is) named)
 
 -- ---- before the root
 
@@ -259,16 +270,19 @@ one_more : (visit : Visit) (child : Option ℕ) (standing : Standing) → length
 one_more visit None standing = length_push standing.steps (leaves visit.number)
 one_more visit (Some child) standing = at_flag (get_or standing.entered (child - 1) false)
   where
-    at_flag : (entered : Bool) → length (with_node entered child (with_visit (record { number = visit.number; met = visit.met + 1 }) standing)).steps ≡ length standing.steps + 1
+    at_flag : (entered : Bool) → length (with_node entered child (with_visit (record { number = visit.number; met = visit.met + 1 }) standing)).steps
+        ≡ length standing.steps + 1
     at_flag true = length_push standing.steps (meets_again child)
     at_flag false = length_push standing.steps (enters child)
 
 -- ---- a walker's loop
 
 -- the root is met
-pub stands_first : (graph : Graph) (count : ℕ) (started met : Standing) → 1 ≤ length graph.nodes → count ≡ length graph.nodes → started ≡ at_start count → met ≡ with_meeting 1 started → Stands graph met
+pub stands_first : (graph : Graph) (count : ℕ) (started met : Standing) → 1 ≤ length graph.nodes → count ≡ length graph.nodes → started ≡ at_start count
+    → met ≡ with_meeting 1 started → Stands graph met
 stands_first graph count started met some all is_start is_met =
-    let is : with_meeting 1 (at_start (length graph.nodes)) ≡ met = sym (ap (λ (n : ℕ). with_meeting 1 (at_start n)) all) ∙ sym (ap (with_meeting 1) is_start) ∙ sym is_met in
+    let is : with_meeting 1 (at_start (length graph.nodes)) ≡ met = sym (ap (λ (n : ℕ). with_meeting 1 (at_start n)) all) ∙ sym (ap (with_meeting 1) is_start)
+    ∙ sym is_met in
     subst (λ (standing : Standing). Stands graph standing) is (stands_met graph (at_start (length graph.nodes)) 1 (meets_root graph some))
 
 -- the innermost visit is taken out
@@ -302,4 +316,5 @@ innermost_named graph visit outer stands = visit_named graph outer visit stands.
 pub walk_named : (count : ℕ) (walk : List Step) → All (λ step. IsNamed count (number_in step)) (map seen_step walk) → AreNamed count walk
 walk_named count walk all = λ place default within.
     let seen_within : place < length (map seen_step walk) = omega (arith, length-map walk seen_step) in
-    subst (λ (step : meetings.Step). IsNamed count (number_in step)) (get_or-map seen_step walk place default (seen_step default) within) (all place (seen_step default) seen_within)
+    subst (λ (step : meetings.Step). IsNamed count (number_in step)) (get_or-map seen_step walk place default (seen_step default) within)
+    (all place (seen_step default) seen_within)

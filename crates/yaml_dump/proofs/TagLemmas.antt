@@ -25,6 +25,7 @@ ascii_of (byte ∷ rest) is (suc i) = ascii_of rest (both (nat_lt byte 128) (lis
 -- the characters of a tag are an ASCII one where its bytes are
 pub same_tag : (tag wanted : List ℕ) → IsUtf8 tag → IsAscii wanted → bytes_eq tag wanted ≡ bytes_eq (chars tag) wanted
 same_tag tag wanted is ascii =
-    agree (bytes_eq tag wanted) (bytes_eq (chars tag) wanted) (tag ≡ wanted) (chars tag ≡ wanted) (bytes_eq-Decides tag wanted) (bytes_eq-Decides (chars tag) wanted)
+    agree (bytes_eq tag wanted) (bytes_eq (chars tag) wanted) (tag ≡ wanted) (chars tag ≡ wanted) (bytes_eq-Decides tag wanted)
+    (bytes_eq-Decides (chars tag) wanted)
     (λ same. ap chars same ∙ chars-IsAscii wanted ascii)
     (λ same. sym (encodes-chars tag is) ∙ ap encode_utf8_all same ∙ encodes-IsAscii wanted ascii)

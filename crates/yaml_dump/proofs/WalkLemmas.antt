@@ -39,7 +39,12 @@ unfolding finish
 finish_longer depth graph [] before = omega arith
 finish_longer depth graph (visit ∷ outer) before =
     let behind = fold (steps_from depth graph) before (drop visit.met (children graph visit.number)) in
-    omega (arith, fold_longer (steps_from depth graph) (steps_longer depth graph) before (drop visit.met (children graph visit.number)), added behind (leaves visit.number), finish_longer (suc depth) graph outer (behind ++ leaves visit.number ∷ []))
+    omega (
+      arith,
+      fold_longer (steps_from depth graph) (steps_longer depth graph) before (drop visit.met (children graph visit.number)),
+      added behind (leaves visit.number),
+      finish_longer (suc depth) graph outer (behind ++ leaves visit.number ∷ []),
+    )
 
 -- ---- a turn leaves the whole walk as it is
 
@@ -57,18 +62,23 @@ drop_some (number ∷ numbers) zero child some = let same : number ≡ child = c
 drop_some (number ∷ numbers) (suc place) child some = drop_some numbers place child some
 
 -- no child is left: the visit ends
-pub finish_left : (depth : ℕ) (graph : Graph) (visit : Visit) (outer : List Visit) (before : List meetings.Step) → slice_get (children graph visit.number) visit.met ≡ None
+pub finish_left : (depth : ℕ) (graph : Graph) (visit : Visit) (outer : List Visit) (before : List meetings.Step)
+    → slice_get (children graph visit.number) visit.met ≡ None
     → finish depth graph (visit ∷ outer) before ≡ finish (suc depth) graph outer (before ++ leaves visit.number ∷ [])
 unfolding finish
 finish_left depth graph visit outer before none =
-    ap (λ (numbers : List ℕ). finish (suc depth) graph outer (fold (steps_from depth graph) before numbers ++ leaves visit.number ∷ [])) (drop_none (children graph visit.number) visit.met none)
+    ap (λ (numbers : List ℕ). finish (suc depth) graph outer (fold (steps_from depth graph) before numbers ++ leaves visit.number ∷ []))
+    (drop_none (children graph visit.number) visit.met none)
 
 -- a child is met
-pub finish_met : (depth : ℕ) (graph : Graph) (visit : Visit) (outer : List Visit) (before : List meetings.Step) (child : ℕ) → slice_get (children graph visit.number) visit.met ≡ Some child
-    → finish depth graph (visit ∷ outer) before ≡ finish depth graph (record { number = visit.number; met = suc visit.met } ∷ outer) (steps_from depth graph before child)
+pub finish_met : (depth : ℕ) (graph : Graph) (visit : Visit) (outer : List Visit) (before : List meetings.Step) (child : ℕ)
+    → slice_get (children graph visit.number) visit.met ≡ Some child
+    → finish depth graph (visit ∷ outer) before
+    ≡ finish depth graph (record { number = visit.number; met = suc visit.met } ∷ outer) (steps_from depth graph before child)
 unfolding finish
 finish_met depth graph visit outer before child some =
-    ap (λ (numbers : List ℕ). finish (suc depth) graph outer (fold (steps_from depth graph) before numbers ++ leaves visit.number ∷ [])) (drop_some (children graph visit.number) visit.met child some)
+    ap (λ (numbers : List ℕ). finish (suc depth) graph outer (fold (steps_from depth graph) before numbers ++ leaves visit.number ∷ []))
+    (drop_some (children graph visit.number) visit.met child some)
 
 -- a walk from a node, and then the visits' ends: a node that was entered is met again
 pub finish_again : (depth : ℕ) (graph : Graph) (visits : List Visit) (before : List meetings.Step) (number : ℕ) → list_any (is_entry_of number) before ≡ true
@@ -77,6 +87,7 @@ finish_again depth graph visits before number entered = ap (λ (is : Bool). fini
 
 -- another is entered and visited
 pub finish_entered : (depth : ℕ) (graph : Graph) (visits : List Visit) (before : List meetings.Step) (number : ℕ) → list_any (is_entry_of number) before ≡ false
-    → finish (suc depth) graph visits (steps_from (suc depth) graph before number) ≡ finish depth graph (record { number = number; met = 0 } ∷ visits) (before ++ enters number ∷ [])
+    → finish (suc depth) graph visits (steps_from (suc depth) graph before number)
+    ≡ finish depth graph (record { number = number; met = 0 } ∷ visits) (before ++ enters number ∷ [])
 unfolding finish
 finish_entered depth graph visits before number entered = ap (λ (is : Bool). finish (suc depth) graph visits (from_node depth graph before number is)) entered

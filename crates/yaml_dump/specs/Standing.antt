@@ -30,7 +30,8 @@ with_visit visit standing = record standing { visits = visit ∷ standing.visits
 -- behind the meeting of a node that was entered or not
 abbrev pub with_node : Bool → ℕ → Standing → Standing
 with_node true number standing = with_step (meets_again number) standing
-with_node false number standing = with_visit (record { number = number; met = 0 }) (with_step (enters number) (record standing { entered = slice_set standing.entered (number - 1) true }))
+with_node false number standing = with_visit (record { number = number; met = 0 })
+    (with_step (enters number) (record standing { entered = slice_set standing.entered (number - 1) true }))
 
 -- behind the meeting of a node
 abbrev pub with_meeting : ℕ → Standing → Standing

@@ -4,6 +4,7 @@ ghost use Rattle.yaml_base.specs.Meetings as meetings;
 ghost use Rattle.yaml_base.specs.Seen.{seen_text};
 ghost use Rattle.yaml_dump.specs.Anchors.{IsNumbered, is_numbered, Places, HasPlaces, anchor_of_place};
 ghost use Rattle.yaml_dump.specs.Steps.{seen_step};
+ghost use Rattle.yaml_base.specs.Settings.{largest_usize};
 
 use crate::steps::Step;
 use std::alloc::{AllocError, Allocator};
@@ -18,7 +19,7 @@ pub(crate) fn numbered_name<A: Allocator>(alloc: A, place: usize) -> Result<Stri
 /// Gives the node of a step its place where it is met again and has none yet; how many nodes have one then.
 fn place_met(places: &mut [usize], shared: usize, step: Step) -> usize
     requires numbered { IsNumbered (length places.old) (seen_step step) }
-    requires fits { shared < 18446744073709551615 }
+    requires fits { shared < largest_usize }
     ensures placed { (walk : List meetings.Step) → Places walk shared places.old → Places (walk ++ seen_step step ∷ []) result places.new }
     ensures counted { result ≤ shared + 1 }
 {
@@ -42,7 +43,8 @@ pub(crate) fn shared_places<A: Allocator + Copy>(
     requires { is_numbered count (map seen_step walk.now) ≡ true }
     ensures each { IfOk result (λ places. length places.items ≡ count) }
     ensures placed { IfOk result (λ places. HasPlaces (map seen_step walk.now) places.items) }
-    ensures anchors { IfOk result (λ places. (number : ℕ) → 1 ≤ number → number ≤ count → anchor_of_place (slice_index places.items (number - 1)) ≡ meetings.anchor_of (map seen_step walk.now) number) }
+    ensures anchors { IfOk result (λ places. (number : ℕ) → 1 ≤ number → number ≤ count
+        → anchor_of_place (slice_index places.items (number - 1)) ≡ meetings.anchor_of (map seen_step walk.now) number) }
 {
     let mut places = vec![in alloc; 0; count]?;
     let mut shared = 0;

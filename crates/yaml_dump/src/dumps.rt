@@ -33,7 +33,8 @@ pub fn document_events<A: Allocator + Copy>(
     document: &yaml_document_t<A>,
 ) -> Result<Vec<yaml_event_t<A>, A>, yaml_error_t>
     ensures events { IfOk result (λ events. map seen_event events.items ≡ document_event_list (graph_of document.now)) }
-    ensures unfolds { (length (graph_of document.now).nodes == 0) ≡ false → IfOk result (λ events. EventsUnfold (graph_of document.now) (map seen_event events.items)) }
+    ensures unfolds { (length (graph_of document.now).nodes == 0) ≡ false
+        → IfOk result (λ events. EventsUnfold (graph_of document.now) (map seen_event events.items)) }
     ensures memory { IfErr result (λ error. error ≡ yaml_error_t.Memory) }
 {
     if document.is_empty() {
@@ -61,7 +62,8 @@ fn events_of_nodes<A: Allocator + Copy>(
 fn open_if_needed<A: Allocator + Copy>(emitter: &mut yaml_emitter_t<A>) -> Result<(), yaml_error_t>
     requires output { emitter.old.has_output ≡ true }
     requires no_error { emitter.old.error ≡ None }
-    ensures emits { (given : Settings) (all : List Event) → StandsAfter given all emitter.old → EmitsEach given all (opening emitter.old.opened) result emitter.new }
+    ensures emits { (given : Settings) (all : List Event) → StandsAfter given all emitter.old
+        → EmitsEach given all (opening emitter.old.opened) result emitter.new }
     ensures opened { OnOk result (emitter.new.opened ≡ true) }
     ensures unopened { OnErr result ((emitter.old.opened ≡ false) × (emitter.new.opened ≡ false)) }
     ensures closed { emitter.new.closed ≡ emitter.old.closed }
@@ -83,7 +85,8 @@ fn close_if_needed<A: Allocator + Copy>(emitter: &mut yaml_emitter_t<A>) -> Resu
     requires opened { emitter.old.opened ≡ true }
     requires output { emitter.old.has_output ≡ true }
     requires no_error { emitter.old.error ≡ None }
-    ensures emits { (given : Settings) (all : List Event) → StandsAfter given all emitter.old → EmitsEach given all (closing emitter.old.closed) result emitter.new }
+    ensures emits { (given : Settings) (all : List Event) → StandsAfter given all emitter.old
+        → EmitsEach given all (closing emitter.old.closed) result emitter.new }
     ensures opened { emitter.new.opened ≡ true }
     ensures closed { OnOk result (emitter.new.closed ≡ true) }
     ensures unclosed { OnErr result (emitter.new.closed ≡ emitter.old.closed) }
@@ -114,8 +117,10 @@ pub fn yaml_emitter_dump<A: Allocator + Copy>(
     requires { emitter.old.has_output ≡ true }
     ensures failed { IsSome emitter.old.error → (emitter.new ≡ emitter.old) × (result ≡ told emitter.old.error) }
     ensures dumps { emitter.old.error ≡ None → Dumps (graph_of document) emitter.old result emitter.new }
-    ensures unfolds { OnOk result ((length (graph_of document).nodes == 0) ≡ false → EventsUnfold (graph_of document) (document_event_list (graph_of document))) }
-    ensures graphs { OnOk result ((length (graph_of document).nodes == 0) ≡ true → emitter.old.closed ≡ false → (given : Settings) (all : List Event) → StandsAfter given all emitter.old → ReadsGraphs given ((all ++ opening emitter.old.opened) ++ stream_end ∷ []) emitter.new) }
+    ensures unfolds { OnOk result ((length (graph_of document).nodes == 0) ≡ false
+        → EventsUnfold (graph_of document) (document_event_list (graph_of document))) }
+    ensures graphs { OnOk result ((length (graph_of document).nodes == 0) ≡ true → emitter.old.closed ≡ false → (given : Settings) (all : List Event)
+        → StandsAfter given all emitter.old → ReadsGraphs given ((all ++ opening emitter.old.opened) ++ stream_end ∷ []) emitter.new) }
     ensures opened { OnOk result (emitter.new.opened ≡ true) }
     ensures unclosed { OnErr result (emitter.new.closed ≡ emitter.old.closed) }
     ensures closed { OnOk result (emitter.new.closed ≡ (emitter.old.closed || length (graph_of document).nodes == 0)) }

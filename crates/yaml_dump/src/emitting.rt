@@ -24,7 +24,8 @@ pub fn emit_each<A: Allocator + Copy>(
 ) -> Result<(), yaml_error_t>
     requires output { emitter.old.has_output ≡ true }
     requires no_error { emitter.old.error ≡ None }
-    ensures emits { (given : Settings) (all : List Event) → StandsAfter given all emitter.old → EmitsEach given all (map seen_event events.items) result emitter.new }
+    ensures emits { (given : Settings) (all : List Event) → StandsAfter given all emitter.old
+        → EmitsEach given all (map seen_event events.items) result emitter.new }
     ensures grows { Grows emitter.old.page emitter.new.page }
     ensures set { KeepsSet (record emitter.old { started = emitter.new.started }) emitter.new }
     ensures begun { IsBegun emitter.old emitter.new }

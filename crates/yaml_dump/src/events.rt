@@ -10,6 +10,7 @@ ghost use Rattle.yaml_base.specs.Documents.{graph_of};
 ghost use Rattle.yaml_dump.specs.Anchors.{IsNumbered, is_numbered, HasPlaces, anchor_of_place};
 ghost use Rattle.yaml_dump.specs.Events.{seen_events_of, IsPlaced, walk_events};
 ghost use Rattle.yaml_dump.specs.Steps.{seen_step};
+ghost use Rattle.yaml_base.specs.Settings.{largest_i32};
 
 use crate::anchors::{numbered_name, shared_places};
 use crate::steps::Step;
@@ -34,7 +35,8 @@ fn scalar_event<A: Allocator + Copy>(
     value: &str,
     style: yaml_scalar_style_t,
 ) -> Result<yaml_event_t<A>, AllocError>
-    ensures { IfOk result (λ event. seen_event event ≡ meetings.beginning_of (option_map seen_text anchor) (chars tag.now) (meetings.scalar_held (chars value.now) (seen_scalar_style style))) }
+    ensures { IfOk result (λ event. seen_event event
+        ≡ meetings.beginning_of (option_map seen_text anchor) (chars tag.now) (meetings.scalar_held (chars value.now) (seen_scalar_style style))) }
 {
     let implicit = is_tag(tag, "tag:yaml.org,2002:str");
     Ok(yaml_event_t::YAML_SCALAR_EVENT {
@@ -53,7 +55,13 @@ fn sequence_start<A: Allocator + Copy>(
     tag: &str,
     style: yaml_sequence_style_t,
 ) -> Result<yaml_event_t<A>, AllocError>
-    ensures { IfOk result (λ event. seen_event event ≡ seen.sequence_start (record { anchor = option_map seen_text anchor; tag = Some (chars tag.now); implicit = bytes_eq (chars tag.now) meetings.sequence_tag; style = seen_sequence_style style })) }
+    ensures { IfOk result (λ event. seen_event event
+        ≡ seen.sequence_start (record {
+          anchor = option_map seen_text anchor;
+          tag = Some (chars tag.now);
+          implicit = bytes_eq (chars tag.now) meetings.sequence_tag;
+          style = seen_sequence_style style;
+        })) }
 {
     Ok(yaml_event_t::YAML_SEQUENCE_START_EVENT {
         anchor,
@@ -69,7 +77,13 @@ fn mapping_start<A: Allocator + Copy>(
     tag: &str,
     style: yaml_mapping_style_t,
 ) -> Result<yaml_event_t<A>, AllocError>
-    ensures { IfOk result (λ event. seen_event event ≡ seen.mapping_start (record { anchor = option_map seen_text anchor; tag = Some (chars tag.now); implicit = bytes_eq (chars tag.now) meetings.mapping_tag; style = seen_mapping_style style })) }
+    ensures { IfOk result (λ event. seen_event event
+        ≡ seen.mapping_start (record {
+          anchor = option_map seen_text anchor;
+          tag = Some (chars tag.now);
+          implicit = bytes_eq (chars tag.now) meetings.mapping_tag;
+          style = seen_mapping_style style;
+        })) }
 {
     Ok(yaml_event_t::YAML_MAPPING_START_EVENT {
         anchor,
@@ -85,7 +99,8 @@ fn beginning<A: Allocator + Copy>(
     anchor: Option<String<A>>,
     node: &yaml_node_t<A>,
 ) -> Result<yaml_event_t<A>, AllocError>
-    ensures { IfOk result (λ event. seen_event event ≡ meetings.beginning_of (option_map seen_text anchor) (seen_text node.now.tag) (seen_held node.now.contents)) }
+    ensures { IfOk result (λ event. seen_event event
+        ≡ meetings.beginning_of (option_map seen_text anchor) (seen_text node.now.tag) (seen_held node.now.contents)) }
 {
     let tag = node.tag.as_str();
     match &node.contents {
@@ -121,7 +136,7 @@ fn anchor_of<A: Allocator>(alloc: A, place: usize) -> Result<Option<String<A>>, 
 
 /// The node of a number.
 fn node_of<A: Allocator>(document: &yaml_document_t<A>, number: usize) -> Option<&yaml_node_t<A>>
-    requires { number ≤ 2147483647 }
+    requires { number ≤ largest_i32 }
     ensures { option_map (λ node. seen_node node.now) result ≡ meetings.node_numbered (graph_of document.now) number }
 {
     document.get_node(number as i32)
@@ -134,8 +149,9 @@ fn beginning_at<A: Allocator + Copy>(
     number: usize,
     place: usize,
 ) -> Result<Option<yaml_event_t<A>>, AllocError>
-    requires { number ≤ 2147483647 }
-    ensures { IfOk result (λ event. seen_events_of event ≡ meetings.beginning_events (anchor_of_place place) (meetings.node_numbered (graph_of document.now) number)) }
+    requires { number ≤ largest_i32 }
+    ensures { IfOk result (λ event. seen_events_of event
+        ≡ meetings.beginning_events (anchor_of_place place) (meetings.node_numbered (graph_of document.now) number)) }
 {
     match node_of(document, number) {
         Some(node) => Ok(Some(beginning(alloc, anchor_of(alloc, place)?, node)?)),
@@ -145,7 +161,7 @@ fn beginning_at<A: Allocator + Copy>(
 
 /// The event with which the node of a number ends, if there is that node and it is a collection.
 fn ending_at<A: Allocator>(document: &yaml_document_t<A>, number: usize) -> Option<yaml_event_t<A>>
-    requires { number ≤ 2147483647 }
+    requires { number ≤ largest_i32 }
     ensures { seen_events_of result ≡ meetings.ending_events (meetings.node_numbered (graph_of document.now) number) }
 {
     match node_of(document, number) {
@@ -157,7 +173,7 @@ fn ending_at<A: Allocator>(document: &yaml_document_t<A>, number: usize) -> Opti
 /// How many nodes there are.
 fn count_of<A: Allocator>(document: &yaml_document_t<A>) -> usize
     ensures all { result ≡ length (graph_of document.now).nodes }
-    ensures few { result ≤ 2147483647 }
+    ensures few { result ≤ largest_i32 }
 {
     document.node_count() as usize
 }
@@ -169,9 +185,10 @@ pub(crate) fn step_event<A: Allocator + Copy>(
     places: &[usize],
     step: Step,
 ) -> Result<Option<yaml_event_t<A>>, AllocError>
-    requires few { length places.now ≤ 2147483647 }
+    requires few { length places.now ≤ largest_i32 }
     requires placed { IsPlaced places.now (seen_step step) }
-    ensures { IfOk result (λ event. (walk : List meetings.Step) → HasPlaces walk places.now → seen_events_of event ≡ meetings.step_events (graph_of document.now) walk (seen_step step)) }
+    ensures { IfOk result (λ event. (walk : List meetings.Step) → HasPlaces walk places.now
+        → seen_events_of event ≡ meetings.step_events (graph_of document.now) walk (seen_step step)) }
 {
     match step {
         Step::Enters(number) => beginning_at(alloc, document, number, places[number - 1]),
@@ -190,9 +207,10 @@ fn push_step<A: Allocator + Copy>(
     step: Step,
     events: &mut Vec<yaml_event_t<A>, A>,
 ) -> Result<(), AllocError>
-    requires few { length places.now ≤ 2147483647 }
+    requires few { length places.now ≤ largest_i32 }
     requires placed { IsPlaced places.now (seen_step step) }
-    ensures { IfOk result (λ _. (walk : List meetings.Step) → HasPlaces walk places.now → seen_events events.new.items ≡ seen_events events.old.items ++ meetings.step_events (graph_of document.now) walk (seen_step step)) }
+    ensures { IfOk result (λ _. (walk : List meetings.Step) → HasPlaces walk places.now
+        → seen_events events.new.items ≡ seen_events events.old.items ++ meetings.step_events (graph_of document.now) walk (seen_step step)) }
 {
     if let Some(event) = step_event(alloc, document, places, step)? {
         events.push(event)?;

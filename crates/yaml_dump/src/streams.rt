@@ -54,13 +54,17 @@ pub fn yaml_emitter_close<A: Allocator + Copy>(
 ) -> Result<(), yaml_error_t>
     requires opened { emitter.old.opened ≡ true }
     ensures closed { emitter.old.closed ≡ true → (result ≡ Ok tt) × (emitter.new ≡ emitter.old) }
-    ensures stands { emitter.old.closed ≡ false → (given : Settings) (all : List Event) → StandsAfter given all emitter.old → StandsAfter given (all ++ stream_end ∷ []) emitter.new }
-    ensures promised { emitter.old.closed ≡ false → (given : Settings) (all : List Event) → StandsAfter given all emitter.old → Promised given (all ++ stream_end ∷ []) emitter.new }
+    ensures stands { emitter.old.closed ≡ false → (given : Settings) (all : List Event) → StandsAfter given all emitter.old
+        → StandsAfter given (all ++ stream_end ∷ []) emitter.new }
+    ensures promised { emitter.old.closed ≡ false → (given : Settings) (all : List Event) → StandsAfter given all emitter.old
+        → Promised given (all ++ stream_end ∷ []) emitter.new }
     ensures grows { Grows emitter.old.page emitter.new.page }
     ensures set { emitter.old.closed ≡ false → KeepsSet (record emitter.old { started = true; closed = is_ok result }) emitter.new }
     ensures kept { emitter.old.closed ≡ false → IsSome emitter.old.error → emitter.new ≡ record emitter.old { started = true } }
     ensures answered { emitter.old.closed ≡ false → result ≡ told emitter.new.error }
-    ensures graphs { emitter.old.closed ≡ false → OnOk result ((given : Settings) (all : List Event) (graphs : List Graph) → StandsAfter given all emitter.old → given.canonical ≡ true → IsUncut given (all ++ stream_end ∷ []) → AreDumped graphs (all ++ stream_end ∷ []) → GraphsRead given.breaks12 graphs emitter.new.page.output) }
+    ensures graphs { emitter.old.closed ≡ false
+        → OnOk result ((given : Settings) (all : List Event) (graphs : List Graph) → StandsAfter given all emitter.old → given.canonical ≡ true
+        → IsUncut given (all ++ stream_end ∷ []) → AreDumped graphs (all ++ stream_end ∷ []) → GraphsRead given.breaks12 graphs emitter.new.page.output) }
 {
     if emitter.is_closed() || !emitter.is_opened() {
         return Ok(());

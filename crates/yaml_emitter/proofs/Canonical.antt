@@ -34,7 +34,8 @@ written_scalars : (setting : LineBreak) (text : Text) → all_scalars text ≡ t
 written_scalars setting [] h = refl
 written_scalars setting (c ∷ rest) h =
     let p : (scalar c ≡ true) × (all_scalars rest ≡ true) = and_parts _ _ h in
-    scalars-append (if c == line_feed then break_text setting else c ∷ []) (with_breaks_written setting rest) (by (c == line_feed) p.0) (written_scalars setting rest p.1)
+    scalars-append (if c == line_feed then break_text setting else c ∷ []) (with_breaks_written setting rest) (by (c == line_feed) p.0)
+    (written_scalars setting rest p.1)
   where
     break_scalars : (given : LineBreak) → all_scalars (break_text given) ≡ true
     break_scalars carriage_return_break = refl
@@ -79,7 +80,8 @@ module _ (s : Effective) (wide : 2 ≤ s.indent) (stream : Stream) (ok : Documen
       ∙ ap documents_read (tokens_are breaks12)
       ∙ stream_read s.portable stream.documents (each_document s.portable stream.documents ok)
 
-list_read : (s : Effective) (breaks12 : Bool) (events : List Event) → 2 ≤ s.indent → s.canonical ≡ true → IsAccepted true events → list_all has_scalar_texts events ≡ true
+list_read : (s : Effective) (breaks12 : Bool) (events : List Event) → 2 ≤ s.indent → s.canonical ≡ true → IsAccepted true events
+    → list_all has_scalar_texts events ≡ true
     → canonical_content breaks12 (bytes_written s (list_layout s events)) ≡ content_of events
 list_read s breaks12 events wide e accepted texts =
     let stream = accepted.stream in

@@ -83,8 +83,10 @@ pair : (c : ℕ) (units : List ℕ) → IsScalar c → 0x10000 ≤ c
     → utf16_read None ((0xD800 + (c - 0x10000) / 0x400) ∷ (0xDC00 + (c - 0x10000) % 0x400) ∷ units) ≡ option_map (λ text. c ∷ text) (utf16_read None units)
 pair c units s above =
     let below = scalar_below c s in
-    let high : is_high_surrogate (0xD800 + (c - 0x10000) / 0x400) ≡ true = rw (le-leb 0xD800 (0xD800 + (c - 0x10000) / 0x400) (omega arith), lt-ltb (0xD800 + (c - 0x10000) / 0x400) 0xDC00 (omega arith)) refl in
-    let low : is_low_surrogate (0xDC00 + (c - 0x10000) % 0x400) ≡ true = rw (le-leb 0xDC00 (0xDC00 + (c - 0x10000) % 0x400) (omega arith), lt-ltb (0xDC00 + (c - 0x10000) % 0x400) 0xE000 (omega arith)) refl in
+    let high : is_high_surrogate (0xD800 + (c - 0x10000) / 0x400)
+    ≡ true = rw (le-leb 0xD800 (0xD800 + (c - 0x10000) / 0x400) (omega arith), lt-ltb (0xD800 + (c - 0x10000) / 0x400) 0xDC00 (omega arith)) refl in
+    let low : is_low_surrogate (0xDC00 + (c - 0x10000) % 0x400)
+    ≡ true = rw (le-leb 0xDC00 (0xDC00 + (c - 0x10000) % 0x400) (omega arith), lt-ltb (0xDC00 + (c - 0x10000) % 0x400) 0xE000 (omega arith)) refl in
     let same : 0x10000 + (0xD800 + (c - 0x10000) / 0x400 - 0xD800) * 0x400 + (0xDC00 + (c - 0x10000) % 0x400 - 0xDC00) ≡ c = omega arith in
     rw (high, low) (ap (λ x. option_map (λ text. x ∷ text) (utf16_read None units)) same)
 

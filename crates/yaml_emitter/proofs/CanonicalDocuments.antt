@@ -37,7 +37,8 @@ lines_fold : (before : List DocumentContent) (version : Option Version) (more ow
 lines_fold before version [] own reading stands =
     record { may_end = stands.may_end; is = stands.is ∙ ap (λ d. outside before (head_of version d) stands.may_end) (sym (append-nil own)) }
 lines_fold before version (directive ∷ more) own reading stands =
-    let next : Outside before (head_of version (own ++ directive ∷ [])) (outside before (head_of version (own ++ directive ∷ [])) false) = record { may_end = false; is = refl } in
+    let next : Outside before (head_of version (own ++ directive ∷ []))
+    (outside before (head_of version (own ++ directive ∷ [])) false) = record { may_end = false; is = refl } in
     let after = lines_fold before version more (own ++ directive ∷ []) (outside before (head_of version (own ++ directive ∷ [])) false) next in
     record {
       may_end = after.may_end;
@@ -46,7 +47,8 @@ lines_fold before version (directive ∷ more) own reading stands =
           ∙ after.is ∙ ap (λ d. outside before (head_of version d) after.may_end) (append_assoc own (directive ∷ []) more);
     }
 
-end_fold : (contents : List DocumentContent) (implicit : Bool) → fold token_read (outside contents no_head true) (end_tokens (not implicit)) ≡ outside contents no_head implicit
+end_fold : (contents : List DocumentContent) (implicit : Bool)
+    → fold token_read (outside contents no_head true) (end_tokens (not implicit)) ≡ outside contents no_head implicit
 end_fold contents true = refl
 end_fold contents false = refl
 
@@ -60,7 +62,8 @@ EachDocument portable no_documents = Unit {0}
 EachDocument portable (documents_and before document) = EachDocument portable before × EachNode document.root (TagOf portable document.start.directives)
 
 document_fold : (portable : Bool) (x : Document) (before : List DocumentContent) (after_open : Bool) → EachNode x.root (TagOf portable x.start.directives)
-    → fold token_read (outside before no_head after_open) (document_tokens portable after_open x) ≡ outside (before ++ document_content x ∷ []) no_head x.end_implicit
+    → fold token_read (outside before no_head after_open) (document_tokens portable after_open x)
+    ≡ outside (before ++ document_content x ∷ []) no_head x.end_implicit
 document_fold portable x before after_open h =
     let z = outside before no_head after_open in
     let a = end_tokens (has_directives x.start && after_open) in

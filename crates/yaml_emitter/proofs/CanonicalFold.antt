@@ -39,13 +39,19 @@ record Begins (first : Token) (tokens : List Token) : Type 0 where
   rest : List Token
   is : tokens ≡ first ∷ rest
 
-items_begin : (portable : Bool) (items : Nodes) (own : List TagDirective) (tail : List Token) → Begins opens_sequence (nodes_tokens portable items own ++ (entry_sign opens_sequence (has_no_nodes items) ∷ tail))
+items_begin : (portable : Bool) (items : Nodes) (own : List TagDirective) (tail : List Token)
+    → Begins opens_sequence (nodes_tokens portable items own ++ (entry_sign opens_sequence (has_no_nodes items) ∷ tail))
 items_begin portable no_nodes own tail = record { rest = tail; is = refl }
 items_begin portable (nodes_and items last) own tail =
     let inner = items_begin portable items own (node_tokens portable last own ++ comma ∷ tail) in
-    record { rest = inner.rest; is = append_assoc (nodes_tokens portable items own) (entry_sign opens_sequence (has_no_nodes items) ∷ node_tokens portable last own) (comma ∷ tail) ∙ inner.is }
+    record {
+      rest = inner.rest;
+      is = append_assoc (nodes_tokens portable items own)
+          (entry_sign opens_sequence (has_no_nodes items) ∷ node_tokens portable last own) (comma ∷ tail) ∙ inner.is;
+    }
 
-pairs_begin : (portable : Bool) (pairs : Pairs) (own : List TagDirective) (tail : List Token) → Begins opens_mapping (pairs_tokens portable pairs own ++ (entry_sign opens_mapping (has_no_pairs pairs) ∷ tail))
+pairs_begin : (portable : Bool) (pairs : Pairs) (own : List TagDirective) (tail : List Token)
+    → Begins opens_mapping (pairs_tokens portable pairs own ++ (entry_sign opens_mapping (has_no_pairs pairs) ∷ tail))
 pairs_begin portable no_pairs own tail = record { rest = tail; is = refl }
 pairs_begin portable (pairs_and pairs key value) own tail =
     let k = entry_sign opens_mapping (has_no_pairs pairs) ∷ key_sign ∷ node_tokens portable key own in
@@ -53,7 +59,8 @@ pairs_begin portable (pairs_and pairs key value) own tail =
     let inner = pairs_begin portable pairs own (key_sign ∷ (node_tokens portable key own ++ (v ++ comma ∷ tail))) in
     record {
       rest = inner.rest;
-      is = append_assoc (pairs_tokens portable pairs own ++ k) v (comma ∷ tail) ∙ append_assoc (pairs_tokens portable pairs own) k (v ++ comma ∷ tail) ∙ inner.is;
+      is = append_assoc (pairs_tokens portable pairs own ++ k) v (comma ∷ tail) ∙ append_assoc (pairs_tokens portable pairs own) k (v ++ comma ∷ tail)
+          ∙ inner.is;
     }
 
 module _ (portable : Bool) (documents : List DocumentContent) (head : Head) where
@@ -71,7 +78,8 @@ module _ (portable : Bool) (documents : List DocumentContent) (head : Head) wher
   properties_fold levels (Some name) (Some tag) bare h = ap (with_tag documents head levels (Some name)) h
 
   scalar_fold : (levels : List OpenContent) (anchor tag : Option Text) (quoted : Bool) (value : Text)
-      → token_read (awaits levels anchor (said_of tag (not quoted))) (scalar_token value) ≡ with_content documents head levels (scalar_content anchor (scalar_tag tag quoted) value)
+      → token_read (awaits levels anchor (said_of tag (not quoted))) (scalar_token value)
+      ≡ with_content documents head levels (scalar_content anchor (scalar_tag tag quoted) value)
   scalar_fold levels None None true value = refl
   scalar_fold levels None None false value = refl
   scalar_fold levels (Some name) None true value = refl
@@ -116,8 +124,10 @@ module _ (portable : Bool) (documents : List DocumentContent) (head : Head) wher
   item_begins levels anchor tag items (scalar_node content) = by content.anchor content.tag content.quoted_implicit
     where
       by : (given named : Option Text) (quoted : Bool)
-          → fold token_read (within documents head (open_sequence anchor tag items ∷ levels) entry_awaited) (properties_tokens portable head.directives given named (not quoted) ++ scalar_token content.value ∷ [])
-          ≡ fold token_read (awaits (open_sequence anchor tag items ∷ levels) None None) (properties_tokens portable head.directives given named (not quoted) ++ scalar_token content.value ∷ [])
+          → fold token_read (within documents head (open_sequence anchor tag items ∷ levels) entry_awaited)
+          (properties_tokens portable head.directives given named (not quoted) ++ scalar_token content.value ∷ [])
+          ≡ fold token_read (awaits (open_sequence anchor tag items ∷ levels) None None)
+          (properties_tokens portable head.directives given named (not quoted) ++ scalar_token content.value ∷ [])
       by (Some name) named quoted = refl
       by None (Some t) quoted = refl
       by None None true = refl
@@ -125,8 +135,12 @@ module _ (portable : Bool) (documents : List DocumentContent) (head : Head) wher
   item_begins levels anchor tag items (sequence_node start inner) = by start.anchor start.tag
     where
       by : (given named : Option Text)
-          → fold token_read (within documents head (open_sequence anchor tag items ∷ levels) entry_awaited) ((properties_tokens portable head.directives given named false ++ nodes_tokens portable inner head.directives) ++ (entry_sign opens_sequence (has_no_nodes inner) ∷ closes_sequence ∷ []))
-          ≡ fold token_read (awaits (open_sequence anchor tag items ∷ levels) None None) ((properties_tokens portable head.directives given named false ++ nodes_tokens portable inner head.directives) ++ (entry_sign opens_sequence (has_no_nodes inner) ∷ closes_sequence ∷ []))
+          → fold token_read (within documents head (open_sequence anchor tag items ∷ levels) entry_awaited)
+          ((properties_tokens portable head.directives given named false ++ nodes_tokens portable inner head.directives)
+          ++ (entry_sign opens_sequence (has_no_nodes inner) ∷ closes_sequence ∷ []))
+          ≡ fold token_read (awaits (open_sequence anchor tag items ∷ levels) None None)
+          ((properties_tokens portable head.directives given named false ++ nodes_tokens portable inner head.directives)
+          ++ (entry_sign opens_sequence (has_no_nodes inner) ∷ closes_sequence ∷ []))
       by (Some name) named = refl
       by None (Some t) = refl
       by None None =
@@ -135,8 +149,12 @@ module _ (portable : Bool) (documents : List DocumentContent) (head : Head) wher
   item_begins levels anchor tag items (mapping_node start pairs) = by start.anchor start.tag
     where
       by : (given named : Option Text)
-          → fold token_read (within documents head (open_sequence anchor tag items ∷ levels) entry_awaited) ((properties_tokens portable head.directives given named false ++ pairs_tokens portable pairs head.directives) ++ (entry_sign opens_mapping (has_no_pairs pairs) ∷ closes_mapping ∷ []))
-          ≡ fold token_read (awaits (open_sequence anchor tag items ∷ levels) None None) ((properties_tokens portable head.directives given named false ++ pairs_tokens portable pairs head.directives) ++ (entry_sign opens_mapping (has_no_pairs pairs) ∷ closes_mapping ∷ []))
+          → fold token_read (within documents head (open_sequence anchor tag items ∷ levels) entry_awaited)
+          ((properties_tokens portable head.directives given named false ++ pairs_tokens portable pairs head.directives)
+          ++ (entry_sign opens_mapping (has_no_pairs pairs) ∷ closes_mapping ∷ []))
+          ≡ fold token_read (awaits (open_sequence anchor tag items ∷ levels) None None)
+          ((properties_tokens portable head.directives given named false ++ pairs_tokens portable pairs head.directives)
+          ++ (entry_sign opens_mapping (has_no_pairs pairs) ∷ closes_mapping ∷ []))
       by (Some name) named = refl
       by None (Some t) = refl
       by None None =
@@ -148,19 +166,24 @@ module _ (portable : Bool) (documents : List DocumentContent) (head : Head) wher
         → fold token_read (awaits levels None None) (node_tokens portable n head.directives) ≡ with_content documents head levels (node_content n)
     node_fold (alias_node name) levels h = refl
     node_fold (scalar_node content) levels h =
-        fold-append token_read (awaits levels None None) (properties_tokens portable head.directives content.anchor content.tag (not content.quoted_implicit)) (scalar_token content.value ∷ [])
+        fold-append token_read (awaits levels None None) (properties_tokens portable head.directives content.anchor content.tag (not content.quoted_implicit))
+        (scalar_token content.value ∷ [])
         ∙ ap (λ r. token_read r (scalar_token content.value)) (properties_fold levels content.anchor content.tag (not content.quoted_implicit) h)
         ∙ scalar_fold levels content.anchor content.tag content.quoted_implicit content.value
     node_fold (sequence_node start items) levels h =
         let tail = entry_sign opens_sequence (has_no_nodes items) ∷ closes_sequence ∷ [] in
-        fold3 (awaits levels None None) (properties_tokens portable head.directives start.anchor start.tag false) (nodes_tokens portable items head.directives) tail
-        ∙ ap (λ r. fold token_read (fold token_read r (nodes_tokens portable items head.directives)) tail) (properties_fold levels start.anchor start.tag false h.0)
+        fold3 (awaits levels None None) (properties_tokens portable head.directives start.anchor start.tag false)
+        (nodes_tokens portable items head.directives) tail
+        ∙ ap (λ r. fold token_read (fold token_read r (nodes_tokens portable items head.directives)) tail)
+        (properties_fold levels start.anchor start.tag false h.0)
         ∙ ap (λ r. fold token_read r tail) (items_fold items levels start.anchor start.tag h.1)
         ∙ ap (λ r. token_read r closes_sequence) (sequence_sign levels start.anchor start.tag items)
     node_fold (mapping_node start pairs) levels h =
         let tail = entry_sign opens_mapping (has_no_pairs pairs) ∷ closes_mapping ∷ [] in
-        fold3 (awaits levels None None) (properties_tokens portable head.directives start.anchor start.tag false) (pairs_tokens portable pairs head.directives) tail
-        ∙ ap (λ r. fold token_read (fold token_read r (pairs_tokens portable pairs head.directives)) tail) (properties_fold levels start.anchor start.tag false h.0)
+        fold3 (awaits levels None None) (properties_tokens portable head.directives start.anchor start.tag false)
+        (pairs_tokens portable pairs head.directives) tail
+        ∙ ap (λ r. fold token_read (fold token_read r (pairs_tokens portable pairs head.directives)) tail)
+        (properties_fold levels start.anchor start.tag false h.0)
         ∙ ap (λ r. fold token_read r tail) (pairs_fold pairs levels start.anchor start.tag h.1)
         ∙ ap (λ r. token_read r closes_mapping) (mapping_sign levels start.anchor start.tag pairs)
 
@@ -169,7 +192,8 @@ module _ (portable : Bool) (documents : List DocumentContent) (head : Head) wher
     items_fold no_nodes levels anchor tag h = refl
     items_fold (nodes_and items last) levels anchor tag h =
         let sign = entry_sign opens_sequence (has_no_nodes items) in
-        fold-append token_read (awaits levels anchor (said_of tag false)) (nodes_tokens portable items head.directives) (sign ∷ node_tokens portable last head.directives)
+        fold-append token_read (awaits levels anchor (said_of tag false)) (nodes_tokens portable items head.directives)
+        (sign ∷ node_tokens portable last head.directives)
         ∙ ap (λ r. fold token_read (token_read r sign) (node_tokens portable last head.directives)) (items_fold items levels anchor tag h.0)
         ∙ ap (λ r. fold token_read r (node_tokens portable last head.directives)) (sequence_sign levels anchor tag items)
         ∙ item_begins levels anchor tag (nodes_content items) last
@@ -181,8 +205,11 @@ module _ (portable : Bool) (documents : List DocumentContent) (head : Head) wher
     pairs_fold (pairs_and pairs key value) levels anchor tag h =
         let sign = entry_sign opens_mapping (has_no_pairs pairs) in
         let held = pairs_content pairs in
-        fold3 (awaits levels anchor (said_of tag false)) (pairs_tokens portable pairs head.directives) (sign ∷ key_sign ∷ node_tokens portable key head.directives) (value_sign ∷ node_tokens portable value head.directives)
-        ∙ ap (λ r. fold token_read (fold token_read r (sign ∷ key_sign ∷ node_tokens portable key head.directives)) (value_sign ∷ node_tokens portable value head.directives)) (pairs_fold pairs levels anchor tag h.0)
-        ∙ ap (λ r. fold token_read (fold token_read (token_read r key_sign) (node_tokens portable key head.directives)) (value_sign ∷ node_tokens portable value head.directives)) (mapping_sign levels anchor tag pairs)
+        fold3 (awaits levels anchor (said_of tag false)) (pairs_tokens portable pairs head.directives)
+        (sign ∷ key_sign ∷ node_tokens portable key head.directives) (value_sign ∷ node_tokens portable value head.directives)
+        ∙ ap (λ r. fold token_read (fold token_read r (sign ∷ key_sign ∷ node_tokens portable key head.directives))
+        (value_sign ∷ node_tokens portable value head.directives)) (pairs_fold pairs levels anchor tag h.0)
+        ∙ ap (λ r. fold token_read (fold token_read (token_read r key_sign) (node_tokens portable key head.directives))
+        (value_sign ∷ node_tokens portable value head.directives)) (mapping_sign levels anchor tag pairs)
         ∙ ap (λ r. fold token_read r (value_sign ∷ node_tokens portable value head.directives)) (node_fold key (open_mapping anchor tag held None ∷ levels) h.1)
         ∙ node_fold value (open_mapping anchor tag held (Some (node_content key)) ∷ levels) h.2

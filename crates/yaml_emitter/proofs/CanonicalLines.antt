@@ -13,7 +13,8 @@ use Rattle.yaml_base.specs.Cursor.{Cursor, new_line, space_if}
 use Rattle.yaml_base.specs.Event.{Version, TagDirective}
 use Rattle.yaml_base.specs.Percent.{prefix_escaped}
 use Rattle.yaml_base.specs.Tags.{version_fault, is_the_number, prefix_fault, tag_mark}
-use Rattle.yaml_base.specs.Layout.{sign_laid, closing_mark_laid, version_laid, tag_directive_laid, tag_directives_laid, document_mark_laid}
+use Rattle.yaml_base.specs.Indicators.{indicator_laid, spaced, document_start, document_end, yaml_directive}
+use Rattle.yaml_base.specs.Layout.{closing_mark_laid, version_laid, tag_directive_laid, tag_directives_laid, document_mark_laid}
 use Rattle.yaml_base.specs.CanonicalReader.{version_line, tag_line, document_begins, document_ends, free, in_line, tokens_from, words, directive_token, tag_line_of, is_handle, ends_handle}
 use Rattle.yaml_base.proofs.PercentLaws.{decoded_prefix, prefix_begins}
 use Rattle.yaml_base.proofs.TagLaws.{IsHandle}
@@ -38,12 +39,12 @@ module _ (breaks12 : Bool) where
 
   pub closing_says : (cursor : Cursor) → Says breaks12 anything (closing_mark_laid cursor).text (document_ends ∷ [])
   closing_says cursor =
-      says_after (indicator_says true false false cursor (says_ends breaks12)) (line_says 0 (sign_laid (codes "...") cursor).cursor)
+      says_after (indicator_says true false false cursor (says_ends breaks12)) (line_says 0 (indicator_laid document_end cursor).cursor)
 
   pub mark_says : (cursor : Cursor) → Says breaks12 anything (document_mark_laid true cursor).text (document_begins ∷ [])
   mark_says cursor =
       let line = new_line 0 cursor in
-      let sign = sign_laid (codes "---") line.cursor in
+      let sign = indicator_laid document_start line.cursor in
       says_after (says_after (line_says 0 cursor) (indicator_says true false false line.cursor (says_begins breaks12))) (line_says 0 sign.cursor)
 
 -- a new line after what leaves indention off breaks the line
@@ -65,7 +66,8 @@ version_form version h = by version.major version.minor (tests _ _ _ h)
     tests false b c h = absurd (cc)
 
     by : (major minor : ℤ) → (is_the_number 1 major ≡ true) × ((is_the_number 1 minor ≡ true) ⊎ (is_the_number 2 minor ≡ true))
-        → (◌≡◌ {A = Version} (record { major = major; minor = minor }) (version_of 1)) ⊎ (◌≡◌ {A = Version} (record { major = major; minor = minor }) (version_of 2))
+        → (◌≡◌ {A = Version} (record { major = major; minor = minor }) (version_of 1))
+        ⊎ (◌≡◌ {A = Version} (record { major = major; minor = minor }) (version_of 2))
     by (negsuc a) minor h = absurd (false≢true h.0)
     by (pos a) (negsuc b) (k, inl h) = absurd (false≢true h)
     by (pos a) (negsuc b) (k, inr h) = absurd (false≢true h)
@@ -82,7 +84,8 @@ second_version false = record { scalars = refl; laid = refl; reads = λ rest mee
 
 -- a line of two words is ended by a break
 version_text_is : (cursor : Cursor) (word : Text) (end : Cursor) → end.indention ≡ false
-    → ((space_if true cursor ++ codes "%YAML") ++ (space ∷ word)) ++ (new_line 0 end).text ≡ space_if true cursor ++ (codes "%YAML" ++ ((space ∷ word) ++ line_feed ∷ []))
+    → ((space_if true cursor ++ codes "%YAML") ++ (space ∷ word)) ++ (new_line 0 end).text ≡ space_if true cursor
+    ++ (codes "%YAML" ++ ((space ∷ word) ++ line_feed ∷ []))
 version_text_is cursor word end e =
     ap (λ t. ((space_if true cursor ++ codes "%YAML") ++ (space ∷ word)) ++ t) (line_breaks 0 end e)
     ∙ append_assoc (space_if true cursor ++ codes "%YAML") (space ∷ word) (line_feed ∷ [])
@@ -98,15 +101,18 @@ version_says breaks12 None cursor ok = says_nothing breaks12
 version_says breaks12 (Some version) cursor ok = by (version_form version ok)
   where
     says : (word : Text) (v : Version) → Says breaks12 anything (codes "%YAML" ++ ((space ∷ word) ++ line_feed ∷ [])) (version_line v ∷ [])
-        → Says breaks12 anything (((space_if true cursor ++ codes "%YAML") ++ (space ∷ word)) ++ (new_line 0 (sign_laid word (sign_laid (codes "%YAML") cursor).cursor).cursor).text) (version_line v ∷ [])
+        → Says breaks12 anything (((space_if true cursor ++ codes "%YAML") ++ (space ∷ word))
+        ++ (new_line 0 (indicator_laid (spaced word) (indicator_laid yaml_directive cursor).cursor).cursor).text) (version_line v ∷ [])
     says word v line =
-        let end = (sign_laid word (sign_laid (codes "%YAML") cursor).cursor).cursor in
+        let end = (indicator_laid (spaced word) (indicator_laid yaml_directive cursor).cursor).cursor in
         says_text (((space_if true cursor ++ codes "%YAML") ++ (space ∷ word)) ++ (new_line 0 end).text) (version_text_is cursor word end (and_false _))
         (says_after (says_white breaks12 (space_if true cursor) (space_if-white true cursor)) line)
 
     by : (version ≡ version_of 1) ⊎ (version ≡ version_of 2) → Says breaks12 anything (version_laid (Some version) cursor).text (version_line version ∷ [])
-    by (inl e) = subst (λ v. Says breaks12 anything (version_laid (Some v) cursor).text (version_line v ∷ [])) (sym e) (says (codes "1.1") (version_of 1) (first_version breaks12))
-    by (inr e) = subst (λ v. Says breaks12 anything (version_laid (Some v) cursor).text (version_line v ∷ [])) (sym e) (says (codes "1.2") (version_of 2) (second_version breaks12))
+    by (inl e) = subst (λ v. Says breaks12 anything (version_laid (Some v) cursor).text (version_line v ∷ [])) (sym e)
+        (says (codes "1.1") (version_of 1) (first_version breaks12))
+    by (inr e) = subst (λ v. Says breaks12 anything (version_laid (Some v) cursor).text (version_line v ∷ [])) (sym e)
+        (says (codes "1.2") (version_of 2) (second_version breaks12))
 
 -- Tag directives.
 
@@ -212,21 +218,28 @@ module _ (breaks12 portable : Bool) where
       let p = prefix-written portable directive.prefix in
       let inner = directive.handle ++ space ∷ prefix_escaped portable directive.prefix in
       let token : directive_token (words ((codes "%TAG" ++ space ∷ []) ++ inner)) ≡ tag_line directive =
-      ap directive_token (line_words directive.handle (prefix_escaped portable directive.prefix) h p (handle_counts directive.handle ok.handle) (prefix_counts portable directive.prefix ok.some))
+      ap directive_token (line_words directive.handle (prefix_escaped portable directive.prefix) h p (handle_counts directive.handle ok.handle)
+      (prefix_counts portable directive.prefix ok.some))
       ∙ ap (tag_line_of directive.handle) (decoded_prefix portable directive.prefix ok.scalars)
       ∙ rw (handle_is directive.handle ok.handle) refl in
       record {
-        scalars = scalars-append inner (line_feed ∷ []) (scalars-append directive.handle (space ∷ prefix_escaped portable directive.prefix) (all-scalars directive.handle h) (all-scalars (prefix_escaped portable directive.prefix) p)) refl;
-        laid = laid-append inner (line_feed ∷ []) (laid-append directive.handle (space ∷ prefix_escaped portable directive.prefix) (all-laid directive.handle h) (all-laid (prefix_escaped portable directive.prefix) p)) refl;
+        scalars = scalars-append inner (line_feed ∷ [])
+            (scalars-append directive.handle (space ∷ prefix_escaped portable directive.prefix) (all-scalars directive.handle h)
+            (all-scalars (prefix_escaped portable directive.prefix) p)) refl;
+        laid = laid-append inner (line_feed ∷ [])
+            (laid-append directive.handle (space ∷ prefix_escaped portable directive.prefix) (all-laid directive.handle h)
+            (all-laid (prefix_escaped portable directive.prefix) p)) refl;
         reads = λ rest meets.
             enter_line ((inner ++ line_feed ∷ []) ++ rest)
             ∙ ap (tokens_from breaks12 (in_line (codes "%TAG" ++ space ∷ []))) (append_assoc inner (line_feed ∷ []) rest)
             ∙ line_goes breaks12 inner (codes "%TAG" ++ space ∷ []) rest
-            (list_all-append in_a_line directive.handle (space ∷ prefix_escaped portable directive.prefix) ∙ and_from _ _ (all_in_line directive.handle h) (all_in_line (prefix_escaped portable directive.prefix) p))
+            (list_all-append in_a_line directive.handle (space ∷ prefix_escaped portable directive.prefix)
+            ∙ and_from _ _ (all_in_line directive.handle h) (all_in_line (prefix_escaped portable directive.prefix) p))
             ∙ ap (λ t. t ∷ tokens_from breaks12 free rest) token;
       }
 
-  directive_says : (directive : TagDirective) (cursor : Cursor) → DirectiveOk directive → Says breaks12 anything (tag_directive_laid portable directive cursor).text (tag_line directive ∷ [])
+  directive_says : (directive : TagDirective) (cursor : Cursor) → DirectiveOk directive
+      → Says breaks12 anything (tag_directive_laid portable directive cursor).text (tag_line directive ∷ [])
   directive_says directive cursor ok =
       let sp = space_if true cursor in
       let esc = prefix_escaped portable directive.prefix in

@@ -54,7 +54,8 @@ alphas-written (c ∷ text) h = let p = and_parts (is_alpha c) (list_all is_alph
 
 stand-written : (text : Text) → list_all stands_written text ≡ true → all_written text ≡ true
 stand-written [] h = refl
-stand-written (c ∷ text) h = let p = and_parts (stands_written c) (list_all stands_written text) h in and_from _ _ (stands-written c p.0) (stand-written text p.1)
+stand-written (c ∷ text) h = let p = and_parts (stands_written c) (list_all stands_written text) h in
+    and_from _ _ (stands-written c p.0) (stand-written text p.1)
 
 pub escaped-written : (text : Text) → all_written (percent_escaped text) ≡ true
 escaped-written text = stand-written (percent_escaped text) (escaped_stands text)
@@ -67,7 +68,8 @@ prefix_character c h = grind (arith, nat_tests)
 
 stand-in-prefix : (text : Text) → list_all stands_in_prefix text ≡ true → all_written text ≡ true
 stand-in-prefix [] h = refl
-stand-in-prefix (c ∷ text) h = let p = and_parts (stands_in_prefix c) (list_all stands_in_prefix text) h in and_from _ _ (prefix_character c p.0) (stand-in-prefix text p.1)
+stand-in-prefix (c ∷ text) h = let p = and_parts (stands_in_prefix c) (list_all stands_in_prefix text) h in
+    and_from _ _ (prefix_character c p.0) (stand-in-prefix text p.1)
 
 pub prefix-written : (portable : Bool) (text : Text) → all_written (prefix_escaped portable text) ≡ true
 prefix-written portable text = stand-in-prefix (prefix_escaped portable text) (prefix_stands portable text)
@@ -193,9 +195,16 @@ handle_text handle (inr form) = record {
 }
 
 -- A written tag is such a text.
-pub tag_text : (portable : Bool) (own : List TagDirective) (tag : Text) → directives_fault own ≡ None → IsTagText (spelled portable (spelling (directives_in_force own) tag))
+pub tag_text : (portable : Bool) (own : List TagDirective) (tag : Text) → directives_fault own ≡ None
+    → IsTagText (spelled portable (spelling (directives_in_force own) tag))
 tag_text portable own tag h =
     let P : Spelling → Type 0 = λ s. IsTagText (spelled portable s) in
     spelling_is P own (directives_in_force own) tag (in_force_found own h)
-    (record { rest = (0x3C ∷ percent_escaped tag) ++ codes ">"; is = refl; written = written-append (0x3C ∷ percent_escaped tag) (codes ">") (escaped-written tag) refl })
-    (λ handle prefix c suffix f g whole. tag-append handle (suffix_escaped portable (c ∷ suffix)) (handle_text handle (handle_form handle f)) (suffix-written portable (c ∷ suffix)))
+    (record {
+      rest = (0x3C ∷ percent_escaped tag)
+          ++ codes ">";
+      is = refl;
+      written = written-append (0x3C ∷ percent_escaped tag) (codes ">") (escaped-written tag) refl;
+    })
+    (λ handle prefix c suffix f g whole.
+    tag-append handle (suffix_escaped portable (c ∷ suffix)) (handle_text handle (handle_form handle f)) (suffix-written portable (c ∷ suffix)))

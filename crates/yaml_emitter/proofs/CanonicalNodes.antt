@@ -39,7 +39,8 @@ abbrev demand_at : (empty : Bool) → Demand → Demand
 demand_at true demand = demand
 demand_at false demand = name_ends
 
-record EntriesAfter (breaks12 : Bool) (empty : Bool) (demand : Demand) (text : Text) (tokens : List Token) (before : Standing) (laid : PiecesLaid) : Type 0 where
+record EntriesAfter (breaks12 : Bool) (empty : Bool) (demand : Demand) (text : Text) (tokens : List Token) (before : Standing)
+    (laid : PiecesLaid) : Type 0 where
   says : Says breaks12 (demand_at empty demand) (text ++ text_of laid.pieces) tokens
   entered : Entered empty (demand_at empty demand) laid.standing.cursor
   mark : laid.standing.mark ≡ before.mark
@@ -113,13 +114,16 @@ module _ (breaks12 : Bool) (s : Effective) (wide : 2 ≤ s.indent) (own : List T
       (one_piece (scalar_piece (in_canonical s) force (place_of at) false content standing))
   scalar_after at demand text tokens content standing says follows ok =
       let bare = not (is_some content.tag) && not content.quoted_implicit && not false in
-      let lead = then_laid (place_laid (in_canonical s) (place_of at) false standing.cursor) (properties_laid s.portable force content.anchor content.tag bare) in
+      let lead = then_laid (place_laid (in_canonical s) (place_of at) false standing.cursor)
+      (properties_laid s.portable force content.anchor content.tag bare) in
       let separation = space_if true lead.cursor in
       let whole = scalar_lead (in_canonical s) force (place_of at) false (choice_of (in_canonical s) (place_of at) false content) content standing.cursor in
       let body = double_quoted_body s.unicode s.width (deeper s.indent (place_of at).column) content.value whole.cursor in
       let started = starts at demand text tokens content.anchor content.tag bare standing.cursor says follows ok.0 in
-      let fits = properties_fit breaks12 s.portable own sound content.anchor content.tag bare (place_laid (in_canonical s) (place_of at) false standing.cursor).cursor in
-      let spaced = says_then started (space_opens (demand_of content.anchor content.tag bare) lead.cursor fits) (says_white breaks12 separation (space_if-white true lead.cursor)) in
+      let fits = properties_fit breaks12 s.portable own sound content.anchor content.tag bare
+      (place_laid (in_canonical s) (place_of at) false standing.cursor).cursor in
+      let spaced = says_then started (space_opens (demand_of content.anchor content.tag bare) lead.cursor fits)
+      (says_white breaks12 separation (space_if-white true lead.cursor)) in
       let below : 2 ≤ deeper s.indent (place_of at).column = omega arith in
       let all = says_after spaced (body_says s.unicode s.width (deeper s.indent (place_of at).column) breaks12 content.value whole.cursor below ok.1) in
       let props = properties_tokens s.portable own content.anchor content.tag bare in
@@ -130,7 +134,8 @@ module _ (breaks12 : Bool) (s : Effective) (wide : 2 ≤ s.indent) (own : List T
             (ap (λ k. k ++ last) (append-nil (tokens ++ (spot_tokens at ++ props)))
             ∙ append_assoc tokens (spot_tokens at ++ props) last
             ∙ ap (λ k. tokens ++ k) (append_assoc (spot_tokens at) props last)
-            ∙ ap (λ k. tokens ++ (spot_tokens at ++ ((anchor_tokens content.anchor ++ k) ++ last))) (bare_tokens s.portable own content.tag content.quoted_implicit))
+            ∙ ap (λ k. tokens ++ (spot_tokens at ++ ((anchor_tokens content.anchor ++ k) ++ last)))
+            (bare_tokens s.portable own content.tag content.quoted_implicit))
             (says_text (text ++ (((lead.text ++ separation) ++ body.text) ++ []))
             (ap (λ t. text ++ t) (append-nil ((lead.text ++ separation) ++ body.text))
             ∙ sym (ap (λ t. t ++ body.text) (append_assoc text lead.text separation) ∙ append_assoc text (lead.text ++ separation) body.text))
@@ -180,10 +185,12 @@ module _ (breaks12 : Bool) (s : Effective) (wide : 2 ≤ s.indent) (own : List T
       let k = tokens ++ (spot_tokens at ++ props) in
       let tail = entry_sign opens empty ∷ closes ∷ [] in
       let started = starts at demand text tokens start.anchor start.tag false standing.cursor says follows ok in
-      let fits = properties_fit breaks12 s.portable own sound start.anchor start.tag false (place_laid (in_canonical s) (place_of at) false standing.cursor).cursor in
+      let fits = properties_fit breaks12 s.portable own sound start.anchor start.tag false
+      (place_laid (in_canonical s) (place_of at) false standing.cursor).cursor in
       let column = deeper s.indent (place_of at).column in
       let inner = entries column piece.standing in
-      let first : Says breaks12 d (text ++ text_of (piece.piece ∷ [])) k = says_text (text ++ text_of (piece.piece ∷ [])) (ap (λ t. text ++ t) (lead_text lead.text)) started in
+      let first : Says breaks12 d (text ++ text_of (piece.piece ∷ [])) k = says_text (text ++ text_of (piece.piece ∷ []))
+      (ap (λ t. text ++ t) (lead_text lead.text)) started in
       let within = goes d (text ++ text_of (piece.piece ∷ [])) k column piece.standing first fits in
       let end = end_laid (in_canonical s) brackets true empty (place_of at).column inner.standing.cursor in
       let ended = says_then within.says (end_opens empty (demand_at empty d) inner.standing.cursor within.entered) (end_says empty inner.standing.cursor) in
@@ -212,13 +219,15 @@ module _ (breaks12 : Bool) (s : Effective) (wide : 2 ≤ s.indent) (own : List T
       end_says false cursor =
           let sign = indicator (codes ",") false false false cursor in
           let line = new_line (line_column (place_of at).column) sign.cursor in
-          says_after (says_after (indicator_says false false false cursor (says_comma breaks12)) (says_white breaks12 line.text (new_line-white (line_column (place_of at).column) sign.cursor)))
+          says_after (says_after (indicator_says false false false cursor (says_comma breaks12))
+          (says_white breaks12 line.text (new_line-white (line_column (place_of at).column) sign.cursor)))
           (indicator_says false false false line.cursor signs.closing)
 
       end_opens : (none : Bool) (d : Demand) (cursor : Cursor) → Entered none d cursor
           → Opens d (end_laid (in_canonical s) brackets true none (place_of at).column cursor).text
       end_opens true d cursor h =
-          opens_append (indicator brackets.opening true true false cursor).text (indicator brackets.closing false false false (indicator brackets.opening true true false cursor).cursor).text
+          opens_append (indicator brackets.opening true true false cursor).text
+          (indicator brackets.closing false false false (indicator brackets.opening true true false cursor).cursor).text
           (opening_opens brackets.opening d true cursor signs.apart h)
       end_opens false d cursor h =
           let sign = indicator (codes ",") false false false cursor in
@@ -231,11 +240,13 @@ module _ (breaks12 : Bool) (s : Effective) (wide : 2 ≤ s.indent) (own : List T
         → Says breaks12 demand text tokens → Follows at demand standing.cursor → EachNode n EventOk
         → After breaks12 text (tokens ++ (spot_tokens at ++ node_tokens s.portable n own)) standing (node_laid n (in_canonical s) force (place_of at) standing)
     node_after (alias_node name) at demand text tokens standing says follows ok =
-        subst (λ b. After breaks12 text (tokens ++ (spot_tokens at ++ alias_token name ∷ [])) standing (one_piece (alias_piece (in_canonical s) (place_of at) b name standing)))
+        subst (λ b. After breaks12 text (tokens ++ (spot_tokens at ++ alias_token name ∷ [])) standing
+        (one_piece (alias_piece (in_canonical s) (place_of at) b name standing)))
         (sym (and_false (is_key (place_of at).role)))
         (alias_after at demand text tokens name standing says follows ok)
     node_after (scalar_node content) at demand text tokens standing says follows ok =
-        subst (λ b. After breaks12 text (tokens ++ (spot_tokens at ++ node_tokens s.portable (scalar_node content) own)) standing (one_piece (scalar_piece (in_canonical s) force (place_of at) b content standing)))
+        subst (λ b. After breaks12 text (tokens ++ (spot_tokens at ++ node_tokens s.portable (scalar_node content) own)) standing
+        (one_piece (scalar_piece (in_canonical s) force (place_of at) b content standing)))
         (sym (and_false (is_key (place_of at).role)))
         (scalar_after at demand text tokens content standing says follows ok)
     node_after (sequence_node start items) at demand text tokens standing says follows ok =
@@ -243,10 +254,13 @@ module _ (breaks12 : Bool) (s : Effective) (wide : 2 ≤ s.indent) (own : List T
         let k = tokens ++ (spot_tokens at ++ node_tokens s.portable (sequence_node start items) own) in
         let undented = is_in_mapping (place_of at).role in
         subst (λ b. After breaks12 text k standing
-        (collection_laid (in_canonical s) square (is_written_in_flow (in_canonical s) (place_of at) start empty) undented empty (place_of at).column (start_piece (in_canonical s) force (place_of at) b start standing) (nodes_laid items (in_canonical s) force (is_written_in_flow (in_canonical s) (place_of at) start empty))))
+        (collection_laid (in_canonical s) square (is_written_in_flow (in_canonical s) (place_of at) start empty) undented empty (place_of at).column
+        (start_piece (in_canonical s) force (place_of at) b start standing)
+        (nodes_laid items (in_canonical s) force (is_written_in_flow (in_canonical s) (place_of at) start empty))))
         (sym (and_false (is_key (place_of at).role)))
         (subst (λ b. After breaks12 text k standing
-        (collection_laid (in_canonical s) square b undented empty (place_of at).column (start_piece (in_canonical s) force (place_of at) false start standing) (nodes_laid items (in_canonical s) force b)))
+        (collection_laid (in_canonical s) square b undented empty (place_of at).column (start_piece (in_canonical s) force (place_of at) false start standing)
+        (nodes_laid items (in_canonical s) force b)))
         (sym (in_flow s at start empty))
         (collection_after at demand text tokens square opens_sequence closes_sequence (squares_say breaks12) start undented empty
         (nodes_laid items (in_canonical s) force true) (nodes_tokens s.portable items own) standing says follows ok.0
@@ -255,10 +269,13 @@ module _ (breaks12 : Bool) (s : Effective) (wide : 2 ≤ s.indent) (own : List T
         let empty = has_no_pairs pairs in
         let k = tokens ++ (spot_tokens at ++ node_tokens s.portable (mapping_node start pairs) own) in
         subst (λ b. After breaks12 text k standing
-        (collection_laid (in_canonical s) curly (is_written_in_flow (in_canonical s) (place_of at) start empty) false empty (place_of at).column (start_piece (in_canonical s) force (place_of at) b start standing) (pairs_laid pairs (in_canonical s) force (is_written_in_flow (in_canonical s) (place_of at) start empty))))
+        (collection_laid (in_canonical s) curly (is_written_in_flow (in_canonical s) (place_of at) start empty) false empty (place_of at).column
+        (start_piece (in_canonical s) force (place_of at) b start standing)
+        (pairs_laid pairs (in_canonical s) force (is_written_in_flow (in_canonical s) (place_of at) start empty))))
         (sym (and_false (is_key (place_of at).role)))
         (subst (λ b. After breaks12 text k standing
-        (collection_laid (in_canonical s) curly b false empty (place_of at).column (start_piece (in_canonical s) force (place_of at) false start standing) (pairs_laid pairs (in_canonical s) force b)))
+        (collection_laid (in_canonical s) curly b false empty (place_of at).column (start_piece (in_canonical s) force (place_of at) false start standing)
+        (pairs_laid pairs (in_canonical s) force b)))
         (sym (in_flow s at start empty))
         (collection_after at demand text tokens curly opens_mapping closes_mapping (curlies_say breaks12) start false empty
         (pairs_laid pairs (in_canonical s) force true) (pairs_tokens s.portable pairs own) standing says follows ok.0
@@ -266,7 +283,8 @@ module _ (breaks12 : Bool) (s : Effective) (wide : 2 ≤ s.indent) (own : List T
 
     items_after : (items : Nodes) (d : Demand) (text : Text) (tokens : List Token) (column : ℕ) (standing : Standing)
         → Says breaks12 d text tokens → Fits d standing.cursor → EachItem items EventOk
-        → EntriesAfter breaks12 (has_no_nodes items) d text (tokens ++ nodes_tokens s.portable items own) standing (nodes_laid items (in_canonical s) force true column standing)
+        → EntriesAfter breaks12 (has_no_nodes items) d text (tokens ++ nodes_tokens s.portable items own) standing
+        (nodes_laid items (in_canonical s) force true column standing)
     items_after no_nodes d text tokens column standing says fits ok = record {
       says = says_text (text ++ []) (append-nil text) (says_tokens (tokens ++ []) (sym (append-nil tokens)) says);
       entered = fits;
@@ -276,11 +294,13 @@ module _ (breaks12 : Bool) (s : Effective) (wide : 2 ≤ s.indent) (own : List T
         let before = items_after items d text tokens column standing says fits ok.0 in
         let front = nodes_laid items (in_canonical s) force true column standing in
         let at : Option Spot = Some (record { role = as_item (has_no_nodes items); column = column }) in
-        let node = node_after last at (demand_at (has_no_nodes items) d) (text ++ text_of front.pieces) (tokens ++ nodes_tokens s.portable items own) front.standing before.says before.entered ok.1 in
+        let node = node_after last at (demand_at (has_no_nodes items) d) (text ++ text_of front.pieces)
+        (tokens ++ nodes_tokens s.portable items own) front.standing before.says before.entered ok.1 in
         let back = node_laid last (in_canonical s) force (place_of at) front.standing in
         record {
           says =
-              says_tokens (tokens ++ nodes_tokens s.portable (nodes_and items last) own) (append_assoc tokens (nodes_tokens s.portable items own) (spot_tokens at ++ node_tokens s.portable last own))
+              says_tokens (tokens ++ nodes_tokens s.portable (nodes_and items last) own)
+              (append_assoc tokens (nodes_tokens s.portable items own) (spot_tokens at ++ node_tokens s.portable last own))
               (says_text (text ++ text_of (front.pieces ++ back.pieces)) (more_text text front.pieces back.pieces) node.says);
           entered = refl;
           mark = node.mark ∙ before.mark;
@@ -288,7 +308,8 @@ module _ (breaks12 : Bool) (s : Effective) (wide : 2 ≤ s.indent) (own : List T
 
     pairs_after : (pairs : Pairs) (d : Demand) (text : Text) (tokens : List Token) (column : ℕ) (standing : Standing)
         → Says breaks12 d text tokens → Fits d standing.cursor → EachPair pairs EventOk
-        → EntriesAfter breaks12 (has_no_pairs pairs) d text (tokens ++ pairs_tokens s.portable pairs own) standing (pairs_laid pairs (in_canonical s) force true column standing)
+        → EntriesAfter breaks12 (has_no_pairs pairs) d text (tokens ++ pairs_tokens s.portable pairs own) standing
+        (pairs_laid pairs (in_canonical s) force true column standing)
     pairs_after no_pairs d text tokens column standing says fits ok = record {
       says = says_text (text ++ []) (append-nil text) (says_tokens (tokens ++ []) (sym (append-nil tokens)) says);
       entered = fits;
@@ -300,10 +321,12 @@ module _ (breaks12 : Bool) (s : Effective) (wide : 2 ≤ s.indent) (own : List T
         let key_at : Option Spot = Some (record { role = as_key (has_no_pairs pairs); column = column }) in
         let value_at : Option Spot = Some (record { role = as_value (is_simple true force key); column = column }) in
         let front_tokens = tokens ++ pairs_tokens s.portable pairs own in
-        let key_said = node_after key key_at (demand_at (has_no_pairs pairs) d) (text ++ text_of front.pieces) front_tokens front.standing before.says before.entered ok.1 in
+        let key_said = node_after key key_at (demand_at (has_no_pairs pairs) d)
+        (text ++ text_of front.pieces) front_tokens front.standing before.says before.entered ok.1 in
         let middle = node_laid key (in_canonical s) force (place_of key_at) front.standing in
         let key_tokens = spot_tokens key_at ++ node_tokens s.portable key own in
-        let value_said = node_after value value_at name_ends ((text ++ text_of front.pieces) ++ text_of middle.pieces) (front_tokens ++ key_tokens) middle.standing key_said.says refl ok.2 in
+        let value_said = node_after value value_at name_ends ((text ++ text_of front.pieces) ++ text_of middle.pieces)
+        (front_tokens ++ key_tokens) middle.standing key_said.says refl ok.2 in
         let back = node_laid value (in_canonical s) force (place_of value_at) middle.standing in
         let value_tokens = spot_tokens value_at ++ node_tokens s.portable value own in
         record {

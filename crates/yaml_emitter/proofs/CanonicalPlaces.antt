@@ -95,7 +95,8 @@ module _ (breaks12 : Bool) (s : Effective) where
   opening_says bracket token says true cursor = indicator_says true true false cursor says
   opening_says bracket token says false cursor = indicator_says false false false cursor (says_comma breaks12)
 
-  role_says : (role : Role) (column : ℕ) (cursor : Cursor) → Says breaks12 anything (place_laid (in_canonical s) (entry_place true role column) false cursor).text (role_tokens role)
+  role_says : (role : Role) (column : ℕ) (cursor : Cursor)
+      → Says breaks12 anything (place_laid (in_canonical s) (entry_place true role column) false cursor).text (role_tokens role)
   role_says as_root column cursor = says_nothing breaks12
   role_says (as_item first) column cursor =
       let opening = opening_or_comma (codes "[") first cursor in
@@ -120,7 +121,8 @@ opening_opens bracket anything true cursor o h = opens_any (opening_or_comma bra
 opening_opens bracket name_ends true cursor o h = indicator_opens bracket true true false cursor o
 opening_opens bracket space_next true cursor o h = space_first cursor bracket h
 opening_opens bracket demand false cursor o h =
-    subst (λ d. Opens d (opening_or_comma bracket false cursor).text) (sym h) (indicator_opens (codes ",") false false false cursor (record { meets = λ rest. refl }))
+    subst (λ d. Opens d (opening_or_comma bracket false cursor).text) (sym h)
+    (indicator_opens (codes ",") false false false cursor (record { meets = λ rest. refl }))
 
 module _ (s : Effective) where
   role_opens : (role : Role) (column : ℕ) (demand : Demand) (cursor : Cursor) → RoleFollows role demand cursor
@@ -182,7 +184,8 @@ tag_opens demand cursor text tag =
     (subst (λ t. Opens name_ends t) (sym tag.is) (record { meets = λ rest. refl }))
 
 module _ (breaks12 portable : Bool) (own : List TagDirective) (sound : directives_fault own ≡ None) where
-  anchored : (anchor : Option Text) (cursor : Cursor) → AnchorOk anchor → Says breaks12 (anchor_demand anchor) (anchor_laid anchor cursor).text (anchor_tokens anchor)
+  anchored : (anchor : Option Text) (cursor : Cursor) → AnchorOk anchor
+      → Says breaks12 (anchor_demand anchor) (anchor_laid anchor cursor).text (anchor_tokens anchor)
   anchored None cursor ok = says_nothing breaks12
   anchored (Some name) cursor ok =
       says_text (anchor_laid (Some name) cursor).text (append_assoc (space_if true cursor) (codes "&") name)
@@ -202,10 +205,12 @@ module _ (breaks12 portable : Bool) (own : List TagDirective) (sound : directive
       opens (Some name) after = tag_opens anything after tag is
 
   pub properties_say : (anchor tag : Option Text) (bare : Bool) (cursor : Cursor) → AnchorOk anchor
-      → Says breaks12 (demand_of anchor tag bare) (properties_laid portable (directives_in_force own) anchor tag bare cursor).text (properties_tokens portable own anchor tag bare)
+      → Says breaks12 (demand_of anchor tag bare) (properties_laid portable (directives_in_force own) anchor tag bare cursor).text
+      (properties_tokens portable own anchor tag bare)
   properties_say anchor (Some tag) bare cursor ok =
       let after = (anchor_laid anchor cursor).cursor in
-      tag_after anchor cursor (spelling_laid portable (spelling (directives_in_force own) tag) after).text (spelled portable (spelling (directives_in_force own) tag)) ok
+      tag_after anchor cursor (spelling_laid portable (spelling (directives_in_force own) tag) after).text
+      (spelled portable (spelling (directives_in_force own) tag)) ok
       (tag_text portable own tag sound) (spelling_text portable (spelling (directives_in_force own) tag) after)
   properties_say anchor None true cursor ok =
       let after = (anchor_laid anchor cursor).cursor in

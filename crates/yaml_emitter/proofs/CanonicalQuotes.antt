@@ -31,7 +31,8 @@ module _ (breaks12 : Bool) where
       (place : QuotePlace) (units : List FoldUnit) (q : Quoted) → quoted_from breaks12 place text ≡ Some q
       → tokens_from breaks12 (in_quotes place units) text ≡ scalar_token (folding_read (units ++ q.units)) ∷ tokens_from breaks12 free q.rest
 
-  step_tokens : (rest : Text) → ReadsOn rest → (step : QuoteStep) (units : List FoldUnit) (q : Quoted) → after_step step (λ next. quoted_from breaks12 next rest) rest ≡ Some q
+  step_tokens : (rest : Text) → ReadsOn rest → (step : QuoteStep) (units : List FoldUnit) (q : Quoted)
+      → after_step step (λ next. quoted_from breaks12 next rest) rest ≡ Some q
       → after units step rest ≡ scalar_token (folding_read (units ++ q.units)) ∷ tokens_from breaks12 free q.rest
   step_tokens rest reads (goes_on place) units q e = reads place units q e
   step_tokens rest reads (gives unit) units q e =
@@ -75,7 +76,8 @@ module _ (breaks12 : Bool) where
   front_tokens [] value rest e = absurd (cc)
   front_tokens (c ∷ text) value rest e = by (c == 0x22) refl e
     where
-      by : (b : Bool) → (c == 0x22) ≡ b → (if b then quoted_reading (quoted_from breaks12 between text) else None) ≡ Some (record { value = value; rest = rest })
+      by : (b : Bool) → (c == 0x22) ≡ b
+          → (if b then quoted_reading (quoted_from breaks12 between text) else None) ≡ Some (record { value = value; rest = rest })
           → tokens_from breaks12 free (c ∷ text) ≡ scalar_token value ∷ tokens_from breaks12 free rest
       by true is e =
           let same : c ≡ 0x22 = eqb-true c 0x22 is in
@@ -138,7 +140,8 @@ module _ (unicode : Bool) (limit : Option ℕ) (indent : ℕ) where
   character-scalars before c rest cursor h = by (is_space c && may_fold before rest && is_past_width limit cursor)
     where
       by : (b : Bool) → all_scalars (if b then double_fold indent rest cursor else text_laid (character_text unicode c) cursor).text ≡ true
-      by true = scalars-append (new_line indent cursor).text (space_kept rest) (says_white false (new_line indent cursor).text (new_line-white indent cursor)).scalars (kept-scalars rest)
+      by true = scalars-append (new_line indent cursor).text (space_kept rest)
+          (says_white false (new_line indent cursor).text (new_line-white indent cursor)).scalars (kept-scalars rest)
       by false = text-scalars unicode c h
 
   inside-scalars : (value : Text) (before : Option ℕ) (cursor : Cursor) → all_scalars value ≡ true

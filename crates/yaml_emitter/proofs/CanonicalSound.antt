@@ -55,8 +55,10 @@ event_ok (alias name) h = name_is alias_empty alias_alphabet name (no_faults (al
 event_ok (scalar content) h =
     let facts = no_faults (scalar content) h in
     (anchor_is content.anchor content.tag facts.0, (and_parts (option_scalars content.tag) (all_scalars content.value) facts.2).1)
-event_ok (sequence_start start) h = anchor_is start.anchor start.tag (neither (properties_fault start.anchor start.tag) None (ap (λ f. option_or f None) (no_faults (sequence_start start) h).0)).0
-event_ok (mapping_start start) h = anchor_is start.anchor start.tag (neither (properties_fault start.anchor start.tag) None (ap (λ f. option_or f None) (no_faults (mapping_start start) h).0)).0
+event_ok (sequence_start start) h = anchor_is start.anchor start.tag
+    (neither (properties_fault start.anchor start.tag) None (ap (λ f. option_or f None) (no_faults (sequence_start start) h).0)).0
+event_ok (mapping_start start) h = anchor_is start.anchor start.tag
+    (neither (properties_fault start.anchor start.tag) None (ap (λ f. option_or f None) (no_faults (mapping_start start) h).0)).0
 event_ok _ h = tt
 
 module _ (portable : Bool) (own : List TagDirective) (sound : directives_fault own ≡ None) where
@@ -70,14 +72,17 @@ module _ (portable : Bool) (own : List TagDirective) (sound : directives_fault o
   tag_of (mapping_start start) h = tag_reads start.tag (no_faults (mapping_start start) h).2
   tag_of _ h = tt
 
-directives_ok : (before directives : List TagDirective) → directives_fault_after before directives ≡ None → list_all directive_scalars directives ≡ true → EachDirective directives
+directives_ok : (before directives : List TagDirective) → directives_fault_after before directives ≡ None → list_all directive_scalars directives ≡ true
+    → EachDirective directives
 directives_ok before [] h k = tt
 directives_ok before (directive ∷ rest) h k =
     let scalars = and_parts (directive_scalars directive) (list_all directive_scalars rest) k in
     let both = neither (next_directive_fault before directive) (directives_fault_after (before ++ directive ∷ []) rest) h in
     let own = neither (directive_fault directive) (if gives_handle directive.handle before then Some duplicate_directive else None) both.0 in
-    let parts = neither (handle_fault directive.handle) (prefix_fault directive.prefix) own.0 in
-    (record { handle = handle_form directive.handle parts.0; some = parts.1; scalars = scalars.0 }, directives_ok (before ++ directive ∷ []) rest both.1 scalars.1)
+    let parts = neither (handle_fault directive.handle) (prefix_fault directive.prefix) own.0 in (
+      record { handle = handle_form directive.handle parts.0; some = parts.1; scalars = scalars.0 },
+      directives_ok (before ++ directive ∷ []) rest both.1 scalars.1,
+    )
 
 version_ok : (version : Option Version) → option_and_then version_fault version ≡ None → VersionOk version
 version_ok None h = tt

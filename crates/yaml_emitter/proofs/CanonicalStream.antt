@@ -63,7 +63,8 @@ module _ (breaks12 : Bool) (s : Effective) (wide : 2 ≤ s.indent) where
       let version = version_laid x.start.version closing.cursor in
       let lines = tag_directives_laid s.portable x.start.directives version.cursor in
       says_tokens (((end_tokens (some && left) ++ version_tokens x.start.version) ++ tag_line_tokens x.start.directives) ++ document_begins ∷ [])
-      (ap (λ b. ((end_tokens (some && b) ++ version_tokens x.start.version) ++ tag_line_tokens x.start.directives) ++ document_begins ∷ []) (mark_tells standing.mark left e))
+      (ap (λ b. ((end_tokens (some && b) ++ version_tokens x.start.version) ++ tag_line_tokens x.start.directives) ++ document_begins ∷ [])
+      (mark_tells standing.mark left e))
       (says_after
       (says_after
       (says_after (closing_if (some && not (standing.mark == 0)) standing.cursor) (version_says breaks12 x.start.version closing.cursor ok.version))
@@ -73,7 +74,8 @@ module _ (breaks12 : Bool) (s : Effective) (wide : 2 ≤ s.indent) where
   end_says : (implicit : Bool) (standing : Standing) → Says breaks12 anything (document_end_piece implicit standing).piece.lead (end_tokens (not implicit))
   end_says true standing = says_white breaks12 (new_line 0 standing.cursor).text (new_line-white 0 standing.cursor)
   end_says false standing =
-      says_after (says_white breaks12 (new_line 0 standing.cursor).text (new_line-white 0 standing.cursor)) (closing_says breaks12 (new_line 0 standing.cursor).cursor)
+      says_after (says_white breaks12 (new_line 0 standing.cursor).text (new_line-white 0 standing.cursor))
+      (closing_says breaks12 (new_line 0 standing.cursor).cursor)
 
   line_opens : (cursor : Cursor) → cursor.indention ≡ false → Opens name_ends (new_line 0 cursor).text
   line_opens cursor e = subst (λ t. Opens name_ends t) (sym (line_breaks 0 cursor e)) (record { meets = λ rest. refl })
@@ -102,7 +104,8 @@ module _ (breaks12 : Bool) (s : Effective) (wide : 2 ≤ s.indent) where
       let t = end_tokens (not x.end_implicit) in
       let before : Says breaks12 anything (text ++ text_of (start.piece ∷ [])) (tokens ++ h) =
       says_text (text ++ text_of (start.piece ∷ [])) (ap (λ u. text ++ u) (lead_text head.text)) (says_after says (head_says first left x standing ok e)) in
-      let after = node_after breaks12 s wide own ok.sound x.root None anything (text ++ text_of (start.piece ∷ [])) (tokens ++ h) start.standing before refl ok.root in
+      let after = node_after breaks12 s wide own ok.sound x.root None anything (text ++ text_of (start.piece ∷ []))
+      (tokens ++ h) start.standing before refl ok.root in
       let all = says_then after.says (end_opens x.end_implicit node.standing after.off) (end_says x.end_implicit node.standing) in
       record {
         says =
@@ -116,7 +119,8 @@ module _ (breaks12 : Bool) (s : Effective) (wide : 2 ≤ s.indent) where
         mark = end_mark x.end_implicit node.standing after.mark;
       }
     where
-      end_text : (implicit : Bool) (standing : Standing) → text_of ((document_end_piece implicit standing).piece ∷ []) ≡ (document_end_piece implicit standing).piece.lead
+      end_text : (implicit : Bool) (standing : Standing)
+          → text_of ((document_end_piece implicit standing).piece ∷ []) ≡ (document_end_piece implicit standing).piece.lead
       end_text true standing = lead_text (document_end_piece true standing).piece.lead
       end_text false standing = lead_text (document_end_piece false standing).piece.lead
 
@@ -131,10 +135,12 @@ module _ (breaks12 : Bool) (s : Effective) (wide : 2 ≤ s.indent) where
       let front = documents_laid (in_canonical s) before standing in
       let said = documents_say before text tokens standing says e ok.0 in
       let back = document_laid (in_canonical s) (has_no_documents before) last front.standing in
-      let more = document_says last (has_no_documents before) (left_open before) (text ++ text_of front.pieces) (tokens ++ documents_tokens s.portable before) front.standing said.says said.mark ok.1 in
+      let more = document_says last (has_no_documents before) (left_open before) (text ++ text_of front.pieces)
+      (tokens ++ documents_tokens s.portable before) front.standing said.says said.mark ok.1 in
       record {
         says =
-            says_tokens (tokens ++ documents_tokens s.portable (documents_and before last)) (append_assoc tokens (documents_tokens s.portable before) (document_tokens s.portable (left_open before) last))
+            says_tokens (tokens ++ documents_tokens s.portable (documents_and before last))
+            (append_assoc tokens (documents_tokens s.portable before) (document_tokens s.portable (left_open before) last))
             (says_text (text ++ text_of (front.pieces ++ back.pieces)) (more_text text front.pieces back.pieces) more.says);
         mark = more.mark;
       }
@@ -148,7 +154,8 @@ module _ (breaks12 : Bool) (s : Effective) (wide : 2 ≤ s.indent) where
       let said = documents_say stream.documents [] [] start.standing (says_nothing breaks12) refl ok in
       let end = stream_end_piece inner.standing in
       let none : text_of (end.piece ∷ []) ≡ [] =
-      lead_text end.piece.lead ∙ ap (λ b. (laid_if b closing_mark_laid inner.standing.cursor).text) (mark_kept inner.standing.mark (left_open stream.documents) said.mark) in
+      lead_text end.piece.lead ∙ ap (λ b. (laid_if b closing_mark_laid inner.standing.cursor).text)
+      (mark_kept inner.standing.mark (left_open stream.documents) said.mark) in
       says_text (text_of (((start.piece ∷ []) ++ inner.pieces) ++ end.piece ∷ []))
       (more_text [] ((start.piece ∷ []) ++ inner.pieces) (end.piece ∷ []) ∙ ap (λ u. text_of inner.pieces ++ u) none ∙ append-nil (text_of inner.pieces))
       said.says

@@ -44,7 +44,8 @@ scalars-append (c ∷ a) b h k =
     and_from _ _ p.0 (scalars-append a b p.1 k)
 
 -- One text after another.
-pub says_then : {breaks12 : Bool} {d e : Demand} {a b : Text} {j k : List Token} → Says breaks12 d a j → Opens d b → Says breaks12 e b k → Says breaks12 e (a ++ b) (j ++ k)
+pub says_then : {breaks12 : Bool} {d e : Demand} {a b : Text} {j k : List Token} → Says breaks12 d a j → Opens d b → Says breaks12 e b k
+    → Says breaks12 e (a ++ b) (j ++ k)
 says_then {breaks12} {d} {e} {a} {b} {j} {k} first opens second =
     record {
       scalars = scalars-append a b first.scalars second.scalars;
@@ -56,7 +57,8 @@ says_then {breaks12} {d} {e} {a} {b} {j} {k} first opens second =
           ∙ sym (append_assoc j k (tokens_from breaks12 free rest));
     }
 
-pub says_after : {breaks12 : Bool} {e : Demand} {a b : Text} {j k : List Token} → Says breaks12 anything a j → Says breaks12 e b k → Says breaks12 e (a ++ b) (j ++ k)
+pub says_after : {breaks12 : Bool} {e : Demand} {a b : Text} {j k : List Token} → Says breaks12 anything a j → Says breaks12 e b k
+    → Says breaks12 e (a ++ b) (j ++ k)
 says_after {breaks12} {e} {a} {b} first second = says_then first (opens_any b) second
 
 pub says_text : {breaks12 : Bool} {d : Demand} (a : Text) {b : Text} {k : List Token} → a ≡ b → Says breaks12 d b k → Says breaks12 d a k
@@ -123,7 +125,8 @@ pub indicator_says : {breaks12 : Bool} {d : Demand} {sign : Text} {k : List Toke
 indicator_says {breaks12} need whitespace indention cursor says =
     says_after (says_white breaks12 (space_if need cursor) (space_if-white need cursor)) says
 
-pub indicator_opens : (sign : Text) (need whitespace indention : Bool) (cursor : Cursor) → Opens name_ends sign → Opens name_ends (indicator sign need whitespace indention cursor).text
+pub indicator_opens : (sign : Text) (need whitespace indention : Bool) (cursor : Cursor) → Opens name_ends sign
+    → Opens name_ends (indicator sign need whitespace indention cursor).text
 indicator_opens sign need whitespace indention cursor o = white-opens (space_if need cursor) sign (space_if-white need cursor) o
 
 pub and_false : (a : Bool) → (a && false) ≡ false

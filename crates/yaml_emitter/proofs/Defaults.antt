@@ -34,7 +34,8 @@ chosen_two false true = refl
 chosen_two false false = refl
 
 -- the first default has another handle than the second
-still_given : (own : List TagDirective) (given : Bool) → gives_handle yaml_default.handle (own ++ one_if_not given own_default) ≡ gives_handle yaml_default.handle own
+still_given : (own : List TagDirective) (given : Bool)
+    → gives_handle yaml_default.handle (own ++ one_if_not given own_default) ≡ gives_handle yaml_default.handle own
 still_given own true = ap (gives_handle yaml_default.handle) (append-nil own)
 still_given own false =
     let test : TagDirective → Bool = λ directive. bytes_eq directive.handle yaml_default.handle in

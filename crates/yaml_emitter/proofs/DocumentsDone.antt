@@ -43,7 +43,8 @@ handle_other (c ∷ rest) =
     let alphabet : Option ℕ = if list_all is_alpha (without_last rest) then None else Some 10 in
     let ending : Option ℕ = if not (last_from c rest == tag_mark) then Some 9 else alphabet in
     if_other_fault (not (c == tag_mark)) (Some 8) ending refl
-    (if_other_fault (not (last_from c rest == tag_mark)) (Some 9) alphabet refl (if_other_fault (list_all is_alpha (without_last rest)) None (Some 10) refl refl))
+    (if_other_fault (not (last_from c rest == tag_mark)) (Some 9) alphabet refl
+    (if_other_fault (list_all is_alpha (without_last rest)) None (Some 10) refl refl))
 
 prefix_other : (prefix : Text) → is_other_fault (prefix_fault prefix) ≡ true
 prefix_other [] = refl
@@ -58,22 +59,25 @@ directives_other before (directive ∷ rest) =
     (if_other_fault (gives_handle directive.handle before) (Some 12) None refl refl))
     (directives_other (before ++ directive ∷ []) rest)
 
-pub content_other : (start : DocumentStart) → is_other_fault (option_or (option_and_then version_fault start.version) (directives_fault start.directives)) ≡ true
+pub content_other : (start : DocumentStart)
+    → is_other_fault (option_or (option_and_then version_fault start.version) (directives_fault start.directives)) ≡ true
 content_other start =
-    either_other (option_and_then version_fault start.version) (directives_fault start.directives) (version_other start.version) (directives_other [] start.directives)
+    either_other (option_and_then version_fault start.version) (directives_fault start.directives) (version_other start.version)
+    (directives_other [] start.directives)
 
 or_none : (fault : Option ℕ) → option_or fault None ≡ fault
 or_none None = refl
 or_none (Some n) = refl
 
 start_refusal : (canonical first : Bool) (start : DocumentStart)
-    → stage_refusal canonical (at_document first) (document_start start) ≡ option_or (option_and_then version_fault start.version) (directives_fault start.directives)
+    → stage_refusal canonical (at_document first) (document_start start)
+    ≡ option_or (option_and_then version_fault start.version) (directives_fault start.directives)
 start_refusal canonical first start = or_none (option_or (option_and_then version_fault start.version) (directives_fault start.directives))
 
 -- an error that is a fault, or want of memory: nothing is written
 pub processed_fault : (event : Event) (empty : Bool) (state : State) (stage : Stage) (error : yaml_error_t) (fault : Option ℕ) → state.stage ≡ stage
     → stage_refusal state.given.canonical stage event ≡ fault → is_other_fault fault ≡ true
-    → (Some (refusal_number error) ≢ Some 21 → Some (refusal_number error) ≡ fault)
+    → (Some (refusal_number error) ≢ Some (refusal_number Memory) → Some (refusal_number error) ≡ fault)
     → Processed event empty state state (Err error)
 processed_fault event empty state stage Memory fault at refusal other is = processed_unwritten event empty state state refl refl refl
 processed_fault event empty state stage WriteError fault at refusal other is = absurd (no_write (ap is_other_fault (is no_memory) ∙ other))
@@ -81,22 +85,27 @@ processed_fault event empty state stage WriteError fault at refusal other is = a
     as_number : (m n : ℕ) → Some m ≡ Some n → m ≡ n
     as_number m n h = cc
 
-    no_memory : Some (refusal_number WriteError) ≡ Some 21 → ⊥
-    no_memory h = let e : refusal_number WriteError ≡ 21 = as_number (refusal_number WriteError) 21 h in absurd (omega arith)
+    no_memory : Some (refusal_number WriteError) ≡ Some (refusal_number Memory) → ⊥
+    no_memory h = let e : refusal_number WriteError
+        ≡ refusal_number Memory = as_number (refusal_number WriteError) (refusal_number Memory) h in absurd (omega arith)
 
     no_write : false ≡ true → ⊥
     no_write h = cc
 processed_fault event empty state stage error fault at refusal other is =
-    processed_refused_at event empty state stage error at tt (refusal ∙ sym (is (λ h. let e : refusal_number error ≡ 21 = cc in absurd (omega arith))))
+    processed_refused_at event empty state stage error at tt
+    (refusal ∙ sym (is (λ h. let e : refusal_number error ≡ refusal_number Memory = cc in absurd (omega arith))))
 
 pub document_refused : (empty : Bool) (before : State) (first : Bool) (start : DocumentStart) (error : yaml_error_t) → before.stage ≡ at_document first
-    → (Some (refusal_number error) ≢ Some 21 → Some (refusal_number error) ≡ option_or (option_and_then version_fault start.version) (directives_fault start.directives))
+    → (Some (refusal_number error) ≢ Some (refusal_number Memory)
+    → Some (refusal_number error) ≡ option_or (option_and_then version_fault start.version) (directives_fault start.directives))
     → Processed (document_start start) empty before before (Err error)
 document_refused empty before first start error at is =
-    processed_fault (document_start start) empty before (at_document first) error (option_or (option_and_then version_fault start.version) (directives_fault start.directives)) at
+    processed_fault (document_start start) empty before (at_document first) error
+    (option_or (option_and_then version_fault start.version) (directives_fault start.directives)) at
     (start_refusal before.given.canonical first start) (content_other start) is
 
-pub document_start_cut : (empty : Bool) (before : State) (first : Bool) (start : DocumentStart) (page : Page) (error : yaml_error_t) → before.stage ≡ at_document first
+pub document_start_cut : (empty : Bool) (before : State) (first : Bool) (start : DocumentStart) (page : Page) (error : yaml_error_t)
+    → before.stage ≡ at_document first
     → option_or (option_and_then version_fault start.version) (directives_fault start.directives) ≡ None
     → Wrote (piece_at (document_start_piece before.settings first start) before.mark) before.page page (Err error)
     → Processed (document_start start) empty before (record before { page = page }) (Err error)
@@ -104,7 +113,8 @@ document_start_cut empty before first start page error at sound wrote =
     processed_cut_at (document_start start) empty before (record before { page = page }) (at_document first) error at refl refl
     (start_refusal before.given.canonical first start ∙ sound) wrote
 
-pub document_begun : (empty : Bool) (before : State) (first : Bool) (start : DocumentStart) (page : Page) (directives : List TagDirective) (frames : List Frame) → before.stage ≡ at_document first
+pub document_begun : (empty : Bool) (before : State) (first : Bool) (start : DocumentStart) (page : Page) (directives : List TagDirective) (frames : List Frame)
+    → before.stage ≡ at_document first
     → option_or (option_and_then version_fault start.version) (directives_fault start.directives) ≡ None
     → Wrote (piece_at (document_start_piece before.settings first start) before.mark) before.page page (Ok tt)
     → directives ≡ directives_in_force start.directives → frames ≡ []
@@ -118,7 +128,8 @@ pub none_behind : (a b : Option ℕ) → option_or a b ≡ None → b ≡ None
 none_behind None b is = is
 none_behind (Some n) b is = cc
 
-name_other : (if_empty if_other : ℕ) (name : Text) → is_other_fault (Some if_empty) ≡ true → is_other_fault (Some if_other) ≡ true → is_other_fault (name_fault if_empty if_other name) ≡ true
+name_other : (if_empty if_other : ℕ) (name : Text) → is_other_fault (Some if_empty) ≡ true → is_other_fault (Some if_other) ≡ true
+    → is_other_fault (name_fault if_empty if_other name) ≡ true
 name_other if_empty if_other [] first second = first
 name_other if_empty if_other (c ∷ rest) first second = if_other_fault (list_all is_alpha (c ∷ rest)) None (Some if_other) refl second
 

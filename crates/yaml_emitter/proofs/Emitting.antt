@@ -11,7 +11,8 @@ use Rattle.yaml_emitter.specs.State.{State}
 use Rattle.yaml_emitter.specs.Queue.{is_head_ready}
 use Rattle.yaml_emitter.specs.StandsAfter.{Reached, ReachedOn, StandsBy, StandsSo, StandsWell, TookFirst, failed_by}
 use Rattle.yaml_emitter.specs.Processing.{Processed, closes_at_once}
-use Rattle.yaml_emitter.proofs.Standing.{reached_end, reached_first, reached_next}
+use Rattle.yaml_emitter.proofs.Standing.{reached_first}
+use Rattle.yaml_emitter.proofs.StandingSteps.{reached_end, reached_next}
 use Rattle.yaml_emitter.proofs.StandingFailed.{reached_failed}
 use Rattle.yaml_emitter.proofs.StandingPromises.{most_few, promises_held, stands_well}
 
@@ -35,7 +36,8 @@ took_shorter before after h =
     subst (λ r. length r < length before.held) (sym (took_rest before after h))
     (subst (λ r. length h.rest < length r) (sym h.held) less)
 
-took_ready : (before after : State) (answer : Result (Unit {0}) yaml_error_t) (h : TookFirst before after answer) → is_head_ready before.held ≡ true → is_ready h.event h.rest ≡ true
+took_ready : (before after : State) (answer : Result (Unit {0}) yaml_error_t) (h : TookFirst before after answer) → is_head_ready before.held ≡ true
+    → is_ready h.event h.rest ≡ true
 took_ready before after answer h ready = subst (λ r. is_head_ready r ≡ true) h.held ready
 
 pub took_next : (before after : State) → TookFirst before after (Ok tt) → is_head_ready before.held ≡ true → ReachedOn before after
@@ -45,7 +47,8 @@ took_next before after h ready given all front reached =
     reached_next given all front h.rest h.event before after at (took_ready before after (Ok tt) h ready) h.done in
     (front ++ h.event ∷ [], subst (λ r. Reached given all (front ++ h.event ∷ []) r after) (sym (took_rest before after h)) on)
 
-pub took_failed : (before after : State) (error : yaml_error_t) → TookFirst before after (Err error) → is_head_ready before.held ≡ true → (given : Settings) (all front : List Event)
+pub took_failed : (before after : State) (error : yaml_error_t) → TookFirst before after (Err error) → is_head_ready before.held ≡ true
+    → (given : Settings) (all front : List Event)
     → Reached given all front before.held before
     → StandsSo given all (failed_by error after)
 took_failed before after error h ready given all front reached =
@@ -70,7 +73,8 @@ reached_taken given all event before after h none is =
     let well : StandsWell given all before = stands_well given all before h none in
     let now : State = record before { started = true; held = before.held ++ event ∷ [] } in
     let at : Reached given (all ++ event ∷ []) (take (written all) all) (before.held ++ event ∷ []) now =
-    subst (λ l. Reached given (all ++ event ∷ []) (take (written all) all) (l ++ event ∷ []) now) (sym well.held) (reached_first given all event before well none) in
+    subst (λ l. Reached given (all ++ event ∷ []) (take (written all) all) (l ++ event ∷ []) now) (sym well.held)
+    (reached_first given all event before well none) in
     subst (λ (s : State). Reached given (all ++ event ∷ []) (take (written all) all) s.held s) (sym is) at
 
 unready : (b : Bool) (n : ℕ) → (if b then suc n else 0) ≡ 0 → b ≡ false
@@ -132,7 +136,8 @@ took_end event before after took none ready given all front reached =
     rest_of (event ∷ rest) = rest
 
 -- An event that was given where none waits stands alone.
-pub reached_alone : (given : Settings) (all : List Event) (event : Event) (before now : State) → StandsSo given all before → before.error ≡ None → before.held ≡ []
+pub reached_alone : (given : Settings) (all : List Event) (event : Event) (before now : State) → StandsSo given all before → before.error ≡ None
+    → before.held ≡ []
     → now ≡ record before { started = true }
     → Reached given (all ++ event ∷ []) (take (written all) all) (event ∷ []) (record now { held = event ∷ [] })
 reached_alone given all event before now h none alone is =
@@ -140,5 +145,6 @@ reached_alone given all event before now h none alone is =
     let at : Reached given (all ++ event ∷ []) (take (written all) all) (before.held ++ event ∷ []) after =
     reached_taken given all event before after h none refl in
     let moved : Reached given (all ++ event ∷ []) (take (written all) all) (event ∷ []) (record before { started = true; held = event ∷ [] }) =
-    subst (λ l. Reached given (all ++ event ∷ []) (take (written all) all) (l ++ event ∷ []) (record before { started = true; held = l ++ event ∷ [] })) alone at in
+    subst (λ l. Reached given (all ++ event ∷ []) (take (written all) all) (l ++ event ∷ []) (record before { started = true; held = l ++ event ∷ [] })) alone
+    at in
     subst (λ (s : State). Reached given (all ++ event ∷ []) (take (written all) all) (event ∷ []) (record s { held = event ∷ [] })) (sym is) moved

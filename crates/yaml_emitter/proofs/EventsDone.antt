@@ -22,10 +22,12 @@ stream_started empty before encoding s page at settles begins =
       kept = refl;
       accepted = ap (λ st. stage_refusal before.given.canonical st (stream_start encoding)) at;
       stage = sym (ap (λ st. (step before.settings st (stream_start encoding) empty (record { cursor = before.page.cursor; mark = before.mark })).stage) at);
-      mark = sym (ap (λ st. (step before.settings st (stream_start encoding) empty (record { cursor = before.page.cursor; mark = before.mark })).laid.standing.mark) at);
+      mark = sym (ap (λ st. (step before.settings st (stream_start encoding) empty
+          (record { cursor = before.page.cursor; mark = before.mark })).laid.standing.mark) at);
       page = (
         settles,
-        begins ∙ ap (λ (t : Effective). let p : Page = record before.page { encoding = Some t.encoding; line_break = t.line_break; mark_due = false } in p) settles,
+        begins ∙ ap (λ (t : Effective). let p : Page = record before.page { encoding = Some t.encoding; line_break = t.line_break; mark_due = false } in p)
+            settles,
       );
       handed_out = λ hands. cc;
     }
@@ -46,10 +48,12 @@ pub document_ended : (empty : Bool) (before : State) (implicit : Bool) (page : P
     → mark ≡ (if implicit then (if before.mark == 0 then 1 else before.mark) else 0) → page.output ≡ encoded page
     → Processed (document_end implicit) empty before (record before { stage = at_document false; mark = mark; page = page }) (Ok tt)
 document_ended empty before implicit page mark at wrote mark_is handed_out =
-    processed_written_at (document_end implicit) empty before (record before { stage = at_document false; mark = mark; page = page }) at_document_end at tt refl refl refl refl
+    processed_written_at (document_end implicit) empty before
+    (record before { stage = at_document false; mark = mark; page = page }) at_document_end at tt refl refl refl refl
     (mark_is ∙ by implicit) wrote (λ _. handed_out)
   where
-    by : (implicit : Bool) → (if implicit then (if before.mark == 0 then 1 else before.mark) else 0) ≡ (document_end_piece implicit (record { cursor = before.page.cursor; mark = before.mark })).standing.mark
+    by : (implicit : Bool) → (if implicit then (if before.mark == 0 then 1 else before.mark) else 0)
+        ≡ (document_end_piece implicit (record { cursor = before.page.cursor; mark = before.mark })).standing.mark
     by true = refl
     by false = refl
 
@@ -63,4 +67,5 @@ pub stream_ended : (empty : Bool) (before : State) (first : Bool) (page : Page) 
     → Wrote (piece_at stream_end_piece before.mark) before.page page (Ok tt) → page.output ≡ encoded page
     → Processed stream_end empty before (record before { stage = at_nothing; page = page }) (Ok tt)
 stream_ended empty before first page at wrote handed_out =
-    processed_written_at stream_end empty before (record before { stage = at_nothing; page = page }) (at_document first) at tt refl refl refl refl refl wrote (λ _. handed_out)
+    processed_written_at stream_end empty before (record before { stage = at_nothing; page = page }) (at_document first) at tt refl refl refl refl refl wrote
+    (λ _. handed_out)

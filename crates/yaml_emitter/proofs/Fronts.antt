@@ -80,7 +80,8 @@ pub closes_after-next : {E : Type 0} (seen : E → Event) (xs : List E) (i : ℕ
     ≡ (((starts + one) == (ends + other)) || closes_after (starts + one) (ends + other) (map seen (drop (i + 1) xs)))
 closes_after-next seen xs i x within at starts ends one other is_one is_other =
     ap (closes_after starts ends) (seen_from seen xs i x within at)
-    ∙ ap (λ n. ((starts + n) == (ends + one_if (is_end (seen x)))) || closes_after (starts + n) (ends + one_if (is_end (seen x))) (map seen (drop (i + 1) xs))) (sym is_one)
+    ∙ ap (λ n. ((starts + n) == (ends + one_if (is_end (seen x)))) || closes_after (starts + n) (ends + one_if (is_end (seen x))) (map seen (drop (i + 1) xs)))
+    (sym is_one)
     ∙ ap (λ n. ((starts + one) == (ends + n)) || closes_after (starts + one) (ends + n) (map seen (drop (i + 1) xs))) (sym is_other)
 
 -- an event counts once at most

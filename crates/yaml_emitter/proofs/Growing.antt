@@ -1,5 +1,5 @@
 -- Nothing that was written is lost by an event.
-use Rattle.std.proofs.Common.{◌≡◌, refl, sym, ap, subst, Bool, Option, None, Some, Result, Ok, Err, List, IsSome}
+use Rattle.std.proofs.Common.{◌≡◌, refl, sym, ap, subst, Bool, Option, None, Some, Result, Ok, Err, IsSome}
 use Rattle.yaml_base.specs.Event.{Event, stream_start}
 use Rattle.yaml_base.specs.declared.errors.yaml_error_t.{yaml_error_t}
 use Rattle.yaml_base.specs.declared.errors.yaml_error_t.TheVariants.{WriteError, Memory}
@@ -13,7 +13,10 @@ use Rattle.yaml_emitter.specs.StandsAfter.{TookFirst}
 
 -- the same text and output
 pub grows_same : (before after : Page) → after.text ≡ before.text → after.output ≡ before.output → Grows before after
-grows_same before after text output = record { text = prefix_same before.text after.text (sym text); output = prefix_same before.output after.output (sym output) }
+grows_same before after text output = record {
+  text = prefix_same before.text after.text (sym text);
+  output = prefix_same before.output after.output (sym output);
+}
 
 -- the same page
 pub grows_page : (before after : Page) → after ≡ before → Grows before after
@@ -27,7 +30,8 @@ cut_grows : (error : yaml_error_t) (event : Event) (empty : Bool) (before after 
 cut_grows error event empty before after (unwritten memory same) = grows_page before.page after.page same
 cut_grows error event empty before after (partly_written part) = wrote_grows part.wrote
 
-processed_grows : (event : Event) (empty : Bool) (before after : State) (answer : Result (Unit {0}) yaml_error_t) → Processed event empty before after answer → Grows before.page after.page
+processed_grows : (event : Event) (empty : Bool) (before after : State) (answer : Result (Unit {0}) yaml_error_t) → Processed event empty before after answer
+    → Grows before.page after.page
 processed_grows event empty before after (Ok _) done = written_grows event empty before after done.page
 processed_grows event empty before after (Err WriteError) done = cut_grows WriteError event empty before after done.page
 processed_grows event empty before after (Err Memory) done = cut_grows Memory event empty before after done.page
@@ -37,7 +41,8 @@ pub took_grows : (before after : State) (answer : Result (Unit {0}) yaml_error_t
 took_grows before after answer took = processed_grows took.event _ (record before { held = took.rest }) after answer took.done
 
 -- a flush that memory refuses leaves the output as it was
-pub flushed_unflushed : {before after : Page} {answer : Result (Unit {0}) yaml_error_t} → Flushed before after answer → after.error ≡ Some Memory → after.output ≡ before.output
+pub flushed_unflushed : {before after : Page} {answer : Result (Unit {0}) yaml_error_t} → Flushed before after answer → after.error ≡ Some Memory
+    → after.output ≡ before.output
 flushed_unflushed {before} {after} flushed memory = by_error before.error refl
   where
     by_error : (error : Option yaml_error_t) → before.error ≡ error → after.output ≡ before.output

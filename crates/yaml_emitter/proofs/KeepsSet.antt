@@ -41,7 +41,8 @@ by_sameness before after same =
     }
 
 -- so does one event
-pub processed_keeps_set : (event : Event) (empty : Bool) (before after : State) (answer : Result (Unit {0}) yaml_error_t) → Processed event empty before after answer → KeepsSet before after
+pub processed_keeps_set : (event : Event) (empty : Bool) (before after : State) (answer : Result (Unit {0}) yaml_error_t)
+    → Processed event empty before after answer → KeepsSet before after
 processed_keeps_set event empty before after (Ok _) done = by_keeping before after done.kept
 processed_keeps_set event empty before after (Err WriteError) done = by_keeping before after done.kept
 processed_keeps_set event empty before after (Err Memory) done = by_keeping before after done.kept

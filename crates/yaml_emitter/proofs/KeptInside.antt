@@ -36,7 +36,8 @@ kept_writing e pen after frames mark kept output fits =
       page = fits;
     }
 
-pub kept_beginning : {A : Type 0} (e : Inside A) (pen : Page) (after : stage.Stage) (directives : List TagDirective) (frames : List Frame) (mark : OpenMark) → IsEmitter e → e.has_output ≡ true
+pub kept_beginning : {A : Type 0} (e : Inside A) (pen : Page) (after : stage.Stage) (directives : List TagDirective) (frames : List Frame) (mark : OpenMark)
+    → IsEmitter e → e.has_output ≡ true
     → some_handle_breaks directives ≡ false → FitsPage (seen_stage after directives frames) pen
     → IsEmitter (record e { pen = pen; stage = after; directives = directives; frames = frames; mark = mark })
 kept_beginning e pen after directives frames mark kept output handles fits =
@@ -58,17 +59,20 @@ pub seen_with_room : {A : Type 0} (e : Inside A) (frames : List Frame) → frame
 seen_with_room e frames same = ap (λ (f : List Frame). state_of (record e { frames = f })) same
 
 -- between documents no directives are seen
-unseen : (st : stage.Stage) (before after : List TagDirective) (frames : List Frame) (first : Bool) → seen_stage st before frames ≡ at_document first → seen_stage st after frames ≡ seen_stage st before frames
+unseen : (st : stage.Stage) (before after : List TagDirective) (frames : List Frame) (first : Bool) → seen_stage st before frames ≡ at_document first
+    → seen_stage st after frames ≡ seen_stage st before frames
 unseen Stream before after frames first at = refl
 unseen (Document other) before after frames first at = refl
 unseen Node before after frames first at = cc
 unseen DocumentEnd before after frames first at = refl
 unseen Nothing before after frames first at = refl
 
-pub seen_without : {A : Type 0} (e : Inside A) (directives : List TagDirective) (first : Bool) → (state_of e).stage ≡ at_document first → state_of (record e { directives = directives }) ≡ state_of e
+pub seen_without : {A : Type 0} (e : Inside A) (directives : List TagDirective) (first : Bool) → (state_of e).stage ≡ at_document first
+    → state_of (record e { directives = directives }) ≡ state_of e
 seen_without e directives first at = ap (λ (st : Stage). record (state_of e) { stage = st }) (unseen e.stage e.directives directives e.frames first at)
 
-pub kept_without : {A : Type 0} (e : Inside A) (directives : List TagDirective) (first : Bool) → directives ≡ [] → (state_of e).stage ≡ at_document first → IsEmitter e → IsEmitter (record e { directives = directives })
+pub kept_without : {A : Type 0} (e : Inside A) (directives : List TagDirective) (first : Bool) → directives ≡ [] → (state_of e).stage ≡ at_document first
+    → IsEmitter e → IsEmitter (record e { directives = directives })
 kept_without e directives first none at kept =
     record {
       room = kept.room;
@@ -124,7 +128,8 @@ fits_marked (at_node directives frames) page fits = fits.marked
 fits_marked at_document_end page fits = fits.marked
 fits_marked at_nothing page fits = fits.marked
 
-pub kept_flushing : {A : Type 0} (e : Inside A) (pen : Page) (answer : Result (Unit {0}) yaml_error_t) → IsEmitter e → e.has_output ≡ true → Flushed e.pen pen answer
+pub kept_flushing : {A : Type 0} (e : Inside A) (pen : Page) (answer : Result (Unit {0}) yaml_error_t) → IsEmitter e → e.has_output ≡ true
+    → Flushed e.pen pen answer
     → (e.pen.error ≡ None → e.pen.output ≡ encoded e.pen → pen ≡ e.pen) → IsEmitter (record e { pen = pen })
 kept_flushing e pen answer kept output flushed empty =
     kept_writing e pen e.stage e.frames e.mark kept output (fits_flushed (seen_stage e.stage e.directives e.frames) e.pen pen answer kept.page flushed empty)

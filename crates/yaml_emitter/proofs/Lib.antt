@@ -4,10 +4,13 @@ pub mod Fronts
 pub mod Signs
 pub mod Defaults
 pub mod Standing
+pub mod StandingSteps
 pub mod StandingFailed
 pub mod StandingMore
 pub mod StandingTexts
 pub mod StandingPromises
+pub mod StandingFull
+pub mod StandingEnds
 pub mod WritingPieces
 pub mod SignsWritten
 pub mod WritingDirectives
@@ -38,6 +41,7 @@ pub mod TidyStreams
 pub mod CanonicalStream
 pub mod Canonical
 pub mod NodesDone
+pub mod CollectionsDone
 pub mod CanonicalOutput
 pub mod DocumentsDone
 pub mod Emitting

@@ -60,9 +60,11 @@ body_means s place double_quoted limit value cursor is scalars h =
     }
 body_means s place literal limit value cursor is scalars h =
     let above : s.indent ≤ deeper s.indent place.column = omega arith in
-    let kept = literal-kept (charset_of s) value h (deeper s.indent place.column) s.indent is.low is.high above cursor place.column (encloses s.indent place.column) s.line_break in
+    let kept = literal-kept (charset_of s) value h (deeper s.indent place.column) s.indent is.low is.high above cursor place.column
+    (encloses s.indent place.column) s.line_break in
     record { reads = kept.reads; indented = kept.indented }
 body_means s place folded limit value cursor is scalars h =
     let above : s.indent ≤ deeper s.indent place.column = omega arith in
-    let kept = folded-kept (charset_of s) value h (deeper s.indent place.column) s.indent is.low is.high above cursor limit place.column (encloses s.indent place.column) s.line_break in
+    let kept = folded-kept (charset_of s) value h (deeper s.indent place.column) s.indent is.low is.high above cursor limit place.column
+    (encloses s.indent place.column) s.line_break in
     record { reads = kept.reads; indented = kept.indented }

@@ -100,10 +100,12 @@ processed_cut event empty before after error kept settings accepted wrote =
     elim (pen_error error named) [
       | inl full ↦
           failed_as event empty before after error WriteError full
-          (cut WriteError event empty before after kept settings accepted (wrote_as_error event empty before after error WriteError full wrote) (failed ∙ ap (λ (e : yaml_error_t). Some e) full))
+          (cut WriteError event empty before after kept settings accepted (wrote_as_error event empty before after error WriteError full wrote)
+          (failed ∙ ap (λ (e : yaml_error_t). Some e) full))
       | inr memory ↦
           failed_as event empty before after error Memory memory
-          (cut Memory event empty before after kept settings accepted (wrote_as_error event empty before after error Memory memory wrote) (failed ∙ ap (λ (e : yaml_error_t). Some e) memory))
+          (cut Memory event empty before after kept settings accepted (wrote_as_error event empty before after error Memory memory wrote)
+          (failed ∙ ap (λ (e : yaml_error_t). Some e) memory))
     ]
 
 -- want of memory before anything of the event is written

@@ -28,7 +28,9 @@ use Rattle.yaml_base.specs.WrittenTexts.{HoldsRaw}
 use Rattle.yaml_emitter.proofs.RawTexts.{texts_hold_raw}
 use Rattle.yaml_emitter.proofs.TidyStreams.{bodies_are_tidy}
 use Rattle.yaml_emitter.specs.Promises.{bytes_of_some, HasAllBytes, ends_stream, EndsExactly, IsWritten, Promised}
-use Rattle.yaml_emitter.proofs.StandingPromises.{take-length, stands_well, promises_text, promises_held, promises_refusal, promises_output, promises_within, promises_full, promises_end, all_written, whole_text}
+use Rattle.yaml_emitter.proofs.StandingPromises.{stands_well, promises_text, promises_held, promises_refusal, promises_output, promises_within}
+use Rattle.yaml_emitter.proofs.StandingFull.{take-length, promises_full}
+use Rattle.yaml_emitter.proofs.StandingEnds.{promises_end, all_written, whole_text}
 use Rattle.yaml_emitter.proofs.Meaning.{meaning_is_kept}
 use Rattle.yaml_emitter.proofs.CanonicalOutput.{output_reads}
 use Rattle.yaml_emitter.proofs.SeenTexts.{seen_scalars, texts_more, values_of_texts}
@@ -80,9 +82,11 @@ last_hands (event ∷ []) = refl
 last_hands (event ∷ next ∷ rest) = last_hands (next ∷ rest)
 
 accepted_hands : (canonical : Bool) (all : List Event) → IsAccepted canonical all → hands_out_last all ≡ true
-accepted_hands canonical all accepted = ap hands_out_last (sym accepted.is_stream) ∙ last_hands (stream_start accepted.stream.encoding ∷ documents_events accepted.stream.documents)
+accepted_hands canonical all accepted = ap hands_out_last (sym accepted.is_stream)
+    ∙ last_hands (stream_start accepted.stream.encoding ∷ documents_events accepted.stream.documents)
 
-promises_whole : (given : Settings) (all : List Event) (state : State) → StandsAfter given all state → state.error ≡ None → IsAccepted given.canonical all → IsWritten given all state
+promises_whole : (given : Settings) (all : List Event) (state : State) → StandsAfter given all state → state.error ≡ None → IsAccepted given.canonical all
+    → IsWritten given all state
 promises_whole given all state h none accepted =
     let whole = whole_text given all state h.so accepted none in
     let well : StandsWell given all state = stands_well given all state h.so none in
@@ -94,10 +98,12 @@ promises_whole given all state h none accepted =
       means = meaning_is_kept given (encoding_asked all) all accepted (values_of_texts all h.texts);
       tidy = bodies_are_tidy given (encoding_asked all) all accepted;
       raw = subst (HoldsRaw (settings_for given all)) (sym whole.text) (texts_hold_raw given (encoding_asked all) all accepted);
-      reads = λ canonical uncut. ap (canonical_content given.breaks12) output ∙ output_reads given all (record { canonical = canonical; accepted = accepted; scalars = h.texts; uncut = uncut });
+      reads = λ canonical uncut. ap (canonical_content given.breaks12) output
+          ∙ output_reads given all (record { canonical = canonical; accepted = accepted; scalars = h.texts; uncut = uncut });
     }
 
-dropped_by : (error : Option yaml_error_t) (given : Settings) (all : List Event) (state : State) → StandsBy given all error state → IsSome error → state.held ≡ []
+dropped_by : (error : Option yaml_error_t) (given : Settings) (all : List Event) (state : State) → StandsBy given all error state → IsSome error
+    → state.held ≡ []
 dropped_by None given all state h some = cc
 dropped_by (Some error) given all state h some = h.0
 
@@ -117,16 +123,19 @@ promised given all state h =
     }
 
 -- A call that adds no event.
-pub stands_on : (given : Settings) (all : List Event) (before after : State) → (StandsSo given all before → StandsSo given all after) → StandsAfter given all before → StandsAfter given all after
+pub stands_on : (given : Settings) (all : List Event) (before after : State) → (StandsSo given all before → StandsSo given all after)
+    → StandsAfter given all before → StandsAfter given all after
 stands_on given all before after on h = record { texts = h.texts; so = on h.so }
 
 -- A call that adds an event.
-pub stands_with : {A : Type 0} (given : Settings) (all : List Event) (event : yaml_event_t A) (after : State) → StandsSo given (all ++ seen_event event ∷ []) after → list_all has_scalar_texts all ≡ true
+pub stands_with : {A : Type 0} (given : Settings) (all : List Event) (event : yaml_event_t A) (after : State)
+    → StandsSo given (all ++ seen_event event ∷ []) after → list_all has_scalar_texts all ≡ true
     → StandsAfter given (all ++ seen_event event ∷ []) after
 stands_with given all event after so texts = record { texts = texts_more all (seen_event event) texts (seen_scalars event); so = so }
 
 -- A flush without an error hands out all.
-pub flushed_all : (answer : Result (Unit {0}) yaml_error_t) (before after : State) → answer ≡ told after.error → OnOk answer (after.page.output ≡ encoded after.page)
+pub flushed_all : (answer : Result (Unit {0}) yaml_error_t) (before after : State) → answer ≡ told after.error
+    → OnOk answer (after.page.output ≡ encoded after.page)
     → ((given : Settings) (all : List Event) → StandsSo given all before → StandsSo given all after)
     → OnOk answer ((given : Settings) (all : List Event) → StandsAfter given all before → HasAllBytes given all after)
 flushed_all (Ok _) before after is handed stands = λ given all h. promises_bytes given all after (stands given all h.so) (none_from_told after.error is) handed
@@ -150,7 +159,8 @@ stands_unfailed given all state h none =
     let well : StandsWell given all state = stands_well given all state h none in
     page_unfailed (take (written all) all) (settings_for given all) (progress (settings_for given all) all).pieces state.page well.taken.page
 
-pub stands_encoded : (given : Settings) (all : List Event) (state : State) → StandsSo given all state → state.error ≡ None → HasAllBytes given all state → state.page.output ≡ encoded state.page
+pub stands_encoded : (given : Settings) (all : List Event) (state : State) → StandsSo given all state → state.error ≡ None → HasAllBytes given all state
+    → state.page.output ≡ encoded state.page
 stands_encoded given all state h none bytes =
     let s = settings_for given all in
     let well : StandsWell given all state = stands_well given all state h none in

@@ -1,24 +1,23 @@
 -- What stands raw in the text of an accepted list: no special character, and so what `HoldsRaw` says.
-use Rattle.std.proofs.Common.{◌≡◌, ◌≤◌, refl, sym, ap, ◌∙◌, subst, ℕ, [], ◌∷◌, ◌++◌, Bool, true, false, arith}
-use Rattle.std.proofs.lemmas.Bool.{and_from, and_parts, not-false, not_from_false, or_from, or_left, or_parts, false≢true}
+use Rattle.std.proofs.Common.{◌≡◌, refl, sym, ap, ◌∙◌, ℕ, [], ◌∷◌, Bool, true, false, arith}
+use Rattle.std.proofs.lemmas.Bool.{and_from, and_parts, not-false, or_left, or_parts, false≢true}
 use Rattle.std.proofs.lemmas.Bool.Decides.{nat_tests}
 use Rattle.std.proofs.Math.Utf8.{scalar}
-use Rattle.std.specs.Prelude.{Option, None, Some, List, ◌==◌, ◌&&◌, ◌||◌, not, if◌then◌else◌}
+use Rattle.std.specs.Prelude.{Option, List, ◌==◌, ◌&&◌, ◌||◌, not, if◌then◌else◌}
 use Rattle.std.specs.List.{list_all, list_any}
 use Rattle.std.specs.Str.{all_scalars}
 use Rattle.yaml_base.specs.Analysis.{Charset, allowances, is_special}
-use Rattle.yaml_base.specs.Characters.{Text, carriage_return, is_ascii, is_break, is_printable, line_feed, line_separator, next_line, paragraph_separator, space}
+use Rattle.yaml_base.specs.Characters.{Text, carriage_return, is_ascii, is_printable, line_feed, line_separator, next_line, paragraph_separator, space}
 use Rattle.yaml_base.specs.Cursor.{Cursor}
 use Rattle.yaml_base.specs.DoubleQuoted.{backslash, needs_escape, quote}
 use Rattle.yaml_base.specs.Event.{Event, ScalarStyle, any_style, plain, single_quoted, double_quoted, literal, folded}
-use Rattle.yaml_base.specs.Grammar.{stream_events}
-use Rattle.yaml_base.specs.Layout.{Place, deeper, body_laid, first_standing, layout, text_of, Piece}
+use Rattle.yaml_base.specs.Layout.{Place, deeper, body_laid, first_standing, text_of, Piece}
 use Rattle.yaml_base.specs.LineBreaks.{with_breaks_written, break_text}
-use Rattle.yaml_base.specs.Output.{encoding_asked, text_written}
+use Rattle.yaml_base.specs.Output.{encoding_asked}
 use Rattle.yaml_base.specs.Pieces.{list_layout}
 use Rattle.yaml_base.specs.Refusal.{IsAccepted}
 use Rattle.yaml_base.specs.Settings.{Effective, LineBreak, carriage_return_break, line_feed_break, both_break, effective}
-use Rattle.yaml_base.specs.Steps.{at_stream, steps}
+use Rattle.yaml_base.specs.Steps.{at_stream}
 use Rattle.yaml_base.specs.WrittenTexts.{is_separator, may_stand_raw, HoldsRaw, TextsHoldRaw, StreamsAgree}
 use Rattle.yaml_base.proofs.CallerLaws.{encodings_agree}
 use Rattle.yaml_base.proofs.PieceLaws.{list_layout_steps}
@@ -72,7 +71,8 @@ raw_parts p u b1 b2 b3 s1 s2 q k h =
 -- such a character isn't special
 special_raw : (breaks12 unicode : Bool) (c : ℕ) → needs_escape unicode c ≡ false → is_special (record { unicode = unicode; breaks12 = breaks12 }) c ≡ false
 special_raw breaks12 unicode c h =
-    let parts = raw_parts (is_printable c) (not unicode && not (is_ascii c)) (c == line_feed) (c == carriage_return) (c == next_line) (c == line_separator) (c == paragraph_separator) (c == quote) (c == backslash) h in
+    let parts = raw_parts (is_printable c) (not unicode && not (is_ascii c)) (c == line_feed) (c == carriage_return) (c == next_line) (c == line_separator)
+    (c == paragraph_separator) (c == quote) (c == backslash) h in
     by breaks12 parts
   where
     by : (breaks12 : Bool)
@@ -93,7 +93,8 @@ special_bodies s is place single_quoted limit value cursor h =
     lacks_single (is_special (charset_of s)) (special_spares (charset_of s)) limit (deeper s.indent place.column) value cursor
     (single_unspecial (charset_of s) value h)
 special_bodies s is place double_quoted limit value cursor h =
-    lacks_double (is_special (charset_of s)) (special_spares (charset_of s)) s.unicode (special_raw s.breaks12 s.unicode) limit (deeper s.indent place.column) value cursor
+    lacks_double (is_special (charset_of s)) (special_spares (charset_of s)) s.unicode (special_raw s.breaks12 s.unicode) limit
+    (deeper s.indent place.column) value cursor
 special_bodies s is place literal limit value cursor h =
     lacks_literal (is_special (charset_of s)) (special_spares (charset_of s)) (deeper s.indent place.column) s.indent value cursor is.high
     (block_unspecial (charset_of s) value h)

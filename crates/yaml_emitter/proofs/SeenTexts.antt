@@ -37,7 +37,8 @@ seen_scalars (YAML_MAPPING_START_EVENT anchor tag implicit style) = choice_scala
 seen_scalars YAML_MAPPING_END_EVENT = refl
 
 -- One more event.
-pub texts_more : (all : List Event) (event : Event) → list_all has_scalar_texts all ≡ true → has_scalar_texts event ≡ true → list_all has_scalar_texts (all ++ event ∷ []) ≡ true
+pub texts_more : (all : List Event) (event : Event) → list_all has_scalar_texts all ≡ true → has_scalar_texts event ≡ true
+    → list_all has_scalar_texts (all ++ event ∷ []) ≡ true
 texts_more [] event texts text = and_from _ _ text refl
 texts_more (first ∷ rest) event texts text =
     let parts = and_parts (has_scalar_texts first) (list_all has_scalar_texts rest) texts in

@@ -1,9 +1,9 @@
 -- What stands before a node, and on lines outside nodes, holds no character that meets a test which spares printable ASCII and
 -- LF: signs, spaces, breaks, names, and tags in percent forms.
-use Rattle.std.proofs.Common.{◌≡◌, ◌⊎◌, refl, ap, ◌∙◌, inl, inr, ℕ, [], ◌∷◌, ◌++◌, Bool, true, false, arith}
+use Rattle.std.proofs.Common.{◌≡◌, refl, ap, ◌∙◌, ℕ, [], ◌∷◌, ◌++◌, Bool, true, false, arith}
 use Rattle.std.proofs.lemmas.Bool.{and_from, and_parts}
 use Rattle.std.proofs.lemmas.Bool.Decides.{nat_tests}
-use Rattle.std.specs.Prelude.{Option, None, Some, List, ◌==◌, ◌&&◌, ◌||◌, not, codes, length, is_some, if◌then◌else◌}
+use Rattle.std.specs.Prelude.{Option, None, Some, List, ◌==◌, ◌&&◌, ◌||◌, not, codes, if◌then◌else◌}
 use Rattle.std.specs.List.{list_all, list_any}
 use Rattle.yaml_base.specs.Characters.{Text, is_alpha, space}
 use Rattle.yaml_base.specs.Cursor.{Cursor, Laid, nothing_laid, then_laid, new_line, space_if, indicator, name_laid, is_past_width}
@@ -11,11 +11,12 @@ use Rattle.yaml_base.specs.Event.{ScalarStyle, any_style, plain, single_quoted, 
 use Rattle.yaml_base.specs.Percent.{percent_escaped, suffix_escaped, prefix_escaped}
 use Rattle.yaml_base.specs.Settings.{Effective}
 use Rattle.yaml_base.specs.Tags.{Spelling, spelling, tag_mark}
-use Rattle.yaml_base.specs.Layout.{line_column, Role, as_root, as_item, as_key, as_value, Place, flow_break, opening_or_comma, key_sign, flow_place_laid, block_place_laid, place_laid, anchor_laid, handle_laid, spelling_laid, tag_laid, properties_laid, alias_laid, separation_laid, Brackets, square, curly, empty_or_comma, end_laid, Standing, sign_laid, line_ended, laid_if, closing_mark_laid, version_text, version_laid, tag_directive_laid, tag_directives_laid, has_directives, is_explicit, document_mark_laid, document_start_laid}
+use Rattle.yaml_base.specs.Indicators.{indicator_laid, spaced, document_start, document_end, yaml_directive, version_1_1, version_1_2, tag_directive}
+use Rattle.yaml_base.specs.Layout.{line_column, Role, as_root, as_item, as_key, as_value, Place, flow_break, opening_or_comma, key_sign, flow_place_laid, block_place_laid, place_laid, anchor_laid, handle_laid, spelling_laid, tag_laid, properties_laid, alias_laid, separation_laid, Brackets, empty_or_comma, end_laid, Standing, line_ended, laid_if, closing_mark_laid, version_word, version_laid, tag_directive_laid, tag_directives_laid, has_directives, is_explicit, document_mark_laid, document_start_laid}
 use Rattle.yaml_base.proofs.TagLaws.{IsHandle, handle_form, AreFound, spelling_is}
 use Rattle.yaml_scalar.proofs.LineTexts.{any_both, any_cond, any_one}
 use Rattle.yaml_scalar.proofs.Sparing.{Spares, is_graph, lacks_graph, lacks_line}
-use Rattle.yaml_emitter.proofs.CanonicalNames.{IsName, is_written, all_written, escaped-written, suffix-written, prefix-written, alphas-written, handle_text}
+use Rattle.yaml_emitter.proofs.CanonicalNames.{is_written, all_written, escaped-written, suffix-written, prefix-written, alphas-written, handle_text}
 use Rattle.yaml_emitter.proofs.CanonicalPlaces.{AnchorOk}
 
 -- what stands in a tag is printable ASCII
@@ -152,7 +153,8 @@ module _ (test : ℕ → Bool) (spares : Spares test) where
       (λ after. lacks_percent tag))
       (λ after. lacks_sign (codes ">") false false false after refl))
       (λ handle prefix c suffix f g whole.
-      lacks_then (handle_laid handle cursor) (name_laid (suffix_escaped portable (c ∷ suffix))) (lacks_handle handle cursor (graph_handle handle (handle_form handle f)))
+      lacks_then (handle_laid handle cursor) (name_laid (suffix_escaped portable (c ∷ suffix)))
+      (lacks_handle handle cursor (graph_handle handle (handle_form handle f)))
       (λ after. lacks_suffix portable (c ∷ suffix)))
 
   -- a tag that is written, or the bare tag
@@ -163,11 +165,13 @@ module _ (test : ℕ → Bool) (spares : Spares test) where
   lacks_tag portable own directives None false cursor found = refl
 
   -- the anchor and the tag
-  pub lacks_properties : (portable : Bool) (own directives : List TagDirective) (anchor tag : Option Text) (bare : Bool) (cursor : Cursor) → AreFound own directives
+  pub lacks_properties : (portable : Bool) (own directives : List TagDirective) (anchor tag : Option Text) (bare : Bool) (cursor : Cursor)
+      → AreFound own directives
       → AnchorOk anchor
       → Lacks (properties_laid portable directives anchor tag bare cursor)
   lacks_properties portable own directives anchor tag bare cursor found ok =
-      lacks_then (anchor_laid anchor cursor) (tag_laid portable directives tag bare) (lacks_anchor anchor cursor ok) (λ after. lacks_tag portable own directives tag bare after found)
+      lacks_then (anchor_laid anchor cursor) (tag_laid portable directives tag bare) (lacks_anchor anchor cursor ok)
+      (λ after. lacks_tag portable own directives tag bare after found)
 
   -- an alias
   pub lacks_alias : (name : Text) (simple : Bool) (cursor : Cursor) → list_all is_alpha name ≡ true → Lacks (alias_laid name simple cursor)
@@ -207,7 +211,7 @@ module _ (test : ℕ → Bool) (spares : Spares test) where
   -- Documents
 
   -- a word of a line of its own
-  lacks_word : (sign : Text) (cursor : Cursor) → list_all is_graph sign ≡ true → Lacks (sign_laid sign cursor)
+  lacks_word : (sign : Text) (cursor : Cursor) → list_all is_graph sign ≡ true → Lacks (indicator_laid (spaced sign) cursor)
   lacks_word sign cursor h = lacks_sign sign true false false cursor h
 
   -- a line and its break
@@ -221,45 +225,49 @@ module _ (test : ℕ → Bool) (spares : Spares test) where
 
   -- `...` on a line of its own
   pub lacks_closing : (cursor : Cursor) → Lacks (closing_mark_laid cursor)
-  lacks_closing cursor = lacks_ended (sign_laid (codes "...") cursor) (lacks_word (codes "...") cursor refl)
+  lacks_closing cursor = lacks_ended (indicator_laid document_end cursor) (lacks_word (codes "...") cursor refl)
 
   -- the number of a version
-  lacks_number : (b : Bool) → list_all is_graph (if b then codes "1.2" else codes "1.1") ≡ true
-  lacks_number true = refl
-  lacks_number false = refl
+  lacks_number : (b : Bool) (cursor : Cursor) → Lacks (indicator_laid (if b then version_1_2 else version_1_1) cursor)
+  lacks_number true cursor = lacks_word (codes "1.2") cursor refl
+  lacks_number false cursor = lacks_word (codes "1.1") cursor refl
 
   -- a `%YAML` line
   lacks_version : (version : Option Version) (cursor : Cursor) → Lacks (version_laid version cursor)
   lacks_version None cursor = refl
   lacks_version (Some version) cursor =
-      lacks_ended (then_laid (sign_laid (codes "%YAML") cursor) (sign_laid (version_text version)))
-      (lacks_then (sign_laid (codes "%YAML") cursor) (sign_laid (version_text version)) (lacks_word (codes "%YAML") cursor refl)
-      (λ after. lacks_word (version_text version) after (lacks_number _)))
+      lacks_ended (then_laid (indicator_laid yaml_directive cursor) (indicator_laid (version_word version)))
+      (lacks_then (indicator_laid yaml_directive cursor) (indicator_laid (version_word version)) (lacks_word (codes "%YAML") cursor refl)
+      (λ after. lacks_number _ after))
 
   -- a `%TAG` line
-  lacks_directive : (portable : Bool) (directive : TagDirective) (cursor : Cursor) → IsHandle directive.handle → Lacks (tag_directive_laid portable directive cursor)
+  lacks_directive : (portable : Bool) (directive : TagDirective) (cursor : Cursor) → IsHandle directive.handle
+      → Lacks (tag_directive_laid portable directive cursor)
   lacks_directive portable directive cursor h =
-      let sign = sign_laid (codes "%TAG") cursor in
+      let sign = indicator_laid tag_directive cursor in
       let handle = then_laid sign (handle_laid directive.handle) in
       lacks_ended (then_laid handle (handle_laid (prefix_escaped portable directive.prefix)))
       (lacks_then handle (handle_laid (prefix_escaped portable directive.prefix))
       (lacks_then sign (handle_laid directive.handle) (lacks_word (codes "%TAG") cursor refl)
       (λ after. lacks_handle directive.handle after (graph_handle directive.handle h)))
-      (λ after. any_both test (space_if true after) (prefix_escaped portable directive.prefix) (lacks_space true after) (lacks_prefix portable directive.prefix)))
+      (λ after. any_both test (space_if true after) (prefix_escaped portable directive.prefix) (lacks_space true after)
+      (lacks_prefix portable directive.prefix)))
 
   -- all of them
-  lacks_directives : (portable : Bool) (own directives : List TagDirective) (cursor : Cursor) → AreFound own directives → Lacks (tag_directives_laid portable directives cursor)
+  lacks_directives : (portable : Bool) (own directives : List TagDirective) (cursor : Cursor) → AreFound own directives
+      → Lacks (tag_directives_laid portable directives cursor)
   lacks_directives portable own [] cursor found = refl
   lacks_directives portable own (directive ∷ rest) cursor found =
-      lacks_then (tag_directive_laid portable directive cursor) (tag_directives_laid portable rest) (lacks_directive portable directive cursor (handle_form directive.handle found.0))
+      lacks_then (tag_directive_laid portable directive cursor) (tag_directives_laid portable rest)
+      (lacks_directive portable directive cursor (handle_form directive.handle found.0))
       (λ after. lacks_directives portable own rest after found.2)
 
   -- `---`
   lacks_mark : (canonical : Bool) (cursor : Cursor) → Lacks (document_mark_laid canonical cursor)
   lacks_mark canonical cursor =
       let line = new_line 0 cursor in
-      lacks_then (then_laid line (sign_laid (codes "---"))) (laid_if canonical (new_line 0))
-      (lacks_then line (sign_laid (codes "---")) (lacks_line test spares 0 cursor) (λ after. lacks_word (codes "---") after refl))
+      lacks_then (then_laid line (indicator_laid document_start)) (laid_if canonical (new_line 0))
+      (lacks_then line (indicator_laid document_start) (lacks_line test spares 0 cursor) (λ after. lacks_word (codes "---") after refl))
       (λ after. lacks_if canonical (new_line 0) after (lacks_line test spares 0 after))
 
   -- a document's start
@@ -272,6 +280,7 @@ module _ (test : ℕ → Bool) (spares : Spares test) where
       let directed = then_laid versioned (tag_directives_laid s.portable start.directives) in
       lacks_then directed (laid_if (is_explicit (s.canonical || s.portable) first start) (document_mark_laid s.canonical))
       (lacks_then versioned (tag_directives_laid s.portable start.directives)
-      (lacks_then closed (version_laid start.version) (lacks_if was_open closing_mark_laid standing.cursor (lacks_closing standing.cursor)) (lacks_version start.version))
+      (lacks_then closed (version_laid start.version) (lacks_if was_open closing_mark_laid standing.cursor (lacks_closing standing.cursor))
+      (lacks_version start.version))
       (λ after. lacks_directives s.portable own start.directives after found))
       (λ after. lacks_if (is_explicit (s.canonical || s.portable) first start) (document_mark_laid s.canonical) after (lacks_mark s.canonical after))

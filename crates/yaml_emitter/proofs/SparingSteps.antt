@@ -1,19 +1,18 @@
 -- The pieces of a stream's events hold no character that meets a test which spares printable ASCII and LF, where no body that a
 -- value allows does.
-use Rattle.std.proofs.Common.{◌≡◌, refl, ap, ◌∙◌, ℕ, [], ◌∷◌, ◌++◌, Bool, true, false}
+use Rattle.std.proofs.Common.{◌≡◌, refl, ℕ, [], ◌∷◌, ◌++◌, Bool, true, false}
 use Rattle.std.proofs.lemmas.Bool.{and_parts}
-use Rattle.std.specs.Option.{option_or}
-use Rattle.std.specs.Prelude.{Option, None, Some, List, ◌==◌, ◌&&◌, not, is_some, option_and_then, codes, if◌then◌else◌}
+use Rattle.std.specs.Prelude.{Option, None, List, ◌==◌, ◌&&◌, not, is_some, option_and_then, if◌then◌else◌}
 use Rattle.std.specs.List.{list_all, list_any}
 use Rattle.yaml_base.specs.Analysis.{allowances, is_empty}
 use Rattle.yaml_base.specs.Characters.{Text, is_alpha}
-use Rattle.yaml_base.specs.Cursor.{Cursor, Laid, nothing_laid, then_laid, new_line}
+use Rattle.yaml_base.specs.Cursor.{Cursor, Laid, then_laid, new_line}
 use Rattle.yaml_base.specs.Event.{ScalarStyle, TagDirective, Scalar, Collection, Event, stream_start, stream_end, document_start, document_end, alias, scalar, sequence_start, sequence_end, mapping_start, mapping_end}
-use Rattle.yaml_base.specs.Layout.{Place, Piece, piece_text, text_of, Standing, deeper, body_laid, choice_of, scalar_lead, scalar_piece, place_laid, properties_laid, separation_laid, alias_laid, alias_piece, start_piece, Brackets, square, curly, end_laid, end_piece, laid_if, closing_mark_laid, is_key, is_simple_alias, document_start_laid, document_start_piece, document_end_piece, stream_end_piece}
-use Rattle.yaml_base.specs.Refusal.{is_sound, name_or_tag_fault, content_fault, properties_fault, scalar_tag, collection_tag}
+use Rattle.yaml_base.specs.Layout.{Place, Piece, piece_text, text_of, Standing, deeper, body_laid, choice_of, scalar_lead, scalar_piece, place_laid, properties_laid, separation_laid, alias_laid, start_piece, Brackets, square, curly, end_laid, end_piece, laid_if, closing_mark_laid, is_key, is_simple_alias, document_start_laid, document_end_piece}
+use Rattle.yaml_base.specs.Refusal.{is_sound, name_or_tag_fault, content_fault, scalar_tag, collection_tag}
 use Rattle.yaml_base.specs.Settings.{Effective}
-use Rattle.yaml_base.specs.Steps.{Frame, Stage, at_stream, at_document, at_node, at_document_end, at_nothing, next_place, stage_after, is_first, step, node_step, ends_next, steps}
-use Rattle.yaml_base.specs.Tags.{anchor_fault, anchor_empty, anchor_alphabet, alias_empty, alias_alphabet, tag_fault, version_fault, directives_fault, directives_in_force}
+use Rattle.yaml_base.specs.Steps.{Frame, Stage, at_stream, at_document, at_node, at_document_end, next_place, stage_after, is_first, step, node_step, ends_next, steps}
+use Rattle.yaml_base.specs.Tags.{alias_empty, alias_alphabet, version_fault, directives_fault}
 use Rattle.yaml_base.proofs.TagLaws.{AreFound, in_force_found}
 use Rattle.yaml_scalar.proofs.LineTexts.{any_both}
 use Rattle.yaml_scalar.proofs.Sparing.{Spares, lacks_line}
@@ -115,7 +114,8 @@ module _ (s : Effective) (test : ℕ → Bool) (spared : Spared s test) where
       let lead = scalar_lead s directives place simple choice content standing.cursor in
       any_both test lead.text _
       (lacks_then test spared.spares named (separation_laid choice.style place.in_flow content.value)
-      (lacks_then test spared.spares placed (properties_laid s.portable directives content.anchor tag choice.bare) (lacks_place test spared.spares s place simple standing.cursor)
+      (lacks_then test spared.spares placed (properties_laid s.portable directives content.anchor tag choice.bare)
+      (lacks_place test spared.spares s place simple standing.cursor)
       (λ after. lacks_properties test spared.spares s.portable found.0 directives content.anchor tag choice.bare after found.1 ok))
       (λ after. lacks_separation test spared.spares choice.style place.in_flow content.value after))
       (spared.bodies place choice.style (if simple then None else s.width) content.value lead.cursor
@@ -129,7 +129,8 @@ module _ (s : Effective) (test : ℕ → Bool) (spared : Spared s test) where
       let placed = place_laid s place simple standing.cursor in
       let tag = collection_tag s.canonical start in
       lacks_alone (then_laid placed (properties_laid s.portable directives start.anchor tag false))
-      (lacks_then test spared.spares placed (properties_laid s.portable directives start.anchor tag false) (lacks_place test spared.spares s place simple standing.cursor)
+      (lacks_then test spared.spares placed (properties_laid s.portable directives start.anchor tag false)
+      (lacks_place test spared.spares s place simple standing.cursor)
       (λ after. lacks_properties test spared.spares s.portable found.0 directives start.anchor tag false after found.1 ok))
 
   -- a collection's end
@@ -145,7 +146,8 @@ module _ (s : Effective) (test : ℕ → Bool) (spared : Spared s test) where
       let place = next_place frames in
       let simple = is_key place.role && (not s.canonical && is_simple_alias name) in
       lacks_alone (then_laid (place_laid s place simple standing.cursor) (alias_laid name simple))
-      (lacks_then test spared.spares (place_laid s place simple standing.cursor) (alias_laid name simple) (lacks_place test spared.spares s place simple standing.cursor)
+      (lacks_then test spared.spares (place_laid s place simple standing.cursor) (alias_laid name simple)
+      (lacks_place test spared.spares s place simple standing.cursor)
       (λ after. lacks_alias test spared.spares name simple after ok))
   lacks_node_step directives frames (scalar content) empty standing found ok = lacks_scalar directives (next_place frames) _ content standing found ok
   lacks_node_step directives frames (sequence_start start) empty standing found ok = lacks_start directives (next_place frames) _ start standing found ok
@@ -165,7 +167,8 @@ module _ (s : Effective) (test : ℕ → Bool) (spared : Spared s test) where
   lacks_document_end true standing = lacks_alone (new_line 0 standing.cursor) (lacks_line test spared.spares 0 standing.cursor)
   lacks_document_end false standing =
       lacks_alone (then_laid (new_line 0 standing.cursor) closing_mark_laid)
-      (lacks_then test spared.spares (new_line 0 standing.cursor) closing_mark_laid (lacks_line test spared.spares 0 standing.cursor) (lacks_closing test spared.spares))
+      (lacks_then test spared.spares (new_line 0 standing.cursor) closing_mark_laid (lacks_line test spared.spares 0 standing.cursor)
+      (lacks_closing test spared.spares))
 
   -- an event at any stage
   lacks_step : (stage : Stage) (event : Event) (empty : Bool) (standing : Standing) → StageFound stage → NamesOk event

@@ -1,24 +1,23 @@
 -- An emitter stands after its events: as one more comes, as each that is ready is written, and when no more is ready.
 use Rattle.std.proofs.Common.{◌≡◌, refl, sym, ap, ◌∙◌, subst, arith, append_assoc, append-nil, inl}
-use Rattle.std.proofs.lemmas.List.{take-append-drop, length-take-le, length-append, take_at, drop_at}
+use Rattle.std.proofs.lemmas.List.{take-append-drop, length-take-le}
 use Rattle.std.proofs.lemmas.List.Concat.{flat_map-append}
-use Rattle.std.specs.Prelude.{suc, ◌+◌, ◌≤◌, Bool, true, false, ◌&&◌, Option, None, Some, Result, Ok, List, [], ◌∷◌, ◌++◌, length, take, drop, option_and_then, if◌then◌else◌}
+use Rattle.std.specs.Prelude.{◌+◌, Bool, true, false, ◌&&◌, Option, None, Some, Result, Ok, List, [], ◌∷◌, ◌++◌, length, take, option_and_then}
 use Rattle.yaml_base.specs.Settings.{Encoding, Settings, Effective, effective}
 use Rattle.yaml_base.specs.LineBreaks.{with_breaks_written}
 use Rattle.yaml_base.specs.Cursor.{Cursor, Laid}
-use Rattle.yaml_base.specs.Event.{Event, stream_start, document_start, sequence_start, sequence_end, mapping_start, mapping_end}
+use Rattle.yaml_base.specs.Event.{Event, stream_start, sequence_start, sequence_end, mapping_start, mapping_end}
 use Rattle.yaml_base.specs.Grammar.{at_item, at_key, at_value, Partial, before_stream, within_document, push, pushed, partial_of}
 use Rattle.yaml_base.specs.Refusal.{begins_collection, ends_collection, BeginsAccepted, refusal}
-use Rattle.yaml_base.specs.Ready.{is_ready, written, awaited, held_back}
+use Rattle.yaml_base.specs.Ready.{written, held_back}
 use Rattle.yaml_base.specs.Layout.{Piece, Standing, first_standing, piece_text, text_of, stream_start_piece}
 use Rattle.yaml_base.specs.Steps.{at_stream, Stepped, Steps, step, steps, progress, stage_refusal}
 use Rattle.yaml_base.specs.Pieces.{begins_last, ends_first}
-use Rattle.yaml_base.specs.Output.{encoding_asked, settings_for, text_written, hands_out, hands_out_last}
+use Rattle.yaml_base.specs.Output.{encoding_asked, settings_for, text_written, hands_out_last}
 use Rattle.yaml_base.specs.declared.errors.yaml_error_t.{yaml_error_t}
 use Rattle.yaml_base.proofs.Accepted.{stands_from_begins, refused_exactly}
-use Rattle.yaml_base.proofs.Completions.{pushed-append}
 use Rattle.yaml_base.proofs.Pushes.{partial_of_events}
-use Rattle.yaml_base.proofs.QueueLaws.{written_within, open_at_written, no_end_held, held_is_short}
+use Rattle.yaml_base.proofs.QueueLaws.{written_within, open_at_written}
 use Rattle.yaml_base.proofs.Progress.{written-append}
 use Rattle.yaml_base.proofs.PieceLaws.{steps-append, steps_same}
 use Rattle.yaml_base.proofs.Stages.{stage_refusal_after}
@@ -26,8 +25,7 @@ use Rattle.yaml_pen.specs.Page.{Page, encoded, new_page}
 use Rattle.yaml_pen.specs.Wrote.{Wrote, named_text}
 use Rattle.yaml_pen.proofs.Composing.{with_breaks_written-append, wrote_all, wrote_no_error}
 use Rattle.yaml_emitter.specs.State.{State, standing_of}
-use Rattle.yaml_emitter.specs.Queue.{is_head_ready}
-use Rattle.yaml_emitter.specs.Processing.{closes_at_once, event_stepped, event_laid, refusal_now, WritesPage, Written, Processed}
+use Rattle.yaml_emitter.specs.Processing.{closes_at_once, event_laid, refusal_now, WritesPage, Written}
 use Rattle.yaml_emitter.specs.StandsAfter.{IsPage, HoldsPieces, IsSettled, HasTaken, StandsWell, closes_last, Reached}
 
 -- Settings are those of the first event.
@@ -35,11 +33,13 @@ asked_more : (event : Event) (rest more : List Event) → encoding_asked (event 
 asked_more (stream_start encoding) rest more = refl
 asked_more event rest more = refl
 
-settings_front : (given : Settings) (event : Event) (front rest all : List Event) → (event ∷ front) ++ rest ≡ all → settings_for given all ≡ settings_for given (event ∷ front)
+settings_front : (given : Settings) (event : Event) (front rest all : List Event) → (event ∷ front) ++ rest ≡ all
+    → settings_for given all ≡ settings_for given (event ∷ front)
 settings_front given event front rest all parts =
     ap (settings_for given) (sym parts) ∙ ap (effective given) (asked_more event front rest)
 
-pub settings_grown : (given : Settings) (event : Event) (front rest all more : List Event) → (event ∷ front) ++ rest ≡ all → settings_for given (all ++ more) ≡ settings_for given all
+pub settings_grown : (given : Settings) (event : Event) (front rest all more : List Event) → (event ∷ front) ++ rest ≡ all
+    → settings_for given (all ++ more) ≡ settings_for given all
 settings_grown given event front rest all more parts =
     settings_front given event front (rest ++ more) (all ++ more) (sym (append_assoc (event ∷ front) rest more) ∙ ap (λ events. events ++ more) parts)
     ∙ sym (settings_front given event front rest all parts)
@@ -74,7 +74,8 @@ open_last (event ∷ []) rest h = open_one event rest h
 open_last (event ∷ next ∷ more) rest h = open_last (next ∷ more) rest h
 
 -- What is written hangs on what is set, on the page and on what comes next.
-pub settled_same : (s : Effective) (front : List Event) (before after : State) → after.settings ≡ before.settings → IsSettled s front before → IsSettled s front after
+pub settled_same : (s : Effective) (front : List Event) (before after : State) → after.settings ≡ before.settings → IsSettled s front before
+    → IsSettled s front after
 settled_same s [] before after same h = tt
 settled_same s (event ∷ front) before after same h = same ∙ h
 
@@ -97,7 +98,8 @@ taken_same given all front taken before after is_given is_settings is_stage is_m
 
 -- The first of a call: an event comes to those that are held.
 pub reached_first : (given : Settings) (all : List Event) (event : Event) (state : State) → StandsWell given all state → state.error ≡ None
-    → Reached given (all ++ event ∷ []) (take (written all) all) (held_back all ++ event ∷ []) (record state { started = true; held = state.held ++ event ∷ [] })
+    → Reached given (all ++ event ∷ []) (take (written all) all) (held_back all ++ event ∷ [])
+    (record state { started = true; held = state.held ++ event ∷ [] })
 reached_first given all event state h none =
     let front = take (written all) all in
     let more = event ∷ [] in
@@ -112,8 +114,10 @@ reached_first given all event state h none =
       no_error = none;
       ready = written-append all more ∙ ap (λ n. n + written (held ++ more)) (sym count);
       taken =
-          subst (λ follows. HasTaken given (all ++ more) front (steps (settings_for given (all ++ more)) follows front at_stream first_standing) now) (sym opens)
-          (taken_grown front held all more given false now whole (taken_same given all front (progress (settings_for given all) all) state now refl refl refl refl refl h.taken));
+          subst (λ follows. HasTaken given (all ++ more) front (steps (settings_for given (all ++ more)) follows front at_stream first_standing) now)
+          (sym opens)
+          (taken_grown front held all more given false now whole
+          (taken_same given all front (progress (settings_for given all) all) state now refl refl refl refl refl h.taken));
     }
 
 -- An event that is written after a front.
@@ -123,18 +127,18 @@ abbrev IsStreamStart : Event → Type 0
 IsStreamStart (stream_start encoding) = Unit {0}
 IsStreamStart _ = ⊥
 
-abbrev IsLater : Event → Type 0
+abbrev pub IsLater : Event → Type 0
 IsLater (stream_start encoding) = ⊥
 IsLater _ = Unit {0}
 
-starts_only : (event : Event) (q : Partial) → pushed before_stream (event ∷ []) ≡ Some q → IsStreamStart event
+pub starts_only : (event : Event) (q : Partial) → pushed before_stream (event ∷ []) ≡ Some q → IsStreamStart event
 starts_only (stream_start encoding) q h = tt
 starts_only event q h = cc
 
-not_begun : (x : Event) (front : List Event) → partial_of (x ∷ front) ≡ Some before_stream → ⊥
+pub not_begun : (x : Event) (front : List Event) → partial_of (x ∷ front) ≡ Some before_stream → ⊥
 not_begun x front h = let events : [] ≡ x ∷ front = partial_of_events (x ∷ front) before_stream h in cc
 
-pushes_later : (event : Event) (p q : Partial) → (p ≡ before_stream → ⊥) → pushed p (event ∷ []) ≡ Some q → IsLater event
+pub pushes_later : (event : Event) (p q : Partial) → (p ≡ before_stream → ⊥) → pushed p (event ∷ []) ≡ Some q → IsLater event
 pushes_later (stream_start encoding) before_stream q begun h = begun refl
 pushes_later (stream_start encoding) (within_document e d s []) q begun h = cc
 pushes_later (stream_start encoding) (within_document e d s (at_item c items ∷ levels)) q begun h = cc
@@ -144,7 +148,8 @@ pushes_later (stream_start encoding) p q begun h = cc
 pushes_later event p q begun h = tt
 
 -- An accepted end after a collection's start is that collection's own.
-own_end_one : (event next : Event) (rest : List Event) (p q : Partial) → pushed p (event ∷ next ∷ []) ≡ Some q → begins_collection event ≡ true → closes_at_once event (next ∷ rest) ≡ ends_collection next
+own_end_one : (event next : Event) (rest : List Event) (p q : Partial) → pushed p (event ∷ next ∷ []) ≡ Some q → begins_collection event ≡ true
+    → closes_at_once event (next ∷ rest) ≡ ends_collection next
 own_end_one (sequence_start c) mapping_end rest (within_document e d s levels) q h begins = cc
 own_end_one (mapping_start c) sequence_end rest (within_document e d s levels) q h begins = cc
 own_end_one (sequence_start c) mapping_end rest p q h begins = cc
@@ -154,9 +159,11 @@ own_end_one (mapping_start c) next rest p q h begins = refl
 own_end_one event next rest p q h begins = cc
 
 abbrev pub OwnEnd : List Event → Event → List Event → Type 0
-OwnEnd front next rest = (p q : Partial) → pushed p (front ++ next ∷ []) ≡ Some q → begins_last front ≡ true → closes_last front (next ∷ rest) ≡ ends_collection next
+OwnEnd front next rest = (p q : Partial) → pushed p (front ++ next ∷ []) ≡ Some q → begins_last front ≡ true
+    → closes_last front (next ∷ rest) ≡ ends_collection next
 
-own_end_later : (front : List Event) (next : Event) (rest : List Event) → OwnEnd front next rest → (made : Option Partial) (q : Partial) → option_and_then (λ r. pushed r (front ++ next ∷ [])) made ≡ Some q → begins_last front ≡ true → closes_last front (next ∷ rest) ≡ ends_collection next
+own_end_later : (front : List Event) (next : Event) (rest : List Event) → OwnEnd front next rest → (made : Option Partial) (q : Partial)
+    → option_and_then (λ r. pushed r (front ++ next ∷ [])) made ≡ Some q → begins_last front ≡ true → closes_last front (next ∷ rest) ≡ ends_collection next
 own_end_later front next rest others None q h begins = cc
 own_end_later front next rest others (Some r) q h begins = others r q h begins
 
@@ -166,7 +173,8 @@ own_end (event ∷ []) next rest p q h begins = own_end_one event next rest p q 
 own_end (event ∷ other ∷ more) next rest p q h begins = own_end_later (other ∷ more) next rest (own_end (other ∷ more) next rest) (push p event) q h begins
 
 -- So the steps of a front are those with this event behind it.
-pub end_next : (front rest : List Event) (event : Event) (q : Partial) (s : Effective) (last : Bool) → begins_last front ≡ last → partial_of (front ++ event ∷ []) ≡ Some q
+pub end_next : (front rest : List Event) (event : Event) (q : Partial) (s : Effective) (last : Bool) → begins_last front ≡ last
+    → partial_of (front ++ event ∷ []) ≡ Some q
     → steps s (ends_collection event) front at_stream first_standing ≡ steps s (closes_last front (event ∷ rest)) front at_stream first_standing
 end_next front rest event q s false is h = steps_same front s (ends_collection event) (closes_last front (event ∷ rest)) at_stream first_standing is
 end_next front rest event q s true is h = ap (λ follows. steps s follows front at_stream first_standing) (sym (own_end front event rest before_stream q h is))
@@ -175,9 +183,10 @@ end_next front rest event q s true is h = ap (λ follows. steps s follows front 
 abbrev pub one_more : Steps → Stepped → Steps
 one_more before stepped = record { pieces = before.pieces ++ stepped.laid.piece ∷ []; standing = stepped.laid.standing; stage = stepped.stage }
 
-next_steps : (front rest : List Event) (event : Event) (q : Partial) (s : Effective) (empty : Bool) → partial_of (front ++ event ∷ []) ≡ Some q
+pub next_steps : (front rest : List Event) (event : Event) (q : Partial) (s : Effective) (empty : Bool) → partial_of (front ++ event ∷ []) ≡ Some q
     → steps s empty (front ++ event ∷ []) at_stream first_standing
-    ≡ (let before = steps s (closes_last front (event ∷ rest)) front at_stream first_standing in one_more before (step s before.stage event empty before.standing))
+    ≡ (let before = steps s (closes_last front (event ∷ rest)) front at_stream first_standing in
+    one_more before (step s before.stage event empty before.standing))
 next_steps front rest event q s empty h =
     steps-append front (event ∷ []) s empty at_stream first_standing
     ∙ ap (λ (before : Steps). one_more before (step s before.stage event empty before.standing)) (end_next front rest event q s (begins_last front) refl h)
@@ -207,7 +216,8 @@ pub text_written-one : (s : Effective) (piece : Piece) → text_written s (piece
 text_written-one s piece = ap (with_breaks_written s.line_break) (append-nil (piece_text piece))
 
 -- A page that is written on.
-pub is_page_wrote : {s : Effective} {lay : Cursor → Laid} {before after : Page} {answer : Result (Unit {0}) yaml_error_t} → IsPage s before → Wrote lay before after answer → IsPage s after
+pub is_page_wrote : {s : Effective} {lay : Cursor → Laid} {before after : Page} {answer : Result (Unit {0}) yaml_error_t} → IsPage s before
+    → Wrote lay before after answer → IsPage s after
 is_page_wrote h wrote =
     record {
       encoding = wrote.settings.encoding ∙ h.encoding;
@@ -226,13 +236,14 @@ named_more s x front pieces piece lay before h is =
     ∙ ap (λ text. text_written s pieces ++ with_breaks_written s.line_break text) (sym is)
     ∙ sym (text_written-append s pieces (piece ∷ []) ∙ ap (λ text. text_written s pieces ++ text) (text_written-one s piece))
 
-page_more : (s : Effective) (x : Event) (front : List Event) (pieces : List Piece) (piece : Piece) (lay : Cursor → Laid) (before after : Page)
+pub page_more : (s : Effective) (x : Event) (front : List Event) (pieces : List Piece) (piece : Piece) (lay : Cursor → Laid) (before after : Page)
     → HoldsPieces s (x ∷ front) pieces before → Wrote lay before after (Ok tt) → piece_text piece ≡ (lay before.cursor).text
     → HoldsPieces s (x ∷ front) (pieces ++ piece ∷ []) after
 page_more s x front pieces piece lay before after h wrote is =
     (is_page_wrote h.0 wrote, (wrote_all wrote).text ∙ named_more s x front pieces piece lay before h is, wrote_no_error wrote)
 
-writes_later : (event : Event) (empty : Bool) (before after : State) → IsLater event → WritesPage event empty before after → (after.settings ≡ before.settings) × Wrote (event_laid before event empty) before.page after.page (Ok tt)
+pub writes_later : (event : Event) (empty : Bool) (before after : State) → IsLater event → WritesPage event empty before after → (after.settings ≡ before.settings)
+    × Wrote (event_laid before event empty) before.page after.page (Ok tt)
 writes_later (stream_start encoding) empty before after later h = absurd later
 writes_later event empty before after later h = h
 
@@ -240,7 +251,8 @@ writes_later event empty before after later h = h
 abbrev page_begun : Effective → Page → Page
 page_begun s page = record page { encoding = Some s.encoding; line_break = s.line_break; mark_due = false }
 
-page_started : (s : Effective) (encoding : Option Encoding) → HoldsPieces s (stream_start encoding ∷ []) ((stream_start_piece first_standing).piece ∷ []) (page_begun s (new_page s.limit))
+page_started : (s : Effective) (encoding : Option Encoding)
+    → HoldsPieces s (stream_start encoding ∷ []) ((stream_start_piece first_standing).piece ∷ []) (page_begun s (new_page s.limit))
 page_started s encoding = (
   record {
     encoding = refl;
@@ -253,7 +265,7 @@ page_started s encoding = (
   refl,
 )
 
-taken_first : (event : Event) (rest : List Event) (given : Settings) (empty : Bool) (before after : State)
+pub taken_first : (event : Event) (rest : List Event) (given : Settings) (empty : Bool) (before after : State)
     → IsStreamStart event
     → HasTaken given (event ∷ rest) [] (steps (settings_for given (event ∷ rest)) false [] at_stream first_standing) before
     → BeginsAccepted given.canonical (event ∷ [])
@@ -281,140 +293,3 @@ taken_first (stream_start encoding) rest given empty before after start h begun 
       handed_out = λ hands. cc;
     }
 taken_first event rest given empty before after start h begun done = absurd start
-
--- Any later event: its piece is the next.
-pub stepped_steps : (given : Settings) (all : List Event) (x : Event) (front rest : List Event) (event : Event) (q : Partial) (before : State)
-    → HasTaken given all (x ∷ front) (steps (settings_for given all) (closes_last (x ∷ front) (event ∷ rest)) (x ∷ front) at_stream first_standing) before
-    → partial_of ((x ∷ front) ++ event ∷ []) ≡ Some q
-    → steps (settings_for given all) (closes_at_once event rest) ((x ∷ front) ++ event ∷ []) at_stream first_standing
-    ≡ one_more (steps (settings_for given all) (closes_last (x ∷ front) (event ∷ rest)) (x ∷ front) at_stream first_standing) (event_stepped before event (closes_at_once event rest))
-stepped_steps given all x front rest event q before h pushes =
-    let s = settings_for given all in
-    let empty = closes_at_once event rest in
-    let taken = steps s (closes_last (x ∷ front) (event ∷ rest)) (x ∷ front) at_stream first_standing in
-    let same : event_stepped before event empty ≡ step s taken.stage event empty taken.standing =
-    ap (λ settings. step settings before.stage event empty (standing_of before)) h.settled
-    ∙ ap (λ stage. step s stage event empty (standing_of before)) h.stage
-    ∙ ap (λ standing. step s taken.stage event empty standing) h.standing in
-    next_steps (x ∷ front) rest event q s empty pushes ∙ ap (one_more taken) (sym same)
-
-hands_out_last-append : (front : List Event) (event : Event) → hands_out_last (front ++ event ∷ []) ≡ hands_out event
-hands_out_last-append [] event = refl
-hands_out_last-append (x ∷ []) event = refl
-hands_out_last-append (x ∷ y ∷ more) event = hands_out_last-append (y ∷ more) event
-
-taken_later : (given : Settings) (all : List Event) (x : Event) (front rest : List Event) (event : Event) (q : Partial) (before after : State)
-    → IsLater event
-    → HasTaken given all (x ∷ front) (steps (settings_for given all) (closes_last (x ∷ front) (event ∷ rest)) (x ∷ front) at_stream first_standing) before
-    → partial_of ((x ∷ front) ++ event ∷ []) ≡ Some q
-    → BeginsAccepted given.canonical ((x ∷ front) ++ event ∷ [])
-    → Written event (closes_at_once event rest) before after
-    → HasTaken given all ((x ∷ front) ++ event ∷ []) (steps (settings_for given all) (closes_at_once event rest) ((x ∷ front) ++ event ∷ []) at_stream first_standing) after
-taken_later given all x front rest event q before after later h pushes begun done =
-    let s = settings_for given all in
-    let empty = closes_at_once event rest in
-    let taken = steps s (closes_last (x ∷ front) (event ∷ rest)) (x ∷ front) at_stream first_standing in
-    let stepped = event_stepped before event empty in
-    let wrote = writes_later event empty before after later done.page in
-    let whole : steps s empty ((x ∷ front) ++ event ∷ []) at_stream first_standing ≡ one_more taken stepped =
-    stepped_steps given all x front rest event q before h pushes in
-    subst (λ steps. HasTaken given all ((x ∷ front) ++ event ∷ []) steps after) (sym whole)
-    (record {
-      given_kept = ap (λ (s : State). s.given) done.kept ∙ h.given_kept;
-      settled = wrote.0 ∙ h.settled;
-      stands = begun;
-      stage = done.stage;
-      standing =
-          ap (λ cursor. let made : Standing = record { cursor = cursor; mark = after.mark } in made) (wrote_all wrote.1).cursor
-          ∙ ap (λ mark. let made : Standing = record { cursor = stepped.laid.standing.cursor; mark = mark } in made) done.mark;
-      page = page_more s x front taken.pieces stepped.laid.piece (event_laid before event empty) before.page after.page h.page wrote.1 refl;
-      handed_out = λ hands. done.handed_out (sym (hands_out_last-append (x ∷ front) event) ∙ hands);
-    })
-
-taken_next : (front rest : List Event) (given : Settings) (all : List Event) (event : Event) (q : Partial) (before after : State) → front ++ event ∷ rest ≡ all
-    → HasTaken given all front (steps (settings_for given all) (closes_last front (event ∷ rest)) front at_stream first_standing) before
-    → partial_of (front ++ event ∷ []) ≡ Some q
-    → BeginsAccepted given.canonical (front ++ event ∷ [])
-    → Written event (closes_at_once event rest) before after
-    → HasTaken given all (front ++ event ∷ []) (steps (settings_for given all) (closes_at_once event rest) (front ++ event ∷ []) at_stream first_standing) after
-taken_next [] rest given all event q before after parts h pushes begun done =
-    let empty = closes_at_once event rest in
-    subst (λ all. HasTaken given all (event ∷ []) (steps (settings_for given all) empty (event ∷ []) at_stream first_standing) after) parts
-    (taken_first event rest given empty before after (starts_only event q pushes)
-    (subst (λ all. HasTaken given all [] (steps (settings_for given all) false [] at_stream first_standing) before) (sym parts) h)
-    begun done)
-taken_next (x ∷ front) rest given all event q before after parts h pushes begun done =
-    let stands = stands_from_begins given.canonical (x ∷ front) h.stands in
-    let one : pushed stands.partial (event ∷ []) ≡ Some q =
-    ap (λ o. option_and_then (λ r. pushed r (event ∷ [])) o) (sym stands.is_partial)
-    ∙ sym (pushed-append (x ∷ front) (event ∷ []) before_stream)
-    ∙ pushes in
-    let begins : stands.partial ≡ before_stream → ⊥ = (λ same. not_begun x front (stands.is_partial ∙ ap (λ p. Some p) same)) in
-    taken_later given all x front rest event q before after (pushes_later event stands.partial q begins one) h pushes begun done
-
-pub closes_last-append : (front rest : List Event) (event : Event) → closes_last (front ++ event ∷ []) rest ≡ closes_at_once event rest
-closes_last-append [] rest event = refl
-closes_last-append (x ∷ []) rest event = refl
-closes_last-append (x ∷ y ∷ more) rest event = closes_last-append (y ∷ more) rest event
-
--- A ready event is written.
-pub reached_next : (given : Settings) (all front rest : List Event) (event : Event) (before after : State) → Reached given all front (event ∷ rest) before → is_ready event rest ≡ true
-    → Processed event (closes_at_once event rest) (record before { held = rest }) after (Ok tt)
-    → Reached given all (front ++ event ∷ []) rest after
-reached_next given all front rest event before after h is done =
-    let s = settings_for given all in
-    let now = record before { held = rest } in
-    let follows = closes_last front (event ∷ rest) in
-    let taken = taken_same given all front (steps s follows front at_stream first_standing) before now refl refl refl refl refl h.taken in
-    let begun = accepted_next given all front event follows s now taken done.accepted in
-    let stands = stands_from_begins given.canonical (front ++ event ∷ []) begun in
-    let count : written (event ∷ rest) ≡ suc (written rest) = ap (λ b. if b then suc (written rest) else 0) is in
-    record {
-      parts = append_assoc front (event ∷ []) rest ∙ h.parts;
-      held = ap (λ (s : State). s.held) done.kept;
-      no_error = ap (λ (s : State). s.error) done.kept ∙ h.no_error;
-      ready = omega (arith, h.ready, count, length-append front (event ∷ []));
-      taken =
-          subst (λ follows. HasTaken given all (front ++ event ∷ []) (steps s follows (front ++ event ∷ []) at_stream first_standing) after)
-          (sym (closes_last-append front rest event))
-          (taken_next front rest given all event stands.partial now after h.parts taken stands.is_partial begun done);
-    }
-
--- No more is ready.
-pub none_ready : (rest : List Event) → is_head_ready rest ≡ false → written rest ≡ 0
-none_ready [] h = refl
-none_ready (event ∷ rest) h = ap (λ b. if b then suc (written rest) else 0) h
-
-none_ends : (rest : List Event) → is_head_ready rest ≡ false → ends_first rest ≡ false
-none_ends [] h = refl
-none_ends (event ∷ rest) h = no_end_held event rest h
-
-pub awaits_few : (event : Event) → awaited event ≤ 3
-awaits_few (document_start start) = omega arith
-awaits_few (sequence_start start) = omega arith
-awaits_few (mapping_start start) = omega arith
-awaits_few event = omega arith
-
-pub few_held : (rest : List Event) → is_head_ready rest ≡ false → length rest ≤ 3
-few_held [] h = omega arith
-few_held (event ∷ rest) h = omega (arith, held_is_short event rest h, awaits_few event)
-
-and_left_false : (a b : Bool) → b ≡ false → a && b ≡ false
-and_left_false true b h = h
-and_left_false false b h = refl
-
-pub reached_end : (given : Settings) (all front rest : List Event) (state : State) → Reached given all front rest state → is_head_ready rest ≡ false → StandsWell given all state
-reached_end given all front rest state h none =
-    let s = settings_for given all in
-    let count : written all ≡ length front = h.ready ∙ ap (λ n. length front + n) (none_ready rest none) ∙ omega arith in
-    let begins : take (written all) all ≡ front =
-    ap (λ n. take n all) count ∙ ap (take (length front)) (sym h.parts) ∙ take_at front rest (length front) refl in
-    let holds : held_back all ≡ rest =
-    ap (λ n. drop n all) count ∙ ap (drop (length front)) (sym h.parts) ∙ drop_at front rest (length front) refl in
-    let opens : closes_last front rest ≡ false = open_last front rest (and_left_false (begins_last front) (ends_first rest) (none_ends rest none)) in
-    record {
-      taken =
-          subst (λ front. HasTaken given all front (steps s false front at_stream first_standing) state) (sym begins)
-          (subst (λ follows. HasTaken given all front (steps s follows front at_stream first_standing) state) opens h.taken);
-      held = h.held ∙ sym holds;
-    }

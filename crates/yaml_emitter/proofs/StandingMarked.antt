@@ -13,7 +13,8 @@ use Rattle.yaml_emitter.specs.StandsAfter.{HasTaken, IsSettled, StandsRefused, S
 abbrev marked : Bool → Bool → State → State
 marked opened closed state = record state { opened = opened; closed = closed }
 
-settled_marked : (s : Effective) (events : List Event) (state : State) (opened closed : Bool) → IsSettled s events state → IsSettled s events (marked opened closed state)
+settled_marked : (s : Effective) (events : List Event) (state : State) (opened closed : Bool) → IsSettled s events state
+    → IsSettled s events (marked opened closed state)
 settled_marked s [] state opened closed h = tt
 settled_marked s (event ∷ events) state opened closed h = h
 
@@ -77,6 +78,7 @@ stands_by_marked (Some WriteError) given all state opened closed h = (h.0, stopp
 stands_by_marked (Some Memory) given all state opened closed h = (h.0, stopped_marked given all Memory state opened closed h.1)
 stands_by_marked (Some error) given all state opened closed h = (h.0, refused_marked given all error state opened closed h.1)
 
-pub stands_marked : (given : Settings) (all : List Event) (state : State) (opened closed : Bool) → StandsAfter given all state → StandsAfter given all (marked opened closed state)
+pub stands_marked : (given : Settings) (all : List Event) (state : State) (opened closed : Bool) → StandsAfter given all state
+    → StandsAfter given all (marked opened closed state)
 stands_marked given all state opened closed h =
     record { texts = h.texts; so = stands_by_marked state.error given all state opened closed h.so }

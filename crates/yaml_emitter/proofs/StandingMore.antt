@@ -1,7 +1,7 @@
 -- An emitter that failed stands after all events that are still given; a new one and one that was flushed stand too.
 use Rattle.std.proofs.Common.{◌≡◌, refl, sym, ap, ◌∙◌, subst, arith, append_assoc, append-nil, inl, inr}
 use Rattle.std.proofs.lemmas.List.{take-append-drop}
-use Rattle.std.specs.Prelude.{ℕ, zero, suc, ◌<◌, ◌≤◌, ◌⊎◌, Bool, true, false, Option, None, Some, Result, Ok, Err, List, [], ◌∷◌, ◌++◌, length, take, drop, if◌then◌else◌}
+use Rattle.std.specs.Prelude.{ℕ, zero, suc, ◌<◌, ◌≤◌, Bool, true, false, Option, None, Some, Result, Ok, Err, List, [], ◌∷◌, ◌++◌, length, take, drop, if◌then◌else◌}
 use Rattle.yaml_base.specs.Settings.{Settings, Effective}
 use Rattle.yaml_base.specs.Event.{Event, sequence_start, sequence_end, mapping_start, mapping_end}
 use Rattle.yaml_base.specs.Grammar.{before_stream}
@@ -9,7 +9,7 @@ use Rattle.yaml_base.specs.Refusal.{open_count, most_open, BeginsAccepted}
 use Rattle.yaml_base.specs.Ready.{is_ready, written}
 use Rattle.yaml_base.specs.Layout.{Piece, Standing, first_standing}
 use Rattle.yaml_base.specs.Steps.{at_stream, steps, progress}
-use Rattle.yaml_base.specs.Output.{settings_for, text_written}
+use Rattle.yaml_base.specs.Output.{settings_for}
 use Rattle.yaml_base.specs.declared.errors.yaml_error_t.{yaml_error_t}
 use Rattle.yaml_base.specs.declared.errors.yaml_error_t.TheVariants.{WriteError, Memory}
 use Rattle.yaml_base.proofs.Accepted.{begins_from_stands}
@@ -20,7 +20,7 @@ use Rattle.yaml_pen.specs.Wrote.{Flushed}
 use Rattle.yaml_pen.proofs.Writing.{none_from_told}
 use Rattle.yaml_emitter.specs.State.{State}
 use Rattle.yaml_emitter.specs.Processing.{closes_at_once}
-use Rattle.yaml_emitter.specs.StandsAfter.{IsPage, HoldsPieces, HoldsPiecesWith, StandsWell, FailedAt, closes_last, StandsRefused, HoldsCut, StandsCut, StandsUnflushed, StandsStopped, StandsFailed, StandsBy, StandsSo, failed_by}
+use Rattle.yaml_emitter.specs.StandsAfter.{HoldsPieces, HoldsPiecesWith, StandsWell, FailedAt, closes_last, StandsRefused, HoldsCut, StandsCut, StandsUnflushed, StandsStopped, StandsFailed, StandsBy, StandsSo, failed_by}
 use Rattle.yaml_emitter.proofs.Standing.{settings_grown, settled_same, taken_same, taken_grown}
 
 -- two states differ in what was begun, set, opened and closed alone
@@ -29,14 +29,16 @@ AreFlags before after =
     after ≡ record before { started = after.started; has_output = after.has_output; opened = after.opened; closed = after.closed }
 
 -- More events after a failure.
-failed_grown : (all front : List Event) (event : Event) (later more : List Event) → FailedAt all front event later → FailedAt (all ++ more) front event (later ++ more)
+failed_grown : (all front : List Event) (event : Event) (later more : List Event) → FailedAt all front event later
+    → FailedAt (all ++ more) front event (later ++ more)
 failed_grown all front event later more h =
     record {
       parts = sym (append_assoc front (event ∷ later) more) ∙ ap (λ events. events ++ more) h.parts;
       became_ready = omega (arith, h.became_ready, written_grows all more);
     }
 
-pub settings_failed : (front : List Event) (given : Settings) (all : List Event) (event : Event) (later more : List Event) → front ++ event ∷ later ≡ all → settings_for given (all ++ more) ≡ settings_for given all
+pub settings_failed : (front : List Event) (given : Settings) (all : List Event) (event : Event) (later more : List Event) → front ++ event ∷ later ≡ all
+    → settings_for given (all ++ more) ≡ settings_for given all
 settings_failed [] given all event later more parts = settings_grown given event [] later all more parts
 settings_failed (x ∷ front) given all event later more parts = settings_grown given x front (event ∷ later) all more parts
 
@@ -66,12 +68,14 @@ closes_one (sequence_start c) sequence_end later more = refl
 closes_one (mapping_start c) mapping_end later more = refl
 closes_one event next later more = refl
 
-closes_last_grown : (front : List Event) (event : Event) (later more : List Event) → closes_last front (event ∷ (later ++ more)) ≡ closes_last front (event ∷ later)
+closes_last_grown : (front : List Event) (event : Event) (later more : List Event)
+    → closes_last front (event ∷ (later ++ more)) ≡ closes_last front (event ∷ later)
 closes_last_grown [] event later more = refl
 closes_last_grown (x ∷ []) event later more = closes_one x event later more
 closes_last_grown (x ∷ y ∷ rest) event later more = closes_last_grown (y ∷ rest) event later more
 
-refused_grown : (given : Settings) (all more : List Event) (error : yaml_error_t) (before after : State) → AreFlags before after → StandsRefused given all error before → StandsRefused given (all ++ more) error after
+refused_grown : (given : Settings) (all more : List Event) (error : yaml_error_t) (before after : State) → AreFlags before after
+    → StandsRefused given all error before → StandsRefused given (all ++ more) error after
 refused_grown given all more error before after same h =
     let s = settings_for given (all ++ more) in
     record {
@@ -81,12 +85,14 @@ refused_grown given all more error before after same h =
       failed = failed_grown all h.front h.event h.later more h.failed;
       taken =
           taken_same given (all ++ more) h.front (steps s false h.front at_stream first_standing) before after
-          (ap (λ (s : State). s.given) same) (ap (λ (s : State). s.settings) same) (ap (λ (s : State). s.stage) same) (ap (λ (s : State). s.mark) same) (ap (λ (s : State). s.page) same)
+          (ap (λ (s : State). s.given) same) (ap (λ (s : State). s.settings) same) (ap (λ (s : State). s.stage) same) (ap (λ (s : State). s.mark) same)
+          (ap (λ (s : State). s.page) same)
           (taken_grown h.front (h.event ∷ h.later) all more given false before h.failed.parts h.taken);
       refusal = h.refusal;
     }
 
-cut_grown : (given : Settings) (all more : List Event) (error : yaml_error_t) (before after : State) → AreFlags before after → StandsCut given all error before → StandsCut given (all ++ more) error after
+cut_grown : (given : Settings) (all more : List Event) (error : yaml_error_t) (before after : State) → AreFlags before after → StandsCut given all error before
+    → StandsCut given (all ++ more) error after
 cut_grown given all more error before after same h =
     let settings = sym (settings_failed h.front given all h.event h.later more h.failed.parts) in
     let ready = ready_at h.front h.event h.later (subst (λ events. length h.front < written events) (sym h.failed.parts) h.failed.became_ready) in
@@ -94,7 +100,8 @@ cut_grown given all more error before after same h =
     let at_event = sym (closes_grown h.event h.later more ready) in
     let is_page = sym (ap (λ (s : State). s.page) same) in
     let CutBy : Effective → Bool → Bool → Page → Type 0 = λ s at_front at_event page.
-    HoldsCut given s h.front h.event (steps s at_front h.front at_stream first_standing) (steps s at_event (h.front ++ h.event ∷ []) at_stream first_standing) error page in
+    HoldsCut given s h.front h.event (steps s at_front h.front at_stream first_standing)
+    (steps s at_event (h.front ++ h.event ∷ []) at_stream first_standing) error page in
     record {
       front = h.front;
       event = h.event;
@@ -117,7 +124,8 @@ holds_grown (x ∷ front) given all rest more error page parts h =
     subst (λ s. HoldsPiecesWith error s (x ∷ front) (steps s false (x ∷ front) at_stream first_standing).pieces page)
     (sym (settings_grown given x front rest all more parts)) h
 
-unflushed_grown : (given : Settings) (all more : List Event) (error : yaml_error_t) (before after : State) → AreFlags before after → StandsUnflushed given all error before → StandsUnflushed given (all ++ more) error after
+unflushed_grown : (given : Settings) (all more : List Event) (error : yaml_error_t) (before after : State) → AreFlags before after
+    → StandsUnflushed given all error before → StandsUnflushed given (all ++ more) error after
 unflushed_grown given all more error before after same h =
     let s = settings_for given (all ++ more) in
     let front = take (written h.before) h.before in
@@ -137,17 +145,24 @@ unflushed_grown given all more error before after same h =
       handed = subst (λ (page : Page). IsHandedOut (encoded page) page.output page.limit page.error) is_page h.handed;
     }
 
-stopped_grown : (given : Settings) (all more : List Event) (error : yaml_error_t) (before after : State) → AreFlags before after → StandsStopped given all error before → StandsStopped given (all ++ more) error after
+stopped_grown : (given : Settings) (all more : List Event) (error : yaml_error_t) (before after : State) → AreFlags before after
+    → StandsStopped given all error before → StandsStopped given (all ++ more) error after
 stopped_grown given all more error before after same h =
-    elim h [ inl cut ↦ inl (cut_grown given all more error before after same cut) | inr other ↦ inr (unflushed_grown given all more error before after same other) ]
+    elim h [
+      | inl cut ↦ inl (cut_grown given all more error before after same cut)
+      | inr other ↦ inr
+          (unflushed_grown given all more error before after same other)
+    ]
 
-failed_more_by : (error : yaml_error_t) (given : Settings) (all more : List Event) (before after : State) → AreFlags before after → StandsFailed given all error before → StandsFailed given (all ++ more) error after
+failed_more_by : (error : yaml_error_t) (given : Settings) (all more : List Event) (before after : State) → AreFlags before after
+    → StandsFailed given all error before → StandsFailed given (all ++ more) error after
 failed_more_by WriteError given all more before after same h = stopped_grown given all more WriteError before after same h
 failed_more_by Memory given all more before after same h = stopped_grown given all more Memory before after same h
 failed_more_by error given all more before after same h = refused_grown given all more error before after same h
 
 -- After a failure another event changes nothing.
-pub failed_more : (given : Settings) (all : List Event) (event : Event) (state : State) (error : yaml_error_t) → StandsSo given all state → state.error ≡ Some error
+pub failed_more : (given : Settings) (all : List Event) (event : Event) (state : State) (error : yaml_error_t) → StandsSo given all state
+    → state.error ≡ Some error
     → StandsSo given (all ++ event ∷ []) (record state { started = true })
 failed_more given all event state error h is =
     let now = record state { started = true } in
@@ -165,7 +180,8 @@ stands_same given all before after same h = stands_by before.error refl h
         record {
           taken =
               taken_same given all (take (written all) all) (progress (settings_for given all) all) before after
-              (ap (λ (s : State). s.given) same) (ap (λ (s : State). s.settings) same) (ap (λ (s : State). s.stage) same) (ap (λ (s : State). s.mark) same) (ap (λ (s : State). s.page) same) h.taken;
+              (ap (λ (s : State). s.given) same) (ap (λ (s : State). s.settings) same) (ap (λ (s : State). s.stage) same) (ap (λ (s : State). s.mark) same)
+              (ap (λ (s : State). s.page) same) h.taken;
           held = ap (λ (s : State). s.held) same ∙ h.held;
         } in
         subst (λ e. StandsBy given all e after) (sym (ap (λ (s : State). s.error) same ∙ is)) well
@@ -182,7 +198,8 @@ no_open (x ∷ front) rest h = cc
 pub nothing_begins : (canonical : Bool) → BeginsAccepted canonical []
 nothing_begins canonical = begins_from_stands canonical [] (record { partial = before_stream; is_partial = refl; sound = refl; shallow = no_open })
 
-pub new_stands : (given : Settings) (state : State) → state.given ≡ given → state.page ≡ new_page given.limit → state.stage ≡ at_stream → state.mark ≡ 0 → state.held ≡ [] → state.error ≡ None
+pub new_stands : (given : Settings) (state : State) → state.given ≡ given → state.page ≡ new_page given.limit → state.stage ≡ at_stream → state.mark ≡ 0
+    → state.held ≡ [] → state.error ≡ None
     → StandsSo given [] state
 new_stands given state is_given page stage mark held none =
     let well : StandsWell given [] state =
@@ -207,7 +224,8 @@ take-nil : (n : ℕ) → take {A = ℕ} n [] ≡ []
 take-nil zero = refl
 take-nil (suc n) = refl
 
-flushed_page : (front : List Event) (s : Effective) (pieces : List Piece) (before after : Page) (answer : Result (Unit {0}) yaml_error_t) → HoldsPieces s front pieces before → Flushed before after answer
+flushed_page : (front : List Event) (s : Effective) (pieces : List Piece) (before after : Page) (answer : Result (Unit {0}) yaml_error_t)
+    → HoldsPieces s front pieces before → Flushed before after answer
     → HoldsPiecesWith after.error s front pieces after
 flushed_page [] s pieces before after answer h flushed =
     let encoding : after.encoding ≡ None = ap (λ (p : Page). p.encoding) flushed.kept ∙ ap (λ (p : Page). p.encoding) h in
@@ -228,7 +246,8 @@ flushed_page (x ∷ front) s pieces before after answer h flushed = (
   refl,
 )
 
-pub flushed_stands : (given : Settings) (all : List Event) (state : State) (page : Page) → StandsWell given all state → Flushed state.page page (Ok tt) → StandsWell given all (record state { page = page })
+pub flushed_stands : (given : Settings) (all : List Event) (state : State) (page : Page) → StandsWell given all state → Flushed state.page page (Ok tt)
+    → StandsWell given all (record state { page = page })
 flushed_stands given all state page h flushed =
     let s = settings_for given all in
     let front = take (written all) all in
@@ -253,7 +272,8 @@ pub some_from_told : (given : Option yaml_error_t) (error : yaml_error_t) → Er
 some_from_told None error is = cc
 some_from_told (Some other) error is = cc
 
-unflushed_stands : (given : Settings) (all : List Event) (state : State) (page : Page) (error : yaml_error_t) → StandsWell given all state → Flushed state.page page (Err error) → StandsUnflushed given all error (failed_by error (record state { page = page }))
+unflushed_stands : (given : Settings) (all : List Event) (state : State) (page : Page) (error : yaml_error_t) → StandsWell given all state
+    → Flushed state.page page (Err error) → StandsUnflushed given all error (failed_by error (record state { page = page }))
 unflushed_stands given all state page error h flushed =
     let s = settings_for given all in
     let front = take (written all) all in
@@ -270,7 +290,8 @@ unflushed_stands given all state page error h flushed =
     }
 
 -- A flush that fails does so by the output's limit or by memory.
-pub flush_failed : (given : Settings) (all : List Event) (state : State) (page : Page) (error : yaml_error_t) → StandsWell given all state → Flushed state.page page (Err error)
+pub flush_failed : (given : Settings) (all : List Event) (state : State) (page : Page) (error : yaml_error_t) → StandsWell given all state
+    → Flushed state.page page (Err error)
     → StandsSo given all (failed_by error (record state { page = page }))
 flush_failed given all state page WriteError h flushed = (refl, inr (unflushed_stands given all state page WriteError h flushed))
 flush_failed given all state page Memory h flushed = (refl, inr (unflushed_stands given all state page Memory h flushed))

@@ -1,48 +1,47 @@
 -- What an emitter that stands promises its caller.
-use Rattle.std.proofs.Common.{◌≡◌, refl, sym, ap, ◌∙◌, subst, arith, append_assoc, append-nil, inl, inr}
-use Rattle.std.proofs.lemmas.List.{take-append-drop, length-take-le, length-append}
+use Rattle.std.proofs.Common.{◌≡◌, refl, sym, ap, ◌∙◌, subst, arith, append_assoc, inl, inr}
+use Rattle.std.proofs.lemmas.List.{take-append-drop, length-take-le}
 use Rattle.std.proofs.lemmas.Bool.{false≢true}
-use Rattle.std.specs.Prelude.{ℕ, zero, suc, ◌<◌, ◌≤◌, Bool, true, false, ◌&&◌, Option, None, Some, List, [], ◌∷◌, ◌++◌, length, take, drop, option_and_then}
+use Rattle.std.specs.Prelude.{◌≤◌, Bool, true, false, ◌&&◌, Option, None, Some, List, [], ◌∷◌, ◌++◌, length, take, drop, option_and_then}
 use Rattle.yaml_base.specs.Settings.{Settings, Effective}
-use Rattle.yaml_base.specs.Encoding.{encode, cut}
+use Rattle.yaml_base.specs.Encoding.{cut}
 use Rattle.yaml_base.specs.Prefix.{IsPrefix}
-use Rattle.yaml_base.specs.Event.{Event, stream_end, document_start, sequence_start, sequence_end, mapping_start, mapping_end}
-use Rattle.yaml_base.specs.Grammar.{at_item, at_key, at_value, Stream, stream_events, Partial, before_stream, between_documents, within_document, after_stream, pushed, partial_of}
-use Rattle.yaml_base.specs.Refusal.{begins_collection, ends_collection, IsAccepted, BeginsAccepted, refusal_at, refusal}
+use Rattle.yaml_base.specs.Event.{Event, document_start, sequence_start, sequence_end, mapping_start, mapping_end}
+use Rattle.yaml_base.specs.Grammar.{before_stream}
+use Rattle.yaml_base.specs.Refusal.{ends_collection, IsAccepted, BeginsAccepted, refusal_at, refusal}
 use Rattle.yaml_base.specs.Ready.{is_ready, written, held_back}
 use Rattle.yaml_base.specs.Layout.{Piece, first_standing}
 use Rattle.yaml_base.specs.Steps.{Steps, at_stream, ends_next, steps}
-use Rattle.yaml_base.specs.Pieces.{list_layout, pieces, begins_last, ends_first}
-use Rattle.yaml_base.specs.Pieces as closes
-use Rattle.yaml_base.specs.Output.{settings_for, text_written, bytes_written, output_of}
+use Rattle.yaml_base.specs.Pieces.{list_layout, pieces, begins_last}
+use Rattle.yaml_base.specs.Output.{settings_for, text_written}
 use Rattle.yaml_base.specs.declared.errors.yaml_error_t.{yaml_error_t}
 use Rattle.yaml_base.specs.declared.errors.yaml_error_t.TheVariants.{WriteError, Memory}
 use Rattle.yaml_base.proofs.Accepted.{stands_from_begins, refused_exactly}
-use Rattle.yaml_base.proofs.Completions.{front_begins, pushed-append}
 use Rattle.yaml_base.proofs.Prefixes.{prefix_same, prefix_then}
-use Rattle.yaml_base.proofs.Trees.{stream_pushed}
-use Rattle.yaml_base.proofs.PieceLaws.{steps_count, steps-append, steps_same, front_layout, list_layout_steps}
+use Rattle.yaml_base.proofs.PieceLaws.{steps_count, steps-append}
 use Rattle.yaml_base.proofs.Progress.{progress_pieces}
-use Rattle.yaml_base.proofs.QueueLaws.{held_is_short, held_waits, written_within, open_at_written, stream_written}
-use Rattle.yaml_pen.specs.Page.{Page, encoded, IsHandedOut}
+use Rattle.yaml_base.proofs.QueueLaws.{held_is_short, held_waits, written_within}
+use Rattle.yaml_pen.specs.Page.{Page}
 use Rattle.yaml_emitter.specs.State.{State}
 use Rattle.yaml_emitter.specs.Queue.{is_head_ready}
 use Rattle.yaml_emitter.specs.Processing.{closes_at_once}
 use Rattle.yaml_emitter.specs.StandsAfter.{HoldsPiecesWith, StandsWell, closes_last, StandsRefused, holds_before, holds_part, StandsCut, StandsUnflushed, StandsStopped, StandsFailed, StandsBy, StandsSo}
-use Rattle.yaml_emitter.specs.Promises.{HasText, begins_with_start, most_held, HoldsWaiting, RefusedAt, BeginsOutput, StopsWriting, stops_before, stops_within, OutputBegins, FillsLimit, IsRefusal, HasRoom, EndsExactly}
-use Rattle.yaml_emitter.proofs.Standing.{awaits_few, open_last, own_end, end_next, closes_last-append, settings_grown}
+use Rattle.yaml_emitter.specs.Promises.{HasText, begins_with_start, most_held, HoldsWaiting, RefusedAt, BeginsOutput, StopsWriting, stops_before, stops_within, OutputBegins, IsRefusal}
+use Rattle.yaml_emitter.proofs.Standing.{open_last, end_next}
+use Rattle.yaml_emitter.proofs.StandingSteps.{awaits_few, closes_last-append}
 use Rattle.yaml_emitter.proofs.StandingFailed.{own_accepted}
-use Rattle.yaml_emitter.proofs.StandingMore.{ready_at, settings_failed}
-use Rattle.yaml_emitter.proofs.StandingTexts.{holds_text, pieces_front, begin_taken, begin_take, front_longer, GoesOn, goes_on, output_begins, output_fills, holds_output}
+use Rattle.yaml_emitter.proofs.StandingTexts.{holds_text, pieces_front, begin_take, front_longer, GoesOn, goes_on, output_begins, holds_output}
 
 pub stands_well : (given : Settings) (all : List Event) (state : State) → StandsSo given all state → state.error ≡ None → StandsWell given all state
 stands_well given all state h none = subst (λ e. StandsBy given all e state) none h
 
-stands_failed : (given : Settings) (all : List Event) (state : State) (error : yaml_error_t) → StandsSo given all state → state.error ≡ Some error → StandsFailed given all error state
+pub stands_failed : (given : Settings) (all : List Event) (state : State) (error : yaml_error_t) → StandsSo given all state → state.error ≡ Some error
+    → StandsFailed given all error state
 stands_failed given all state error h is = (subst (λ e. StandsBy given all e state) is h).1
 
 -- Without an error the text is that of the ready events' pieces.
-pub promises_text : (given : Settings) (all : List Event) (state : State) → StandsSo given all state → state.error ≡ None → HasText given all (written all) state
+pub promises_text : (given : Settings) (all : List Event) (state : State) → StandsSo given all state → state.error ≡ None
+    → HasText given all (written all) state
 promises_text given all state h none =
     let s = settings_for given all in
     let front = take (written all) all in
@@ -58,7 +57,8 @@ starts_if (sequence_start start) rest h = refl
 starts_if (mapping_start start) rest h = refl
 starts_if event rest h = cc
 
-waiting : (held : List Event) → ((event : Event) (rest : List Event) → held ≡ event ∷ rest → is_ready event rest ≡ false) → (is_head_ready held ≡ false) × (begins_with_start held ≡ true)
+waiting : (held : List Event) → ((event : Event) (rest : List Event) → held ≡ event ∷ rest → is_ready event rest ≡ false) → (is_head_ready held ≡ false)
+    × (begins_with_start held ≡ true)
 waiting [] h = (refl, refl)
 waiting (event ∷ rest) h = let waits : is_ready event rest ≡ false = h event rest refl in (waits, starts_if event rest waits)
 
@@ -81,7 +81,8 @@ promises_held given all state h none =
     }
 
 -- A refusal.
-refused_at : (given : Settings) (all : List Event) (state : State) (error : yaml_error_t) → StandsRefused given all error state → RefusedAt given all error state
+refused_at : (given : Settings) (all : List Event) (state : State) (error : yaml_error_t) → StandsRefused given all error state
+    → RefusedAt given all error state
 refused_at given all state error h =
     let s = settings_for given all in
     let stands = stands_from_begins given.canonical h.front h.taken.stands in
@@ -93,18 +94,21 @@ refused_at given all state error h =
       became_ready = h.failed.became_ready;
       refusal = h.refusal;
       begins = h.taken.stands;
-      ends = (λ more. let none : refusal given.canonical h.front h.event ≡ None = (refused_exactly given.canonical h.front h.event h.taken.stands).1 more in cc);
+      ends = (λ more. let none : refusal given.canonical h.front h.event
+          ≡ None = (refused_exactly given.canonical h.front h.event h.taken.stands).1 more in cc);
       text =
           holds_text h.front s false None state.page h.taken.page
           ∙ ap (text_written s) (sym (pieces_front h.front (h.event ∷ h.later) all s stands.partial h.failed.parts stands.is_partial));
     }
 
-refused_by : (error : yaml_error_t) (given : Settings) (all : List Event) (state : State) → IsRefusal error → StandsFailed given all error state → StandsRefused given all error state
+refused_by : (error : yaml_error_t) (given : Settings) (all : List Event) (state : State) → IsRefusal error → StandsFailed given all error state
+    → StandsRefused given all error state
 refused_by WriteError given all state is h = absurd is
 refused_by Memory given all state is h = absurd is
 refused_by error given all state is h = h
 
-pub promises_refusal : (given : Settings) (all : List Event) (state : State) (error : yaml_error_t) → StandsSo given all state → state.error ≡ Some error → IsRefusal error → RefusedAt given all error state
+pub promises_refusal : (given : Settings) (all : List Event) (state : State) (error : yaml_error_t) → StandsSo given all state → state.error ≡ Some error
+    → IsRefusal error → RefusedAt given all error state
 promises_refusal given all state error h failed is =
     refused_at given all state error (refused_by error given all state is (stands_failed given all state error h failed))
 
@@ -129,14 +133,15 @@ output_by_pieces given all front later follows error state parts h on =
       output = holds_output front s follows error state.page whole h on.begins;
     }
 
-output_from : (given : Settings) (all front later : List Event) (error : Option yaml_error_t) (state : State) → front ++ later ≡ all → BeginsAccepted given.canonical front
+output_from : (given : Settings) (all front later : List Event) (error : Option yaml_error_t) (state : State) → front ++ later ≡ all
+    → BeginsAccepted given.canonical front
     → HoldsPiecesWith error (settings_for given all) front (steps (settings_for given all) false front at_stream first_standing).pieces state.page
     → BeginsOutput given all front (length front) state
 output_from given all front later error state parts begins h =
     output_by_pieces given all front later false error state parts h (goes_on given.canonical (settings_for given all) front begins)
 
 -- The steps of a front begin those of the whole.
-steps_begin : (front rest : List Event) (s : Effective) (follows : Bool)
+pub steps_begin : (front rest : List Event) (s : Effective) (follows : Bool)
     → IsPrefix (steps s (ends_next rest follows) front at_stream first_standing).pieces (steps s follows (front ++ rest) at_stream first_standing).pieces
 steps_begin front rest s follows =
     let before = steps s (ends_next rest follows) front at_stream first_standing in
@@ -174,7 +179,8 @@ closing_more canonical s front (next ∷ later) true is begins =
     let longer = (refused_exactly canonical front next begins).0 none in
     let on = goes_on canonical s (front ++ next ∷ []) longer in
     let ends : ends_collection next ≡ closes_last front (next ∷ later) = ends_if front next later is ∙ sym is in
-    let first : IsPrefix (steps s (ends_collection next) front at_stream first_standing).pieces (steps s false (front ++ next ∷ []) at_stream first_standing).pieces =
+    let first : IsPrefix (steps s (ends_collection next) front at_stream first_standing).pieces
+    (steps s false (front ++ next ∷ []) at_stream first_standing).pieces =
     steps_begin front (next ∷ []) s false in
     let same = append_assoc front (next ∷ []) on.more in
     record {
@@ -219,12 +225,14 @@ cut_output given all error state h =
             more = on.more;
             accepted = on.accepted;
             least = subst (λ pieces. IsPrefix (text_written s pieces) state.page.text) (sym same) least;
-            most = subst (λ pieces. IsPrefix state.page.text (text_written s pieces)) (sym (begin_take (length longer) pieces whole on.begins (steps_count longer s empty at_stream first_standing))) most;
+            most = subst (λ pieces. IsPrefix state.page.text (text_written s pieces))
+                (sym (begin_take (length longer) pieces whole on.begins (steps_count longer s empty at_stream first_standing))) most;
             output = output_begins s state.page whole page (front_longer s state.page.text pieces whole most on.begins);
           })
     ]
 
-unflushed_output : (given : Settings) (all : List Event) (error : yaml_error_t) (state : State) → StandsUnflushed given all error state → StopsWriting given all state
+unflushed_output : (given : Settings) (all : List Event) (error : yaml_error_t) (state : State) → StandsUnflushed given all error state
+    → StopsWriting given all state
 unflushed_output given all error state h =
     let front = take (written h.before) h.before in
     let rest = drop (written h.before) h.before in
@@ -232,11 +240,13 @@ unflushed_output given all error state h =
     sym (append_assoc front rest h.later) ∙ ap (λ events. events ++ h.later) (take-append-drop (written h.before) h.before) ∙ h.parts in
     stops_before front (output_from given all front (rest ++ h.later) (Some error) state whole h.stands h.page)
 
-refused_output : (given : Settings) (all : List Event) (error : yaml_error_t) (state : State) → StandsRefused given all error state → StopsWriting given all state
+refused_output : (given : Settings) (all : List Event) (error : yaml_error_t) (state : State) → StandsRefused given all error state
+    → StopsWriting given all state
 refused_output given all error state h =
     stops_before h.front (output_from given all h.front (h.event ∷ h.later) None state h.failed.parts h.taken.stands h.taken.page)
 
-stopped_output : (given : Settings) (all : List Event) (error : yaml_error_t) (state : State) → StandsStopped given all error state → StopsWriting given all state
+stopped_output : (given : Settings) (all : List Event) (error : yaml_error_t) (state : State) → StandsStopped given all error state
+    → StopsWriting given all state
 stopped_output given all error state h = elim h [ inl cut ↦ cut_output given all error state cut | inr other ↦ unflushed_output given all error state other ]
 
 failed_output : (error : yaml_error_t) (given : Settings) (all : List Event) (state : State) → StandsFailed given all error state → StopsWriting given all state
@@ -244,7 +254,8 @@ failed_output WriteError given all state h = stopped_output given all WriteError
 failed_output Memory given all state h = stopped_output given all Memory state h
 failed_output error given all state h = refused_output given all error state h
 
-output_by : (error : Option yaml_error_t) (given : Settings) (all : List Event) (state : State) → StandsBy given all error state → OutputBegins given all error state
+output_by : (error : Option yaml_error_t) (given : Settings) (all : List Event) (state : State) → StandsBy given all error state
+    → OutputBegins given all error state
 output_by None given all state h =
     subst (λ count. BeginsOutput given all (take (written all) all) count state) (length-take-le (written all) all (written_within all))
     (output_from given all (take (written all) all) (held_back all) None state (take-append-drop (written all) all) h.taken.stands h.taken.page)
@@ -255,245 +266,37 @@ pub promises_output : (given : Settings) (all : List Event) (state : State) → 
 promises_output given all state h = output_by state.error given all state h
 
 -- The output is within its limit.
-holds_within : (front : List Event) (s : Effective) (pieces : List Piece) (error : Option yaml_error_t) (page : Page) → HoldsPiecesWith error s front pieces page → length page.output ≤ s.limit
+holds_within : (front : List Event) (s : Effective) (pieces : List Piece) (error : Option yaml_error_t) (page : Page)
+    → HoldsPiecesWith error s front pieces page → length page.output ≤ s.limit
 holds_within [] s pieces error page h = omega (arith, ap (λ (p : Page). length p.output) h)
 holds_within (x ∷ front) s pieces error page h = omega (arith, h.0.handed.within, h.0.limit)
 
-cut_within : (given : Settings) (all : List Event) (error : yaml_error_t) (state : State) → StandsCut given all error state → length state.page.output ≤ given.limit
+cut_within : (given : Settings) (all : List Event) (error : yaml_error_t) (state : State) → StandsCut given all error state
+    → length state.page.output ≤ given.limit
 cut_within given all error state h =
     elim h.page [
       | holds_before memory page ↦ holds_within h.front (settings_for given all) _ None state.page page
       | holds_part begun page failed least most ↦ omega (arith, page.handed.within, page.limit)
     ]
 
-stopped_within : (given : Settings) (all : List Event) (error : yaml_error_t) (state : State) → StandsStopped given all error state → length state.page.output ≤ given.limit
+stopped_within : (given : Settings) (all : List Event) (error : yaml_error_t) (state : State) → StandsStopped given all error state
+    → length state.page.output ≤ given.limit
 stopped_within given all error state h =
     elim h [
       | inl cut ↦ cut_within given all error state cut
       | inr other ↦ holds_within (take (written other.before) other.before) (settings_for given all) _ (Some error) state.page other.page
     ]
 
-failed_within : (error : yaml_error_t) (given : Settings) (all : List Event) (state : State) → StandsFailed given all error state → length state.page.output ≤ given.limit
+failed_within : (error : yaml_error_t) (given : Settings) (all : List Event) (state : State) → StandsFailed given all error state
+    → length state.page.output ≤ given.limit
 failed_within WriteError given all state h = stopped_within given all WriteError state h
 failed_within Memory given all state h = stopped_within given all Memory state h
 failed_within error given all state h = holds_within h.front (settings_for given all) _ None state.page h.taken.page
 
-within_by : (error : Option yaml_error_t) (given : Settings) (all : List Event) (state : State) → StandsBy given all error state → length state.page.output ≤ given.limit
+within_by : (error : Option yaml_error_t) (given : Settings) (all : List Event) (state : State) → StandsBy given all error state
+    → length state.page.output ≤ given.limit
 within_by None given all state h = holds_within (take (written all) all) (settings_for given all) _ None state.page h.taken.page
 within_by (Some error) given all state h = failed_within error given all state h.1
 
 pub promises_within : (given : Settings) (all : List Event) (state : State) → StandsSo given all state → length state.page.output ≤ given.limit
 promises_within given all state h = within_by state.error given all state h
-
--- The output's limit.
-not_memory : WriteError ≡ Memory → ⊥
-not_memory wrong = cc
-
-drop-all : (events : List Event) → drop (length events) events ≡ []
-drop-all [] = refl
-drop-all (x ∷ events) = drop-all events
-
-pub take-length : (events : List Event) → take (length events) events ≡ events
-take-length [] = refl
-take-length (x ∷ events) = ap (λ l. x ∷ l) (take-length events)
-
-no_start_alone : (event : Event) → is_ready event [] ≡ true → begins_collection event ≡ false
-no_start_alone (sequence_start c) ready = cc
-no_start_alone (mapping_start c) ready = cc
-no_start_alone event ready = refl
-
-begins_last-append : (front : List Event) (event : Event) → begins_last (front ++ event ∷ []) ≡ begins_collection event
-begins_last-append [] event = refl
-begins_last-append (x ∷ []) event = refl
-begins_last-append (x ∷ y ∷ more) event = begins_last-append (y ∷ more) event
-
-follows_ready : (front rest more : List Event) (event : Event) (s : Effective) (last : Bool) → begins_collection event ≡ last → is_ready event rest ≡ true
-    → (q : Partial) → partial_of (((front ++ event ∷ []) ++ rest) ++ more) ≡ Some q
-    → (steps s (ends_next (rest ++ more) false) (front ++ event ∷ []) at_stream first_standing).pieces ≡ (steps s (closes_at_once event rest) (front ++ event ∷ []) at_stream first_standing).pieces
-follows_ready front rest more event s false is ready q h =
-    ap (λ (made : Steps). made.pieces)
-    (steps_same (front ++ event ∷ []) s (ends_next (rest ++ more) false) (closes_at_once event rest) at_stream first_standing (begins_last-append front event ∙ is))
-follows_ready front [] more event s true is ready q h = let no : begins_collection event ≡ false = no_start_alone event ready in cc
-follows_ready front (next ∷ rest) more event s true is ready q h =
-    let longer = front ++ event ∷ [] in
-    let begun = front_begins (longer ++ next ∷ []) (rest ++ more) q
-    (ap partial_of (append_assoc longer (next ∷ []) (rest ++ more) ∙ sym (append_assoc longer (next ∷ rest) more)) ∙ h) in
-    ap (λ follows. (steps s follows longer at_stream first_standing).pieces)
-    (sym (own_end longer next rest before_stream begun.0 begun.1 (begins_last-append front event ∙ is)) ∙ closes_last-append front (next ∷ rest) event)
-
-layout_begins : (canonical : Bool) (s : Effective) (front rest : List Event) → IsAccepted canonical (front ++ rest) → IsPrefix (steps s (ends_next rest false) front at_stream first_standing).pieces (list_layout s (front ++ rest))
-layout_begins canonical s front rest accepted =
-    subst (IsPrefix (steps s (ends_next rest false) front at_stream first_standing).pieces)
-    (sym (list_layout_steps (front ++ rest) accepted.stream s (ap partial_of (sym accepted.is_stream) ∙ stream_pushed accepted.stream)))
-    (steps_begin front rest s false)
-
-passes : (limit : ℕ) (page : Page) → page.limit ≡ limit → page.limit < length (encoded page) → limit < length (encoded page)
-passes limit page is h = subst (λ limit. limit < length (encoded page)) is h
-
-cut_fills : (given : Settings) (all : List Event) (state : State) → StandsCut given all WriteError state → FillsLimit given all state
-cut_fills given all state h =
-    let s = settings_for given all in
-    let longer = h.front ++ h.event ∷ [] in
-    let empty = closes_at_once h.event h.later in
-    let begun_pieces = (steps s empty longer at_stream first_standing).pieces in
-    let parts : longer ++ h.later ≡ all = append_assoc h.front (h.event ∷ []) h.later ∙ h.failed.parts in
-    let ready = ready_at h.front h.event h.later (subst (λ events. length h.front < written events) (sym h.failed.parts) h.failed.became_ready) in
-    elim h.page [
-      | holds_before memory page ↦ absurd (not_memory memory)
-      | holds_part begun page told least most ↦
-          let failed = told refl in
-          record {
-            passed = passes given.limit state.page page.limit (page.handed.full failed).0;
-            full = (output_fills s state.page begun_pieces page most failed).0;
-            output = (λ more accepted.
-                let whole : longer ++ (h.later ++ more) ≡ all ++ more = sym (append_assoc longer h.later more) ∙ ap (λ events. events ++ more) parts in
-                let pushes : partial_of ((longer ++ h.later) ++ more) ≡ Some (after_stream accepted.stream) =
-                ap (λ events. partial_of (events ++ more)) parts ∙ ap partial_of (sym accepted.is_stream) ∙ stream_pushed accepted.stream in
-                let same : (steps s (ends_next (h.later ++ more) false) longer at_stream first_standing).pieces ≡ begun_pieces =
-                follows_ready h.front h.later more h.event s (begins_collection h.event) refl ready (after_stream accepted.stream) pushes in
-                let begins : IsPrefix begun_pieces (list_layout s (all ++ more)) =
-                subst (λ pieces. IsPrefix pieces (list_layout s (all ++ more))) same
-                (subst (λ events. IsPrefix (steps s (ends_next (h.later ++ more) false) longer at_stream first_standing).pieces (list_layout s events)) whole
-                (layout_begins given.canonical s longer (h.later ++ more) (subst (IsAccepted given.canonical) (sym whole) accepted))) in
-                (output_fills s state.page (list_layout s (all ++ more)) page (front_longer s state.page.text begun_pieces (list_layout s (all ++ more)) most begins) failed).1
-                ∙ ap (λ (s : Effective). cut s.limit (bytes_written s (list_layout s (all ++ more)))) (sym (settings_failed h.front given all h.event h.later more h.failed.parts)));
-          }
-    ]
-
-between_fills : (front rest : List Event) (given : Settings) (all : List Event) (state : State) → front ++ rest ≡ all
-    → HoldsPiecesWith (Some WriteError) (settings_for given all) front (steps (settings_for given all) false front at_stream first_standing).pieces state.page
-    → IsHandedOut (encoded state.page) state.page.output state.page.limit state.page.error
-    → ((more : List Event) → closes.closes_at_once front (rest ++ more) ≡ false)
-    → FillsLimit given all state
-between_fills [] rest given all state parts h handed opens =
-    let full = handed.full (ap (λ (p : Page). p.error) h) in
-    let none : length (encoded state.page) ≡ 0 = ap (λ (p : Page). length (encoded p)) h in
-    absurd (omega (arith, full.0, none))
-between_fills (x ∷ front) rest given all state parts h handed opens =
-    let s = settings_for given all in
-    let begun_pieces = (steps s false (x ∷ front) at_stream first_standing).pieces in
-    let text = prefix_same state.page.text (text_written s begun_pieces) h.1 in
-    record {
-      passed = passes given.limit state.page h.0.limit (h.0.handed.full h.2).0;
-      full = (output_fills s state.page begun_pieces h.0 text h.2).0;
-      output = (λ more accepted.
-          let whole : (x ∷ front) ++ (rest ++ more) ≡ all ++ more = sym (append_assoc (x ∷ front) rest more) ∙ ap (λ events. events ++ more) parts in
-          let pushes : partial_of ((x ∷ front) ++ (rest ++ more)) ≡ Some (after_stream accepted.stream) =
-          ap partial_of whole ∙ ap partial_of (sym accepted.is_stream) ∙ stream_pushed accepted.stream in
-          let begins : IsPrefix begun_pieces (list_layout s (all ++ more)) =
-          subst (λ events. IsPrefix begun_pieces (list_layout s events)) whole
-          (begin_taken (length (x ∷ front)) begun_pieces (list_layout s ((x ∷ front) ++ (rest ++ more)))
-          (front_layout (x ∷ front) (rest ++ more) accepted.stream s pushes (opens more))) in
-          (output_fills s state.page (list_layout s (all ++ more)) h.0 (front_longer s state.page.text begun_pieces (list_layout s (all ++ more)) text begins) h.2).1
-          ∙ ap (λ (s : Effective). cut s.limit (bytes_written s (list_layout s (all ++ more)))) (sym (settings_grown given x front rest all more parts)));
-    }
-
-unflushed_fills : (given : Settings) (all : List Event) (state : State) → StandsUnflushed given all WriteError state → FillsLimit given all state
-unflushed_fills given all state h =
-    let front = take (written h.before) h.before in
-    let rest = drop (written h.before) h.before in
-    between_fills front (rest ++ h.later) given all state
-    (sym (append_assoc front rest h.later) ∙ ap (λ events. events ++ h.later) (take-append-drop (written h.before) h.before) ∙ h.parts)
-    h.page h.handed
-    (λ more. ap (λ events. closes.closes_at_once front events) (append_assoc rest h.later more) ∙ open_at_written h.before (h.later ++ more))
-
--- After the output's limit was passed the output is full.
-pub promises_full : (given : Settings) (all : List Event) (state : State) → StandsSo given all state → state.error ≡ Some WriteError → FillsLimit given all state
-promises_full given all state h failed =
-    elim (stands_failed given all state WriteError h failed) [ inl cut ↦ cut_fills given all state cut | inr other ↦ unflushed_fills given all state other ]
-
--- The stream's end.
-finishes : (p q : Partial) → pushed p (stream_end ∷ []) ≡ Some q → (t : Stream) × (q ≡ after_stream t)
-finishes (between_documents e d) q h =
-    let t : Stream = record { encoding = e; documents = d } in
-    let same : after_stream t ≡ q = cc in
-    (t, sym same)
-finishes (within_document e d s []) q h = cc
-finishes (within_document e d s (at_item c items ∷ levels)) q h = cc
-finishes (within_document e d s (at_key c pairs ∷ levels)) q h = cc
-finishes (within_document e d s (at_value c pairs key ∷ levels)) q h = cc
-finishes p q h = cc
-
-nothing_after : (rest : List Event) (t : Stream) (q : Partial) → pushed (after_stream t) rest ≡ Some q → rest ≡ []
-nothing_after [] t q h = refl
-nothing_after (x ∷ rest) t q h = cc
-
-whole_accepted : (canonical : Bool) (all : List Event) → BeginsAccepted canonical (all ++ stream_end ∷ []) → IsAccepted canonical (all ++ stream_end ∷ [])
-whole_accepted canonical all begins =
-    let events = all ++ stream_end ∷ [] in
-    let stands = stands_from_begins canonical events begins in
-    let before = front_begins all (stream_end ∷ []) stands.partial stands.is_partial in
-    let done = finishes before.0 stands.partial
-    (ap (λ o. option_and_then (λ r. pushed r (stream_end ∷ [])) o) (sym before.1) ∙ sym (pushed-append all (stream_end ∷ []) before_stream) ∙ stands.is_partial) in
-    let whole : partial_of (events ++ begins.rest) ≡ Some (after_stream begins.accepted.stream) = ap partial_of (sym begins.accepted.is_stream) ∙ stream_pushed begins.accepted.stream in
-    let none : begins.rest ≡ [] =
-    nothing_after begins.rest done.0 (after_stream begins.accepted.stream)
-    (ap (λ o. option_and_then (λ r. pushed r begins.rest) o) (sym (stands.is_partial ∙ ap (λ p. Some p) done.1)) ∙ sym (pushed-append events begins.rest before_stream) ∙ whole) in
-    subst (IsAccepted canonical) (ap (λ rest. events ++ rest) none ∙ append-nil events) begins.accepted
-
-pub all_taken : (given : Settings) (all : List Event) (state : State) → StandsWell given all state → state.held ≡ [] → take (written all) all ≡ all
-all_taken given all state h none =
-    sym (append-nil (take (written all) all))
-    ∙ ap (λ rest. take (written all) all ++ rest) (sym none ∙ h.held)
-    ∙ take-append-drop (written all) all
-
-pub all_written : (canonical : Bool) (all : List Event) → IsAccepted canonical all → written all ≡ length all
-all_written canonical all accepted = ap written (sym accepted.is_stream) ∙ stream_written accepted.stream ∙ ap length accepted.is_stream
-
-none_refused : (given : Settings) (all : List Event) (error : yaml_error_t) (state : State) → IsAccepted given.canonical all → RefusedAt given all error state → ⊥
-none_refused given all error state accepted h =
-    h.ends (record { rest = h.later; accepted = subst (IsAccepted given.canonical) (sym (append_assoc h.front (h.event ∷ []) h.later ∙ h.parts)) accepted })
-
-no_error : (error : Option yaml_error_t) (given : Settings) (all : List Event) (state : State) → StandsSo given all state → state.error ≡ error → HasRoom error → IsAccepted given.canonical all → error ≡ None
-no_error None given all state h is room accepted = refl
-no_error (Some error) given all state h is room accepted = absurd (none_refused given all error state accepted (promises_refusal given all state error h is room))
-
-pub promises_end : (given : Settings) (all : List Event) (state : State) → StandsSo given (all ++ stream_end ∷ []) state → EndsExactly given (all ++ stream_end ∷ []) state
-promises_end given all state h room =
-    let events = all ++ stream_end ∷ [] in (
-      (λ accepted.
-          let none = no_error state.error given events state h refl room accepted in
-          let well = stands_well given events state h none in
-          (none, well.held ∙ ap (λ n. drop n events) (all_written given.canonical events accepted) ∙ drop-all events)),
-      (λ whole.
-          let well = stands_well given events state h whole.0 in
-          whole_accepted given.canonical all (subst (BeginsAccepted given.canonical) (all_taken given events state well whole.1) well.taken.stands)),
-    )
-
--- An accepted list is written whole.
-take-whole : (n : ℕ) (bytes : List ℕ) → length bytes ≤ n → take n bytes ≡ bytes
-take-whole zero [] h = refl
-take-whole (suc n) [] h = refl
-take-whole zero (x ∷ bytes) h = absurd (omega (arith, h))
-take-whole (suc n) (x ∷ bytes) h = ap (λ l. x ∷ l) (take-whole n bytes (omega (arith, h)))
-
-whole_output : (front : List Event) (s : Effective) (follows : Bool) (page : Page) → (front ≡ [] → ⊥)
-    → HoldsPiecesWith None s front (steps s follows front at_stream first_standing).pieces page → page.output ≡ encoded page
-    → page.output ≡ cut s.limit (bytes_written s (steps s follows front at_stream first_standing).pieces)
-whole_output [] s follows page some h all = absurd (some refl)
-whole_output (x ∷ front) s follows page some h all =
-    let bytes = bytes_written s (steps s follows (x ∷ front) at_stream first_standing).pieces in
-    let is : page.output ≡ bytes = all ∙ ap (λ e. encode e page.text) h.0.encoding ∙ ap (encode (Some s.encoding)) h.1 in
-    let within : length bytes ≤ s.limit = omega (arith, h.0.handed.within, h.0.limit, ap length is) in
-    is ∙ sym (take-whole s.limit bytes within)
-
--- a list that is written whole: its text, and its output where all is handed out
-pub record WrittenText (given : Settings) (all : List Event) (state : State) : Type 0 where
-  pub text : state.page.text ≡ text_written (settings_for given all) (list_layout (settings_for given all) all)
-  pub output : state.page.output ≡ encoded state.page → state.page.output ≡ output_of given all
-
-pub whole_text : (given : Settings) (all : List Event) (state : State) → StandsSo given all state → IsAccepted given.canonical all → state.error ≡ None → WrittenText given all state
-whole_text given all state h accepted none =
-    let s = settings_for given all in
-    let well = stands_well given all state h none in
-    let begins : take (written all) all ≡ all = ap (λ n. take n all) (all_written given.canonical all accepted) ∙ take-length all in
-    let layout : list_layout s all ≡ (steps s false all at_stream first_standing).pieces =
-    list_layout_steps all accepted.stream s (ap partial_of (sym accepted.is_stream) ∙ stream_pushed accepted.stream) in
-    let page : HoldsPiecesWith None s all (steps s false all at_stream first_standing).pieces state.page =
-    subst (λ front. HoldsPiecesWith None s front (steps s false front at_stream first_standing).pieces state.page) begins well.taken.page in
-    record {
-      text = holds_text all s false None state.page page ∙ ap (text_written s) (sym layout);
-      output = (λ handed.
-          whole_output all s false state.page (λ empty. let wrong : stream_events accepted.stream ≡ [] = accepted.is_stream ∙ empty in cc) page handed
-          ∙ ap (λ pieces. cut s.limit (bytes_written s pieces)) (sym layout));
-    }

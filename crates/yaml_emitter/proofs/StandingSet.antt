@@ -39,28 +39,34 @@ nothing_before [] later h = refl
 nothing_before (x ∷ before) later h = cc
 
 -- The page before the first event is new, but for an error.
-unset_unflushed : (error : yaml_error_t) (state : State) → StandsUnflushed state.given [] error state → state.page ≡ record (new_page state.given.limit) { error = Some error }
+unset_unflushed : (error : yaml_error_t) (state : State) → StandsUnflushed state.given [] error state
+    → state.page ≡ record (new_page state.given.limit) { error = Some error }
 unset_unflushed error state h =
-    subst (λ front. HoldsPiecesWith (Some error) (settings_for state.given []) (take (written front) front) (progress (settings_for state.given []) front).pieces state.page)
+    subst (λ front. HoldsPiecesWith (Some error) (settings_for state.given []) (take (written front) front)
+    (progress (settings_for state.given []) front).pieces state.page)
     (nothing_before h.before h.later h.parts) h.page
 
-unset_stopped : (error : yaml_error_t) (state : State) → StandsStopped state.given [] error state → state.page ≡ record (new_page state.given.limit) { error = Some error }
+unset_stopped : (error : yaml_error_t) (state : State) → StandsStopped state.given [] error state
+    → state.page ≡ record (new_page state.given.limit) { error = Some error }
 unset_stopped error state h =
     elim h [
       | inl cut ↦ absurd (nothing_failed cut.front cut.event cut.later cut.failed)
       | inr other ↦ unset_unflushed error state other
     ]
 
-unset_failed : (error : yaml_error_t) (state : State) → StandsFailed state.given [] error state → state.page ≡ record (new_page state.given.limit) { error = Some error }
+unset_failed : (error : yaml_error_t) (state : State) → StandsFailed state.given [] error state
+    → state.page ≡ record (new_page state.given.limit) { error = Some error }
 unset_failed WriteError state h = unset_stopped WriteError state h
 unset_failed Memory state h = unset_stopped Memory state h
 unset_failed error state h = absurd (nothing_failed h.front h.event h.later h.failed)
 
-unset_page : (error : Option yaml_error_t) (state : State) → StandsBy state.given [] error state → state.page ≡ record (new_page state.given.limit) { error = error }
+unset_page : (error : Option yaml_error_t) (state : State) → StandsBy state.given [] error state
+    → state.page ≡ record (new_page state.given.limit) { error = error }
 unset_page None state h = h.taken.page
 unset_page (Some error) state h = unset_failed error state h.1
 
-page_set : (before after : Page) (limit most : ℕ) (error : Option yaml_error_t) → before ≡ record (new_page limit) { error = error } → after ≡ record before { limit = most } → after ≡ record (new_page most) { error = error }
+page_set : (before after : Page) (limit most : ℕ) (error : Option yaml_error_t) → before ≡ record (new_page limit) { error = error }
+    → after ≡ record before { limit = most } → after ≡ record (new_page most) { error = error }
 page_set before after limit most error h is =
     is ∙ ap (λ (p : Page). let made : Page = record p { limit = most } in made) h
 
@@ -93,7 +99,8 @@ handed_set limit most error h =
       named = h.named;
     }
 
-unflushed_set : (before after : State) (error : yaml_error_t) → IsSet before after → StandsUnflushed before.given [] error before → StandsUnflushed after.given [] error after
+unflushed_set : (before after : State) (error : yaml_error_t) → IsSet before after → StandsUnflushed before.given [] error before
+    → StandsUnflushed after.given [] error after
 unflushed_set before after error set h =
     let was : before.page ≡ record (new_page before.given.limit) { error = Some error } = unset_unflushed error before h in
     let page : after.page ≡ record (new_page after.given.limit) { error = Some error } =
@@ -112,14 +119,16 @@ unflushed_set before after error set h =
           (handed_set before.given.limit after.given.limit error handed);
     }
 
-stopped_set : (before after : State) (error : yaml_error_t) → IsSet before after → StandsStopped before.given [] error before → StandsStopped after.given [] error after
+stopped_set : (before after : State) (error : yaml_error_t) → IsSet before after → StandsStopped before.given [] error before
+    → StandsStopped after.given [] error after
 stopped_set before after error set h =
     elim h [
       | inl cut ↦ absurd (nothing_failed cut.front cut.event cut.later cut.failed)
       | inr other ↦ inr (unflushed_set before after error set other)
     ]
 
-failed_set : (error : yaml_error_t) (before after : State) → IsSet before after → StandsFailed before.given [] error before → StandsFailed after.given [] error after
+failed_set : (error : yaml_error_t) (before after : State) → IsSet before after → StandsFailed before.given [] error before
+    → StandsFailed after.given [] error after
 failed_set WriteError before after set h = stopped_set before after WriteError set h
 failed_set Memory before after set h = stopped_set before after Memory set h
 failed_set error before after set h = absurd (nothing_failed h.front h.event h.later h.failed)
@@ -137,20 +146,23 @@ stands_set before after set h =
     }
 
 -- What is set without a limit.
-pub stands_given : (before after : State) (given : Settings) (settings : Effective) → after ≡ record before { given = given; settings = settings } → given.limit ≡ before.given.limit
+pub stands_given : (before after : State) (given : Settings) (settings : Effective) → after ≡ record before { given = given; settings = settings }
+    → given.limit ≡ before.given.limit
     → StandsAfter before.given [] before → StandsAfter after.given [] after
 stands_given before after given settings set same h =
     let now : State = record before { given = given; settings = settings } in
     let limit : before.page.limit ≡ given.limit = ap (λ (p : Page). p.limit) (unset_page before.error before h.so) ∙ sym same in
     let is : IsSet before now =
-    ap (λ limit. let page : Page = record before.page { limit = limit } in let made : State = record before { given = given; settings = settings; page = page } in made) limit in
+    ap (λ limit. let page : Page = record before.page { limit = limit } in
+    let made : State = record before { given = given; settings = settings; page = page } in made) limit in
     subst (λ (s : State). StandsAfter s.given [] s) (sym set) (stands_set before now is h)
 
 pub new_state_stands : StandsAfter nothing_given [] new_state
 new_state_stands = record { texts = refl; so = new_stands nothing_given new_state refl refl refl refl refl refl }
 
 -- A flush after which all is handed out.
-pub stands_flushed : (given : Settings) (all : List Event) (state : State) (page : Page) → StandsSo given all state → state.error ≡ None → Flushed state.page page (Ok tt)
+pub stands_flushed : (given : Settings) (all : List Event) (state : State) (page : Page) → StandsSo given all state → state.error ≡ None
+    → Flushed state.page page (Ok tt)
     → StandsSo given all (record state { page = page })
 stands_flushed given all state page h none flushed =
     subst (λ e. StandsBy given all e (record state { page = page })) (sym none)
@@ -162,4 +174,5 @@ pub stands_inside : {A : Type 0} (e after : Inside A) {seen : State} → state_o
     → (state_of after).given.limit ≡ (state_of e).given.limit
     → StandsAfter seen.given [] seen → StandsAfter (state_of after).given [] (state_of after)
 stands_inside e after is set same h =
-    stands_given (state_of e) (state_of after) (state_of after).given (state_of after).settings set same (subst (λ (s : State). StandsAfter s.given [] s) (sym is) h)
+    stands_given (state_of e) (state_of after) (state_of after).given (state_of after).settings set same
+    (subst (λ (s : State). StandsAfter s.given [] s) (sym is) h)

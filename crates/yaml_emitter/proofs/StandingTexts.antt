@@ -1,5 +1,5 @@
 -- The text and the output of an emitter that stands, beside the layouts of lists that go on from its events.
-use Rattle.std.proofs.Common.{◌≡◌, refl, sym, ap, ◌∙◌, subst, arith, append_assoc, append-nil}
+use Rattle.std.proofs.Common.{◌≡◌, refl, sym, ap, ◌∙◌, subst, arith, append_assoc}
 use Rattle.std.proofs.lemmas.List.{take-append-drop, length-take-le, take_at}
 use Rattle.std.specs.Prelude.{ℕ, zero, suc, ◌≤◌, Bool, true, false, ◌&&◌, Option, None, Some, List, [], ◌∷◌, ◌++◌, length, take, drop, option_and_then}
 use Rattle.yaml_base.specs.Characters.{Text}
@@ -44,7 +44,8 @@ begin_taken n front whole is = record { rest = drop n whole; parts = ap (λ piec
 pub begin_take : (n : ℕ) (front whole : List Piece) → IsPrefix front whole → length front ≡ n → take n whole ≡ front
 begin_take n front whole h is = ap (take n) (sym h.parts) ∙ take_at front h.rest n is
 
-pub front_longer : (s : Effective) (text : Text) (front whole : List Piece) → IsPrefix text (text_written s front) → IsPrefix front whole → IsPrefix text (text_written s whole)
+pub front_longer : (s : Effective) (text : Text) (front whole : List Piece) → IsPrefix text (text_written s front) → IsPrefix front whole
+    → IsPrefix text (text_written s whole)
 front_longer s text front whole h begins =
     record {
       rest = h.rest ++ text_written s begins.rest;
@@ -90,7 +91,8 @@ scalar_one (sequence_start c) canonical p q h begins = cc
 scalar_one (mapping_start c) canonical p q h begins = cc
 scalar_one event canonical p q h begins = cc
 
-scalar_later : (front : List Event) → ScalarFollows front → (canonical : Bool) (made : Option Partial) (q : Partial) → option_and_then (λ r. pushed r front) made ≡ Some q → begins_last front ≡ true → refusal_at canonical q empty_scalar ≡ None
+scalar_later : (front : List Event) → ScalarFollows front → (canonical : Bool) (made : Option Partial) (q : Partial)
+    → option_and_then (λ r. pushed r front) made ≡ Some q → begins_last front ≡ true → refusal_at canonical q empty_scalar ≡ None
 scalar_later front others canonical None q h begins = cc
 scalar_later front others canonical (Some r) q h begins = others canonical r q h begins
 
@@ -103,7 +105,8 @@ and_false : (b : Bool) → b && false ≡ false
 and_false true = refl
 and_false false = refl
 
-pub goes_on : (canonical : Bool) (s : Effective) (front : List Event) → BeginsAccepted canonical front → GoesOn canonical s front (steps s false front at_stream first_standing).pieces
+pub goes_on : (canonical : Bool) (s : Effective) (front : List Event) → BeginsAccepted canonical front
+    → GoesOn canonical s front (steps s false front at_stream first_standing).pieces
 goes_on canonical s front begins = going (begins_last front) refl
   where
     going : (last : Bool) → begins_last front ≡ last → GoesOn canonical s front (steps s false front at_stream first_standing).pieces
@@ -129,13 +132,15 @@ taken_within zero a h = omega arith
 taken_within (suc n) [] h = absurd (omega (arith, h))
 taken_within (suc n) (x ∷ a) h = let less = taken_within n a (omega (arith, h)) in omega (arith, less)
 
-page_bytes : (s : Effective) (page : Page) (whole : List Piece) → IsPage s page → (front : IsPrefix page.text (text_written s whole)) → bytes_written s whole ≡ encoded page ++ text_bytes s.encoding front.rest
+page_bytes : (s : Effective) (page : Page) (whole : List Piece) → IsPage s page → (front : IsPrefix page.text (text_written s whole))
+    → bytes_written s whole ≡ encoded page ++ text_bytes s.encoding front.rest
 page_bytes s page whole h front =
     ap (encode (Some s.encoding)) (sym front.parts)
     ∙ encode-append s.encoding page.text front.rest
     ∙ ap (λ e. encode e page.text ++ text_bytes s.encoding front.rest) (sym h.encoding)
 
-pub output_begins : (s : Effective) (page : Page) (whole : List Piece) → IsPage s page → IsPrefix page.text (text_written s whole) → page.output ≡ cut (length page.output) (bytes_written s whole)
+pub output_begins : (s : Effective) (page : Page) (whole : List Piece) → IsPage s page → IsPrefix page.text (text_written s whole)
+    → page.output ≡ cut (length page.output) (bytes_written s whole)
 output_begins s page whole h front =
     let n = length page.output in
     let within : n ≤ length (encoded page) = taken_within n (encoded page) (sym (ap length h.handed.beginning)) in

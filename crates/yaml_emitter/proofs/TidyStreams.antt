@@ -1,12 +1,12 @@
 -- The bodies of every accepted list's layout are tidy.
 use Rattle.std.proofs.Common.{◌≡◌, ◌≤◌, refl, ap, arith}
 use Rattle.std.proofs.lemmas.Bool.{and_from}
-use Rattle.std.specs.Prelude.{ℕ, suc, Bool, true, Option, List, [], ◌∷◌, not, unwrap_or}
-use Rattle.std.specs.List.{list_all, list_any}
+use Rattle.std.specs.Prelude.{ℕ, suc, true, Option, List, [], ◌∷◌, not, unwrap_or}
+use Rattle.std.specs.List.{list_all}
 use Rattle.yaml_base.specs.Analysis.{allowances, is_special}
 use Rattle.yaml_base.specs.Characters.{Text, is_printable}
 use Rattle.yaml_base.specs.Cursor.{Cursor}
-use Rattle.yaml_base.specs.Event.{ScalarStyle, any_style, plain, single_quoted, double_quoted, literal, folded, Scalar, Event, scalar}
+use Rattle.yaml_base.specs.Event.{ScalarStyle, any_style, plain, single_quoted, double_quoted, literal, folded, Event}
 use Rattle.yaml_base.specs.NodeLayout.{body_at, body_laid}
 use Rattle.yaml_base.specs.Places.{Place, deeper}
 use Rattle.yaml_base.specs.Settings.{Effective, effective}

@@ -28,14 +28,16 @@ tag_directives-append portable (x ∷ xs) ys cursor =
 wrote_directives_then : (portable : Bool) (xs ys : List TagDirective) {before between after : Page} {answer : Result (Unit {0}) yaml_error_t}
     → Wrote (tag_directives_laid portable xs) before between (Ok tt) → Wrote (tag_directives_laid portable ys) between after answer
     → Wrote (tag_directives_laid portable (xs ++ ys)) before after answer
-wrote_directives_then portable xs ys {before} one two = wrote_as (tag_directives_laid portable (xs ++ ys)) (tag_directives-append portable xs ys before.cursor) (wrote_then one two)
+wrote_directives_then portable xs ys {before} one two = wrote_as (tag_directives_laid portable (xs ++ ys)) (tag_directives-append portable xs ys before.cursor)
+    (wrote_then one two)
 
 last_alone : (portable : Bool) (d : TagDirective) (cursor : Cursor) → tag_directive_laid portable d cursor ≡ tag_directives_laid portable (d ∷ []) cursor
 last_alone portable d cursor =
     let one = tag_directive_laid portable d cursor in
     ap (λ (text : Text). let l : Laid = record { text = text; cursor = one.cursor } in l) (sym (append-nil one.text))
 
-module _ {E : Type 0} (portable : Bool) (seen : E → TagDirective) (items : List E) (i : ℕ) (item : E) (within : i < length items) (at : item ≡ get_or items i item) where
+module _ {E : Type 0} (portable : Bool) (seen : E → TagDirective) (items : List E) (i : ℕ) (item : E) (within : i < length items)
+    (at : item ≡ get_or items i item) where
   front_more : map seen (take i items) ++ seen item ∷ [] ≡ map seen (take (i + 1) items)
   front_more =
       ap (λ x. map seen (take i items) ++ seen x ∷ []) at
@@ -52,7 +54,8 @@ module _ {E : Type 0} (portable : Bool) (seen : E → TagDirective) (items : Lis
 
   -- one more line
   pub wrote_next_directive : {before between after : Page}
-      → Wrote (tag_directives_laid portable (map seen (take i items))) before between (Ok tt) → Wrote (tag_directive_laid portable (seen item)) between after (Ok tt)
+      → Wrote (tag_directives_laid portable (map seen (take i items))) before between (Ok tt)
+      → Wrote (tag_directive_laid portable (seen item)) between after (Ok tt)
       → Wrote (tag_directives_laid portable (map seen (take (i + 1) items))) before after (Ok tt)
   wrote_next_directive {before} {between} {after} one two =
       let alone = wrote_as (tag_directives_laid portable (seen item ∷ [])) (last_alone portable (seen item) between.cursor) two in
@@ -61,7 +64,8 @@ module _ {E : Type 0} (portable : Bool) (seen : E → TagDirective) (items : Lis
 
   -- a line that failed
   pub failed_next_directive : {before between after : Page} {error : yaml_error_t}
-      → Wrote (tag_directives_laid portable (map seen (take i items))) before between (Ok tt) → Wrote (tag_directive_laid portable (seen item)) between after (Err error)
+      → Wrote (tag_directives_laid portable (map seen (take i items))) before between (Ok tt)
+      → Wrote (tag_directive_laid portable (seen item)) between after (Err error)
       → Wrote (tag_directives_laid portable (map seen items)) before after (Err error)
   failed_next_directive {before} {between} {after} {error} one two =
       subst (λ (ds : List TagDirective). Wrote (tag_directives_laid portable ds) before after (Err error)) whole

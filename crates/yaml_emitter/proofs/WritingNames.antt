@@ -68,7 +68,8 @@ sound_handle (c ∷ []) none =
     either_false (is_break c) false (mark_is_no_break c (is_true (c == tag_mark) tests.0)) refl
 sound_handle (c ∷ d ∷ rest) none =
     let last = last_from c (d ∷ rest) in
-    let tests = three_tests tag_handle_start tag_handle_end tag_handle_alphabet (not (c == tag_mark)) (not (last == tag_mark)) (list_all is_alpha (without_last (d ∷ rest))) none in
+    let tests = three_tests tag_handle_start tag_handle_end tag_handle_alphabet (not (c == tag_mark)) (not (last == tag_mark))
+    (list_all is_alpha (without_last (d ∷ rest))) none in
     let ends = either_false (is_break last) false (mark_is_no_break last (is_true (last == tag_mark) tests.1)) refl in
     either_false (is_break c) (list_any is_break (d ∷ rest)) (mark_is_no_break c (is_true (c == tag_mark) tests.0))
     (ap (list_any is_break) (front_and_last c d rest)
@@ -91,7 +92,8 @@ handles_after before (directive ∷ rest) none =
 pub sound_handles : (own : List TagDirective) → directives_fault own ≡ None → some_handle_breaks own ≡ false
 sound_handles own none = handles_after [] own none
 
-some_kept : (keeps : TagDirective → Bool) (directives : List TagDirective) → some_handle_breaks directives ≡ false → some_handle_breaks (filter keeps directives) ≡ false
+some_kept : (keeps : TagDirective → Bool) (directives : List TagDirective) → some_handle_breaks directives ≡ false
+    → some_handle_breaks (filter keeps directives) ≡ false
 some_kept keeps [] none = refl
 some_kept keeps (directive ∷ rest) none =
     let parts = or_parts (list_any is_break directive.handle) (some_handle_breaks rest) none in

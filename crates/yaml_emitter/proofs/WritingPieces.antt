@@ -1,9 +1,10 @@
 -- A piece without a body is its lead; the pieces of documents as their parts.
-use Rattle.std.proofs.Common.{◌≡◌, ℕ, Bool, true, false, not, ◌&&◌, ◌||◌, ◌==◌, ◌∙◌, Result, refl, sym, ap, append-nil, append_assoc, codes, if◌then◌else◌}
+use Rattle.std.proofs.Common.{◌≡◌, ℕ, Bool, true, false, not, ◌&&◌, ◌||◌, ◌==◌, ◌∙◌, Result, sym, ap, append-nil, append_assoc, if◌then◌else◌}
 use Rattle.yaml_base.specs.Characters.{Text}
 use Rattle.yaml_base.specs.Cursor.{Cursor, Laid, then_laid, new_line}
 use Rattle.yaml_base.specs.Event.{DocumentStart}
-use Rattle.yaml_base.specs.Layout.{has_directives, is_explicit, document_start_laid, document_start_piece, lead_alone, closing_mark_laid, sign_laid, document_end_piece}
+use Rattle.yaml_base.specs.Indicators.{indicator_laid, document_end}
+use Rattle.yaml_base.specs.Layout.{has_directives, is_explicit, document_start_laid, document_start_piece, lead_alone, closing_mark_laid, document_end_piece}
 use Rattle.yaml_base.specs.Settings.{Effective}
 use Rattle.yaml_base.specs.declared.errors.yaml_error_t.{yaml_error_t}
 use Rattle.yaml_pen.specs.Page.{Page}
@@ -24,7 +25,7 @@ document_end-laid : (implicit : Bool) (mark : ℕ) (cursor : Cursor) → documen
 document_end-laid true mark cursor = lead-laid (if mark == 0 then 1 else mark) (new_line 0 cursor)
 document_end-laid false mark cursor =
     let line = new_line 0 cursor in
-    let dots = sign_laid (codes "...") line.cursor in
+    let dots = indicator_laid document_end line.cursor in
     let last = new_line 0 dots.cursor in
     ap (λ (text : Text). let l : Laid = record { text = text; cursor = last.cursor } in l) (append_assoc line.text dots.text last.text)
     ∙ lead-laid 0 (then_laid line closing_mark_laid)

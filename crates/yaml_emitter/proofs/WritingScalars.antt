@@ -38,7 +38,8 @@ pub wrote_exit_from : {T : Type 0} {lay : Cursor → Laid} {before after : Page}
     → IsErr answer × IsErrAnd answer (λ told. told ≡ error) → Wrote lay before after (Err error) → Wrote lay before after (without_answer answer)
 wrote_exit_from {T} {lay} {before} {after} {error} answer is wrote =
     let p = err_from_is_err_and answer is.1 in
-    subst (λ (r : Result T yaml_error_t). Wrote lay before after (without_answer r)) (sym (p.1 ∙ ap (λ (e : yaml_error_t). let r : Result T yaml_error_t = Err e in r) p.2)) wrote
+    subst (λ (r : Result T yaml_error_t). Wrote lay before after (without_answer r))
+    (sym (p.1 ∙ ap (λ (e : yaml_error_t). let r : Result T yaml_error_t = Err e in r) p.2)) wrote
 
 -- a width that isn't negative limits lines as the settings say
 width_limit : (width : ℤ) → pos 0 ≤ℤ width → limit_of width ≡ seen_width width
@@ -49,7 +50,8 @@ line_limit : (simple : Bool) (width : ℤ) → pos 0 ≤ℤ width → limit_wher
 line_limit true width low = refl
 line_limit false width low = width_limit width low
 
-module _ (settings : EffectiveSettings) (in_flow simple : Bool) (value : Text) {indent width : ℤ} {column : ℕ} (is : indent ≡ pos column) (width_is : width ≡ settings.width) (low : pos 0 ≤ℤ settings.width) where
+module _ (settings : EffectiveSettings) (in_flow simple : Bool) (value : Text) {indent width : ℤ} {column : ℕ} (is : indent ≡ pos column)
+    (width_is : width ≡ settings.width) (low : pos 0 ≤ℤ settings.width) where
   limit_is : limit_where (not simple) width ≡ (if simple then None else seen_width settings.width)
   limit_is = ap (limit_where (not simple)) width_is ∙ line_limit simple settings.width low
 
@@ -148,7 +150,8 @@ module _ (s : Effective) (directives : List TagDirective) (place : Place) (simpl
       let choice = choice_of s place simple content in
       let text = scalar_text_laid choice.style s place.in_flow simple (deeper s.indent place.column) content.value in
       let whole = piece_at (scalar_piece s directives place simple content) mark cursor in
-      let lead = then_laid (place_laid s place simple cursor) (properties_laid s.portable directives content.anchor (scalar_tag s.canonical content) choice.bare) in
+      let lead = then_laid (place_laid s place simple cursor)
+      (properties_laid s.portable directives content.anchor (scalar_tag s.canonical content) choice.bare) in
       let separation = separation_laid choice.style place.in_flow content.value lead.cursor in
       let body = body_laid choice.style s (if simple then None else s.width) (deeper s.indent place.column) content.value separation.cursor in
       ap (λ (l : Laid). then_laid l text) (lead-spelled s directives place simple content.anchor (scalar_tag s.canonical content) tag choice.bare cursor is)

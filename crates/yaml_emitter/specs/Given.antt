@@ -1,6 +1,6 @@
 -- The settings of an emitter, as the definitions see them.
 use Rattle.std.specs.Prelude.{ℕ, ℤ, pos, negsuc, false, Option, None, Some, ◌==◌, if◌then◌else◌, unwrap_or}
-use Rattle.yaml_base.specs.Settings.{Settings, Effective, utf8, line_feed_break}
+use Rattle.yaml_base.specs.Settings.{largest_i32, largest_usize, Settings, Effective, utf8, line_feed_break}
 use Rattle.yaml_base.specs.Seen.{seen_encoding, seen_break}
 use Rattle.yaml_emitter.specs.declared.settings.GivenSettings.{GivenSettings}
 use Rattle.yaml_emitter.specs.declared.effective.EffectiveSettings.{EffectiveSettings}
@@ -22,7 +22,7 @@ seen_given given =
 
 -- a width of the largest `i32` is no limit
 abbrev pub seen_width : ℤ → Option ℕ
-seen_width (pos n) = if n == 2147483647 then None else Some n
+seen_width (pos n) = if n == largest_i32 then None else Some n
 seen_width (negsuc n) = None
 
 -- what the layout goes by
@@ -52,5 +52,5 @@ nothing_given =
       line_break = None;
       breaks12 = false;
       portable = false;
-      limit = 18446744073709551615;
+      limit = largest_usize;
     }

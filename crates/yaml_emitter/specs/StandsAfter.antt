@@ -78,7 +78,8 @@ pub record StandsRefused (given : Settings) (all : List Event) (error : yaml_err
 
 -- what a page holds of an event that was cut short, with the steps of the events before it, and with it: the text of
 -- those before, where memory was refused before it; or that text and a prefix of the event's own piece
-pub data HoldsCut (given : Settings) (s : Effective) (front : List Event) (event : Event) (before with_event : Steps) (error : yaml_error_t) (page : Page) : Type 0 where
+pub data HoldsCut (given : Settings) (s : Effective) (front : List Event) (event : Event) (before with_event : Steps) (error : yaml_error_t)
+    (page : Page) : Type 0 where
   holds_before : error ≡ Memory → HoldsPieces s front before.pieces page → HoldsCut given s front event before with_event error page
   holds_part :
       BeginsAccepted given.canonical (front ++ event ∷ []) → IsPage s page

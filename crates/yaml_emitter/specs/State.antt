@@ -1,6 +1,6 @@
 -- What contracts see of an emitter.
 use Rattle.std.specs.Prelude.{◌≡◌, ℕ, Bool, true, false, not, ◌||◌, is_some, Option, None, List, []}
-use Rattle.yaml_base.specs.Settings.{Settings, Effective, effective}
+use Rattle.yaml_base.specs.Settings.{largest_usize, Settings, Effective, effective}
 use Rattle.yaml_base.specs.Event.{Event}
 use Rattle.yaml_base.specs.Layout.{Standing}
 use Rattle.yaml_base.specs.Steps.{Stage, at_stream}
@@ -37,7 +37,7 @@ new_state =
       held = [];
       stage = at_stream;
       mark = 0;
-      page = new_page 18446744073709551615;
+      page = new_page largest_usize;
       error = None;
     }
 

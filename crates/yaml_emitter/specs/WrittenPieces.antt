@@ -1,8 +1,9 @@
 -- A piece as what is laid at a cursor, and the open mark.
-use Rattle.std.specs.Prelude.{ℕ, Bool, true, false, Option, List, codes}
+use Rattle.std.specs.Prelude.{ℕ, Bool, true, false, Option, List}
 use Rattle.yaml_base.specs.Cursor.{Cursor, Laid, then_laid, new_line}
 use Rattle.yaml_base.specs.Event.{Version, TagDirective}
-use Rattle.yaml_base.specs.Layout.{PieceLaid, Standing, piece_text, sign_laid, laid_if, closing_mark_laid, version_laid, tag_directives_laid, document_mark_laid, handle_laid}
+use Rattle.yaml_base.specs.Indicators.{indicator_laid, document_end, tag_directive}
+use Rattle.yaml_base.specs.Layout.{PieceLaid, Standing, piece_text, laid_if, closing_mark_laid, version_laid, tag_directives_laid, document_mark_laid, handle_laid}
 use Rattle.yaml_base.specs.Percent.{prefix_escaped}
 use Rattle.yaml_base.specs.Settings.{Effective}
 use Rattle.yaml_emitter.specs.declared.writing.marks.OpenMark.{OpenMark}
@@ -32,9 +33,9 @@ document_head_laid s closes version directives explicit cursor =
 -- a document's end: a new line, and `...` on a line of its own where it isn't implicit
 abbrev pub document_end_laid : (implicit : Bool) → Cursor → Laid
 document_end_laid true cursor = new_line 0 cursor
-document_end_laid false cursor = then_laid (then_laid (new_line 0 cursor) (sign_laid (codes "..."))) (new_line 0)
+document_end_laid false cursor = then_laid (then_laid (new_line 0 cursor) (indicator_laid document_end)) (new_line 0)
 
 -- a `%TAG` line without its end
 abbrev pub tag_words_laid : (portable : Bool) → TagDirective → Cursor → Laid
 tag_words_laid portable directive cursor =
-    then_laid (then_laid (sign_laid (codes "%TAG") cursor) (handle_laid directive.handle)) (handle_laid (prefix_escaped portable directive.prefix))
+    then_laid (then_laid (indicator_laid tag_directive cursor) (handle_laid directive.handle)) (handle_laid (prefix_escaped portable directive.prefix))

@@ -8,16 +8,12 @@ ghost use Rattle.yaml_base.specs.Settings.{Settings};
 ghost use Rattle.yaml_pen.specs.Page.{told, encoded};
 ghost use Rattle.yaml_pen.specs.Wrote.{Grows};
 ghost use Rattle.yaml_emitter.specs.Promises.{HasAllBytes, Promised};
-ghost use Rattle.yaml_emitter.specs.Processing as processing;
-ghost use Rattle.yaml_emitter.specs.Processing.{Processed};
 ghost use Rattle.yaml_emitter.specs.Queue.{is_head_ready};
 ghost use Rattle.yaml_emitter.specs.State.{KeepsSet};
 ghost use Rattle.yaml_emitter.specs.StandsAfter.{Reached, ReachedOn, StandsAfter, StandsSo, TookFirst, failed_by};
 
-use crate::check::check_names;
 use crate::emitter::yaml_emitter_t;
-use crate::queue::{closes_at_once, first_taken, is_next_ready, is_ready_alone};
-use crate::stage::Stage;
+use crate::queue::{closes_at_once, dequeue, is_next_ready, is_ready_alone};
 use std::alloc::Allocator;
 use yaml_base::{yaml_error_t, yaml_event_t};
 
@@ -34,7 +30,8 @@ pub fn yaml_emitter_emit<A: Allocator + Copy>(
     ensures stands { (given : Settings) (all : List Event) → StandsAfter given all emitter.old → StandsAfter given (all ++ seen_event event ∷ []) emitter.new }
     ensures promised { (given : Settings) (all : List Event) → StandsAfter given all emitter.old → Promised given (all ++ seen_event event ∷ []) emitter.new }
     ensures grows { Grows emitter.old.page emitter.new.page }
-    ensures waits { (given : Settings) (all : List Event) → StandsAfter given all emitter.old → emitter.old.error ≡ None → written (all ++ seen_event event ∷ []) ≡ written all → IsOk result }
+    ensures waits { (given : Settings) (all : List Event) → StandsAfter given all emitter.old → emitter.old.error ≡ None
+        → written (all ++ seen_event event ∷ []) ≡ written all → IsOk result }
     ensures kept { IsSome emitter.old.error → emitter.new ≡ record emitter.old { started = true } }
     ensures set { KeepsSet (record emitter.old { started = true }) emitter.new }
     ensures answered { result ≡ told emitter.new.error }
@@ -47,8 +44,8 @@ pub fn yaml_emitter_emit<A: Allocator + Copy>(
     if is_ready_alone(emitter.queue.as_slice(), &event) {
         return emitter.write_at_once(&event);
     }
-    emitter.take(event)?;
-    emitter.settle()
+    emitter.enqueue(event)?;
+    emitter.write_ready()
 }
 
 /// Hands out all that is written; what waits goes on waiting.
@@ -65,7 +62,8 @@ pub fn yaml_emitter_flush<A: Allocator + Copy>(
     ensures grows { Grows emitter.old.page emitter.new.page }
     ensures flushed { OnOk result ((given : Settings) (all : List Event) → StandsAfter given all emitter.old → HasAllBytes given all emitter.new) }
     ensures unflushed { result ≡ Err yaml_error_t.Memory → emitter.new.page.output ≡ emitter.old.page.output }
-    ensures empty { (given : Settings) (all : List Event) → StandsAfter given all emitter.old → emitter.old.error ≡ None → HasAllBytes given all emitter.old → emitter.new ≡ emitter.old }
+    ensures empty { (given : Settings) (all : List Event) → StandsAfter given all emitter.old → emitter.old.error ≡ None → HasAllBytes given all emitter.old
+        → emitter.new ≡ emitter.old }
     ensures kept { IsSome emitter.old.error → emitter.new ≡ emitter.old }
     ensures set { KeepsSet emitter.old emitter.new }
     ensures answered { result ≡ told emitter.new.error }
@@ -102,7 +100,7 @@ impl<A: Allocator + Copy> yaml_emitter_t<A> {
     }
 
     /// Puts an event behind those that wait. Where at most three wait, it needs no memory.
-    fn take(&mut self, event: yaml_event_t<A>) -> Result<(), yaml_error_t>
+    fn enqueue(&mut self, event: yaml_event_t<A>) -> Result<(), yaml_error_t>
         requires output { self.old.has_output ≡ true }
         requires no_error { self.old.error ≡ None }
         ensures taken { OnOk result (self.new ≡ record self.old { held = self.old.held ++ seen_event event ∷ [] }) }
@@ -141,23 +139,8 @@ impl<A: Allocator + Copy> yaml_emitter_t<A> {
         }
     }
 
-    /// One event. Its names and tags are looked at before its place.
-    fn process(&mut self, event: &yaml_event_t<A>, empty: bool) -> Result<(), yaml_error_t>
-        requires output { self.old.has_output ≡ true }
-        ensures { Processed (seen_event event.now) empty self.old self.new result }
-    {
-        check_names(self.given.canonical, event)?;
-        match self.stage {
-            Stage::Stream => self.expect_stream_start(event),
-            Stage::Document { first } => self.expect_document(first, event),
-            Stage::Node => self.expect_node(event, empty),
-            Stage::DocumentEnd => self.expect_document_end(event),
-            Stage::Nothing => self.expect_nothing(event),
-        }
-    }
-
     /// Writes the events that are ready, in order, up to the first error.
-    fn settle(&mut self) -> Result<(), yaml_error_t>
+    fn write_ready(&mut self) -> Result<(), yaml_error_t>
         requires output { self.old.has_output ≡ true }
         requires no_error { self.old.error ≡ None }
         ensures stands { (given : Settings) (all front : List Event) → Reached given all front self.old.held self.old → StandsSo given all self.new }
@@ -168,25 +151,26 @@ impl<A: Allocator + Copy> yaml_emitter_t<A> {
         ensures output { self.new.has_output ≡ true }
     {
         while is_next_ready(self.queue.as_slice()) {
-            self.write_next()?;
+            self.write_first()?;
         }
         Ok(())
     }
 
     /// Writes the first event that waits. After an error nothing waits.
-    fn write_next(&mut self) -> Result<(), yaml_error_t>
+    fn write_first(&mut self) -> Result<(), yaml_error_t>
         requires output { self.old.has_output ≡ true }
         requires no_error { self.old.error ≡ None }
         requires ready { is_head_ready self.old.held ≡ true }
         ensures next { OnOk result (ReachedOn self.old self.new) }
-        ensures failed { OnErr result ((given : Settings) (all front : List Event) → Reached given all front self.old.held self.old → StandsSo given all self.new) }
+        ensures failed { OnErr result ((given : Settings) (all front : List Event) → Reached given all front self.old.held self.old
+            → StandsSo given all self.new) }
         ensures grows { Grows self.old.page self.new.page }
         ensures shorter { OnOk result (length self.new.held < length self.old.held) }
         ensures set { KeepsSet self.old self.new }
         ensures answered { result ≡ told self.new.error }
         ensures output { self.new.has_output ≡ true }
     {
-        match self.process_next() {
+        match self.process_first() {
             Ok(()) => Ok(()),
             Err(error) => {
                 self.fail(error);
@@ -196,20 +180,12 @@ impl<A: Allocator + Copy> yaml_emitter_t<A> {
     }
 
     /// Takes the first event that waits, and processes it.
-    fn process_next(&mut self) -> Result<(), yaml_error_t>
+    fn process_first(&mut self) -> Result<(), yaml_error_t>
         requires output { self.old.has_output ≡ true }
         requires ready { is_head_ready self.old.held ≡ true }
         ensures { TookFirst self.old self.new result }
     {
-        let event = first_taken(&mut self.queue);
-        self.process_taken(event)
-    }
-
-    /// One event that was taken out of the queue.
-    fn process_taken(&mut self, event: yaml_event_t<A>) -> Result<(), yaml_error_t>
-        requires output { self.old.has_output ≡ true }
-        ensures { Processed (seen_event event) (processing.closes_at_once (seen_event event) self.old.held) self.old self.new result }
-    {
+        let event = dequeue(&mut self.queue);
         let empty = closes_at_once(&event, self.queue.as_slice());
         self.process(&event, empty)
     }

@@ -135,7 +135,8 @@ impl<A: Allocator + Copy> yaml_emitter_t<A> {
     ) -> Result<(), yaml_error_t>
         requires stage { is_at_node self.old.stage ≡ true }
         requires names { name_or_tag_fault self.old.given.canonical (start_event mapping (seen_collection content.now any_layout)) ≡ None }
-        ensures { (style : CollectionStyle) → asks_flow style ≡ flow_asked → Processed (start_event mapping (seen_collection content.now style)) empty self.old self.new result }
+        ensures { (style : CollectionStyle) → asks_flow style ≡ flow_asked
+            → Processed (start_event mapping (seen_collection content.now style)) empty self.old self.new result }
     {
         self.frames.make_room()?;
         self.open_collection(content, mapping, flow_asked, empty)
@@ -150,7 +151,8 @@ impl<A: Allocator + Copy> yaml_emitter_t<A> {
     ) -> Result<(), yaml_error_t>
         requires stage { is_at_node self.old.stage ≡ true }
         requires names { name_or_tag_fault self.old.given.canonical (start_event mapping (seen_collection content.now any_layout)) ≡ None }
-        ensures { (style : CollectionStyle) → asks_flow style ≡ flow_asked → Processed (start_event mapping (seen_collection content.now style)) empty self.old self.new result }
+        ensures { (style : CollectionStyle) → asks_flow style ≡ flow_asked
+            → Processed (start_event mapping (seen_collection content.now style)) empty self.old self.new result }
     {
         if self.frames.is_full() {
             return Err(yaml_error_t::TooDeep);
@@ -197,7 +199,8 @@ impl<A: Allocator + Copy> yaml_emitter_t<A> {
 
 /// A scalar without a tag needs a flag.
 fn lacks_tag_and_flags(content: &ScalarContent, canonical: bool) -> bool
-    ensures { result ≡ style.lacks_tag_and_flags (is_some (scalar_tag canonical (seen_scalar content.now))) content.now.plain_implicit content.now.quoted_implicit }
+    ensures { result ≡ style.lacks_tag_and_flags
+        (is_some (scalar_tag canonical (seen_scalar content.now))) content.now.plain_implicit content.now.quoted_implicit }
 {
     let tag = written_scalar_tag(content, canonical);
     tag.is_none() && !content.plain_implicit && !content.quoted_implicit
@@ -248,7 +251,13 @@ fn collection_content<'a, A: Allocator>(
     tag: &'a Option<String<A>>,
     implicit: bool,
 ) -> CollectionContent<'a>
-    ensures { (style : CollectionStyle) → seen_collection result style ≡ record { anchor = option_map seen_text anchor.now; tag = option_map seen_text tag.now; implicit = implicit; style = style } }
+    ensures { (style : CollectionStyle)
+        → seen_collection result style ≡ record {
+          anchor = option_map seen_text anchor.now;
+          tag = option_map seen_text tag.now;
+          implicit = implicit;
+          style = style;
+        } }
 {
     CollectionContent {
         anchor: borrowed_text(anchor),
@@ -262,7 +271,9 @@ fn opened_frame<A: Allocator>(pen: &Pen<A>, site: &Site, mapping: bool, in_flow:
     requires { line_column site.now.place.column + 9 ≤ most_column }
     ensures frame { seen_frame result
         ≡ record {
-          place = entry_place in_flow (first_entry mapping) (layout.entries_column in_flow (is_undented mapping (seen_role site.now.place.role)) site.now.settings.now.indent site.now.place.column pen.now.cursor);
+          place = entry_place in_flow (first_entry mapping)
+              (layout.entries_column in_flow (is_undented mapping (seen_role site.now.place.role)) site.now.settings.now.indent site.now.place.column
+              pen.now.cursor);
           simple = site.now.simple;
         } }
     ensures nested { line_column (seen_frame result).place.column ≤ line_column site.now.place.column + 9 }

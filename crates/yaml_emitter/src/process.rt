@@ -12,6 +12,7 @@ ghost use Rattle.yaml_pen.specs.Wrote.{Wrote};
 ghost use Rattle.yaml_emitter.specs.Processing.{Processed};
 ghost use Rattle.yaml_emitter.specs.WrittenPieces.{piece_at, seen_mark};
 
+use crate::check::check_names;
 use crate::directives::next_directives;
 use crate::effective::EffectiveSettings;
 use crate::emitter::yaml_emitter_t;
@@ -30,6 +31,21 @@ use yaml_mark::Directives;
 use yaml_pen::Pen;
 
 impl<A: Allocator + Copy> yaml_emitter_t<A> {
+    /// One event. Its names and tags are looked at before its place.
+    pub(crate) fn process(&mut self, event: &yaml_event_t<A>, empty: bool) -> Result<(), yaml_error_t>
+        requires output { self.old.has_output ≡ true }
+        ensures { Processed (seen_event event.now) empty self.old self.new result }
+    {
+        check_names(self.given.canonical, event)?;
+        match self.stage {
+            Stage::Stream => self.expect_stream_start(event),
+            Stage::Document { first } => self.expect_document(first, event),
+            Stage::Node => self.expect_node(event, empty),
+            Stage::DocumentEnd => self.expect_document_end(event),
+            Stage::Nothing => self.expect_nothing(event),
+        }
+    }
+
     /// Where the stream must start.
     pub(crate) fn expect_stream_start(
         &mut self,

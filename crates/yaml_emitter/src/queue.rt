@@ -142,7 +142,7 @@ fn begins_with_mapping_end<A: Allocator>(rest: &[yaml_event_t<A>]) -> bool
 }
 
 /// Takes the first event out of the queue; its room stays.
-pub(crate) fn first_taken<A: Allocator>(queue: &mut Vec<yaml_event_t<A>, A>) -> yaml_event_t<A>
+pub(crate) fn dequeue<A: Allocator>(queue: &mut Vec<yaml_event_t<A>, A>) -> yaml_event_t<A>
     requires { is_head_ready (seen_events queue.old.items) ≡ true }
     ensures first { seen_events queue.old.items ≡ seen_event result ∷ seen_events queue.new.items }
     ensures room { vec_capacity queue.new ≡ vec_capacity queue.old }

@@ -20,7 +20,8 @@ bytes_eq-chars xs ys u v =
     let whole = bytes_eq-Decides (chars xs) (chars ys) in
     same_from_decides _ _ (bytes_eq-Decides xs ys) ((λ h. same_characters xs ys u v (whole.0 h)), (λ e. whole.1 (ap chars e)))
 
-pub gives_by_bytes : {A : Type 0} (handle : List ℕ) → IsUtf8 handle → (list : List (yaml_tag_directive_t A)) → list_any (λ d. bytes_eq (string_bytes d.handle) handle) list ≡ gives_handle (chars handle) (map seen_directive list)
+pub gives_by_bytes : {A : Type 0} (handle : List ℕ) → IsUtf8 handle → (list : List (yaml_tag_directive_t A))
+    → list_any (λ d. bytes_eq (string_bytes d.handle) handle) list ≡ gives_handle (chars handle) (map seen_directive list)
 gives_by_bytes handle u [] = refl
 gives_by_bytes handle u (d ∷ list) =
     ap (λ x. x || list_any (λ e. bytes_eq (string_bytes e.handle) handle) list)

@@ -5,7 +5,7 @@ use Rattle.std.proofs.lemmas.Bool.Decides.{nat_tests}
 use Rattle.std.proofs.lemmas.Grind.{flat_map-append}
 use Rattle.std.proofs.lemmas.List.{take_more, take_all, take-append-drop}
 use Rattle.std.proofs.lemmas.Str.{encodes-chars, encode_ascii, chars-nil, chars_past_char}
-use Rattle.std.specs.Prelude.{◌==◌, ◌||◌, ◌≢◌, nat_le, IsUtf8, flat_map, not, codes}
+use Rattle.std.specs.Prelude.{◌==◌, ◌≢◌, nat_le, IsUtf8, flat_map, not, codes}
 use Rattle.std.specs.List.{list_all}
 use Rattle.std.specs.Str.{chars}
 use lib.Utf8.{encode, encodes}
@@ -78,13 +78,15 @@ module _ (portable : Bool) where
   escaped_by_bytes bytes u = ap (flat_map (byte_written portable)) (sym (encodes-chars bytes u)) ∙ text_by_bytes (chars bytes)
 
 -- one more byte, and what is left after it
-pub written_more : (f : ℕ → Text) (bytes : List ℕ) (n : ℕ) → n < length bytes → flat_map f (take (n + 1) bytes) ≡ flat_map f (take n bytes) ++ f (get_or bytes n 0)
+pub written_more : (f : ℕ → Text) (bytes : List ℕ) (n : ℕ) → n < length bytes
+    → flat_map f (take (n + 1) bytes) ≡ flat_map f (take n bytes) ++ f (get_or bytes n 0)
 written_more f bytes n h =
     ap (flat_map f) (take_more bytes n 0 h)
     ∙ flat_map-append f (take n bytes) (get_or bytes n 0 ∷ [])
     ∙ ap (λ x. flat_map f (take n bytes) ++ x) (append-nil (f (get_or bytes n 0)))
 
-pub written_rest : (f : ℕ → Text) (bytes : List ℕ) (n : ℕ) → n < length bytes → flat_map f bytes ≡ (flat_map f (take n bytes) ++ f (get_or bytes n 0)) ++ flat_map f (drop (n + 1) bytes)
+pub written_rest : (f : ℕ → Text) (bytes : List ℕ) (n : ℕ) → n < length bytes
+    → flat_map f bytes ≡ (flat_map f (take n bytes) ++ f (get_or bytes n 0)) ++ flat_map f (drop (n + 1) bytes)
 written_rest f bytes n h =
     ap (flat_map f) (sym (take-append-drop (n + 1) bytes))
     ∙ flat_map-append f (take (n + 1) bytes) (drop (n + 1) bytes)
@@ -94,14 +96,21 @@ abbrev with_column : ℕ → Text → Text → Bool → Laid
 with_column column front text indention =
     record { text = front ++ text; cursor = record { column = column_after text (column_after front column); whitespace = false; indention = indention } }
 
-content_by : (separated indention : Bool) (column : ℕ) (text : Text) → with_column column (cond separated (space ∷ []) [] ++ []) text (indention && false) ≡ record { text = cond separated (space ∷ []) [] ++ text; cursor = record { column = column_after (cond separated (space ∷ []) [] ++ text) column; whitespace = false; indention = false } }
+content_by : (separated indention : Bool) (column : ℕ) (text : Text)
+    → with_column column (cond separated (space ∷ []) [] ++ []) text (indention && false)
+    ≡ record {
+      text = cond separated (space ∷ []) []
+          ++ text;
+      cursor = record { column = column_after (cond separated (space ∷ []) [] ++ text) column; whitespace = false; indention = false };
+    }
 content_by true true column text = refl
 content_by true false column text = refl
 content_by false true column text = refl
 content_by false false column text = refl
 
 -- an indicator without a sign, and then a name's text
-pub content_laid : (need : Bool) (text : Text) (cursor : Cursor) → then_laid (indicator [] need false false cursor) (text_laid text) ≡ name_laid (space_if need cursor ++ text) cursor
+pub content_laid : (need : Bool) (text : Text) (cursor : Cursor)
+    → then_laid (indicator [] need false false cursor) (text_laid text) ≡ name_laid (space_if need cursor ++ text) cursor
 content_laid need text cursor = content_by (need && not cursor.whitespace) cursor.indention cursor.column text
 
 -- the three characters of a percent form
@@ -115,11 +124,15 @@ form_is byte high low h e f =
 abbrev pub content : Bool → Text → Cursor → Laid
 content need text cursor = name_laid (space_if need cursor ++ text) cursor
 
-pub content_cut : {before after : Page} {error : yaml_error_t} (need : Bool) (text : Text) → Wrote (indicator (chars []) need false false) before after (Err error) → Wrote (content need text) before after (Err error)
+pub content_cut : {before after : Page} {error : yaml_error_t} (need : Bool) (text : Text)
+    → Wrote (indicator (chars []) need false false) before after (Err error) → Wrote (content need text) before after (Err error)
 content_cut {before} need text wrote =
-    wrote_cut (content need text) text (sym (ap (λ t. (space_if need before.cursor ++ t) ++ text) chars-nil ∙ ap (λ t. t ++ text) (append-nil (space_if need before.cursor)))) wrote
+    wrote_cut (content need text) text
+    (sym (ap (λ t. (space_if need before.cursor ++ t) ++ text) chars-nil ∙ ap (λ t. t ++ text) (append-nil (space_if need before.cursor)))) wrote
 
-pub content_whole : {before between after : Page} {answer : Result (Unit {0}) yaml_error_t} (need : Bool) (text : Text) → Wrote (indicator (chars []) need false false) before between (Ok tt) → Wrote (text_laid text) between after answer → Wrote (content need text) before after answer
+pub content_whole : {before between after : Page} {answer : Result (Unit {0}) yaml_error_t} (need : Bool) (text : Text)
+    → Wrote (indicator (chars []) need false false) before between (Ok tt) → Wrote (text_laid text) between after answer
+    → Wrote (content need text) before after answer
 content_whole {before} {between} {after} {answer} need text one two =
     wrote_as (content need text) (content_laid need text before.cursor)
     (wrote_then (subst (λ (t : Text). Wrote (indicator t need false false) before between (Ok tt)) chars-nil one) two)
@@ -128,32 +141,46 @@ content_whole {before} {between} {after} {answer} need text one two =
 marked_content : (text : Text) (cursor : Cursor) → then_laid (content true (tag_mark ∷ []) cursor) (content false text) ≡ content true (tag_mark ∷ text) cursor
 marked_content text cursor = by cursor.column cursor.whitespace
   where
-    by : (column : ℕ) (white : Bool) → then_laid (content true (tag_mark ∷ []) (record { column = column; whitespace = white; indention = cursor.indention })) (content false text)
+    by : (column : ℕ) (white : Bool)
+        → then_laid (content true (tag_mark ∷ []) (record { column = column; whitespace = white; indention = cursor.indention })) (content false text)
         ≡ content true (tag_mark ∷ text) (record { column = column; whitespace = white; indention = cursor.indention })
     by column true = refl
     by column false = refl
 
-pub marked_then : {before between after : Page} {answer : Result (Unit {0}) yaml_error_t} (text : Text) → Wrote (content true (tag_mark ∷ [])) before between (Ok tt) → Wrote (content false text) between after answer → Wrote (content true (tag_mark ∷ text)) before after answer
+pub marked_then : {before between after : Page} {answer : Result (Unit {0}) yaml_error_t} (text : Text)
+    → Wrote (content true (tag_mark ∷ [])) before between (Ok tt) → Wrote (content false text) between after answer
+    → Wrote (content true (tag_mark ∷ text)) before after answer
 marked_then {before} text one two = wrote_as (content true (tag_mark ∷ text)) (marked_content text before.cursor) (wrote_then one two)
 
 -- A text, byte by byte.
 
 module _ (portable : Bool) where
   -- all bytes are the text
-  pub text_whole : {before after : Page} {answer : Result (Unit {0}) yaml_error_t} (bytes given : List ℕ) → given ≡ bytes → IsUtf8 bytes → Wrote (text_laid (flat_map (byte_written portable) given)) before after answer → Wrote (text_laid (suffix_escaped portable (chars bytes))) before after answer
+  pub text_whole : {before after : Page} {answer : Result (Unit {0}) yaml_error_t} (bytes given : List ℕ) → given ≡ bytes → IsUtf8 bytes
+      → Wrote (text_laid (flat_map (byte_written portable) given)) before after answer
+      → Wrote (text_laid (suffix_escaped portable (chars bytes))) before after answer
   text_whole {before} {after} {answer} bytes given e u wrote =
       subst (λ (t : Text). Wrote (text_laid t) before after answer) (ap (flat_map (byte_written portable)) e ∙ escaped_by_bytes portable bytes u) wrote
 
   -- one more byte is written, or fails
-  pub bytes_more : {before between after : Page} (bytes : List ℕ) (n : ℕ) → n < length bytes → Wrote (text_laid (flat_map (byte_written portable) (take n bytes))) before between (Ok tt) → Wrote (text_laid (byte_written portable (get_or bytes n 0))) between after (Ok tt) → Wrote (text_laid (flat_map (byte_written portable) (take (n + 1) bytes))) before after (Ok tt)
+  pub bytes_more : {before between after : Page} (bytes : List ℕ) (n : ℕ) → n < length bytes
+      → Wrote (text_laid (flat_map (byte_written portable) (take n bytes))) before between (Ok tt)
+      → Wrote (text_laid (byte_written portable (get_or bytes n 0))) between after (Ok tt)
+      → Wrote (text_laid (flat_map (byte_written portable) (take (n + 1) bytes))) before after (Ok tt)
   bytes_more {before} {between} {after} bytes n h one two =
       subst (λ (t : Text). Wrote (text_laid t) before after (Ok tt)) (sym (written_more (byte_written portable) bytes n h)) (wrote_text_then one two)
 
-  pub bytes_failed : {before between after : Page} {error : yaml_error_t} (bytes : List ℕ) (n : ℕ) → n < length bytes → Wrote (text_laid (flat_map (byte_written portable) (take n bytes))) before between (Ok tt) → Wrote (text_laid (byte_written portable (get_or bytes n 0))) between after (Err error) → Wrote (text_laid (flat_map (byte_written portable) bytes)) before after (Err error)
+  pub bytes_failed : {before between after : Page} {error : yaml_error_t} (bytes : List ℕ) (n : ℕ) → n < length bytes
+      → Wrote (text_laid (flat_map (byte_written portable) (take n bytes))) before between (Ok tt)
+      → Wrote (text_laid (byte_written portable (get_or bytes n 0))) between after (Err error)
+      → Wrote (text_laid (flat_map (byte_written portable) bytes)) before after (Err error)
   bytes_failed bytes n h one two =
-      wrote_cut (text_laid (flat_map (byte_written portable) bytes)) (flat_map (byte_written portable) (drop (n + 1) bytes)) (written_rest (byte_written portable) bytes n h) (wrote_text_then one two)
+      wrote_cut (text_laid (flat_map (byte_written portable) bytes)) (flat_map (byte_written portable) (drop (n + 1) bytes))
+      (written_rest (byte_written portable) bytes n h) (wrote_text_then one two)
 
-  pub bytes_whole : {before after : Page} (bytes : List ℕ) (n : ℕ) → length bytes ≤ n → Wrote (text_laid (flat_map (byte_written portable) (take n bytes))) before after (Ok tt) → Wrote (text_laid (flat_map (byte_written portable) bytes)) before after (Ok tt)
+  pub bytes_whole : {before after : Page} (bytes : List ℕ) (n : ℕ) → length bytes ≤ n
+      → Wrote (text_laid (flat_map (byte_written portable) (take n bytes))) before after (Ok tt)
+      → Wrote (text_laid (flat_map (byte_written portable) bytes)) before after (Ok tt)
   bytes_whole {before} {after} bytes n h one =
       subst (λ (t : List ℕ). Wrote (text_laid (flat_map (byte_written portable) t)) before after (Ok tt)) (take_all n bytes h) one
 
@@ -165,12 +192,14 @@ prefix_as_tag [] = refl
 prefix_as_tag (c ∷ text) = refl
 
 -- portably too where no `!` begins it
-pub prefix_unmarked : (bytes : List ℕ) → IsUtf8 bytes → ((rest : List ℕ) → bytes ≢ tag_mark ∷ rest) → prefix_escaped true (chars bytes) ≡ percent_escaped (chars bytes)
+pub prefix_unmarked : (bytes : List ℕ) → IsUtf8 bytes → ((rest : List ℕ) → bytes ≢ tag_mark ∷ rest)
+    → prefix_escaped true (chars bytes) ≡ percent_escaped (chars bytes)
 prefix_unmarked bytes u h = by (chars bytes) (encodes-chars bytes u)
   where
     other : (c : ℕ) (text : Text) → encodes (c ∷ text) ≡ bytes → (c == tag_mark) ≡ false
     other c text e =
-        ne_eqb c tag_mark (λ same. h (encodes text) (sym e ∙ ap (λ x. encode x ++ encodes text) same ∙ ap (λ x. x ++ encodes text) (encode_ascii tag_mark (lit< tt))))
+        ne_eqb c tag_mark (λ same. h (encodes text)
+        (sym e ∙ ap (λ x. encode x ++ encodes text) same ∙ ap (λ x. x ++ encodes text) (encode_ascii tag_mark (lit< tt))))
 
     by : (text : Text) → encodes text ≡ bytes → prefix_escaped true text ≡ percent_escaped text
     by [] e = refl
@@ -184,6 +213,7 @@ prefix_marked bytes rest u e =
 -- so it is by what stands after a `!` that begins it
 pub prefix_answer : (bytes : List ℕ) (portable : Bool) (answer : Option (Bor (List ℕ))) → portable ≡ true → IsUtf8 bytes
     → MatchOption answer ((rest : List ℕ) → bytes ≢ tag_mark ∷ rest) (λ rest. bytes ≡ tag_mark ∷ rest.now)
-    → MatchOption answer (prefix_escaped portable (chars bytes) ≡ percent_escaped (chars bytes)) (λ rest. prefix_escaped portable (chars bytes) ≡ tag_mark ∷ percent_escaped (chars rest.now))
+    → MatchOption answer (prefix_escaped portable (chars bytes) ≡ percent_escaped (chars bytes))
+    (λ rest. prefix_escaped portable (chars bytes) ≡ tag_mark ∷ percent_escaped (chars rest.now))
 prefix_answer bytes portable None e u h = ap (λ b. prefix_escaped b (chars bytes)) e ∙ prefix_unmarked bytes u h
 prefix_answer bytes portable (Some rest) e u h = ap (λ b. prefix_escaped b (chars bytes)) e ∙ prefix_marked bytes rest.now u h

@@ -38,7 +38,8 @@ good text a b c rest e h =
     let Q : (list_all is_alpha (c ∷ rest) ≡ true) → None ≡ name_fault a b (c ∷ rest) = λ k. rw k refl in
     subst P (sym e) Q h
 
-pub good_name : (bytes : List ℕ) (if_empty if_other : ℕ) → IsUtf8 bytes → (length bytes == 0) ≡ false → list_all is_alpha (chars bytes) ≡ true → None ≡ name_fault if_empty if_other (chars bytes)
+pub good_name : (bytes : List ℕ) (if_empty if_other : ℕ) → IsUtf8 bytes → (length bytes == 0) ≡ false → list_all is_alpha (chars bytes) ≡ true
+    → None ≡ name_fault if_empty if_other (chars bytes)
 good_name bytes a b u n h = let first = characters_begin bytes u n in good (chars bytes) a b first.0 first.1 first.2 h
 
 pub either_way : {A : Type 0} (test : Bool) {x y z : A} → x ≡ y → x ≡ z → x ≡ cond test y z
@@ -55,7 +56,8 @@ started c rest h = rw h refl
 
 begins_otherwise : (bytes : List ℕ) (c : ℕ) (rest : Text) → encodes (c ∷ rest) ≡ bytes → ((more : List ℕ) → bytes ≢ tag_mark ∷ more) → (c == tag_mark) ≡ false
 begins_otherwise bytes c rest e h =
-    ne_eqb c tag_mark (λ same. h (encodes rest) (sym e ∙ ap (λ x. encode x ++ encodes rest) same ∙ ap (λ x. x ++ encodes rest) (encode_ascii tag_mark (lit< tt))))
+    ne_eqb c tag_mark (λ same. h (encodes rest)
+    (sym e ∙ ap (λ x. encode x ++ encodes rest) same ∙ ap (λ x. x ++ encodes rest) (encode_ascii tag_mark (lit< tt))))
 
 pub no_start : (bytes : List ℕ) → IsUtf8 bytes → (length bytes == 0) ≡ false → ((more : List ℕ) → bytes ≢ tag_mark ∷ more) → Some 8 ≡ handle_fault (chars bytes)
 no_start bytes u n h =
@@ -73,7 +75,8 @@ pub mark_alone : (bytes rest : List ℕ) → IsUtf8 bytes → bytes ≡ tag_mark
 mark_alone bytes rest u e h =
     ap handle_fault (sym ((mark_and bytes rest u e).0 ∙ ap (λ x. tag_mark ∷ x) (no_characters rest h)))
 
-ends_otherwise : (bytes : List ℕ) (c : ℕ) (more : Text) → encodes (c ∷ more) ≡ bytes → ((front : List ℕ) → bytes ≢ front ++ tag_mark ∷ []) → (last_from tag_mark (c ∷ more) == tag_mark) ≡ false
+ends_otherwise : (bytes : List ℕ) (c : ℕ) (more : Text) → encodes (c ∷ more) ≡ bytes → ((front : List ℕ) → bytes ≢ front ++ tag_mark ∷ [])
+    → (last_from tag_mark (c ∷ more) == tag_mark) ≡ false
 ends_otherwise bytes c more e h =
     ne_eqb _ _
     (λ same. h (encodes (without_last (c ∷ more)))
@@ -86,7 +89,8 @@ ends_otherwise bytes c more e h =
 ended : (c : ℕ) (more : Text) → (last_from tag_mark (c ∷ more) == tag_mark) ≡ false → Some 9 ≡ handle_fault (tag_mark ∷ c ∷ more)
 ended c more h = rw h refl
 
-pub no_end : (bytes rest : List ℕ) → IsUtf8 bytes → bytes ≡ tag_mark ∷ rest → (length rest == 0) ≡ false → ((front : List ℕ) → rest ≢ front ++ tag_mark ∷ []) → Some 9 ≡ handle_fault (chars bytes)
+pub no_end : (bytes rest : List ℕ) → IsUtf8 bytes → bytes ≡ tag_mark ∷ rest → (length rest == 0) ≡ false → ((front : List ℕ) → rest ≢ front ++ tag_mark ∷ [])
+    → Some 9 ≡ handle_fault (chars bytes)
 no_end bytes rest u e n h =
     let whole = mark_and bytes rest u e in
     let first = characters_begin rest whole.1 n in
@@ -110,7 +114,8 @@ front_is_text front u =
 between : (middle : Text) (kept : Bool) → list_all is_alpha middle ≡ kept → cond kept None (Some 10) ≡ handle_fault (tag_mark ∷ (middle ++ tag_mark ∷ []))
 between middle kept h = rw (last-append tag_mark middle tag_mark, without_last-append middle tag_mark, h) refl
 
-pub both_marks : (bytes rest middle : List ℕ) (kept : Bool) → IsUtf8 bytes → bytes ≡ tag_mark ∷ rest → rest ≡ middle ++ tag_mark ∷ [] → list_all is_alpha (chars middle) ≡ kept → cond kept None (Some 10) ≡ handle_fault (chars bytes)
+pub both_marks : (bytes rest middle : List ℕ) (kept : Bool) → IsUtf8 bytes → bytes ≡ tag_mark ∷ rest → rest ≡ middle ++ tag_mark ∷ []
+    → list_all is_alpha (chars middle) ≡ kept → cond kept None (Some 10) ≡ handle_fault (chars bytes)
 both_marks bytes rest middle kept u e f h =
     let whole = mark_and bytes rest u e in
     let P : List ℕ → Type 0 = λ x. IsUtf8 x in
@@ -128,7 +133,9 @@ pub good_prefix : (bytes : List ℕ) → IsUtf8 bytes → (length bytes == 0) �
 good_prefix bytes u h = rw (characters_begin bytes u h).2 refl
 
 -- a directive with a good handle is refused for its prefix alone; its texts are those that a reader of it got
-pub by_prefix : (handle prefix handle_got prefix_got : List ℕ) (fault : Option ℕ) → handle_got ≡ handle → prefix_got ≡ prefix → None ≡ handle_fault (chars handle_got) → fault ≡ prefix_fault (chars prefix_got) → fault ≡ option_or (handle_fault (chars handle)) (prefix_fault (chars prefix))
+pub by_prefix : (handle prefix handle_got prefix_got : List ℕ) (fault : Option ℕ) → handle_got ≡ handle → prefix_got ≡ prefix
+    → None ≡ handle_fault (chars handle_got) → fault ≡ prefix_fault (chars prefix_got)
+    → fault ≡ option_or (handle_fault (chars handle)) (prefix_fault (chars prefix))
 by_prefix handle prefix handle_got prefix_got fault e f h k =
     k ∙ ap (λ x. prefix_fault (chars x)) f
     ∙ ap (λ x. option_or x (prefix_fault (chars prefix))) (h ∙ ap (λ x. handle_fault (chars x)) e)

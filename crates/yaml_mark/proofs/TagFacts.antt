@@ -114,7 +114,9 @@ abbrev first_place : {X : Type 0} → (X → Bool) → List X → Option ℕ
 first_place p [] = None
 first_place p (x ∷ xs) = cond (p x) (Some 0) (option_map suc (first_place p xs))
 
-at_first : (passes : Bool) (n l : ℕ) → cond (nat_lt (cond (not passes) (1 + n) 0) (suc l)) (Some (cond (not passes) (1 + n) 0)) None ≡ cond passes (Some 0) (option_map suc (cond (nat_lt n l) (Some n) None))
+at_first : (passes : Bool) (n l : ℕ)
+    → cond (nat_lt (cond (not passes) (1 + n) 0) (suc l)) (Some (cond (not passes) (1 + n) 0)) None
+    ≡ cond passes (Some 0) (option_map suc (cond (nat_lt n l) (Some n) None))
 at_first true n l = rw (lt-ltb 0 (suc l) (omega arith)) refl
 at_first false n l =
     ⊎_elim
@@ -133,10 +135,12 @@ first-map p q f h (x ∷ xs) =
     ap (λ b. cond b (Some 0) (option_map suc (first_place q xs))) (h x)
     ∙ ap (λ o. cond (p (f x)) (Some 0) (option_map suc o)) (first-map p q f h xs)
 
-pub first_by_bytes : {A : Type 0} (tag : List ℕ) → IsUtf8 tag → (list : List (yaml_tag_directive_t A)) → position (λ d. begins_and_is_shorter (string_bytes d.prefix) tag) list ≡ position (fits tag) (map seen_directive list)
+pub first_by_bytes : {A : Type 0} (tag : List ℕ) → IsUtf8 tag → (list : List (yaml_tag_directive_t A))
+    → position (λ d. begins_and_is_shorter (string_bytes d.prefix) tag) list ≡ position (fits tag) (map seen_directive list)
 first_by_bytes tag u list =
     position-first (λ d. begins_and_is_shorter (string_bytes d.prefix) tag) list
-    ∙ first-map (fits tag) (λ d. begins_and_is_shorter (string_bytes d.prefix) tag) seen_directive (λ d. fits_by_bytes (string_bytes d.prefix) tag (IsUtf8-string_bytes d.prefix) u) list
+    ∙ first-map (fits tag) (λ d. begins_and_is_shorter (string_bytes d.prefix) tag) seen_directive
+    (λ d. fits_by_bytes (string_bytes d.prefix) tag (IsUtf8-string_bytes d.prefix) u) list
     ∙ sym (position-first (fits tag) (map seen_directive list))
 
 -- how a tag is spelled, given the number of the first directive that fits
@@ -144,27 +148,35 @@ abbrev SpelledAt : List TagDirective → Text → Option ℕ → Spelling → Ty
 SpelledAt directives tag number spelled_as =
     MatchOption number
     (spelled_as ≡ verbatim tag)
-    (λ n. (directive : TagDirective) × (suffix : Text) × (slice_get directives n ≡ Some directive) × (behind directive.prefix tag ≡ Some suffix) × (spelled_as ≡ shorthand directive.handle suffix))
+    (λ n. (directive : TagDirective) × (suffix : Text) × (slice_get directives n ≡ Some directive) × (behind directive.prefix tag ≡ Some suffix)
+    × (spelled_as ≡ shorthand directive.handle suffix))
 
-next_place : (directive : TagDirective) (directives : List TagDirective) (tag : Text) (number : Option ℕ) (s : Spelling) → SpelledAt directives tag number s → SpelledAt (directive ∷ directives) tag (option_map suc number) s
+next_place : (directive : TagDirective) (directives : List TagDirective) (tag : Text) (number : Option ℕ) (s : Spelling) → SpelledAt directives tag number s
+    → SpelledAt (directive ∷ directives) tag (option_map suc number) s
 next_place directive directives tag None s h = h
 next_place directive directives tag (Some n) s h = h
 
-place_of : (directive : TagDirective) (directives : List TagDirective) (tag : Text) (suffix : Option Text) → behind directive.prefix tag ≡ suffix → SpelledAt directives tag (first_place (λ d. is_some (behind d.prefix tag)) directives) (spelling directives tag) → SpelledAt (directive ∷ directives) tag (cond (is_some suffix) (Some 0) (option_map suc (first_place (λ d. is_some (behind d.prefix tag)) directives))) (spelling_by directive.handle suffix (spelling directives tag))
+place_of : (directive : TagDirective) (directives : List TagDirective) (tag : Text) (suffix : Option Text) → behind directive.prefix tag ≡ suffix
+    → SpelledAt directives tag (first_place (λ d. is_some (behind d.prefix tag)) directives) (spelling directives tag)
+    → SpelledAt (directive ∷ directives) tag (cond (is_some suffix) (Some 0) (option_map suc (first_place (λ d. is_some (behind d.prefix tag)) directives)))
+    (spelling_by directive.handle suffix (spelling directives tag))
 place_of directive directives tag None e h = next_place directive directives tag _ _ h
 place_of directive directives tag (Some suffix) e h = (directive, suffix, refl, e, refl)
 
-spelled_at : (directives : List TagDirective) (tag : Text) → SpelledAt directives tag (first_place (λ d. is_some (behind d.prefix tag)) directives) (spelling directives tag)
+spelled_at : (directives : List TagDirective) (tag : Text)
+    → SpelledAt directives tag (first_place (λ d. is_some (behind d.prefix tag)) directives) (spelling directives tag)
 spelled_at [] tag = refl
 spelled_at (directive ∷ directives) tag =
     place_of directive directives tag (behind directive.prefix tag) refl (spelled_at directives tag)
 
-at_position : (directives : List TagDirective) (tag : List ℕ) (number : Option ℕ) → number ≡ position (fits tag) directives → SpelledAt directives (chars tag) number (spelling directives (chars tag))
+at_position : (directives : List TagDirective) (tag : List ℕ) (number : Option ℕ) → number ≡ position (fits tag) directives
+    → SpelledAt directives (chars tag) number (spelling directives (chars tag))
 at_position directives tag number e =
     let P : Option ℕ → Type 0 = λ o. SpelledAt directives (chars tag) o (spelling directives (chars tag)) in
     subst P (sym (e ∙ position-first (fits tag) directives)) (spelled_at directives (chars tag))
 
-pub spelled_whole : (directives : List TagDirective) (tag : List ℕ) → None ≡ position (fits tag) directives → spelling directives (chars tag) ≡ verbatim (chars tag)
+pub spelled_whole : (directives : List TagDirective) (tag : List ℕ) → None ≡ position (fits tag) directives
+    → spelling directives (chars tag) ≡ verbatim (chars tag)
 spelled_whole directives tag e = at_position directives tag None e
 
 -- the tag is the prefix and the suffix
@@ -172,7 +184,9 @@ seam : (tag : List ℕ) (prefix suffix : Text) → IsUtf8 tag → behind prefix 
 seam tag prefix suffix u e =
     sym (encodes-chars tag u) ∙ ap encodes (sym (behind-whole prefix (chars tag) suffix e)) ∙ encodes-append prefix suffix
 
-pub spelled_short : (directives : List TagDirective) (tag : List ℕ) (number place : ℕ) → IsUtf8 tag → Some number ≡ position (fits tag) directives → ((d : TagDirective) → slice_get directives number ≡ Some d → place ≡ length (encodes d.prefix)) → IsCutAt directives tag number place (spelling directives (chars tag))
+pub spelled_short : (directives : List TagDirective) (tag : List ℕ) (number place : ℕ) → IsUtf8 tag → Some number ≡ position (fits tag) directives
+    → ((d : TagDirective) → slice_get directives number ≡ Some d → place ≡ length (encodes d.prefix))
+    → IsCutAt directives tag number place (spelling directives (chars tag))
 spelled_short directives tag number place u e long =
     let found = at_position directives tag (Some number) e in
     let cut = seam tag found.0.prefix found.1 u found.3 in
@@ -189,13 +203,20 @@ spelled_short directives tag number place u e long =
       directive = found.0;
       given = found.2;
       prefix = ap (λ n. take n tag) at ∙ ap (take (length (encodes found.0.prefix))) cut ∙ take-append_seam (encodes found.0.prefix) (encodes found.1);
-      shorter = omega (arith, ap length cut, length-append (encodes found.0.prefix) (encodes found.1), length-le-encodes found.1, some_length found.0.prefix (chars tag) found.1 found.3);
+      shorter = omega (
+        arith,
+        ap length cut,
+        length-append (encodes found.0.prefix) (encodes found.1),
+        length-le-encodes found.1,
+        some_length found.0.prefix (chars tag) found.1 found.3,
+      );
       boundary = subst IsCut (sym at) (IsCharBoundary-at_seam tag (encodes found.0.prefix) (encodes found.1) cut (found.1, (good, refl)));
       spelling = found.4 ∙ ap (shorthand found.0.handle) (sym (ap chars suffix ∙ chars-encodes found.1 good));
     }
 
 -- The length of a prefix.
-pub prefix_at : {A : Type 0} (list : List (yaml_tag_directive_t A)) (number : ℕ) (at : yaml_tag_directive_t A) (directive : TagDirective) → at ≡ get_or list number at → slice_get (map seen_directive list) number ≡ Some directive → string_bytes at.prefix ≡ encodes directive.prefix
+pub prefix_at : {A : Type 0} (list : List (yaml_tag_directive_t A)) (number : ℕ) (at : yaml_tag_directive_t A) (directive : TagDirective)
+    → at ≡ get_or list number at → slice_get (map seen_directive list) number ≡ Some directive → string_bytes at.prefix ≡ encodes directive.prefix
 prefix_at list number at directive e k =
     let h : number < length list = omega (arith, slice_get_within (map seen_directive list) number directive k, length-map list seen_directive) in
     let read : slice_get (map seen_directive list) number ≡ Some (seen_directive at) =

@@ -43,8 +43,10 @@ impl<A: Allocator> Directives<A> {
     ) -> Result<(), yaml_error_t>
     where
         A: Copy,
-        ensures there { gives_handle (seen_directive directive.now).handle self.old ≡ true → (refused result ≡ (if allow_duplicates then None else Some duplicate_directive)) × (self.new ≡ self.old) }
-        ensures added { gives_handle (seen_directive directive.now).handle self.old ≡ false → self.new ≡ (if is_ok result then self.old ++ seen_directive directive.now ∷ [] else self.old) }
+        ensures there { gives_handle (seen_directive directive.now).handle self.old ≡ true
+            → (refused result ≡ (if allow_duplicates then None else Some duplicate_directive)) × (self.new ≡ self.old) }
+        ensures added { gives_handle (seen_directive directive.now).handle self.old ≡ false
+            → self.new ≡ (if is_ok result then self.old ++ seen_directive directive.now ∷ [] else self.old) }
         ensures memory { gives_handle (seen_directive directive.now).handle self.old ≡ false → IfErr result (λ e. e ≡ yaml_error_t.Memory) }
     {
         if self.gives(directive.handle.as_str()) {

@@ -78,7 +78,8 @@ pub fn write_tag_prefix<A: Allocator>(
 
 // What follows the `!` of a prefix whose `!` stands raw.
 fn after_raw_mark(prefix: &str, portable: bool) -> Option<&str>
-    ensures { MatchOption result (percent.prefix_escaped portable (chars prefix.now) ≡ percent.percent_escaped (chars prefix.now)) (λ rest. percent.prefix_escaped portable (chars prefix.now) ≡ tag_mark ∷ percent.percent_escaped (chars rest.now)) }
+    ensures { MatchOption result (percent.prefix_escaped portable (chars prefix.now) ≡ percent.percent_escaped (chars prefix.now))
+        (λ rest. percent.prefix_escaped portable (chars prefix.now) ≡ tag_mark ∷ percent.percent_escaped (chars rest.now)) }
 {
     if portable {
         prefix.strip_prefix('!')

@@ -52,8 +52,23 @@ one_start c = elim (cases_lt c 128) [
   | inr more ↦ elim (cases_lt c 2048) [
     | inl two ↦ rw (le-ltb c 128 more, lt-ltb c 2048 two, first_starts (192 + c / 64) (omega arith), next_starts c)
     | inr many ↦ elim (cases_lt c 65536) [
-      | inl three ↦ rw (le-ltb c 128 more, le-ltb c 2048 many, lt-ltb c 65536 three, first_starts (224 + c / 4096) (omega arith), next_starts (c / 64), next_starts c)
-      | inr four ↦ rw (le-ltb c 128 more, le-ltb c 2048 many, le-ltb c 65536 four, first_starts (240 + c / 262144) (omega arith), next_starts (c / 4096), next_starts (c / 64), next_starts c)
+      | inl three ↦ rw (
+        le-ltb c 128 more,
+        le-ltb c 2048 many,
+        lt-ltb c 65536 three,
+        first_starts (224 + c / 4096) (omega arith),
+        next_starts (c / 64),
+        next_starts c,
+      )
+      | inr four ↦ rw (
+        le-ltb c 128 more,
+        le-ltb c 2048 many,
+        le-ltb c 65536 four,
+        first_starts (240 + c / 262144) (omega arith),
+        next_starts (c / 4096),
+        next_starts (c / 64),
+        next_starts c,
+      )
     ]
   ]
 ]

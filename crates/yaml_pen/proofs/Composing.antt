@@ -13,7 +13,8 @@ use Rattle.yaml_pen.specs.Wrote.{Wrote, WroteAll, Flushed, Grows, named_text}
 use Rattle.yaml_pen.proofs.Writing.{none_from_told, column_after-append}
 
 -- line breaks are written part by part
-pub with_breaks_written-append : (setting : LineBreak) (xs ys : Text) → with_breaks_written setting (xs ++ ys) ≡ with_breaks_written setting xs ++ with_breaks_written setting ys
+pub with_breaks_written-append : (setting : LineBreak) (xs ys : Text)
+    → with_breaks_written setting (xs ++ ys) ≡ with_breaks_written setting xs ++ with_breaks_written setting ys
 with_breaks_written-append setting [] ys = refl
 with_breaks_written-append setting (x ∷ xs) ys =
     let first : Text = if x == line_feed then break_text setting else x ∷ [] in
@@ -116,7 +117,8 @@ wrote_nothing {page} ready none handed =
     }
 
 -- on a pen that failed before nothing is written, whatever was to be
-pub wrote_stopped : (lay : Cursor → Laid) {page : Page} {error : yaml_error_t} → IsReady page → page.error ≡ Some error → IsHandedOut (encoded page) page.output page.limit page.error
+pub wrote_stopped : (lay : Cursor → Laid) {page : Page} {error : yaml_error_t} → IsReady page → page.error ≡ Some error
+    → IsHandedOut (encoded page) page.output page.limit page.error
     → Wrote lay page page (Err error)
 wrote_stopped lay {page} {error} ready some handed =
     record {
@@ -190,7 +192,8 @@ changed_wrote {lay} change {before} {between} {after} {answer} is wrote =
     }
 
 -- a flush writes nothing
-pub flushed_wrote : {before after : Page} {answer : Result (Unit {0}) yaml_error_t} → IsReady before → Flushed before after answer → Wrote nothing_laid before after answer
+pub flushed_wrote : {before after : Page} {answer : Result (Unit {0}) yaml_error_t} → IsReady before → Flushed before after answer
+    → Wrote nothing_laid before after answer
 flushed_wrote {before} {after} {answer} ready flushed =
     let encoding = ap (λ (p : Page). p.encoding) flushed.kept in
     let due = ap (λ (p : Page). p.mark_due) flushed.kept in
@@ -203,7 +206,8 @@ flushed_wrote {before} {after} {answer} ready flushed =
       grew = record { front = []; rest = []; parts = refl; grown = text ∙ sym (append-nil before.text) };
       output = flushed.output;
       all = λ none. record { no_error = (flushed.all none).0; text = text ∙ sym (append-nil before.text); cursor = ap (λ (p : Page). p.cursor) flushed.kept };
-      stopped = λ some. flushed.stopped some ∙ ap (λ (c : Cursor). let p : Page = record before { cursor = c } in p) (sym (ap (λ (p : Page). p.cursor) flushed.kept));
+      stopped = λ some. flushed.stopped some
+          ∙ ap (λ (c : Cursor). let p : Page = record before { cursor = c } in p) (sym (ap (λ (p : Page). p.cursor) flushed.kept));
     }
 
 -- nothing that was written is lost by a call that writes, or by a flush
@@ -237,7 +241,8 @@ pub wrote_text_failed : {xs : Text} (ys : Text) {before after : Page} {error : y
 wrote_text_failed {xs} ys {before} one = wrote_as (text_laid (xs ++ ys)) (text_laid-append xs ys before.cursor) (wrote_failed (text_laid ys) one)
 
 -- no text is written where nothing is
-pub wrote_no_text : {before after : Page} {answer : Result (Unit {0}) yaml_error_t} → Wrote nothing_laid before after answer → Wrote (text_laid []) before after answer
+pub wrote_no_text : {before after : Page} {answer : Result (Unit {0}) yaml_error_t} → Wrote nothing_laid before after answer
+    → Wrote (text_laid []) before after answer
 wrote_no_text wrote = wrote
 
 -- the exit of a `?` tells the error of the call that failed
@@ -245,7 +250,8 @@ pub wrote_exit : {lay : Cursor → Laid} {before after : Page} {error : yaml_err
     → IsErr answer × IsErrAnd answer (λ told. told ≡ error) → Wrote lay before after (Err error) → Wrote lay before after answer
 wrote_exit {lay} {before} {after} {error} {answer} is wrote =
     let p = err_from_is_err_and answer is.1 in
-    subst (λ (r : Result (Unit {0}) yaml_error_t). Wrote lay before after r) (sym (p.1 ∙ ap (λ (e : yaml_error_t). let r : Result (Unit {0}) yaml_error_t = Err e in r) p.2)) wrote
+    subst (λ (r : Result (Unit {0}) yaml_error_t). Wrote lay before after r)
+    (sym (p.1 ∙ ap (λ (e : yaml_error_t). let r : Result (Unit {0}) yaml_error_t = Err e in r) p.2)) wrote
 
 -- a call that failed, where all that was to be written begins with its text
 pub wrote_cut : {lay : Cursor → Laid} (other : Cursor → Laid) (rest : Text) {before after : Page} {error : yaml_error_t}

@@ -28,7 +28,8 @@ unbroken_parts (x ∷ xs) ys none =
     (ap (λ b. b || list_any is_break xs) p.0 ∙ q.0, q.1)
 
 -- the next part holds no break
-pub part_unbroken : {all left : Text} (part rest : Text) {before after : Page} → WroteFront all left before after → left ≡ part ++ rest → list_any is_break part ≡ false
+pub part_unbroken : {all left : Text} (part rest : Text) {before after : Page} → WroteFront all left before after → left ≡ part ++ rest
+    → list_any is_break part ≡ false
 part_unbroken part rest wrote is = (unbroken_parts part rest (sym (ap (list_any is_break) is) ∙ wrote.no_break)).0
 
 -- one more part is written
@@ -44,7 +45,8 @@ front_more {all} {left} part rest {before} {between} {after} wrote is more =
     }
 
 -- the next part fails
-pub front_failed : {all left : Text} (part rest : Text) {before between after : Page} {error : yaml_error_t} → WroteFront all left before between → left ≡ part ++ rest
+pub front_failed : {all left : Text} (part rest : Text) {before between after : Page} {error : yaml_error_t} → WroteFront all left before between
+    → left ≡ part ++ rest
     → Wrote (text_laid part) between after (Err error)
     → Wrote (text_laid all) before after (Err error)
 front_failed {all} {left} part rest wrote is failed =

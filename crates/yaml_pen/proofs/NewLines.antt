@@ -18,7 +18,8 @@ spaces_at : (count at : ℕ) (front : Text) (cursor : Cursor) (column : ℕ) →
     let m : Laid = record { text = front ++ replicate count space; cursor = record cursor { column = at } } in
     l ≡ m
 spaces_at count at front cursor column is =
-    ap (λ (n : ℕ). let l : Laid = record { text = front ++ replicate count space; cursor = record cursor { column = n } } in l) (column_after-spaces count column ∙ is)
+    ap (λ (n : ℕ). let l : Laid = record { text = front ++ replicate count space; cursor = record cursor { column = n } } in l)
+    (column_after-spaces count column ∙ is)
 
 pub break-then-spaces : (at : ℕ) (cursor : Cursor) → then_laid (line_break_laid at cursor) (spaces_to at) ≡ line_begun at cursor
 break-then-spaces at cursor =

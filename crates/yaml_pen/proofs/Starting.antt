@@ -57,7 +57,11 @@ pub page-begun : (encoding old : yaml_encoding_t) (line_break old_break : yaml_b
     → bytes.all ≡ [] → due ≡ has_mark (seen_encoding encoding)
     → page_of old old_due old_break bytes whitespace indention ≡ page
     → page_of encoding due line_break bytes whitespace indention
-    ≡ record page { encoding = seen_encoding encoding; mark_due = has_mark (seen_encoding encoding); line_break = unwrap_or (seen_break line_break) line_feed_break }
+    ≡ record page {
+      encoding = seen_encoding encoding;
+      mark_due = has_mark (seen_encoding encoding);
+      line_break = unwrap_or (seen_break line_break) line_feed_break;
+    }
 page-begun encoding old line_break old_break bytes whitespace indention due old_due page empty is_due viewed =
     let text : decode (seen_encoding encoding) bytes.all ≡ decode (seen_encoding old) bytes.all =
     decode-empty (seen_encoding encoding) bytes.all empty ∙ sym (decode-empty (seen_encoding old) bytes.all empty) in
@@ -129,7 +133,8 @@ IsPen-marked e encoding line_break bytes after whitespace indention due column p
       marks = λ h. absurd (false≢true h);
     }
 
-pub page-marked : (e : Encoding) (encoding : yaml_encoding_t) (line_break : yaml_break_t) (bytes after : Bytes) (whitespace indention due : Bool) (column : ℕ) (page : Page)
+pub page-marked : (e : Encoding) (encoding : yaml_encoding_t) (line_break : yaml_break_t) (bytes after : Bytes) (whitespace indention due : Bool) (column : ℕ)
+    (page : Page)
     → IsPen (page_of encoding due line_break bytes whitespace indention) bytes.all column → due ≡ true
     → seen_encoding encoding ≡ Some e
     → after ≡ record bytes { all = character_bytes e byte_order_mark }

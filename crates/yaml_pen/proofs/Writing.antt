@@ -65,22 +65,27 @@ are_text : (e : Encoding) (encoding : yaml_encoding_t) (line_break : yaml_break_
     → AreText (Some e) bytes.all
 are_text e encoding line_break bytes whitespace indention due column pen not_due seen =
     record {
-      encoded = pen.bytes ∙ ap (λ d. if d then [] else encode (seen_encoding encoding) (decode (seen_encoding encoding) bytes.all)) not_due ∙ ap (λ s. encode s (decode s bytes.all)) seen;
+      encoded = pen.bytes ∙ ap (λ d. if d then [] else encode (seen_encoding encoding) (decode (seen_encoding encoding) bytes.all)) not_due
+          ∙ ap (λ s. encode s (decode s bytes.all)) seen;
       scalars = sym (ap (λ s. all_scalars (decode s bytes.all)) seen) ∙ pen.scalars;
     }
 
-bytes_of_text : (e : Encoding) (encoding : yaml_encoding_t) (bytes : Bytes) (due : Bool) → due ≡ false → seen_encoding encoding ≡ Some e → AreText (Some e) bytes.all
+bytes_of_text : (e : Encoding) (encoding : yaml_encoding_t) (bytes : Bytes) (due : Bool) → due ≡ false → seen_encoding encoding ≡ Some e
+    → AreText (Some e) bytes.all
     → bytes.all ≡ (if due then [] else encode (seen_encoding encoding) (decode (seen_encoding encoding) bytes.all))
 bytes_of_text e encoding bytes due not_due seen are =
-    are.encoded ∙ sym (ap (λ s. encode s (decode s bytes.all)) seen) ∙ sym (ap (λ d. if d then [] else encode (seen_encoding encoding) (decode (seen_encoding encoding) bytes.all)) not_due)
+    are.encoded ∙ sym (ap (λ s. encode s (decode s bytes.all)) seen)
+    ∙ sym (ap (λ d. if d then [] else encode (seen_encoding encoding) (decode (seen_encoding encoding) bytes.all)) not_due)
 
 text_added : (e : Encoding) (encoding : yaml_encoding_t) (raw : Text) (before after : Bytes)
     → AreText (Some e) before.all → all_scalars raw ≡ true → seen_encoding encoding ≡ Some e → Adds e raw before after
     → decode (seen_encoding encoding) after.all ≡ decode (seen_encoding encoding) before.all ++ raw
 text_added e encoding raw before after are scalars seen adds =
-    ap (λ s. decode s after.all) seen ∙ ap (decode (Some e)) adds.all ∙ decode-grown e before.all raw are scalars ∙ sym (ap (λ s. decode s before.all ++ raw) seen)
+    ap (λ s. decode s after.all) seen ∙ ap (decode (Some e)) adds.all ∙ decode-grown e before.all raw are scalars
+    ∙ sym (ap (λ s. decode s before.all ++ raw) seen)
 
-pub IsPen-added : (e : Encoding) (raw : Text) (encoding : yaml_encoding_t) (line_break : yaml_break_t) (before after : Bytes) (whitespace indention due : Bool) (column stored : ℕ)
+pub IsPen-added : (e : Encoding) (raw : Text) (encoding : yaml_encoding_t) (line_break : yaml_break_t) (before after : Bytes) (whitespace indention due : Bool)
+    (column stored : ℕ)
     → IsPen (page_of encoding due line_break before whitespace indention) before.all column → due ≡ false → seen_encoding encoding ≡ Some e
     → all_scalars raw ≡ true → Adds e raw before after
     → stored ≡ min (column_after raw (column_after (decode (seen_encoding encoding) before.all) 0)) 4294967295
@@ -92,14 +97,16 @@ IsPen-added e raw encoding line_break before after whitespace indention due colu
     record {
       bytes = bytes_of_text e encoding after due not_due seen (subst (AreText (Some e)) (sym adds.all) grown);
       scalars = ap (λ s. all_scalars (decode s after.all)) seen ∙ ap (λ l. all_scalars (decode (Some e) l)) adds.all ∙ grown.scalars;
-      column = is_column ∙ ap (λ n. min n 4294967295) (sym (column_after-append (decode (seen_encoding encoding) before.all) raw 0) ∙ ap (λ t. column_after t 0) (sym text));
+      column = is_column ∙ ap (λ n. min n 4294967295)
+          (sym (column_after-append (decode (seen_encoding encoding) before.all) raw 0) ∙ ap (λ t. column_after t 0) (sym text));
       handed = adds.sound;
       unfailed = λ _. adds.unfailed;
       marks = λ h. pen.marks h;
     }
 
 -- it writes the text
-Wrote-page : (e : Encoding) (raw : Text) (encoding : yaml_encoding_t) (line_break : yaml_break_t) (before after : Bytes) (whitespace indention due : Bool) (column : ℕ) (lay : Cursor → Laid)
+Wrote-page : (e : Encoding) (raw : Text) (encoding : yaml_encoding_t) (line_break : yaml_break_t) (before after : Bytes) (whitespace indention due : Bool)
+    (column : ℕ) (lay : Cursor → Laid)
     → IsPen (page_of encoding due line_break before whitespace indention) before.all column
     → seen_encoding encoding ≡ Some e
     → all_scalars raw ≡ true → Adds e raw before after
@@ -128,7 +135,8 @@ Wrote-page e raw encoding line_break before after whitespace indention due colum
       stopped = λ some. absurd (false≢true (subst (λ (o : Option yaml_error_t). IsSome o) adds.no_error some));
     }
 
-pub Wrote-added : (e : Encoding) (raw : Text) (encoding : yaml_encoding_t) (line_break : yaml_break_t) (before after : Bytes) (whitespace indention due : Bool) (column : ℕ) (page : Page) (lay : Cursor → Laid)
+pub Wrote-added : (e : Encoding) (raw : Text) (encoding : yaml_encoding_t) (line_break : yaml_break_t) (before after : Bytes) (whitespace indention due : Bool)
+    (column : ℕ) (page : Page) (lay : Cursor → Laid)
     → IsPen (page_of encoding due line_break before whitespace indention) before.all column
     → seen_encoding encoding ≡ Some e
     → all_scalars raw ≡ true → Adds e raw before after

@@ -7,6 +7,10 @@ use Rattle.yaml_base.specs.Encoding.{encode, cut}
 use Rattle.yaml_base.specs.declared.errors.yaml_error_t.{yaml_error_t}
 use Rattle.yaml_base.specs.declared.errors.yaml_error_t.TheVariants.{WriteError, Memory}
 
+-- the most bytes that the buffer holds before they are handed out
+abbrev pub buffer_size : ℕ
+buffer_size = 16384
+
 -- the settings (no encoding before the stream is begun), whether the byte order mark still has to be
 -- written, the text so far without the mark, the cursor after it (its column unbounded), the bytes
 -- handed out, and the first error

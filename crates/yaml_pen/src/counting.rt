@@ -3,6 +3,7 @@ ghost use Rattle.std.specs.Prelude.{◌≡◌, ◌≤◌, ℕ, length, min};
 ghost use Rattle.std.specs.Fmt.{is_char_start};
 ghost use Rattle.std.specs.Str.{chars};
 ghost use Rattle.yaml_base.specs.Cursor.{next_column};
+ghost use Rattle.yaml_pen.specs.Page.{buffer_size};
 
 use yaml_base::is_break;
 
@@ -28,7 +29,7 @@ fn begins_character(byte: u8) -> bool
 
 /// How many characters a text has that fits the buffer: as many as bytes that begin one.
 pub(crate) fn character_count(text: &str) -> u32
-    requires { length text.now ≤ 16384 }
+    requires { length text.now ≤ buffer_size }
     ensures { result ≡ length (chars text.now) }
 {
     let bytes = text.as_bytes();

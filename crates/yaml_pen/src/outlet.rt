@@ -1,6 +1,7 @@
 //! Bytes on their way out: a buffer, and the output that it is flushed to, within a limit.
 ghost use Rattle.std.specs.Prelude.{◌≡◌, ◌≤◌, [], ◌∷◌, length, IfOk};
 ghost use Rattle.yaml_base.specs.Prefix.{IsPrefix};
+ghost use Rattle.yaml_pen.specs.Page.{buffer_size};
 ghost use Rattle.yaml_pen.specs.Outlet.{Appended, Emptied, HandsOut, IsSound};
 
 use arrayvec::ArrayVec;
@@ -109,7 +110,7 @@ impl<A: Allocator> Outlet<A> {
     /// Appends bytes whole, or none of them where the flush that makes room for them fails.
     #[inline(always)]
     pub(crate) fn append(&mut self, bytes: &[u8]) -> Result<(), yaml_error_t>
-        requires { length bytes.now ≤ 16384 }
+        requires { length bytes.now ≤ buffer_size }
         ensures { Appended bytes.now self.old self.new result }
     {
         if bytes.len() == 1 {
@@ -120,7 +121,7 @@ impl<A: Allocator> Outlet<A> {
     }
 
     fn append_all(&mut self, bytes: &[u8]) -> Result<(), yaml_error_t>
-        requires { length bytes.now ≤ 16384 }
+        requires { length bytes.now ≤ buffer_size }
         ensures { Appended bytes.now self.old self.new result }
     {
         match self.error {

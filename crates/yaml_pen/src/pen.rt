@@ -4,10 +4,10 @@ ghost use Rattle.std.specs.Str.{IsAscii, chars};
 ghost use Rattle.std.specs.List.{list_any};
 ghost use Rattle.yaml_base.specs.Characters.{is_break, line_feed, space};
 ghost use Rattle.yaml_base.specs.Cursor.{text_laid, nothing_laid, breaks_line, new_line, space_if, indicator};
-ghost use Rattle.yaml_base.specs.Settings.{line_feed_break};
+ghost use Rattle.yaml_base.specs.Settings.{line_feed_break, largest_i32};
 ghost use Rattle.yaml_base.specs.Encoding.{encode};
 ghost use Rattle.yaml_base.specs.Seen.{seen_encoding, seen_break};
-ghost use Rattle.yaml_pen.specs.Page.{Page, IsUntouched, IsReady, IsHandedOut, encoded, has_mark, new_page, natural};
+ghost use Rattle.yaml_pen.specs.Page.{buffer_size, Page, IsUntouched, IsReady, IsHandedOut, encoded, has_mark, new_page, natural};
 ghost use Rattle.yaml_pen.specs.Wrote.{Wrote, Flushed};
 ghost use Rattle.yaml_pen.specs.Lines.{line_break_laid, spaces_to};
 
@@ -161,7 +161,7 @@ impl<A: Allocator> Pen<A> {
 
     /// The column of the next character, counted in characters; `i32::MAX` stands for that and all above.
     pub fn column(&self) -> i32
-        ensures { result ≡ pos (min self.now.cursor.column 2147483647) }
+        ensures { result ≡ pos (min self.now.cursor.column largest_i32) }
     {
         self.column.min(i32::MAX as u32) as i32
     }
@@ -209,7 +209,7 @@ impl<A: Allocator> Pen<A> {
         requires ready { IsReady self.old }
         requires ascii { IsAscii text.now }
         requires no_break { list_any is_break text.now ≡ false }
-        requires fits { length text.now ≤ 16384 }
+        requires fits { length text.now ≤ buffer_size }
         ensures written { Wrote (text_laid text.now) self.old self.new result }
         ensures stays { IsSome self.old.error → self.new ≡ self.old }
     {
@@ -421,7 +421,7 @@ impl<A: Allocator> Pen<A> {
         requires ready { IsReady self.old }
         requires unmarked { has_mark self.old.encoding ≡ false }
         requires no_break { list_any is_break (chars text.now) ≡ false }
-        requires fits { length text.now ≤ 16384 }
+        requires fits { length text.now ≤ buffer_size }
         ensures written { Wrote (text_laid (chars text.now)) self.old self.new result }
         ensures stays { IsSome self.old.error → self.new ≡ self.old }
     {
@@ -451,7 +451,7 @@ impl<A: Allocator> Pen<A> {
         requires unmarked { has_mark self.old.encoding ≡ false }
         requires ascii { IsAscii text.now }
         requires no_break { list_any is_break text.now ≡ false }
-        requires fits { length text.now ≤ 16384 }
+        requires fits { length text.now ≤ buffer_size }
         ensures written { Wrote (text_laid text.now) self.old self.new result }
         ensures stays { IsSome self.old.error → self.new ≡ self.old }
     {

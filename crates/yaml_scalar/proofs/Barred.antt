@@ -22,7 +22,8 @@ or_more false b c = refl
 same : {a b : Barred} → a.multiline ≡ b.multiline → a.flow_plain ≡ b.flow_plain → a.block_plain ≡ b.block_plain
     → a.single_quoted ≡ b.single_quoted → a.block ≡ b.block → a ≡ b
 same {a} {b} m f p s k =
-    let whole : Bool → Bool → Bool → Bool → Bool → Barred = λ m f p s k. record { multiline = m; flow_plain = f; block_plain = p; single_quoted = s; block = k } in
+    let whole : Bool → Bool → Bool → Bool → Bool
+    → Barred = λ m f p s k. record { multiline = m; flow_plain = f; block_plain = p; single_quoted = s; block = k } in
     ap (λ x. whole x a.flow_plain a.block_plain a.single_quoted a.block) m
     ∙ ap (λ x. whole b.multiline x a.block_plain a.single_quoted a.block) f
     ∙ ap (λ x. whole b.multiline b.flow_plain x a.single_quoted a.block) p
@@ -49,7 +50,8 @@ barred_more charset whole found {after} old new rest c is_text e follows h more 
     ∙ ap (λ (b : Barred). either b (barred_in charset (chars new))) (sym more)
 
 -- all was read
-pub barred_whole : (charset : Charset) (whole found : Barred) (old : List ℕ) → length old ≡ 0 → whole ≡ either found (barred_in charset (chars old)) → found ≡ whole
+pub barred_whole : (charset : Charset) (whole found : Barred) (old : List ℕ) → length old ≡ 0 → whole ≡ either found (barred_in charset (chars old))
+    → found ≡ whole
 barred_whole charset whole found old e h =
     sym (h ∙ ap (λ t. either found (barred_in charset t)) (ap chars (nil_from_length old e) ∙ chars-nil) ∙ either_none found)
 
@@ -88,7 +90,9 @@ quiet_bars : (charset : Charset) (c : ℕ) (rest : Text) → Quiet charset c →
     → barred_by charset c rest ≡ none_barred
 quiet_bars charset c rest quiet ends hash breaks =
     let colon : (c == 58) ≡ false = no_colon (c == 44) (c == 63) (c == 58) _ quiet.sign in
-    let key : is_key_or_comment c rest ≡ false = or_from _ _ (and_left _ (ends_word rest) colon) (gap_before (c == space) (c == tab) (is_break c) (c == 0) _ quiet.tabbed quiet.broken quiet.nul hash) in
+    let key : is_key_or_comment c rest
+    ≡ false = or_from _ _ (and_left _ (ends_word rest) colon)
+    (gap_before (c == space) (c == tab) (is_break c) (c == 0) _ quiet.tabbed quiet.broken quiet.nul hash) in
     let plain : (is_special charset c || is_break c || (is_space c && is_empty rest) || is_key_or_comment c rest) ≡ false =
     or_from _ _ (or_from _ _ (or_from _ _ quiet.special quiet.broken) ends) key in
     let trailing : (is_special charset c || is_trailing_space c rest) ≡ false = or_from _ _ quiet.special breaks in
@@ -98,7 +102,8 @@ quiet_bars charset c rest quiet ends hash breaks =
 -- before another one it bars nothing; and before any it does so only where it is a space
 quiet_next : (charset : Charset) (c d : ℕ) (rest : Text) → Quiet charset c → Quiet charset d → barred_by charset c (d ∷ rest) ≡ none_barred
 quiet_next charset c d rest quiet next =
-    quiet_bars charset c (d ∷ rest) quiet (and_right (is_space c) false refl) (and_right (is_space c) (d == 35) next.hash) (and_right (is_space c) (is_break d) next.broken)
+    quiet_bars charset c (d ∷ rest) quiet (and_right (is_space c) false refl) (and_right (is_space c) (d == 35) next.hash)
+    (and_right (is_space c) (is_break d) next.broken)
 
 quiet_last_by : (charset : Charset) (c : ℕ) (rest : Text) → Quiet charset c → (spaced : Bool) → is_space c ≡ spaced
     → barred_by charset c rest ≡ (if spaced then barred_by charset space rest else none_barred)
@@ -116,11 +121,13 @@ quiet_run charset (c ∷ []) rest h =
 quiet_run charset (c ∷ d ∷ front) rest h =
     let p = and_parts (is_quiet charset c) (list_all (is_quiet charset) (d ∷ front)) h in
     let q = and_parts (is_quiet charset d) (list_all (is_quiet charset) front) p.1 in
-    ap (λ (b : Barred). either b (barred_in charset (d ∷ (front ++ rest)))) (quiet_next charset c d (front ++ rest) (quiet_parts charset c p.0) (quiet_parts charset d q.0))
+    ap (λ (b : Barred). either b (barred_in charset (d ∷ (front ++ rest))))
+    (quiet_next charset c d (front ++ rest) (quiet_parts charset c p.0) (quiet_parts charset d q.0))
     ∙ quiet_run charset (d ∷ front) rest p.1
 
 -- where all styles are barred only breaks matter
 pub all_barred : (found more : Barred) → found.flow_plain ≡ true → found.block_plain ≡ true → found.single_quoted ≡ true → found.block ≡ true
     → either found more ≡ record found { multiline = found.multiline || more.multiline }
 all_barred found more f p s k =
-    same refl (ap (λ b. b || more.flow_plain) f ∙ sym f) (ap (λ b. b || more.block_plain) p ∙ sym p) (ap (λ b. b || more.single_quoted) s ∙ sym s) (ap (λ b. b || more.block) k ∙ sym k)
+    same refl (ap (λ b. b || more.flow_plain) f ∙ sym f) (ap (λ b. b || more.block_plain) p ∙ sym p) (ap (λ b. b || more.single_quoted) s ∙ sym s)
+    (ap (λ b. b || more.block) k ∙ sym k)

@@ -50,4 +50,5 @@ module _ (charset : Charset) (value : Text) (allowed : allows_block charset valu
   folded_back limit wrote =
       body_back (read_block charset.breaks12 column) value true (folded_body limit indent best_indent value)
       (λ cursor setting. (folded-kept charset value allowed indent best_indent are.least are.most are.within cursor limit column enclosing setting).reads)
-      (λ cursor setting. (folded-kept charset value allowed indent best_indent are.least are.most are.within cursor limit column enclosing setting).indented) wrote
+      (λ cursor setting. (folded-kept charset value allowed indent best_indent are.least are.most are.within cursor limit column enclosing setting).indented)
+      wrote

@@ -70,7 +70,8 @@ fold-spaced limit column c rest h =
     let inner = and_parts (is_space c) (not (begins_with is_space rest)) outer.0 in
     (inner.0, not-true (begins_with is_space rest) inner.1)
 
-cut-known : (breaks12 : Bool) (limit : Option ℕ) (indent column : ℕ) (text : Text) → IsLine breaks12 text → IsCut breaks12 text (cut_from limit indent column text)
+cut-known : (breaks12 : Bool) (limit : Option ℕ) (indent column : ℕ) (text : Text) → IsLine breaks12 text
+    → IsCut breaks12 text (cut_from limit indent column text)
 cut-known breaks12 limit indent column [] h =
     record {
       clean = λ more broken k. (tt, broken, k);
@@ -93,7 +94,8 @@ record LineCut (breaks12 : Bool) (text : Text) (ps : List Part) : Type 0 where
   some : (rest : List Part) → has_content (bare (ps ++ rest)) ≡ true
   flush : (rest : List Part) → begins_with is_space text ≡ false → BeginsFlush (ps ++ rest)
 
-line-of-cut : (breaks12 : Bool) (text : Text) → IsLine breaks12 text → begins_with is_space text ≡ false → (ps : List Part) → IsCut breaks12 text ps → LineCut breaks12 text ps
+line-of-cut : (breaks12 : Bool) (text : Text) → IsLine breaks12 text → begins_with is_space text ≡ false → (ps : List Part) → IsCut breaks12 text ps
+    → LineCut breaks12 text ps
 line-of-cut breaks12 text h none [] k = absurd k
 line-of-cut breaks12 text h none (line_break b ∷ others) k = absurd k
 line-of-cut breaks12 text h none (line first ∷ others) k =
@@ -128,7 +130,8 @@ twice-begins : (twice : Bool) (b : ℕ) (ps : List Part) → BeginsBroken (twice
 twice-begins true b ps = tt
 twice-begins false b ps = tt
 
-twice-clean : (breaks12 twice : Bool) (b : ℕ) (ps : List Part) → Ordinary breaks12 b → is_break b ≡ true → Clean breaks12 ps → Clean breaks12 (twice_or_once twice b ++ ps)
+twice-clean : (breaks12 twice : Bool) (b : ℕ) (ps : List Part) → Ordinary breaks12 b → is_break b ≡ true → Clean breaks12 ps
+    → Clean breaks12 (twice_or_once twice b ++ ps)
 twice-clean breaks12 true b ps o e h = (o, e, (o, e, h))
 twice-clean breaks12 false b ps o e h = (o, e, h)
 
@@ -176,7 +179,8 @@ module _ (breaks12 : Bool) (limit : Option ℕ) (indent : ℕ) where
       twice-clean breaks12 (after_even && b == line_feed && next_even rest) b (folded_parts limit indent false rest) h.0 h.1 (folded-clean false rest h.2)
 
   -- hold content where the value does
-  pub folded-content : (after_even : Bool) (ps : List Part) → Clean breaks12 ps → has_content (bare (folded_parts limit indent after_even ps)) ≡ has_content (bare ps)
+  pub folded-content : (after_even : Bool) (ps : List Part) → Clean breaks12 ps
+      → has_content (bare (folded_parts limit indent after_even ps)) ≡ has_content (bare ps)
   folded-content after_even [] h = refl
   folded-content after_even (line text ∷ rest) h =
       (line-cut breaks12 limit indent text h.0).some (folded_parts limit indent (not (begins_with is_space text)) rest)
@@ -192,7 +196,8 @@ module _ (breaks12 : Bool) (limit : Option ℕ) (indent : ℕ) where
       twice-even (after_even && b == line_feed && next_even rest) b (folded_parts limit indent false rest) ∙ folded-even false rest h.2
 
   -- read as the value
-  pub folded-reads : (after_even : Bool) (ps : List Part) → Clean breaks12 ps → unfolded after_even (bare (folded_parts limit indent after_even ps)) ≡ joined (bare ps)
+  pub folded-reads : (after_even : Bool) (ps : List Part) → Clean breaks12 ps
+      → unfolded after_even (bare (folded_parts limit indent after_even ps)) ≡ joined (bare ps)
   folded-reads after_even [] h = refl
   folded-reads after_even (line text ∷ rest) h =
       let even = not (begins_with is_space text) in
@@ -203,7 +208,8 @@ module _ (breaks12 : Bool) (limit : Option ℕ) (indent : ℕ) where
       ∙ ap (λ t. b ∷ t) (folded-reads false rest h.2)
 
   -- end as the value does
-  pub folded-ends : (after_even : Bool) (ps : List Part) → Clean breaks12 ps → final_ends (bare (folded_parts limit indent after_even ps)) ≡ final_ends (bare ps)
+  pub folded-ends : (after_even : Bool) (ps : List Part) → Clean breaks12 ps
+      → final_ends (bare (folded_parts limit indent after_even ps)) ≡ final_ends (bare ps)
   folded-ends after_even [] h = refl
   folded-ends after_even (line text ∷ rest) h =
       let even = not (begins_with is_space text) in

@@ -70,8 +70,10 @@ digit-laid n high = not_from_false _ (or_from _ _ (ne_eqb (48 + n) carriage_retu
 
 digit-unbroken : (n : ℕ) → n ≤ 9 → is_break (48 + n) ≡ false
 digit-unbroken n high =
-    or_from _ _ (or_from _ _ (or_from _ _ (or_from _ _ (ne_eqb (48 + n) line_feed (λ e. omega (arith, e))) (ne_eqb (48 + n) carriage_return (λ e. omega (arith, e))))
-    (ne_eqb (48 + n) next_line (λ e. omega (arith, e)))) (ne_eqb (48 + n) line_separator (λ e. omega (arith, e)))) (ne_eqb (48 + n) paragraph_separator (λ e. omega (arith, e)))
+    or_from _ _ (or_from _ _ (or_from _ _
+    (or_from _ _ (ne_eqb (48 + n) line_feed (λ e. omega (arith, e))) (ne_eqb (48 + n) carriage_return (λ e. omega (arith, e))))
+    (ne_eqb (48 + n) next_line (λ e. omega (arith, e)))) (ne_eqb (48 + n) line_separator (λ e. omega (arith, e))))
+    (ne_eqb (48 + n) paragraph_separator (λ e. omega (arith, e)))
 
 hint-laid : (e : Ending) → is_laid_text (ending_hint e) ≡ true
 hint-laid without_break = refl
@@ -118,7 +120,8 @@ body-laid breaks12 folded indent best_indent value ps cursor high clean =
     ap is_laid_text (block-text (sign_of folded) best_indent value (indented indent ps) cursor)
     ∙ header-laid folded (begins_blank value) (ending value) best_indent (indented indent ps) high (lines-laid breaks12 indent ps clean)
 
-body-indented : (breaks12 folded : Bool) (indent best_indent : ℕ) (value : Text) (ps : List Part) (cursor : Cursor) → best_indent ≤ 9 → 2 ≤ indent → Clean breaks12 ps
+body-indented : (breaks12 folded : Bool) (indent best_indent : ℕ) (value : Text) (ps : List Part) (cursor : Cursor) → best_indent ≤ 9 → 2 ≤ indent
+    → Clean breaks12 ps
     → is_indented_text (block_body (sign_of folded) best_indent value (indented indent ps) cursor).text ≡ true
 body-indented breaks12 folded zero best_indent value ps cursor high low clean = absurd (omega arith)
 body-indented breaks12 folded (suc zero) best_indent value ps cursor high low clean = absurd (omega arith)

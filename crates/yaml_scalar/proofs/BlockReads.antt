@@ -35,7 +35,8 @@ or-none false = refl
 -- a character that isn't special is ordinary
 pub ordinary : (charset : Charset) (c : ℕ) → is_special charset c ≡ false → Ordinary charset.breaks12 c
 ordinary charset c h =
-    let outer = or_parts (not (is_printable c) || (not charset.unicode && not (is_ascii c))) (charset.breaks12 && (c == line_separator || c == paragraph_separator)) h in
+    let outer = or_parts (not (is_printable c) || (not charset.unicode && not (is_ascii c)))
+    (charset.breaks12 && (c == line_separator || c == paragraph_separator)) h in
     let printable : is_printable c ≡ true = not-false (is_printable c) (or_parts (not (is_printable c)) (not charset.unicode && not (is_ascii c)) outer.0).0 in
     let return : (c == carriage_return) ≡ false = other-than c carriage_return printable refl in
     let next : (c == next_line) ≡ false = other-than c next_line printable refl in
@@ -99,12 +100,18 @@ sign_of folded = if folded then 62 else 124
 read-header : (breaks12 folded blank : Bool) (e : Ending) (best_indent : ℕ) (column : Option ℕ) (lines : Text) → 2 ≤ best_indent → best_indent ≤ 9
     → read_block breaks12 column (sign_of folded ∷ ((digit_text blank best_indent ++ ending_hint e) ++ line_feed ∷ lines))
     ≡ read_lines folded (chomping_of e) (digit_of blank best_indent) column (elements breaks12 lines)
-read-header breaks12 true true without_break n column lines low high = rw (digit-read n (45 ∷ line_feed ∷ lines) low high, digit-passed n (45 ∷ line_feed ∷ lines) low high) refl
-read-header breaks12 true true one_break n column lines low high = rw (digit-read n (line_feed ∷ lines) low high, digit-passed n (line_feed ∷ lines) low high) refl
-read-header breaks12 true true more_breaks n column lines low high = rw (digit-read n (43 ∷ line_feed ∷ lines) low high, digit-passed n (43 ∷ line_feed ∷ lines) low high) refl
-read-header breaks12 false true without_break n column lines low high = rw (digit-read n (45 ∷ line_feed ∷ lines) low high, digit-passed n (45 ∷ line_feed ∷ lines) low high) refl
-read-header breaks12 false true one_break n column lines low high = rw (digit-read n (line_feed ∷ lines) low high, digit-passed n (line_feed ∷ lines) low high) refl
-read-header breaks12 false true more_breaks n column lines low high = rw (digit-read n (43 ∷ line_feed ∷ lines) low high, digit-passed n (43 ∷ line_feed ∷ lines) low high) refl
+read-header breaks12 true true without_break n column lines low high = rw
+    (digit-read n (45 ∷ line_feed ∷ lines) low high, digit-passed n (45 ∷ line_feed ∷ lines) low high) refl
+read-header breaks12 true true one_break n column lines low high = rw
+    (digit-read n (line_feed ∷ lines) low high, digit-passed n (line_feed ∷ lines) low high) refl
+read-header breaks12 true true more_breaks n column lines low high = rw
+    (digit-read n (43 ∷ line_feed ∷ lines) low high, digit-passed n (43 ∷ line_feed ∷ lines) low high) refl
+read-header breaks12 false true without_break n column lines low high = rw
+    (digit-read n (45 ∷ line_feed ∷ lines) low high, digit-passed n (45 ∷ line_feed ∷ lines) low high) refl
+read-header breaks12 false true one_break n column lines low high = rw
+    (digit-read n (line_feed ∷ lines) low high, digit-passed n (line_feed ∷ lines) low high) refl
+read-header breaks12 false true more_breaks n column lines low high = rw
+    (digit-read n (43 ∷ line_feed ∷ lines) low high, digit-passed n (43 ∷ line_feed ∷ lines) low high) refl
 read-header breaks12 true false without_break n column lines low high = refl
 read-header breaks12 true false one_break n column lines low high = refl
 read-header breaks12 true false more_breaks n column lines low high = refl

@@ -62,7 +62,8 @@ stands_at : (folded : Bool) (limit : Option ℕ) (indent : ℕ) (place : Place) 
 stands_at folded limit indent place c rest cursor h off =
     ap (λ (b : Bool). then_laid (if b then end_laid (is_doubled place c rest) c cursor else inner_laid limit indent place c rest cursor)
     (lines_from folded limit indent (if b then LineStart else within folded place c) rest)) (stays_unbroken limit place c h)
-    ∙ ap (λ (p : Place). then_laid (inner_laid limit indent place c rest cursor) (lines_from folded limit indent p rest)) (stays_within folded limit place c c h)
+    ∙ ap (λ (p : Place). then_laid (inner_laid limit indent place c rest cursor) (lines_from folded limit indent p rest))
+    (stays_within folded limit place c c h)
     ∙ ap (λ (l : Laid). then_laid l (lines_from folded limit indent place rest)) (inner_kept limit indent place c rest cursor h)
     ∙ ap (λ (b : Bool). then_laid (with_flags cursor.whitespace b (text_laid (c ∷ []) cursor)) (lines_from folded limit indent place rest)) (sym off)
 

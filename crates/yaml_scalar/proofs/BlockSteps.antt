@@ -1,23 +1,23 @@
 -- Lines laid out character by character, as code writes them, are the literal and the folded layout.
 use Rattle.std.proofs.Common.{◌≡◌, ◌≤◌, refl, sym, ap, ◌∙◌, append_assoc, arith, inl, inr}
-use Rattle.std.proofs.lemmas.Bool.{cases_Bool, false≢true, false_from_ne_true, eqb-true, and_right, or_from, le-ltb, or_parts, ltb-false}
+use Rattle.std.proofs.lemmas.Bool.{cases_Bool, and_right, or_from, le-ltb, or_parts, ltb-false}
 use Rattle.std.specs.Prelude.{ℕ, zero, suc, Bool, true, false, List, [], ◌∷◌, ◌++◌, ◌==◌, ◌&&◌, ◌||◌, ◌+◌, ◌-◌, not, Option, replicate, nat_lt, if◌then◌else◌}
-use Rattle.yaml_base.specs.Analysis.{begins_with}
-use Rattle.yaml_base.specs.Characters.{Text, is_break, is_space, space, line_feed}
+use Rattle.yaml_base.specs.Characters.{Text, is_break, space, line_feed}
 use Rattle.yaml_base.specs.Cursor.{Cursor, Laid, first_cursor, then_laid, next_column, column_after, breaks_line, new_line}
-use Rattle.yaml_base.specs.Lines.{Part, line, line_break, begun, part_before, parts}
+use Rattle.yaml_base.specs.Lines.{Part, line, line_break, begun, parts}
 use Rattle.yaml_base.specs.BlockHeader.{without_break, one_break, more_breaks, ending, ends_in_break, lines_laid}
 use Rattle.yaml_base.specs.Literal.{indented}
 use Rattle.yaml_scalar.specs.declared.block_lines.Place.{Place}
 use Rattle.yaml_scalar.specs.declared.block_lines.Place.TheVariants.{LineStart, Folding, Fixed}
 use Rattle.yaml_scalar.specs.BlockSteps.{place_after, folded_laid, inner_laid, is_doubled, end_laid, step_laid, lines_from}
-use Rattle.yaml_base.specs.Folded.{is_past, folds, cut_from, next_even, folded_parts}
+use Rattle.yaml_base.specs.Folded.{folds}
 
 abbrev first_line : ℕ → Text → Laid
 first_line indent text = record { text = text; cursor = record { column = indent; whitespace = true; indention = true } }
 
 -- a new line where a line begins
-new-line-first : (indent : ℕ) → new_line indent first_cursor ≡ record { text = replicate indent space; cursor = record { column = indent; whitespace = true; indention = true } }
+new-line-first : (indent : ℕ) → new_line indent first_cursor
+    ≡ record { text = replicate indent space; cursor = record { column = indent; whitespace = true; indention = true } }
 new-line-first indent =
     let stays : breaks_line indent first_cursor ≡ false = or_from _ _ (le-ltb indent 0 (omega arith)) (and_right (0 == indent) false refl) in
     let same : indent - 0 ≡ indent = omega arith in
@@ -40,15 +40,17 @@ column-new-line at cursor = by (breaks_line at cursor) refl
         → column_after (if b then line_feed ∷ replicate at space else replicate (at - cursor.column) space) cursor.column ≡ at
     by true e = column-spaces at 0 ∙ omega arith
     by false e =
-        let over : nat_lt at cursor.column ≡ false = (or_parts (not cursor.indention) (nat_lt at cursor.column) (or_parts (not cursor.indention || nat_lt at cursor.column) (cursor.column == at && not cursor.whitespace) e).0).1 in
+        let over : nat_lt at cursor.column
+        ≡ false = (or_parts (not cursor.indention) (nat_lt at cursor.column)
+        (or_parts (not cursor.indention || nat_lt at cursor.column) (cursor.column == at && not cursor.whitespace) e).0).1 in
         let below : cursor.column ≤ at = ltb-false at cursor.column over in
         column-spaces (at - cursor.column) cursor.column ∙ omega arith
 
 -- the cursor after some text that began at a cursor in white space
-abbrev after_text : Text → Bool → ℕ → Cursor
+abbrev pub after_text : Text → Bool → ℕ → Cursor
 after_text text broken column = record { column = column_after text column; whitespace = true; indention = broken }
 
-abbrev spot : ℕ → Bool → Cursor
+abbrev pub spot : ℕ → Bool → Cursor
 spot column indention = record { column = column; whitespace = true; indention = indention }
 
 -- the text's last character is a break
@@ -61,11 +63,13 @@ step-cursor : (limit : Option ℕ) (indent : ℕ) (place : Place) (c : ℕ) (res
     ≡ after_text (step_laid limit indent place c rest (spot column indention)).text (is_break c) column
 step-cursor limit indent place c rest column indention = by (is_break c) refl
   where
-    fold-cursor : (fold : Bool) → (folded_laid fold indent c (spot column indention)).cursor ≡ after_text (folded_laid fold indent c (spot column indention)).text false column
+    fold-cursor : (fold : Bool) → (folded_laid fold indent c (spot column indention)).cursor
+        ≡ after_text (folded_laid fold indent c (spot column indention)).text false column
     fold-cursor true = ap (λ n. spot n false) (sym (column-new-line indent (spot column indention)))
     fold-cursor false = refl
 
-    inner : (at : Place) → (inner_laid limit indent at c rest (spot column indention)).cursor ≡ after_text (inner_laid limit indent at c rest (spot column indention)).text false column
+    inner : (at : Place) → (inner_laid limit indent at c rest (spot column indention)).cursor
+        ≡ after_text (inner_laid limit indent at c rest (spot column indention)).text false column
     inner LineStart = ap (λ n. spot n false)
         (ap (next_column c) (sym (column-new-line indent (spot column indention)))
         ∙ sym (column-after-append (new_line indent (spot column indention)).text (c ∷ []) column))
@@ -78,11 +82,12 @@ step-cursor limit indent place c rest column indention = by (is_break c) refl
 
     by : (b : Bool) → is_break c ≡ b
         → (if b then end_laid (is_doubled place c rest) c (spot column indention) else inner_laid limit indent place c rest (spot column indention)).cursor
-        ≡ after_text (if b then end_laid (is_doubled place c rest) c (spot column indention) else inner_laid limit indent place c rest (spot column indention)).text b column
+        ≡ after_text (if b then end_laid (is_doubled place c rest) c (spot column indention) else
+        inner_laid limit indent place c rest (spot column indention)).text b column
     by true e = outer (is_doubled place c rest)
     by false e = inner place
 
-lines-cursor : (folded : Bool) (limit : Option ℕ) (indent : ℕ) (place : Place) (text : Text) (column : ℕ) (indention : Bool)
+pub lines-cursor : (folded : Bool) (limit : Option ℕ) (indent : ℕ) (place : Place) (text : Text) (column : ℕ) (indention : Bool)
     → (lines_from folded limit indent place text (spot column indention)).cursor
     ≡ after_text (lines_from folded limit indent place text (spot column indention)).text (last_broken indention text) column
 lines-cursor folded limit indent place [] column indention = refl
@@ -100,7 +105,7 @@ lines-cursor folded limit indent place (c ∷ rest) column indention =
     (sym (column-after-append step.text (lines_from folded limit indent next rest (spot at (is_break c))).text column)
     ∙ ap (λ (l : Laid). column_after l.text column) (sym whole))
 
-ending-last : (c : ℕ) (rest : Text) → ends_in_break (ending (c ∷ rest)) ≡ last_broken (is_break c) rest
+pub ending-last : (c : ℕ) (rest : Text) → ends_in_break (ending (c ∷ rest)) ≡ last_broken (is_break c) rest
 ending-last c [] = by (is_break c)
   where
     by : (b : Bool) → ends_in_break (if b then more_breaks else without_break) ≡ b
@@ -116,13 +121,13 @@ ending-last c (d ∷ []) = by (is_break c) (is_break d)
 ending-last c (d ∷ e ∷ rest) = ending-last d (e ∷ rest)
 
 -- what a line's first character leads to
-start-step : (limit : Option ℕ) (indent c : ℕ) (rest : Text) → is_break c ≡ false
+pub start-step : (limit : Option ℕ) (indent c : ℕ) (rest : Text) → is_break c ≡ false
     → step_laid limit indent LineStart c rest first_cursor ≡ record { text = replicate indent space ++ c ∷ []; cursor = spot (indent + 1) false }
 start-step limit indent c rest e =
     rw e (ap (λ t. record { text = t ++ c ∷ []; cursor = spot (indent + 1) false }) (ap (λ (l : Laid). l.text) (new-line-first indent)))
 
 -- one step further
-from-step : (folded : Bool) (limit : Option ℕ) (indent : ℕ) (place next : Place) (c : ℕ) (rest : Text) (cursor : Cursor) (to : Laid)
+pub from-step : (folded : Bool) (limit : Option ℕ) (indent : ℕ) (place next : Place) (c : ℕ) (rest : Text) (cursor : Cursor) (to : Laid)
     → step_laid limit indent place c rest cursor ≡ to → place_after folded place c ≡ next
     → (lines_from folded limit indent place (c ∷ rest) cursor).text ≡ to.text ++ (lines_from folded limit indent next rest to.cursor).text
 from-step folded limit indent place next c rest cursor to e f =
@@ -130,19 +135,19 @@ from-step folded limit indent place next c rest cursor to e f =
     ∙ ap (λ p. to.text ++ (lines_from folded limit indent p rest to.cursor).text) f
 
 -- a break, that isn't doubled
-break-step : (limit : Option ℕ) (indent : ℕ) (place : Place) (c : ℕ) (rest : Text) (column : ℕ) (indention twice : Bool) → is_break c ≡ true
+pub break-step : (limit : Option ℕ) (indent : ℕ) (place : Place) (c : ℕ) (rest : Text) (column : ℕ) (indention twice : Bool) → is_break c ≡ true
     → is_doubled place c rest ≡ twice
     → step_laid limit indent place c rest (spot column indention) ≡ record { text = if twice then c ∷ c ∷ [] else c ∷ []; cursor = first_cursor }
 break-step limit indent place c rest column indention true e f = rw (e, f) refl
 break-step limit indent place c rest column indention false e f = rw (e, f) refl
 
 -- a character that stays on its line
-content-step : (limit : Option ℕ) (indent : ℕ) (c : ℕ) (rest : Text) (column : ℕ) → is_break c ≡ false
+pub content-step : (limit : Option ℕ) (indent : ℕ) (c : ℕ) (rest : Text) (column : ℕ) → is_break c ≡ false
     → step_laid limit indent Fixed c rest (spot column false) ≡ record { text = c ∷ []; cursor = spot (column + 1) false }
 content-step limit indent c rest column e = rw e refl
 
 -- parts that go on in a line
-abbrev continued : ℕ → List Part → Text
+abbrev pub continued : ℕ → List Part → Text
 continued indent [] = []
 continued indent (line text ∷ rest) = text ++ indented indent rest
 continued indent (line_break b ∷ rest) = b ∷ indented indent rest
@@ -150,7 +155,8 @@ continued indent (line_break b ∷ rest) = b ∷ indented indent rest
 indented-begun : (indent c : ℕ) (ps : List Part) → indented indent (begun c ps) ≡ (replicate indent space ++ c ∷ []) ++ continued indent ps
 indented-begun indent c [] = refl
 indented-begun indent c (line text ∷ rest) =
-    append_assoc (replicate indent space) (c ∷ text) (indented indent rest) ∙ sym (append_assoc (replicate indent space) (c ∷ []) (text ++ indented indent rest))
+    append_assoc (replicate indent space) (c ∷ text) (indented indent rest)
+    ∙ sym (append_assoc (replicate indent space) (c ∷ []) (text ++ indented indent rest))
 indented-begun indent c (line_break b ∷ rest) = refl
 
 continued-begun : (indent c : ℕ) (ps : List Part) → continued indent (begun c ps) ≡ c ∷ continued indent ps
@@ -167,9 +173,11 @@ literal-more : (limit : Option ℕ) (indent c : ℕ) (rest : Text) → LiteralFr
 literal-more limit indent c rest more =
     elim (cases_Bool (is_break c)) [
       | inl e ↦ record {
-        start = from-step false limit indent LineStart LineStart c rest first_cursor _ (break-step limit indent LineStart c rest 0 true false e refl) (rw e refl)
+        start = from-step false limit indent LineStart LineStart c rest first_cursor _ (break-step limit indent LineStart c rest 0 true false e refl)
+            (rw e refl)
             ∙ rw e (ap (λ t. c ∷ t) more.start);
-        inner = λ column. from-step false limit indent Fixed LineStart c rest (spot column false) _ (break-step limit indent Fixed c rest column false false e refl) (rw e refl)
+        inner = λ column. from-step false limit indent Fixed LineStart c rest (spot column false) _
+            (break-step limit indent Fixed c rest column false false e refl) (rw e refl)
             ∙ rw e (ap (λ t. c ∷ t) more.start);
       }
       | inr e ↦ record {
@@ -185,7 +193,8 @@ literal-from limit indent [] = record { start = refl; inner = λ column. refl }
 literal-from limit indent (c ∷ rest) = literal-more limit indent c rest (literal-from limit indent rest)
 
 -- what was laid, and the cursor, by the text alone
-laid-by : (text : Text) (lines : Text) (a : Laid) → a.text ≡ lines → a.cursor ≡ after_text a.text (ends_in_break (ending text)) 0 → a ≡ lines_laid text lines first_cursor
+pub laid-by : (text : Text) (lines : Text) (a : Laid) → a.text ≡ lines → a.cursor ≡ after_text a.text (ends_in_break (ending text)) 0
+    → a ≡ lines_laid text lines first_cursor
 laid-by text lines a e f = λ i. record { text = e i; cursor = (f ∙ ap (λ t. after_text t (ends_in_break (ending text)) 0) e) i }
 
 -- a literal scalar's lines, character by character
@@ -196,192 +205,3 @@ literal-lines-from limit indent c rest =
     (literal-from limit indent (c ∷ rest)).start
     (lines-cursor false limit indent LineStart (c ∷ rest) 0 true
     ∙ ap (λ b. after_text (lines_from false limit indent LineStart (c ∷ rest) first_cursor).text b 0) (sym (ending-last c rest)))
-
--- a line of folded parts goes on, where it is never folded
-abbrev fixed_text : Option ℕ → ℕ → List Part → Text
-fixed_text limit indent [] = []
-fixed_text limit indent (line text ∷ rest) = text ++ indented indent (folded_parts limit indent false rest)
-fixed_text limit indent (line_break b ∷ rest) = indented indent (folded_parts limit indent false (line_break b ∷ rest))
-
--- and where it may be, from a column on
-abbrev folding_text : Option ℕ → (indent column : ℕ) → List Part → Text
-folding_text limit indent column [] = []
-folding_text limit indent column (line text ∷ rest) = continued indent (cut_from limit indent column text ++ folded_parts limit indent true rest)
-folding_text limit indent column (line_break b ∷ rest) = indented indent (folded_parts limit indent true (line_break b ∷ rest))
-
--- a line that was cut begins with a line
-abbrev BeginsLine : List Part → Type 0
-BeginsLine [] = ⊥
-BeginsLine (line text ∷ rest) = Unit {0}
-BeginsLine (line_break b ∷ rest) = ⊥
-
-begun-line : (c : ℕ) (ps : List Part) → BeginsLine (begun c ps)
-begun-line c [] = tt
-begun-line c (line text ∷ rest) = tt
-begun-line c (line_break b ∷ rest) = tt
-
-cut-line-first : (limit : Option ℕ) (indent column : ℕ) (text : Text) → BeginsLine (cut_from limit indent column text)
-cut-line-first limit indent column [] = tt
-cut-line-first limit indent column (c ∷ rest) = by (folds limit column c rest) (cut_from limit indent (if folds limit column c rest then indent else column + 1) rest)
-  where
-    by : (fold : Bool) (ps : List Part) → BeginsLine (if fold then line [] ∷ line_break line_feed ∷ ps else begun c ps)
-    by true ps = tt
-    by false ps = begun-line c ps
-
-indented-line : (indent : ℕ) (ps rest : List Part) → BeginsLine ps → indented indent (ps ++ rest) ≡ replicate indent space ++ continued indent (ps ++ rest)
-indented-line indent [] rest h = absurd h
-indented-line indent (line text ∷ others) rest h = append_assoc (replicate indent space) text (indented indent (others ++ rest))
-indented-line indent (line_break b ∷ others) rest h = absurd h
-
-continued-first : (indent c : ℕ) (ps rest : List Part) → BeginsLine ps → continued indent (begun c ps ++ rest) ≡ c ∷ continued indent (ps ++ rest)
-continued-first indent c [] rest h = absurd h
-continued-first indent c (line text ∷ others) rest h = refl
-continued-first indent c (line_break b ∷ others) rest h = absurd h
-
--- a fold
-fold-step : (limit : Option ℕ) (indent c : ℕ) (rest : Text) (column : ℕ) (fold : Bool) → is_break c ≡ false → folds limit column c rest ≡ fold
-    → step_laid limit indent Folding c rest (spot column false)
-    ≡ record { text = if fold then line_feed ∷ replicate indent space else c ∷ []; cursor = spot (if fold then indent else column + 1) false }
-fold-step limit indent c rest column true e f = rw (e, f) refl
-fold-step limit indent c rest column false e f = rw (e, f) refl
-
--- the rest of a text begins with a space where the rest of its line does
-space-no-break : (d : ℕ) → is_break d ≡ true → is_space d ≡ false
-space-no-break d e = false_from_ne_true (is_space d) (λ s. false≢true (rw (eqb-true d space s) at e))
-
-abbrev head_line : List Part → Text
-head_line [] = []
-head_line (line text ∷ rest) = text
-head_line (line_break b ∷ rest) = []
-
-head-begun : (d : ℕ) (ps : List Part) → begins_with is_space (head_line (begun d ps)) ≡ is_space d
-head-begun d [] = refl
-head-begun d (line text ∷ rest) = refl
-head-begun d (line_break b ∷ rest) = refl
-
-head-spaced : (text : Text) → begins_with is_space text ≡ begins_with is_space (head_line (parts text))
-head-spaced [] = refl
-head-spaced (d ∷ rest) =
-    elim (cases_Bool (is_break d)) [
-      | inl e ↦ rw e (space-no-break d e)
-      | inr e ↦ rw e (sym (head-begun d (parts rest)))
-    ]
-
--- the fold that a line's cut sees is the one that the text shows
-folds-head : (limit : Option ℕ) (column c : ℕ) (rest : Text) → folds limit column c (head_line (parts rest)) ≡ folds limit column c rest
-folds-head limit column c rest = ap (λ b. is_space c && not b && is_past limit column) (sym (head-spaced rest))
-
--- a line's first character, where it is a space and where it isn't
-fixed-begun : (limit : Option ℕ) (indent c : ℕ) (ps : List Part) → is_space c ≡ true
-    → indented indent (folded_parts limit indent false (begun c ps)) ≡ (replicate indent space ++ c ∷ []) ++ fixed_text limit indent ps
-fixed-begun limit indent c [] e = rw e refl
-fixed-begun limit indent c (line text ∷ rest) e = rw e
-    (append_assoc (replicate indent space) (c ∷ text) (indented indent (folded_parts limit indent false rest))
-    ∙ sym (append_assoc (replicate indent space) (c ∷ []) (text ++ indented indent (folded_parts limit indent false rest))))
-fixed-begun limit indent c (line_break b ∷ rest) e = rw e refl
-
-fixed-inner : (limit : Option ℕ) (indent c : ℕ) (ps : List Part) → fixed_text limit indent (begun c ps) ≡ c ∷ fixed_text limit indent ps
-fixed-inner limit indent c [] = refl
-fixed-inner limit indent c (line text ∷ rest) = refl
-fixed-inner limit indent c (line_break b ∷ rest) = refl
-
--- a character of a line that may be folded, and the rest of the line
-cut-text : (limit : Option ℕ) (indent column c : ℕ) (text : Text) (rest : List Part) (fold : Bool) → folds limit column c text ≡ fold
-    → continued indent (cut_from limit indent column (c ∷ text) ++ rest)
-    ≡ (if fold then line_feed ∷ replicate indent space else c ∷ []) ++ continued indent (cut_from limit indent (if fold then indent else column + 1) text ++ rest)
-cut-text limit indent column c text rest true e =
-    rw e (ap (λ t. line_feed ∷ t) (indented-line indent (cut_from limit indent indent text) rest (cut-line-first limit indent indent text)))
-cut-text limit indent column c text rest false e =
-    rw e (continued-first indent c (cut_from limit indent (column + 1) text) rest (cut-line-first limit indent (column + 1) text))
-
-folding-inner : (limit : Option ℕ) (indent column c : ℕ) (ps : List Part) (fold : Bool) → folds limit column c (head_line ps) ≡ fold
-    → folding_text limit indent column (begun c ps)
-    ≡ (if fold then line_feed ∷ replicate indent space else c ∷ []) ++ folding_text limit indent (if fold then indent else column + 1) ps
-folding-inner limit indent column c [] fold e = cut-text limit indent column c [] [] fold e
-folding-inner limit indent column c (line text ∷ rest) fold e = cut-text limit indent column c text (folded_parts limit indent true rest) fold e
-folding-inner limit indent column c (line_break b ∷ rest) fold e =
-    cut-text limit indent column c [] (folded_parts limit indent true (line_break b ∷ rest)) fold e
-
--- a line's first character, where it isn't a space, is never a fold
-begun-first : (indent c : ℕ) (ps rest : List Part) → BeginsLine ps
-    → indented indent (begun c ps ++ rest) ≡ (replicate indent space ++ c ∷ []) ++ continued indent (ps ++ rest)
-begun-first indent c ps rest h =
-    indented-line indent (begun c ps) rest (begun-line c ps)
-    ∙ ap (λ t. replicate indent space ++ t) (continued-first indent c ps rest h)
-    ∙ sym (append_assoc (replicate indent space) (c ∷ []) (continued indent (ps ++ rest)))
-
-folding-begun : (limit : Option ℕ) (indent c : ℕ) (ps : List Part) → is_space c ≡ false
-    → indented indent (folded_parts limit indent false (begun c ps)) ≡ (replicate indent space ++ c ∷ []) ++ folding_text limit indent (indent + 1) ps
-folding-begun limit indent c [] e = rw e (begun-first indent c (line [] ∷ []) [] tt)
-folding-begun limit indent c (line text ∷ rest) e = rw e
-    (begun-first indent c (cut_from limit indent (indent + 1) text) (folded_parts limit indent true rest) (cut-line-first limit indent (indent + 1) text))
-folding-begun limit indent c (line_break b ∷ rest) e = rw e
-    (begun-first indent c (line [] ∷ []) (folded_parts limit indent true (line_break b ∷ rest)) tt)
-
--- folded lines, from each place
-record FoldedFrom (limit : Option ℕ) (indent : ℕ) (text : Text) : Type 0 where
-  start : (lines_from true limit indent LineStart text first_cursor).text ≡ indented indent (folded_parts limit indent false (parts text))
-  inner : (column : ℕ) → (lines_from true limit indent Fixed text (spot column false)).text ≡ fixed_text limit indent (parts text)
-  bent : (column : ℕ) → (lines_from true limit indent Folding text (spot column false)).text ≡ folding_text limit indent column (parts text)
-
-twice-text : (indent c : ℕ) (twice : Bool) (ps : List Part)
-    → (if twice then c ∷ c ∷ [] else c ∷ []) ++ indented indent ps ≡ indented indent ((if twice then line_break c ∷ line_break c ∷ [] else line_break c ∷ []) ++ ps)
-twice-text indent c true ps = refl
-twice-text indent c false ps = refl
-
-folded-broken : (limit : Option ℕ) (indent c : ℕ) (rest : Text) → is_break c ≡ true → FoldedFrom limit indent rest → FoldedFrom limit indent (c ∷ rest)
-folded-broken limit indent c rest e more =
-    let twice : Bool = c == line_feed && next_even (parts rest) in
-    record {
-      start = from-step true limit indent LineStart LineStart c rest first_cursor _ (break-step limit indent LineStart c rest 0 true false e refl) (rw e refl)
-          ∙ rw e (ap (λ t. c ∷ t) more.start);
-      inner = λ column. from-step true limit indent Fixed LineStart c rest (spot column false) _ (break-step limit indent Fixed c rest column false false e refl) (rw e refl)
-          ∙ rw e (ap (λ t. c ∷ t) more.start);
-      bent = λ column. from-step true limit indent Folding LineStart c rest (spot column false) _ (break-step limit indent Folding c rest column false twice e refl) (rw e refl)
-          ∙ rw e (ap (λ t. (if twice then c ∷ c ∷ [] else c ∷ []) ++ t) more.start ∙ twice-text indent c twice (folded_parts limit indent false (parts rest)));
-    }
-
-folded-first : (limit : Option ℕ) (indent c : ℕ) (rest : Text) → is_break c ≡ false → FoldedFrom limit indent rest
-    → (lines_from true limit indent LineStart (c ∷ rest) first_cursor).text ≡ indented indent (folded_parts limit indent false (begun c (parts rest)))
-folded-first limit indent c rest e more =
-    elim (cases_Bool (is_space c)) [
-      | inl spaced ↦ from-step true limit indent LineStart Fixed c rest first_cursor _ (start-step limit indent c rest e) (rw (e, spaced) refl)
-          ∙ ap (λ t. (replicate indent space ++ c ∷ []) ++ t) (more.inner (indent + 1)) ∙ sym (fixed-begun limit indent c (parts rest) spaced)
-      | inr even ↦ from-step true limit indent LineStart Folding c rest first_cursor _ (start-step limit indent c rest e) (rw (e, even) refl)
-          ∙ ap (λ t. (replicate indent space ++ c ∷ []) ++ t) (more.bent (indent + 1)) ∙ sym (folding-begun limit indent c (parts rest) even)
-    ]
-
-part-begun : (c : ℕ) (ps : List Part) → is_break c ≡ false → begun c ps ≡ part_before c ps
-part-begun c ps e = rw e refl
-
-folded-more : (limit : Option ℕ) (indent c : ℕ) (rest : Text) → is_break c ≡ false → FoldedFrom limit indent rest → FoldedFrom limit indent (c ∷ rest)
-folded-more limit indent c rest e more =
-    record {
-      start = folded-first limit indent c rest e more ∙ ap (λ ps. indented indent (folded_parts limit indent false ps)) (part-begun c (parts rest) e);
-      inner = λ column. from-step true limit indent Fixed Fixed c rest (spot column false) _ (content-step limit indent c rest column e) (rw e refl)
-          ∙ rw e (ap (λ t. c ∷ t) (more.inner (column + 1)) ∙ sym (fixed-inner limit indent c (parts rest)));
-      bent = λ column.
-          let fold : Bool = folds limit column c rest in
-          from-step true limit indent Folding Folding c rest (spot column false) _ (fold-step limit indent c rest column fold e refl) (rw e refl)
-          ∙ rw e (ap (λ t. (if fold then line_feed ∷ replicate indent space else c ∷ []) ++ t) (more.bent (if fold then indent else column + 1))
-          ∙ sym (folding-inner limit indent column c (parts rest) fold (folds-head limit column c rest)));
-    }
-
-folded-from : (limit : Option ℕ) (indent : ℕ) (text : Text) → FoldedFrom limit indent text
-folded-from limit indent [] = record { start = refl; inner = λ column. refl; bent = λ column. refl }
-folded-from limit indent (c ∷ rest) =
-    let more : FoldedFrom limit indent rest = folded-from limit indent rest in
-    elim (cases_Bool (is_break c)) [
-      | inl e ↦ folded-broken limit indent c rest e more
-      | inr e ↦ folded-more limit indent c rest e more
-    ]
-
--- a folded scalar's lines, character by character
-pub folded-lines-from : (limit : Option ℕ) (indent c : ℕ) (rest : Text)
-    → lines_from true limit indent LineStart (c ∷ rest) first_cursor
-    ≡ lines_laid (c ∷ rest) (indented indent (folded_parts limit indent false (parts (c ∷ rest)))) first_cursor
-folded-lines-from limit indent c rest =
-    laid-by (c ∷ rest) (indented indent (folded_parts limit indent false (parts (c ∷ rest)))) (lines_from true limit indent LineStart (c ∷ rest) first_cursor)
-    (folded-from limit indent (c ∷ rest)).start
-    (lines-cursor true limit indent LineStart (c ∷ rest) 0 true
-    ∙ ap (λ b. after_text (lines_from true limit indent LineStart (c ∷ rest) first_cursor).text b 0) (sym (ending-last c rest)))

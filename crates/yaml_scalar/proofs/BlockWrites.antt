@@ -13,12 +13,14 @@ use Rattle.yaml_scalar.specs.declared.block_lines.Place.{Place}
 use Rattle.yaml_scalar.specs.declared.block_lines.Place.TheVariants.{LineStart}
 use Rattle.yaml_scalar.specs.BlockSteps.{lines_from, sign_of, separated_header, header_end, block_laid}
 use Rattle.yaml_scalar.proofs.StillToWrite.{StillToWrite}
-use Rattle.yaml_scalar.proofs.BlockSteps.{literal-lines-from, folded-lines-from}
+use Rattle.yaml_scalar.proofs.BlockSteps.{literal-lines-from}
+use Rattle.yaml_scalar.proofs.FoldedSteps.{folded-lines-from}
 
 -- one after another, in either grouping
 then-assoc : (a : Laid) (f g : Cursor → Laid) → then_laid (then_laid a f) g ≡ then_laid a (λ k. then_laid (f k) g)
 then-assoc a f g =
-    ap (λ t. let l : Laid = record { text = t; cursor = (g (f a.cursor).cursor).cursor } in l) (append_assoc a.text (f a.cursor).text (g (f a.cursor).cursor).text)
+    ap (λ t. let l : Laid = record { text = t; cursor = (g (f a.cursor).cursor).cursor } in l)
+    (append_assoc a.text (f a.cursor).text (g (f a.cursor).cursor).text)
 
 -- an indicator's separating space is text before it
 indicator-lead : (sign column : ℕ) (whitespace indention : Bool)
@@ -28,11 +30,13 @@ indicator-lead sign column true indention = refl
 indicator-lead sign column false indention = refl
 
 pub header-steps : (folded : Bool) (best_indent : ℕ) (value : Text) (cursor : Cursor)
-    → then_laid (then_laid (indicator (sign_of folded ∷ []) true false false cursor) (hints_laid best_indent value)) header_end ≡ separated_header folded best_indent value cursor
+    → then_laid (then_laid (indicator (sign_of folded ∷ []) true false false cursor) (hints_laid best_indent value)) header_end
+    ≡ separated_header folded best_indent value cursor
 header-steps folded best_indent value cursor =
     let lead : Laid = text_laid (space_if true cursor) cursor in
     let sign : Cursor → Laid = indicator (sign_of folded ∷ []) false false false in
-    ap (λ (l : Laid). then_laid (then_laid l (hints_laid best_indent value)) header_end) (indicator-lead (sign_of folded) cursor.column cursor.whitespace cursor.indention)
+    ap (λ (l : Laid). then_laid (then_laid l (hints_laid best_indent value)) header_end)
+    (indicator-lead (sign_of folded) cursor.column cursor.whitespace cursor.indention)
     ∙ ap (λ (l : Laid). then_laid l header_end) (then-assoc lead sign (hints_laid best_indent value))
     ∙ then-assoc lead (λ k. then_laid (sign k) (hints_laid best_indent value)) header_end
     ∙ ap (λ (f : Cursor → Laid). then_laid lead f) (λ i k. then-assoc (sign k) (hints_laid best_indent value) header_end i)

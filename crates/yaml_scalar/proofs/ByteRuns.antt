@@ -6,10 +6,10 @@ use Rattle.std.proofs.lemmas.List.Folds.{list_all-append}
 use Rattle.std.proofs.lemmas.Str.{IsUtf8-take, chars_from_encodes, encode_ascii}
 use Rattle.std.specs.Int.Bits.{bit_and}
 use Rattle.std.specs.List.{list_all}
-use Rattle.std.specs.Prelude.{ℕ, Bool, true, false, List, [], ◌∷◌, ◌++◌, ◌==◌, ◌||◌, ◌&&◌, not, ◌+◌, ◌-◌, ◌/◌, ◌%◌, ◌<◌, ◌≤◌, ◌⊎◌, codes, length, slice_index, take}
+use Rattle.std.specs.Prelude.{ℕ, Bool, true, false, List, [], ◌∷◌, ◌==◌, ◌||◌, ◌&&◌, not, ◌+◌, ◌-◌, ◌/◌, ◌%◌, ◌<◌, ◌≤◌, ◌⊎◌, codes, slice_index, take}
 use Rattle.std.specs.Str.{IsCharBoundary, chars}
 use lib.Utf8.{scalar, scalars, encode, encodes, next, scalar_cases}
-use Rattle.yaml_base.specs.Characters.{Text, is_among, is_break, is_printable, is_space}
+use Rattle.yaml_base.specs.Characters.{Text, is_among, is_break, is_printable}
 use Rattle.yaml_scalar.specs.Barred.{is_quiet}
 use Rattle.yaml_scalar.specs.declared.classes.TheConstants.{CLASSES}
 use Rattle.yaml_scalar.specs.ByteClasses.{IsFreeRun, Tells, is_free}
@@ -20,7 +20,8 @@ inside_free : (classes b : ℕ) → 128 ≤ b → b < 192 → is_free classes b 
 inside_free classes b low high =
     let at : b - 128 + 128 ≡ b = omega arith in
     let none : slice_index CLASSES b ≡ 0 =
-    eqb-true _ _ (subst (λ k. (slice_index CLASSES k == 0) ≡ true) at (agree_below_at (λ k. slice_index CLASSES (k + 128) == 0) (λ k. true) 64 (b - 128) refl (omega arith))) in
+    eqb-true _ _ (subst (λ k. (slice_index CLASSES k == 0) ≡ true) at
+    (agree_below_at (λ k. slice_index CLASSES (k + 128) == 0) (λ k. true) 64 (b - 128) refl (omega arith))) in
     ap (λ n. bit_and n classes == 0) none
 
 -- so such a run ends between characters
@@ -33,7 +34,8 @@ run_boundary {classes} {text} {size} is = (
   ],
 )
 
-all_pass : (classes : ℕ) (test : ℕ → Bool) → Tells classes test → (text : Text) → scalars text ≡ true → list_all (is_free classes) (encodes text) ≡ true → list_all test text ≡ true
+all_pass : (classes : ℕ) (test : ℕ → Bool) → Tells classes test → (text : Text) → scalars text ≡ true → list_all (is_free classes) (encodes text) ≡ true
+    → list_all test text ≡ true
 all_pass classes test tells [] s h = refl
 all_pass classes test tells (c ∷ rest) s h =
     let p = and_parts (scalar c) (scalars rest) s in
@@ -41,7 +43,8 @@ all_pass classes test tells (c ∷ rest) s h =
     and_from _ _ (tells c p.0 q.0) (all_pass classes test tells rest p.1 q.1)
 
 -- the characters of such a run pass
-pub free_passes : {classes : ℕ} {test : ℕ → Bool} {text : List ℕ} {size : ℕ} → Tells classes test → IsUtf8 text → IsFreeRun classes text size → list_all test (chars (take size text)) ≡ true
+pub free_passes : {classes : ℕ} {test : ℕ → Bool} {text : List ℕ} {size : ℕ} → Tells classes test → IsUtf8 text → IsFreeRun classes text size
+    → list_all test (chars (take size text)) ≡ true
 free_passes {classes} {test} {text} {size} tells is_text free =
     let u = IsUtf8-take text size is_text (run_boundary free) in
     ap (list_all test) (sym (chars_from_encodes u.0 (take size text) u u.1.1))
@@ -66,9 +69,11 @@ false_unless false h = refl
 first_is_free : (classes first : ℕ) (rest : List ℕ) → list_all (is_free classes) (first ∷ rest) ≡ true → is_free classes first ≡ false → ⊥
 first_is_free classes first rest free not_free = true≢false (sym (and_parts _ _ free).0 ∙ not_free)
 
-is_other_than : (classes c k first : ℕ) (rest : List ℕ) → encode k ≡ first ∷ rest → is_free classes first ≡ false → list_all (is_free classes) (encode c) ≡ true → (c == k) ≡ false
+is_other_than : (classes c k first : ℕ) (rest : List ℕ) → encode k ≡ first ∷ rest → is_free classes first ≡ false → list_all (is_free classes) (encode c) ≡ true
+    → (c == k) ≡ false
 is_other_than classes c k first rest is not_free free =
-    false_unless _ (λ same. first_is_free classes first rest (ap (list_all (is_free classes)) (sym is) ∙ ap (λ d. list_all (is_free classes) (encode d)) (sym (eqb-true c k same)) ∙ free) not_free)
+    false_unless _ (λ same. first_is_free classes first rest
+    (ap (list_all (is_free classes)) (sym is) ∙ ap (λ d. list_all (is_free classes) (encode d)) (sym (eqb-true c k same)) ∙ free) not_free)
 
 -- no break
 pub record Unbroken (c : ℕ) : Type 0 where
@@ -120,14 +125,16 @@ wide_printable classes c two three wide s free =
     let near : (c < 0xF000) ⊎ (0x10000 ≤ c) = elim (cases_lt c 0xF000) [
       | inl below ↦ inl below
       | inr above ↦ elim (cases_lt c 0x10000) [
-        | inl within ↦ absurd (first_is_free classes 0xEF ((128 + (c / 64) % 64) ∷ (128 + c % 64) ∷ []) (ap (list_all (is_free classes)) (sym (below_last c above within)) ∙ free) three)
+        | inl within ↦ absurd (first_is_free classes 0xEF ((128 + (c / 64) % 64) ∷ (128 + c % 64) ∷ [])
+            (ap (list_all (is_free classes)) (sym (below_last c above within)) ∙ free) three)
         | inr past ↦ inr past
       ]
     ] in
     printable_where c s past near
 
 -- none is free of the class of all first bytes past ASCII
-pub wide_never : (classes c : ℕ) → agree_below (λ k. is_free classes (k + 192)) (λ k. false) 64 ≡ true → 128 ≤ c → scalar c ≡ true → list_all (is_free classes) (encode c) ≡ true → ⊥
+pub wide_never : (classes c : ℕ) → agree_below (λ k. is_free classes (k + 192)) (λ k. false) 64 ≡ true → 128 ≤ c → scalar c ≡ true
+    → list_all (is_free classes) (encode c) ≡ true → ⊥
 unfolding encode
 wide_never classes c none wide s free =
     let at : (b : ℕ) → 192 ≤ b → b < 256 → is_free classes b ≡ false =
@@ -135,10 +142,13 @@ wide_never classes c none wide s free =
     subst (λ k. is_free classes k ≡ false) same (agree_below_at (λ k. is_free classes (k + 192)) (λ k. false) 64 (b - 192) none (omega arith)) in
     let all : c < 0x110000 = elim (scalar_cases c s) [ inl below ↦ omega arith | inr above ↦ above.1 ] in
     elim (cases_lt c 2048) [
-      | inl two ↦ first_is_free classes (192 + c / 64) (next c ∷ []) (rw (le-ltb c 128 wide, lt-ltb c 2048 two) at free) (at (192 + c / 64) (omega arith) (omega arith))
+      | inl two ↦ first_is_free classes (192 + c / 64) (next c ∷ []) (rw (le-ltb c 128 wide, lt-ltb c 2048 two) at free)
+          (at (192 + c / 64) (omega arith) (omega arith))
       | inr more ↦ elim (cases_lt c 65536) [
-        | inl three ↦ first_is_free classes (224 + c / 4096) (next (c / 64) ∷ next c ∷ []) (rw (le-ltb c 128 wide, le-ltb c 2048 more, lt-ltb c 65536 three) at free) (at (224 + c / 4096) (omega arith) (omega arith))
-        | inr four ↦ first_is_free classes (240 + c / 262144) (next (c / 4096) ∷ next (c / 64) ∷ next c ∷ []) (rw (le-ltb c 128 wide, le-ltb c 2048 more, le-ltb c 65536 four) at free) (at (240 + c / 262144) (omega arith) (omega arith))
+        | inl three ↦ first_is_free classes (224 + c / 4096) (next (c / 64) ∷ next c ∷ [])
+            (rw (le-ltb c 128 wide, le-ltb c 2048 more, lt-ltb c 65536 three) at free) (at (224 + c / 4096) (omega arith) (omega arith))
+        | inr four ↦ first_is_free classes (240 + c / 262144) (next (c / 4096) ∷ next (c / 64) ∷ next c ∷ [])
+            (rw (le-ltb c 128 wide, le-ltb c 2048 more, le-ltb c 65536 four) at free) (at (240 + c / 262144) (omega arith) (omega arith))
       ]
     ]
 
@@ -160,7 +170,15 @@ other_than c k wide below = grind (arith, nat_tests)
 other_than_signs : (c : ℕ) → 128 ≤ c → is_among (codes ",?:[]{}") c ≡ false
 other_than_signs c wide =
     let differs : (k : ℕ) → k < 128 → (c == k) ≡ false = λ k below. other_than c k wide below in
-    rw (differs 44 (omega arith), differs 63 (omega arith), differs 58 (omega arith), differs 91 (omega arith), differs 93 (omega arith), differs 123 (omega arith), differs 125 (omega arith))
+    rw (
+      differs 44 (omega arith),
+      differs 63 (omega arith),
+      differs 58 (omega arith),
+      differs 91 (omega arith),
+      differs 93 (omega arith),
+      differs 123 (omega arith),
+      differs 125 (omega arith),
+    )
 
 -- The tests of the runs of a line,
 pub line_tells : (classes : ℕ) (folds quotes : Bool) → agree_below (λ b. not (is_free classes b) || stays_in_line folds quotes b) (λ b. true) 128 ≡ true
@@ -190,8 +208,10 @@ ascii_only_tells classes test computed none =
     tells_by classes test computed (λ c wide s free. absurd (wide_never classes c none wide s free))
 
 -- and of those that an analysis passes over
-pub quiet_tells : (classes : ℕ) (breaks12 : Bool) → agree_below (λ b. not (is_free classes b) || is_quiet (record { unicode = true; breaks12 = breaks12 }) b) (λ b. true) 128 ≡ true
-    → is_free classes 0xC2 ≡ false → is_free classes 0xE2 ≡ false → is_free classes 0xEF ≡ false → Tells classes (is_quiet (record { unicode = true; breaks12 = breaks12 }))
+pub quiet_tells : (classes : ℕ) (breaks12 : Bool)
+    → agree_below (λ b. not (is_free classes b) || is_quiet (record { unicode = true; breaks12 = breaks12 }) b) (λ b. true) 128 ≡ true
+    → is_free classes 0xC2 ≡ false → is_free classes 0xE2 ≡ false → is_free classes 0xEF ≡ false
+    → Tells classes (is_quiet (record { unicode = true; breaks12 = breaks12 }))
 quiet_tells classes breaks12 computed two three four =
     tells_by classes (is_quiet (record { unicode = true; breaks12 = breaks12 })) computed
     (λ c wide s free. let no_break = wide_unbroken classes c two three free in

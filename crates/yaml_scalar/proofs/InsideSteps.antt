@@ -40,7 +40,8 @@ character_stays unicode limit indent before c rest cursor h =
 abbrev pub inside_after : (unicode : Bool) (limit : Option ℕ) (indent : ℕ) → ℕ → Text → Cursor → Laid
 inside_after unicode limit indent before = double_inside unicode limit indent (Some before)
 
-pub inside_alone : (unicode : Bool) (limit : Option ℕ) (indent : ℕ) (cursor : Cursor) → StandAlone (inside_after unicode limit indent) (stays unicode limit) cursor
+pub inside_alone : (unicode : Bool) (limit : Option ℕ) (indent : ℕ) (cursor : Cursor)
+    → StandAlone (inside_after unicode limit indent) (stays unicode limit) cursor
 inside_alone unicode limit indent cursor =
     record {
       stands = λ before c rest column h.

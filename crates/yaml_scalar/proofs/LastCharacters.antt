@@ -45,7 +45,8 @@ pub other-ends : (front : List ℕ) (c : ℕ) → IsUtf8 front → scalar c ≡ 
 other-ends front c u s e = ap ending (chars-last front c u s) ∙ ending-other (chars front) c e
 
 -- in a break alone
-pub break-ends : (front : List ℕ) (c : ℕ) → IsUtf8 front → scalar c ≡ true → is_break c ≡ true → chars front ≡ [] → ending (chars (front ++ encode_utf8 c)) ≡ more_breaks
+pub break-ends : (front : List ℕ) (c : ℕ) → IsUtf8 front → scalar c ≡ true → is_break c ≡ true → chars front ≡ []
+    → ending (chars (front ++ encode_utf8 c)) ≡ more_breaks
 break-ends front c u s e none = ap ending (chars-last front c u s ∙ ap (λ t. t ++ c ∷ []) none) ∙ rw e refl
 
 -- in a break after another character

@@ -19,6 +19,7 @@ pub mod TidyLines
 pub mod TidyQuoted
 pub mod TidyBlocks
 pub mod BlockSteps
+pub mod FoldedSteps
 pub mod Barred
 pub mod ByteRuns
 pub mod FirstCharacters

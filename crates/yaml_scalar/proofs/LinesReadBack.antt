@@ -26,7 +26,8 @@ two_or_more (pos n) h = omega (arith, ints)
 two_or_more (negsuc n) h = omega (arith, ints)
 
 -- a lead is spaces alone
-lead_spaces : (setting : LineBreak) (space_stands : Bool) (cursor : Cursor) → list_all is_space (with_breaks_written setting (space_if space_stands cursor)) ≡ true
+lead_spaces : (setting : LineBreak) (space_stands : Bool) (cursor : Cursor)
+    → list_all is_space (with_breaks_written setting (space_if space_stands cursor)) ≡ true
 lead_spaces setting need cursor = by (need && not cursor.whitespace)
   where
     by : (b : Bool) → list_all is_space (with_breaks_written setting (if b then space ∷ [] else [])) ≡ true

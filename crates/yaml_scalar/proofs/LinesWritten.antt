@@ -67,7 +67,8 @@ pub break_step_text :
     StepText written past indent before c rest
     ((if doubled then line_feed ∷ [] else []) ++ (c ∷ (if goes_on then [] else indentation indent)))
 break_step_text written past indent before c rest doubled goes_on k e f =
-    subst (λ (kind : Kind). (if doubled then line_feed ∷ [] else []) ++ (c ∷ (if goes_on then [] else indentation indent)) ≡ step_text written past indent before kind c rest)
+    subst (λ (kind : Kind). (if doubled then line_feed ∷ [] else []) ++ (c ∷ (if goes_on then [] else indentation indent))
+    ≡ step_text written past indent before kind c rest)
     k (rw (e, f) refl)
 
 -- another character is the step of it

@@ -66,7 +66,8 @@ run_still after {test} {whole} {before} {last} {size} {bytes} {run} {rest} {star
     still
 
 -- a run that stands for itself and was written leaves what follows it
-pub standing_more : (after : ℕ → Text → Cursor → Laid) {test : ℕ → Bool} {whole : Cursor → Laid} {before last size : ℕ} {bytes run rest : List ℕ} {start here later : Page}
+pub standing_more : (after : ℕ → Text → Cursor → Laid) {test : ℕ → Bool} {whole : Cursor
+    → Laid} {before last size : ℕ} {bytes run rest : List ℕ} {start here later : Page}
     → RunStands after (chars run) here.cursor
     → IsUtf8 bytes → IsRun test before bytes size last → run ≡ take size bytes → rest ≡ drop size bytes
     → StillToWrite (after before (chars bytes)) whole start here
@@ -76,7 +77,8 @@ standing_more after stands is_text is front behind still wrote =
     still_rest (run_still after stands is_text is front behind still) wrote
 
 -- one that failed ends it
-pub standing_failed : (after : ℕ → Text → Cursor → Laid) {test : ℕ → Bool} {whole : Cursor → Laid} {before last size : ℕ} {bytes run : List ℕ} (rest : List ℕ) {start here later : Page} {error : yaml_error_t}
+pub standing_failed : (after : ℕ → Text → Cursor → Laid) {test : ℕ → Bool} {whole : Cursor → Laid} {before last size : ℕ} {bytes run : List ℕ}
+    (rest : List ℕ) {start here later : Page} {error : yaml_error_t}
     → RunStands after (chars run) here.cursor
     → IsUtf8 bytes → IsRun test before bytes size last → run ≡ take size bytes → rest ≡ drop size bytes
     → StillToWrite (after before (chars bytes)) whole start here
@@ -86,7 +88,8 @@ standing_failed after {test} {whole} {before} {last} rest stands is_text is fron
     still_failed (after last (chars rest)) (run_still after stands is_text is front behind still) wrote
 
 -- a run that was written leaves what follows it
-pub run_more : (after : ℕ → Text → Cursor → Laid) {test : ℕ → Bool} {whole : Cursor → Laid} {before last size : ℕ} {bytes run rest : List ℕ} {start here later : Page}
+pub run_more : (after : ℕ → Text → Cursor → Laid) {test : ℕ → Bool} {whole : Cursor
+    → Laid} {before last size : ℕ} {bytes run rest : List ℕ} {start here later : Page}
     → StandAlone after test here.cursor
     → IsUtf8 bytes → IsRun test before bytes size last → run ≡ take size bytes → rest ≡ drop size bytes
     → StillToWrite (after before (chars bytes)) whole start here
@@ -96,7 +99,8 @@ run_more after alone is_text is front behind still wrote =
     standing_more after (each_stands alone is front) is_text is front behind still wrote
 
 -- a run that failed ends it
-pub run_failed : (after : ℕ → Text → Cursor → Laid) {test : ℕ → Bool} {whole : Cursor → Laid} {before last size : ℕ} {bytes run : List ℕ} (rest : List ℕ) {start here later : Page} {error : yaml_error_t}
+pub run_failed : (after : ℕ → Text → Cursor → Laid) {test : ℕ → Bool} {whole : Cursor → Laid} {before last size : ℕ} {bytes run : List ℕ}
+    (rest : List ℕ) {start here later : Page} {error : yaml_error_t}
     → StandAlone after test here.cursor
     → IsUtf8 bytes → IsRun test before bytes size last → run ≡ take size bytes → rest ≡ drop size bytes
     → StillToWrite (after before (chars bytes)) whole start here

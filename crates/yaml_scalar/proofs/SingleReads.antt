@@ -90,7 +90,8 @@ pub single-laid :
 single-laid charset limit indent value cursor allowed =
     let clean = no_returns charset value (not-true _ allowed) in
     let bare = any_bare is_return refl refl quotes_doubled limit indent spaces value (single_quote cursor).cursor clean in
-    let doubled = laid_without_returns (quotes_doubled (inside limit indent value cursor)) (any_doubled is_return refl (inside limit indent value cursor) bare) in
+    let doubled = laid_without_returns (quotes_doubled (inside limit indent value cursor))
+    (any_doubled is_return refl (inside limit indent value cursor) bare) in
     ap is_laid_text (body-inside limit indent value cursor)
     ∙ laid-append (quotes_doubled (inside limit indent value cursor)) (39 ∷ []) doubled refl
 

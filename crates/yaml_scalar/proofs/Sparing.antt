@@ -1,18 +1,17 @@
 -- Tests that spare printable ASCII and LF: what a style writes holds no character that meets such a test, where the value's
 -- own characters that stand raw don't.
-use Rattle.std.proofs.Common.{◌≡◌, refl, sym, ap, ◌∙◌, ℕ, zero, suc, ◌≤◌, [], ◌∷◌, ◌++◌, Bool, true, false, arith}
+use Rattle.std.proofs.Common.{◌≡◌, refl, ap, ◌∙◌, ℕ, zero, suc, [], ◌∷◌, ◌++◌, Bool, true, false, arith}
 use Rattle.std.specs.Prelude.{Option, None, Some, List, ◌==◌, ◌&&◌, ◌/◌, ◌%◌, nat_le, replicate, if◌then◌else◌}
 use Rattle.std.specs.List.{list_all, list_any}
 use Rattle.std.proofs.lemmas.Bool.{agree_below_at, and_from, and_parts}
-use Rattle.std.proofs.lemmas.Bool.Decides.{nat_tests}
 use Rattle.std.proofs.lemmas.List.Folds.{list_all-append}
-use Rattle.yaml_base.specs.Characters.{Text, is_between, hex_digit, hex_digits, is_break, is_space, line_feed, space}
+use Rattle.yaml_base.specs.Characters.{Text, is_between, hex_digit, hex_digits, is_space, line_feed, space}
 use Rattle.yaml_base.specs.Cursor.{Cursor, breaks_line, is_past_width, new_line, text_laid}
 use Rattle.yaml_base.specs.DoubleQuoted.{ShortEscape, backslash, character_text, double_character, double_fold, double_inside, double_quoted_body, escape_after_backslash, escape_text, letter_among, may_fold, needs_escape, quote, quote_laid, short_escapes, space_kept}
 use Rattle.yaml_base.specs.Plain.{plain_body, spaces}
 use Rattle.yaml_base.specs.SingleQuoted.{quotes_doubled, single_quote, single_quoted_body}
 use Rattle.yaml_scalar.proofs.LineTexts.{any_bare, any_both, any_cond, any_indentation, any_one}
-use Rattle.yaml_scalar.proofs.PlainReads.{body-lines, lines}
+use Rattle.yaml_scalar.proofs.PlainReads.{body-lines}
 use Rattle.yaml_scalar.proofs.SingleReads.{any_doubled, body-inside, inside}
 
 -- a printable character of ASCII other than the space
@@ -102,7 +101,8 @@ module _ (test : ℕ → Bool) (spares : Spares test) where
   lacks_single limit indent value cursor own =
       let quote_spared : test 39 ≡ false = spares.graph 39 refl in
       let text = inside limit indent value cursor in
-      let bare : list_any test text ≡ false = any_bare test spares.feed spares.blank quotes_doubled limit indent spaces value (single_quote cursor).cursor own in
+      let bare : list_any test text ≡ false = any_bare test spares.feed spares.blank quotes_doubled limit indent spaces value
+      (single_quote cursor).cursor own in
       ap (list_any test) (body-inside limit indent value cursor)
       ∙ any_one test 39 (quotes_doubled text ++ 39 ∷ []) quote_spared
       (any_both test (quotes_doubled text) (39 ∷ []) (any_doubled test quote_spared text bare) (any_one test 39 [] quote_spared refl))

@@ -77,7 +77,8 @@ room_less (Some width) column count less le h = omega arith
 -- characters that stay, with room for them or no space among them, are laid out as themselves
 line_at : (quoted : Bool) (limit : Option ℕ) (indent : ℕ) (folds : Bool) (before : ℕ) (run rest : Text) (cursor : Cursor)
     → list_all (stays_in_line folds quoted) run ≡ true → (folds ≡ false → HasRoom limit cursor.column (length run))
-    → lines_after quoted limit indent before (run ++ rest) cursor ≡ then_laid (text_laid run cursor) (lines_after quoted limit indent (last_from before run) rest)
+    → lines_after quoted limit indent before (run ++ rest) cursor
+    ≡ then_laid (text_laid run cursor) (lines_after quoted limit indent (last_from before run) rest)
 line_at quoted limit indent folds before [] rest cursor h room = refl
 line_at quoted limit indent folds before (c ∷ run) rest cursor h room =
     let p = and_parts (stays_in_line folds quoted c) (list_all (stays_in_line folds quoted) run) h in

@@ -1,8 +1,8 @@
 -- Block scalars have deep lines: each line after the header holds a character that is no space, and stands at its indentation.
-use Rattle.std.proofs.Common.{◌≡◌, ◌≤◌, refl, sym, ap, ◌∙◌, ℕ, zero, suc, List, [], ◌∷◌, ◌++◌, Bool, true, false, append_assoc, ◌⊎◌, inl, inr, arith}
+use Rattle.std.proofs.Common.{◌≡◌, ◌≤◌, refl, sym, ap, ◌∙◌, ℕ, zero, suc, List, [], ◌∷◌, ◌++◌, Bool, true, false, append_assoc, ◌⊎◌, inl, inr}
 use Rattle.std.specs.Prelude.{Option, ◌==◌, ◌||◌, ◌&&◌, ◌+◌, not, replicate, if◌then◌else◌}
-use Rattle.std.proofs.lemmas.Bool.{and_from, false≢true, true≢false, not-true, or_left, or_parts, or_right}
-use Rattle.yaml_base.specs.Analysis.{Charset, allows_block, bars_block, begins_with, is_empty, is_special, somewhere}
+use Rattle.std.proofs.lemmas.Bool.{and_from, true≢false, not-true, or_parts, or_right}
+use Rattle.yaml_base.specs.Analysis.{Charset, allows_block, bars_block, begins_with, is_empty, somewhere}
 use Rattle.yaml_base.specs.Characters.{Text, is_break, is_space, line_feed, space}
 use Rattle.yaml_base.specs.Cursor.{Cursor}
 use Rattle.yaml_base.specs.BlockHeader.{Ending, without_break, one_break, more_breaks, ending, begins_blank, ending_hint, block_body}
@@ -57,7 +57,8 @@ module _ (breaks12 : Bool) where
     lines_begin [] h = refl
     lines_begin (line text ∷ rest) h =
         or_right _ _ (and_from _ _
-        (ap (begins_with_spaces count) (append_assoc (replicate indent space) text (indented indent rest)) ∙ enough_spaces breaks12 count indent (text ++ indented indent rest) enough)
+        (ap (begins_with_spaces count) (append_assoc (replicate indent space) text (indented indent rest))
+        ∙ enough_spaces breaks12 count indent (text ++ indented indent rest) enough)
         (ap not (spaces_blank indent text (indented indent rest) h.0 h.1)))
     lines_begin (line_break b ∷ rest) h = deep_break breaks12 count (b ∷ indented indent rest) h.0
 

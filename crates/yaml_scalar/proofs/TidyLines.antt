@@ -1,19 +1,17 @@
 -- Plain and single-quoted texts are tidy: their lines after the first stand at their indentation, and no space stands before a
 -- break; a plain text has no blank and no break at its edges.
-use Rattle.std.proofs.Common.{◌≡◌, ◌≤◌, refl, sym, ap, ◌∙◌, subst, ℕ, suc, zero, [], ◌∷◌, ◌++◌, Bool, true, false, append-nil, append_assoc, arith}
+use Rattle.std.proofs.Common.{◌≡◌, ◌≤◌, refl, sym, ap, ◌∙◌, subst, ℕ, [], ◌∷◌, ◌++◌, Bool, true, false, append-nil, append_assoc}
 use Rattle.std.specs.Prelude.{Option, ◌==◌, ◌||◌, ◌&&◌, not, if◌then◌else◌}
 use Rattle.std.proofs.lemmas.Bool.{and_from, and_parts, eqb-true, false≢true, true≢false, not-true, or_from, or_parts}
 use Rattle.yaml_base.specs.Analysis.{Charset, allows_plain, allows_single_quoted, bars_plain, bars_single_quoted, begins_unlike_plain, begins_with, is_empty, is_special, somewhere}
 use Rattle.yaml_base.specs.Characters.{Text, is_break, is_space, line_feed, space}
 use Rattle.yaml_base.specs.Cursor.{Cursor, text_laid, is_past_width}
-use Rattle.yaml_base.specs.Event.{plain, single_quoted}
 use Rattle.yaml_base.specs.LineBreaks.{is_read_break}
 use Rattle.yaml_base.specs.Plain.{Kind, spaces, breaks, others, kind_of, is_same_kind, indentation, plain_body}
 use Rattle.yaml_base.specs.ReadPlain.{is_read_white}
 use Rattle.yaml_base.specs.SingleQuoted.{quotes_doubled, single_quote, single_quoted_body}
-use Rattle.yaml_base.specs.TidyBodies.{begins_with_break, ends_white, has_clean_edges, has_deep_lines, has_no_space_before_break}
+use Rattle.yaml_base.specs.TidyBodies.{begins_with_break, ends_white, has_clean_edges}
 use Rattle.yaml_scalar.specs.LineSteps.{begins_kind, step_text, steps_laid}
-use Rattle.yaml_scalar.proofs.BlockParts.{Ordinary}
 use Rattle.yaml_scalar.proofs.BlockReads.{ordinary}
 use Rattle.yaml_scalar.proofs.DeepLines.{AllInk, BeginsInk, Ink, IsEven, deep_break, even_break, even_ink, even_line, even_nothing, even_space, ink_unbroken, space_unbroken}
 use Rattle.yaml_scalar.proofs.LineFolds.{breaks_only, spaces_only}
@@ -268,7 +266,8 @@ pub single_even : (charset : Charset) (count : ℕ) (limit : Option ℕ) (indent
     → allows_single_quoted charset value ≡ true → IsEven charset.breaks12 count (single_quoted_body limit indent value cursor).text
 single_even charset count limit indent value cursor enough allowed =
     let after = (single_quote cursor).cursor in
-    let each : InksEach charset count indent enough true quotes_doubled = record { inks = doubled_inks charset.breaks12; begins = doubled_begins charset.breaks12 } in
+    let each : InksEach charset count indent enough true
+    quotes_doubled = record { inks = doubled_inks charset.breaks12; begins = doubled_begins charset.breaks12 } in
     let inside = lines_even charset count indent enough true quotes_doubled each limit spaces value after (not-true _ allowed) (ends_always value) in
     rw (runs_by_steps quotes_doubled doubled_writes limit indent value after)
     (even_ink charset.breaks12 count (39 ∷ []) _ (quote_ink charset.breaks12, tt) inside.is_even)
@@ -289,7 +288,8 @@ plain_even charset flow count limit indent value cursor enough allowed =
     let bars = plain_bars charset flow value allowed in
     let each : InksEach charset count indent enough false (λ text. text) = record { inks = λ c ink. (ink, tt); begins = λ c text ink. ink } in
     let text = (steps_laid (λ text. text) limit indent spaces value cursor).text in
-    let lines = lines_even charset count indent enough false (λ text. text) each limit spaces value cursor (plain_is_single charset flow value bars) (plain_ends charset flow value bars) in
+    let lines = lines_even charset count indent enough false (λ text. text) each limit spaces value cursor (plain_is_single charset flow value bars)
+    (plain_ends charset flow value bars) in
     rw (runs_by_steps (λ text. text) itself_writes limit indent value cursor) (subst (IsEven charset.breaks12 count) (append-nil text) lines.is_even)
 
 -- a text that isn't empty ends as what it ends with
@@ -324,7 +324,8 @@ step_some folds indent before spaces c rest = by (folds && not (is_same_kind bef
 step_some folds indent before breaks c rest = by (c == line_feed && not (is_same_kind before breaks))
   where
     by : (twice : Bool)
-        → (first : ℕ) × (more : Text) × (((if twice then line_feed ∷ [] else []) ++ (c ∷ (if begins_kind breaks rest then [] else indentation indent))) ≡ first ∷ more)
+        → (first : ℕ) × (more : Text) × (((if twice then line_feed ∷ [] else []) ++ (c ∷ (if begins_kind breaks rest then [] else indentation indent)))
+        ≡ first ∷ more)
     by true = (line_feed, c ∷ (if begins_kind breaks rest then [] else indentation indent), refl)
     by false = (c, (if begins_kind breaks rest then [] else indentation indent), refl)
 step_some folds indent before others c rest = (c, [], refl)

@@ -1,13 +1,13 @@
 -- A double-quoted body is tidy: each of its lines after the first stands at its indentation and goes on with a character that is
 -- no space, and no space stands before a break.
 use Rattle.std.proofs.Common.{◌≡◌, ◌≤◌, refl, sym, subst, ap, ◌∙◌, ℕ, [], ◌∷◌, ◌++◌, Bool, true, false, append_assoc, inl, inr, arith}
-use Rattle.std.proofs.lemmas.Bool.{and_parts, and_right, eqb-true, false≢true, true≢false}
+use Rattle.std.proofs.lemmas.Bool.{and_parts, and_right, eqb-true, true≢false}
 use Rattle.std.proofs.lemmas.Bool.Decides.{nat_tests}
-use Rattle.std.specs.Prelude.{Option, None, Some, ◌&&◌, ◌==◌, ◌||◌, not, replicate, if◌then◌else◌}
+use Rattle.std.specs.Prelude.{Option, None, Some, ◌&&◌, ◌==◌, replicate, if◌then◌else◌}
 use Rattle.std.specs.List.{list_all}
-use Rattle.yaml_base.specs.Characters.{Text, is_break, is_space, line_feed, space}
+use Rattle.yaml_base.specs.Characters.{Text, is_space, line_feed, space}
 use Rattle.yaml_base.specs.Cursor.{Cursor, Laid, breaks_line, is_past_width, text_laid, then_laid}
-use Rattle.yaml_base.specs.DoubleQuoted.{backslash, character_text, double_fold, double_inside, double_quoted_body, escape_text, is_other, may_fold, needs_escape, quote, quote_laid, space_kept}
+use Rattle.yaml_base.specs.DoubleQuoted.{backslash, character_text, double_fold, double_inside, double_quoted_body, escape_text, is_other, may_fold, needs_escape, quote, space_kept}
 use Rattle.yaml_base.specs.LineBreaks.{is_read_break}
 use Rattle.yaml_base.specs.TidyBodies.{begins_with_break}
 use Rattle.yaml_scalar.proofs.DeepLines.{AllInk, BeginsInk, Ink, IsEven, even_ink, even_line, even_nothing, even_space, ink_unbroken, space_unbroken}
@@ -93,7 +93,8 @@ module _ (breaks12 unicode : Bool) (count indent : ℕ) (enough : count ≤ inde
       → QuotedEven before (space ∷ rest) (((line_feed ∷ replicate indent space) ++ space_kept rest) ++ text)
   quoted_fold before rest text other ih =
       let spaces = replicate indent space in
-      let regroup : ((line_feed ∷ spaces) ++ space_kept rest) ++ text ≡ line_feed ∷ (spaces ++ (space_kept rest ++ text)) = ap (λ t. line_feed ∷ t) (append_assoc spaces (space_kept rest) text) in
+      let regroup : ((line_feed ∷ spaces) ++ space_kept rest) ++ text
+      ≡ line_feed ∷ (spaces ++ (space_kept rest ++ text)) = ap (λ t. line_feed ∷ t) (append_assoc spaces (space_kept rest) text) in
       subst (λ (t : Text). QuotedEven before (space ∷ rest) t) (sym regroup) (record {
         is_even = even_line breaks12 count indent line_feed (space_kept rest ++ text) enough refl (ih.kept refl) (ih.kept_even refl);
         unbroken = λ e. absurd (true≢false (sym other ∙ e));
@@ -104,11 +105,13 @@ module _ (breaks12 unicode : Bool) (count indent : ℕ) (enough : count ≤ inde
   module _ (limit : Option ℕ) where
     -- what follows a character
     abbrev Follows : (c : ℕ) (rest : Text) → Type 0
-    Follows c rest = (next : Cursor) → Fits indent (Some c) next → QuotedEven (Some c) rest ((double_inside unicode limit indent (Some c) rest next).text ++ quote ∷ [])
+    Follows c rest = (next : Cursor) → Fits indent (Some c) next
+        → QuotedEven (Some c) rest ((double_inside unicode limit indent (Some c) rest next).text ++ quote ∷ [])
 
     -- a character, laid so, and what follows it
     abbrev Goes : (before : Option ℕ) (rest : Text) → Laid → ℕ → Type 0
-    Goes before rest laid c = Follows c rest → QuotedEven before (c ∷ rest) ((then_laid laid (double_inside unicode limit indent (Some c) rest)).text ++ quote ∷ [])
+    Goes before rest laid c = Follows c rest
+        → QuotedEven before (c ∷ rest) ((then_laid laid (double_inside unicode limit indent (Some c) rest)).text ++ quote ∷ [])
 
     -- a fold
     fold_goes : (before : Option ℕ) (rest : Text) (cursor : Cursor) → is_other before ≡ true → breaks_line indent cursor ≡ true

@@ -43,7 +43,8 @@ unbroken-laid [] h = refl
 unbroken-laid (c ∷ rest) h =
     let p : (not (is_break c) ≡ true) × (is_unbroken rest ≡ true) = and_parts _ _ h in
     let q : is_break c ≡ false = not-true _ p.0 in
-    and_from _ _ (second-and-third (c == line_feed) (c == carriage_return) (c == next_line) (c == line_separator) (c == paragraph_separator) q) (unbroken-laid rest p.1)
+    and_from _ _ (second-and-third (c == line_feed) (c == carriage_return) (c == next_line) (c == line_separator) (c == paragraph_separator) q)
+    (unbroken-laid rest p.1)
 
 -- lines behind such a text are as they are
 pub unbroken-indented : (a b : Text) → is_unbroken a ≡ true → is_indented_text b ≡ true → is_indented_text (a ++ b) ≡ true

@@ -27,7 +27,11 @@ run_unbroken test none {before} {size} {last} {text} {run} is front =
 
 -- the run of no character
 pub no_run : (test : ℕ → Bool) (before : ℕ) (text : List ℕ) → IsUtf8 text → IsRun test before text 0 before
-no_run test before text is = record { boundary = IsCharBoundary-start text is; all = ap (list_all test) chars-nil; last_is = sym (ap (last_from before) chars-nil) }
+no_run test before text is = record {
+  boundary = IsCharBoundary-start text is;
+  all = ap (list_all test) chars-nil;
+  last_is = sym (ap (last_from before) chars-nil);
+}
 
 -- a space that stays in a run is past no width
 pub no_fold : (past : Option ℕ → Bool) → past None ≡ false → (space other : Bool) (limit : Option ℕ)
@@ -38,7 +42,8 @@ no_fold past none true true None h = none
 no_fold past none true true (Some width) h = cc
 
 -- a run of a front of a text is one of the text
-pub run_in_front : (test : ℕ → Bool) (before : ℕ) (text front : List ℕ) (place size last : ℕ) → IsUtf8 text → IsCharBoundary text place → front ≡ take place text
+pub run_in_front : (test : ℕ → Bool) (before : ℕ) (text front : List ℕ) (place size last : ℕ) → IsUtf8 text → IsCharBoundary text place
+    → front ≡ take place text
     → IsRun test before front size last → IsRun test before text size last
 run_in_front test before text front place size last is_text boundary e is =
     let within : length front ≡ place = ap length e ∙ length-take-le place text boundary.0 in
@@ -46,7 +51,8 @@ run_in_front test before text front place size last is_text boundary e is =
     let same : take size front ≡ take size text = ap (take size) e ∙ take-take size place text few in
     let front_text : IsUtf8 front = subst IsUtf8 (sym e) (IsUtf8-take text place is_text boundary) in
     record {
-      boundary = IsCharBoundary-from_take text size is_text (omega (arith, few, boundary.0)) (subst IsUtf8 same (IsUtf8-take front size front_text is.boundary));
+      boundary = IsCharBoundary-from_take text size is_text (omega (arith, few, boundary.0))
+          (subst IsUtf8 same (IsUtf8-take front size front_text is.boundary));
       all = ap (λ l. list_all test (chars l)) (sym same) ∙ is.all;
       last_is = is.last_is ∙ ap (λ l. last_from before (chars l)) same;
     }

@@ -1,9 +1,10 @@
 -- The column past which a scalar is folded, from what its writer is given.
 use Rattle.std.specs.Prelude.{ℕ, ℤ, pos, negsuc, Bool, Option, None, Some, ◌==◌, if◌then◌else◌}
+use Rattle.yaml_base.specs.Settings.{largest_i32}
 
 -- the largest `i32` is no limit; a negative width is one of 0
 abbrev pub limit_of : (width : ℤ) → Option ℕ
-limit_of (pos width) = if width == 2147483647 then None else Some width
+limit_of (pos width) = if width == largest_i32 then None else Some width
 limit_of (negsuc _) = Some 0
 
 -- there is no limit either where folds aren't allowed

@@ -20,7 +20,8 @@ length_front text end ends = omega (arith, ap length (front_and_end text end end
 
 -- it may be cut there
 pub cut_before_end : (text end : List ℕ) → EndsIn text end → IsUtf8 end → IsCharBoundary text (length text - length end)
-cut_before_end text end ends is = subst (IsCharBoundary text) (length_front text end ends) (IsCharBoundary-at_seam text (front_of text end) end (front_and_end text end ends) is)
+cut_before_end text end ends is = subst (IsCharBoundary text) (length_front text end ends)
+    (IsCharBoundary-at_seam text (front_of text end) end (front_and_end text end ends) is)
 
 pub ends_in_itself : (text : List ℕ) → EndsIn text text
 ends_in_itself text = record { within = omega arith; same = ap (λ (n : ℕ). drop n text) (sub_self (length text)) }
@@ -60,13 +61,16 @@ pub front_further : (text end piece behind : List ℕ) → EndsIn text end → e
 front_further text end piece behind ends is = take_seam text (front_of text end ++ piece) behind (all_pieces text end piece behind ends is)
 
 -- past one more character, the front has one character more
-pub front_grows : (text end behind : List ℕ) (c : ℕ) → IsUtf8 text → IsUtf8 end → IsUtf8 behind → EndsIn text end → end ≡ encode_utf8 c ++ behind → chars (front_of text behind) ≡ chars (front_of text end) ++ c ∷ []
+pub front_grows : (text end behind : List ℕ) (c : ℕ) → IsUtf8 text → IsUtf8 end → IsUtf8 behind → EndsIn text end → end ≡ encode_utf8 c ++ behind
+    → chars (front_of text behind) ≡ chars (front_of text end) ++ c ∷ []
 front_grows text end behind c is_text is_end is_behind ends is =
     let front = front_of text end in
     let is_front = IsUtf8-take text (length text - length end) is_text (cut_before_end text end ends is_end) in
-    let is_grown = IsUtf8-take text (length text - length behind) is_text (cut_before_end text behind (ends_further text end (encode_utf8 c) behind ends is) is_behind) in
+    let is_grown = IsUtf8-take text (length text - length behind) is_text
+    (cut_before_end text behind (ends_further text end (encode_utf8 c) behind ends is) is_behind) in
     let spelled : encode_utf8_all (chars front ++ c ∷ []) ≡ front_of text behind =
-    encodes-append (chars front) (c ∷ []) ∙ ap (λ (bs : List ℕ). bs ++ encode_utf8_all (c ∷ [])) (encodes-chars front is_front) ∙ ap (λ (bs : List ℕ). front ++ bs) (append-nil (encode_utf8 c)) ∙ sym (front_further text end (encode_utf8 c) behind ends is) in
+    encodes-append (chars front) (c ∷ []) ∙ ap (λ (bs : List ℕ). bs ++ encode_utf8_all (c ∷ [])) (encodes-chars front is_front)
+    ∙ ap (λ (bs : List ℕ). front ++ bs) (append-nil (encode_utf8 c)) ∙ sym (front_further text end (encode_utf8 c) behind ends is) in
     sym (chars_from_encodes (chars front ++ c ∷ []) (front_of text behind) is_grown spelled)
 
 pub is_front : (text end : List ℕ) → EndsIn text end → IsUtf8 text → IsUtf8 end → IsUtf8 (front_of text end)
@@ -114,15 +118,18 @@ one_passed text end behind c passed is =
           ∙ ap (λ (front : List ℕ). front ++ chars behind) (sym grown);
     }
 
-pub front_passed : (text end behind : List ℕ) (c : ℕ) → Passed text end → end ≡ encode_utf8 c ++ behind → chars (front_of text behind) ≡ chars (front_of text end) ++ c ∷ []
-front_passed text end behind c passed is = front_grows text end behind c passed.is_text passed.is_end (IsUtf8-past_char end behind c passed.is_end is) passed.ends is
+pub front_passed : (text end behind : List ℕ) (c : ℕ) → Passed text end → end ≡ encode_utf8 c ++ behind
+    → chars (front_of text behind) ≡ chars (front_of text end) ++ c ∷ []
+front_passed text end behind c passed is = front_grows text end behind c passed.is_text passed.is_end
+    (IsUtf8-past_char end behind c passed.is_end is) passed.ends is
 
 -- one run of characters after another
 pub run_passed : (text end further : List ℕ) → Passed text end → EndsIn end further → IsUtf8 further → Passed text further
 run_passed text end further passed ends is =
     passed_to text further (ends_further text end (front_of end further) further passed.ends (front_and_end end further ends)) passed.is_text is
 
-pub run_front : (text end further : List ℕ) → Passed text end → EndsIn end further → chars (front_of text further) ≡ chars (front_of text end) ++ chars (front_of end further)
+pub run_front : (text end further : List ℕ) → Passed text end → EndsIn end further
+    → chars (front_of text further) ≡ chars (front_of text end) ++ chars (front_of end further)
 run_front text end further passed ends =
     ap chars (front_further text end (front_of end further) further passed.ends (front_and_end end further ends))
     ∙ chars-append (front_of text end) (front_of end further) (is_front text end passed.ends passed.is_text passed.is_end)

@@ -14,7 +14,8 @@ neither true b h = cc
 one_cut : ℕ → List Text → Bool → List Text
 one_cut c pieces is = cond is ([] ∷ pieces) (onto_first c pieces)
 
-cut_front : (sign : ℕ) (front : Text) (back : List Text) (text : Text) → IsFree sign front → cut_at sign text ≡ [] ∷ back → cut_at sign (front ++ text) ≡ front ∷ back
+cut_front : (sign : ℕ) (front : Text) (back : List Text) (text : Text) → IsFree sign front → cut_at sign text ≡ [] ∷ back
+    → cut_at sign (front ++ text) ≡ front ∷ back
 unfolding one_cut
 cut_front sign [] back text free is = is
 cut_front sign (c ∷ front) back text free is =

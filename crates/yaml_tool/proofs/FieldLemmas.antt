@@ -37,11 +37,13 @@ pub stops_first : (standing : notation.Standing) (c : ℕ) (front text rest : Te
 stops_first standing c front text rest begins is =
     let opened : cut_from standing text ≡ cut_before (separates standing c) c (cut_from (standing_after standing c) rest) = ap (cut_from standing) begins in
     let cut : cut_before (separates standing c) c (cut_from (standing_after standing c) rest) ≡ [] ∷ cut_from outside rest =
-    subst (λ (b : Bool). cut_before b c (cut_from (standing_after standing c) rest) ≡ [] ∷ cut_from outside rest) (sym is) (ap (λ (s : notation.Standing). [] ∷ cut_from s rest) (behind_separator standing c is)) in
+    subst (λ (b : Bool). cut_before b c (cut_from (standing_after standing c) rest) ≡ [] ∷ cut_from outside rest) (sym is)
+    (ap (λ (s : notation.Standing). [] ∷ cut_from s rest) (behind_separator standing c is)) in
     ap (attached front) (opened ∙ cut) ∙ attached_empty front (cut_from outside rest)
 
 -- after a separator other fields are read
-pub separator_read : (standing : notation.Standing) (c : ℕ) (text rest : Text) → text ≡ c ∷ rest → separates standing c ≡ true → each_field (pieces_after text) ≡ fields_after text
+pub separator_read : (standing : notation.Standing) (c : ℕ) (text rest : Text) → text ≡ c ∷ rest → separates standing c ≡ true
+    → each_field (pieces_after text) ≡ fields_after text
 separator_read standing c text rest begins is = ap (λ t. each_field (pieces_after t)) begins ∙ read standing is ∙ ap fields_after (sym begins)
   where
     read : (s : notation.Standing) → separates s c ≡ true → fields_read rest ≡ fields_after (c ∷ rest)
@@ -50,7 +52,8 @@ separator_read standing c text rest begins is = ap (λ t. each_field (pieces_aft
     read escaped h = cc
 
 -- any other character belongs to the first piece
-pub goes_first : (standing : notation.Standing) (c : ℕ) (front grown text rest : Text) → text ≡ c ∷ rest → separates standing c ≡ false → grown ≡ front ++ c ∷ []
+pub goes_first : (standing : notation.Standing) (c : ℕ) (front grown text rest : Text) → text ≡ c ∷ rest → separates standing c ≡ false
+    → grown ≡ front ++ c ∷ []
     → attached front (cut_from standing text) ≡ attached grown (cut_from (standing_after standing c) rest)
 goes_first standing c front grown text rest begins is_not grows =
     let pieces = cut_from (standing_after standing c) rest in
@@ -87,14 +90,16 @@ pub runs_outside : (text end : List ℕ) → IsUtf8 text → SkipsTo 0x20 0x22 t
 runs_outside text end is skipped = record {
   ends = skipped.ends;
   is_end = skipped.is_end;
-  run = ap (cut_from outside) (passed_to text end skipped.ends is skipped.is_end).all ∙ run_outside (chars (front_of text end)) (chars end) skipped.free.0 skipped.free.1;
+  run = ap (cut_from outside) (passed_to text end skipped.ends is skipped.is_end).all
+      ∙ run_outside (chars (front_of text end)) (chars end) skipped.free.0 skipped.free.1;
 }
 
 pub runs_inside : (text end : List ℕ) → IsUtf8 text → SkipsTo 0x22 0x5C text end → RunsTo inside text end
 runs_inside text end is skipped = record {
   ends = skipped.ends;
   is_end = skipped.is_end;
-  run = ap (cut_from inside) (passed_to text end skipped.ends is skipped.is_end).all ∙ run_inside (chars (front_of text end)) (chars end) skipped.free.0 skipped.free.1;
+  run = ap (cut_from inside) (passed_to text end skipped.ends is skipped.is_end).all
+      ∙ run_inside (chars (front_of text end)) (chars end) skipped.free.0 skipped.free.1;
 }
 
 -- no character is a run, too
@@ -107,7 +112,8 @@ runs_nowhere standing text is = record {
 
 -- past a run the pieces are those of what follows, behind a longer front
 pub further_on : (standing : notation.Standing) (line text end : List ℕ) (pieces : List Text) → Passed line text → RunsTo standing text end
-    → pieces ≡ attached (chars (front_of line text)) (cut_from standing (chars text)) → pieces ≡ attached (chars (front_of line end)) (cut_from standing (chars end))
+    → pieces ≡ attached (chars (front_of line text)) (cut_from standing (chars text))
+    → pieces ≡ attached (chars (front_of line end)) (cut_from standing (chars end))
 further_on standing line text end pieces passed runs is =
     let before = chars (front_of line text) in
     let run = chars (front_of text end) in
@@ -155,7 +161,8 @@ field_left (c ∷ rest) some = go (c == space)
 -- ---- texts
 
 -- a text whose piece has a reading, before others
-text_leads : (behind piece value : Text) (pieces : List Text) (fields : Option (List notation.Field)) → cut_from inside behind ≡ piece ∷ pieces → each_field pieces ≡ fields → Some value ≡ text_from at_character piece
+text_leads : (behind piece value : Text) (pieces : List Text) (fields : Option (List notation.Field)) → cut_from inside behind ≡ piece ∷ pieces
+    → each_field pieces ≡ fields → Some value ≡ text_from at_character piece
     → text_begun behind ≡ led_by (quoted value) fields
 text_leads behind piece value pieces fields cut others read =
     ap (λ all. each_field (onto_first quotation_mark all)) cut
@@ -171,7 +178,8 @@ attached_onto (c ∷ prefix) piece pieces = ap (onto_first c) (attached_onto pre
 whole_text : (prefix : Text) → IsFree quotation_mark prefix → IsFree backslash prefix → text_from at_character (prefix ++ quotation_mark ∷ []) ≡ Some prefix
 whole_text prefix no_mark no_backslash = reads_front prefix (quotation_mark ∷ []) no_mark no_backslash ∙ ap (λ (t : Text). Some t) (append-nil prefix)
 
-no_text_whole : (prefix rest : Text) (c : ℕ) → IsFree quotation_mark prefix → IsFree backslash prefix → text_from at_character (prefix ++ quotation_mark ∷ c ∷ rest) ≡ None
+no_text_whole : (prefix rest : Text) (c : ℕ) → IsFree quotation_mark prefix → IsFree backslash prefix
+    → text_from at_character (prefix ++ quotation_mark ∷ c ∷ rest) ≡ None
 no_text_whole prefix rest c no_mark no_backslash =
     reads_front prefix (quotation_mark ∷ c ∷ rest) no_mark no_backslash
     ∙ ap (λ (b : Bool). option_map (λ more. prefix ++ more) (if b then Some [] else None)) more
@@ -183,17 +191,20 @@ one_text : (prefix rest : Text) (pieces : List Text) → IsFree quotation_mark p
     → text_begun (prefix ++ quotation_mark ∷ rest) ≡ led_by (quoted prefix) (each_field pieces)
 one_text prefix rest pieces no_mark no_backslash cut =
     text_leads (prefix ++ quotation_mark ∷ rest) (prefix ++ quotation_mark ∷ []) prefix pieces (each_field pieces)
-    (run_inside prefix (quotation_mark ∷ rest) no_mark no_backslash ∙ ap (λ all. attached prefix (onto_first quotation_mark all)) cut ∙ attached_onto prefix (quotation_mark ∷ []) pieces)
+    (run_inside prefix (quotation_mark ∷ rest) no_mark no_backslash ∙ ap (λ all. attached prefix (onto_first quotation_mark all)) cut
+    ∙ attached_onto prefix (quotation_mark ∷ []) pieces)
     refl
     (sym (whole_text prefix no_mark no_backslash))
 
-no_text : (prefix rest : Text) (c : ℕ) → IsFree quotation_mark prefix → IsFree backslash prefix → separates outside c ≡ false → text_begun (prefix ++ quotation_mark ∷ c ∷ rest) ≡ None
+no_text : (prefix rest : Text) (c : ℕ) → IsFree quotation_mark prefix → IsFree backslash prefix → separates outside c ≡ false
+    → text_begun (prefix ++ quotation_mark ∷ c ∷ rest) ≡ None
 no_text prefix rest c no_mark no_backslash is_not = go (cut_from (standing_after outside c) rest) refl
   where
     bad : (piece : Text) (pieces : List Text) → cut_from outside (c ∷ rest) ≡ (c ∷ piece) ∷ pieces → text_begun (prefix ++ quotation_mark ∷ c ∷ rest) ≡ None
     bad piece pieces cut =
         ap (λ all. each_field (onto_first quotation_mark all))
-        (run_inside prefix (quotation_mark ∷ c ∷ rest) no_mark no_backslash ∙ ap (λ all. attached prefix (onto_first quotation_mark all)) cut ∙ attached_onto prefix (quotation_mark ∷ c ∷ piece) pieces)
+        (run_inside prefix (quotation_mark ∷ c ∷ rest) no_mark no_backslash ∙ ap (λ all. attached prefix (onto_first quotation_mark all)) cut
+        ∙ attached_onto prefix (quotation_mark ∷ c ∷ piece) pieces)
         ∙ ap (λ text. field_and (option_map quoted text) (each_field pieces)) (no_text_whole prefix piece c no_mark no_backslash)
 
     go : (pieces : List Text) → cut_from (standing_after outside c) rest ≡ pieces → text_begun (prefix ++ quotation_mark ∷ c ∷ rest) ≡ None
@@ -201,7 +212,8 @@ no_text prefix rest c no_mark no_backslash is_not = go (cut_from (standing_after
     go (piece ∷ pieces) is = bad piece pieces (ap (λ (b : Bool). cut_before b c (cut_from (standing_after outside c) rest)) is_not ∙ ap (onto_first c) is)
 
 -- a text without escapes is its characters, and after it nothing stands or a separator
-pub plain_text : (prefix rest : Text) → IsFree quotation_mark prefix → IsFree backslash prefix → text_begun (prefix ++ quotation_mark ∷ rest) ≡ led_by (quoted prefix) (fields_after rest)
+pub plain_text : (prefix rest : Text) → IsFree quotation_mark prefix → IsFree backslash prefix
+    → text_begun (prefix ++ quotation_mark ∷ rest) ≡ led_by (quoted prefix) (fields_after rest)
 plain_text prefix [] no_mark no_backslash = one_text prefix [] [] no_mark no_backslash refl
 plain_text prefix (c ∷ rest) no_mark no_backslash = go (c == space) refl
   where

@@ -56,19 +56,22 @@ no_fields name.MappingStart = refl
 no_fields name.MappingEnd = refl
 
 -- so a line that begins with it says that event
-line_said : (name : EventName) (fields : Option (List Field)) → option_map gives (event_by name fields) ≡ option_and_then line_of (led_by (bare (event_word name)) fields)
+line_said : (name : EventName) (fields : Option (List Field))
+    → option_map gives (event_by name fields) ≡ option_and_then line_of (led_by (bare (event_word name)) fields)
 line_said name None = ap (option_map gives) (no_fields name)
 line_said name (Some fields) =
     ap (option_map gives) (sym (gives_event name fields))
     ∙ ap (λ setting. option_or (option_map sets setting) (option_map gives (event_of (event_word name) fields))) (sym (sets_nothing name fields))
 
-pub event_said : (name : EventName) (word : Text) (line rest : Option (List Field)) (event : Event) → word ≡ event_word name → line ≡ led_by (bare word) rest → Some event ≡ event_by name rest
+pub event_said : (name : EventName) (word : Text) (line rest : Option (List Field)) (event : Event) → word ≡ event_word name → line ≡ led_by (bare word) rest
+    → Some event ≡ event_by name rest
     → Some (gives event) ≡ option_and_then line_of line
 event_said name word line rest event is begins given =
     ap (option_map gives) given ∙ line_said name rest ∙ sym (ap (option_and_then line_of) (begins ∙ ap (λ w. led_by (bare w) rest) is))
 
 -- any other name says what it sets
-pub setting_said : (word : Text) (line rest : Option (List Field)) (setting : Option Setting) → ((fields : List Field) → event_of word fields ≡ None) → line ≡ led_by (bare word) rest
+pub setting_said : (word : Text) (line rest : Option (List Field)) (setting : Option Setting) → ((fields : List Field) → event_of word fields ≡ None)
+    → line ≡ led_by (bare word) rest
     → setting ≡ option_and_then (setting_line word) rest → option_map sets setting ≡ option_and_then line_of line
 setting_said word line rest setting no_event begins given = ap (option_map sets) given ∙ go rest ∙ sym (ap (option_and_then line_of) begins)
   where
@@ -78,7 +81,8 @@ setting_said word line rest setting no_event begins given = ap (option_map sets)
 
     go : (fields : Option (List Field)) → option_map sets (option_and_then (setting_line word) fields) ≡ option_and_then line_of (led_by (bare word) fields)
     go None = refl
-    go (Some fields) = alone (setting_line word fields) ∙ ap (λ event. option_or (option_map sets (setting_line word fields)) (option_map gives event)) (sym (no_event fields))
+    go (Some fields) = alone (setting_line word fields)
+        ∙ ap (λ event. option_or (option_map sets (setting_line word fields)) (option_map gives event)) (sym (no_event fields))
 
 -- a line in UTF-8 says what its characters say
 pub characters_said : (bytes : List ℕ) → IsUtf8 bytes → line_understood bytes ≡ line_read (chars bytes)
@@ -90,4 +94,5 @@ no_utf8 bytes false told is_not = refl
 
 -- any other line is bad
 pub bytes_said_nothing : (bytes : List ℕ) → ¬ (IsUtf8 bytes) → line_understood bytes ≡ None
-bytes_said_nothing bytes is_not = ap (λ (b : Bool). if b then line_read (chars bytes) else None) (no_utf8 bytes (is_utf8 bytes) (IsUtf8-from_is_utf8 bytes) is_not)
+bytes_said_nothing bytes is_not = ap (λ (b : Bool). if b then line_read (chars bytes) else None)
+    (no_utf8 bytes (is_utf8 bytes) (IsUtf8-from_is_utf8 bytes) is_not)

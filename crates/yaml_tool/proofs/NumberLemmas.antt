@@ -47,7 +47,8 @@ too_great radix most number rest positive above =
     beyond (list_all (λ digit. is_digit digit radix) rest) (nat_le whole most) (Some whole) (le_false whole most past)
 
 -- a digit is taken
-next_digit : (radix most number c : ℕ) (rest : List ℕ) → digit_value c < radix → number_after radix most number (c ∷ rest) ≡ number_after radix most (number * radix + digit_value c) rest
+next_digit : (radix most number c : ℕ) (rest : List ℕ) → digit_value c < radix
+    → number_after radix most number (c ∷ rest) ≡ number_after radix most (number * radix + digit_value c) rest
 next_digit radix most number c rest is =
     let whole = digits_value_after radix (number * radix + digit_value c) rest in
     taken (is_digit c radix) (list_all (λ digit. is_digit digit radix) rest) (nat_le whole most) (Some whole) (lt_true (digit_value c) radix is)
@@ -59,7 +60,8 @@ no_digit radix most number c rest is_not =
     refused (is_digit c radix) (list_all (λ digit. is_digit digit radix) rest) (nat_le whole most) (Some whole) (lt_false (digit_value c) radix is_not)
 
 -- the same of a text that begins with it
-pub digit_first : (radix most number base d c : ℕ) (text rest : List ℕ) → base ≡ radix → text ≡ c ∷ rest → d ≡ digit_value c → d < radix → number_after radix most number text ≡ number_after radix most (number * base + d) rest
+pub digit_first : (radix most number base d c : ℕ) (text rest : List ℕ) → base ≡ radix → text ≡ c ∷ rest → d ≡ digit_value c → d < radix
+    → number_after radix most number text ≡ number_after radix most (number * base + d) rest
 digit_first radix most number base d c text rest is_base begins is small =
     rw (begins, is_base, is) (next_digit radix most number c rest (subst (λ n. n < radix) is small))
 
@@ -70,10 +72,12 @@ no_digit_first radix most number c text rest begins is_not = rw begins (no_digit
 number_of_more : (most c : ℕ) (rest : List ℕ) → notation.number_up_to most (c ∷ rest) ≡ number_after 10 most 0 (c ∷ rest)
 number_of_more most c rest =
     let whole = digits_value_after 10 0 (c ∷ rest) in
-    taken (nat_le 1 (length (c ∷ rest))) (list_all (λ digit. is_digit digit 10) (c ∷ rest)) (nat_le whole most) (Some whole) (le_true 1 (length (c ∷ rest)) (omega arith))
+    taken (nat_le 1 (length (c ∷ rest))) (list_all (λ digit. is_digit digit 10) (c ∷ rest)) (nat_le whole most) (Some whole)
+    (le_true 1 (length (c ∷ rest)) (omega arith))
 
 pub number_of_some : (most c : ℕ) (word rest : List ℕ) → word ≡ c ∷ rest → notation.number_up_to most word ≡ number_after 10 most 0 word
-number_of_some most c word rest is = subst (λ (text : List ℕ). notation.number_up_to most text ≡ number_after 10 most 0 text) (sym is) (number_of_more most c rest)
+number_of_some most c word rest is = subst (λ (text : List ℕ). notation.number_up_to most text ≡ number_after 10 most 0 text) (sym is)
+    (number_of_more most c rest)
 
 -- the character that a number is, or that there is none
 abbrev pub character_turn : Option ℕ → notation.Turn
@@ -91,7 +95,9 @@ joined true true false number is past = subst (λ (b : Bool). (if (true && true)
 joined false digits within number is past = cc
 
 -- one to six hexadecimal digits are the character that they number
-pub character_of_digits : (digits : List ℕ) → 1 ≤ length digits → length digits ≤ 6 → notation.numbered_turn digits ≡ character_turn (number_after 16 1114111 0 digits)
+pub character_of_digits : (digits : List ℕ) → 1 ≤ length digits → length digits ≤ 6
+    → notation.numbered_turn digits ≡ character_turn (number_after 16 1114111 0 digits)
 character_of_digits digits some few =
     let number = digits_value_after 16 0 digits in
-    joined (nat_le 1 (length digits) && nat_le (length digits) 6) (list_all (λ digit. is_digit digit 16) digits) (nat_le number 1114111) number (grind (arith, nat_tests)) (λ past. no_scalar number (grind (arith, nat_tests, past)))
+    joined (nat_le 1 (length digits) && nat_le (length digits) 6) (list_all (λ digit. is_digit digit 16) digits) (nat_le number 1114111) number
+    (grind (arith, nat_tests)) (λ past. no_scalar number (grind (arith, nat_tests, past)))

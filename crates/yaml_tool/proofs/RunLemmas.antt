@@ -19,7 +19,8 @@ use Rattle.yaml_tool.specs.Scripts.{seen_numbered}
 use Rattle.yaml_tool.specs.Runs.{events_in, EmitsAll, RefusesAt, Emits, EndsAt, LastLine, FlushesLast, TellsEvents, WritesNothing}
 
 -- what is understood of the bytes that were read is understood of what the reader had left
-pub script_read : (left : Option (List ℕ)) (read bytes : List ℕ) (script : Script) → IfSome left (λ all. read ≡ all) → bytes ≡ read → script_of bytes ≡ script → IfSome left (λ all. script_of all ≡ script)
+pub script_read : (left : Option (List ℕ)) (read bytes : List ℕ) (script : Script) → IfSome left (λ all. read ≡ all) → bytes ≡ read → script_of bytes ≡ script
+    → IfSome left (λ all. script_of all ≡ script)
 script_read None read bytes script whole is h = tt
 script_read (Some all) read bytes script whole is h = ap script_of (sym (is ∙ whole)) ∙ h
 
@@ -32,9 +33,11 @@ some_told (Some other) error is = cc
 pub events_more : {A : Type 0} (given : List (NumberedEvent A)) (next : NumberedEvent A)
     → events_in (map seen_numbered given) ++ seen_event next.event ∷ [] ≡ events_in (map seen_numbered (given ++ next ∷ []))
 events_more given next =
-    sym (ap events_in (map-append seen_numbered given (next ∷ [])) ∙ map-append (λ (numbered : Numbered). numbered.event) (map seen_numbered given) (seen_numbered next ∷ []))
+    sym (ap events_in (map-append seen_numbered given (next ∷ []))
+    ∙ map-append (λ (numbered : Numbered). numbered.event) (map seen_numbered given) (seen_numbered next ∷ []))
 
-pub parts_more : {A : Type 0} (given : List (NumberedEvent A)) (next : NumberedEvent A) (rest left all : List (NumberedEvent A)) → given ++ left ≡ all → left ≡ next ∷ rest → (given ++ next ∷ []) ++ rest ≡ all
+pub parts_more : {A : Type 0} (given : List (NumberedEvent A)) (next : NumberedEvent A) (rest left all : List (NumberedEvent A)) → given ++ left ≡ all
+    → left ≡ next ∷ rest → (given ++ next ∷ []) ++ rest ≡ all
 parts_more given next rest left all parts is = append_assoc given (next ∷ []) rest ∙ ap (λ left. given ++ left) (sym is) ∙ parts
 
 pub ends_more : {A : Type 0} (given : List (NumberedEvent A)) (next : NumberedEvent A) → EndsAt (map seen_numbered (given ++ next ∷ [])) next.line
@@ -42,7 +45,8 @@ ends_more given next =
     record { before = map seen_numbered given; event = seen_event next.event; parts = sym (map-append seen_numbered given (next ∷ [])) }
 
 -- the call that was given an event failed
-pub refused_at : {A : Type 0} (set : Settings) (given : List (NumberedEvent A)) (next : NumberedEvent A) (rest left all : List (NumberedEvent A)) (error : yaml_error_t) (earlier state : State)
+pub refused_at : {A : Type 0} (set : Settings) (given : List (NumberedEvent A)) (next : NumberedEvent A) (rest left all : List (NumberedEvent A))
+    (error : yaml_error_t) (earlier state : State)
     → given ++ left ≡ all → left ≡ next ∷ rest → earlier.error ≡ None → StandsAfter set (events_in (map seen_numbered given)) earlier → state.error ≡ Some error
     → StandsAfter set (events_in (map seen_numbered given) ++ seen_event next.event ∷ []) state
     → Promised set (events_in (map seen_numbered given) ++ seen_event next.event ∷ []) state → Grows earlier.page state.page
@@ -63,10 +67,16 @@ refused_at set given next rest left all error earlier state parts is none stood 
     }
 
 -- the last flush
-pub flushed_last : (set : Settings) (all : List Numbered) (line : ℕ) (answer : run_answer_t) (before after : State) → StandsAfter set (events_in all) before → before.error ≡ None → EndsAt all line
+pub flushed_last : (set : Settings) (all : List Numbered) (line : ℕ) (answer : run_answer_t) (before after : State) → StandsAfter set (events_in all) before
+    → before.error ≡ None → EndsAt all line
     → FlushesLast line before answer after → Emits set all answer after
 flushed_last set all line Done before after stood none ends h =
-    record { stands = (h.1 set (events_in all) stood).0; promised = (h.1 set (events_in all) stood).1; no_error = h.0; handed_out = (h.1 set (events_in all) stood).2 }
+    record {
+      stands = (h.1 set (events_in all) stood).0;
+      promised = (h.1 set (events_in all) stood).1;
+      no_error = h.0;
+      handed_out = (h.1 set (events_in all) stood).2;
+    }
 flushed_last set all line (Refused told error) before after stood none ends h =
     inr
     (record {
@@ -89,7 +99,8 @@ flushed_last set all line WriteFailed before after stood none ends h = h
 flushed_last set all line NoMemory before after stood none ends h = h
 
 -- the end of all events
-pub ended_with : (set : Settings) (all : List Numbered) (line : ℕ) (last : Option ℕ) (answer : run_answer_t) (before after : State) → last ≡ Some line → StandsAfter set (events_in all) before → before.error ≡ None
+pub ended_with : (set : Settings) (all : List Numbered) (line : ℕ) (last : Option ℕ) (answer : run_answer_t) (before after : State) → last ≡ Some line
+    → StandsAfter set (events_in all) before → before.error ≡ None
     → LastLine all last before → FlushesLast line before answer after → Emits set all answer after
 ended_with set all line None answer before after is stood none ends h = cc
 ended_with set all line (Some other) answer before after is stood none ends h =
@@ -108,7 +119,8 @@ ended_without set all None state is stands kept none ends =
 ended_without set all (Some line) state is stands kept none ends = cc
 
 -- what is told where the output was written, or couldn't be
-told_answer : (set : Settings) (all : List Numbered) (answer : run_answer_t) (state : State) (old new : Option (List ℕ)) → Emits set all answer state → Appends old new state.page.output → TellsEvents set all answer old new
+told_answer : (set : Settings) (all : List Numbered) (answer : run_answer_t) (state : State) (old new : Option (List ℕ)) → Emits set all answer state
+    → Appends old new state.page.output → TellsEvents set all answer old new
 told_answer set all Done state old new emits appends = (state, emits, appends)
 told_answer set all (Refused line error) state old new emits appends = (state, emits, appends)
 told_answer set all (BadLine line) state old new emits appends = emits
@@ -116,15 +128,18 @@ told_answer set all ReadFailed state old new emits appends = tt
 told_answer set all WriteFailed state old new emits appends = tt
 told_answer set all NoMemory state old new emits appends = tt
 
-pub told_written : (set : Settings) (all : List Numbered) (answer result : run_answer_t) (state : State) (output : List ℕ) (old new : Option (List ℕ)) → Emits set all answer state → output ≡ state.page.output
+pub told_written : (set : Settings) (all : List Numbered) (answer result : run_answer_t) (state : State) (output : List ℕ) (old new : Option (List ℕ))
+    → Emits set all answer state → output ≡ state.page.output
     → (result ≡ WriteFailed) ⊎ ((result ≡ answer) × Appends old new output) → TellsEvents set all result old new
 told_written set all answer result state output old new emits is wrote =
     elim wrote [
       | inl failed ↦ subst (λ result. TellsEvents set all result old new) (sym failed) tt
-      | inr done ↦ subst (λ result. TellsEvents set all result old new) (sym done.0) (told_answer set all answer state old new emits (subst (Appends old new) is done.1))
+      | inr done ↦ subst (λ result. TellsEvents set all result old new) (sym done.0)
+          (told_answer set all answer state old new emits (subst (Appends old new) is done.1))
     ]
 
-silent_only : (set : Settings) (all : List Numbered) (answer : run_answer_t) (state : State) (old new : Option (List ℕ)) → Emits set all answer state → WritesNothing answer old new
+silent_only : (set : Settings) (all : List Numbered) (answer : run_answer_t) (state : State) (old new : Option (List ℕ)) → Emits set all answer state
+    → WritesNothing answer old new
 silent_only set all Done state old new emits = tt
 silent_only set all (Refused line error) state old new emits = tt
 silent_only set all (BadLine line) state old new emits = absurd emits
@@ -132,7 +147,8 @@ silent_only set all ReadFailed state old new emits = absurd emits
 silent_only set all WriteFailed state old new emits = tt
 silent_only set all NoMemory state old new emits = absurd emits
 
-pub none_silent : (set : Settings) (all : List Numbered) (answer result : run_answer_t) (state : State) (output : List ℕ) (old new : Option (List ℕ)) → Emits set all answer state
+pub none_silent : (set : Settings) (all : List Numbered) (answer result : run_answer_t) (state : State) (output : List ℕ) (old new : Option (List ℕ))
+    → Emits set all answer state
     → (result ≡ WriteFailed) ⊎ ((result ≡ answer) × Appends old new output) → WritesNothing result old new
 none_silent set all answer result state output old new emits wrote =
     elim wrote [

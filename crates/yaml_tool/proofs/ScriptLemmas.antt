@@ -21,12 +21,14 @@ one_line number rest None = refl
 one_line number rest (Some after) = refl
 
 -- a bad line is told
-pub line_is_bad : (number : ℕ) (before : Sofar) (line : List ℕ) (rest : List (List ℕ)) → after_line number before line ≡ None → script_from number before (line ∷ rest) ≡ bad_line number
+pub line_is_bad : (number : ℕ) (before : Sofar) (line : List ℕ) (rest : List (List ℕ)) → after_line number before line ≡ None
+    → script_from number before (line ∷ rest) ≡ bad_line number
 unfolding goes_on
 line_is_bad number before line rest bad = one_line number rest (after_line number before line) ∙ ap (goes_on number rest) bad
 
 -- a good one goes to those before it
-pub line_is_good : (number : ℕ) (before after : Sofar) (line : List ℕ) (rest : List (List ℕ)) → after_line number before line ≡ Some after → script_from number before (line ∷ rest) ≡ script_from (number + 1) after rest
+pub line_is_good : (number : ℕ) (before after : Sofar) (line : List ℕ) (rest : List (List ℕ)) → after_line number before line ≡ Some after
+    → script_from number before (line ∷ rest) ≡ script_from (number + 1) after rest
 unfolding goes_on
 line_is_good number before after line rest good =
     one_line number rest (after_line number before line) ∙ ap (goes_on number rest) good ∙ ap (λ n. script_from n after rest) (sym (add-one number))
@@ -41,18 +43,22 @@ first_cut bytes line None cut = cut_free line_feed bytes cut.1 ∙ ap (λ (first
 first_cut bytes line (Some others) cut = cut_cut line_feed bytes line others.now cut
 
 -- what follows a line is shorter
-pub shorter : (bytes line : List ℕ) (behind : Option (Bor (List ℕ))) (others : Bor (List ℕ)) → CutsLine bytes line behind → behind ≡ Some others → length others.now < length bytes
+pub shorter : (bytes line : List ℕ) (behind : Option (Bor (List ℕ))) (others : Bor (List ℕ)) → CutsLine bytes line behind → behind ≡ Some others
+    → length others.now < length bytes
 shorter bytes line None others cut is = cc
 shorter bytes line (Some behind) others cut is =
     let same : behind ≡ others = cc in
     subst (λ (o : Bor (List ℕ)). length o.now < length bytes) same (rw cut.0 (omega (arith, length-append line (line_feed ∷ behind.now))))
 
 -- both, for a script that is still to be cut
-pub bad_first : (number : ℕ) (before : Sofar) (bytes line : List ℕ) (others : Option (Bor (List ℕ))) → CutsLine bytes line others → after_line number before line ≡ None
+pub bad_first : (number : ℕ) (before : Sofar) (bytes line : List ℕ) (others : Option (Bor (List ℕ))) → CutsLine bytes line others
+    → after_line number before line ≡ None
     → script_from number before (cut_at line_feed bytes) ≡ bad_line number
-bad_first number before bytes line others cut bad = ap (script_from number before) (first_cut bytes line others cut) ∙ line_is_bad number before line (lines_behind others) bad
+bad_first number before bytes line others cut bad = ap (script_from number before) (first_cut bytes line others cut)
+    ∙ line_is_bad number before line (lines_behind others) bad
 
-pub good_first : (number : ℕ) (before after : Sofar) (bytes line : List ℕ) (others behind : Option (Bor (List ℕ))) → CutsLine bytes line others → others ≡ behind → after_line number before line ≡ Some after
+pub good_first : (number : ℕ) (before after : Sofar) (bytes line : List ℕ) (others behind : Option (Bor (List ℕ))) → CutsLine bytes line others
+    → others ≡ behind → after_line number before line ≡ Some after
     → script_from number before (cut_at line_feed bytes) ≡ script_from (number + 1) after (lines_behind behind)
 good_first number before after bytes line others behind cut is good =
     ap (script_from number before) (first_cut bytes line others cut ∙ ap (λ (o : Option (Bor (List ℕ))). line ∷ lines_behind o) is)

@@ -33,26 +33,30 @@ pub line_ends : (bytes : List ℕ) (end : ℕ) → NoneBefore (Passes (is_byte l
     → IsCut line_feed bytes (take end bytes) (take (length bytes - (end + 1)) (drop (end + 1) bytes))
 line_ends bytes end found =
     let begins = drop-cons bytes end 0 found.0.high ∙ ap (λ (byte : ℕ). byte ∷ drop (suc end) bytes) (eqb-true (slice_index bytes end) line_feed found.1) in
-    let behind : drop (suc end) bytes ≡ take (length bytes - (end + 1)) (drop (end + 1) bytes) = ap (λ (n : ℕ). drop n bytes) (sym (add-one end)) ∙ sym (take_rest bytes (end + 1)) in (
+    let behind : drop (suc end) bytes ≡ take (length bytes - (end + 1)) (drop (end + 1) bytes) = ap (λ (n : ℕ). drop n bytes) (sym (add-one end))
+    ∙ sym (take_rest bytes (end + 1)) in (
       sym (take-append-drop end bytes) ∙ ap (λ (back : List ℕ). take end bytes ++ back) (begins ∙ ap (λ (back : List ℕ). line_feed ∷ back) behind),
       none_before (is_byte line_feed) bytes end (omega (arith, found.0.high)) found.0.before,
     )
 
 -- without an LF there is one line
 pub one_line : (bytes : List ℕ) → Nowhere (Passes (is_byte line_feed) bytes) 0 (length bytes) → IsFree line_feed bytes
-one_line bytes none = ap (list_any (is_byte line_feed)) (sym (take_all (length bytes) bytes (le_refl (length bytes)))) ∙ none_before (is_byte line_feed) bytes (length bytes) (le_refl (length bytes)) none
+one_line bytes none = ap (list_any (is_byte line_feed)) (sym (take_all (length bytes) bytes (le_refl (length bytes))))
+    ∙ none_before (is_byte line_feed) bytes (length bytes) (le_refl (length bytes)) none
 
 -- an ASCII sign stands among characters only where its byte does
 free_characters : (test : ℕ → Bool) (sign : ℕ) (text : List ℕ) → sign < 128 → test sign ≡ true → list_any test (encode_utf8_all text) ≡ false → IsFree sign text
 free_characters test sign [] ascii passes none = refl
 free_characters test sign (c ∷ text) ascii passes none =
-    let both = neither (list_any test (encode_utf8 c)) (list_any test (encode_utf8_all text)) (sym (list_any-append test (encode_utf8 c) (encode_utf8_all text)) ∙ none) in
+    let both = neither (list_any test (encode_utf8 c)) (list_any test (encode_utf8_all text))
+    (sym (list_any-append test (encode_utf8 c) (encode_utf8_all text)) ∙ none) in
     let first : (c == sign) ≡ false = not_true (c == sign) (λ yes. byte_passes (eqb-true c sign yes) both.0) in
     ap (λ (b : Bool). b || list_any (λ d. d == sign) text) first ∙ free_characters test sign text ascii passes both.1
   where
     byte_passes : c ≡ sign → list_any test (encode_utf8 c) ≡ false → ⊥
     byte_passes is free =
-        false≢true (sym free ∙ ap (λ (d : ℕ). list_any test (encode_utf8 d)) is ∙ ap (list_any test) (encode_ascii sign ascii) ∙ ap (λ (b : Bool). b || false) passes)
+        false≢true (sym free ∙ ap (λ (d : ℕ). list_any test (encode_utf8 d)) is ∙ ap (list_any test) (encode_ascii sign ascii)
+        ∙ ap (λ (b : Bool). b || false) passes)
 
 passes_first : (first second : ℕ) → is_byte2 first second first ≡ true
 passes_first first second = grind (arith, nat_tests)
@@ -60,7 +64,8 @@ passes_first first second = grind (arith, nat_tests)
 passes_second : (first second : ℕ) → is_byte2 first second second ≡ true
 passes_second first second = grind (arith, nat_tests)
 
-skips : (first second : ℕ) (text front end : List ℕ) → first < 128 → second < 128 → text ≡ front ++ end → IsUtf8 front → IsUtf8 end → list_any (is_byte2 first second) front ≡ false → SkipsTo first second text end
+skips : (first second : ℕ) (text front end : List ℕ) → first < 128 → second < 128 → text ≡ front ++ end → IsUtf8 front → IsUtf8 end
+    → list_any (is_byte2 first second) front ≡ false → SkipsTo first second text end
 skips first second text front end first_ascii second_ascii all is_front is_end none =
     let test = is_byte2 first second in
     let spelled = ap (list_any test) (encodes-chars front is_front) ∙ none in
@@ -68,8 +73,10 @@ skips first second text front end first_ascii second_ascii all is_front is_end n
       ends = ends_at_seam text front end all;
       is_end = is_end;
       free = (
-        ap (λ (bytes : List ℕ). list_any (λ c. c == first) (chars bytes)) before ∙ free_characters test first (chars front) first_ascii (passes_first first second) spelled,
-        ap (λ (bytes : List ℕ). list_any (λ c. c == second) (chars bytes)) before ∙ free_characters test second (chars front) second_ascii (passes_second first second) spelled,
+        ap (λ (bytes : List ℕ). list_any (λ c. c == first) (chars bytes)) before
+            ∙ free_characters test first (chars front) first_ascii (passes_first first second) spelled,
+        ap (λ (bytes : List ℕ). list_any (λ c. c == second) (chars bytes)) before
+            ∙ free_characters test second (chars front) second_ascii (passes_second first second) spelled,
       );
     }
 
@@ -90,7 +97,8 @@ sign_found first second text end place is first_ascii second_ascii found begins 
     (none_before (is_byte2 first second) text place (omega (arith, found.0.high)) found.0.before)
 
 -- or it has neither
-pub no_sign : (first second : ℕ) (text : List ℕ) → IsUtf8 text → first < 128 → second < 128 → Nowhere (Passes (is_byte2 first second) text) 0 (length text) → SkipsTo first second text []
+pub no_sign : (first second : ℕ) (text : List ℕ) → IsUtf8 text → first < 128 → second < 128 → Nowhere (Passes (is_byte2 first second) text) 0 (length text)
+    → SkipsTo first second text []
 no_sign first second text is first_ascii second_ascii none =
     let all = length text in
     skips first second text text [] first_ascii second_ascii (sym (append-nil text)) is IsUtf8-nil

@@ -36,7 +36,8 @@ first_turn : (within : notation.Within) (c : ℕ) (rest : Text) → text_from wi
 first_turn within c rest = one_turn (turn within c) rest
 
 digit_goes_on : (digits : Text) (c : ℕ) → (c == 0x7D) ≡ false → turn (at_digits digits) c ≡ goes_on (at_digits (digits ++ c ∷ []))
-digit_goes_on digits c h = subst (λ (b : Bool). (if b then numbered_turn digits else goes_on (at_digits (digits ++ c ∷ []))) ≡ goes_on (at_digits (digits ++ c ∷ []))) (sym h) refl
+digit_goes_on digits c h = subst
+    (λ (b : Bool). (if b then numbered_turn digits else goes_on (at_digits (digits ++ c ∷ []))) ≡ goes_on (at_digits (digits ++ c ∷ []))) (sym h) refl
 
 -- no closing brace, no character
 digits_without_end : (digits front : Text) → IsFree 0x7D front → text_from (at_digits digits) front ≡ None
@@ -47,7 +48,8 @@ digits_without_end digits (c ∷ front) free =
     ∙ ap (λ t. read_turn t front) (digit_goes_on digits c both.0) ∙ digits_without_end (digits ++ c ∷ []) front both.1
 
 -- up to the first closing brace they are one character
-digits_with_end : (digits front back : Text) → IsFree 0x7D front → text_from (at_digits digits) (front ++ (0x7D ∷ back)) ≡ read_turn (numbered_turn (digits ++ front)) back
+digits_with_end : (digits front back : Text) → IsFree 0x7D front
+    → text_from (at_digits digits) (front ++ (0x7D ∷ back)) ≡ read_turn (numbered_turn (digits ++ front)) back
 digits_with_end digits [] back free = first_turn (at_digits digits) 0x7D back ∙ ap (λ (ds : Text). read_turn (numbered_turn ds) back) (sym (append-nil digits))
 digits_with_end digits (c ∷ front) back free =
     let both = neither (c == 0x7D) _ free in
@@ -56,25 +58,30 @@ digits_with_end digits (c ∷ front) back free =
     ∙ digits_with_end (digits ++ c ∷ []) front back both.1
     ∙ ap (λ (ds : Text). read_turn (numbered_turn ds) back) (append_assoc digits (c ∷ []) front)
 
-pub braced : (behind digits front back : Text) → behind ≡ 0x7B ∷ digits → IsCut 0x7D digits front back → text_from at_brace behind ≡ read_turn (numbered_turn front) back
+pub braced : (behind digits front back : Text) → behind ≡ 0x7B ∷ digits → IsCut 0x7D digits front back
+    → text_from at_brace behind ≡ read_turn (numbered_turn front) back
 braced behind digits front back opened cut = rw (opened, cut.0) (digits_with_end [] front back cut.1)
 
 pub unbraced : (behind digits : Text) → behind ≡ 0x7B ∷ digits → IsFree 0x7D digits → text_from at_brace behind ≡ None
 unbraced behind digits opened free = rw opened (digits_without_end [] digits free)
 
 -- a string that has grown by a character has one character more
-pub seen_pushed : {A : Type 0} (text grown : String A) (c : ℕ) → string_bytes grown ≡ string_bytes text ++ encode_utf8 c → seen_text grown ≡ seen_text text ++ c ∷ []
+pub seen_pushed : {A : Type 0} (text grown : String A) (c : ℕ) → string_bytes grown ≡ string_bytes text ++ encode_utf8 c
+    → seen_text grown ≡ seen_text text ++ c ∷ []
 seen_pushed text grown c grows =
     let all = chars (string_bytes text) ++ c ∷ [] in
     let spelled : encode_utf8_all all ≡ string_bytes grown =
-    encodes-append (chars (string_bytes text)) (c ∷ []) ∙ ap (λ (bs : List ℕ). bs ++ encode_utf8_all (c ∷ [])) (encodes-chars (string_bytes text) (IsUtf8-string_bytes text)) ∙ ap (λ (bs : List ℕ). string_bytes text ++ bs) (append-nil (encode_utf8 c)) ∙ sym grows in
+    encodes-append (chars (string_bytes text)) (c ∷ [])
+    ∙ ap (λ (bs : List ℕ). bs ++ encode_utf8_all (c ∷ [])) (encodes-chars (string_bytes text) (IsUtf8-string_bytes text))
+    ∙ ap (λ (bs : List ℕ). string_bytes text ++ bs) (append-nil (encode_utf8 c)) ∙ sym grows in
     sym (chars_from_encodes all (string_bytes grown) (IsUtf8-string_bytes grown) spelled)
 
 pub one_more : {A : Type 0} (text grown : String A) (c : ℕ) (others : Option Text) → string_bytes grown ≡ string_bytes text ++ encode_utf8 c
     → option_map (λ more. seen_text text ++ more) (option_map (λ value. c ∷ value) others) ≡ option_map (λ more. seen_text grown ++ more) others
 one_more text grown c None grows = refl
 one_more text grown c (Some more) grows =
-    ap (λ (all : List ℕ). Some all) (sym (append_assoc (seen_text text) (c ∷ []) more) ∙ ap (λ (front : List ℕ). front ++ more) (sym (seen_pushed text grown c grows)))
+    ap (λ (all : List ℕ). Some all)
+    (sym (append_assoc (seen_text text) (c ∷ []) more) ∙ ap (λ (front : List ℕ). front ++ more) (sym (seen_pushed text grown c grows)))
 
 -- an empty string has no characters
 pub nothing_before : {A : Type 0} (text : String A) (read : Option Text) → string_bytes text ≡ [] → read ≡ option_map (λ more. seen_text text ++ more) read
@@ -110,7 +117,8 @@ reads_front (c ∷ front) behind no_mark no_backslash =
     go (Some more) = refl
 
 -- so does what stands before the first of them
-pub reads_skipped : (text behind front : List ℕ) → IsUtf8 text → SkipsTo quotation_mark backslash text behind → front ≡ front_of text behind → ReadsOn (chars text) (chars front) (chars behind)
+pub reads_skipped : (text behind front : List ℕ) → IsUtf8 text → SkipsTo quotation_mark backslash text behind → front ≡ front_of text behind
+    → ReadsOn (chars text) (chars front) (chars behind)
 reads_skipped text behind front is skipped begins =
     ap (text_from at_character) (passed_to text behind skipped.ends is skipped.is_end).all
     ∙ reads_front (chars (front_of text behind)) (chars behind) skipped.free.0 skipped.free.1
@@ -124,6 +132,7 @@ front_taken text grown front whole behind is grows reads = ap (option_map (λ mo
     seen : chars grown ≡ chars text ++ chars front
     seen = ap chars grows ∙ chars-append text front is
 
-    go : (read : Option Text) → option_map (λ more. chars text ++ more) (option_map (λ more. chars front ++ more) read) ≡ option_map (λ more. chars grown ++ more) read
+    go : (read : Option Text) → option_map (λ more. chars text ++ more) (option_map (λ more. chars front ++ more) read)
+        ≡ option_map (λ more. chars grown ++ more) read
     go None = refl
     go (Some more) = ap (λ (t : Text). Some t) (sym (append_assoc (chars text) (chars front) more) ∙ ap (λ (t : Text). t ++ more) (sym seen))

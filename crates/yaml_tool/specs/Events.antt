@@ -41,7 +41,8 @@ event_by name.MappingEnd fields = option_and_then (alone mapping_end) fields
 -- the fields of a collection's start, in order
 abbrev pub four_fields : {A : Type 0} → CollectionFields A → List Field
 four_fields fields =
-    bare (chars fields.style.now) ∷ bare (chars fields.implicit.now) ∷ field_of (option_map seen_text fields.anchor) ∷ field_of (option_map seen_text fields.tag) ∷ []
+    bare (chars fields.style.now) ∷ bare (chars fields.implicit.now) ∷ field_of (option_map seen_text fields.anchor) ∷ field_of
+    (option_map seen_text fields.tag) ∷ []
 
 -- a version, or none, where it was read
 abbrev pub seen_versions : Option (Option yaml_version_directive_t) → Option (Option Version)

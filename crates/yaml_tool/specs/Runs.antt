@@ -124,7 +124,8 @@ LastLine all (Some line) state = EndsAt all line
 -- what the last flush does, with the line that it is told
 abbrev pub FlushesLast : ℕ → State → run_answer_t → State → Type 0
 FlushesLast line before Done after =
-    (after.error ≡ None) × ((given : Settings) (all : List Event) → StandsAfter given all before → StandsAfter given all after × Promised given all after × HasAllBytes given all after)
+    (after.error ≡ None) × ((given : Settings) (all : List Event) → StandsAfter given all before → StandsAfter given all after × Promised given all after
+    × HasAllBytes given all after)
 FlushesLast line before (Refused told error) after =
     (told ≡ line) × (after.error ≡ Some error) × Grows before.page after.page × (error ≡ Memory → after.page.output ≡ before.page.output)
     × ((given : Settings) (all : List Event) → StandsAfter given all before → StandsAfter given all after × Promised given all after)

@@ -16,7 +16,8 @@ turn_of (Some character) = stands_for character
 abbrev pub TurnsTo : Turn → Option Text → List ℕ → Type 0
 TurnsTo Ends read behind = read ≡ Some []
 TurnsTo (StandsFor character rest) read behind =
-    (read ≡ option_map (λ others. character ∷ others) (notation.text_from notation.at_character (chars rest.now))) × (length rest.now < length behind) × IsUtf8 rest.now
+    (read ≡ option_map (λ others. character ∷ others) (notation.text_from notation.at_character (chars rest.now))) × (length rest.now < length behind)
+    × IsUtf8 rest.now
 TurnsTo Fails read behind = read ≡ None
 
 -- a text reads as its front, which stands for itself, and then what stands behind it

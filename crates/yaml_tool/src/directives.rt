@@ -5,6 +5,7 @@ ghost use Rattle.yaml_base.specs.Script as notation;
 ghost use Rattle.yaml_base.specs.Seen.{seen_version, seen_directive};
 ghost use Rattle.yaml_tool.specs.Cuts.{cut_at};
 ghost use Rattle.yaml_tool.specs.Fields.{fields_after};
+ghost use Rattle.yaml_base.specs.Settings.{largest_i32};
 
 use crate::characters::cut_once;
 use crate::fields::{is_end, text_after};
@@ -15,14 +16,15 @@ use yaml_base::{yaml_tag_directive_t, yaml_version_directive_t};
 
 /// A number of a version.
 fn version_number(word: &str) -> Option<i32>
-    ensures { result ≡ option_map pos (notation.number_up_to 2147483647 (chars word.now)) }
+    ensures { result ≡ option_map pos (notation.number_up_to largest_i32 (chars word.now)) }
 {
     number_up_to(2_147_483_647, word).map(|number| number as i32)
 }
 
 /// The texts before and after the only point; none where there is another number of points.
 fn two_parts(word: &str) -> Option<(&str, &str)>
-    ensures { MatchOption result (notation.version_of (cut_at 0x2E (chars word.now)) ≡ None) (λ parts. cut_at 0x2E (chars word.now) ≡ chars parts.0.now ∷ chars parts.1.now ∷ []) }
+    ensures { MatchOption result (notation.version_of (cut_at 0x2E (chars word.now)) ≡ None)
+        (λ parts. cut_at 0x2E (chars word.now) ≡ chars parts.0.now ∷ chars parts.1.now ∷ []) }
 {
     match cut_once('.', word) {
         Some((front, back)) => match cut_once('.', back) {
@@ -60,7 +62,8 @@ pub fn directives_of<A: Allocator + Copy>(
     alloc: A,
     rest: &str,
 ) -> Result<Option<Vec<yaml_tag_directive_t<A>, A>>, AllocError>
-    ensures { IfOk result (λ directives. option_map (λ all. map seen_directive all.items) directives ≡ option_and_then notation.directives_of (fields_after (chars rest.now))) }
+    ensures { IfOk result (λ directives. option_map (λ all. map seen_directive all.items) directives
+        ≡ option_and_then notation.directives_of (fields_after (chars rest.now))) }
 {
     let mut directives = Vec::new(alloc);
     let mut left = rest;

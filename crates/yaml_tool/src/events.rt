@@ -95,7 +95,9 @@ fn scalar_with<A: Allocator>(
     tag: Option<String<A>>,
     value: String<A>,
 ) -> Option<yaml_event_t<A>>
-    ensures { option_map seen_event result ≡ notation.scalar_with (option_map seen_scalar_style style) plain_implicit quoted_implicit (Some (option_map seen_text anchor)) (Some (option_map seen_text tag)) (seen_text value) }
+    ensures { option_map seen_event result
+        ≡ notation.scalar_with (option_map seen_scalar_style style) plain_implicit quoted_implicit (Some (option_map seen_text anchor))
+        (Some (option_map seen_text tag)) (seen_text value) }
 {
     Some(yaml_event_t::YAML_SCALAR_EVENT {
         style: style?,
@@ -157,7 +159,9 @@ fn collection_fields<A: Allocator + Copy>(
     alloc: A,
     rest: &str,
 ) -> Result<Option<CollectionFields<'_, A>>, AllocError>
-    ensures { IfOk result (λ fields. MatchOption fields (option_and_then notation.collection_of (fields_after (chars rest.now)) ≡ None) (λ parts. fields_after (chars rest.now) ≡ Some (four_fields parts))) }
+    ensures { IfOk result (λ fields.
+        MatchOption fields (option_and_then notation.collection_of (fields_after (chars rest.now)) ≡ None)
+        (λ parts. fields_after (chars rest.now) ≡ Some (four_fields parts))) }
 {
     let Some((style, rest)) = word_after(rest) else {
         return Ok(None);
@@ -189,7 +193,9 @@ fn sequence_with<A: Allocator>(
     anchor: Option<String<A>>,
     tag: Option<String<A>>,
 ) -> Option<yaml_event_t<A>>
-    ensures { option_map seen_event result ≡ option_map sequence_start (notation.collection_with (option_map seen_sequence_style style) implicit (Some (option_map seen_text anchor)) (Some (option_map seen_text tag))) }
+    ensures { option_map seen_event result
+        ≡ option_map sequence_start (notation.collection_with (option_map seen_sequence_style style) implicit (Some (option_map seen_text anchor))
+        (Some (option_map seen_text tag))) }
 {
     Some(yaml_event_t::YAML_SEQUENCE_START_EVENT {
         style: style?,
@@ -204,7 +210,8 @@ fn sequence_start_of<A: Allocator + Copy>(
     alloc: A,
     rest: &str,
 ) -> Result<Option<yaml_event_t<A>>, AllocError>
-    ensures { IfOk result (λ event. option_map seen_event event ≡ option_map sequence_start (option_and_then notation.collection_of (fields_after (chars rest.now)))) }
+    ensures { IfOk result (λ event. option_map seen_event event
+        ≡ option_map sequence_start (option_and_then notation.collection_of (fields_after (chars rest.now)))) }
 {
     let Some(fields) = collection_fields(alloc, rest)? else {
         return Ok(None);
@@ -224,7 +231,9 @@ fn mapping_with<A: Allocator>(
     anchor: Option<String<A>>,
     tag: Option<String<A>>,
 ) -> Option<yaml_event_t<A>>
-    ensures { option_map seen_event result ≡ option_map mapping_start (notation.collection_with (option_map seen_mapping_style style) implicit (Some (option_map seen_text anchor)) (Some (option_map seen_text tag))) }
+    ensures { option_map seen_event result
+        ≡ option_map mapping_start (notation.collection_with (option_map seen_mapping_style style) implicit (Some (option_map seen_text anchor))
+        (Some (option_map seen_text tag))) }
 {
     Some(yaml_event_t::YAML_MAPPING_START_EVENT {
         style: style?,
@@ -239,7 +248,8 @@ fn mapping_start_of<A: Allocator + Copy>(
     alloc: A,
     rest: &str,
 ) -> Result<Option<yaml_event_t<A>>, AllocError>
-    ensures { IfOk result (λ event. option_map seen_event event ≡ option_map mapping_start (option_and_then notation.collection_of (fields_after (chars rest.now)))) }
+    ensures { IfOk result (λ event. option_map seen_event event
+        ≡ option_map mapping_start (option_and_then notation.collection_of (fields_after (chars rest.now)))) }
 {
     let Some(fields) = collection_fields(alloc, rest)? else {
         return Ok(None);

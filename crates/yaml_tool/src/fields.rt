@@ -77,7 +77,8 @@ fn first_piece(start: Standing, text: &str) -> (&str, &str)
 /// What follows the separator that the rest of a line begins with.
 #[inline(always)]
 fn past_separator(rest: &str) -> Option<&str>
-    ensures characters { MatchOption result (HasNoField (fields_after (chars rest.now))) (λ line. fields_after (chars rest.now) ≡ notation.fields_read (chars line.now)) }
+    ensures characters { MatchOption result (HasNoField (fields_after (chars rest.now)))
+        (λ line. fields_after (chars rest.now) ≡ notation.fields_read (chars line.now)) }
     ensures shorter { IfSome result (λ line. length line.now < length rest.now) }
 {
     match first_character(rest) {
@@ -97,7 +98,8 @@ pub fn is_end(rest: &str) -> bool
 /// The first field of a line, where it is a word, and the rest of the line after it.
 #[inline(always)]
 pub fn first_word(line: &str) -> Option<(&str, &str)>
-    ensures { MatchOption result (HasNoWord (notation.fields_read (chars line.now))) (λ parts. notation.fields_read (chars line.now) ≡ led_by (notation.bare (chars parts.0.now)) (fields_after (chars parts.1.now))) }
+    ensures { MatchOption result (HasNoWord (notation.fields_read (chars line.now)))
+        (λ parts. notation.fields_read (chars line.now) ≡ led_by (notation.bare (chars parts.0.now)) (fields_after (chars parts.1.now))) }
 {
     let (piece, rest) = first_piece(Standing::Outside, line);
     match first_character(piece) {
@@ -108,7 +110,8 @@ pub fn first_word(line: &str) -> Option<(&str, &str)>
 
 /// The next field, where it is a word, and the rest of the line after it.
 pub fn word_after(rest: &str) -> Option<(&str, &str)>
-    ensures { MatchOption result (HasNoWord (fields_after (chars rest.now))) (λ parts. fields_after (chars rest.now) ≡ led_by (notation.bare (chars parts.0.now)) (fields_after (chars parts.1.now))) }
+    ensures { MatchOption result (HasNoWord (fields_after (chars rest.now)))
+        (λ parts. fields_after (chars rest.now) ≡ led_by (notation.bare (chars parts.0.now)) (fields_after (chars parts.1.now))) }
 {
     first_word(past_separator(rest)?)
 }
@@ -126,7 +129,9 @@ fn escaped_text<A: Allocator>(
     alloc: A,
     behind: &str,
 ) -> Result<Option<(String<A>, &str)>, AllocError>
-    ensures read { IfOk result (λ text. MatchOption text (HasNoText (text_begun (chars behind.now))) (λ parts. text_begun (chars behind.now) ≡ led_by (notation.quoted (seen_text parts.0)) (fields_after (chars parts.1.now)))) }
+    ensures read { IfOk result (λ text.
+        MatchOption text (HasNoText (text_begun (chars behind.now)))
+        (λ parts. text_begun (chars behind.now) ≡ led_by (notation.quoted (seen_text parts.0)) (fields_after (chars parts.1.now)))) }
     ensures within { IfOk result (λ text. IfSome text (λ parts. length parts.1.now ≤ length behind.now)) }
     ensures utf8 { IfOk result (λ text. IfSome text (λ parts. IsUtf8 parts.1.now)) }
 {
@@ -139,7 +144,9 @@ fn escaped_text<A: Allocator>(
 
 /// What the text after an opening mark stands for, and the rest of the line after it. Without an escape it is copied at once.
 fn begun_text<A: Allocator>(alloc: A, behind: &str) -> Result<Option<(String<A>, &str)>, AllocError>
-    ensures read { IfOk result (λ text. MatchOption text (HasNoText (text_begun (chars behind.now))) (λ parts. text_begun (chars behind.now) ≡ led_by (notation.quoted (seen_text parts.0)) (fields_after (chars parts.1.now)))) }
+    ensures read { IfOk result (λ text.
+        MatchOption text (HasNoText (text_begun (chars behind.now)))
+        (λ parts. text_begun (chars behind.now) ≡ led_by (notation.quoted (seen_text parts.0)) (fields_after (chars parts.1.now)))) }
     ensures within { IfOk result (λ text. IfSome text (λ parts. length parts.1.now ≤ length behind.now)) }
     ensures utf8 { IfOk result (λ text. IfSome text (λ parts. IsUtf8 parts.1.now)) }
 {
@@ -156,7 +163,8 @@ fn begun_text<A: Allocator>(alloc: A, behind: &str) -> Result<Option<(String<A>,
 /// What follows the opening mark of the next field, where that is a text.
 #[inline(always)]
 fn past_mark(rest: &str) -> Option<&str>
-    ensures characters { MatchOption result (HasNoText (fields_after (chars rest.now))) (λ behind. fields_after (chars rest.now) ≡ text_begun (chars behind.now)) }
+    ensures characters { MatchOption result (HasNoText (fields_after (chars rest.now)))
+        (λ behind. fields_after (chars rest.now) ≡ text_begun (chars behind.now)) }
     ensures shorter { IfSome result (λ behind. length behind.now < length rest.now) }
 {
     match first_character(past_separator(rest)?) {
@@ -170,7 +178,9 @@ pub fn text_after<A: Allocator>(
     alloc: A,
     rest: &str,
 ) -> Result<Option<(String<A>, &str)>, AllocError>
-    ensures read { IfOk result (λ text. MatchOption text (HasNoText (fields_after (chars rest.now))) (λ parts. fields_after (chars rest.now) ≡ led_by (notation.quoted (seen_text parts.0)) (fields_after (chars parts.1.now)))) }
+    ensures read { IfOk result (λ text.
+        MatchOption text (HasNoText (fields_after (chars rest.now)))
+        (λ parts. fields_after (chars rest.now) ≡ led_by (notation.quoted (seen_text parts.0)) (fields_after (chars parts.1.now)))) }
     ensures shorter { IfOk result (λ text. IfSome text (λ parts. length parts.1.now < length rest.now)) }
     ensures utf8 { IfOk result (λ text. IfSome text (λ parts. IsUtf8 parts.1.now)) }
 {
@@ -193,7 +203,8 @@ pub fn last_text<A: Allocator>(alloc: A, rest: &str) -> Result<Option<String<A>>
 /// The rest of the line after the next field, where that is `-`.
 #[inline(always)]
 fn past_dash(rest: &str) -> Option<&str>
-    ensures { MatchOption result (HasNoDash (fields_after (chars rest.now))) (λ others. fields_after (chars rest.now) ≡ led_by no_text (fields_after (chars others.now))) }
+    ensures { MatchOption result (HasNoDash (fields_after (chars rest.now)))
+        (λ others. fields_after (chars rest.now) ≡ led_by no_text (fields_after (chars others.now))) }
 {
     let (word, rest) = word_after(rest)?;
     if is_word(word, "-") { Some(rest) } else { None }
@@ -204,7 +215,9 @@ pub fn choice_after<A: Allocator>(
     alloc: A,
     rest: &str,
 ) -> Result<Option<(Option<String<A>>, &str)>, AllocError>
-    ensures { IfOk result (λ choice. MatchOption choice (HasNoChoice (fields_after (chars rest.now))) (λ parts. fields_after (chars rest.now) ≡ led_by (field_of (option_map seen_text parts.0)) (fields_after (chars parts.1.now)))) }
+    ensures { IfOk result (λ choice.
+        MatchOption choice (HasNoChoice (fields_after (chars rest.now)))
+        (λ parts. fields_after (chars rest.now) ≡ led_by (field_of (option_map seen_text parts.0)) (fields_after (chars parts.1.now)))) }
 {
     match text_after(alloc, rest)? {
         Some((text, others)) => Ok(Some((Some(text), others))),

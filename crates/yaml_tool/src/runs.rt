@@ -46,7 +46,9 @@ pub fn script_in<A: Allocator + Copy, R: Read>(
     alloc: A,
     reader: &mut R,
 ) -> Result<Script<A>, run_answer_t>
-    ensures understood { IfOk result (λ script. IfSome (R.remaining reader.old) (λ left. notation.script_of left ≡ notation.understood (seen_settings script.settings) (map seen_numbered script.events.items))) }
+    ensures understood { IfOk result
+        (λ script. IfSome (R.remaining reader.old)
+        (λ left. notation.script_of left ≡ notation.understood (seen_settings script.settings) (map seen_numbered script.events.items))) }
     ensures fault { IfErr result (λ answer. IfSome (R.remaining reader.old) (λ left. IsFault answer (notation.script_of left))) }
     ensures end { OnOk result (IsAtEnd (R.remaining reader.new)) }
     ensures read { IfErr result (λ answer. ReadsAll answer (R.remaining reader.new)) }

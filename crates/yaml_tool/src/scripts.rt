@@ -57,7 +57,8 @@ impl<A: Allocator> Progress<A> {
 
     /// Takes a line, and answers whether it may stand there.
     fn take_line(&mut self, number: u64, line: Line<A>) -> Result<bool, AllocError>
-        ensures { IfOk result (λ taken. notation.with_line number (seen_progress self.old) (seen_line line) ≡ (if taken then Some (seen_progress self.new) else None)) }
+        ensures { IfOk result (λ taken. notation.with_line number (seen_progress self.old) (seen_line line)
+            ≡ (if taken then Some (seen_progress self.new) else None)) }
     {
         match line {
             Line::Nothing => Ok(true),
@@ -91,7 +92,8 @@ fn first_line(bytes: &[u8]) -> (&[u8], Option<&[u8]>)
 
 /// Understands a script, or tells its first bad line.
 pub fn read_script<A: Allocator + Copy>(alloc: A, bytes: &[u8]) -> Result<Script<A>, ScriptError>
-    ensures understood { IfOk result (λ script. notation.script_of bytes.now ≡ notation.understood (seen_settings script.settings) (map seen_numbered script.events.items)) }
+    ensures understood { IfOk result
+        (λ script. notation.script_of bytes.now ≡ notation.understood (seen_settings script.settings) (map seen_numbered script.events.items)) }
     ensures fault { IfErr result (λ error. IsFaultOf error (notation.script_of bytes.now)) }
 {
     let mut progress = Progress {

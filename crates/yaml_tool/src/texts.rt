@@ -97,7 +97,8 @@ fn push_front<'a, A: Allocator>(
     text: &mut String<A>,
     behind: &'a str,
 ) -> Result<&'a str, AllocError>
-    ensures read { IfOk result (λ others. option_map (λ more. seen_text text.old ++ more) (notation.text_from notation.at_character (chars behind.now)) ≡ option_map (λ more. seen_text text.new ++ more) (notation.text_from notation.at_character (chars others.now))) }
+    ensures read { IfOk result (λ others. option_map (λ more. seen_text text.old ++ more) (notation.text_from notation.at_character (chars behind.now))
+        ≡ option_map (λ more. seen_text text.new ++ more) (notation.text_from notation.at_character (chars others.now))) }
     ensures shorter { IfOk result (λ others. length others.now ≤ length behind.now) }
     ensures utf8 { IfOk result (λ others. IsUtf8 others.now) }
 {

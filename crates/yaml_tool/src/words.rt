@@ -46,7 +46,8 @@ pub enum EventName {
 
 /// The name of an event. Those that most lines begin with come first.
 pub fn event_named(word: &str) -> Option<EventName>
-    ensures { MatchOption result ((fields : List notation.Field) → notation.event_of (chars word.now) fields ≡ None) (λ name. chars word.now ≡ event_word name) }
+    ensures { MatchOption result ((fields : List notation.Field) → notation.event_of (chars word.now) fields ≡ None)
+        (λ name. chars word.now ≡ event_word name) }
 {
     if is_word(word, "=VAL") {
         Some(EventName::Scalar)

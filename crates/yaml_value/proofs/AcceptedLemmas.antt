@@ -60,7 +60,8 @@ Stays most now [] = now ≤ most
 Stays most now (event ∷ events) = (now ≤ most) × Stays most (after_event event now) events
 
 mutual
-  node_stays : (value : TypedValue) (most now : ℕ) (rest : List Event) → now + nesting value ≤ most → Stays most now rest → Stays most now (node_events (value_node value) ++ rest)
+  node_stays : (value : TypedValue) (most now : ℕ) (rest : List Event) → now + nesting value ≤ most → Stays most now rest
+      → Stays most now (node_events (value_node value) ++ rest)
   node_stays null_value most now rest fits later = (omega (arith, fits), later)
   node_stays (bool_value b) most now rest fits later = (omega (arith, fits), later)
   node_stays (int_value n) most now rest fits later = (omega (arith, fits), later)
@@ -82,7 +83,8 @@ mutual
             (pairs_stay pairs most (suc now) (mapping_end ∷ rest) inside (second, later)),
       )
 
-  nodes_stay : (items : TypedValues) (most now : ℕ) (rest : List Event) → now + values_nesting items ≤ most → Stays most now rest → Stays most now (nodes_events (value_nodes items) ++ rest)
+  nodes_stay : (items : TypedValues) (most now : ℕ) (rest : List Event) → now + values_nesting items ≤ most → Stays most now rest
+      → Stays most now (nodes_events (value_nodes items) ++ rest)
   nodes_stay no_values most now rest fits later = later
   nodes_stay (values_and items item) most now rest fits later =
       let left = le-max_left (values_nesting items) (nesting item) in
@@ -91,7 +93,8 @@ mutual
       (nodes_stay items most now (node_events (value_node item) ++ rest) (omega (arith, fits, left))
       (node_stays item most now rest (omega (arith, fits, right)) later))
 
-  pairs_stay : (pairs : TypedPairs) (most now : ℕ) (rest : List Event) → now + value_pairs_nesting pairs ≤ most → Stays most now rest → Stays most now (pairs_events (value_pairs pairs) ++ rest)
+  pairs_stay : (pairs : TypedPairs) (most now : ℕ) (rest : List Event) → now + value_pairs_nesting pairs ≤ most → Stays most now rest
+      → Stays most now (pairs_events (value_pairs pairs) ++ rest)
   pairs_stay no_value_pairs most now rest fits later = later
   pairs_stay (value_pairs_and pairs key value) most now rest fits later =
       let both = max (nesting key) (nesting value) in
@@ -118,14 +121,16 @@ one_more false true zero b e most h = omega (arith, h)
 one_more false true (suc now) b e most h = omega (arith, h)
 one_more false false now b e most h = omega (arith, h)
 
-front_stays : (most now : ℕ) (front rest : List Event) → Stays most now (front ++ rest) → (now + count_by begins_collection front) - count_by ends_collection front ≤ most
+front_stays : (most now : ℕ) (front rest : List Event) → Stays most now (front ++ rest)
+    → (now + count_by begins_collection front) - count_by ends_collection front ≤ most
 front_stays most now [] rest h = let few = stays_now most now rest h in omega (arith, few)
 front_stays most now (event ∷ front) rest h =
     let begun : count_by begins_collection (event ∷ front) ≡ (0 + cond (begins_collection event) 1 0) + count_by begins_collection front =
     sum_by-append (λ x. cond (begins_collection x) 1 0) (event ∷ []) front in
     let ended : count_by ends_collection (event ∷ front) ≡ (0 + cond (ends_collection event) 1 0) + count_by ends_collection front =
     sum_by-append (λ x. cond (ends_collection x) 1 0) (event ∷ []) front in
-    let more = one_more (begins_collection event) (ends_collection event) now (count_by begins_collection front) (count_by ends_collection front) most (front_stays most (after_event event now) front rest h.1) in
+    let more = one_more (begins_collection event) (ends_collection event) now (count_by begins_collection front) (count_by ends_collection front) most
+    (front_stays most (after_event event now) front rest h.1) in
     omega (arith, begun, ended, more)
 
 events_stay : (value : TypedValue) → nesting value ≤ most_nested → Stays most_nested 0 (value_events value)

@@ -28,19 +28,23 @@ pub chars-digits : (n : ℤ) (printed : Text) → mag n < 2 ^ 63 → printed ≡
 chars-digits n printed fits is = ap chars is ∙ chars-IsAscii (signed_decimal n) (IsAscii-signed n fits)
 
 -- a scalar by the characters of its tag and text
-pub scalar_pushed : {T E : Type 0} (answer : Result T E) (before after : List Event) (tag_bytes text_bytes tag text : Text) → chars tag_bytes ≡ tag → chars text_bytes ≡ text
-    → OnOk answer (after ≡ before ++ node_events (tagged_node (chars tag_bytes) (chars text_bytes))) → OnOk answer (after ≡ before ++ node_events (tagged_node tag text))
+pub scalar_pushed : {T E : Type 0} (answer : Result T E) (before after : List Event) (tag_bytes text_bytes tag text : Text) → chars tag_bytes ≡ tag
+    → chars text_bytes ≡ text
+    → OnOk answer (after ≡ before ++ node_events (tagged_node (chars tag_bytes) (chars text_bytes)))
+    → OnOk answer (after ≡ before ++ node_events (tagged_node tag text))
 scalar_pushed answer before after tag_bytes text_bytes tag text tag_is text_is =
     on_ok_weaker answer (λ is. is ∙ ap₂ (λ tag text. before ++ node_events (tagged_node tag text)) tag_is text_is)
 
 -- one more event
-pub event_pushed : {A : Type 0} (events grown : List (yaml_event_t A)) (event : yaml_event_t A) (seen : Event) → grown ≡ events ++ event ∷ [] → seen_event event ≡ seen
+pub event_pushed : {A : Type 0} (events grown : List (yaml_event_t A)) (event : yaml_event_t A) (seen : Event) → grown ≡ events ++ event ∷ []
+    → seen_event event ≡ seen
     → seen_events grown ≡ seen_events events ++ seen ∷ []
 event_pushed events grown event seen grows is =
     ap seen_events grows ∙ map-append seen_event events (event ∷ []) ∙ ap (λ one. seen_events events ++ one ∷ []) is
 
 -- the events of one more item
-pub items_pushed : {A : Type 0} (before now after : List Event) (items : List (Value A)) (i : ℕ) (item : Value A) → i < length items → item ≡ get_or items i item
+pub items_pushed : {A : Type 0} (before now after : List Event) (items : List (Value A)) (i : ℕ) (item : Value A) → i < length items
+    → item ≡ get_or items i item
     → now ≡ before ++ nodes_events (value_nodes (seen_values (take i items))) → after ≡ now ++ node_events (value_node (seen_value item))
     → after ≡ before ++ nodes_events (value_nodes (seen_values (take (i + 1) items)))
 items_pushed before now after items i item inside is so_far here =
@@ -50,8 +54,10 @@ items_pushed before now after items i item inside is so_far here =
     ∙ ap (λ values. before ++ nodes_events (value_nodes values)) (sym (seen_values-more items i item inside))
 
 -- the events of one more pair
-pub pairs_pushed : {A : Type 0} (before now middle after : List Event) (pairs : List (Value A × Value A)) (i : ℕ) (pair : Value A × Value A) → i < length pairs → pair ≡ get_or pairs i pair
-    → now ≡ before ++ pairs_events (value_pairs (seen_pairs (take i pairs))) → middle ≡ now ++ node_events (value_node (seen_value pair.0)) → after ≡ middle ++ node_events (value_node (seen_value pair.1))
+pub pairs_pushed : {A : Type 0} (before now middle after : List Event) (pairs : List (Value A × Value A)) (i : ℕ) (pair : Value A × Value A) → i < length pairs
+    → pair ≡ get_or pairs i pair
+    → now ≡ before ++ pairs_events (value_pairs (seen_pairs (take i pairs))) → middle ≡ now ++ node_events (value_node (seen_value pair.0))
+    → after ≡ middle ++ node_events (value_node (seen_value pair.1))
     → after ≡ before ++ pairs_events (value_pairs (seen_pairs (take (i + 1) pairs)))
 pairs_pushed before now middle after pairs i pair inside is so_far first second =
     let key = node_events (value_node (seen_value pair.0)) in
@@ -63,15 +69,18 @@ pairs_pushed before now middle after pairs i pair inside is so_far first second 
     ∙ ap (λ pairs. before ++ pairs_events (value_pairs pairs)) (sym (seen_pairs-more pairs i pair inside))
 
 -- its integers have 64 bits too
-pub items_bits : {A : Type 0} (items : List (Value A)) (i : ℕ) (item : Value A) → i < length items → item ≡ get_or items i item → Have64Bits (seen_values (take i items)) → Has64Bits (seen_value item)
+pub items_bits : {A : Type 0} (items : List (Value A)) (i : ℕ) (item : Value A) → i < length items → item ≡ get_or items i item
+    → Have64Bits (seen_values (take i items)) → Has64Bits (seen_value item)
     → Have64Bits (seen_values (take (i + 1) items))
 items_bits items i item inside is before here =
     subst Have64Bits (ap (λ item. values_and (seen_values (take i items)) (seen_value item)) is ∙ sym (seen_values-more items i item inside)) (before, here)
 
-pub pairs_bits : {A : Type 0} (pairs : List (Value A × Value A)) (i : ℕ) (pair : Value A × Value A) → i < length pairs → pair ≡ get_or pairs i pair → PairsHave64Bits (seen_pairs (take i pairs))
+pub pairs_bits : {A : Type 0} (pairs : List (Value A × Value A)) (i : ℕ) (pair : Value A × Value A) → i < length pairs → pair ≡ get_or pairs i pair
+    → PairsHave64Bits (seen_pairs (take i pairs))
     → Has64Bits (seen_value pair.0) → Has64Bits (seen_value pair.1) → PairsHave64Bits (seen_pairs (take (i + 1) pairs))
 pairs_bits pairs i pair inside is before key value =
-    subst PairsHave64Bits (ap (λ pair. value_pairs_and (seen_pairs (take i pairs)) (seen_value pair.0) (seen_value pair.1)) is ∙ sym (seen_pairs-more pairs i pair inside)) (before, (key, value))
+    subst PairsHave64Bits (ap (λ pair. value_pairs_and (seen_pairs (take i pairs)) (seen_value pair.0) (seen_value pair.1)) is
+    ∙ sym (seen_pairs-more pairs i pair inside)) (before, (key, value))
 
 -- some pairs were pushed after the events before
 pub record Pushed (before now : List Event) (pairs : TypedPairs) : Type 0 where

@@ -11,12 +11,14 @@ use Rattle.std.specs.List.{list_all}
 use Rattle.yaml_base.specs.TypedValues.{TypedValue, TypedValues, no_values, values_and, TypedPairs, no_value_pairs, value_pairs_and, nesting, values_nesting, value_pairs_nesting, value_count, values_count, value_pairs_count}
 use Rattle.yaml_value.specs.SeenValues.{values_of, pairs_of, seen_value, seen_values, seen_pairs}
 use Rattle.yaml_value.specs.declared.value.Value.{Value}
+use Rattle.yaml_base.specs.Settings.{largest_usize}
 
 values_of-append : (before : TypedValues) (first second : List TypedValue) → values_of before (first ++ second) ≡ values_of (values_of before first) second
 values_of-append before [] second = refl
 values_of-append before (value ∷ first) second = values_of-append (values_and before value) first second
 
-pairs_of-append : (before : TypedPairs) (first second : List (TypedValue × TypedValue)) → pairs_of before (first ++ second) ≡ pairs_of (pairs_of before first) second
+pairs_of-append : (before : TypedPairs) (first second : List (TypedValue × TypedValue))
+    → pairs_of before (first ++ second) ≡ pairs_of (pairs_of before first) second
 pairs_of-append before [] second = refl
 pairs_of-append before (pair ∷ first) second = pairs_of-append (value_pairs_and before pair.0 pair.1) first second
 
@@ -89,11 +91,13 @@ pairs_fit {A} pairs most =
 -- ---- a test of each of some elements, in a loop
 
 -- one more passes
-pub more_pass : {X : Type 0} (p : X → Bool) (xs : List X) (i : ℕ) (x : X) → i < length xs → x ≡ get_or xs i x → list_all p (take i xs) ≡ true → p x ≡ true → list_all p (take (i + 1) xs) ≡ true
+pub more_pass : {X : Type 0} (p : X → Bool) (xs : List X) (i : ℕ) (x : X) → i < length xs → x ≡ get_or xs i x → list_all p (take i xs) ≡ true → p x ≡ true
+    → list_all p (take (i + 1) xs) ≡ true
 more_pass p xs i x inside is before here = list_all_more p xs i x inside ∙ ap₂ (λ a b. a && b) before (ap p (sym is) ∙ here)
 
 -- one fails
-pub one_fails : {X : Type 0} (p : X → Bool) (xs all : List X) (i : ℕ) (x : X) → xs ≡ all → i < length xs → x ≡ get_or xs i x → p x ≡ false → list_all p all ≡ false
+pub one_fails : {X : Type 0} (p : X → Bool) (xs all : List X) (i : ℕ) (x : X) → xs ≡ all → i < length xs → x ≡ get_or xs i x → p x ≡ false
+    → list_all p all ≡ false
 one_fails p xs all i x same inside is here = ap (list_all p) (sym same) ∙ list_all_at p xs i x inside (ap p (sym is) ∙ here)
 
 -- all passed
@@ -104,7 +108,7 @@ all_pass p xs all i same whole passed = ap (list_all p) (sym same ∙ sym (take_
 
 -- the largest count
 abbrev pub most_counted : ℕ
-most_counted = 18446744073709551615
+most_counted = largest_usize
 
 capped_sum : (a b most : ℕ) → min (min a most + min b most) most ≡ min (a + b) most
 capped_sum a b most = by (cases_lt a most) (cases_lt b most)
@@ -118,23 +122,28 @@ capped_sum a b most = by (cases_lt a most) (cases_lt b most)
     by (inl x) (inr y) = let is = min-eq_right {n = most} {m = b} y in past (min a most + min b most) (a + b) (omega (arith, is)) (omega (arith, y))
 
 -- a count grows by what one more value counts
-counted : (before more count next total sum : ℕ) → count ≡ min before most_counted → next ≡ min more most_counted → total ≡ min (count + next) most_counted → before + more ≡ sum
+counted : (before more count next total sum : ℕ) → count ≡ min before most_counted → next ≡ min more most_counted → total ≡ min (count + next) most_counted
+    → before + more ≡ sum
     → total ≡ min sum most_counted
 counted before more count next total sum so_far here is adds =
     is ∙ ap₂ (λ x y. min (x + y) most_counted) so_far here ∙ capped_sum before more most_counted ∙ ap (λ n. min n most_counted) adds
 
 pub items_counted : {A : Type 0} (items : List (Value A)) (i : ℕ) (item : Value A) (count next total : ℕ) → i < length items → item ≡ get_or items i item
-    → count ≡ min (1 + values_count (seen_values (take i items))) most_counted → next ≡ min (value_count (seen_value item)) most_counted → total ≡ min (count + next) most_counted
+    → count ≡ min (1 + values_count (seen_values (take i items))) most_counted → next ≡ min (value_count (seen_value item)) most_counted
+    → total ≡ min (count + next) most_counted
     → total ≡ min (1 + values_count (seen_values (take (i + 1) items))) most_counted
 items_counted items i item count next total inside is so_far here sum =
     let grown : seen_values (take (i + 1) items) ≡ values_and (seen_values (take i items)) (seen_value item) =
     seen_values-more items i item inside ∙ ap (λ item. values_and (seen_values (take i items)) (seen_value item)) (sym is) in
     let size = ap values_count grown in
-    counted (1 + values_count (seen_values (take i items))) (value_count (seen_value item)) count next total (1 + values_count (seen_values (take (i + 1) items))) so_far here sum
+    counted (1 + values_count (seen_values (take i items))) (value_count (seen_value item)) count next total
+    (1 + values_count (seen_values (take (i + 1) items))) so_far here sum
     (omega (arith, size))
 
-pub pairs_counted : {A : Type 0} (pairs : List (Value A × Value A)) (i : ℕ) (pair : Value A × Value A) (count of_key middle of_value total : ℕ) → i < length pairs → pair ≡ get_or pairs i pair
-    → count ≡ min (1 + value_pairs_count (seen_pairs (take i pairs))) most_counted → of_key ≡ min (value_count (seen_value pair.0)) most_counted → middle ≡ min (count + of_key) most_counted
+pub pairs_counted : {A : Type 0} (pairs : List (Value A × Value A)) (i : ℕ) (pair : Value A × Value A) (count of_key middle of_value total : ℕ)
+    → i < length pairs → pair ≡ get_or pairs i pair
+    → count ≡ min (1 + value_pairs_count (seen_pairs (take i pairs))) most_counted → of_key ≡ min (value_count (seen_value pair.0)) most_counted
+    → middle ≡ min (count + of_key) most_counted
     → of_value ≡ min (value_count (seen_value pair.1)) most_counted → total ≡ min (middle + of_value) most_counted
     → total ≡ min (1 + value_pairs_count (seen_pairs (take (i + 1) pairs))) most_counted
 pairs_counted pairs i pair count of_key middle of_value total inside is so_far key_is first value_is second =

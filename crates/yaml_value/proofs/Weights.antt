@@ -31,7 +31,8 @@ values_grow : (before : TypedValues) (values : List TypedValue) → weights befo
 values_grow before [] = omega arith
 values_grow before (value ∷ values) = let more = values_grow (values_and before value) values in omega (arith, more)
 
-item_below : {A : Type 0} (before : TypedValues) (items : List (Value A)) (i : ℕ) (item : Value A) → i < length items → weight (seen_value (get_or items i item)) < weights (values_of before (map (seen_value {A = A}) items))
+item_below : {A : Type 0} (before : TypedValues) (items : List (Value A)) (i : ℕ) (item : Value A) → i < length items
+    → weight (seen_value (get_or items i item)) < weights (values_of before (map (seen_value {A = A}) items))
 item_below before [] i item inside = absurd (omega arith)
 item_below {A} before (first ∷ items) zero item inside =
     let more = values_grow (values_and before (seen_value first)) (map (seen_value {A = A}) items) in
@@ -40,7 +41,8 @@ item_below {A} before (first ∷ items) zero item inside =
 item_below before (first ∷ items) (suc i) item inside = item_below (values_and before (seen_value first)) items i item (omega arith)
 
 -- each item weighs less than the items
-pub item_lighter : {A : Type 0} (items all : List (Value A)) (i : ℕ) (item : Value A) → items ≡ all → i < length items → item ≡ get_or items i item → weight (seen_value item) < weights (seen_values all)
+pub item_lighter : {A : Type 0} (items all : List (Value A)) (i : ℕ) (item : Value A) → items ≡ all → i < length items → item ≡ get_or items i item
+    → weight (seen_value item) < weights (seen_values all)
 item_lighter {A} items all i item same inside is =
     subst (λ (values : List (Value A)). weight (seen_value item) < weights (seen_values values)) same
     (subst (λ (one : Value A). weight (seen_value one) < weights (seen_values items)) (sym is) (item_below no_values items i item inside))
@@ -62,8 +64,10 @@ pair_below {A} before (first ∷ pairs) zero pair inside =
 pair_below before (first ∷ pairs) (suc i) pair inside = pair_below (value_pairs_and before (seen_value first.0) (seen_value first.1)) pairs i pair (omega arith)
 
 -- both values of each pair weigh less than the pairs
-pub pair_lighter : {A : Type 0} (pairs all : List (Value A × Value A)) (i : ℕ) (pair : Value A × Value A) → pairs ≡ all → i < length pairs → pair ≡ get_or pairs i pair
+pub pair_lighter : {A : Type 0} (pairs all : List (Value A × Value A)) (i : ℕ) (pair : Value A × Value A) → pairs ≡ all → i < length pairs
+    → pair ≡ get_or pairs i pair
     → weight (seen_value pair.0) + weight (seen_value pair.1) < pair_weights (seen_pairs all)
 pair_lighter {A} pairs all i pair same inside is =
     subst (λ (given : List (Value A × Value A)). weight (seen_value pair.0) + weight (seen_value pair.1) < pair_weights (seen_pairs given)) same
-    (subst (λ (one : Value A × Value A). weight (seen_value one.0) + weight (seen_value one.1) < pair_weights (seen_pairs pairs)) (sym is) (pair_below no_value_pairs pairs i pair inside))
+    (subst (λ (one : Value A × Value A). weight (seen_value one.0) + weight (seen_value one.1) < pair_weights (seen_pairs pairs)) (sym is)
+    (pair_below no_value_pairs pairs i pair inside))

@@ -18,6 +18,7 @@ use Rattle.yaml_emitter.specs.Uncut.{IsUncut}
 use Rattle.yaml_dump.specs.Dumps.{EmitsAll, EmitsEach, FailsAt}
 use Rattle.yaml_value.proofs.AcceptedLemmas.{value_accepted}
 use Rattle.yaml_value.proofs.ContentLemmas.{content_of-value_events, stream_tells_value}
+use Rattle.yaml_base.specs.Settings.{largest_usize}
 
 -- a list whose first so many elements are fewer is no longer than that
 uncut_length : (limit : ℕ) (bytes : List ℕ) → length (take limit bytes) < limit → length bytes ≤ limit
@@ -27,13 +28,13 @@ uncut_length limit bytes fewer = by (cases_lt (length bytes) limit)
     by (inr long) = let whole = length-take-le limit bytes long in absurd (omega (arith, whole, fewer))
     by (inl short) = omega (arith, short)
 
-uncut : (value : TypedValue) (output : List ℕ) → output ≡ typed_output value → length output < 18446744073709551615 → IsUncut typed_settings (value_events value)
+uncut : (value : TypedValue) (output : List ℕ) → output ≡ typed_output value → length output < largest_usize → IsUncut typed_settings (value_events value)
 uncut value output is few =
     let s = settings_for typed_settings (value_events value) in
-    uncut_length 18446744073709551615 (bytes_written s (list_layout s (value_events value))) (subst (λ bytes. length bytes < 18446744073709551615) is few)
+    uncut_length largest_usize (bytes_written s (list_layout s (value_events value))) (subst (λ bytes. length bytes < largest_usize) is few)
 
 -- all events emitted: the bytes are the value's
-pub value_written : (value : TypedValue) (state : State) → nesting value ≤ most_nested → Has64Bits value → length state.page.output < 18446744073709551615
+pub value_written : (value : TypedValue) (state : State) → nesting value ≤ most_nested → Has64Bits value → length state.page.output < largest_usize
     → EmitsAll typed_settings [] (value_events value) state → WritesValue value state.page.output
 value_written value state fits bits few emits =
     let written = emits.promised.whole emits.no_error (value_accepted value fits) in
@@ -46,7 +47,8 @@ value_written value state fits bits few emits =
     }
 
 -- no event of an accepted list is refused
-never_refused : (events before rest : List Event) (error : yaml_error_t) (state : State) → IsAccepted true events → before ++ rest ≡ events → RefusedAt typed_settings before error state → ⊥
+never_refused : (events before rest : List Event) (error : yaml_error_t) (state : State) → IsAccepted true events → before ++ rest ≡ events
+    → RefusedAt typed_settings before error state → ⊥
 never_refused events before rest error state accepted begins refused =
     let whole : (refused.front ++ refused.event ∷ []) ++ (refused.later ++ rest) ≡ events =
     append_assoc refused.front (refused.event ∷ []) (refused.later ++ rest)
@@ -54,7 +56,7 @@ never_refused events before rest error state accepted begins refused =
     refused.ends (record { rest = refused.later ++ rest; accepted = subst (IsAccepted true) (sym whole) accepted })
 
 -- where emitting a value's events fails, memory gave out
-pub only_memory : (value : TypedValue) (error : yaml_error_t) (state : State) → nesting value ≤ most_nested → length state.page.output < 18446744073709551615
+pub only_memory : (value : TypedValue) (error : yaml_error_t) (state : State) → nesting value ≤ most_nested → length state.page.output < largest_usize
     → FailsAt typed_settings [] (value_events value) error state → error ≡ Memory
 only_memory value WriteError state fits few fails = let full = (fails.promised.full fails.failed).full in absurd (omega (arith, full, few))
 only_memory value Memory state fits few fails = refl
@@ -64,15 +66,20 @@ only_memory value error state fits few fails =
     (append_assoc fails.before (fails.event ∷ []) fails.later ∙ fails.parts) (fails.promised.refused error fails.failed tt))
 
 -- what emitting a value's events comes to, by its answer
-pub events_written : (value : TypedValue) (events : List Event) (answer : Result (Unit {0}) yaml_error_t) (state : State) → events ≡ value_events value → nesting value ≤ most_nested → Has64Bits value
-    → length state.page.output < 18446744073709551615 → EmitsEach typed_settings [] events answer state → OnOk answer (WritesValue value state.page.output) × IfErr answer (λ error. error ≡ Memory)
-events_written value events (Ok _) state is fits bits few emits = (value_written value state fits bits few (subst (λ events. EmitsAll typed_settings [] events state) is emits), tt)
+pub events_written : (value : TypedValue) (events : List Event) (answer : Result (Unit {0}) yaml_error_t) (state : State) → events ≡ value_events value
+    → nesting value ≤ most_nested → Has64Bits value
+    → length state.page.output < largest_usize → EmitsEach typed_settings [] events answer state → OnOk answer (WritesValue value state.page.output)
+    × IfErr answer (λ error. error ≡ Memory)
+events_written value events (Ok _) state is fits bits few
+    emits = (value_written value state fits bits few (subst (λ events. EmitsAll typed_settings [] events state) is emits), tt)
 events_written value events (Err error) state is fits bits few emits =
     (tt, only_memory value error state fits few (subst (λ events. FailsAt typed_settings [] events error state) is emits))
 
 -- an answer that tells of no depth
-pub too_deep_apart : {T : Type 0} (answer : Result T yaml_error_t) (value : TypedValue) → nesting value ≤ most_nested → IfErr answer (λ error. error ≡ Memory) → (answer ≡ Err TooDeep) ↔ (most_nested < nesting value)
-too_deep_apart answer value fits memory = (λ is. absurd (apart (subst (λ answer. IfErr answer (λ error. error ≡ Memory)) is memory)), λ deep. absurd (omega (arith, fits, deep)))
+pub too_deep_apart : {T : Type 0} (answer : Result T yaml_error_t) (value : TypedValue) → nesting value ≤ most_nested → IfErr answer (λ error. error ≡ Memory)
+    → (answer ≡ Err TooDeep) ↔ (most_nested < nesting value)
+too_deep_apart answer value fits
+    memory = (λ is. absurd (apart (subst (λ answer. IfErr answer (λ error. error ≡ Memory)) is memory)), λ deep. absurd (omega (arith, fits, deep)))
   where
     apart : TooDeep ≡ Memory → ⊥
     apart is = cc
@@ -85,11 +92,13 @@ pub test_exceeds : (value : TypedValue) → nat_le (nesting value) most_nested �
 test_exceeds value is = grind (arith, nat_tests, is)
 
 -- the only error is memory
-pub memory_alone : {T : Type 0} (answer : Result T yaml_error_t) → IfErr answer (λ error. error ≡ Memory) → IfErr answer (λ error. (error ≡ TooDeep) ⊎ (error ≡ Memory))
+pub memory_alone : {T : Type 0} (answer : Result T yaml_error_t) → IfErr answer (λ error. error ≡ Memory)
+    → IfErr answer (λ error. (error ≡ TooDeep) ⊎ (error ≡ Memory))
 memory_alone (Ok value) is = tt
 memory_alone (Err error) is = inr is
 
 -- a copy of the output
-pub copy_written : {A : Type 0} (answer : Result (Vec ℕ A) yaml_error_t) (value : TypedValue) (output lent : List ℕ) → lent ≡ output → WritesValue value output → IfOk answer (λ copy. copy.items ≡ lent)
+pub copy_written : {A : Type 0} (answer : Result (Vec ℕ A) yaml_error_t) (value : TypedValue) (output lent : List ℕ) → lent ≡ output → WritesValue value output
+    → IfOk answer (λ copy. copy.items ≡ lent)
     → IfOk answer (λ copy. WritesValue value copy.items)
 copy_written answer value output lent same writes = IfOk-weaker answer _ _ (λ copy is. subst (WritesValue value) (sym (is ∙ same)) writes)

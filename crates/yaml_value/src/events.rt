@@ -80,7 +80,8 @@ fn push_list<A: Allocator + Copy>(
     events: &mut Vec<yaml_event_t<A>, A>,
     items: &Vec<Value<A>, A>,
 ) -> Result<(), AllocError>
-    ensures pushed { OnOk result (seen_events events.new.items ≡ seen_events events.old.items ++ node_events (value_node (typed.list_value (seen_values items.now.items)))) }
+    ensures pushed { OnOk result (seen_events events.new.items ≡ seen_events events.old.items
+        ++ node_events (value_node (typed.list_value (seen_values items.now.items)))) }
     ensures bits { OnOk result (Have64Bits (seen_values items.now.items)) }
 {
     push_list_start(alloc, events)?;
@@ -97,7 +98,8 @@ fn push_map<A: Allocator + Copy>(
     events: &mut Vec<yaml_event_t<A>, A>,
     pairs: &Vec<(Value<A>, Value<A>), A>,
 ) -> Result<(), AllocError>
-    ensures pushed { OnOk result (seen_events events.new.items ≡ seen_events events.old.items ++ node_events (value_node (typed.map_value (seen_pairs pairs.now.items)))) }
+    ensures pushed { OnOk result (seen_events events.new.items ≡ seen_events events.old.items
+        ++ node_events (value_node (typed.map_value (seen_pairs pairs.now.items)))) }
     ensures bits { OnOk result (PairsHave64Bits (seen_pairs pairs.now.items)) }
 {
     push_map_start(alloc, events)?;

@@ -2,6 +2,7 @@
 ghost use Rattle.std.specs.Prelude.{◌≡◌, ◌+◌, min, nat_le};
 ghost use Rattle.yaml_base.specs.TypedValues.{nesting, value_count, value_pairs_count, value_pairs_nesting, values_count, values_nesting};
 ghost use Rattle.yaml_value.specs.SeenValues.{seen_value, seen_values, seen_pairs};
+ghost use Rattle.yaml_base.specs.Settings.{largest_usize};
 
 use crate::value::Value;
 use std::alloc::Allocator;
@@ -9,7 +10,7 @@ use std::alloc::Allocator;
 /// The number of values in a value, itself included; `u64::MAX` where there are more.
 #[cycle(count_values)]
 pub(crate) fn count_values<A: Allocator>(value: &Value<A>) -> u64
-    ensures { result ≡ min (value_count (seen_value value.now)) 18446744073709551615 }
+    ensures { result ≡ min (value_count (seen_value value.now)) largest_usize }
 {
     match value {
         Value::List(items) => count_items(items),
@@ -21,7 +22,7 @@ pub(crate) fn count_values<A: Allocator>(value: &Value<A>) -> u64
 /// A list of these items counts as one more.
 #[cycle(count_values)]
 fn count_items<A: Allocator>(items: &Vec<Value<A>, A>) -> u64
-    ensures { result ≡ min (1 + values_count (seen_values items.now.items)) 18446744073709551615 }
+    ensures { result ≡ min (1 + values_count (seen_values items.now.items)) largest_usize }
 {
     let mut count = 1u64;
     for item in items {
@@ -33,7 +34,7 @@ fn count_items<A: Allocator>(items: &Vec<Value<A>, A>) -> u64
 /// A map of these pairs counts as one more.
 #[cycle(count_values)]
 fn count_pairs<A: Allocator>(pairs: &Vec<(Value<A>, Value<A>), A>) -> u64
-    ensures { result ≡ min (1 + value_pairs_count (seen_pairs pairs.now.items)) 18446744073709551615 }
+    ensures { result ≡ min (1 + value_pairs_count (seen_pairs pairs.now.items)) largest_usize }
 {
     let mut count = 1u64;
     for (key, value) in pairs {

@@ -3,6 +3,7 @@
 ghost use Rattle.std.specs.Prelude.{◌≡◌, min};
 ghost use Rattle.yaml_base.specs.TypedValues.{value_count};
 ghost use Rattle.yaml_value.specs.SeenValues.{seen_value};
+ghost use Rattle.yaml_base.specs.Settings.{largest_usize};
 
 use crate::size::count_values;
 use std::alloc::Allocator;
@@ -27,7 +28,7 @@ pub enum Value<A: Allocator> {
 impl<A: Allocator> Value<A> {
     /// The number of values in this one, itself included; `u64::MAX` where there are more.
     pub fn count(&self) -> u64
-        ensures { result ≡ min (value_count (seen_value self.now)) 18446744073709551615 }
+        ensures { result ≡ min (value_count (seen_value self.now)) largest_usize }
     {
         count_values(self)
     }

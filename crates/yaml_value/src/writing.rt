@@ -3,6 +3,7 @@ ghost use Rattle.std.specs.Prelude.{◌≡◌, ◌↔◌, ◌⊎◌, ◌<◌, �
 ghost use Rattle.yaml_base.specs.TypedValues.{WritesValue, most_nested, nesting, typed_settings};
 ghost use Rattle.yaml_emitter.specs.StandsAfter.{StandsAfter};
 ghost use Rattle.yaml_value.specs.SeenValues.{seen_value};
+ghost use Rattle.yaml_base.specs.Settings.{largest_usize};
 
 use crate::events::events_of;
 use crate::size::lies_within;
@@ -77,7 +78,7 @@ fn canonical_emitter<A: Allocator + Copy>(alloc: A) -> Result<yaml_emitter_t<A>,
 
 /// A law: a slice has fewer bytes than the largest limit.
 fn is_below_limit(bytes: &[u8])
-    ensures { length bytes.now < 18446744073709551615 }
+    ensures { length bytes.now < largest_usize }
 {}
 
 /// Bytes of its own.

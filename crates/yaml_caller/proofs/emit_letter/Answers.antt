@@ -40,7 +40,8 @@ returns-in_err-yaml_emitter_emit-3-clause-memory g c =
     let first = c.yaml_emitter_emit.ensures.stands letter_settings [] c.requires.stands in
     let second = c.yaml_emitter_emit-2.ensures.stands letter_settings _ first in
     exit_memory c.in_err-yaml_emitter_emit-3.field-0.0 c.from_residual-in_err-yaml_emitter_emit-3.result
-    (call_memory 3 (map seen_directive c.new.result.items) (seen_text c.args.value) c.yaml_emitter_emit-3.new.emitter (Err c.in_err-yaml_emitter_emit-3.field-0.0)
+    (call_memory 3 (map seen_directive c.new.result.items) (seen_text c.args.value) c.yaml_emitter_emit-3.new.emitter
+    (Err c.in_err-yaml_emitter_emit-3.field-0.0)
     (ap (map seen_directive) c.new.ensures.items) c.requires.letter
     (c.in_err-yaml_emitter_emit-3.ensures.promised letter_settings _ second) c.in_err-yaml_emitter_emit-3.ensures.answered)
     c.from_residual-in_err-yaml_emitter_emit-3.ensures
@@ -51,7 +52,8 @@ returns-in_err-yaml_emitter_emit-4-clause-memory g c =
     let second = c.yaml_emitter_emit-2.ensures.stands letter_settings _ first in
     let third = c.yaml_emitter_emit-3.ensures.stands letter_settings _ second in
     exit_memory c.in_err-yaml_emitter_emit-4.field-0.0 c.from_residual-in_err-yaml_emitter_emit-4.result
-    (call_memory 4 (map seen_directive c.new.result.items) (seen_text c.args.value) c.yaml_emitter_emit-4.new.emitter (Err c.in_err-yaml_emitter_emit-4.field-0.0)
+    (call_memory 4 (map seen_directive c.new.result.items) (seen_text c.args.value) c.yaml_emitter_emit-4.new.emitter
+    (Err c.in_err-yaml_emitter_emit-4.field-0.0)
     (ap (map seen_directive) c.new.ensures.items) c.requires.letter
     (c.in_err-yaml_emitter_emit-4.ensures.promised letter_settings _ third) c.in_err-yaml_emitter_emit-4.ensures.answered)
     c.from_residual-in_err-yaml_emitter_emit-4.ensures

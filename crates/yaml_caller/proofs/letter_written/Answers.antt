@@ -2,4 +2,5 @@ use Rattle.std.proofs.Common.{◌≡◌, IfOk, ◌∙◌, subst}
 use Rattle.yaml_caller.proofs.letter_written.Goals as goal
 
 pub returns-clause-bytes : goal.returns-clause-bytes
-returns-clause-bytes g c = subst (λ bytes. IfOk c.copied.result (λ copy. copy.items ≡ bytes)) (c.output.ensures.value ∙ c.in_ok-emit_letter.ensures.bytes) c.copied.ensures.bytes
+returns-clause-bytes g c = subst (λ bytes. IfOk c.copied.result (λ copy. copy.items ≡ bytes))
+    (c.output.ensures.value ∙ c.in_ok-emit_letter.ensures.bytes) c.copied.ensures.bytes

@@ -45,7 +45,12 @@ pub(crate) fn write_document_start<A: Allocator>(
     requires handles { some_handle_breaks (map seen_directive start.now.directives.now) ≡ false }
     ensures { Wrote
         (piece_at
-        (document_start_piece (seen_effective settings.now) first record { version = option_map seen_version start.now.version; directives = map seen_directive start.now.directives.now; implicit = start.now.implicit })
+        (document_start_piece (seen_effective settings.now) first
+        record {
+          version = option_map seen_version start.now.version;
+          directives = map seen_directive start.now.directives.now;
+          implicit = start.now.implicit;
+        })
         (seen_mark mark))
         pen.old pen.new result }
 {
@@ -86,7 +91,8 @@ fn write_document_head<A: Allocator>(
     requires ready { IsReady pen.old }
     requires handles { some_handle_breaks (map seen_directive start.now.directives.now) ≡ false }
     ensures { Wrote
-        (document_head_laid (seen_effective settings.now) closes (option_map seen_version start.now.version) (map seen_directive start.now.directives.now) explicit)
+        (document_head_laid (seen_effective settings.now) closes (option_map seen_version start.now.version)
+        (map seen_directive start.now.directives.now) explicit)
         pen.old pen.new result }
 {
     write_closing_mark(pen, settings, closes)?;
@@ -148,7 +154,8 @@ fn write_tag_line<'a, A: Allocator>(
 fn tag_directive_signs<'a>(handle: &'a str, prefix: &'a str) -> Signs<'a>
     requires { list_any is_break (chars handle.now) ≡ false }
     ensures whole { some_sign_breaks result ≡ false }
-    ensures laid { (s : Effective) (cursor : Cursor) → signs_laid s root_place result cursor ≡ tag_words_laid s.portable (record { handle = chars handle.now; prefix = chars prefix.now }) cursor }
+    ensures laid { (s : Effective) (cursor : Cursor)
+        → signs_laid s root_place result cursor ≡ tag_words_laid s.portable (record { handle = chars handle.now; prefix = chars prefix.now }) cursor }
 {
     use Sign::*;
     (

@@ -87,7 +87,8 @@ pub(crate) fn write_collection_start<A: Allocator>(
     ensures written { (directives : List TagDirective) (style : CollectionStyle) (mark : ℕ)
         → seen_tag tag.entry ≡ option_map (spelling directives) (collection_tag site.now.settings.now.canonical (seen_collection content.now style))
         → Wrote
-        (piece_at (start_piece (seen_effective site.now.settings.now) directives (seen_place site.now.place) site.now.simple (seen_collection content.now style)) mark)
+        (piece_at (start_piece (seen_effective site.now.settings.now) directives (seen_place site.now.place) site.now.simple
+        (seen_collection content.now style)) mark)
         pen.old pen.new result }
     ensures ready { IsReady pen.new }
 {
@@ -97,7 +98,8 @@ pub(crate) fn write_collection_start<A: Allocator>(
 /// A collection is written in flow where it stands in flow, in canonical mode, by its style, or where it is empty.
 pub(crate) fn is_written_in_flow(site: &Site, flow_asked: bool, empty: bool) -> bool
     ensures { (start : Collection)
-        → asks_flow start.style ≡ flow_asked → result ≡ layout.is_written_in_flow (seen_effective site.now.settings.now) (seen_place site.now.place) start empty }
+        → asks_flow start.style ≡ flow_asked
+        → result ≡ layout.is_written_in_flow (seen_effective site.now.settings.now) (seen_place site.now.place) start empty }
 {
     site.place.in_flow || site.settings.canonical || flow_asked || empty
 }
@@ -128,7 +130,9 @@ pub(crate) fn write_collection_end<A: Allocator>(
     mapping: bool,
 ) -> Result<(), yaml_error_t>
     requires { IsReady pen.old }
-    ensures { (mark : ℕ) → Wrote (piece_at (end_piece (seen_effective outer.now.settings.now) (brackets_of mapping) frame.now.place.in_flow (is_first (seen_role frame.now.place.role)) outer.now.place.column) mark) pen.old pen.new result }
+    ensures { (mark : ℕ) → Wrote (piece_at
+        (end_piece (seen_effective outer.now.settings.now) (brackets_of mapping) frame.now.place.in_flow
+        (is_first (seen_role frame.now.place.role)) outer.now.place.column) mark) pen.old pen.new result }
 {
     let empty = frame.place.role.is_first();
     if frame.place.in_flow {

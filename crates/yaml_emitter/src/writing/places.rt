@@ -34,7 +34,8 @@ pub(crate) fn write_place<A: Allocator>(pen: &mut Pen<A>, site: &Site) -> Result
 /// The signs of a place in flow (YAML 1.1, sections 10.1.1 and 10.2.1).
 fn flow_signs(role: Role, simple: bool) -> Signs<'static>
     ensures whole { some_sign_breaks result ≡ false }
-    ensures laid { (s : Effective) (place : Place) (cursor : Cursor) → signs_laid s place result cursor ≡ flow_place_laid s (seen_role role) simple place.column cursor }
+    ensures laid { (s : Effective) (place : Place) (cursor : Cursor)
+        → signs_laid s place result cursor ≡ flow_place_laid s (seen_role role) simple place.column cursor }
 {
     use Indicator::*;
     use Sign::*;
@@ -54,7 +55,8 @@ fn flow_signs(role: Role, simple: bool) -> Signs<'static>
 /// The signs of a place in a block (YAML 1.1, sections 10.1.2 and 10.2.2).
 fn block_signs(role: Role, simple: bool) -> Signs<'static>
     ensures whole { some_sign_breaks result ≡ false }
-    ensures laid { (s : Effective) (place : Place) (cursor : Cursor) → signs_laid s place result cursor ≡ block_place_laid (seen_role role) simple place.column cursor }
+    ensures laid { (s : Effective) (place : Place) (cursor : Cursor)
+        → signs_laid s place result cursor ≡ block_place_laid (seen_role role) simple place.column cursor }
 {
     use Indicator::*;
     use Sign::*;
@@ -72,7 +74,8 @@ fn block_signs(role: Role, simple: bool) -> Signs<'static>
 /// first; in canonical mode a comma and a new line.
 pub(crate) fn flow_end_signs(mapping: bool, empty: bool, canonical: bool) -> Signs<'static>
     ensures whole { some_sign_breaks result ≡ false }
-    ensures laid { (s : Effective) (place : Place) (cursor : Cursor) → s.canonical ≡ canonical → signs_laid s place result cursor ≡ end_laid s (brackets_of mapping) true empty place.column cursor }
+    ensures laid { (s : Effective) (place : Place) (cursor : Cursor) → s.canonical ≡ canonical
+        → signs_laid s place result cursor ≡ end_laid s (brackets_of mapping) true empty place.column cursor }
 {
     use Indicator::*;
     use Sign::*;

@@ -22,7 +22,8 @@ use yaml_pen::Pen;
 
 /// Whether an anchor, a tag or the bare tag is written.
 pub(crate) fn has_properties(anchor: Option<&str>, tag: Option<SpelledTag>, bare: bool) -> bool
-    ensures { result ≡ false → (portable : Bool) (cursor : Cursor) → then_laid (anchor_laid (seen_name anchor.entry) cursor) (spelled_tag_laid portable (seen_tag tag.entry) bare) ≡ nothing_laid cursor }
+    ensures { result ≡ false → (portable : Bool) (cursor : Cursor)
+        → then_laid (anchor_laid (seen_name anchor.entry) cursor) (spelled_tag_laid portable (seen_tag tag.entry) bare) ≡ nothing_laid cursor }
 {
     match anchor {
         Some(_) => true,
@@ -67,7 +68,8 @@ fn anchor_signs(anchor: Option<&str>) -> Signs
 fn tag_signs(tag: Option<SpelledTag>, bare: bool) -> Signs
     requires { spelling_breaks (seen_tag tag) ≡ false }
     ensures whole { some_sign_breaks result ≡ false }
-    ensures laid { (s : Effective) (place : Place) (cursor : Cursor) → signs_laid s place result cursor ≡ spelled_tag_laid s.portable (seen_tag tag.entry) bare cursor }
+    ensures laid { (s : Effective) (place : Place) (cursor : Cursor)
+        → signs_laid s place result cursor ≡ spelled_tag_laid s.portable (seen_tag tag.entry) bare cursor }
 {
     use Indicator::*;
     use Sign::*;

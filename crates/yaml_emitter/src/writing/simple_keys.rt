@@ -74,7 +74,8 @@ fn is_simple_alias(name: &str) -> bool
 fn is_simple_scalar(content: &ScalarContent, tag: Option<SpelledTag>) -> bool
     ensures { result
         ≡ (not (list_any class.is_break (chars content.now.value.now))
-        && layout.is_short (layout.byte_count (chars content.now.value.now) + layout.name_count (seen_name content.now.anchor) + spelled_count (seen_tag tag.entry))) }
+        && layout.is_short (layout.byte_count (chars content.now.value.now) + layout.name_count (seen_name content.now.anchor) + spelled_count
+        (seen_tag tag.entry))) }
 {
     !holds_break(content.value) && is_short(byte_count(content.value), content.anchor, tag)
 }

@@ -12,7 +12,8 @@ returns-clause-bytes g c =
     let after = c.yaml_emitter_dump.new.emitter in
     let graph = graph_of c.args.document in
     let unclosed = still_open graph old.closed after.closed c.requires.graph c.requires.unclosed c.in_ok-yaml_emitter_dump.ensures.closed in
-    let stands = after_dump graph old after _ c.requires.unopened c.requires.graph c.requires.stands (c.in_ok-yaml_emitter_dump.ensures.dumps c.requires.no_error) in
+    let stands = after_dump graph old after _ c.requires.unopened c.requires.graph c.requires.stands
+    (c.in_ok-yaml_emitter_dump.ensures.dumps c.requires.no_error) in
     stream_bytes cycle_events cycle_bytes c.yaml_emitter_close.result c.yaml_emitter_close.new.emitter refl none_waits cycle_row
     (c.yaml_emitter_close.ensures.promised unclosed letter_settings dumped_cycle stands) (c.yaml_emitter_close.ensures.answered unclosed)
 
@@ -22,6 +23,7 @@ returns-clause-graph g c =
     let after = c.yaml_emitter_dump.new.emitter in
     let graph = graph_of c.args.document in
     let unclosed = still_open graph old.closed after.closed c.requires.graph c.requires.unclosed c.in_ok-yaml_emitter_dump.ensures.closed in
-    let stands = after_dump graph old after _ c.requires.unopened c.requires.graph c.requires.stands (c.in_ok-yaml_emitter_dump.ensures.dumps c.requires.no_error) in
+    let stands = after_dump graph old after _ c.requires.unopened c.requires.graph c.requires.stands
+    (c.in_ok-yaml_emitter_dump.ensures.dumps c.requires.no_error) in
     then_ok c.yaml_emitter_close.result (c.yaml_emitter_close.ensures.graphs unclosed)
     (λ reads. reads letter_settings dumped_cycle (cycle_graph ∷ []) stands refl uncut one_dumped)

@@ -6,4 +6,6 @@ use Rattle.yaml_caller.proofs.values.same_bytes.Goals as goal
 pub returns-clause-same : goal.returns-clause-same
 returns-clause-same g c =
     let is : c.eq.result ≡ bytes_eq c.in_ok-first.first.items c.in_ok-second.second.items = search rules in
-    same_decides (seen_value c.args.first.now) (seen_value c.args.second.now) c.in_ok-first.first.items c.in_ok-second.second.items c.eq.result c.in_ok-first.ensures.written c.in_ok-second.ensures.written is
+    same_decides (seen_value c.args.first.now)
+    (seen_value c.args.second.now) c.in_ok-first.first.items c.in_ok-second.second.items c.eq.result c.in_ok-first.ensures.written
+    c.in_ok-second.ensures.written is

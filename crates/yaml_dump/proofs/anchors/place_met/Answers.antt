@@ -22,5 +22,6 @@ pub returns-clause-placed : goal.returns-clause-placed
 returns-clause-placed c walk before =
     let places = c.args.places.now in
     let numbered = subst (λ step. IsNumbered (length places) (seen_step step)) c.in-MeetsAgain.is c.requires.numbered in
-    subst (λ step. Places (walk ++ seen_step step ∷ []) (c.args.shared + 1) (set places (c.in-MeetsAgain.number - 1) (c.args.shared + 1))) (sym c.in-MeetsAgain.is)
+    subst (λ step. Places (walk ++ seen_step step ∷ []) (c.args.shared + 1) (set places (c.in-MeetsAgain.number - 1) (c.args.shared + 1)))
+    (sym c.in-MeetsAgain.is)
     (met_first walk c.in-MeetsAgain.number c.args.shared places numbered.first numbered.last c.if-places-number-ne0.false before)

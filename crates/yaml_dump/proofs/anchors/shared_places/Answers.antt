@@ -8,7 +8,8 @@ use Rattle.yaml_dump.proofs.anchors.shared_places.Goals as goal
 pub place_met-shared-requires-clause-numbered :
     goal.place_met-shared-requires-clause-numbered
 place_met-shared-requires-clause-numbered g c =
-    step_numbered c.args.walk.now c.args.count c.loop-step.step-index _ (Enters 0) c.requires c.loop-step-test.true (ap length c.as_mut_slice.ensures.value ∙ c.loop-step.invariant.each)
+    step_numbered c.args.walk.now c.args.count c.loop-step.step-index _ (Enters 0) c.requires c.loop-step-test.true
+    (ap length c.as_mut_slice.ensures.value ∙ c.loop-step.invariant.each)
 
 pub loop-step-preserved : goal.loop-step-preserved
 loop-step-preserved g c =
@@ -16,13 +17,17 @@ loop-step-preserved g c =
     let slice = c.as_mut_slice.result.now in
     let written = c.place_met-shared.new.places in
     let kept : length written ≡ length now.places.items = c.place_met-shared.auto.places ∙ ap length c.as_mut_slice.ensures.value in
-    let whole : take now.places.len (written ++ drop (length written) now.places.items) ≡ written = whole_slice now.places.len written now.places.items (now.places.ok.0 ∙ sym kept) in
+    let whole : take now.places.len (written ++ drop (length written) now.places.items)
+    ≡ written = whole_slice now.places.len written now.places.items (now.places.ok.0 ∙ sym kept) in
     let before : Places (map seen_step (take now.step-index c.args.walk.now)) now.shared slice =
-    subst (λ places. Places (map seen_step (take now.step-index c.args.walk.now)) now.shared places) (sym c.as_mut_slice.ensures.value) now.invariant.placed in record {
+    subst (λ places. Places (map seen_step (take now.step-index c.args.walk.now)) now.shared places) (sym c.as_mut_slice.ensures.value) now.invariant.placed in
+    record {
       each = ap length whole ∙ kept ∙ now.invariant.each;
       few = omega (arith, c.place_met-shared.ensures.counted);
       placed =
-          subst (λ steps. Places steps c.place_met-shared.result (take now.places.len (written ++ drop (length written) now.places.items))) (sym (seen_more c.args.walk.now now.step-index (Enters 0) c.loop-step-test.true))
-          (subst (λ places. Places (map seen_step (take now.step-index c.args.walk.now) ++ seen_step (get_or c.args.walk.now now.step-index (Enters 0)) ∷ []) c.place_met-shared.result places) (sym whole)
+          subst (λ steps. Places steps c.place_met-shared.result (take now.places.len (written ++ drop (length written) now.places.items)))
+          (sym (seen_more c.args.walk.now now.step-index (Enters 0) c.loop-step-test.true))
+          (subst (λ places. Places (map seen_step (take now.step-index c.args.walk.now) ++ seen_step (get_or c.args.walk.now now.step-index (Enters 0)) ∷ [])
+          c.place_met-shared.result places) (sym whole)
           (c.place_met-shared.ensures.placed (map seen_step (take now.step-index c.args.walk.now)) before));
     }

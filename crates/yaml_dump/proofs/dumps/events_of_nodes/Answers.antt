@@ -9,7 +9,8 @@ use Rattle.yaml_dump.proofs.dumps.events_of_nodes.Goals as goal
 pub events_of_walk-requires : goal.events_of_walk-requires
 events_of_walk-requires g c =
     let count = length (graph_of c.args.document.now).nodes in
-    subst (λ steps. is_numbered count (map seen_step steps) ≡ true) (sym c.as_slice.ensures.value) (named_numbered count c.in_ok-walk.walk.items c.in_ok-walk.ensures.named)
+    subst (λ steps. is_numbered count (map seen_step steps) ≡ true) (sym c.as_slice.ensures.value)
+    (named_numbered count c.in_ok-walk.walk.items c.in_ok-walk.ensures.named)
 
 pub returns-clause-unfolds : goal.returns-clause-unfolds
 returns-clause-unfolds g c =

@@ -31,7 +31,8 @@ returns-then-is_empty-clause-dumps g c none =
     inr
     (λ given all stands.
     let begun = c.in_ok-open_if_needed.ensures.emits given all stands in
-    dumps_closing given all c.args.emitter.now.opened (document_event_list graph) c.args.emitter.now.closed (length graph.nodes == 0) c.open_if_needed.new.emitter c.close_if_needed.new.emitter c.close_if_needed.result
+    dumps_closing given all c.args.emitter.now.opened (document_event_list graph) c.args.emitter.now.closed
+    (length graph.nodes == 0) c.open_if_needed.new.emitter c.close_if_needed.new.emitter c.close_if_needed.result
     c.open_if_needed.ensures.closed (sym c.is_empty.ensures ∙ c.if-is_empty.true) c.close_if_needed.ensures.opened begun
     (c.close_if_needed.ensures.emits given (all ++ opening c.args.emitter.now.opened) begun.stands))
 
@@ -41,7 +42,8 @@ returns-clause-dumps g c none =
     inr
     (λ given all stands.
     let begun = c.in_ok-open_if_needed.ensures.emits given all stands in
-    dumps_events given all c.args.emitter.now.opened (closing c.args.emitter.now.closed) (document_event_list graph) (map seen_event c.in_ok-events.events.items) (length graph.nodes == 0) c.open_if_needed.new.emitter c.emit_each.new.emitter c.emit_each.result
+    dumps_events given all c.args.emitter.now.opened (closing c.args.emitter.now.closed) (document_event_list graph)
+    (map seen_event c.in_ok-events.events.items) (length graph.nodes == 0) c.open_if_needed.new.emitter c.emit_each.new.emitter c.emit_each.result
     c.in_ok-events.ensures.events (sym c.is_empty.ensures ∙ c.if-is_empty.false) (c.emit_each.ensures.set.opened ∙ c.in_ok-open_if_needed.ensures.opened) begun
     (c.emit_each.ensures.emits given (all ++ opening c.args.emitter.now.opened) begun.stands))
 
@@ -81,7 +83,8 @@ returns-clause-grows g c = grows_then c.open_if_needed.ensures.grows c.emit_each
 
 pub returns-then-is_empty-clause-graphs : goal.returns-then-is_empty-clause-graphs
 returns-then-is_empty-clause-graphs g c =
-    closing_reads c.args.emitter.now c.close_if_needed.new.emitter c.open_if_needed.new.emitter.closed (length (graph_of c.args.document).nodes == 0) c.close_if_needed.result
+    closing_reads c.args.emitter.now c.close_if_needed.new.emitter c.open_if_needed.new.emitter.closed
+    (length (graph_of c.args.document).nodes == 0) c.close_if_needed.result
     c.open_if_needed.ensures.closed
     (λ given all stands.
     let begun = c.in_ok-open_if_needed.ensures.emits given all stands in

@@ -14,7 +14,8 @@ pub returns-in-Err-clause-emits : goal.returns-in-Err-clause-emits
 returns-in-Err-clause-emits g c given all stands =
     let now = c.loop-event in
     let stood = now.invariant.5 given all stands in
-    failed_at given all now.yielded c.in-Some.event (into_iter_items c.next.new.self) (into_iter_items now.event-iterator) c.args.events.items c.in-Err.error now.emitter c.yaml_emitter_emit.new.emitter
+    failed_at given all now.yielded c.in-Some.event (into_iter_items c.next.new.self)
+    (into_iter_items now.event-iterator) c.args.events.items c.in-Err.error now.emitter c.yaml_emitter_emit.new.emitter
     now.invariant.4 c.in-Some.ensures.steps.0 now.invariant.3 stood (some_told c.yaml_emitter_emit.new.emitter.error c.in-Err.error c.in-Err.ensures.answered)
     (c.yaml_emitter_emit.ensures.stands given (all ++ map seen_event now.yielded) stood)
     (c.yaml_emitter_emit.ensures.promised given (all ++ map seen_event now.yielded) stood)
@@ -26,7 +27,8 @@ loop-event-preserved g c =
       tt,
       c.yaml_emitter_emit.ensures.output,
       none_from_told c.yaml_emitter_emit.new.emitter.error c.in_default.ensures.answered,
-      parts_more now.yielded c.in-Some.event (into_iter_items c.next.new.self) (into_iter_items now.event-iterator) c.args.events.items now.invariant.4 c.in-Some.ensures.steps.0,
+      parts_more now.yielded c.in-Some.event (into_iter_items c.next.new.self)
+          (into_iter_items now.event-iterator) c.args.events.items now.invariant.4 c.in-Some.ensures.steps.0,
       λ given all stands.
           subst (λ events. StandsAfter given events c.yaml_emitter_emit.new.emitter) (events_more all now.yielded c.in-Some.event)
           (c.yaml_emitter_emit.ensures.stands given (all ++ map seen_event now.yielded) (now.invariant.5 given all stands)),
@@ -38,8 +40,11 @@ loop-event-preserved g c =
 pub returns-clause-emits : goal.returns-clause-emits
 returns-clause-emits g c given all stands =
     let now = c.loop-event in
-    let road = YieldsList-from_vec {s = c.into_iter-event-iterator.result} c.args.events.items c.into_iter-event-iterator.ensures.into_iter_gives.0 (c.into_iter-event-iterator.ensures.into_iter_gives.1 ∙ c.args.events.ok.0) in
-    let whole = ap (map seen_event) (sym (map-id now.yielded) ∙ (YieldsList-end road now.yielded now.event-iterator now.yielded_by c.next.result c.next.new.self c.in-None.is c.next.ensures.steps).0) in
+    let road = YieldsList-from_vec {s = c.into_iter-event-iterator.result} c.args.events.items c.into_iter-event-iterator.ensures.into_iter_gives.0
+    (c.into_iter-event-iterator.ensures.into_iter_gives.1 ∙ c.args.events.ok.0) in
+    let whole = ap (map seen_event)
+    (sym (map-id now.yielded) ∙ (YieldsList-end road now.yielded now.event-iterator now.yielded_by c.next.result c.next.new.self c.in-None.is
+    c.next.ensures.steps).0) in
     let stands = subst (λ events. StandsAfter given (all ++ events) now.emitter) whole (now.invariant.5 given all stands) in
     record { stands = stands; promised = c.standing_is_promised.ensures given _ now.emitter stands; no_error = now.invariant.3 }
 

@@ -15,5 +15,6 @@ returns-in-Enters g c =
     let numbered = subst (λ step. IsNumbered (length places) (seen_step step)) c.in-Enters.is c.requires.placed.numbered in
     IfOk-weaker c.beginning_at.result _ _
     (λ event is walk has_places.
-    subst (λ step. seen_events_of event ≡ step_events graph walk (seen_step step)) (sym c.in-Enters.is) (entered graph walk places c.in-Enters.number (seen_events_of event) numbered has_places is))
+    subst (λ step. seen_events_of event ≡ step_events graph walk (seen_step step)) (sym c.in-Enters.is)
+    (entered graph walk places c.in-Enters.number (seen_events_of event) numbered has_places is))
     c.beginning_at.ensures

@@ -5,4 +5,5 @@ use Rattle.yaml_dump.proofs.ChildLemmas.{child_named}
 use Rattle.yaml_dump.proofs.walk.next_child.Goals as goal
 
 pub returns-clause-named : goal.returns-clause-named
-returns-clause-named g c = child_named (graph_of c.args.document.now) c.args.visit.number c.args.visit.met c.number_at.result c.numbers_name_nodes.ensures (grind (arith, common_steps))
+returns-clause-named g c = child_named (graph_of c.args.document.now) c.args.visit.number c.args.visit.met c.number_at.result c.numbers_name_nodes.ensures
+    (grind (arith, common_steps))

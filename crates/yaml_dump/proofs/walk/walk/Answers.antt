@@ -14,7 +14,8 @@ loop-visit-init g c =
     let nonempty = eqb-false (length nodes) 0 c.requires.nonempty in
     let fits : FitsSigned w32 c.node_count.result = search rules in
     let count = simp to_z-of_z at c.in_ok-walker.ensures in
-    stands_first (graph_of c.args.document.now) _ (seen_walker c.in_ok-walker.walker) (seen_walker c.meet.new.self) (omega (arith, nonempty)) (ap nat_abs c.node_count.ensures) count c.in_ok-meet.ensures
+    stands_first (graph_of c.args.document.now) _ (seen_walker c.in_ok-walker.walker) (seen_walker c.meet.new.self) (omega (arith, nonempty))
+    (ap nat_abs c.node_count.ensures) count c.in_ok-meet.ensures
 
 pub go_on-requires-clause-named : goal.go_on-requires-clause-named
 go_on-requires-clause-named g c =
@@ -25,14 +26,16 @@ go_on-requires-clause-named g c =
 pub loop-visit-smaller : goal.loop-visit-smaller
 loop-visit-smaller g c =
     let walker = c.loop-visit.walker in
-    steps_fewer (graph_of c.args.document.now) c.in-Some.visit (seen_walker (record walker { visits = c.pop.new.self })) (seen_walker c.go_on.new.self) c.numbers_name_nodes.ensures
+    steps_fewer (graph_of c.args.document.now) c.in-Some.visit (seen_walker (record walker { visits = c.pop.new.self }))
+    (seen_walker c.go_on.new.self) c.numbers_name_nodes.ensures
     (stands_popped (graph_of c.args.document.now) walker c.pop.new.self c.in-Some.visit c.in-Some.ensures.items c.loop-visit.invariant)
     c.in_ok-go_on.ensures
 
 pub loop-visit-preserved : goal.loop-visit-preserved
 loop-visit-preserved g c =
     let walker = c.loop-visit.walker in
-    stands_behind (graph_of c.args.document.now) c.in-Some.visit (seen_walker (record walker { visits = c.pop.new.self })) (seen_walker c.go_on.new.self) c.numbers_name_nodes.ensures
+    stands_behind (graph_of c.args.document.now) c.in-Some.visit (seen_walker (record walker { visits = c.pop.new.self }))
+    (seen_walker c.go_on.new.self) c.numbers_name_nodes.ensures
     (stands_popped (graph_of c.args.document.now) walker c.pop.new.self c.in-Some.visit c.in-Some.ensures.items c.loop-visit.invariant)
     c.in_ok-go_on.ensures
 

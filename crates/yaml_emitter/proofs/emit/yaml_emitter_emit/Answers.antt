@@ -23,51 +23,51 @@ pub returns-in-Some-clause-promised : goal.returns-in-Some-clause-promised
 returns-in-Some-clause-promised g c given all stands =
     promised given (all ++ seen_event c.args.event ∷ []) _ (returns-in-Some-clause-stands g c given all stands)
 
-pub returns-in_err-take-clause-stands : goal.returns-in_err-take-clause-stands
-returns-in_err-take-clause-stands g c given all stands =
+pub returns-in_err-enqueue-clause-stands : goal.returns-in_err-enqueue-clause-stands
+returns-in_err-enqueue-clause-stands g c given all stands =
     let h = subst (λ s. StandsAfter given all s) (sym c.emitter.view_is) stands in
-    absurd (false≢true (c.in_err-take.ensures.room (stands_few given all (state_of c.emitter.inside) h.so c.in_default.is)))
+    absurd (false≢true (c.in_err-enqueue.ensures.room (stands_few given all (state_of c.emitter.inside) h.so c.in_default.is)))
 
-pub returns-in_err-take-clause-promised : goal.returns-in_err-take-clause-promised
-returns-in_err-take-clause-promised g c given all stands =
+pub returns-in_err-enqueue-clause-promised : goal.returns-in_err-enqueue-clause-promised
+returns-in_err-enqueue-clause-promised g c given all stands =
     let h = subst (λ s. StandsAfter given all s) (sym c.emitter.view_is) stands in
-    absurd (false≢true (c.in_err-take.ensures.room (stands_few given all (state_of c.emitter.inside) h.so c.in_default.is)))
+    absurd (false≢true (c.in_err-enqueue.ensures.room (stands_few given all (state_of c.emitter.inside) h.so c.in_default.is)))
 
 pub returns-clause-stands : goal.returns-clause-stands
 returns-clause-stands g c given all stands =
     let event = seen_event c.args.event in
     let h = subst (λ s. StandsAfter given all s) (sym c.emitter.view_is) stands in
-    stands_with given all c.args.event c.settle.new.self
-    (c.settle.ensures.stands given (all ++ event ∷ []) (take (written all) all)
-    (reached_taken given all event (state_of c.emitter.inside) c.take.new.self h.so c.in_default.is c.in_ok-take.ensures.taken))
+    stands_with given all c.args.event c.write_ready.new.self
+    (c.write_ready.ensures.stands given (all ++ event ∷ []) (take (written all) all)
+    (reached_taken given all event (state_of c.emitter.inside) c.enqueue.new.self h.so c.in_default.is c.in_ok-enqueue.ensures.taken))
     h.texts
 
 pub returns-clause-promised : goal.returns-clause-promised
 returns-clause-promised g c given all stands =
     promised given (all ++ seen_event c.args.event ∷ []) _ (returns-clause-stands g c given all stands)
 
-pub returns-in_err-take-clause-waits : goal.returns-in_err-take-clause-waits
-returns-in_err-take-clause-waits g c given all stands none same =
+pub returns-in_err-enqueue-clause-waits : goal.returns-in_err-enqueue-clause-waits
+returns-in_err-enqueue-clause-waits g c given all stands none same =
     let h = subst (λ s. StandsAfter given all s) (sym c.emitter.view_is) stands in
-    absurd (false≢true (c.in_err-take.ensures.room (stands_few given all (state_of c.emitter.inside) h.so c.in_default.is)))
+    absurd (false≢true (c.in_err-enqueue.ensures.room (stands_few given all (state_of c.emitter.inside) h.so c.in_default.is)))
 
 pub returns-clause-waits : goal.returns-clause-waits
 returns-clause-waits g c given all stands none same =
     let h = subst (λ s. StandsAfter given all s) (sym c.emitter.view_is) stands in
-    c.settle.ensures.waits
-    (subst (λ (s : State). is_head_ready s.held ≡ false) (sym c.in_ok-take.ensures.taken)
+    c.write_ready.ensures.waits
+    (subst (λ (s : State). is_head_ready s.held ≡ false) (sym c.in_ok-enqueue.ensures.taken)
     (none_became_ready given all (seen_event c.args.event) (state_of c.emitter.inside) h.so c.in_default.is same))
 
 pub returns-in-Some-clause-grows : goal.returns-in-Some-clause-grows
 returns-in-Some-clause-grows g c = grows_page c.args.emitter.now.page c.emitter.inside.pen (ap (λ (s : State). s.page) c.emitter.view_is)
 
-pub returns-in_err-take-clause-grows : goal.returns-in_err-take-clause-grows
-returns-in_err-take-clause-grows g c =
-    grows_page c.args.emitter.now.page c.take.new.self.page (c.take.ensures.page ∙ ap (λ (s : State). s.page) c.emitter.view_is)
+pub returns-in_err-enqueue-clause-grows : goal.returns-in_err-enqueue-clause-grows
+returns-in_err-enqueue-clause-grows g c =
+    grows_page c.args.emitter.now.page c.enqueue.new.self.page (c.enqueue.ensures.page ∙ ap (λ (s : State). s.page) c.emitter.view_is)
 
 pub returns-clause-grows : goal.returns-clause-grows
 returns-clause-grows g c =
-    subst (λ (p : Page). Grows p c.settle.new.self.page) (c.take.ensures.page ∙ ap (λ (s : State). s.page) c.emitter.view_is) c.settle.ensures.grows
+    subst (λ (p : Page). Grows p c.write_ready.new.self.page) (c.enqueue.ensures.page ∙ ap (λ (s : State). s.page) c.emitter.view_is) c.write_ready.ensures.grows
 
 pub write_at_once-requires-clause-alone : goal.write_at_once-requires-clause-alone
 write_at_once-requires-clause-alone g c = ap seen_events (sym c.as_slice.ensures.value) ∙ c.is_ready_alone.ensures.alone c.if-is_ready_alone.true

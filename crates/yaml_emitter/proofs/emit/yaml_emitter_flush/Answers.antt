@@ -8,7 +8,8 @@ use Rattle.yaml_emitter.proofs.emit.yaml_emitter_flush.Goals as goal
 pub returns-in-Some-clause-promised : goal.returns-in-Some-clause-promised
 returns-in-Some-clause-promised g c given all stands = promised given all c.args.emitter.now stands
 
-stood : (g : _) (c : goal.After-hand_out g) (given : Settings) (all : List Event) → StandsAfter given all c.args.emitter.now → StandsAfter given all c.hand_out.new.self
+stood : (g : _) (c : goal.After-hand_out g) (given : Settings) (all : List Event) → StandsAfter given all c.args.emitter.now
+    → StandsAfter given all c.hand_out.new.self
 stood g c given all stands =
     stands_on given all c.args.emitter.now c.hand_out.new.self (c.hand_out.ensures.stands given all) stands
 

@@ -1,5 +1,5 @@
 use Rattle.std.proofs.Common.{rules, refl, ap, subst, sym}
-use Rattle.yaml_base.specs.Settings.{Effective}
+use Rattle.yaml_base.specs.Settings.{largest_usize, Effective}
 use Rattle.yaml_base.specs.Steps.{at_stream}
 use Rattle.yaml_pen.specs.Page.{Page, IsUntouched, new_page}
 use Rattle.yaml_emitter.specs.State.{FitsPage}
@@ -8,7 +8,7 @@ use Rattle.yaml_emitter.specs.Given.{nothing_given}
 use Rattle.yaml_emitter.proofs.StandingMore.{new_stands}
 use Rattle.yaml_emitter.proofs.emitter.yaml_emitter_initialize.Goals as goal
 
-untouched_new : IsUntouched (new_page 18446744073709551615)
+untouched_new : IsUntouched (new_page largest_usize)
 untouched_new = record { no_bytes = refl; no_error = refl }
 
 pub invariant_of-result : goal.invariant_of-result

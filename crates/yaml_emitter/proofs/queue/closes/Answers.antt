@@ -28,7 +28,8 @@ loop-event-preserved g c =
           (closes_after-next seen_event c.args.events.now c.loop-event.event-index c.event-item.result c.loop-event-test.true c.event-item.is
           c.loop-event.starts c.loop-event.ended c.one_if-starts.result c.one_if-ended.result
           (c.one_if-starts.ensures ∙ ap one_if c.begins.ensures) (c.one_if-ended.ensures ∙ ap one_if c.ends.ensures)
-          ∙ ap (λ b. b || closes_after starts ends (seen_events (drop (c.loop-event.event-index + 1) c.args.events.now))) (ne_eqb starts ends c.if-starts-ended.false))
+          ∙ ap (λ b. b || closes_after starts ends (seen_events (drop (c.loop-event.event-index + 1) c.args.events.now)))
+          (ne_eqb starts ends c.if-starts-ended.false))
           ∙ c.loop-event.invariant.what_is_left;
     }
 
@@ -37,4 +38,5 @@ returns g c =
     sym
     (closes_after-none (seen_events c.args.events.now)
     ∙ sym c.loop-event.invariant.what_is_left
-    ∙ ap (λ events. closes_after c.loop-event.starts c.loop-event.ended (seen_events events)) (drop_all c.loop-event.event-index c.args.events.now c.loop-event-test.false))
+    ∙ ap (λ events. closes_after c.loop-event.starts c.loop-event.ended (seen_events events))
+    (drop_all c.loop-event.event-index c.args.events.now c.loop-event-test.false))

@@ -23,4 +23,5 @@ pub returns : goal.returns
 returns g c =
     let is = form_is c.args.byte c.hex_digit.result c.hex_digit-2.result c.ranges.byte.fits c.hex_digit.ensures.value c.hex_digit-2.ensures.value in
     subst (λ (text : Text). Wrote (text_laid text) c.args.pen.now c.put-3.new.self c.put-3.result) is
-    (wrote_text_then {answer = c.put-3.result} (wrote_text_then {answer = Ok tt} c.in_ok-put.ensures.written c.in_ok-put-2.ensures.written) c.put-3.ensures.written)
+    (wrote_text_then {answer = c.put-3.result}
+    (wrote_text_then {answer = Ok tt} c.in_ok-put.ensures.written c.in_ok-put-2.ensures.written) c.put-3.ensures.written)

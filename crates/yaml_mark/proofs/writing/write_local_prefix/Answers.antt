@@ -3,11 +3,10 @@ use Rattle.std.specs.List.{list_any}
 use Rattle.std.specs.Str.{chars}
 use Rattle.std.proofs.lemmas.Str.{chars-nil}
 use Rattle.yaml_base.specs.Characters.{is_break}
-use Rattle.yaml_base.specs.Cursor.{name_laid}
 use Rattle.yaml_base.specs.Percent.{percent_escaped}
 use Rattle.yaml_base.specs.Tags.{tag_mark}
-use Rattle.yaml_pen.proofs.Composing.{wrote_exit, wrote_failed, wrote_text_failed}
-use Rattle.yaml_mark.proofs.EscapingFacts.{content, content_cut, content_whole, marked_then}
+use Rattle.yaml_pen.proofs.Composing.{wrote_exit, wrote_text_failed}
+use Rattle.yaml_mark.proofs.EscapingFacts.{content_cut, content_whole, marked_then}
 use Rattle.yaml_mark.proofs.writing.write_local_prefix.Goals as goal
 
 pub write_indicator-requires-clause-no_break : goal.write_indicator-requires-clause-no_break

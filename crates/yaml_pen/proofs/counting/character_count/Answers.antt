@@ -1,4 +1,4 @@
-use Rattle.std.proofs.Common.{ap, ◌∙◌, arith, List, ℕ, ◌≡◌, get_or}
+use Rattle.std.proofs.Common.{ap, ◌∙◌, arith, List, ℕ, get_or}
 use Rattle.std.proofs.lemmas.List.{take_all}
 use Rattle.std.specs.Fmt.{is_char_start}
 use Rattle.yaml_pen.proofs.CharacterStarts.{bool_byte_most, starts, starts-chars, starts_step}
@@ -10,7 +10,8 @@ loop-place-preserved c =
     let begins = c.begins_character.ensures ∙ ap (λ (l : List ℕ). is_char_start (get_or l c.loop-place.place 0)) c.as_bytes-bytes.ensures.value in
     record {
       within = omega (arith, c.loop-place-test.true);
-      counted = starts_step c.args.text.now c.loop-place.place c.loop-place.count c.begins_character.result (omega (arith, c.loop-place-test.true)) so_far.counted begins;
+      counted = starts_step c.args.text.now c.loop-place.place c.loop-place.count c.begins_character.result
+          (omega (arith, c.loop-place-test.true)) so_far.counted begins;
       few = omega (arith, so_far.few, bool_byte_most c.begins_character.result);
     }
 

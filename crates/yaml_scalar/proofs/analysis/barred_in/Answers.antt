@@ -1,4 +1,4 @@
-use Rattle.std.proofs.Common.{◌≡◌, ℕ, List, sym, ap, subst, ◌∙◌, IsUtf8, chars}
+use Rattle.std.proofs.Common.{ℕ, List, sym, ap, subst, ◌∙◌, IsUtf8, chars}
 use Rattle.std.proofs.lemmas.Bool.{and_parts}
 use Rattle.std.specs.Prelude.{◌&&◌}
 use Rattle.yaml_scalar.specs.Barred.{barred_in, either, seen_barred}
@@ -15,7 +15,8 @@ loop-c-preserved c =
     let read = seen_barred c.past_quiet-in-Some.result.0 in
     record {
       is_text = subst IsUtf8 (sym c.chars-chars-in-Some.ensures.rest) c.past_quiet-in-Some.ensures.is_text;
-      so_far = barred_more charset _ (seen_barred c.loop-c.barred) _ _ rest c.in-Some.c so_far.is_text c.in-Some.ensures.steps.0 c.as_str-rest.ensures so_far.so_far c.with_next-more.ensures
+      so_far = barred_more charset _ (seen_barred c.loop-c.barred) _ _ rest c.in-Some.c so_far.is_text c.in-Some.ensures.steps.0 c.as_str-rest.ensures
+          so_far.so_far c.with_next-more.ensures
           ∙ ap (λ (l : List ℕ). either more (barred_in charset (chars l))) (sym c.as_str-rest.ensures)
           ∙ c.past_quiet-in-Some.ensures.same
           ∙ ap (λ (l : List ℕ). either read (barred_in charset (chars l))) (sym c.chars-chars-in-Some.ensures.rest);
@@ -30,7 +31,8 @@ returns-then-bars_all c =
     let p = and_parts (more.flow_plain && more.block_plain && more.single_quoted) more.block (sym c.if-bars_all.ensures) in
     let q = and_parts (more.flow_plain && more.block_plain) more.single_quoted p.0 in
     let r = and_parts more.flow_plain more.block_plain q.0 in
-    sym (barred_more charset _ (seen_barred c.loop-c.barred) _ _ rest c.in-Some.c so_far.is_text c.in-Some.ensures.steps.0 c.as_str-rest.ensures so_far.so_far c.with_next-more.ensures
+    sym (barred_more charset _ (seen_barred c.loop-c.barred) _ _ rest c.in-Some.c so_far.is_text c.in-Some.ensures.steps.0 c.as_str-rest.ensures so_far.so_far
+    c.with_next-more.ensures
     ∙ ap (λ (l : List ℕ). either more (barred_in charset (chars l))) (sym c.as_str-rest.ensures)
     ∙ all_barred more (barred_in charset (chars rest)) r.0 r.1 q.1 p.1
     ∙ sym c.with_break.ensures)

@@ -8,7 +8,8 @@ abbrev pub invariant-loop-c : goal.invariant-loop-c
 invariant-loop-c l =
     record {
       is_text : IsUtf8 (chars_rest l.chars);
-      so_far : barred_in (seen_charset l.fn.charset) (chars l.fn.value) ≡ either (seen_barred l.barred) (barred_in (seen_charset l.fn.charset) (chars (chars_rest l.chars)));
+      so_far : barred_in (seen_charset l.fn.charset) (chars l.fn.value)
+          ≡ either (seen_barred l.barred) (barred_in (seen_charset l.fn.charset) (chars (chars_rest l.chars)));
     }
 
 abbrev pub decreases-loop-c : goal.decreases-loop-c

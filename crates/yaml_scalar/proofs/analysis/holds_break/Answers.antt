@@ -1,6 +1,6 @@
-use Rattle.std.proofs.Common.{◌≡◌, ℕ, List, true, sym, ap, subst, ◌∙◌, IsUtf8}
+use Rattle.std.proofs.Common.{ℕ, List, sym, ap, subst, ◌∙◌, IsUtf8}
 use Rattle.std.proofs.lemmas.List.{nil_from_length}
-use Rattle.std.proofs.lemmas.Str.{IsUtf8-past_char, chars-nil, chars_past_char}
+use Rattle.std.proofs.lemmas.Str.{chars-nil, chars_past_char}
 use Rattle.std.specs.List.{list_any}
 use Rattle.std.specs.Prelude.{◌||◌}
 use Rattle.std.specs.Str.{chars}

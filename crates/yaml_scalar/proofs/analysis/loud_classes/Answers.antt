@@ -1,4 +1,4 @@
-use Rattle.std.proofs.Common.{◌≡◌, Bool, true, false, refl}
+use Rattle.std.proofs.Common.{Bool, true, false, refl}
 use Rattle.yaml_scalar.proofs.ByteRuns.{ascii_only_tells, quiet_tells}
 use Rattle.yaml_scalar.specs.Barred.{is_quiet}
 use Rattle.yaml_scalar.specs.ByteClasses.{Tells}

@@ -21,7 +21,9 @@ returns-clause-same c =
     let rest : List ℕ = c.split_at.result.1.now in
     let all : list_all (is_quiet charset) (chars quiet) ≡ true =
     ap (λ l. list_all (is_quiet charset) (chars l)) c.split_at.ensures.front ∙ free_passes c.loud_classes.ensures c.utf8.text c.free_length.ensures in
-    ap (λ t. either found (barred_in charset t)) (chars-cut c.args.text.now quiet rest c.free_length.result c.utf8.text (run_boundary c.free_length.ensures) c.split_at.ensures.front c.split_at.ensures.back)
+    ap (λ t. either found (barred_in charset t))
+    (chars-cut c.args.text.now quiet rest c.free_length.result c.utf8.text
+    (run_boundary c.free_length.ensures) c.split_at.ensures.front c.split_at.ensures.back)
     ∙ ap (either found) (quiet_run charset (chars quiet) (chars rest) all)
     ∙ either_more found (barred_by_space charset (last_from 0 (chars quiet)) (chars rest)) (barred_in charset (chars rest))
     ∙ ap (λ l. either (either found (barred_by_space charset l (chars rest))) (barred_in charset (chars rest))) (sym c.last_of.ensures)

@@ -21,6 +21,7 @@ returns-clause-same c =
     let free : list_any is_break (chars front) ≡ false =
     run_unbroken (stays_in_line false false) (stays_unbroken false false)
     (free_run {before = 0} (line_tells 1 false false refl refl refl) c.utf8.text c.free_length.ensures refl) c.split_at.ensures.front in
-    ap (list_any is_break) (chars-cut c.args.text.now front rest c.free_length.result c.utf8.text (run_boundary c.free_length.ensures) c.split_at.ensures.front c.split_at.ensures.back)
+    ap (list_any is_break) (chars-cut c.args.text.now front rest c.free_length.result c.utf8.text
+    (run_boundary c.free_length.ensures) c.split_at.ensures.front c.split_at.ensures.back)
     ∙ list_any-append is_break (chars front) (chars rest)
     ∙ ap (λ b. b || list_any is_break (chars rest)) free

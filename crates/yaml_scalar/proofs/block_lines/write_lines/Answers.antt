@@ -34,7 +34,8 @@ returns-in_err-write_step g c =
     let lines : Place → Text → Cursor → Laid = lines_from c.args.folded (limit_of c.args.width) (natural c.args.indent) in
     let rest : List ℕ = c.as_str-rest.result.now in
     let left = simp to_z-of_z at c.loop-character.invariant.0 in
-    let first = character_still (lines c.loop-character.place) c.in-Some.character _ _ rest c.loop-character.invariant.1 c.in-Some.ensures.steps.0 c.as_str-rest.ensures left in
+    let first = character_still (lines c.loop-character.place) c.in-Some.character _ _ rest c.loop-character.invariant.1 c.in-Some.ensures.steps.0
+    c.as_str-rest.ensures left in
     let step = simp to_z-of_z at c.in_err-write_step.ensures in
     wrote_exit c.from_residual.ensures
     (still_failed (lines (place_after c.args.folded c.loop-character.place c.in-Some.character) (chars rest)) first step)
@@ -49,10 +50,12 @@ returns-in_err-write_run g c =
     let rest : List ℕ = c.as_str-rest.result.now in
     let is_text = subst IsUtf8 (sym c.as_str-rest.ensures) (IsUtf8-past_char _ _ c.in-Some.character c.loop-character.invariant.1 c.in-Some.ensures.steps.0) in
     let left = simp to_z-of_z at c.loop-character.invariant.0 in
-    let first = character_still (lines_from c.args.folded limit n c.loop-character.place) c.in-Some.character _ _ rest c.loop-character.invariant.1 c.in-Some.ensures.steps.0 c.as_str-rest.ensures left in
+    let first = character_still (lines_from c.args.folded limit n c.loop-character.place) c.in-Some.character _ _ rest c.loop-character.invariant.1
+    c.in-Some.ensures.steps.0 c.as_str-rest.ensures left in
     let step = simp to_z-of_z at c.in_ok-write_step.ensures in
     let run = simp to_z-of_z at c.run_after-run.ensures in
-    let still = subst (λ (p : Place). LinesLeft c.args.folded limit n (chars c.args.value.now) (chars rest) p c.args.pen.now c.write_step.new.pen) (sym c.place_after-place.ensures) (still_rest first step) in
+    let still = subst (λ (p : Place). LinesLeft c.args.folded limit n (chars c.args.value.now) (chars rest) p c.args.pen.now c.write_step.new.pen)
+    (sym c.place_after-place.ensures) (still_rest first step) in
     wrote_exit c.from_residual-in_err-write_run.ensures
     (run_failed (λ before. lines_from c.args.folded limit n placed) c.split_at.result.1.now
     (block_alone c.args.folded limit n c.loop-character.place placed c.in-Some.character (chars rest) c.place_after-place.ensures step)
@@ -69,11 +72,14 @@ loop-character-preserved g c =
     let is_text = subst IsUtf8 (sym c.as_str-rest.ensures) (IsUtf8-past_char _ _ c.in-Some.character c.loop-character.invariant.1 c.in-Some.ensures.steps.0) in
     let behind = c.chars-characters-in-Some.ensures.rest ∙ c.split_at.ensures.back in
     let left = simp to_z-of_z at c.loop-character.invariant.0 in
-    let first = character_still (lines_from c.args.folded limit n c.loop-character.place) c.in-Some.character _ _ rest c.loop-character.invariant.1 c.in-Some.ensures.steps.0 c.as_str-rest.ensures left in
+    let first = character_still (lines_from c.args.folded limit n c.loop-character.place) c.in-Some.character _ _ rest c.loop-character.invariant.1
+    c.in-Some.ensures.steps.0 c.as_str-rest.ensures left in
     let step = simp to_z-of_z at c.in_ok-write_step.ensures in
     let run = simp to_z-of_z at c.run_after-run.ensures in
-    let still = subst (λ (p : Place). LinesLeft c.args.folded limit n (chars c.args.value.now) (chars rest) p c.args.pen.now c.write_step.new.pen) (sym c.place_after-place.ensures) (still_rest first step) in
-    let more : LinesLeft c.args.folded limit n (chars c.args.value.now) (chars (chars_rest c.chars-characters-in-Some.result)) placed c.args.pen.now c.write_run.new.self =
+    let still = subst (λ (p : Place). LinesLeft c.args.folded limit n (chars c.args.value.now) (chars rest) p c.args.pen.now c.write_step.new.pen)
+    (sym c.place_after-place.ensures) (still_rest first step) in
+    let more : LinesLeft c.args.folded limit n (chars c.args.value.now)
+    (chars (chars_rest c.chars-characters-in-Some.result)) placed c.args.pen.now c.write_run.new.self =
     run_more (λ before. lines_from c.args.folded limit n placed)
     (block_alone c.args.folded limit n c.loop-character.place placed c.in-Some.character (chars rest) c.place_after-place.ensures step)
     is_text run c.split_at.ensures.front behind still c.in_ok-write_run.ensures.written in
@@ -84,4 +90,5 @@ returns g c =
     let fits : SFits w32 c.args.indent = c.ranges.indent in
     let wide : SFits w32 c.args.width = c.ranges.width in
     let left = simp to_z-of_z at c.loop-character.invariant.0 in
-    (end_still (lines_from c.args.folded (limit_of c.args.width) (natural c.args.indent) c.loop-character.place) _ c.in_default.ensures.steps.0.0 left).writes _ _ c.go_on.ensures
+    (end_still (lines_from c.args.folded (limit_of c.args.width) (natural c.args.indent) c.loop-character.place) _ c.in_default.ensures.steps.0.0 left).writes _
+    _ c.go_on.ensures

@@ -8,7 +8,8 @@ use Rattle.yaml_scalar.proofs.classes.last_of.Goals as goal
 
 pub returns-in-Some : goal.returns-in-Some
 returns-in-Some c =
-    last-is c.args.before c.args.text.now _ c.in-Some.last c.utf8.text (rw c.in-Some.is at c.next_back.type_inv).1.1.1.1.0.1 (sym c.chars-characters.ensures.rest ∙ c.in-Some.ensures.steps)
+    last-is c.args.before c.args.text.now _ c.in-Some.last c.utf8.text (rw c.in-Some.is at c.next_back.type_inv).1.1.1.1.0.1
+    (sym c.chars-characters.ensures.rest ∙ c.in-Some.ensures.steps)
 
 pub returns-in-None : goal.returns-in-None
 returns-in-None c =

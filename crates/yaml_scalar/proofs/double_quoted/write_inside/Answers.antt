@@ -16,7 +16,8 @@ split_at-requires g c = c.run_after-run.ensures.boundary
 
 pub write_run-requires-clause-no_break : goal.write_run-requires-clause-no_break
 write_run-requires-clause-no_break g c =
-    run_unbroken _ (stays_unbroken c.args.quoting.unicode (limit_where c.args.quoting.allow_breaks c.args.quoting.width)) c.run_after-run.ensures c.split_at.ensures.front
+    run_unbroken _ (stays_unbroken c.args.quoting.unicode (limit_where c.args.quoting.allow_breaks c.args.quoting.width)) c.run_after-run.ensures
+    c.split_at.ensures.front
 
 pub loop-c-preserved : goal.loop-c-preserved
 loop-c-preserved g c =
@@ -27,7 +28,8 @@ loop-c-preserved g c =
     let rest : List ℕ = c.as_str-rest.result.now in
     let is_text = subst IsUtf8 (sym c.as_str-rest.ensures) (IsUtf8-past_char _ _ c.in-Some.c so_far.is_text c.in-Some.ensures.steps.0) in
     let behind = c.chars-chars-in-Some.ensures.rest ∙ c.split_at.ensures.back in
-    let first = character_still (double_inside quoting.unicode limit indent c.loop-c.before) c.in-Some.c _ _ rest so_far.is_text c.in-Some.ensures.steps.0 c.as_str-rest.ensures so_far.still in
+    let first = character_still (double_inside quoting.unicode limit indent c.loop-c.before) c.in-Some.c _ _ rest so_far.is_text c.in-Some.ensures.steps.0
+    c.as_str-rest.ensures so_far.still in
     record {
       is_text = subst IsUtf8 (sym behind) (IsUtf8-drop _ _ is_text c.run_after-run.ensures.boundary);
       still = run_more (inside_after quoting.unicode limit indent) (inside_alone quoting.unicode limit indent c.write_next.new.pen.cursor)
@@ -41,8 +43,10 @@ returns-in_err-write_next g c =
     let limit = limit_where quoting.allow_breaks quoting.width in
     let indent = natural quoting.indent in
     let rest : List ℕ = c.as_str-rest.result.now in
-    let first = character_still (double_inside quoting.unicode limit indent c.loop-c.before) c.in-Some.c _ _ rest so_far.is_text c.in-Some.ensures.steps.0 c.as_str-rest.ensures so_far.still in
-    wrote_exit c.from_residual.ensures (still_failed (double_inside quoting.unicode limit indent (Some c.in-Some.c) (chars rest)) first c.in_err-write_next.ensures)
+    let first = character_still (double_inside quoting.unicode limit indent c.loop-c.before) c.in-Some.c _ _ rest so_far.is_text c.in-Some.ensures.steps.0
+    c.as_str-rest.ensures so_far.still in
+    wrote_exit c.from_residual.ensures
+    (still_failed (double_inside quoting.unicode limit indent (Some c.in-Some.c) (chars rest)) first c.in_err-write_next.ensures)
 
 pub returns-in_err-write_run : goal.returns-in_err-write_run
 returns-in_err-write_run g c =
@@ -52,10 +56,12 @@ returns-in_err-write_run g c =
     let indent = natural quoting.indent in
     let rest : List ℕ = c.as_str-rest.result.now in
     let is_text = subst IsUtf8 (sym c.as_str-rest.ensures) (IsUtf8-past_char _ _ c.in-Some.c so_far.is_text c.in-Some.ensures.steps.0) in
-    let first = character_still (double_inside quoting.unicode limit indent c.loop-c.before) c.in-Some.c _ _ rest so_far.is_text c.in-Some.ensures.steps.0 c.as_str-rest.ensures so_far.still in
+    let first = character_still (double_inside quoting.unicode limit indent c.loop-c.before) c.in-Some.c _ _ rest so_far.is_text c.in-Some.ensures.steps.0
+    c.as_str-rest.ensures so_far.still in
     wrote_exit c.from_residual-in_err-write_run.ensures
     (run_failed (inside_after quoting.unicode limit indent) c.split_at.result.1.now (inside_alone quoting.unicode limit indent c.write_next.new.pen.cursor)
-    is_text c.run_after-run.ensures c.split_at.ensures.front c.split_at.ensures.back (still_rest first c.in_ok-write_next.ensures) c.in_err-write_run.ensures.written)
+    is_text c.run_after-run.ensures c.split_at.ensures.front c.split_at.ensures.back
+    (still_rest first c.in_ok-write_next.ensures) c.in_err-write_run.ensures.written)
 
 pub returns : goal.returns
 returns g c =

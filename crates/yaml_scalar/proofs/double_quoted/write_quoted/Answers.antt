@@ -19,7 +19,8 @@ returns g c =
     wrote_as
     (double_quoted_laid quoting.unicode (limit_where quoting.allow_breaks quoting.width) (natural quoting.indent) (chars c.args.value.now))
     (double-steps quoting.unicode (limit_where quoting.allow_breaks quoting.width) (natural quoting.indent) (chars c.args.value.now) c.args.pen.now.cursor)
-    (wrote_then (wrote_then (rw quote-text at c.in_ok-write_indicator.ensures.written) c.in_ok-write_inside.ensures) (rw quote-text at c.write_indicator-2.ensures.written))
+    (wrote_then (wrote_then (rw quote-text at c.in_ok-write_indicator.ensures.written) c.in_ok-write_inside.ensures)
+    (rw quote-text at c.write_indicator-2.ensures.written))
 
 pub returns-in_err-write_indicator : goal.returns-in_err-write_indicator
 returns-in_err-write_indicator g c =

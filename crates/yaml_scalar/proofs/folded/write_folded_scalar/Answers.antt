@@ -21,4 +21,5 @@ returns-clause-reads g c charset allowed column enclosing =
     let best = natural c.args.best_indent in
     let value = chars c.args.value.now in
     let wrote : Wrote (folded_laid (limit_of c.args.width) n best value) c.args.pen.now c.write_folded.new.pen (Ok tt) = search rules in
-    folded_back charset value allowed n best (indents c.args.indent c.args.best_indent c.requires.least c.requires.most c.requires.within) column enclosing (limit_of c.args.width) wrote
+    folded_back charset value allowed n best (indents c.args.indent c.args.best_indent c.requires.least c.requires.most c.requires.within) column enclosing
+    (limit_of c.args.width) wrote

@@ -27,7 +27,8 @@ returns-in_err-write_step g c =
     let limit = limit_where lines.allow_breaks lines.width in
     let rest : List ℕ = c.as_str-rest.result.now in
     let left = steps_laid (written_as lines.quoted) limit lines.indent in
-    let first = character_still (left (seen_kind c.loop-character.before)) c.in-Some.character _ _ rest so_far.is_text c.in-Some.ensures.steps.0 c.as_str-rest.ensures so_far.still in
+    let first = character_still (left (seen_kind c.loop-character.before)) c.in-Some.character _ _ rest so_far.is_text c.in-Some.ensures.steps.0
+    c.as_str-rest.ensures so_far.still in
     wrote_exit c.from_residual.ensures (still_failed (left (kind_of c.in-Some.character) (chars rest)) first c.in_err-write_step.ensures)
 
 pub returns-in_err-write_run : goal.returns-in_err-write_run
@@ -38,11 +39,13 @@ returns-in_err-write_run g c =
     let rest : List ℕ = c.as_str-rest.result.now in
     let is_text = subst IsUtf8 (sym c.as_str-rest.ensures) (IsUtf8-past_char _ _ c.in-Some.character so_far.is_text c.in-Some.ensures.steps.0) in
     let left = steps_laid (written_as lines.quoted) limit lines.indent in
-    let first = character_still (left (seen_kind c.loop-character.before)) c.in-Some.character _ _ rest so_far.is_text c.in-Some.ensures.steps.0 c.as_str-rest.ensures so_far.still in
+    let first = character_still (left (seen_kind c.loop-character.before)) c.in-Some.character _ _ rest so_far.is_text c.in-Some.ensures.steps.0
+    c.as_str-rest.ensures so_far.still in
     wrote_exit c.from_residual-in_err-write_run.ensures
     (standing_failed (lines_after lines.quoted limit lines.indent) c.split_at.result.1.now
     (line_stands lines.quoted limit lines.indent c.write_step.new.pen.cursor is_text c.run_after-run.ensures c.split_at.ensures.front)
-    is_text c.run_after-run.ensures.run c.split_at.ensures.front c.split_at.ensures.back (still_rest first c.in_ok-write_step.ensures) c.in_err-write_run.ensures.written)
+    is_text c.run_after-run.ensures.run c.split_at.ensures.front c.split_at.ensures.back
+    (still_rest first c.in_ok-write_step.ensures) c.in_err-write_run.ensures.written)
 
 pub loop-character-preserved : goal.loop-character-preserved
 loop-character-preserved g c =
@@ -53,10 +56,13 @@ loop-character-preserved g c =
     let rest : List ℕ = c.as_str-rest.result.now in
     let is_text = subst IsUtf8 (sym c.as_str-rest.ensures) (IsUtf8-past_char _ _ c.in-Some.character so_far.is_text c.in-Some.ensures.steps.0) in
     let behind = c.chars-characters-in-Some.ensures.rest ∙ c.split_at.ensures.back in
-    let first = character_still (steps_laid written limit lines.indent (seen_kind c.loop-character.before)) c.in-Some.character _ _ rest so_far.is_text c.in-Some.ensures.steps.0 c.as_str-rest.ensures so_far.still in
+    let first = character_still (steps_laid written limit lines.indent (seen_kind c.loop-character.before)) c.in-Some.character _ _ rest so_far.is_text
+    c.in-Some.ensures.steps.0 c.as_str-rest.ensures so_far.still in
     record {
       is_text = subst IsUtf8 (sym behind) (IsUtf8-drop _ _ is_text c.run_after-run.ensures.run.boundary);
-      still = subst (λ (kind : Kind). LinesLeft written limit lines.indent (seen_kind c.args.start) (chars c.args.value.now) (chars (chars_rest c.chars-characters-in-Some.result)) kind c.args.pen.now c.write_run.new.self)
+      still = subst (λ (kind : Kind).
+          LinesLeft written limit lines.indent (seen_kind c.args.start) (chars c.args.value.now)
+          (chars (chars_rest c.chars-characters-in-Some.result)) kind c.args.pen.now c.write_run.new.self)
           (sym c.kind_of-before.ensures)
           (standing_more (lines_after lines.quoted limit lines.indent)
           (line_stands lines.quoted limit lines.indent c.write_step.new.pen.cursor is_text c.run_after-run.ensures c.split_at.ensures.front)

@@ -11,6 +11,7 @@ use Rattle.yaml_scalar.specs.BlockSteps.{lines_from}
 use Rattle.yaml_scalar.specs.declared.block_lines.Place.TheVariants.{LineStart}
 use Rattle.yaml_scalar.proofs.BlockWrites.{some-literal}
 use Rattle.yaml_scalar.proofs.literal.write_literal.Goals as goal
+use Rattle.yaml_base.specs.Settings.{largest_i32}
 
 pub returns-in_err-write_header : goal.returns-in_err-write_header
 returns-in_err-write_header g c =
@@ -18,7 +19,7 @@ returns-in_err-write_header g c =
     let n = natural c.args.indent in
     let best = natural c.args.best_indent in
     let value = chars c.args.value.now in
-    let limit = limit_of (pos 2147483647) in
+    let limit = limit_of (pos largest_i32) in
     let header = simp to_z-of_z at c.in_err-write_header.ensures in
     wrote_exit c.from_residual.ensures
     (wrote_as (literal_laid n best value) (some-literal limit n best value c.args.pen.now.cursor c.requires.some)
@@ -28,11 +29,11 @@ pub returns : goal.returns
 returns g c =
     let fits : SFits w32 c.args.best_indent = c.ranges.best_indent in
     let deep : SFits w32 c.args.indent = c.ranges.indent in
-    let wide : SFits w32 (pos 2147483647) = search rules in
+    let wide : SFits w32 (pos largest_i32) = search rules in
     let n = natural c.args.indent in
     let best = natural c.args.best_indent in
     let value = chars c.args.value.now in
-    let limit = limit_of (pos 2147483647) in
+    let limit = limit_of (pos largest_i32) in
     let header = simp to_z-of_z at c.in_ok-write_header.ensures in
     let lines = simp to_z-of_z at c.write_lines.ensures in
     wrote_as (literal_laid n best value) (some-literal limit n best value c.args.pen.now.cursor c.requires.some)

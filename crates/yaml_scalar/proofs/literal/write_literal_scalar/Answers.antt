@@ -20,4 +20,5 @@ returns-clause-reads g c charset allowed column enclosing =
     let best = natural c.args.best_indent in
     let value = chars c.args.value.now in
     let wrote : Wrote (literal_laid n best value) c.args.pen.now c.write_literal.new.pen (Ok tt) = search rules in
-    literal_back charset value allowed n best (indents c.args.indent c.args.best_indent c.requires.least c.requires.most c.requires.within) column enclosing wrote
+    literal_back charset value allowed n best
+    (indents c.args.indent c.args.best_indent c.requires.least c.requires.most c.requires.within) column enclosing wrote

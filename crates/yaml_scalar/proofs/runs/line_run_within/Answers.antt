@@ -8,5 +8,6 @@ returns-else-room-eq0 c limit cursor room =
     record {
       folds = false;
       run = c.run_within.ensures.run (stays_in_line false c.args.quote) c.ending_classes.ensures;
-      room = λ _. room_less limit cursor.column c.args.room c.run_within.result.length c.run_within.ensures.within (room (positive c.args.room c.if-room-eq0.false));
+      room = λ _. room_less limit cursor.column c.args.room c.run_within.result.length c.run_within.ensures.within
+          (room (positive c.args.room c.if-room-eq0.false));
     }

@@ -9,6 +9,7 @@ use Rattle.yaml_scalar.proofs.single_quoted.write_single_quoted_scalar.Goals as 
 pub returns-clause-reads : goal.returns-clause-reads
 returns-clause-reads g c charset allowed =
     let limit = limit_where c.args.allow_breaks c.args.width in
-    let wrote : Wrote (single_quoted_laid limit (natural c.args.indent) (chars c.args.value.now)) c.args.pen.now c.write_laid.new.pen c.write_laid.result = search rules in
+    let wrote : Wrote (single_quoted_laid limit (natural c.args.indent) (chars c.args.value.now)) c.args.pen.now c.write_laid.new.pen
+    c.write_laid.result = search rules in
     single_back charset limit (natural c.args.indent) (chars c.args.value.now) c.write_laid.result
     (two_or_more c.args.indent c.requires.indented) allowed wrote

@@ -17,6 +17,8 @@ loop-character-preserved c =
     let before = c.loop-character.invariant in
     let split = c.in-Some.ensures.bytes in record {
       passed = one_passed c.args.text.now c.loop-character.rest.now c.in-Some.behind.now c.in-Some.character before.passed split;
-      free = still_free c.args.sign c.in-Some.character (chars (front_of c.args.text.now c.loop-character.rest.now)) (chars (front_of c.args.text.now c.in-Some.behind.now)) before.free c.if-character-sign.false (front_passed c.args.text.now c.loop-character.rest.now c.in-Some.behind.now c.in-Some.character before.passed split);
+      free = still_free c.args.sign c.in-Some.character (chars (front_of c.args.text.now c.loop-character.rest.now))
+          (chars (front_of c.args.text.now c.in-Some.behind.now)) before.free c.if-character-sign.false
+          (front_passed c.args.text.now c.loop-character.rest.now c.in-Some.behind.now c.in-Some.character before.passed split);
       within = omega (arith, c.in-Some.ensures.shorter);
     }

@@ -11,6 +11,8 @@ loop-left-preserved g c = record {
   utf8 = MatchOption-at_some _ _ _ c.in-Some-2.is c.in_ok-prefix.ensures.utf8;
   read =
       directive_read c.loop-left.directives.items c.push.new.self.items (record { handle = c.in-Some.handle; prefix = c.in-Some-2.prefix })
-      (fields_after (chars c.loop-left.left.now)) (fields_after (chars c.in-Some.others.now)) (fields_after (chars c.in-Some-2.others.now)) (option_and_then notation.directives_of (fields_after (chars c.args.rest.now)))
-      c.loop-left.invariant.read (MatchOption-at_some _ _ _ c.in-Some.is c.in_ok-handle.ensures.read) (MatchOption-at_some _ _ _ c.in-Some-2.is c.in_ok-prefix.ensures.read) c.in_ok-push.ensures.items;
+      (fields_after (chars c.loop-left.left.now)) (fields_after (chars c.in-Some.others.now)) (fields_after (chars c.in-Some-2.others.now))
+      (option_and_then notation.directives_of (fields_after (chars c.args.rest.now)))
+      c.loop-left.invariant.read (MatchOption-at_some _ _ _ c.in-Some.is c.in_ok-handle.ensures.read)
+      (MatchOption-at_some _ _ _ c.in-Some-2.is c.in_ok-prefix.ensures.read) c.in_ok-push.ensures.items;
 }

@@ -33,7 +33,8 @@ returns-then-separates-clause-cut c =
 pub returns-then-separates-clause-after : goal.returns-then-separates-clause-after
 returns-then-separates-clause-after c =
     let standing = seen_standing c.loop-character.standing in
-    separator_read standing c.in-Some.character (chars c.loop-character.rest.now) (chars c.in-Some.after.now) c.in-Some.ensures.characters (sym c.separates.ensures ∙ c.if-separates.true)
+    separator_read standing c.in-Some.character (chars c.loop-character.rest.now) (chars c.in-Some.after.now) c.in-Some.ensures.characters
+    (sym c.separates.ensures ∙ c.if-separates.true)
 
 pub loop-character-preserved : goal.loop-character-preserved
 loop-character-preserved c =
@@ -51,7 +52,8 @@ loop-character-preserved c =
     let passed = one_passed text rest after character before.passed c.in-Some.ensures.bytes in
     let cut =
     before.cut
-    ∙ goes_first standing character (chars (front_of text rest)) (chars (front_of text after)) (chars rest) (chars after) c.in-Some.ensures.characters is_not (front_passed text rest after character before.passed c.in-Some.ensures.bytes)
+    ∙ goes_first standing character (chars (front_of text rest)) (chars (front_of text after)) (chars rest) (chars after) c.in-Some.ensures.characters is_not
+    (front_passed text rest after character before.passed c.in-Some.ensures.bytes)
     ∙ ap (λ s. attached (chars (front_of text after)) (cut_from s (chars after))) (sym c.after-standing.ensures) in record {
       passed = past_run next text after end passed runs;
       cut = further_on next text after end (cut_from start (chars text)) passed runs cut;

@@ -9,7 +9,8 @@ use Rattle.yaml_tool.proofs.fields.first_piece.Given as goal
 abbrev pub invariant-loop-character : goal.invariant-loop-character
 invariant-loop-character l = record {
   passed : Passed l.fn.text l.rest;
-  cut : cut_from (seen_standing l.fn.start) (chars l.fn.text) ≡ attached (chars (front_of l.fn.text l.rest)) (cut_from (seen_standing l.standing) (chars l.rest));
+  cut : cut_from (seen_standing l.fn.start) (chars l.fn.text)
+      ≡ attached (chars (front_of l.fn.text l.rest)) (cut_from (seen_standing l.standing) (chars l.rest));
   within : length l.rest ≤ length l.fn.text;
 }
 

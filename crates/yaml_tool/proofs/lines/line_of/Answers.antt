@@ -8,9 +8,11 @@ use Rattle.yaml_tool.proofs.lines.line_of.Goals as goal
 
 pub returns-in-Some-2 : goal.returns-in-Some-2
 returns-in-Some-2 g c =
-    event_said c.in-Some-event_named.name (chars c.in-Some.word.now) (notation.fields_read (chars c.args.line.now)) (fields_after (chars c.in-Some.rest.now)) (seen_event c.in-Some-2.event)
+    event_said c.in-Some-event_named.name (chars c.in-Some.word.now) (notation.fields_read (chars c.args.line.now)) (fields_after (chars c.in-Some.rest.now))
+    (seen_event c.in-Some-2.event)
     c.in-Some-event_named.ensures c.in-Some.ensures (sym (ap (option_map seen_event) c.in-Some-2.is) ∙ c.in_ok-event-in-Some-event_named.ensures)
 
 pub returns-in-None-setting_in : goal.returns-in-None-setting_in
 returns-in-None-setting_in g c =
-    setting_said (chars c.in-Some.word.now) (notation.fields_read (chars c.args.line.now)) (fields_after (chars c.in-Some.rest.now)) None c.in-None.ensures c.in-Some.ensures c.in-None-setting_in.ensures
+    setting_said (chars c.in-Some.word.now) (notation.fields_read (chars c.args.line.now))
+    (fields_after (chars c.in-Some.rest.now)) None c.in-None.ensures c.in-Some.ensures c.in-None-setting_in.ensures

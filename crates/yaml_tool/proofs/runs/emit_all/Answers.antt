@@ -15,7 +15,8 @@ returns-in-Err g c given stands =
     let now = c.loop-numbered in
     let stood = now.invariant.5 given stands in
     inl
-    (refused_at given now.yielded c.in-Some.numbered (into_iter_items c.next.new.self) (into_iter_items now.numbered-iterator) c.args.events.items c.in-Err.error now.emitter c.yaml_emitter_emit.new.emitter
+    (refused_at given now.yielded c.in-Some.numbered (into_iter_items c.next.new.self)
+    (into_iter_items now.numbered-iterator) c.args.events.items c.in-Err.error now.emitter c.yaml_emitter_emit.new.emitter
     now.invariant.4 c.in-Some.ensures.steps.0 now.invariant.3 stood (some_told c.yaml_emitter_emit.new.emitter.error c.in-Err.error c.in-Err.ensures.answered)
     (c.yaml_emitter_emit.ensures.stands given (events_in (map seen_numbered now.yielded)) stood)
     (c.yaml_emitter_emit.ensures.promised given (events_in (map seen_numbered now.yielded)) stood) c.yaml_emitter_emit.ensures.grows)
@@ -27,7 +28,8 @@ loop-numbered-preserved g c =
       tt,
       c.yaml_emitter_emit.ensures.output,
       none_from_told c.yaml_emitter_emit.new.emitter.error c.in_default.ensures.answered,
-      parts_more now.yielded c.in-Some.numbered (into_iter_items c.next.new.self) (into_iter_items now.numbered-iterator) c.args.events.items now.invariant.4 c.in-Some.ensures.steps.0,
+      parts_more now.yielded c.in-Some.numbered (into_iter_items c.next.new.self)
+          (into_iter_items now.numbered-iterator) c.args.events.items now.invariant.4 c.in-Some.ensures.steps.0,
       λ given stands.
           subst (λ events. StandsAfter given events c.yaml_emitter_emit.new.emitter) (events_more now.yielded c.in-Some.numbered)
           (c.yaml_emitter_emit.ensures.stands given (events_in (map seen_numbered now.yielded)) (now.invariant.5 given stands)),
@@ -37,17 +39,24 @@ loop-numbered-preserved g c =
 pub returns-in-Some-last : goal.returns-in-Some-last
 returns-in-Some-last g c given stands =
     let now = c.loop-numbered in
-    let road = YieldsList-from_vec {s = c.into_iter-numbered-iterator.result} c.args.events.items c.into_iter-numbered-iterator.ensures.into_iter_gives.0 (c.into_iter-numbered-iterator.ensures.into_iter_gives.1 ∙ c.args.events.ok.0) in
-    let whole = ap (map seen_numbered) (sym (map-id now.yielded) ∙ (YieldsList-end road now.yielded now.numbered-iterator now.yielded_by c.next.result c.next.new.self c.in-None.is c.next.ensures.steps).0) in
-    ended_with given (map seen_numbered c.args.events.items) c.in-Some-last.line now.last c.flush_last.result now.emitter c.flush_last.new.emitter c.in-Some-last.is
+    let road = YieldsList-from_vec {s = c.into_iter-numbered-iterator.result} c.args.events.items c.into_iter-numbered-iterator.ensures.into_iter_gives.0
+    (c.into_iter-numbered-iterator.ensures.into_iter_gives.1 ∙ c.args.events.ok.0) in
+    let whole = ap (map seen_numbered)
+    (sym (map-id now.yielded) ∙ (YieldsList-end road now.yielded now.numbered-iterator now.yielded_by c.next.result c.next.new.self c.in-None.is
+    c.next.ensures.steps).0) in
+    ended_with given (map seen_numbered c.args.events.items) c.in-Some-last.line now.last c.flush_last.result now.emitter c.flush_last.new.emitter
+    c.in-Some-last.is
     (subst (λ all. StandsAfter given (events_in all) now.emitter) whole (now.invariant.5 given stands)) now.invariant.3
     (subst (λ all. LastLine all now.last now.emitter) whole now.invariant.6) c.flush_last.ensures
 
 pub returns-in-None-last : goal.returns-in-None-last
 returns-in-None-last g c given stands =
     let now = c.loop-numbered in
-    let road = YieldsList-from_vec {s = c.into_iter-numbered-iterator.result} c.args.events.items c.into_iter-numbered-iterator.ensures.into_iter_gives.0 (c.into_iter-numbered-iterator.ensures.into_iter_gives.1 ∙ c.args.events.ok.0) in
-    let whole = ap (map seen_numbered) (sym (map-id now.yielded) ∙ (YieldsList-end road now.yielded now.numbered-iterator now.yielded_by c.next.result c.next.new.self c.in-None.is c.next.ensures.steps).0) in
+    let road = YieldsList-from_vec {s = c.into_iter-numbered-iterator.result} c.args.events.items c.into_iter-numbered-iterator.ensures.into_iter_gives.0
+    (c.into_iter-numbered-iterator.ensures.into_iter_gives.1 ∙ c.args.events.ok.0) in
+    let whole = ap (map seen_numbered)
+    (sym (map-id now.yielded) ∙ (YieldsList-end road now.yielded now.numbered-iterator now.yielded_by c.next.result c.next.new.self c.in-None.is
+    c.next.ensures.steps).0) in
     let stood = subst (λ all. StandsAfter given (events_in all) now.emitter) whole (now.invariant.5 given stands) in
     ended_without given (map seen_numbered c.args.events.items) now.last now.emitter c.in-None-last.is stood
     (c.standing_is_promised.ensures given (events_in (map seen_numbered c.args.events.items)) now.emitter stood) now.invariant.3

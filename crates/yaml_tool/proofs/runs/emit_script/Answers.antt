@@ -10,7 +10,8 @@ pub returns-clause-told : goal.returns-clause-told
 returns-clause-told g c =
     let set = seen_settings c.args.script.settings in
     let emits = c.emit_all-answer.ensures set (subst (λ given. StandsAfter given [] c.set_all.new.emitter) c.set_all.ensures.given c.set_all.ensures.stands) in
-    told_written set (map seen_numbered c.args.script.events.items) c.emit_all-answer.result c.write_out.result c.emit_all-answer.new.emitter c.output.result.now
+    told_written set (map seen_numbered c.args.script.events.items) c.emit_all-answer.result c.write_out.result c.emit_all-answer.new.emitter
+    c.output.result.now
     (g.W.Write.contents c.args.writer.now) (g.W.Write.contents c.write_out.new.writer) emits c.output.ensures.value c.write_out.ensures
 
 pub returns-clause-unwritten : goal.returns-clause-unwritten

@@ -7,7 +7,8 @@ use Rattle.yaml_tool.proofs.scripts.read_script.Given as goal
 
 abbrev pub invariant-lines : goal.invariant-lines
 invariant-lines g l =
-    (notation.script_of l.bytes ≡ notation.script_from l.number (seen_progress l.progress) (cut_at line_feed l.rest)) × (l.number + length l.rest ≤ length l.bytes + 1)
+    (notation.script_of l.bytes ≡ notation.script_from l.number (seen_progress l.progress) (cut_at line_feed l.rest))
+    × (l.number + length l.rest ≤ length l.bytes + 1)
 
 abbrev pub decreases-lines : goal.decreases-lines
 decreases-lines g l = length l.rest

@@ -5,4 +5,5 @@ use Rattle.yaml_tool.proofs.settings.is_set.Given as goal
 
 abbrev pub invariant-loop-line : goal.invariant-loop-line
 invariant-loop-line l =
-    list_any (sets_same (seen_setting l.setting)) (map seen_setting l.lines) ≡ list_any (sets_same (seen_setting l.setting)) (map seen_setting (drop l.line-index l.lines))
+    list_any (sets_same (seen_setting l.setting)) (map seen_setting l.lines)
+    ≡ list_any (sets_same (seen_setting l.setting)) (map seen_setting (drop l.line-index l.lines))

@@ -16,7 +16,8 @@ returns-then-not-lies_within-clause-too_deep g c =
 pub returns-clause-too_deep : goal.returns-clause-too_deep
 returns-clause-too_deep g c =
     let on : c.lies_within.result ≡ true = search rules in
-    too_deep_apart c.written.result (seen_value c.args.value.now) (test_fits (seen_value c.args.value.now) (sym c.lies_within.ensures ∙ on)) c.written.ensures.memory
+    too_deep_apart c.written.result (seen_value c.args.value.now)
+    (test_fits (seen_value c.args.value.now) (sym c.lies_within.ensures ∙ on)) c.written.ensures.memory
 
 pub returns-clause-failed : goal.returns-clause-failed
 returns-clause-failed g c = memory_alone c.written.result c.written.ensures.memory

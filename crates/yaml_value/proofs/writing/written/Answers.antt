@@ -5,19 +5,25 @@ use Rattle.yaml_base.specs.declared.errors.yaml_error_t.TheVariants.{Memory}
 use Rattle.yaml_value.specs.SeenValues.{seen_value}
 use Rattle.yaml_value.proofs.WritingLemmas.{events_written, copy_written}
 use Rattle.yaml_value.proofs.writing.written.Goals as goal
+use Rattle.yaml_base.specs.Settings.{largest_usize}
 
 pub returns-in-Ok-clause-written : goal.returns-in-Ok-clause-written
 returns-in-Ok-clause-written g c =
     let value = seen_value c.args.value.now in
     let emitter = c.emit_each-answer.new.emitter in
-    let few = subst (λ bytes. length bytes < 18446744073709551615) c.output-output.ensures.value c.is_below_limit.ensures in
-    let both = events_written value (seen_events c.in_ok-events.events.items) c.emit_each-answer.result emitter c.in_ok-events.ensures.events c.requires c.in_ok-events.ensures.bits few (c.emit_each-answer.ensures.emits typed_settings [] c.in_ok-emitter.ensures.stands) in
-    copy_written c.copied.result value emitter.page.output c.output-output.result.now c.output-output.ensures.value (subst (λ answer. OnOk answer (WritesValue value emitter.page.output)) c.in-Ok.is both.0) c.copied.ensures.bytes
+    let few = subst (λ bytes. length bytes < largest_usize) c.output-output.ensures.value c.is_below_limit.ensures in
+    let both = events_written value
+    (seen_events c.in_ok-events.events.items) c.emit_each-answer.result emitter c.in_ok-events.ensures.events c.requires c.in_ok-events.ensures.bits few
+    (c.emit_each-answer.ensures.emits typed_settings [] c.in_ok-emitter.ensures.stands) in
+    copy_written c.copied.result value emitter.page.output c.output-output.result.now c.output-output.ensures.value
+    (subst (λ answer. OnOk answer (WritesValue value emitter.page.output)) c.in-Ok.is both.0) c.copied.ensures.bytes
 
 pub returns-clause-memory : goal.returns-clause-memory
 returns-clause-memory g c =
     let value = seen_value c.args.value.now in
     let emitter = c.emit_each-answer.new.emitter in
-    let few = subst (λ bytes. length bytes < 18446744073709551615) c.output-output.ensures.value c.is_below_limit.ensures in
-    let both = events_written value (seen_events c.in_ok-events.events.items) c.emit_each-answer.result emitter c.in_ok-events.ensures.events c.requires c.in_ok-events.ensures.bits few (c.emit_each-answer.ensures.emits typed_settings [] c.in_ok-emitter.ensures.stands) in
+    let few = subst (λ bytes. length bytes < largest_usize) c.output-output.ensures.value c.is_below_limit.ensures in
+    let both = events_written value
+    (seen_events c.in_ok-events.events.items) c.emit_each-answer.result emitter c.in_ok-events.ensures.events c.requires c.in_ok-events.ensures.bits few
+    (c.emit_each-answer.ensures.emits typed_settings [] c.in_ok-emitter.ensures.stands) in
     subst (λ answer. IfErr answer (λ error. error ≡ Memory)) c.in-Err.is both.1

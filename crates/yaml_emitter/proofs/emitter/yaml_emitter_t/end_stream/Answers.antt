@@ -10,19 +10,22 @@ pub invariant_of-self : goal.invariant_of-self
 invariant_of-self g c =
     kept_writing c.self.inside c.hand_out_stream_end.new.pen c.self.inside.stage c.self.inside.frames c.self.inside.mark c.self.invariant
     (output_behind c.self.inside c.self.invariant (behind_start (stage_inside c.self.inside c.self.view_is c.requires.stage) refl))
-    (fits_ready (state_of c.self.inside).stage c.hand_out_stream_end.new.pen (behind_start (stage_inside c.self.inside c.self.view_is c.requires.stage) refl) c.in_err-hand_out_stream_end.ensures.written.ready)
+    (fits_ready (state_of c.self.inside).stage c.hand_out_stream_end.new.pen
+    (behind_start (stage_inside c.self.inside c.self.view_is c.requires.stage) refl) c.in_err-hand_out_stream_end.ensures.written.ready)
 
 pub returns-in_err-hand_out_stream_end : goal.returns-in_err-hand_out_stream_end
 returns-in_err-hand_out_stream_end g c = λ empty.
     rw (← c.self.view_is)
     (processed_exit stream_end empty (state_of c.self.inside) _ c.in_err-hand_out_stream_end.field-0.0 c.from_residual.result c.from_residual.ensures
-    (stream_cut empty (state_of c.self.inside) c.args.first c.hand_out_stream_end.new.pen c.in_err-hand_out_stream_end.field-0.0 (stage_inside c.self.inside c.self.view_is c.requires.stage)
+    (stream_cut empty (state_of c.self.inside) c.args.first c.hand_out_stream_end.new.pen c.in_err-hand_out_stream_end.field-0.0
+    (stage_inside c.self.inside c.self.view_is c.requires.stage)
     c.in_err-hand_out_stream_end.ensures.written))
 
 pub invariant_of-self-2 : goal.invariant_of-self-2
 invariant_of-self-2 g c =
     kept_writing c.self.inside c.hand_out_stream_end.new.pen _ c.self.inside.frames c.self.inside.mark c.self.invariant
-    (output_behind c.self.inside c.self.invariant (behind_start (stage_inside c.self.inside c.self.view_is c.requires.stage) refl)) c.in_ok-hand_out_stream_end.ensures.written.ready
+    (output_behind c.self.inside c.self.invariant (behind_start (stage_inside c.self.inside c.self.view_is c.requires.stage) refl))
+    c.in_ok-hand_out_stream_end.ensures.written.ready
 
 pub returns : goal.returns
 returns g c = λ empty.

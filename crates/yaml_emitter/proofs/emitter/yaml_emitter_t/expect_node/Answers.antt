@@ -15,20 +15,28 @@ start_collection-requires-clause-names g c =
 
 pub returns-in-YAML_SEQUENCE_START_EVENT : goal.returns-in-YAML_SEQUENCE_START_EVENT
 returns-in-YAML_SEQUENCE_START_EVENT g c =
-    processed_as (seen_event c.args.event.now) (sequence_start (seen_collection c.collection_content-content.result (seen_sequence_style c.in-YAML_SEQUENCE_START_EVENT.style))) c.args.empty c.args.self.now c.start_collection.new.self c.start_collection.result
-    (ap seen_event c.in-YAML_SEQUENCE_START_EVENT.is ∙ ap sequence_start (sym (c.collection_content-content.ensures (seen_sequence_style c.in-YAML_SEQUENCE_START_EVENT.style))))
+    processed_as (seen_event c.args.event.now)
+    (sequence_start (seen_collection c.collection_content-content.result (seen_sequence_style c.in-YAML_SEQUENCE_START_EVENT.style))) c.args.empty
+    c.args.self.now c.start_collection.new.self c.start_collection.result
+    (ap seen_event c.in-YAML_SEQUENCE_START_EVENT.is
+    ∙ ap sequence_start (sym (c.collection_content-content.ensures (seen_sequence_style c.in-YAML_SEQUENCE_START_EVENT.style))))
     (c.start_collection.ensures (seen_sequence_style c.in-YAML_SEQUENCE_START_EVENT.style) (sym c.is_flow_sequence.ensures))
 
 pub start_collection-requires-in-YAML_MAPPING_START_EVENT-clause-names : goal.start_collection-requires-in-YAML_MAPPING_START_EVENT-clause-names
 start_collection-requires-in-YAML_MAPPING_START_EVENT-clause-names g c =
-    ap (λ (start : Collection). name_or_tag_fault c.args.self.now.given.canonical (mapping_start start)) (c.collection_content-content-in-YAML_MAPPING_START_EVENT.ensures any_layout)
+    ap (λ (start : Collection). name_or_tag_fault c.args.self.now.given.canonical (mapping_start start))
+    (c.collection_content-content-in-YAML_MAPPING_START_EVENT.ensures any_layout)
     ∙ sym (ap (λ e. name_or_tag_fault c.args.self.now.given.canonical (seen_event e)) c.in-YAML_MAPPING_START_EVENT.is)
     ∙ c.requires.names
 
 pub returns-in-YAML_MAPPING_START_EVENT : goal.returns-in-YAML_MAPPING_START_EVENT
 returns-in-YAML_MAPPING_START_EVENT g c =
-    processed_as (seen_event c.args.event.now) (mapping_start (seen_collection c.collection_content-content-in-YAML_MAPPING_START_EVENT.result (seen_mapping_style c.in-YAML_MAPPING_START_EVENT.style))) c.args.empty c.args.self.now c.start_collection-in-YAML_MAPPING_START_EVENT.new.self c.start_collection-in-YAML_MAPPING_START_EVENT.result
-    (ap seen_event c.in-YAML_MAPPING_START_EVENT.is ∙ ap mapping_start (sym (c.collection_content-content-in-YAML_MAPPING_START_EVENT.ensures (seen_mapping_style c.in-YAML_MAPPING_START_EVENT.style))))
+    processed_as (seen_event c.args.event.now)
+    (mapping_start (seen_collection c.collection_content-content-in-YAML_MAPPING_START_EVENT.result
+    (seen_mapping_style c.in-YAML_MAPPING_START_EVENT.style))) c.args.empty c.args.self.now c.start_collection-in-YAML_MAPPING_START_EVENT.new.self
+    c.start_collection-in-YAML_MAPPING_START_EVENT.result
+    (ap seen_event c.in-YAML_MAPPING_START_EVENT.is
+    ∙ ap mapping_start (sym (c.collection_content-content-in-YAML_MAPPING_START_EVENT.ensures (seen_mapping_style c.in-YAML_MAPPING_START_EVENT.style))))
     (c.start_collection-in-YAML_MAPPING_START_EVENT.ensures (seen_mapping_style c.in-YAML_MAPPING_START_EVENT.style) (sym c.is_flow_mapping.ensures))
 
 pub returns-in-YAML_ALIAS_EVENT : goal.returns-in-YAML_ALIAS_EVENT
@@ -39,7 +47,8 @@ returns-in-YAML_ALIAS_EVENT g c =
 
 pub returns-in-YAML_SCALAR_EVENT : goal.returns-in-YAML_SCALAR_EVENT
 returns-in-YAML_SCALAR_EVENT g c =
-    processed_as (seen_event c.args.event.now) (scalar (seen_scalar c.scalar_content.result)) c.args.empty c.args.self.now c.put_scalar.new.self c.put_scalar.result
+    processed_as (seen_event c.args.event.now)
+    (scalar (seen_scalar c.scalar_content.result)) c.args.empty c.args.self.now c.put_scalar.new.self c.put_scalar.result
     (ap seen_event c.in-YAML_SCALAR_EVENT.is ∙ ap scalar (sym c.scalar_content.ensures))
     (c.put_scalar.ensures c.args.empty)
 
@@ -50,5 +59,6 @@ returns-in-YAML_SEQUENCE_END_EVENT g c =
 
 pub returns-in-YAML_MAPPING_END_EVENT : goal.returns-in-YAML_MAPPING_END_EVENT
 returns-in-YAML_MAPPING_END_EVENT g c =
-    processed_as (seen_event c.args.event.now) mapping_end c.args.empty c.args.self.now c.end_collection-in-YAML_MAPPING_END_EVENT.new.self c.end_collection-in-YAML_MAPPING_END_EVENT.result
+    processed_as (seen_event c.args.event.now) mapping_end c.args.empty c.args.self.now c.end_collection-in-YAML_MAPPING_END_EVENT.new.self
+    c.end_collection-in-YAML_MAPPING_END_EVENT.result
     (ap seen_event c.in-YAML_MAPPING_END_EVENT.is) (c.end_collection-in-YAML_MAPPING_END_EVENT.ensures c.args.empty)

@@ -15,10 +15,12 @@ use Rattle.yaml_emitter.proofs.StandingSet.{stands_flushed}
 use Rattle.yaml_emitter.proofs.emitter.yaml_emitter_t.hand_out.Goals as goal
 
 pub invariant_of-self : goal.invariant_of-self
-invariant_of-self g c = kept_flushing c.self.inside c.flush.new.self c.flush.result c.self.invariant (has_output_inside c.self.inside c.self.view_is c.requires.output) c.flush.ensures.flushed c.flush.ensures.empty
+invariant_of-self g c = kept_flushing c.self.inside c.flush.new.self c.flush.result c.self.invariant
+    (has_output_inside c.self.inside c.self.view_is c.requires.output) c.flush.ensures.flushed c.flush.ensures.empty
 
 pub invariant_of-self-in-Err : goal.invariant_of-self-in-Err
-invariant_of-self-in-Err g c = kept_flushing c.self.inside c.flush.new.self c.flush.result c.self.invariant (has_output_inside c.self.inside c.self.view_is c.requires.output) c.flush.ensures.flushed c.flush.ensures.empty
+invariant_of-self-in-Err g c = kept_flushing c.self.inside c.flush.new.self c.flush.result c.self.invariant
+    (has_output_inside c.self.inside c.self.view_is c.requires.output) c.flush.ensures.flushed c.flush.ensures.empty
 
 pub returns-in-Ok-clause-stands : goal.returns-in-Ok-clause-stands
 returns-in-Ok-clause-stands g c given all stands =

@@ -7,7 +7,8 @@ use Rattle.yaml_emitter.proofs.emitter.yaml_emitter_t.process.Goals as goal
 pub returns-in_err-check_names : goal.returns-in_err-check_names
 returns-in_err-check_names g c =
     rw (← c.self.view_is)
-    (processed_exit (seen_event c.args.event.now) c.args.empty (state_of c.self.inside) (state_of c.self.inside) c.in_err-check_names.field-0.0 c.from_residual.result c.from_residual.ensures
+    (processed_exit (seen_event c.args.event.now) c.args.empty (state_of c.self.inside)
+    (state_of c.self.inside) c.in_err-check_names.field-0.0 c.from_residual.result c.from_residual.ensures
     (names_refused (seen_event c.args.event.now) c.args.empty (state_of c.self.inside) c.in_err-check_names.field-0.0 c.in_err-check_names.ensures))
 
 pub returns-in-Stream : goal.returns-in-Stream

@@ -22,20 +22,27 @@ invariant_of-self g c =
 pub returns-in_err-write_alias : goal.returns-in_err-write_alias
 returns-in_err-write_alias g c = λ empty.
     rw (← c.self.view_is)
-    (processed_exit (alias (chars c.args.name.now)) empty (state_of c.self.inside) _ c.in_err-write_alias.field-0.0 c.from_residual.result c.from_residual.ensures
-    (alias_cut (state_of c.self.inside) c.self.inside.directives c.self.inside.frames (chars c.args.name.now) empty c.is_simple_alias_key-simple.result _ c.write_alias.new.pen c.in_err-write_alias.field-0.0
-    (seen_at_node c.self.inside (at_node_inside c.self.inside c.self.view_is c.requires.stage)) c.requires.names c.next_place-place.ensures.place c.is_simple_alias_key-simple.ensures
+    (processed_exit (alias (chars c.args.name.now)) empty
+    (state_of c.self.inside) _ c.in_err-write_alias.field-0.0 c.from_residual.result c.from_residual.ensures
+    (alias_cut (state_of c.self.inside) c.self.inside.directives c.self.inside.frames
+    (chars c.args.name.now) empty c.is_simple_alias_key-simple.result _ c.write_alias.new.pen c.in_err-write_alias.field-0.0
+    (seen_at_node c.self.inside (at_node_inside c.self.inside c.self.view_is c.requires.stage)) c.requires.names c.next_place-place.ensures.place
+    c.is_simple_alias_key-simple.ensures
     (c.in_err-write_alias.ensures (state_of c.self.inside).mark)))
 
 pub invariant_of-self-2 : goal.invariant_of-self-2
 invariant_of-self-2 g c =
-    kept_advancing c.self.inside c.write_alias.new.pen c.advance-self-inside.result c.advance-self-inside.new.self c.self.inside.frames c.is_simple_alias_key-simple.result c.self.inside.mark c.self.invariant
-    (output_at_node c.self.inside c.self.invariant (at_node_inside c.self.inside c.self.view_is c.requires.stage)) (c.advance-self-inside.ensures.stage c.self.inside.directives) (c.in_ok-write_alias.ensures 0).ready
+    kept_advancing c.self.inside c.write_alias.new.pen c.advance-self-inside.result c.advance-self-inside.new.self c.self.inside.frames
+    c.is_simple_alias_key-simple.result c.self.inside.mark c.self.invariant
+    (output_at_node c.self.inside c.self.invariant (at_node_inside c.self.inside c.self.view_is c.requires.stage))
+    (c.advance-self-inside.ensures.stage c.self.inside.directives) (c.in_ok-write_alias.ensures 0).ready
 
 pub returns : goal.returns
 returns g c = λ empty.
     rw (← c.self.view_is)
-    (alias_written (state_of c.self.inside) c.self.inside.directives c.self.inside.frames (chars c.args.name.now) empty c.is_simple_alias_key-simple.result _ _ c.write_alias.new.pen
-    (seen_at_node c.self.inside (at_node_inside c.self.inside c.self.view_is c.requires.stage)) c.requires.names c.next_place-place.ensures.place c.is_simple_alias_key-simple.ensures
+    (alias_written (state_of c.self.inside) c.self.inside.directives c.self.inside.frames
+    (chars c.args.name.now) empty c.is_simple_alias_key-simple.result _ _ c.write_alias.new.pen
+    (seen_at_node c.self.inside (at_node_inside c.self.inside c.self.view_is c.requires.stage)) c.requires.names c.next_place-place.ensures.place
+    c.is_simple_alias_key-simple.ensures
     (c.advance-self-inside.ensures.stage c.self.inside.directives)
     (c.in_ok-write_alias.ensures (state_of c.self.inside).mark))

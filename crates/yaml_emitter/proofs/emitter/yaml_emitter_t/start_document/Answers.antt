@@ -15,12 +15,18 @@ use Rattle.yaml_emitter.proofs.emitter.yaml_emitter_t.start_document.Goals as go
 
 pub invariant_of-self : goal.invariant_of-self
 invariant_of-self g c =
-    kept_without c.self.inside c.replace-before.new.dest c.args.first (c.replace-before.ensures.after ∙ c.new.ensures) (stage_inside c.self.inside c.self.view_is c.requires.stage) c.self.invariant
+    kept_without c.self.inside c.replace-before.new.dest c.args.first (c.replace-before.ensures.after ∙ c.new.ensures)
+    (stage_inside c.self.inside c.self.view_is c.requires.stage) c.self.invariant
 
 pub returns-in_err-directives : goal.returns-in_err-directives
 returns-in_err-directives g c = λ empty.
-    let start : DocumentStart = record { version = option_map seen_version c.args.version; directives = map seen_directive c.args.own.now; implicit = c.args.implicit } in
-    let same = seen_without c.self.inside c.replace-before.new.dest c.args.first (stage_inside c.self.inside c.self.view_is c.requires.stage) ∙ c.self.view_is in
+    let start : DocumentStart = record {
+      version = option_map seen_version c.args.version;
+      directives = map seen_directive c.args.own.now;
+      implicit = c.args.implicit;
+    } in
+    let same = seen_without c.self.inside c.replace-before.new.dest c.args.first (stage_inside c.self.inside c.self.view_is c.requires.stage)
+    ∙ c.self.view_is in
     subst (λ (s : State). Processed (document_start start) empty c.args.self.now s c.from_residual.result) (sym same)
     (processed_exit (document_start start) empty c.args.self.now c.args.self.now c.in_err-directives.field-0.0 c.from_residual.result c.from_residual.ensures
     (document_refused empty c.args.self.now c.args.first start c.in_err-directives.field-0.0 c.requires.stage c.in_err-directives.ensures.refusal))
@@ -39,18 +45,26 @@ invariant_of-self-in_err-write_document_start g c =
     (kept_without c.self.inside c.replace-before.new.dest c.args.first (c.replace-before.ensures.after ∙ c.new.ensures) at c.self.invariant)
     (output_behind c.self.inside c.self.invariant (behind_start (stage_inside c.self.inside c.self.view_is c.requires.stage) refl))
     (fits_ready (state_of emptied).stage c.write_document_start.new.pen
-    (behind_start (ap (λ (s : State). s.stage) (seen_without c.self.inside c.replace-before.new.dest c.args.first at) ∙ at) refl) c.write_document_start.ensures.ready)
+    (behind_start (ap (λ (s : State). s.stage) (seen_without c.self.inside c.replace-before.new.dest c.args.first at) ∙ at) refl)
+    c.write_document_start.ensures.ready)
 
 pub returns-in_err-write_document_start : goal.returns-in_err-write_document_start
 returns-in_err-write_document_start g c = λ empty.
-    let start : DocumentStart = record { version = option_map seen_version c.args.version; directives = map seen_directive c.args.own.now; implicit = c.args.implicit } in
+    let start : DocumentStart = record {
+      version = option_map seen_version c.args.version;
+      directives = map seen_directive c.args.own.now;
+      implicit = c.args.implicit;
+    } in
     let emptied = record c.self.inside { directives = c.replace-before.new.dest } in
     let at = stage_inside c.self.inside c.self.view_is c.requires.stage in
     let same = seen_without c.self.inside c.replace-before.new.dest c.args.first at in
     let after = record (state_of emptied) { page = c.write_document_start.new.pen } in
     subst (λ (s : State). Processed (document_start start) empty s after c.from_residual-in_err-write_document_start.result) (same ∙ c.self.view_is)
-    (processed_exit (document_start start) empty (state_of emptied) after c.in_err-write_document_start.field-0.0 c.from_residual-in_err-write_document_start.result c.from_residual-in_err-write_document_start.ensures
-    (document_start_cut empty (state_of emptied) c.args.first start c.write_document_start.new.pen c.in_err-write_document_start.field-0.0 (ap (λ (s : State). s.stage) same ∙ at)
+    (processed_exit (document_start start) empty
+    (state_of emptied) after c.in_err-write_document_start.field-0.0 c.from_residual-in_err-write_document_start.result
+    c.from_residual-in_err-write_document_start.ensures
+    (document_start_cut empty (state_of emptied) c.args.first start c.write_document_start.new.pen c.in_err-write_document_start.field-0.0
+    (ap (λ (s : State). s.stage) same ∙ at)
     (sym (c.in_ok-directives.ensures.refusal (λ h. cc))) c.in_err-write_document_start.ensures))
 
 pub invariant_of-self-2 : goal.invariant_of-self-2
@@ -61,12 +75,18 @@ invariant_of-self-2 g c =
     (ap some_handle_breaks c.in_ok-directives.ensures.in_force
     ∙ sound_in_force own
     (sound_handles own
-    (none_behind (option_and_then version_fault (option_map seen_version c.args.version)) (directives_fault own) (sym (c.in_ok-directives.ensures.refusal (λ h. cc))))))
+    (none_behind (option_and_then version_fault (option_map seen_version c.args.version)) (directives_fault own)
+    (sym (c.in_ok-directives.ensures.refusal (λ h. cc))))))
     c.write_document_start.ensures.ready
 
 pub returns : goal.returns
 returns g c = λ empty.
-    let start : DocumentStart = record { version = option_map seen_version c.args.version; directives = map seen_directive c.args.own.now; implicit = c.args.implicit } in
+    let start : DocumentStart = record {
+      version = option_map seen_version c.args.version;
+      directives = map seen_directive c.args.own.now;
+      implicit = c.args.implicit;
+    } in
     rw (← c.self.view_is)
-    (document_begun empty (state_of c.self.inside) c.args.first start c.write_document_start.new.pen c.in_ok-directives.directives c.clear.new.self (stage_inside c.self.inside c.self.view_is c.requires.stage)
+    (document_begun empty (state_of c.self.inside) c.args.first start c.write_document_start.new.pen c.in_ok-directives.directives c.clear.new.self
+    (stage_inside c.self.inside c.self.view_is c.requires.stage)
     (sym (c.in_ok-directives.ensures.refusal (λ h. cc))) c.in_ok-write_document_start.ensures c.in_ok-directives.ensures.in_force c.clear.ensures)

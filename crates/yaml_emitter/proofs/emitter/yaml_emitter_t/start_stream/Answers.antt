@@ -25,7 +25,9 @@ pub returns : goal.returns
 returns g c = λ empty.
     let s = seen_effective c.effective-self-inside.result in
     rw (← c.self.view_is)
-    (stream_started empty (state_of c.self.inside) (seen_encoding c.args.encoding) s c.begin_page.new.pen (stage_inside c.self.inside c.self.view_is c.requires.stage)
+    (stream_started empty (state_of c.self.inside) (seen_encoding c.args.encoding) s c.begin_page.new.pen
+    (stage_inside c.self.inside c.self.view_is c.requires.stage)
     c.effective-self-inside.ensures.gives
     (c.begin_page.ensures
-    ∙ ap (λ (e : Option Encoding). let p : Page = record c.self.inside.pen { encoding = e; line_break = s.line_break; mark_due = false } in p) (given_is_there (seen_encoding c.effective-self-inside.result.encoding) utf8 c.effective-self-inside.ensures.encoding)))
+    ∙ ap (λ (e : Option Encoding). let p : Page = record c.self.inside.pen { encoding = e; line_break = s.line_break; mark_due = false } in p)
+    (given_is_there (seen_encoding c.effective-self-inside.result.encoding) utf8 c.effective-self-inside.ensures.encoding)))

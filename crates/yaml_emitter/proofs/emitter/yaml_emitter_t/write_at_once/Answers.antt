@@ -28,14 +28,16 @@ pub returns-in-Ok-clause-grows : goal.returns-in-Ok-clause-grows
 returns-in-Ok-clause-grows g c =
     let event = seen_event c.args.event.now in
     let before : State = record c.args.self.now { held = event ∷ [] } in
-    took_grows before c.process.new.self c.process.result (took_alone event c.args.self.now c.process.new.self c.process.result c.requires.alone c.process.ensures)
+    took_grows before c.process.new.self c.process.result
+    (took_alone event c.args.self.now c.process.new.self c.process.result c.requires.alone c.process.ensures)
 
 pub returns-in-Err-clause-grows : goal.returns-in-Err-clause-grows
 returns-in-Err-clause-grows g c =
     let event = seen_event c.args.event.now in
     let before : State = record c.args.self.now { held = event ∷ [] } in
     subst (λ (s : State). Grows c.args.self.now.page s.page) (sym c.fail.ensures)
-    (took_grows before c.process.new.self c.process.result (took_alone event c.args.self.now c.process.new.self c.process.result c.requires.alone c.process.ensures))
+    (took_grows before c.process.new.self c.process.result
+    (took_alone event c.args.self.now c.process.new.self c.process.result c.requires.alone c.process.ensures))
 
 pub returns-in-Ok-clause-set : goal.returns-in-Ok-clause-set
 returns-in-Ok-clause-set g c = processed_keeps_set (seen_event c.args.event.now) false c.args.self.now c.process.new.self (Ok tt) c.in-Ok.ensures

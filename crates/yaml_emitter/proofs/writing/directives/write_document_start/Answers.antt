@@ -8,8 +8,14 @@ use Rattle.yaml_emitter.proofs.writing.directives.write_document_start.Goals as 
 pub returns : goal.returns
 returns g c =
     wrote_document_start (seen_effective c.args.settings.now) c.args.first
-    (record { version = option_map seen_version c.args.start.now.version; directives = map seen_directive c.args.start.now.directives.now; implicit = c.args.start.now.implicit })
+    (record {
+      version = option_map seen_version c.args.start.now.version;
+      directives = map seen_directive c.args.start.now.directives.now;
+      implicit = c.args.start.now.implicit;
+    })
     (seen_mark c.args.mark)
     (c.closes_before-closes.ensures ∙ ap (λ (d : Bool). d && not (seen_mark c.args.mark == 0)) c.has_directives-directed.ensures)
-    (c.is_explicit-explicit.ensures ∙ ap (λ (d : Bool). not c.args.start.now.implicit || not c.args.first || (c.args.settings.now.canonical || c.args.settings.now.portable) || d) c.has_directives-directed.ensures)
+    (c.is_explicit-explicit.ensures
+    ∙ ap (λ (d : Bool). not c.args.start.now.implicit || not c.args.first || (c.args.settings.now.canonical || c.args.settings.now.portable) || d)
+    c.has_directives-directed.ensures)
     c.write_document_head.ensures

@@ -5,4 +5,5 @@ use Rattle.yaml_emitter.proofs.writing.documents.write_closing_mark.Goals as goa
 
 pub returns : goal.returns
 returns g c =
-    wrote_as (laid_if c.args.asked closing_mark_laid) (c.closing_signs.ensures.laid (seen_effective c.args.settings.now) c.args.pen.now.cursor) c.write_outside.ensures
+    wrote_as (laid_if c.args.asked closing_mark_laid)
+    (c.closing_signs.ensures.laid (seen_effective c.args.settings.now) c.args.pen.now.cursor) c.write_outside.ensures

@@ -7,4 +7,5 @@ use Rattle.yaml_emitter.proofs.writing.documents.write_document_end.Goals as goa
 pub returns : goal.returns
 returns g c = λ mark.
     wrote_document_end c.args.implicit mark
-    (wrote_as (document_end_laid c.args.implicit) (c.document_end_signs.ensures.laid (seen_effective c.args.settings.now) c.args.pen.now.cursor) c.write_outside.ensures)
+    (wrote_as (document_end_laid c.args.implicit)
+    (c.document_end_signs.ensures.laid (seen_effective c.args.settings.now) c.args.pen.now.cursor) c.write_outside.ensures)

@@ -1,4 +1,4 @@
-use Rattle.std.proofs.Common.{Option, option_map, sym, ap, ◌∙◌}
+use Rattle.std.proofs.Common.{option_map, sym, ap, ◌∙◌}
 use Rattle.yaml_base.specs.Layout.{version_laid}
 use Rattle.yaml_base.specs.Seen.{seen_version}
 use Rattle.yaml_pen.proofs.Composing.{wrote_as}

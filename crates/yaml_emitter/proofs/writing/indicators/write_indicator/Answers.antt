@@ -16,5 +16,6 @@ pub returns : goal.returns
 returns g c =
     let row = c.row-row.result in
     subst (λ (sign : Indicator). Wrote (indicator_laid sign) c.args.pen.now c.write_indicator.new.self c.write_indicator.result) c.row-row.ensures.row
-    (subst (λ (text : List ℕ). Wrote (indicator text row.needs_space row.leaves_space row.keeps_indention) c.args.pen.now c.write_indicator.new.self c.write_indicator.result)
+    (subst (λ (text : List ℕ). Wrote
+    (indicator text row.needs_space row.leaves_space row.keeps_indention) c.args.pen.now c.write_indicator.new.self c.write_indicator.result)
     (sign-chars row.text.now c.row-row.ensures.sign) c.write_indicator.ensures.written)

@@ -1,10 +1,9 @@
-use Rattle.std.proofs.Common.{refl, sym, true, false}
+use Rattle.std.proofs.Common.{refl}
 use Rattle.yaml_base.specs.Steps.{is_first}
 use Rattle.yaml_emitter.specs.Given.{seen_effective}
 use Rattle.yaml_emitter.specs.NodeEvents.{brackets_of}
 use Rattle.yaml_emitter.specs.Places.{seen_place, seen_role}
 use Rattle.yaml_emitter.specs.WrittenSigns.{signs_laid}
-use Rattle.yaml_base.specs.Cursor.{nothing_laid}
 use Rattle.yaml_emitter.proofs.SignsWritten.{end_in_flow, end_in_block}
 use Rattle.yaml_emitter.proofs.writing.nodes.write_collection_end.Goals as goal
 
@@ -14,10 +13,12 @@ returns-then-frame g c = λ mark.
     let place = seen_place c.args.outer.now.place in
     let frame = c.args.frame.now in
     end_in_flow s (brackets_of c.args.mapping) frame.place.in_flow (is_first (seen_role frame.place.role)) c.is_first-empty.result place.column mark
-    (signs_laid s place c.flow_end_signs.result) (λ cursor. c.flow_end_signs.ensures.laid s place cursor refl) c.is_first-empty.ensures c.if-frame.true c.write_signs.ensures
+    (signs_laid s place c.flow_end_signs.result)
+    (λ cursor. c.flow_end_signs.ensures.laid s place cursor refl) c.is_first-empty.ensures c.if-frame.true c.write_signs.ensures
 
 pub returns-else-frame : goal.returns-else-frame
 returns-else-frame g c = λ mark.
     let frame = c.args.frame.now in
-    end_in_block (seen_effective c.args.outer.now.settings.now) (brackets_of c.args.mapping) frame.place.in_flow (is_first (seen_role frame.place.role)) c.args.outer.now.place.column mark
+    end_in_block (seen_effective c.args.outer.now.settings.now) (brackets_of c.args.mapping) frame.place.in_flow
+    (is_first (seen_role frame.place.role)) c.args.outer.now.place.column mark
     c.if-frame.false c.write_nothing.ensures

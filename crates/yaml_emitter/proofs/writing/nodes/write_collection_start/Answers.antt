@@ -17,6 +17,8 @@ returns-clause-written g c = λ directives style mark spelled.
     let s = seen_effective site.settings.now in
     let anchor = seen_name c.args.content.now.anchor in
     let tag = collection_tag s.canonical (seen_collection c.args.content.now style) in
-    let lead = λ (cursor : Cursor). then_laid (place_laid s (seen_place site.place) site.simple cursor) (properties_laid s.portable directives anchor tag false) in
+    let lead = λ (cursor : Cursor).
+    then_laid (place_laid s (seen_place site.place) site.simple cursor) (properties_laid s.portable directives anchor tag false) in
     wrote_lead lead mark
-    (wrote_as lead (lead-spelled s directives (seen_place site.place) site.simple anchor tag (seen_tag c.args.tag) false c.args.pen.now.cursor spelled) c.write_lead.ensures)
+    (wrote_as lead (lead-spelled s directives (seen_place site.place) site.simple anchor tag (seen_tag c.args.tag) false c.args.pen.now.cursor spelled)
+    c.write_lead.ensures)

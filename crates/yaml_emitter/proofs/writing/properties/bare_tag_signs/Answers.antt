@@ -1,4 +1,4 @@
-use Rattle.std.proofs.Common.{Bool, true, None, List, ℕ, [], ◌∷◌, refl, sym, ap, ◌∙◌}
+use Rattle.std.proofs.Common.{Bool, None, List, ℕ, [], ◌∷◌, refl, sym, ap, ◌∙◌}
 use Rattle.std.specs.List.{list_any}
 use Rattle.yaml_base.specs.Characters.{is_break}
 use Rattle.yaml_base.specs.Layout.{handle_laid}
@@ -11,4 +11,5 @@ returns-then-bare-clause-whole c = ap (list_any is_break) (sign-chars (33 ∷ []
 
 pub returns-then-bare-clause-laid : goal.returns-then-bare-clause-laid
 returns-then-bare-clause-laid c s place cursor =
-    ap (λ (text : List ℕ). handle_laid text cursor) (sign-chars (33 ∷ []) refl) ∙ ap (λ (bare : Bool). spelled_tag_laid s.portable None bare cursor) (sym c.if-bare.true)
+    ap (λ (text : List ℕ). handle_laid text cursor) (sign-chars (33 ∷ []) refl)
+    ∙ ap (λ (bare : Bool). spelled_tag_laid s.portable None bare cursor) (sym c.if-bare.true)

@@ -14,7 +14,10 @@ returns-clause-choice c =
     if_ok_from _ _ _ c.select_scalar_style.result
     (λ given holds.
     holds.1
-    ∙ ap (λ (a : Allowances). chosen a content.style c.is_empty_value.result c.args.tag_written content.plain_implicit content.quoted_implicit flow c.args.site.now.simple canonical) c.analyze_scalar-data.ensures
-    ∙ ap (λ (e : Bool). chosen allowed content.style e c.args.tag_written content.plain_implicit content.quoted_implicit flow c.args.site.now.simple canonical) c.is_empty_value.ensures
-    ∙ ap (λ (t : Bool). chosen allowed content.style (is_empty content.value) t content.plain_implicit content.quoted_implicit flow c.args.site.now.simple canonical) c.requires.tag)
+    ∙ ap (λ (a : Allowances). chosen a content.style c.is_empty_value.result c.args.tag_written content.plain_implicit content.quoted_implicit flow
+    c.args.site.now.simple canonical) c.analyze_scalar-data.ensures
+    ∙ ap (λ (e : Bool). chosen allowed content.style e c.args.tag_written content.plain_implicit content.quoted_implicit flow c.args.site.now.simple canonical)
+    c.is_empty_value.ensures
+    ∙ ap (λ (t : Bool). chosen allowed content.style
+    (is_empty content.value) t content.plain_implicit content.quoted_implicit flow c.args.site.now.simple canonical) c.requires.tag)
     c.select_scalar_style.ensures

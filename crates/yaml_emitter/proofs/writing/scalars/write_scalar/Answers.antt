@@ -1,6 +1,5 @@
 use Rattle.std.proofs.Common.{ap, ◌∙◌}
 use Rattle.yaml_base.specs.Layout.{deeper}
-use Rattle.yaml_base.specs.Refusal.{scalar_tag}
 use Rattle.yaml_base.specs.Style.{Choice}
 use Rattle.yaml_base.specs.Seen.{seen_scalar_style}
 use Rattle.yaml_pen.proofs.Composing.{wrote_then, wrote_failed}
@@ -9,7 +8,6 @@ use Rattle.yaml_emitter.specs.Given.{seen_effective}
 use Rattle.yaml_emitter.specs.Places.{seen_place}
 use Rattle.yaml_emitter.specs.ScalarTexts.{scalar_text_laid, style_fits}
 use Rattle.yaml_emitter.specs.WrittenPieces.{seen_mark}
-use Rattle.yaml_emitter.specs.WrittenSigns.{seen_tag}
 use Rattle.yaml_emitter.proofs.WritingScalars.{wrote_exit_from, wrote_scalar, chosen_fits}
 use Rattle.yaml_emitter.proofs.writing.scalars.write_scalar.Goals as goal
 

@@ -1,10 +1,7 @@
-use Rattle.std.proofs.Common.{false, ap}
-use Rattle.std.proofs.lemmas.Bool.{or_parts}
-use Rattle.yaml_base.specs.Cursor.{Cursor, Laid}
 use Rattle.yaml_pen.proofs.Composing.{wrote_exit, wrote_failed, wrote_then}
 use Rattle.yaml_emitter.specs.Given.{seen_effective}
 use Rattle.yaml_emitter.specs.Places.{seen_place}
-use Rattle.yaml_emitter.specs.WrittenSigns.{sign_laid, sign_breaks}
+use Rattle.yaml_emitter.specs.WrittenSigns.{sign_laid}
 use Rattle.yaml_emitter.specs.declared.writing.signs.Sign.{Sign}
 use Rattle.yaml_emitter.proofs.writing.signs.write_signs.Goals as goal
 

@@ -11,7 +11,8 @@ returns-in_err-write_single_quoted_scalar-clause-written g c =
     let indent_fits : SFits w32 c.line_indent-indent.result = search rules in
     wrote_exit_from c.from_residual.result c.from_residual.ensures
     (wrote_single c.args.site.now.settings.now c.args.site.now.place.in_flow c.args.site.now.simple (chars c.args.value.now)
-    (to_z-of_z w32 c.line_indent-indent.result indent_fits ∙ c.line_indent-indent.ensures.value) (to_z-of_z w32 c.args.site.now.settings.now.width fits) c.args.site.now.settings.now.counts
+    (to_z-of_z w32 c.line_indent-indent.result indent_fits ∙ c.line_indent-indent.ensures.value)
+    (to_z-of_z w32 c.args.site.now.settings.now.width fits) c.args.site.now.settings.now.counts
     c.in_err-write_single_quoted_scalar.ensures.written)
 
 pub returns-clause-written : goal.returns-clause-written
@@ -19,5 +20,6 @@ returns-clause-written g c =
     let fits : SFits w32 c.args.site.now.settings.now.width = search rules in
     let indent_fits : SFits w32 c.line_indent-indent.result = search rules in
     wrote_single c.args.site.now.settings.now c.args.site.now.place.in_flow c.args.site.now.simple (chars c.args.value.now)
-    (to_z-of_z w32 c.line_indent-indent.result indent_fits ∙ c.line_indent-indent.ensures.value) (to_z-of_z w32 c.args.site.now.settings.now.width fits) c.args.site.now.settings.now.counts
+    (to_z-of_z w32 c.line_indent-indent.result indent_fits ∙ c.line_indent-indent.ensures.value)
+    (to_z-of_z w32 c.args.site.now.settings.now.width fits) c.args.site.now.settings.now.counts
     c.in_ok-write_single_quoted_scalar.ensures.written

@@ -19,7 +19,8 @@ returns-in_err-write_spaces_to-clause-written g c =
 
 pub returns-clause-written : goal.returns-clause-written
 returns-clause-written g c =
-    let line = wrote_as (line_begun c.args.at) (break-then-spaces c.args.at c.args.self.now.cursor) (wrote_then c.in_ok-break_line.ensures.written c.in_ok-write_spaces_to.ensures.written) in
+    let line = wrote_as (line_begun c.args.at) (break-then-spaces c.args.at c.args.self.now.cursor)
+    (wrote_then c.in_ok-break_line.ensures.written c.in_ok-write_spaces_to.ensures.written) in
     wrote_changing (λ (cursor : Cursor). record cursor { indention = true })
     (wrote_changing (λ (cursor : Cursor). record cursor { whitespace = true }) line c.set_whitespace.ensures)
     c.set_indention.ensures

@@ -13,7 +13,8 @@ invariant_of-self-2 g c =
     let is_utf8 = unmarked _ ready.begun (ap (λ (p : Page). has_mark p.encoding) c.self.view_is ∙ c.requires.unmarked) in
     let bytes = ascii-bytes c.args.text.now c.requires.ascii in
     let adds = Adds-appended utf8 text _ c.self.inside.outlet c.append.new.self c.in_ok-append.ensures bytes in
-    IsPen-added utf8 text c.self.inside.encoding c.self.inside.line_break c.self.inside.outlet c.append.new.self c.self.inside.whitespace c.self.inside.indention
+    IsPen-added utf8 text c.self.inside.encoding c.self.inside.line_break c.self.inside.outlet c.append.new.self c.self.inside.whitespace
+    c.self.inside.indention
     c.self.inside.mark_due c.self.inside.column _ c.self.invariant ready.marked is_utf8 (ascii-scalars c.args.text.now c.requires.ascii) adds
     (c.saturating_add-self-inside.ensures ∙ piece-column text _ c.self.inside.column (length text) c.requires.no_break c.self.invariant.column refl)
 
@@ -24,6 +25,8 @@ returns-clause-written g c =
     let is_utf8 = unmarked _ ready.begun (ap (λ (p : Page). has_mark p.encoding) c.self.view_is ∙ c.requires.unmarked) in
     let bytes = ascii-bytes c.args.text.now c.requires.ascii in
     let adds = Adds-appended utf8 text _ c.self.inside.outlet c.append.new.self c.in_ok-append.ensures bytes in
-    Wrote-added utf8 text c.self.inside.encoding c.self.inside.line_break c.self.inside.outlet c.append.new.self c.self.inside.whitespace c.self.inside.indention
-    c.self.inside.mark_due c.self.inside.column c.args.self.now (text_laid text) c.self.invariant is_utf8 (ascii-scalars c.args.text.now c.requires.ascii) adds c.self.view_is
+    Wrote-added utf8 text c.self.inside.encoding c.self.inside.line_break c.self.inside.outlet c.append.new.self c.self.inside.whitespace
+    c.self.inside.indention
+    c.self.inside.mark_due c.self.inside.column c.args.self.now (text_laid text) c.self.invariant is_utf8
+    (ascii-scalars c.args.text.now c.requires.ascii) adds c.self.view_is
     c.requires.ready (Names-run text c.args.self.now c.requires.no_break)

@@ -1,4 +1,4 @@
-use Rattle.std.proofs.Common.{◌≡◌, ap, subst, ◌∙◌, ℕ, List}
+use Rattle.std.proofs.Common.{ap, subst, ◌∙◌, ℕ, List}
 use Rattle.std.specs.List.{list_any}
 use Rattle.std.specs.Str.{chars}
 use Rattle.std.proofs.lemmas.Str.{IsUtf8-from_ascii, chars-IsAscii}
@@ -9,7 +9,8 @@ use Rattle.yaml_pen.proofs.pen.Pen.write_ascii_characters.Goals as goal
 
 pub write_characters-requires-clause-no_break : goal.write_characters-requires-clause-no_break
 write_characters-requires-clause-no_break g c =
-    ap (λ (l : List ℕ). list_any is_break (chars l)) c.in-Ok.ensures.cases.0 ∙ ap (list_any is_break) (chars-IsAscii c.args.text.now c.requires.ascii) ∙ c.requires.no_break
+    ap (λ (l : List ℕ). list_any is_break (chars l)) c.in-Ok.ensures.cases.0 ∙ ap (list_any is_break) (chars-IsAscii c.args.text.now c.requires.ascii)
+    ∙ c.requires.no_break
 
 pub returns-in-Ok-clause-written : goal.returns-in-Ok-clause-written
 returns-in-Ok-clause-written g c =

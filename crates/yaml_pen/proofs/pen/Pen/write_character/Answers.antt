@@ -10,8 +10,10 @@ invariant_of-self-2 g c =
     let e = known_encoding _ ready.begun in
     let bytes = c.as_slice.ensures.value ∙ c.encoded_character-bytes.ensures e.0 e.1 ∙ character_bytes-text e.0 c.args.character in
     let adds = Adds-appended e.0 (c.args.character ∷ []) _ c.self.inside.outlet c.append.new.self c.in_ok-append.ensures bytes in
-    IsPen-added e.0 (c.args.character ∷ []) c.self.inside.encoding c.self.inside.line_break c.self.inside.outlet c.append.new.self c.self.inside.whitespace c.self.inside.indention
-    c.self.inside.mark_due c.self.inside.column _ c.self.invariant ready.marked e.1 (scalar-text c.args.character c.ranges.character.0) adds (c.next_column-self-inside.ensures _ c.self.invariant.column)
+    IsPen-added e.0 (c.args.character ∷ []) c.self.inside.encoding c.self.inside.line_break c.self.inside.outlet c.append.new.self c.self.inside.whitespace
+    c.self.inside.indention
+    c.self.inside.mark_due c.self.inside.column _ c.self.invariant ready.marked e.1 (scalar-text c.args.character c.ranges.character.0) adds
+    (c.next_column-self-inside.ensures _ c.self.invariant.column)
 
 pub returns-clause-written : goal.returns-clause-written
 returns-clause-written g c =
@@ -19,6 +21,8 @@ returns-clause-written g c =
     let e = known_encoding _ ready.begun in
     let bytes = c.as_slice.ensures.value ∙ c.encoded_character-bytes.ensures e.0 e.1 ∙ character_bytes-text e.0 c.args.character in
     let adds = Adds-appended e.0 (c.args.character ∷ []) _ c.self.inside.outlet c.append.new.self c.in_ok-append.ensures bytes in
-    Wrote-added e.0 (c.args.character ∷ []) c.self.inside.encoding c.self.inside.line_break c.self.inside.outlet c.append.new.self c.self.inside.whitespace c.self.inside.indention
-    c.self.inside.mark_due c.self.inside.column c.args.self.now (text_laid (c.args.character ∷ [])) c.self.invariant e.1 (scalar-text c.args.character c.ranges.character.0) adds c.self.view_is
+    Wrote-added e.0 (c.args.character ∷ []) c.self.inside.encoding c.self.inside.line_break c.self.inside.outlet c.append.new.self c.self.inside.whitespace
+    c.self.inside.indention
+    c.self.inside.mark_due c.self.inside.column c.args.self.now (text_laid (c.args.character ∷ [])) c.self.invariant e.1
+    (scalar-text c.args.character c.ranges.character.0) adds c.self.view_is
     c.requires.ready (Names-character c.args.character c.args.self.now c.requires.not_line_feed)

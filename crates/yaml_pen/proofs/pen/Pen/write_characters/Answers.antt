@@ -24,7 +24,8 @@ loop-character-preserved g c =
 pub returns-in_err-write_character-clause-written : goal.returns-in_err-write_character-clause-written
 returns-in_err-write_character-clause-written g c =
     let step = chars_past_char _ (chars_rest c.next.new.self) c.in-Some.character c.loop-character.invariant.1 c.in-Some.ensures.steps.0 in
-    wrote_exit c.from_residual-in_err-write_character.ensures (front_failed (c.in-Some.character ∷ []) _ c.loop-character.invariant.0 step c.in_err-write_character.ensures.written)
+    wrote_exit c.from_residual-in_err-write_character.ensures
+    (front_failed (c.in-Some.character ∷ []) _ c.loop-character.invariant.0 step c.in_err-write_character.ensures.written)
 
 pub returns-clause-written : goal.returns-clause-written
 returns-clause-written g c = front_whole c.loop-character.invariant.0 (ap chars (nil_from_length _ c.in_default.ensures.steps.0.0) ∙ chars-nil)

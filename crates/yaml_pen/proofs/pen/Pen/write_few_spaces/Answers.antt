@@ -1,4 +1,4 @@
-use Rattle.std.proofs.Common.{◌∙◌, ap, sym, subst, take, replicate, List, ℕ}
+use Rattle.std.proofs.Common.{◌∙◌, ap, subst, replicate, List, ℕ}
 use Rattle.std.proofs.lemmas.List.{take-replicate}
 use Rattle.std.proofs.lemmas.Str.{IsAscii-take}
 use Rattle.std.specs.List.{list_any}

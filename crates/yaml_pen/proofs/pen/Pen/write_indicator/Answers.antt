@@ -7,7 +7,8 @@ use Rattle.yaml_pen.proofs.pen.Pen.write_indicator.Goals as goal
 pub returns-in_err-separate-clause-written : goal.returns-in_err-separate-clause-written
 returns-in_err-separate-clause-written g c =
     wrote_exit c.from_residual.ensures
-    (wrote_cut (indicator (chars c.args.text.now) c.args.need_whitespace c.args.whitespace c.args.indention) (chars c.args.text.now) refl c.in_err-separate.ensures.written)
+    (wrote_cut (indicator (chars c.args.text.now) c.args.need_whitespace c.args.whitespace c.args.indention)
+    (chars c.args.text.now) refl c.in_err-separate.ensures.written)
 
 pub returns-in_err-write_run-clause-written : goal.returns-in_err-write_run-clause-written
 returns-in_err-write_run-clause-written g c =
@@ -20,4 +21,5 @@ returns-clause-written g c =
     let text = wrote_as (λ (cursor : Cursor). text_laid (space_if c.args.need_whitespace cursor ++ chars c.args.text.now) cursor)
     (text_laid-append (space_if c.args.need_whitespace c.args.self.now.cursor) (chars c.args.text.now) c.args.self.now.cursor)
     (wrote_then c.in_ok-separate.ensures.written c.in_ok-write_run.ensures.written) in
-    wrote_changing (λ (cursor : Cursor). record cursor { whitespace = c.args.whitespace; indention = cursor.indention && c.args.indention }) text c.set_flags.ensures
+    wrote_changing (λ (cursor : Cursor). record cursor { whitespace = c.args.whitespace; indention = cursor.indention && c.args.indention }) text
+    c.set_flags.ensures

@@ -14,9 +14,11 @@ invariant_of-self-2 g c =
     let is_utf8 = unmarked _ ready.begun (ap (λ (p : Page). has_mark p.encoding) c.self.view_is ∙ c.requires.unmarked) in
     let bytes = c.as_bytes.ensures.value ∙ utf8-bytes c.args.text.now c.utf8.text in
     let adds = Adds-appended utf8 text _ c.self.inside.outlet c.append.new.self c.in_ok-append.ensures bytes in
-    IsPen-added utf8 text c.self.inside.encoding c.self.inside.line_break c.self.inside.outlet c.append.new.self c.self.inside.whitespace c.self.inside.indention
+    IsPen-added utf8 text c.self.inside.encoding c.self.inside.line_break c.self.inside.outlet c.append.new.self c.self.inside.whitespace
+    c.self.inside.indention
     c.self.inside.mark_due c.self.inside.column _ c.self.invariant ready.marked is_utf8 (scalars-chars c.args.text.now c.utf8.text) adds
-    (c.saturating_add-self-inside.ensures ∙ piece-column text _ c.self.inside.column c.character_count.result c.requires.no_break c.self.invariant.column c.character_count.ensures)
+    (c.saturating_add-self-inside.ensures
+    ∙ piece-column text _ c.self.inside.column c.character_count.result c.requires.no_break c.self.invariant.column c.character_count.ensures)
 
 pub returns-clause-written : goal.returns-clause-written
 returns-clause-written g c =
@@ -25,6 +27,8 @@ returns-clause-written g c =
     let is_utf8 = unmarked _ ready.begun (ap (λ (p : Page). has_mark p.encoding) c.self.view_is ∙ c.requires.unmarked) in
     let bytes = c.as_bytes.ensures.value ∙ utf8-bytes c.args.text.now c.utf8.text in
     let adds = Adds-appended utf8 text _ c.self.inside.outlet c.append.new.self c.in_ok-append.ensures bytes in
-    Wrote-added utf8 text c.self.inside.encoding c.self.inside.line_break c.self.inside.outlet c.append.new.self c.self.inside.whitespace c.self.inside.indention
-    c.self.inside.mark_due c.self.inside.column c.args.self.now (text_laid text) c.self.invariant is_utf8 (scalars-chars c.args.text.now c.utf8.text) adds c.self.view_is
+    Wrote-added utf8 text c.self.inside.encoding c.self.inside.line_break c.self.inside.outlet c.append.new.self c.self.inside.whitespace
+    c.self.inside.indention
+    c.self.inside.mark_due c.self.inside.column c.args.self.now (text_laid text) c.self.invariant is_utf8
+    (scalars-chars c.args.text.now c.utf8.text) adds c.self.view_is
     c.requires.ready (Names-run text c.args.self.now c.requires.no_break)

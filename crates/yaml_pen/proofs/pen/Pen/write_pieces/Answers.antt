@@ -1,7 +1,7 @@
 use Rattle.std.proofs.Common.{◌∙◌, ap, arith}
 use Rattle.std.specs.Str.{chars}
 use Rattle.std.proofs.lemmas.Str.{IsUtf8-drop}
-use Rattle.yaml_pen.specs.Page.{has_mark}
+use Rattle.yaml_pen.specs.Page.{buffer_size, has_mark}
 use Rattle.yaml_pen.proofs.Composing.{wrote_exit}
 use Rattle.yaml_pen.proofs.Cuts.{chars-cut, cut-forward}
 use Rattle.yaml_pen.proofs.Fronts.{part_unbroken, front_more, front_failed, front_last}
@@ -25,7 +25,8 @@ loop-rest-preserved g c =
 
 pub loop-rest-smaller : goal.loop-rest-smaller
 loop-rest-smaller g c =
-    let forward = cut-forward c.loop-rest.rest.now c.floor_char_boundary.result 16384 c.loop-rest.invariant.is_text (omega arith) (omega arith) c.floor_char_boundary.ensures.nearest in
+    let forward = cut-forward c.loop-rest.rest.now c.floor_char_boundary.result buffer_size c.loop-rest.invariant.is_text (omega arith)
+    (omega arith) c.floor_char_boundary.ensures.nearest in
     let len = c.split_at.ensures.back_len in
     omega arith
 

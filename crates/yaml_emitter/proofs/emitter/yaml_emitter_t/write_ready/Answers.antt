@@ -11,11 +11,12 @@ use Rattle.yaml_pen.proofs.Writing.{none_from_told}
 use Rattle.yaml_pen.proofs.Composing.{grows_then}
 use Rattle.yaml_emitter.proofs.Emitting.{reached_on}
 use Rattle.yaml_emitter.proofs.KeepsSet.{keeps_set_then}
-use Rattle.yaml_emitter.proofs.Standing.{reached_end}
-use Rattle.yaml_emitter.proofs.emitter.yaml_emitter_t.settle.Goals as goal
+use Rattle.yaml_emitter.proofs.StandingSteps.{reached_end}
+use Rattle.yaml_emitter.proofs.emitter.yaml_emitter_t.write_ready.Goals as goal
 
 -- the first that waits is ready where the code says so
-ready_inside : {A : Type 0} (e : Inside A) {seen : State} {waiting : List (yaml_event_t A)} {answer : Bool} → state_of e ≡ seen → waiting ≡ e.queue.items → answer ≡ is_head_ready (seen_events waiting) → answer ≡ true
+ready_inside : {A : Type 0} (e : Inside A) {seen : State} {waiting : List (yaml_event_t A)} {answer : Bool} → state_of e ≡ seen → waiting ≡ e.queue.items
+    → answer ≡ is_head_ready (seen_events waiting) → answer ≡ true
     → is_head_ready seen.held ≡ true
 ready_inside e is same told ready =
     ap (λ (s : State). is_head_ready s.held) (sym is) ∙ ap (λ q. is_head_ready (seen_events q)) (sym same) ∙ sym told ∙ ready
@@ -32,16 +33,20 @@ returns-clause-stands g c given all front reached =
 pub loop-self-preserved : goal.loop-self-preserved
 loop-self-preserved g c =
     record {
-      output = c.write_next.ensures.output;
-      no_error = none_from_told c.write_next.new.self.error c.in_ok-write_next.ensures.answered;
-      reached = reached_on c.args.self.now c.loop-self.self c.write_next.new.self c.loop-self.invariant.reached c.in_ok-write_next.ensures.next;
-      set = keeps_set_then c.args.self.now c.loop-self.self c.write_next.new.self c.loop-self.invariant.set c.write_next.ensures.set;
-      grows = grows_then c.loop-self.invariant.grows c.write_next.ensures.grows;
-      waits = λ none. absurd (false≢true (sym (c.loop-self.invariant.waits none) ∙ ready_inside c.self.inside c.self.view_is c.as_slice.ensures.value c.is_next_ready.ensures c.loop-self-test.true));
+      output = c.write_first.ensures.output;
+      no_error = none_from_told c.write_first.new.self.error c.in_ok-write_first.ensures.answered;
+      reached = reached_on c.args.self.now c.loop-self.self c.write_first.new.self c.loop-self.invariant.reached c.in_ok-write_first.ensures.next;
+      set = keeps_set_then c.args.self.now c.loop-self.self c.write_first.new.self c.loop-self.invariant.set c.write_first.ensures.set;
+      grows = grows_then c.loop-self.invariant.grows c.write_first.ensures.grows;
+      waits = λ none. absurd (false≢true
+          (sym (c.loop-self.invariant.waits none)
+          ∙ ready_inside c.self.inside c.self.view_is c.as_slice.ensures.value c.is_next_ready.ensures c.loop-self-test.true));
     }
 
-pub returns-in_err-write_next-clause-waits : goal.returns-in_err-write_next-clause-waits
-returns-in_err-write_next-clause-waits g c none = absurd (false≢true (sym (c.loop-self.invariant.waits none) ∙ ready_inside c.self.inside c.self.view_is c.as_slice.ensures.value c.is_next_ready.ensures c.loop-self-test.true))
+pub returns-in_err-write_first-clause-waits : goal.returns-in_err-write_first-clause-waits
+returns-in_err-write_first-clause-waits g c none = absurd
+    (false≢true (sym (c.loop-self.invariant.waits none)
+    ∙ ready_inside c.self.inside c.self.view_is c.as_slice.ensures.value c.is_next_ready.ensures c.loop-self-test.true))
 
-pub returns-in_err-write_next-clause-grows : goal.returns-in_err-write_next-clause-grows
-returns-in_err-write_next-clause-grows g c = grows_then c.loop-self.invariant.grows c.write_next.ensures.grows
+pub returns-in_err-write_first-clause-grows : goal.returns-in_err-write_first-clause-grows
+returns-in_err-write_first-clause-grows g c = grows_then c.loop-self.invariant.grows c.write_first.ensures.grows

@@ -3,7 +3,7 @@ use Rattle.yaml_pen.specs.Wrote.{Grows}
 use Rattle.yaml_emitter.specs.State.{KeepsSet}
 use Rattle.yaml_emitter.specs.Queue.{is_head_ready}
 use Rattle.yaml_emitter.specs.StandsAfter.{ReachedOn}
-use Rattle.yaml_emitter.proofs.emitter.yaml_emitter_t.settle.Given as goal
+use Rattle.yaml_emitter.proofs.emitter.yaml_emitter_t.write_ready.Given as goal
 
 abbrev pub invariant-loop-self : goal.invariant-loop-self
 invariant-loop-self g l =
