@@ -158,7 +158,8 @@ mutual
       let tag = scalar_tag s.canonical content in
       let tagging = tagging_in tag (choice_of s place simple content) in
       and_from (is_same_text content.anchor content.anchor && tagging_agrees content tag tagging) (bytes_eq content.value content.value)
-      (and_from (is_same_text content.anchor content.anchor) (tagging_agrees content tag tagging) (same_option content.anchor) (tagging_is s place simple content tag refl h))
+      (and_from (is_same_text content.anchor content.anchor) (tagging_agrees content tag tagging) (same_option content.anchor)
+      (tagging_is s place simple content tag refl h))
       (same_text content.value)
   node_agrees (sequence_node start items) s directives place h =
       let in_flow = is_written_in_flow s place start (has_no_nodes items) in
@@ -190,15 +191,18 @@ mutual
       let before = and_parts (pairs_are_tagged s.canonical pairs) (node_is_tagged s.canonical key) parts.0 in
       let key_place = entry_place in_flow (as_key (has_no_pairs pairs)) 0 in
       let value_place = entry_place in_flow (as_value (is_simple s.canonical directives key)) 0 in
-      and_from (tree_pairs_agree s.canonical pairs (pairs_tree pairs s directives in_flow) && tree_agrees s.canonical key (node_tree key s directives key_place))
+      and_from (tree_pairs_agree s.canonical pairs (pairs_tree pairs s directives in_flow)
+      && tree_agrees s.canonical key (node_tree key s directives key_place))
       (tree_agrees s.canonical value (node_tree value s directives value_place))
-      (and_from (tree_pairs_agree s.canonical pairs (pairs_tree pairs s directives in_flow)) (tree_agrees s.canonical key (node_tree key s directives key_place))
+      (and_from (tree_pairs_agree s.canonical pairs (pairs_tree pairs s directives in_flow))
+      (tree_agrees s.canonical key (node_tree key s directives key_place))
       (pairs_agree pairs s directives in_flow before.0) (node_agrees key s directives key_place before.1))
       (node_agrees value s directives value_place parts.1)
 
 same_version : (version : Option Version) → is_same_version version version ≡ true
 same_version None = refl
-same_version (Some v) = and_from (int_eq v.major v.major) (int_eq v.minor v.minor) ((Decides-int_eq v.major v.major).1 refl) ((Decides-int_eq v.minor v.minor).1 refl)
+same_version (Some v) = and_from (int_eq v.major v.major) (int_eq v.minor v.minor) ((Decides-int_eq v.major v.major).1 refl)
+    ((Decides-int_eq v.minor v.minor).1 refl)
 
 same_directives : (directives : List TagDirective) → are_same_directives directives directives ≡ true
 same_directives [] = refl

@@ -93,13 +93,15 @@ alias_word : (rules : Rules) (column : Option ℕ) (n : ℕ) (t : Text) → list
     → word_after rules false column no_properties (0x2A ∷ n ∷ t) ≡ Some (alias_tree (n ∷ t))
 alias_word rules column n t h = by t ∙ ap (λ x. option_map alias_tree (if x then Some (n ∷ t) else None)) h
   where
-    by : (u : Text) → word_after rules false column no_properties (0x2A ∷ n ∷ u) ≡ option_map alias_tree (if list_all is_alpha (n ∷ u) then Some (n ∷ u) else None)
+    by : (u : Text) → word_after rules false column no_properties (0x2A ∷ n ∷ u)
+        ≡ option_map alias_tree (if list_all is_alpha (n ∷ u) then Some (n ∷ u) else None)
     by [] = refl
     by (c ∷ u) = refl
 
 -- so does its line
 alias_read : (rules : Rules) (column : Option ℕ) (n : ℕ) (t : Text) → list_all is_alpha (n ∷ t) ≡ true
-    → (if all_deeper column [] then word_after rules false column no_properties (trimmed rules.breaks12 (0x2A ∷ n ∷ (t ++ (line_feed ∷ [])))) else None) ≡ Some (alias_tree (n ∷ t))
+    → (if all_deeper column [] then word_after rules false column no_properties (trimmed rules.breaks12 (0x2A ∷ n ∷ (t ++ (line_feed ∷ [])))) else None)
+    ≡ Some (alias_tree (n ∷ t))
 alias_read rules column n t h =
     ap (λ x. if x then word_after rules false column no_properties (trimmed rules.breaks12 (0x2A ∷ n ∷ (t ++ (line_feed ∷ [])))) else None) (deeper column)
     ∙ ap (word_after rules false column no_properties) (star_trimmed rules.breaks12 (n ∷ t) h) ∙ alias_word rules column n t h
@@ -109,7 +111,8 @@ alias_read rules column n t h =
     deeper (Some c) = refl
 
 -- so it reads on its line
-alias_reads : (rules : Rules) (column : Option ℕ) (n : ℕ) (t : Text) → list_all is_alpha (n ∷ t) ≡ true → TextReads rules column ((0x2A ∷ n ∷ t) ++ (line_feed ∷ [])) (alias_tree (n ∷ t))
+alias_reads : (rules : Rules) (column : Option ℕ) (n : ℕ) (t : Text) → list_all is_alpha (n ∷ t) ≡ true
+    → TextReads rules column ((0x2A ∷ n ∷ t) ++ (line_feed ∷ [])) (alias_tree (n ∷ t))
 alias_reads rules column n t h = record {
   head = 0x2A;
   first = n ∷ t;
@@ -137,11 +140,14 @@ named_fits : (rules : Rules) (n : ℕ) (t : Text) (place : Place) (cursor : Curs
 named_fits rules n t place cursor count name spaced some =
     let word = 0x2A ∷ n ∷ t in
     let same = alias_text n t cursor count spaced in
-    text_fits rules (alias_laid (n ∷ t) false cursor) place cursor count (word ++ (line_feed ∷ [])) (alias_tree (n ∷ t)) (same ∙ append_assoc (spaces count) word (line_feed ∷ []))
-    (ap (is_closed rules.breaks12) same ∙ below_ends rules.breaks12 (spaces count ++ word) [] refl) (λ h. absurd (false≢true h)) some (alias_reads rules place.column n t name)
+    text_fits rules (alias_laid (n ∷ t) false cursor) place cursor count (word ++ (line_feed ∷ [])) (alias_tree (n ∷ t))
+    (same ∙ append_assoc (spaces count) word (line_feed ∷ []))
+    (ap (is_closed rules.breaks12) same ∙ below_ends rules.breaks12 (spaces count ++ word) [] refl) (λ h. absurd (false≢true h)) some
+    (alias_reads rules place.column n t name)
 
 -- an alias that is no simple key fits
-pub alias_fits : (rules : Rules) (s : Effective) (directives : List TagDirective) (n : ℕ) (t : Text) (place : Place) (cursor : Cursor) → list_all is_alpha (n ∷ t) ≡ true
+pub alias_fits : (rules : Rules) (s : Effective) (directives : List TagDirective) (n : ℕ) (t : Text) (place : Place) (cursor : Cursor)
+    → list_all is_alpha (n ∷ t) ≡ true
     → is_simple_at place s.canonical directives (alias_node (n ∷ t)) ≡ false → LeafFits rules s directives (alias_node (n ∷ t)) place cursor
 alias_fits rules s directives n t place cursor name simple =
     subst (λ x. Fits rules 1 (alias_laid (n ∷ t) x cursor) (alias_tree (n ∷ t)) place cursor) (sym simple) (by cursor.whitespace refl)

@@ -55,7 +55,8 @@ alias_word rules flow n (c ∷ t) = refl
 spaced_word : (rules : Rules) (n : ℕ) (t : Text) → word_but_alias rules (0x2A ∷ n ∷ spaced t) ≡ None
 spaced_word rules n t =
     ap (option_and_then (λ tree. if is_alias tree then None else Some tree)) (alias_word rules false n (spaced t))
-    ∙ ap (λ x. option_and_then (λ tree. if is_alias tree then None else Some tree) (option_map alias_tree (if x then Some (n ∷ spaced t) else None))) (spaced_no_name (n ∷ t))
+    ∙ ap (λ x. option_and_then (λ tree. if is_alias tree then None else Some tree) (option_map alias_tree (if x then Some (n ∷ spaced t) else None)))
+    (spaced_no_name (n ∷ t))
 
 named_word : (rules : Rules) (n : ℕ) (t : Text) → list_all is_alpha (n ∷ t) ≡ true → word_of_alias rules (0x2A ∷ n ∷ t) ≡ Some (alias_tree (n ∷ t))
 named_word rules n t h =
@@ -63,12 +64,14 @@ named_word rules n t h =
     ∙ ap (λ x. option_and_then (λ tree. if is_alias tree then Some tree else None) (option_map alias_tree (if x then Some (n ∷ t) else None))) h
 
 -- an alias that isn't too long is a simple key, with the space before `:`
-pub alias_key : (rules : Rules) (n : ℕ) (t after : Text) → list_all is_alpha (n ∷ t) ≡ true → nat_le (length (0x2A ∷ n ∷ spaced t)) longest_key ≡ true → ends_sign after ≡ true
+pub alias_key : (rules : Rules) (n : ℕ) (t after : Text) → list_all is_alpha (n ∷ t) ≡ true → nat_le (length (0x2A ∷ n ∷ spaced t)) longest_key ≡ true
+    → ends_sign after ≡ true
     → key_of_line rules ((0x2A ∷ n ∷ spaced t) ++ (0x3A ∷ after)) ≡ found (alias_tree (n ∷ t)) (0x2A ∷ n ∷ spaced t) after
 alias_key rules n t after name short h =
     key_found rules [] (0x2A ∷ n ∷ spaced t) after (alias_tree (n ∷ t))
     ((λ e. absurd (false≢true e)), name_no_key rules (0x2A ∷ []) (n ∷ t) after name)
-    (ap (λ x. if x then option_or (word_but_alias rules (0x2A ∷ n ∷ spaced t)) (option_and_then (word_of_alias rules) (without_last_space (0x2A ∷ n ∷ spaced t))) else None) short
+    (ap (λ x. if x then option_or (word_but_alias rules (0x2A ∷ n ∷ spaced t))
+    (option_and_then (word_of_alias rules) (without_last_space (0x2A ∷ n ∷ spaced t))) else None) short
     ∙ ap (λ x. option_or x (option_and_then (word_of_alias rules) (without_last_space (0x2A ∷ n ∷ spaced t)))) (spaced_word rules n t)
     ∙ ap (λ x. option_or None (option_and_then (word_of_alias rules) x)) (last_space 0x2A (n ∷ t))
     ∙ ap (option_or None) (named_word rules n t name))

@@ -43,19 +43,22 @@ opened_more rules e lines more kind o = record {
 }
 
 -- the node that such lines begin is read by its kind
-pub opened_reads : (rules : Rules) (reads : Reads) (reads_text : ReadsText) (properties : Properties) (here first : Bool) (e : ℕ) (lines : List Line) (kind : NodeKind) (o : Opened rules e lines kind)
+pub opened_reads : (rules : Rules) (reads : Reads) (reads_text : ReadsText) (properties : Properties) (here first : Bool) (e : ℕ) (lines : List Line)
+    (kind : NodeKind) (o : Opened rules e lines kind)
     → node_at rules reads reads_text properties here first lines
     ≡ node_by_kind kind rules reads reads_text properties here first (record { column = e; text = o.head ∷ o.tail }) o.ending o.rest lines
 opened_reads rules reads reads_text properties here first e lines kind o =
     let line : Line = record { text = spaces e ++ (o.head ∷ o.tail); ending = o.ending } in
     let begun : Indented = record { column = e; text = o.head ∷ o.tail } in
     ap (node_at rules reads reads_text properties here first) o.is
-    ∙ ap (λ (i : Indented). node_by_kind (kind_of_node rules i.text) rules reads reads_text properties here first i o.ending o.rest (line ∷ o.rest)) (indented_spaces e o.head o.tail o.shows)
+    ∙ ap (λ (i : Indented). node_by_kind (kind_of_node rules i.text) rules reads reads_text properties here first i o.ending o.rest (line ∷ o.rest))
+    (indented_spaces e o.head o.tail o.shows)
     ∙ ap (λ k. node_by_kind k rules reads reads_text properties here first begun o.ending o.rest (line ∷ o.rest)) o.begins
     ∙ ap (node_by_kind kind rules reads reads_text properties here first begun o.ending o.rest) (sym o.is)
 
 -- no line is blank there
-pub opened_shows : (rules : Rules) (e : ℕ) (lines : List Line) (kind : NodeKind) → Opened rules e lines kind → (begins_blank lines ≡ false) × (without_blank_lines lines ≡ lines)
+pub opened_shows : (rules : Rules) (e : ℕ) (lines : List Line) (kind : NodeKind) → Opened rules e lines kind → (begins_blank lines ≡ false)
+    × (without_blank_lines lines ≡ lines)
 opened_shows rules e lines kind o =
     let line : Line = record { text = spaces e ++ (o.head ∷ o.tail); ending = o.ending } in
     let shown = not_blank e o.head o.tail o.shows in (
@@ -73,7 +76,8 @@ pub record Block (rules : Rules) (size e : ℕ) (text : Text) (make : Option Tex
 
 -- it reads on these lines, and below a blank one
 block_below : (rules : Rules) (n e : ℕ) (text : Text) (make : Option Text → Option Text → Tree) → Block rules n e text make → (depth : ℕ) → n ≤ depth
-    → (reads_text : ReadsText) (properties : Properties) (tag : Option Text) → collection_tag_said properties.tag ≡ Some tag → (here : Bool) (line : Line) → is_spaces line.text ≡ true
+    → (reads_text : ReadsText) (properties : Properties) (tag : Option Text) → collection_tag_said properties.tag ≡ Some tag → (here : Bool) (line : Line)
+    → is_spaces line.text ≡ true
     → node_lines rules (node_read depth rules) reads_text properties here (line ∷ lines_of rules.breaks12 text) ≡ Some (make properties.anchor tag)
 block_below rules n e text make block depth deep reads_text properties tag said here line blank =
     let lines = lines_of rules.breaks12 text in
@@ -92,7 +96,8 @@ block_on_line : (rules : Rules) (n e : ℕ) (text : Text) (make : Option Text �
     → node_lines rules (node_read depth rules) reads_text properties true (lines_of rules.breaks12 text) ≡ Some (make properties.anchor tag)
 block_on_line rules n e text make block depth deep reads_text properties tag said =
     let lines = lines_of rules.breaks12 text in
-    ap (λ ls. node_at rules (node_read depth rules) reads_text properties true (not (begins_blank lines)) ls) (opened_shows rules e lines block.kind block.opened).1
+    ap (λ ls. node_at rules (node_read depth rules) reads_text properties true (not (begins_blank lines)) ls)
+    (opened_shows rules e lines block.kind block.opened).1
     ∙ block.reads depth deep reads_text properties (not (begins_blank lines)) tag said
 
 -- Cursors
@@ -159,7 +164,8 @@ pub record Entries (rules : Rules) (e : ℕ) (place : Place) (begun entries : La
   pub compact : begun.cursor.indention ≡ true → Compact e begun.cursor
 
 -- on lines below
-pub below : (rules : Rules) (e : ℕ) (cursor : Cursor) (entries : Laid) (text : Text) → Lays e cursor entries text → cursor.indention ≡ false → closed entries ≡ line_feed ∷ text
+pub below : (rules : Rules) (e : ℕ) (cursor : Cursor) (entries : Laid) (text : Text) → Lays e cursor entries text → cursor.indention ≡ false
+    → closed entries ≡ line_feed ∷ text
 below rules e cursor entries text lays h =
     lays.lays ∙ ap (λ t. t ++ (lays.head ∷ lays.tail)) (broken e cursor h) ∙ ap (λ t. line_feed ∷ t) (sym lays.is)
 
@@ -179,7 +185,8 @@ later_inside q d [] h = refl
 later_inside q d (line ∷ rest) h = (and_parts (is_inside q d line.text) (list_all (λ line. is_inside q d line.text) rest) h).1
 
 -- below a line the lines are those of the entries
-pub below_inside : (breaks12 : Bool) (a text : Text) (q : Bool) (d : ℕ) → OneLine breaks12 a → AllInside q d (lines_of breaks12 text) → AllInside q d (lines_after_first (lines_of breaks12 (a ++ (line_feed ∷ text))))
+pub below_inside : (breaks12 : Bool) (a text : Text) (q : Bool) (d : ℕ) → OneLine breaks12 a → AllInside q d (lines_of breaks12 text)
+    → AllInside q d (lines_after_first (lines_of breaks12 (a ++ (line_feed ∷ text))))
 below_inside breaks12 a text q d one h = ap (λ ls. list_all (λ line. is_inside q d line.text) (lines_after_first ls)) (lines_broken breaks12 a text one) ∙ h
 
 -- what ends with a break below a line does behind it
@@ -197,16 +204,20 @@ unsaid_below : (rules : Rules) (n e : ℕ) (place : Place) (cursor : Cursor) (en
     → Block rules n e text make → Entries rules e place (nothing_laid cursor) entries text → cursor.indention ≡ false
     → Fits rules (suc n) (block_own (nothing_laid cursor) entries) (make None None) place cursor
 unsaid_below rules n e place cursor entries text make block all h =
-    let same : closed (block_own (nothing_laid cursor) entries) ≡ line_feed ∷ text = own_closed (nothing_laid cursor) entries ∙ below rules e cursor entries text all.lays h in
+    let same : closed (block_own (nothing_laid cursor) entries) ≡ line_feed ∷ text = own_closed (nothing_laid cursor) entries
+    ∙ below rules e cursor entries text all.lays h in
     record {
       settled = all.settled;
       ends = ap (is_closed rules.breaks12) same ∙ below_ends rules.breaks12 [] text all.ends;
       opens = λ w. subst (Opens rules.breaks12) (sym same) (opened_below rules.breaks12 [] text refl refl);
-      inside = λ q d within. ap (λ t. list_all (λ line. is_inside q d line.text) (lines_after_first (lines_of rules.breaks12 t))) same ∙ below_inside rules.breaks12 [] text q d refl (all.inside q d within);
-      reads = λ depth deep here k begins. ap (λ t. node_read depth rules here place.column (lines_of rules.breaks12 (spaces k ++ t))) same ∙ read depth deep here k;
+      inside = λ q d within. ap (λ t. list_all (λ line. is_inside q d line.text) (lines_after_first (lines_of rules.breaks12 t))) same
+          ∙ below_inside rules.breaks12 [] text q d refl (all.inside q d within);
+      reads = λ depth deep here k begins. ap (λ t. node_read depth rules here place.column (lines_of rules.breaks12 (spaces k ++ t))) same
+          ∙ read depth deep here k;
     }
   where
-    read : (depth : ℕ) → suc n ≤ depth → (here : Bool) (k : ℕ) → node_read depth rules here place.column (lines_of rules.breaks12 (spaces k ++ (line_feed ∷ text))) ≡ Some (make None None)
+    read : (depth : ℕ) → suc n ≤ depth → (here : Bool) (k : ℕ)
+        → node_read depth rules here place.column (lines_of rules.breaks12 (spaces k ++ (line_feed ∷ text))) ≡ Some (make None None)
     read zero deep here k = absurd (omega arith)
     read (suc depth) deep here k =
         ap (node_read (suc depth) rules here place.column) (lines_broken rules.breaks12 (spaces k) text (spaces_line rules.breaks12 k))
@@ -223,16 +234,21 @@ unsaid_on_line rules n e place cursor entries text make block all h =
     let rest = all.lays.head ∷ all.lays.tail in
     let same : closed (block_own (nothing_laid cursor) entries) ≡ spaces compact.count ++ rest
     = own_closed (nothing_laid cursor) entries ∙ all.lays.lays ∙ ap (λ t. t ++ rest) compact.text in
-    let after : (k : ℕ) → lines_after_first (lines_of rules.breaks12 (spaces k ++ rest)) ≡ lines_after_first (lines_of rules.breaks12 rest) = λ k. after_line rules.breaks12 (spaces k) rest (spaces_line rules.breaks12 k) in
+    let after : (k : ℕ) → lines_after_first (lines_of rules.breaks12 (spaces k ++ rest))
+    ≡ lines_after_first (lines_of rules.breaks12 rest) = λ k. after_line rules.breaks12 (spaces k) rest (spaces_line rules.breaks12 k) in
     record {
       settled = all.settled;
-      ends = ap (is_closed rules.breaks12) same ∙ closed_alike rules.breaks12 (spaces compact.count) (spaces e) all.lays.head all.lays.tail (ap (is_closed rules.breaks12) (sym all.lays.is) ∙ all.ends);
+      ends = ap (is_closed rules.breaks12) same
+          ∙ closed_alike rules.breaks12 (spaces compact.count) (spaces e) all.lays.head all.lays.tail
+          (ap (is_closed rules.breaks12) (sym all.lays.is) ∙ all.ends);
       opens = λ w. subst (Opens rules.breaks12) (sym same) (opened compact.count (compact.some w));
       inside = λ q d within.
           ap (λ t. list_all (λ line. is_inside q d line.text) (lines_after_first (lines_of rules.breaks12 t))) same
-          ∙ ap (λ ls. list_all (λ line. is_inside q d line.text) ls) (after compact.count ∙ sym (after e) ∙ ap (λ t. lines_after_first (lines_of rules.breaks12 t)) (sym all.lays.is))
+          ∙ ap (λ ls. list_all (λ line. is_inside q d line.text) ls)
+          (after compact.count ∙ sym (after e) ∙ ap (λ t. lines_after_first (lines_of rules.breaks12 t)) (sym all.lays.is))
           ∙ later_inside q d (lines_of rules.breaks12 text) (all.inside q d within);
-      reads = λ depth deep here k begins. ap (λ t. node_read depth rules here place.column (lines_of rules.breaks12 (spaces k ++ t))) same ∙ read depth deep here k (begins h).0 (begins h).1;
+      reads = λ depth deep here k begins. ap (λ t. node_read depth rules here place.column (lines_of rules.breaks12 (spaces k ++ t))) same
+          ∙ read depth deep here k (begins h).0 (begins h).1;
     }
   where
     opened : (count : ℕ) → 0 < count → Opens rules.breaks12 (spaces count ++ (all.lays.head ∷ all.lays.tail))
@@ -243,16 +259,19 @@ unsaid_on_line rules n e place cursor entries text make block all h =
           head = spaces (suc count) ++ begins.head;
           ending = begins.ending;
           rest = begins.rest;
-          is = lines_behind rules.breaks12 (spaces (suc count)) (all.lays.head ∷ all.lays.tail) begins.head begins.ending begins.rest (spaces_line rules.breaks12 (suc count)) begins.is;
+          is = lines_behind rules.breaks12 (spaces (suc count)) (all.lays.head ∷ all.lays.tail) begins.head begins.ending begins.rest
+              (spaces_line rules.breaks12 (suc count)) begins.is;
           sign = refl;
         }
 
     read : (depth : ℕ) → suc n ≤ depth → (here : Bool) (k : ℕ) → here ≡ true → k ≡ cursor.column
-        → node_read depth rules here place.column (lines_of rules.breaks12 (spaces k ++ (spaces (all.compact h).count ++ (all.lays.head ∷ all.lays.tail)))) ≡ Some (make None None)
+        → node_read depth rules here place.column (lines_of rules.breaks12 (spaces k ++ (spaces (all.compact h).count ++ (all.lays.head ∷ all.lays.tail))))
+        ≡ Some (make None None)
     read zero deep here k is_here same = absurd (omega arith)
     read (suc depth) deep here k is_here same =
         ap (λ t. node_read (suc depth) rules here place.column (lines_of rules.breaks12 t))
-        (spaces_both k (all.compact h).count e (all.lays.head ∷ all.lays.tail) (ap (λ j. j + (all.compact h).count) same ∙ (all.compact h).sum) ∙ sym all.lays.is)
+        (spaces_both k (all.compact h).count e (all.lays.head ∷ all.lays.tail) (ap (λ j. j + (all.compact h).count) same ∙ (all.compact h).sum)
+        ∙ sym all.lays.is)
         ∙ ap (λ x. node_read (suc depth) rules x place.column (lines_of rules.breaks12 text)) is_here
         ∙ block_on_line rules n e text make block depth (omega arith)
         (λ at text. text_or_properties (begins_properties text) rules (node_read depth rules) place.column at text) no_properties None refl
@@ -260,9 +279,11 @@ unsaid_on_line rules n e place cursor entries text make block all h =
 -- Behind properties
 
 -- what follows the words of properties on a line, where the block stands below
-said_reads : (rules : Rules) (n e : ℕ) (column : Option ℕ) (text : Text) (c : ℕ) (t : Text) (make : Option Text → Option Text → Tree) → Block rules n e text make
+said_reads : (rules : Rules) (n e : ℕ) (column : Option ℕ) (text : Text) (c : ℕ) (t : Text) (make : Option Text → Option Text → Tree)
+    → Block rules n e text make
     → (read : PropertiesRead) (anchor tag : Option Text) → properties_read rules.directives (c ∷ t) ≡ Some read → is_spaces read.text ≡ true
-    → read.properties.anchor ≡ anchor → collection_tag_said read.properties.tag ≡ Some tag → begins_properties (c ∷ t) ≡ true → (c == space) ≡ false → kind_of_node rules (c ∷ t) ≡ begins_text
+    → read.properties.anchor ≡ anchor → collection_tag_said read.properties.tag ≡ Some tag → begins_properties (c ∷ t) ≡ true → (c == space) ≡ false
+    → kind_of_node rules (c ∷ t) ≡ begins_text
     → OneLine rules.breaks12 (c ∷ t) → (depth : ℕ) → suc n ≤ depth → (here : Bool) (k : ℕ)
     → node_read depth rules here column (lines_of rules.breaks12 ((spaces k ++ (c ∷ t)) ++ (line_feed ∷ text))) ≡ Some (make anchor tag)
 said_reads rules n e column text c t make block read anchor tag reads blank anchor_read tag_read begins shows kind one zero deep here k = absurd (omega arith)
@@ -271,13 +292,17 @@ said_reads rules n e column text c t make block read anchor tag reads blank anch
     let line : Line = record { text = spaces k ++ (c ∷ t); ending = line_feed ∷ [] } in
     let by : ReadsText = λ at text. text_or_properties (begins_properties text) rules (node_read depth rules) column at text in
     let begun : Indented = record { column = k; text = c ∷ t } in
-    ap (node_read (suc depth) rules here column) (lines_broken rules.breaks12 (spaces k ++ (c ∷ t)) text (one_line_both rules.breaks12 (spaces k) (c ∷ t) (spaces_line rules.breaks12 k) one))
-    ∙ ap (λ x. node_at rules (node_read depth rules) by no_properties (here || x) (not x) (if x then without_blank_lines lines else line ∷ lines)) (not_blank k c t shows)
-    ∙ ap (λ (i : Indented). node_by_kind (kind_of_node rules i.text) rules (node_read depth rules) by no_properties (here || false) true i (line_feed ∷ []) lines (line ∷ lines)) (indented_spaces k c t shows)
+    ap (node_read (suc depth) rules here column)
+    (lines_broken rules.breaks12 (spaces k ++ (c ∷ t)) text (one_line_both rules.breaks12 (spaces k) (c ∷ t) (spaces_line rules.breaks12 k) one))
+    ∙ ap (λ x. node_at rules (node_read depth rules) by no_properties (here || x) (not x) (if x then without_blank_lines lines else line ∷ lines))
+    (not_blank k c t shows)
+    ∙ ap (λ (i : Indented). node_by_kind (kind_of_node rules i.text) rules (node_read depth rules) by no_properties (here || false) true i
+    (line_feed ∷ []) lines (line ∷ lines)) (indented_spaces k c t shows)
     ∙ ap (λ x. node_by_kind x rules (node_read depth rules) by no_properties (here || false) true begun (line_feed ∷ []) lines (line ∷ lines)) kind
     ∙ ap (λ x. text_or_properties x rules (node_read depth rules) column k (c ∷ t) (line_feed ∷ []) lines) begins
     ∙ ap (after_properties rules (node_read depth rules) column k (line_feed ∷ []) lines) reads
-    ∙ block_below rules n e text make block depth (omega arith) (λ at. text_read rules column read.properties) read.properties tag tag_read false (blanked k read.text (line_feed ∷ []))
+    ∙ block_below rules n e text make block depth (omega arith) (λ at. text_read rules column read.properties) read.properties tag tag_read false
+    (blanked k read.text (line_feed ∷ []))
     (blank_both k read.text blank)
     ∙ ap (λ a. Some (make a tag)) anchor_read
   where
@@ -286,7 +311,8 @@ said_reads rules n e column text c t make block read anchor tag reads blank anch
     blank_both (suc k) t h = blank_both k t h
 
 -- a collection behind its properties fits
-said_fits : (rules : Rules) (n e : ℕ) (place : Place) (cursor : Cursor) (begun entries : Laid) (text : Text) (make : Option Text → Option Text → Tree) (anchor tag : Option Text)
+said_fits : (rules : Rules) (n e : ℕ) (place : Place) (cursor : Cursor) (begun entries : Laid) (text : Text) (make : Option Text → Option Text → Tree)
+    (anchor tag : Option Text)
     → Block rules n e text make → Entries rules e place begun entries text → Said rules anchor tag cursor begun
     → Fits rules (suc n) (block_own begun entries) (make anchor tag) place cursor
 said_fits rules n e place cursor begun entries text make anchor tag block all said =
@@ -294,17 +320,20 @@ said_fits rules n e place cursor begun entries text make anchor tag block all sa
     let front = spaces said.count ++ core in
     let one = one_line_both rules.breaks12 (spaces said.count) core (spaces_line rules.breaks12 said.count) said.one_line in
     let same : closed (block_own begun entries) ≡ front ++ (line_feed ∷ text)
-    = own_closed begun entries ∙ ap (λ t. begun.text ++ t) (below rules e begun.cursor entries text all.lays said.ends) ∙ ap (λ t. t ++ (line_feed ∷ text)) said.text in
+    = own_closed begun entries ∙ ap (λ t. begun.text ++ t) (below rules e begun.cursor entries text all.lays said.ends)
+    ∙ ap (λ t. t ++ (line_feed ∷ text)) said.text in
     record {
       settled = all.settled;
       ends = ap (is_closed rules.breaks12) same ∙ below_ends rules.breaks12 front text all.ends;
       opens = λ w. subst (Opens rules.breaks12) (sym same) (opened_below rules.breaks12 front text one (opens said.count (said.some w) core));
-      inside = λ q d within. ap (λ t. list_all (λ line. is_inside q d line.text) (lines_after_first (lines_of rules.breaks12 t))) same ∙ below_inside rules.breaks12 front text q d one (all.inside q d within);
+      inside = λ q d within. ap (λ t. list_all (λ line. is_inside q d line.text) (lines_after_first (lines_of rules.breaks12 t))) same
+          ∙ below_inside rules.breaks12 front text q d one (all.inside q d within);
       reads = λ depth deep here k begins.
           ap (λ t. node_read depth rules here place.column (lines_of rules.breaks12 (spaces k ++ t))) same
           ∙ ap (λ t. node_read depth rules here place.column (lines_of rules.breaks12 t))
           (sym (append_assoc (spaces k) front (line_feed ∷ text)) ∙ ap (λ t. t ++ (line_feed ∷ text)) (spaces_both k said.count (k + said.count) core refl))
-          ∙ said_reads rules n e place.column text said.head said.tail make block said.read anchor tag said.reads said.blank said.anchor_read said.tag_read said.begins said.shows said.kind
+          ∙ said_reads rules n e place.column text said.head said.tail make block said.read anchor tag said.reads said.blank said.anchor_read said.tag_read
+          said.begins said.shows said.kind
           said.one_line depth deep here (k + said.count);
     }
   where
@@ -313,16 +342,19 @@ said_fits rules n e place cursor begun entries text make anchor tag block all sa
     opens (suc count) h t = refl
 
 -- a collection in a block fits
-pub block_fits : (rules : Rules) (n e : ℕ) (place : Place) (cursor : Cursor) (begun entries : Laid) (text : Text) (make : Option Text → Option Text → Tree) (anchor tag : Option Text)
+pub block_fits : (rules : Rules) (n e : ℕ) (place : Place) (cursor : Cursor) (begun entries : Laid) (text : Text) (make : Option Text → Option Text → Tree)
+    (anchor tag : Option Text)
     → BegunKind rules anchor tag cursor begun → Block rules n e text make → Entries rules e place begun entries text
     → Fits rules (suc n) (block_own begun entries) (make anchor tag) place cursor
-block_fits rules n e place cursor begun entries text make anchor tag (is_said is) block all = said_fits rules n e place cursor begun entries text make anchor tag block all is
+block_fits rules n e place cursor begun entries text make anchor tag
+    (is_said is) block all = said_fits rules n e place cursor begun entries text make anchor tag block all is
 block_fits rules n e place cursor begun entries text make anchor tag (unsaid no_anchor no_tag nothing) block all =
     subst (λ a. Fits rules (suc n) (block_own begun entries) (make a tag) place cursor) (sym no_anchor)
     (subst (λ t. Fits rules (suc n) (block_own begun entries) (make None t) place cursor) (sym no_tag)
     (subst (λ b. Fits rules (suc n) (block_own b entries) (make None None) place cursor) (sym nothing)
     (by cursor.indention refl (subst (λ b. Entries rules e place b entries text) nothing all))))
   where
-    by : (x : Bool) → cursor.indention ≡ x → Entries rules e place (nothing_laid cursor) entries text → Fits rules (suc n) (block_own (nothing_laid cursor) entries) (make None None) place cursor
+    by : (x : Bool) → cursor.indention ≡ x → Entries rules e place (nothing_laid cursor) entries text
+        → Fits rules (suc n) (block_own (nothing_laid cursor) entries) (make None None) place cursor
     by true h all = unsaid_on_line rules n e place cursor entries text make block all h
     by false h all = unsaid_below rules n e place cursor entries text make block all h

@@ -73,22 +73,27 @@ pub unquoted_whole : (t : Text) (c : ℕ) (rest : Text) → (c == 39) ≡ false 
 unquoted_whole [] c rest other h = refl
 unquoted_whole (a ∷ []) c rest other h =
     by (a == 39)
-    (λ e. h (ap (λ y. if a == 39 then (if y then option_map (λ t. 39 ∷ t) (unquoted rest) else None) else option_map (λ t. a ∷ t) (unquoted (c ∷ rest))) other ∙ e))
+    (λ e. h (ap (λ y. if a == 39 then (if y then option_map (λ t. 39 ∷ t) (unquoted rest) else None) else option_map (λ t. a ∷ t) (unquoted (c ∷ rest))) other
+    ∙ e))
   where
-    by : (x : Bool) → ((if x then None else option_map (λ t. a ∷ t) (unquoted (c ∷ rest))) ≡ None → ⊥) → ◌≡◌ {A = Option Text} (if x then Some [] else None) None
+    by : (x : Bool) → ((if x then None else option_map (λ t. a ∷ t) (unquoted (c ∷ rest))) ≡ None → ⊥)
+        → ◌≡◌ {A = Option Text} (if x then Some [] else None) None
     by true h = absurd (h refl)
     by false h = refl
 unquoted_whole (a ∷ b ∷ t) c rest other h = by (a == 39) (b == 39) (unquoted_whole t c rest other) (unquoted_whole (b ∷ t) c rest other) h
   where
-    by : (x y : Bool) → ((unquoted (t ++ (c ∷ rest)) ≡ None → ⊥) → unquoted t ≡ None) → ((unquoted ((b ∷ t) ++ (c ∷ rest)) ≡ None → ⊥) → unquoted (b ∷ t) ≡ None)
-        → ((if x then (if y then option_map (λ t. 39 ∷ t) (unquoted (t ++ (c ∷ rest))) else None) else option_map (λ t. a ∷ t) (unquoted ((b ∷ t) ++ (c ∷ rest)))) ≡ None → ⊥)
+    by : (x y : Bool) → ((unquoted (t ++ (c ∷ rest)) ≡ None → ⊥) → unquoted t ≡ None)
+        → ((unquoted ((b ∷ t) ++ (c ∷ rest)) ≡ None → ⊥) → unquoted (b ∷ t) ≡ None)
+        → ((if x then (if y then option_map (λ t. 39 ∷ t) (unquoted (t ++ (c ∷ rest))) else None) else
+        option_map (λ t. a ∷ t) (unquoted ((b ∷ t) ++ (c ∷ rest)))) ≡ None → ⊥)
         → (if x then (if y then option_map (λ t. 39 ∷ t) (unquoted t) else None) else option_map (λ t. a ∷ t) (unquoted (b ∷ t))) ≡ None
     by true true one two h = ap (option_map (λ t. 39 ∷ t)) (one (λ e. h (ap (option_map (λ t. 39 ∷ t)) e)))
     by true false one two h = absurd (h refl)
     by false y one two h = ap (option_map (λ t. a ∷ t)) (two (λ e. h (ap (option_map (λ t. a ∷ t)) e)))
 
 -- no proper prefix of a single-quoted text is one, where no quote follows it
-pub single_quoted_whole : (breaks12 : Bool) (t : Text) (c : ℕ) (rest v : Text) → (c == 39) ≡ false → read_single breaks12 (t ++ (c ∷ rest)) ≡ Some v → read_single breaks12 t ≡ None
+pub single_quoted_whole : (breaks12 : Bool) (t : Text) (c : ℕ) (rest v : Text) → (c == 39) ≡ false → read_single breaks12 (t ++ (c ∷ rest)) ≡ Some v
+    → read_single breaks12 t ≡ None
 single_quoted_whole breaks12 [] c rest v other read = refl
 single_quoted_whole breaks12 (q ∷ t) c rest v other read = by (q == 39) read
   where

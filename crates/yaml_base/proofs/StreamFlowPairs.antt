@@ -34,7 +34,8 @@ pub item_entry : (rules : Rules) (s : Effective) (column : Option ℕ) (cursor :
 item_entry rules s column cursor own tree node anchor tag trees = record {
   opens = ap opens_inside whole ∙ white_opens (gap ++ blank) node.content white node.opens;
   takes = λ levels.
-      takes_text rules (within (in_sequence anchor tag trees ∷ levels) entry_awaited) (within (in_sequence anchor tag (trees_and trees tree) ∷ levels) comma_awaited)
+      takes_text rules (within (in_sequence anchor tag trees ∷ levels) entry_awaited)
+      (within (in_sequence anchor tag (trees_and trees tree) ∷ levels) comma_awaited)
       (gap ++ own.text) ((gap ++ blank) ++ node.content) whole
       (passes_then rules (within (in_sequence anchor tag trees ∷ levels) entry_awaited) (within (in_sequence anchor tag trees ∷ levels) entry_awaited)
       (within (in_sequence anchor tag (trees_and trees tree) ∷ levels) comma_awaited) (gap ++ blank) node.content
@@ -57,7 +58,8 @@ item_entry rules s column cursor own tree node anchor tag trees = record {
 -- Pairs
 
 -- white space and a sign end a word
-white_sign_ends : (breaks12 : Bool) (white : Text) (c : ℕ) (text : Text) → is_white_text white ≡ true → class_of breaks12 c ≡ is_flow_sign → EndsWord breaks12 (white ++ (c ∷ text))
+white_sign_ends : (breaks12 : Bool) (white : Text) (c : ℕ) (text : Text) → is_white_text white ≡ true → class_of breaks12 c ≡ is_flow_sign
+    → EndsWord breaks12 (white ++ (c ∷ text))
 white_sign_ends breaks12 [] c text h class rest k = sign_ends breaks12 c text class rest k
 white_sign_ends breaks12 (d ∷ white) c text h class rest k =
     let parts = and_parts (d == space || d == line_feed) (is_white_text white) h in
@@ -86,7 +88,8 @@ pub simple_pair_entry : (rules : Rules) (s : Effective) (column : Option ℕ) (c
     → FlowNode rules true (flow_break s column cursor).cursor own key_tree
     → FlowNode rules false (flow_place_laid s (as_value true) false column own.cursor).cursor value value_tree
     → (anchor tag : Option Text) (pairs : TreePairs)
-    → FlowEntry rules (((flow_break s column cursor).text ++ own.text) ++ ((0x3A ∷ []) ++ value.text)) (in_mapping anchor tag pairs no_key) (after_pair anchor tag pairs key_tree value_tree)
+    → FlowEntry rules (((flow_break s column cursor).text ++ own.text) ++ ((0x3A ∷ []) ++ value.text)) (in_mapping anchor tag pairs no_key)
+    (after_pair anchor tag pairs key_tree value_tree)
 simple_pair_entry rules s column cursor own value key_tree value_tree key node anchor tag pairs = record {
   opens = ap opens_inside (ap (λ t. t ++ ((0x3A ∷ []) ++ value.text)) whole)
       ∙ opens_more ((gap ++ blank) ++ key.content) ((0x3A ∷ []) ++ value.text) (white_opens (gap ++ blank) key.content white key.opens);
@@ -103,7 +106,8 @@ simple_pair_entry rules s column cursor own value key_tree value_tree key node a
       (key.key refl anchor tag pairs levels)))
       (takes_text rules through to ((0x3A ∷ []) ++ value.text) ((0x3A ∷ space ∷ []) ++ node.content) (ap (λ t. 0x3A ∷ t) node.whole)
       (passes_then rules through ready to (0x3A ∷ space ∷ []) node.content
-      (passes_both rules through before ready (0x3A ∷ []) (space ∷ []) (passes_colon rules (held anchor tag pairs key_tree levels)) (passes_node_space rules (held anchor tag pairs key_tree levels)))
+      (passes_both rules through before ready (0x3A ∷ []) (space ∷ []) (passes_colon rules (held anchor tag pairs key_tree levels))
+      (passes_node_space rules (held anchor tag pairs key_tree levels)))
       (node.takes refl (held anchor tag pairs key_tree levels) refl true)))
       (sign_ends rules.breaks12 0x3A value.text (colon_class rules.breaks12));
 }

@@ -42,7 +42,8 @@ quotes_in_flow allowed = by allowed.single_quoted
     by false = refl
 
 -- where no block style fits the style is one of flow
-style_in_flow : (allowed : Allowances) (fits x : Bool) (asked : ScalarStyle) → is_flow_style (style_fitting allowed fits (allowed.block && not true && not x) asked) ≡ true
+style_in_flow : (allowed : Allowances) (fits x : Bool) (asked : ScalarStyle)
+    → is_flow_style (style_fitting allowed fits (allowed.block && not true && not x) asked) ≡ true
 style_in_flow allowed true x plain = refl
 style_in_flow allowed false x plain = quotes_in_flow allowed
 style_in_flow allowed fits x single_quoted = quotes_in_flow allowed
@@ -75,15 +76,18 @@ bare_not_plain tag quoted false h = refl
 
 -- a plain text isn't empty in flow
 plain_case : (s : Effective) (own : List TagDirective) (anchor tag given_tag : Option Text) (column : ℕ) (text value : Text)
-    → Given (rules_of s own) anchor tag (tag_meant given_tag false) → is_tidy plain s.breaks12 (Some column) text ≡ true → read_plain s.breaks12 true text ≡ Some value
+    → Given (rules_of s own) anchor tag (tag_meant given_tag false) → is_tidy plain s.breaks12 (Some column) text ≡ true
+    → read_plain s.breaks12 true text ≡ Some value
     → FlowWord (rules_of s own) (lead anchor tag ++ text) (scalar_in anchor given_tag plain false value)
 plain_case s own anchor tag given_tag column [] value given tidy read = absurd (none_not_some read)
 plain_case s own anchor tag given_tag column (c ∷ t) value given tidy read =
     plain_flow_word (rules_of s own) anchor tag given_tag (Some column) c t value given tidy read
 
 -- a body that is laid out in a style of flow is a word with what leads it
-pub body_flow_word : (s : Effective) (own : List TagDirective) (anchor tag given_tag : Option Text) (style : ScalarStyle) (bare : Bool) (limit : Option ℕ) (indent column : ℕ)
-    (value : Text) (cursor : Cursor) → Given (rules_of s own) anchor tag (tag_meant given_tag bare) → is_flow_style style ≡ true → (bare ≡ true → is_plain style ≡ false)
+pub body_flow_word : (s : Effective) (own : List TagDirective) (anchor tag given_tag : Option Text) (style : ScalarStyle) (bare : Bool) (limit : Option ℕ)
+    (indent column : ℕ)
+    (value : Text) (cursor : Cursor) → Given (rules_of s own) anchor tag (tag_meant given_tag bare) → is_flow_style style ≡ true
+    → (bare ≡ true → is_plain style ≡ false)
     → is_tidy style s.breaks12 (Some column) (body_laid style s limit indent value cursor).text ≡ true
     → read_in_style style s.breaks12 true (Some column) (body_laid style s limit indent value cursor).text ≡ Some value
     → FlowWord (rules_of s own) (lead anchor tag ++ (body_laid style s limit indent value cursor).text) (scalar_in anchor given_tag style bare value)
@@ -129,8 +133,10 @@ separation_in_flow literal value cursor = refl
 separation_in_flow folded value cursor = refl
 
 -- a scalar's text is a space where one is needed, and what leads its body, and the body
-pub scalar_whole : (portable : Bool) (directives : List TagDirective) (anchor tag : Option Text) (bare : Bool) (style : ScalarStyle) (value : Text) (cursor : Cursor) (body : Text)
-    → (let properties : Laid = properties_laid portable directives anchor tag bare cursor in (properties.text ++ (separation_laid style true value properties.cursor).text) ++ body)
+pub scalar_whole : (portable : Bool) (directives : List TagDirective) (anchor tag : Option Text) (bare : Bool) (style : ScalarStyle) (value : Text)
+    (cursor : Cursor) (body : Text)
+    → (let properties : Laid = properties_laid portable directives anchor tag bare cursor in
+    (properties.text ++ (separation_laid style true value properties.cursor).text) ++ body)
     ≡ space_if true cursor ++ (lead anchor (tag_written portable directives tag bare) ++ body)
 scalar_whole portable directives anchor tag bare style value cursor body =
     let properties = properties_laid portable directives anchor tag bare cursor in

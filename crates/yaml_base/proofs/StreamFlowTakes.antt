@@ -38,7 +38,8 @@ pub record FlowNode (rules : Rules) (simple : Bool) (cursor : Cursor) (own : Lai
   pub takes : simple ≡ false → (levels : List Level) → may_open levels ≡ true → (spaced : Bool)
       → Takes rules (within levels (awaited_of spaced)) content (with_tree levels tree)
   pub key : simple ≡ true → (anchor tag : Option Text) (pairs : TreePairs) (levels : List Level)
-      → Takes rules (within (in_mapping anchor tag pairs no_key ∷ levels) entry_awaited) content (within (in_mapping anchor tag pairs (key_held tree) ∷ levels) (colon_awaited at_once))
+      → Takes rules (within (in_mapping anchor tag pairs no_key ∷ levels) entry_awaited) content
+      (within (in_mapping anchor tag pairs (key_held tree) ∷ levels) (colon_awaited at_once))
 
 -- the text of a collection's entries: a space where one is needed, the bracket, and what takes the reader over the entries
 pub record FlowEntries (rules : Rules) (bracket : ℕ) (cursor : Cursor) (own : Laid) (first last : Option Text → Option Text → Level) : Type 0 where
@@ -52,7 +53,8 @@ pub record FlowEntries (rules : Rules) (bracket : ℕ) (cursor : Cursor) (own : 
 -- Words
 
 -- where a mapping awaits no key a word is a node
-with_word_open : (breaks12 : Bool) (levels : List Level) (text : Text) (tree : Tree) → may_open levels ≡ true → with_word breaks12 levels text tree ≡ with_tree levels tree
+with_word_open : (breaks12 : Bool) (levels : List Level) (text : Text) (tree : Tree) → may_open levels ≡ true
+    → with_word breaks12 levels text tree ≡ with_tree levels tree
 with_word_open breaks12 [] text tree h = refl
 with_word_open breaks12 (in_sequence anchor tag trees ∷ levels) text tree h = refl
 with_word_open breaks12 (in_mapping anchor tag pairs no_key ∷ levels) text tree h = absurd (false≢true h)
@@ -83,13 +85,15 @@ lead_reads rules anchor tag said given =
     by false h = absurd (false≢true h)
 
 -- a collection opens where a node may begin
-opens_level : (rules : Rules) (levels : List Level) (bracket : ℕ) (anchor tag given_tag : Option Text) → Given rules anchor tag (tag_meant given_tag false) → may_open levels ≡ true
+opens_level : (rules : Rules) (levels : List Level) (bracket : ℕ) (anchor tag given_tag : Option Text) → Given rules anchor tag (tag_meant given_tag false)
+    → may_open levels ≡ true
     → opened_with levels bracket (properties_read rules.directives (lead anchor tag)) ≡ within (level_opened bracket anchor given_tag ∷ levels) entry_awaited
 opens_level rules levels bracket anchor tag given_tag given h =
     let count = length (properties_text anchor tag) + lead_spaces anchor tag in
     ap (opened_with levels bracket) (lead_reads rules anchor tag (tag_meant given_tag false) given)
     ∙ ap (λ x. if x && is_spaces (spaces count ++ []) then opened levels bracket anchor (collection_tag_said (tag_meant given_tag false)) else failed) h
-    ∙ ap (λ x. if x then opened levels bracket anchor (collection_tag_said (tag_meant given_tag false)) else failed) (ap is_spaces (append-nil (spaces count)) ∙ blank_spaces count)
+    ∙ ap (λ x. if x then opened levels bracket anchor (collection_tag_said (tag_meant given_tag false)) else failed)
+    (ap is_spaces (append-nil (spaces count)) ∙ blank_spaces count)
     ∙ ap (opened levels bracket anchor) (tag_of_collection given_tag)
 
 -- what doesn't close a collection is no pair with its bracket
@@ -106,8 +110,10 @@ no_pair bracket c rest h =
     by false false false false h k = refl
 
 -- a collection takes its place
-pub takes_collection : (rules : Rules) (levels : List Level) (spaced : Bool) (bracket : ℕ) (anchor tag given_tag : Option Text) (inside : Text) (to : FlowReading)
-    → Given rules anchor tag (tag_meant given_tag false) → may_open levels ≡ true → class_of rules.breaks12 bracket ≡ begins_bracket → opens_inside inside ≡ true
+pub takes_collection : (rules : Rules) (levels : List Level) (spaced : Bool) (bracket : ℕ) (anchor tag given_tag : Option Text) (inside : Text)
+    (to : FlowReading)
+    → Given rules anchor tag (tag_meant given_tag false) → may_open levels ≡ true → class_of rules.breaks12 bracket ≡ begins_bracket
+    → opens_inside inside ≡ true
     → Takes rules (within (level_opened bracket anchor given_tag ∷ levels) entry_awaited) inside to
     → Takes rules (within levels (awaited_of spaced)) (lead anchor tag ++ (bracket ∷ inside)) to
 takes_collection rules levels spaced bracket anchor tag given_tag [] to given h class opens_it takes = absurd (false≢true opens_it)
@@ -115,7 +121,8 @@ takes_collection rules levels spaced bracket anchor tag given_tag (c ∷ inside)
   takes = λ rest ends.
       ap (λ t. steps rules (within levels (awaited_of spaced)) (flow_tokens rules.breaks12 free t)) (append_assoc (lead anchor tag) (bracket ∷ c ∷ inside) rest)
       ∙ ap (steps rules (within levels (awaited_of spaced)))
-      (opens_after rules.breaks12 (lead anchor tag) bracket c (inside ++ rest) (given_leads rules anchor tag (tag_meant given_tag false) given) class (no_pair bracket c inside opens_it))
+      (opens_after rules.breaks12 (lead anchor tag) bracket c (inside ++ rest) (given_leads rules anchor tag (tag_meant given_tag false) given) class
+      (no_pair bracket c inside opens_it))
       ∙ step spaced (inside ++ rest)
       ∙ ap (λ r. steps rules r (flow_tokens rules.breaks12 free ((c ∷ inside) ++ rest))) (opens_level rules levels bracket anchor tag given_tag given h)
       ∙ takes.takes rest ends;
@@ -171,7 +178,8 @@ closes rules s levels to brackets bracket column cursor e ends at_once_taken aft
       ended = record { white = refl; indention = refl };
       ends = λ rest h. sign_ends rules.breaks12 0x2C (line ++ brackets.closing) (comma_class rules.breaks12) rest h;
       takes =
-          takes_text rules (within levels comma_awaited) to ((0x2C ∷ line) ++ brackets.closing) ((0x2C ∷ line) ++ (bracket ∷ [])) (ap (λ t. (0x2C ∷ line) ++ t) e)
+          takes_text rules (within levels comma_awaited) to ((0x2C ∷ line) ++ brackets.closing) ((0x2C ∷ line) ++ (bracket ∷ []))
+          (ap (λ t. (0x2C ∷ line) ++ t) e)
           (passes_then rules (within levels comma_awaited) (within levels entry_awaited) to (0x2C ∷ line) (bracket ∷ [])
           (passes_both rules (within levels comma_awaited) (within levels entry_awaited) (within levels entry_awaited) (0x2C ∷ []) line
           (passes_comma rules levels)

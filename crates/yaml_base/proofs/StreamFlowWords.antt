@@ -94,7 +94,8 @@ abbrev pub scalar_in : Option Text → Option Text → ScalarStyle → (bare : B
 scalar_in anchor tag style bare value = scalar_tree anchor (tagging_in tag (record { style = style; bare = bare })) value
 
 -- what is said of a scalar that is tidy and reads
-pub scalar_meant : (rules : Rules) (flow : Bool) (anchor tag : Option Text) (style : ScalarStyle) (bare : Bool) (column : Option ℕ) (text v : Text) (value : Option Text)
+pub scalar_meant : (rules : Rules) (flow : Bool) (anchor tag : Option Text) (style : ScalarStyle) (bare : Bool) (column : Option ℕ) (text v : Text)
+    (value : Option Text)
     → (bare ≡ true → is_plain style ≡ false) → is_tidy style rules.breaks12 column text ≡ true → value ≡ Some v
     → scalar_said (record { anchor = anchor; tag = tag_meant tag bare }) (standing_of style) (if is_tidy style rules.breaks12 column text then value else None)
     ≡ Some (scalar_in anchor tag style bare v)
@@ -116,7 +117,8 @@ single_kind (c ∷ d ∷ t) = refl
 
 -- one in double quotes
 pub double_flow_word : (rules : Rules) (anchor tag given_tag : Option Text) (bare : Bool) (column : Option ℕ) (t v : Text)
-    → Given rules anchor tag (tag_meant given_tag bare) → is_tidy double_quoted rules.breaks12 column (0x22 ∷ t) ≡ true → read_double rules.breaks12 (0x22 ∷ t) ≡ Some v
+    → Given rules anchor tag (tag_meant given_tag bare) → is_tidy double_quoted rules.breaks12 column (0x22 ∷ t) ≡ true
+    → read_double rules.breaks12 (0x22 ∷ t) ≡ Some v
     → FlowWord rules (lead anchor tag ++ (0x22 ∷ t)) (scalar_in anchor given_tag double_quoted bare v)
 double_flow_word rules anchor tag given_tag bare column t v given tidy read = record {
   says = says_double_after rules.breaks12 (lead anchor tag) t v (given_leads rules anchor tag (tag_meant given_tag bare) given) read;
@@ -130,7 +132,8 @@ double_flow_word rules anchor tag given_tag bare column t v given tidy read = re
 
 -- one in single quotes
 pub single_flow_word : (rules : Rules) (anchor tag given_tag : Option Text) (bare : Bool) (column : Option ℕ) (t v : Text)
-    → Given rules anchor tag (tag_meant given_tag bare) → is_tidy single_quoted rules.breaks12 column (0x27 ∷ t) ≡ true → read_single rules.breaks12 (0x27 ∷ t) ≡ Some v
+    → Given rules anchor tag (tag_meant given_tag bare) → is_tidy single_quoted rules.breaks12 column (0x27 ∷ t) ≡ true
+    → read_single rules.breaks12 (0x27 ∷ t) ≡ Some v
     → FlowWord rules (lead anchor tag ++ (0x27 ∷ t)) (scalar_in anchor given_tag single_quoted bare v)
 single_flow_word rules anchor tag given_tag bare column t v given tidy read = record {
   says = says_single_after rules.breaks12 (lead anchor tag) t v (given_leads rules anchor tag (tag_meant given_tag bare) given) read;
@@ -143,22 +146,39 @@ single_flow_word rules anchor tag given_tag bare column t v given tidy read = re
 }
 
 -- what begins plain text in flow is of that class
-plain_class : (breaks12 : Bool) (c : ℕ) → is_read_white breaks12 c ≡ false → Begins c → is_among (codes ",?:[]{}") c ≡ false → class_of breaks12 c ≡ begins_plain
+plain_class : (breaks12 : Bool) (c : ℕ) → is_read_white breaks12 c ≡ false → Begins c → is_among (codes ",?:[]{}") c ≡ false
+    → class_of breaks12 c ≡ begins_plain
 plain_class breaks12 c white b sign =
     let parts = or_parts (is_blank c) (is_read_break breaks12 c) white in
     let is_not : (n : ℕ) → is_among (codes ",?:[]{}") n ≡ true → (c == n) ≡ false = λ n member. not_among (codes ",?:[]{}") c n member sign in
-    rw (parts.0, parts.1, is_not 0x5D refl, is_not 0x7D refl, is_not 0x2C refl, is_not 0x3A refl, is_not 0x3F refl, b.anchor, b.tag, b.double, b.single, is_not 0x5B refl, is_not 0x7B refl) refl
+    rw (
+      parts.0,
+      parts.1,
+      is_not 0x5D refl,
+      is_not 0x7D refl,
+      is_not 0x2C refl,
+      is_not 0x3A refl,
+      is_not 0x3F refl,
+      b.anchor,
+      b.tag,
+      b.double,
+      b.single,
+      is_not 0x5B refl,
+      is_not 0x7B refl,
+    ) refl
 
 -- what holds no sign of flow doesn't begin with one
 first_no_sign : (breaks12 : Bool) (c : ℕ) (t : Text) → holds_no_plain breaks12 true (c ∷ t) ≡ false → is_among (codes ",?:[]{}") c ≡ false
 first_no_sign breaks12 c t h =
-    let parts = or_parts ((c == 58 && begins_white breaks12 t) || (is_read_white breaks12 c && begins_with_hash t) || is_among (codes ",?:[]{}") c) (holds_no_plain breaks12 true t) h in
+    let parts = or_parts ((c == 58 && begins_white breaks12 t) || (is_read_white breaks12 c && begins_with_hash t) || is_among (codes ",?:[]{}") c)
+    (holds_no_plain breaks12 true t) h in
     (or_parts ((c == 58 && begins_white breaks12 t) || (is_read_white breaks12 c && begins_with_hash t)) (is_among (codes ",?:[]{}") c) parts.0).1
 
 -- a tidy plain text has clean edges
 tidy_clean : (breaks12 : Bool) (text : Text) → is_tidy plain breaks12 None text ≡ true → has_clean_edges breaks12 text ≡ true
 tidy_clean breaks12 text tidy =
-    let style = (and_parts (list_all is_printable text && has_deep_lines breaks12 1 text) (has_no_space_before_break breaks12 text && has_clean_edges breaks12 text) tidy).1 in
+    let style = (and_parts (list_all is_printable text && has_deep_lines breaks12 1 text)
+    (has_no_space_before_break breaks12 text && has_clean_edges breaks12 text) tidy).1 in
     (and_parts (has_no_space_before_break breaks12 text) (has_clean_edges breaks12 text) style).1
 
 -- a plain scalar
@@ -179,7 +199,8 @@ plain_flow_word rules anchor tag given_tag column c t v given tidy read =
           given_reads rules true anchor tag (tag_meant given_tag false) (c ∷ t) given (own b)
           ∙ ap (λ kind. word_by_kind kind rules true None (record { anchor = anchor; tag = tag_meant given_tag false }) (c ∷ t)) (plain_kind c t b)
           ∙ ap (λ style. scalar_of_style style rules true None (record { anchor = anchor; tag = tag_meant given_tag false }) (c ∷ t)) (plain_style c t b)
-          ∙ scalar_meant rules true anchor given_tag plain false None (c ∷ t) v (read_plain rules.breaks12 true (c ∷ t)) (λ h. absurd (false≢true h)) at_root read;
+          ∙ scalar_meant rules true anchor given_tag plain false None (c ∷ t) v (read_plain rules.breaks12 true (c ∷ t))
+          (λ h. absurd (false≢true h)) at_root read;
       opens = lead_opens rules anchor tag (tag_meant given_tag false) (c ∷ t) given (opened sign);
     }
   where
@@ -230,7 +251,8 @@ alias_flow_word rules [] h = absurd (none_not_some h)
 alias_flow_word rules (n ∷ name) h = record {
   says = record {
     says = λ rest ends.
-        ap (λ class. (let here : FlowTurn = begun class [] 0x2A in here.tokens ++ flow_tokens rules.breaks12 here.place ((n ∷ name) ++ rest))) (star_class rules.breaks12)
+        ap (λ class. (let here : FlowTurn = begun class [] 0x2A in here.tokens ++ flow_tokens rules.breaks12 here.place ((n ∷ name) ++ rest)))
+        (star_class rules.breaks12)
         ∙ plain_text_word rules.breaks12 [] 0x2A (n ∷ name) rest (letters_stay rules.breaks12 (n ∷ name) (name_letters (n ∷ name) h))
         (letters_shown rules.breaks12 n name (name_letters (n ∷ name) h)) ends;
   };
@@ -249,7 +271,8 @@ tag_of_collection (Some tag) = refl
 pub empty_sequence_word : (rules : Rules) (anchor tag given_tag : Option Text) → Given rules anchor tag (tag_meant given_tag false)
     → FlowWord rules (lead anchor tag ++ (0x5B ∷ 0x5D ∷ [])) (sequence_tree anchor given_tag no_trees)
 empty_sequence_word rules anchor tag given_tag given = record {
-  says = says_empty_after rules.breaks12 (lead anchor tag) 0x5B 0x5D (given_leads rules anchor tag (tag_meant given_tag false) given) (bracket_class rules.breaks12).0 refl;
+  says = says_empty_after rules.breaks12 (lead anchor tag) 0x5B 0x5D (given_leads rules anchor tag (tag_meant given_tag false) given)
+      (bracket_class rules.breaks12).0 refl;
   reads =
       given_reads rules true anchor tag (tag_meant given_tag false) (0x5B ∷ 0x5D ∷ []) given refl
       ∙ ap (option_map (λ tag. sequence_tree anchor tag no_trees)) (tag_of_collection given_tag);
@@ -260,7 +283,8 @@ empty_sequence_word rules anchor tag given_tag given = record {
 pub empty_mapping_word : (rules : Rules) (anchor tag given_tag : Option Text) → Given rules anchor tag (tag_meant given_tag false)
     → FlowWord rules (lead anchor tag ++ (0x7B ∷ 0x7D ∷ [])) (mapping_tree anchor given_tag no_tree_pairs)
 empty_mapping_word rules anchor tag given_tag given = record {
-  says = says_empty_after rules.breaks12 (lead anchor tag) 0x7B 0x7D (given_leads rules anchor tag (tag_meant given_tag false) given) (bracket_class rules.breaks12).1 refl;
+  says = says_empty_after rules.breaks12 (lead anchor tag) 0x7B 0x7D (given_leads rules anchor tag (tag_meant given_tag false) given)
+      (bracket_class rules.breaks12).1 refl;
   reads =
       given_reads rules true anchor tag (tag_meant given_tag false) (0x7B ∷ 0x7D ∷ []) given refl
       ∙ ap (option_map (λ tag. mapping_tree anchor tag no_tree_pairs)) (tag_of_collection given_tag);

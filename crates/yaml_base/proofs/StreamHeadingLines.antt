@@ -11,7 +11,8 @@ use Rattle.yaml_base.specs.Cursor.{Cursor, Laid, first_cursor, then_laid}
 use Rattle.yaml_base.specs.Event.{Version, TagDirective, DocumentStart}
 use Rattle.yaml_base.specs.Percent.{prefix_escaped}
 use Rattle.yaml_base.specs.Tags.{directives_fault, handle_fault, directives_fault_after, next_directive_fault, directive_fault, gives_handle, duplicate_directive, prefix_fault, version_fault}
-use Rattle.yaml_base.specs.Layout.{laid_if, closing_mark_laid, version_text, version_laid, tag_directives_laid, has_directives, is_explicit, document_mark_laid, document_start_laid}
+use Rattle.yaml_base.specs.Indicators.{indicator_laid, yaml_directive, version_1_1, version_1_2}
+use Rattle.yaml_base.specs.Layout.{laid_if, closing_mark_laid, line_ended, version_word, version_laid, tag_directives_laid, has_directives, is_explicit, document_mark_laid, document_start_laid}
 use Rattle.yaml_base.specs.Meaning.{directive_scalars}
 use Rattle.yaml_base.specs.StreamLines.{Line, lines_of, text_of_lines, is_spaces, without_blank_lines, all_blank}
 use Rattle.yaml_base.specs.StreamDocuments.{mark_of, directive_lines, begins_with_percent, front_kind, document_lines, heading_of}
@@ -101,7 +102,7 @@ version_whole : (breaks12 : Bool) (version : Option Version) → WholeLines brea
 version_whole breaks12 None = tt
 version_whole breaks12 (Some version) = (by breaks12 (int_eq version.minor (pos 2)), refl, tt)
   where
-    by : (x two : Bool) → OneLine x (codes "%YAML" ++ (space ∷ (if two then codes "1.2" else codes "1.1")))
+    by : (x two : Bool) → OneLine x (codes "%YAML" ++ (space ∷ (if two then version_1_2 else version_1_1).text))
     by true true = refl
     by true false = refl
     by false true = refl
@@ -177,7 +178,7 @@ heading_begins portable start h = by start.version start.directives h
     by None [] h = absurd (false≢true h)
     by None (directive ∷ rest) h = (record { text = directive_text portable directive; ending = line_feed ∷ [] }, tag_lines portable rest, refl, refl)
     by (Some version) directives h =
-        (record { text = codes "%YAML" ++ (space ∷ version_text version); ending = line_feed ∷ [] }, tag_lines portable directives, refl, refl)
+        (record { text = codes "%YAML" ++ (space ∷ (version_word version).text); ending = line_feed ∷ [] }, tag_lines portable directives, refl, refl)
 
 -- it tells the reader that directives stand there
 pub heading_front : (portable : Bool) (start : DocumentStart) (rest : List Line) → has_directives start ≡ true
@@ -227,7 +228,13 @@ laid_as text cursor = record { text = text; cursor = cursor }
 
 version_is : (version : Option Version) → version_laid version first_cursor ≡ record { text = text_of_lines (version_lines version); cursor = first_cursor }
 version_is None = refl
-version_is (Some version) = refl
+version_is (Some version) = by (int_eq version.minor (pos 2))
+  where
+    by : (two : Bool) → line_ended (then_laid (indicator_laid yaml_directive first_cursor) (indicator_laid (if two then version_1_2 else version_1_1)))
+        ≡ (let line : Line = record { text = codes "%YAML" ++ (space ∷ (if two then version_1_2 else version_1_1).text); ending = line_feed ∷ [] } in
+        let laid : Laid = record { text = text_of_lines (line ∷ []); cursor = first_cursor } in laid)
+    by true = refl
+    by false = refl
 
 tags_are : (portable : Bool) (directives : List TagDirective)
     → tag_directives_laid portable directives first_cursor ≡ record { text = text_of_lines (tag_lines portable directives); cursor = first_cursor }

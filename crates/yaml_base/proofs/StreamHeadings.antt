@@ -16,7 +16,8 @@ use Rattle.yaml_base.specs.ReadTags.{closes_handle, is_handle_text, prefix_said,
 use Rattle.yaml_base.specs.Tags.{tag_mark, prefix_fault, handle_fault, next_directive_fault, directive_fault, gives_handle, duplicate_directive, incompatible_version, directives_fault_after, version_fault, directives_fault}
 use Rattle.yaml_base.specs.Meaning.{directive_scalars}
 use Rattle.yaml_base.specs.StreamLines.{Line}
-use Rattle.yaml_base.specs.Layout.{version_text}
+use Rattle.yaml_base.specs.Indicators.{version_1_1, version_1_2}
+use Rattle.yaml_base.specs.Layout.{version_word}
 use Rattle.yaml_base.specs.StreamDocuments.{Heading, with_directive, directive_by_words, directive_line, heading_of, no_heading, version_said, with_version}
 use Rattle.yaml_base.proofs.PercentLaws.{escaped_stands, stands_in_prefix, prefix_stands, prefix_begins, decoded_prefix, character_stands}
 use Rattle.yaml_base.proofs.TagLaws.{IsHandle, handle_form, handle_ends_no_word, neither, not_given}
@@ -189,20 +190,20 @@ version_tests true false false h = absurd (cc)
 version_tests false b c h = absurd (cc)
 
 -- a version without a fault is read as it was given
-version_reads : (version : Version) → version_fault version ≡ None → version_said (version_text version) ≡ Some version
+version_reads : (version : Version) → version_fault version ≡ None → version_said ((version_word version).text) ≡ Some version
 version_reads version h = by version.major version.minor h
   where
     made : ℤ → ℤ → Version
     made major minor = record { major = major; minor = minor }
 
-    minor_two : (m : ℕ) → (1 == m || 2 == m) ≡ true → version_said (version_text (made (pos 1) (pos m))) ≡ Some (made (pos 1) (pos m))
+    minor_two : (m : ℕ) → (1 == m || 2 == m) ≡ true → version_said ((version_word (made (pos 1) (pos m))).text) ≡ Some (made (pos 1) (pos m))
     minor_two m h = at (1 == m) refl h
       where
-        at : (x : Bool) → (1 == m) ≡ x → (x || 2 == m) ≡ true → version_said (version_text (made (pos 1) (pos m))) ≡ Some (made (pos 1) (pos m))
+        at : (x : Bool) → (1 == m) ≡ x → (x || 2 == m) ≡ true → version_said ((version_word (made (pos 1) (pos m))).text) ≡ Some (made (pos 1) (pos m))
         at true e h = let f : 1 ≡ m = eqb-true 1 m e in rw (← f) refl
         at false e h = let f : 2 ≡ m = eqb-true 2 m h in rw (← f) refl
 
-    by : (major minor : ℤ) → version_fault (made major minor) ≡ None → version_said (version_text (made major minor)) ≡ Some (made major minor)
+    by : (major minor : ℤ) → version_fault (made major minor) ≡ None → version_said ((version_word (made major minor)).text) ≡ Some (made major minor)
     by (negsuc a) minor h = absurd (cc)
     by (pos a) (negsuc b) h = absurd (false≢true (version_tests (1 == a) false false h).1)
     by (pos a) (pos b) h =
@@ -213,7 +214,7 @@ version_reads version h = by version.major version.minor h
 -- the line of a version, if there is one
 abbrev pub version_lines : Option Version → List Line
 version_lines None = []
-version_lines (Some version) = record { text = codes "%YAML" ++ (space ∷ version_text version); ending = line_feed ∷ [] } ∷ []
+version_lines (Some version) = record { text = codes "%YAML" ++ (space ∷ (version_word version).text); ending = line_feed ∷ [] } ∷ []
 
 -- it is read as the version
 version_read : (version : Option Version) → option_and_then version_fault version ≡ None
@@ -224,8 +225,8 @@ version_read (Some version) sound =
     ∙ ap (with_version no_heading) (version_reads version sound)
   where
     words : (x : Bool)
-        → slice_split is_space (codes "%YAML" ++ (space ∷ (if x then codes "1.2" else codes "1.1")))
-        ≡ codes "%YAML" ∷ (if x then codes "1.2" else codes "1.1") ∷ []
+        → slice_split is_space (codes "%YAML" ++ (space ∷ (if x then version_1_2 else version_1_1).text))
+        ≡ codes "%YAML" ∷ (if x then version_1_2 else version_1_1).text ∷ []
     words true = refl
     words false = refl
 

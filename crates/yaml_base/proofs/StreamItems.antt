@@ -46,10 +46,12 @@ abbrev pub ItemsFit : Rules → Effective → List TagDirective → Nodes → �
 ItemsFit rules s directives no_nodes e = Unit {0}
 ItemsFit rules s directives (nodes_and items last) e =
     ItemsFit rules s directives items e
-    × Fits rules (size last) (node_own last s directives (item_place items e) (sign_cursor e)) (node_tree last s directives (item_place items e)) (item_place items e) (sign_cursor e)
+    × Fits rules (size last) (node_own last s directives (item_place items e) (sign_cursor e)) (node_tree last s directives (item_place items e))
+    (item_place items e) (sign_cursor e)
 
 -- the items leave off settled
-pub items_settled : (rules : Rules) (s : Effective) (directives : List TagDirective) (items : Nodes) (e : ℕ) (cursor : Cursor) → ItemsFit rules s directives items e
+pub items_settled : (rules : Rules) (s : Effective) (directives : List TagDirective) (items : Nodes) (e : ℕ) (cursor : Cursor)
+    → ItemsFit rules s directives items e
     → has_no_nodes items ≡ false → Settled (items_own items s directives false e cursor).cursor
 items_settled rules s directives no_nodes e cursor fit h = absurd (true≢false h)
 items_settled rules s directives (nodes_and items last) e cursor fit h = fit.1.settled
@@ -59,7 +61,8 @@ pub items_end : (rules : Rules) (s : Effective) (directives : List TagDirective)
     → is_closed rules.breaks12 (items_text items s directives e) ≡ true
 items_end rules s directives no_nodes e fit = refl
 items_end rules s directives (nodes_and items last) e fit =
-    closed_both rules.breaks12 (items_text items s directives e) (spaces e ++ (0x2D ∷ item_text items last s directives e)) (items_end rules s directives items e fit.0)
+    closed_both rules.breaks12 (items_text items s directives e) (spaces e ++ (0x2D ∷ item_text items last s directives e))
+    (items_end rules s directives items e fit.0)
     (signed_ends rules.breaks12 e 0x2D (item_text items last s directives e) (fit.1.opens refl) fit.1.ends)
 
 -- the lines of items, and of one more
@@ -67,7 +70,8 @@ pub items_lines : (rules : Rules) (s : Effective) (directives : List TagDirectiv
     → lines_of rules.breaks12 (items_text (nodes_and items last) s directives e)
     ≡ lines_of rules.breaks12 (items_text items s directives e) ++ lines_of rules.breaks12 (spaces e ++ (0x2D ∷ item_text items last s directives e))
 items_lines rules s directives items last e fit =
-    lines_after_break rules.breaks12 (items_text items s directives e) (spaces e ++ (0x2D ∷ item_text items last s directives e)) (items_end rules s directives items e fit)
+    lines_after_break rules.breaks12 (items_text items s directives e) (spaces e ++ (0x2D ∷ item_text items last s directives e))
+    (items_end rules s directives items e fit)
 
 -- a `-` breaks no line
 pub dash_line : (breaks12 : Bool) → OneLine breaks12 (0x2D ∷ [])
@@ -77,10 +81,12 @@ dash_line false = refl
 -- the lines of an item that fits
 abbrev ItemFits : Rules → Effective → List TagDirective → Nodes → Node → ℕ → Type 0
 ItemFits rules s directives items last e =
-    Fits rules (size last) (node_own last s directives (item_place items e) (sign_cursor e)) (node_tree last s directives (item_place items e)) (item_place items e) (sign_cursor e)
+    Fits rules (size last) (node_own last s directives (item_place items e) (sign_cursor e)) (node_tree last s directives (item_place items e))
+    (item_place items e) (sign_cursor e)
 
 -- an item's lines after its first are inside the column
-item_inside : (rules : Rules) (s : Effective) (directives : List TagDirective) (items : Nodes) (last : Node) (e : ℕ) (fit : ItemFits rules s directives items last e)
+item_inside : (rules : Rules) (s : Effective) (directives : List TagDirective) (items : Nodes) (last : Node) (e : ℕ)
+    (fit : ItemFits rules s directives items last e)
     (q : Bool) (d : ℕ) → d ≤ e → AllInside q d (fit.opens refl).rest
 item_inside rules s directives items last e fit q d h =
     ap (λ ls. list_all (λ line. is_inside q d line.text) (lines_after_first ls)) (sym (fit.opens refl).is)
@@ -92,7 +98,8 @@ item_inside rules s directives items last e fit q d h =
 
 -- an item's lines are one entry
 item_splits : (rules : Rules) (s : Effective) (directives : List TagDirective) (items : Nodes) (last : Node) (e : ℕ) → ItemFits rules s directives items last e
-    → Splits true e (lines_of rules.breaks12 (spaces e ++ (0x2D ∷ item_text items last s directives e))) (lines_of rules.breaks12 (spaces e ++ (0x2D ∷ item_text items last s directives e)) ∷ [])
+    → Splits true e (lines_of rules.breaks12 (spaces e ++ (0x2D ∷ item_text items last s directives e)))
+    (lines_of rules.breaks12 (spaces e ++ (0x2D ∷ item_text items last s directives e)) ∷ [])
 item_splits rules s directives items last e fit =
     let o = fit.opens refl in
     let line : Line = record { text = spaces e ++ (0x2D ∷ o.head); ending = o.ending } in
@@ -117,7 +124,8 @@ items_inside rules s directives (nodes_and items last) e fit q d h =
     let o = fit.1.opens refl in
     let line : Line = record { text = spaces e ++ (0x2D ∷ o.head); ending = o.ending } in
     ap (λ ls. list_all (λ line. is_inside q d line.text) ls) (items_lines rules s directives items last e fit.0
-    ∙ ap (λ ls. lines_of rules.breaks12 (items_text items s directives e) ++ ls) (signed_lines rules.breaks12 e 0x2D (item_text items last s directives e) o (dash_line rules.breaks12)))
+    ∙ ap (λ ls. lines_of rules.breaks12 (items_text items s directives e) ++ ls)
+    (signed_lines rules.breaks12 e 0x2D (item_text items last s directives e) o (dash_line rules.breaks12)))
     ∙ inside_both q d (lines_of rules.breaks12 (items_text items s directives e)) (line ∷ o.rest) (items_inside rules s directives items e fit.0 q d h)
     (and_from (is_inside q d line.text) (list_all (λ line. is_inside q d line.text) o.rest) (dash_inside q d e o.head h o.sign)
     (item_inside rules s directives items last e fit.1 q d (no_rank q h)))
@@ -127,7 +135,8 @@ items_inside rules s directives (nodes_and items last) e fit q d h =
     no_rank false h = omega arith
 
 -- an item's entry reads as its tree
-item_reads : (rules : Rules) (s : Effective) (directives : List TagDirective) (items : Nodes) (last : Node) (e : ℕ) (fit : ItemFits rules s directives items last e)
+item_reads : (rules : Rules) (s : Effective) (directives : List TagDirective) (items : Nodes) (last : Node) (e : ℕ)
+    (fit : ItemFits rules s directives items last e)
     (depth : ℕ) → size last ≤ depth
     → item_read (node_read depth rules) e (lines_of rules.breaks12 (spaces e ++ (0x2D ∷ item_text items last s directives e)))
     ≡ Some (node_tree last s directives (entry_place false (as_item (has_no_nodes items)) 0))
@@ -143,14 +152,17 @@ item_reads rules s directives items last e fit depth deep =
 -- the entries of a sequence read as its trees, whatever entries follow
 pub items_read_back : (rules : Rules) (s : Effective) (directives : List TagDirective) (items : Nodes) (e : ℕ) → ItemsFit rules s directives items e
     → (depth : ℕ) → items_size items ≤ depth → (rest : List (List Line))
-    → fold (λ before entry. item_added before (item_read (node_read depth rules) e entry)) (Some no_trees) (item_entries rules.breaks12 items s directives e ++ rest)
+    → fold (λ before entry. item_added before (item_read (node_read depth rules) e entry)) (Some no_trees)
+    (item_entries rules.breaks12 items s directives e ++ rest)
     ≡ fold (λ before entry. item_added before (item_read (node_read depth rules) e entry)) (Some (nodes_tree items s directives false)) rest
 items_read_back rules s directives no_nodes e fit depth deep rest = refl
 items_read_back rules s directives (nodes_and items last) e fit depth deep rest =
     let one = lines_of rules.breaks12 (spaces e ++ (0x2D ∷ item_text items last s directives e)) in
-    ap (fold (λ before entry. item_added before (item_read (node_read depth rules) e entry)) (Some no_trees)) (append_assoc (item_entries rules.breaks12 items s directives e) (one ∷ []) rest)
+    ap (fold (λ before entry. item_added before (item_read (node_read depth rules) e entry)) (Some no_trees))
+    (append_assoc (item_entries rules.breaks12 items s directives e) (one ∷ []) rest)
     ∙ items_read_back rules s directives items e fit.0 depth (omega arith) (one ∷ rest)
-    ∙ ap (λ x. fold (λ before entry. item_added before (item_read (node_read depth rules) e entry)) (item_added (Some (nodes_tree items s directives false)) x) rest)
+    ∙ ap (λ x. fold (λ before entry. item_added before (item_read (node_read depth rules) e entry))
+    (item_added (Some (nodes_tree items s directives false)) x) rest)
     (item_reads rules s directives items last e fit.1 depth (omega arith))
 
 -- regrouped: a sign, what it opens, and the break after it
@@ -188,7 +200,8 @@ items_lay rules s directives (nodes_and (nodes_and items one) last) e cursor fit
       is = ap (λ t. t ++ more) lays.is ∙ append_assoc (spaces e) (lays.head ∷ lays.tail) more;
       lays =
           regrouped before.text (new_line e before.cursor).text own.text (closing own.cursor) 0x2D
-          ∙ ap (λ t. before.text ++ (t ++ (0x2D ∷ closed own))) (new_line_closes e before.cursor (items_settled rules s directives (nodes_and items one) e cursor fit.0 refl))
+          ∙ ap (λ t. before.text ++ (t ++ (0x2D ∷ closed own)))
+          (new_line_closes e before.cursor (items_settled rules s directives (nodes_and items one) e cursor fit.0 refl))
           ∙ ap (λ t. before.text ++ t) (append_assoc (closing before.cursor) (spaces e) (0x2D ∷ closed own))
           ∙ sym (append_assoc before.text (closing before.cursor) more)
           ∙ ap (λ t. t ++ more) lays.lays

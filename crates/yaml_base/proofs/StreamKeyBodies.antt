@@ -46,7 +46,9 @@ run_joined written one writes indent c all h = by (is_space c) refl all
     by true e [] = rw (e) (sym (ap (λ t. t ++ []) (writes.space c e)))
     by true e (first ∷ more) = rw (e) (same first.kind)
       where
-        same : (kind : Kind) → run_texts written indent (if is_same_kind spaces kind then record { kind = kind; text = c ∷ first.text } ∷ more else record { kind = spaces; text = c ∷ [] } ∷ record { kind = kind; text = first.text } ∷ more)
+        same : (kind : Kind) → run_texts written indent
+            (if is_same_kind spaces kind then record { kind = kind; text = c ∷ first.text } ∷ more else
+            record { kind = spaces; text = c ∷ [] } ∷ record { kind = kind; text = first.text } ∷ more)
             ≡ one c ++ (run_text written false indent kind first.text ++ run_texts written indent more)
         same spaces = sym (ap (λ t. t ++ (first.text ++ run_texts written indent more)) (writes.space c e))
         same breaks = sym (ap (λ t. t ++ (run_text written false indent breaks first.text ++ run_texts written indent more)) (writes.space c e))
@@ -57,7 +59,9 @@ run_joined written one writes indent c all h = by (is_space c) refl all
         lone : written (c ∷ []) ≡ one c
         lone = writes.more c [] ∙ ap (λ t. one c ++ t) writes.nothing ∙ append-nil (one c)
 
-        same : (kind : Kind) → run_texts written indent (if is_same_kind others kind then record { kind = kind; text = c ∷ first.text } ∷ more else record { kind = others; text = c ∷ [] } ∷ record { kind = kind; text = first.text } ∷ more)
+        same : (kind : Kind) → run_texts written indent
+            (if is_same_kind others kind then record { kind = kind; text = c ∷ first.text } ∷ more else
+            record { kind = others; text = c ∷ [] } ∷ record { kind = kind; text = first.text } ∷ more)
             ≡ one c ++ (run_text written false indent kind first.text ++ run_texts written indent more)
         same spaces = ap (λ t. t ++ (first.text ++ run_texts written indent more)) lone
         same breaks = ap (λ t. t ++ (run_text written false indent breaks first.text ++ run_texts written indent more)) lone

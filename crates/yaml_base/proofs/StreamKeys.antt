@@ -26,7 +26,8 @@ abbrev pub found : Tree → Text → Text → Option SimpleKey
 found key text after = Some (record { key = key; length = length text; after = after })
 
 -- the first `:` that ends a key is found
-pub key_found : (rules : Rules) (before t after : Text) (key : Tree) → NoKey rules before t after → key_of_text rules (before ++ t) ≡ Some key → ends_sign after ≡ true
+pub key_found : (rules : Rules) (before t after : Text) (key : Tree) → NoKey rules before t after → key_of_text rules (before ++ t) ≡ Some key
+    → ends_sign after ≡ true
     → key_from rules before (t ++ (0x3A ∷ after)) ≡ found key (before ++ t) after
 key_found rules before [] after key clear read h =
     ap (λ x. option_or (key_ends rules x before after) (key_from rules (before ++ (0x3A ∷ [])) after)) h
@@ -46,7 +47,8 @@ key_found rules before (c ∷ t) after key clear read h =
         → option_or (key_ends rules x before (t ++ (0x3A ∷ after))) (key_from rules (before ++ (c ∷ [])) (t ++ (0x3A ∷ after)))
         ≡ key_from rules (before ++ (c ∷ [])) (t ++ (0x3A ∷ after))
     by true none =
-        ap (λ x. option_or (option_map (λ k. record { key = k; length = length before; after = t ++ (0x3A ∷ after) }) x) (key_from rules (before ++ (c ∷ [])) (t ++ (0x3A ∷ after)))) (none refl)
+        ap (λ x. option_or (option_map (λ k. record { key = k; length = length before; after = t ++ (0x3A ∷ after) }) x)
+        (key_from rules (before ++ (c ∷ [])) (t ++ (0x3A ∷ after)))) (none refl)
     by false none = refl
 
 -- a scalar is no alias
@@ -56,7 +58,8 @@ scalar_no_alias properties standing None = refl
 scalar_no_alias properties standing (Some text) = by (tagging_said properties.tag standing)
   where
     by : (tagging : Option Tagging)
-        → option_and_then (λ tree. if is_alias tree then Some tree else None) (option_map (λ tagging. scalar_tree properties.anchor tagging text) tagging) ≡ None
+        → option_and_then (λ tree. if is_alias tree then Some tree else None) (option_map (λ tagging. scalar_tree properties.anchor tagging text) tagging)
+        ≡ None
     by None = refl
     by (Some tagging) = refl
 
@@ -73,13 +76,15 @@ scalar_but_alias properties standing (Some text) = by (tagging_said properties.t
     by (Some tagging) = refl
 
 -- a word that begins with a double quote is a scalar in such quotes
-word_of_double : (rules : Rules) (flow : Bool) (t : Text) → word_read rules flow (0x22 ∷ t) ≡ scalar_of_style double_quoted rules flow None no_properties (0x22 ∷ t)
+word_of_double : (rules : Rules) (flow : Bool) (t : Text)
+    → word_read rules flow (0x22 ∷ t) ≡ scalar_of_style double_quoted rules flow None no_properties (0x22 ∷ t)
 word_of_double rules flow [] = refl
 word_of_double rules flow (c ∷ []) = refl
 word_of_double rules flow (c ∷ d ∷ t) = refl
 
 -- one that begins with a single quote, in such quotes
-word_of_single : (rules : Rules) (flow : Bool) (t : Text) → word_read rules flow (0x27 ∷ t) ≡ scalar_of_style single_quoted rules flow None no_properties (0x27 ∷ t)
+word_of_single : (rules : Rules) (flow : Bool) (t : Text)
+    → word_read rules flow (0x27 ∷ t) ≡ scalar_of_style single_quoted rules flow None no_properties (0x27 ∷ t)
 word_of_single rules flow [] = refl
 word_of_single rules flow (c ∷ []) = refl
 word_of_single rules flow (c ∷ d ∷ t) = refl
@@ -105,7 +110,8 @@ single_no_alias rules u =
     ∙ scalar_no_alias no_properties stood_quoted (if is_tidy single_quoted rules.breaks12 None (0x27 ∷ u) then read_single rules.breaks12 (0x27 ∷ u) else None)
 
 -- a text is a key where the word is, if no alias stands before its last space
-pub key_by_word : (rules : Rules) (text : Text) (word : Option Tree) → word_but_alias rules text ≡ word → option_and_then (word_of_alias rules) (without_last_space text) ≡ None
+pub key_by_word : (rules : Rules) (text : Text) (word : Option Tree) → word_but_alias rules text ≡ word
+    → option_and_then (word_of_alias rules) (without_last_space text) ≡ None
     → key_of_text rules text ≡ (if nat_le (length text) longest_key then word else None)
 key_by_word rules text word e none =
     ap (λ x. if nat_le (length text) longest_key then option_or x (option_and_then (word_of_alias rules) (without_last_space text)) else None) e

@@ -99,7 +99,8 @@ simple_scalar canonical directives content h =
 -- its text, after its anchor and tag
 pub scalar_key_text : (s : Effective) (own directives : List TagDirective) (content : Scalar) (style : ScalarStyle) (bare : Bool)
     → IsNamed content.anchor → TagStands s.portable own directives (scalar_tag s.canonical content) → SimpleScalar directives s.canonical content
-    → KeyText s.breaks12 (lead content.anchor (tag_written s.portable directives (scalar_tag s.canonical content) bare) ++ key_body style s.unicode content.value)
+    → KeyText s.breaks12 (lead content.anchor (tag_written s.portable directives (scalar_tag s.canonical content) bare)
+    ++ key_body style s.unicode content.value)
 scalar_key_text s own directives content style bare named stands simple =
     let tag = scalar_tag s.canonical content in
     let before = lead content.anchor (tag_written s.portable directives tag bare) in

@@ -34,7 +34,8 @@ pub all_farther : (q : Bool) (d c : ℕ) (lines : List Line) → d ≤ c → All
 all_farther q d c [] le h = refl
 all_farther q d c (line ∷ rest) le h =
     let parts = and_parts (is_inside true c line.text) (list_all (λ line. is_inside true c line.text) rest) h in
-    and_from (is_inside q d line.text) (list_all (λ line. is_inside q d line.text) rest) (inside_mapping q d line.text (inside_farther d c line.text le parts.0))
+    and_from (is_inside q d line.text) (list_all (λ line. is_inside q d line.text) rest)
+    (inside_mapping q d line.text (inside_farther d c line.text le parts.0))
     (all_farther q d c rest le parts.1)
 
 -- Texts
@@ -53,16 +54,20 @@ pub record TextReads (rules : Rules) (column : Option ℕ) (text : Text) (tree :
   pub read : (reads : Reads) (at : ℕ) → text_or_properties (begins_properties (head ∷ first)) rules reads column at (head ∷ first) ending rest ≡ Some tree
 
 -- it reads behind spaces
-text_lines : (rules : Rules) (column : Option ℕ) (text : Text) (tree : Tree) → TextReads rules column text tree → (depth : ℕ) → 1 ≤ depth → (here : Bool) (k : ℕ)
+text_lines : (rules : Rules) (column : Option ℕ) (text : Text) (tree : Tree) → TextReads rules column text tree → (depth : ℕ) → 1 ≤ depth
+    → (here : Bool) (k : ℕ)
     → node_read depth rules here column (lines_of rules.breaks12 (spaces k ++ text)) ≡ Some tree
 text_lines rules column text tree t zero deep here k = absurd (omega arith)
 text_lines rules column text tree t (suc depth) deep here k =
     let line : Line = record { text = spaces k ++ (t.head ∷ t.first); ending = t.ending } in
     let by : ReadsText = λ at text. text_or_properties (begins_properties text) rules (node_read depth rules) column at text in
     let begun : Indented = record { column = k; text = t.head ∷ t.first } in
-    ap (node_read (suc depth) rules here column) (lines_behind rules.breaks12 (spaces k) text (t.head ∷ t.first) t.ending t.rest (spaces_line rules.breaks12 k) t.is)
-    ∙ ap (λ x. node_at rules (node_read depth rules) by no_properties (here || x) (not x) (if x then without_blank_lines t.rest else line ∷ t.rest)) (not_blank k t.head t.first t.shows)
-    ∙ ap (λ (i : Indented). node_by_kind (kind_of_node rules i.text) rules (node_read depth rules) by no_properties (here || false) true i t.ending t.rest (line ∷ t.rest)) (indented_spaces k t.head t.first t.shows)
+    ap (node_read (suc depth) rules here column)
+    (lines_behind rules.breaks12 (spaces k) text (t.head ∷ t.first) t.ending t.rest (spaces_line rules.breaks12 k) t.is)
+    ∙ ap (λ x. node_at rules (node_read depth rules) by no_properties (here || x) (not x) (if x then without_blank_lines t.rest else line ∷ t.rest))
+    (not_blank k t.head t.first t.shows)
+    ∙ ap (λ (i : Indented). node_by_kind (kind_of_node rules i.text) rules (node_read depth rules) by no_properties (here || false) true i t.ending t.rest
+    (line ∷ t.rest)) (indented_spaces k t.head t.first t.shows)
     ∙ ap (λ x. node_by_kind x rules (node_read depth rules) by no_properties (here || false) true begun t.ending t.rest (line ∷ t.rest)) t.kind
     ∙ t.read (node_read depth rules) k
 

@@ -153,7 +153,9 @@ tag_no_word : (rules : Rules) (flow : Bool) (anchor : Option Text) (b : Text) �
 tag_no_word rules flow None b named h = tag_alone rules flow None 0 b h
 tag_no_word rules flow (Some name) b named h =
     ap (λ t. word_read rules flow (0x26 ∷ t)) (append_assoc name (space ∷ []) (0x21 ∷ b))
-    ∙ ap (λ found. after_read rules flow (option_and_then (λ read. let after : Indented = indented read.text in tag_first rules.directives read.properties.anchor after.column after.text) found))
+    ∙ ap (λ found. after_read rules flow
+    (option_and_then (λ read. let after : Indented = indented read.text in tag_first rules.directives read.properties.anchor after.column after.text)
+    found))
     (with_anchor name (space ∷ 0x21 ∷ b) named refl)
     ∙ ap (λ t. let after : Indented = indented t in after_read rules flow (tag_first rules.directives (Some name) after.column after.text))
     (space_after (suc (length name)) (0x21 ∷ b))
@@ -201,7 +203,9 @@ pub anchor_no_alias : (rules : Rules) (u : Text) → word_of_alias rules (0x26 �
 anchor_no_alias rules u = alias_left (word_read rules false (0x26 ∷ u)) (by (name_read (word_cut u).front))
   where
     by : (name : Option Text)
-        → reads_alias (after_read rules false (option_and_then (λ (read : PropertiesRead). let after : Indented = indented read.text in tag_first rules.directives read.properties.anchor after.column after.text)
+        → reads_alias (after_read rules false
+        (option_and_then (λ (read : PropertiesRead). let after : Indented = indented read.text in
+        tag_first rules.directives read.properties.anchor after.column after.text)
         (option_map (λ name. record {
           properties = record { anchor = Some name; tag = None };
           text = spaces (suc (length (word_cut u).front)) ++

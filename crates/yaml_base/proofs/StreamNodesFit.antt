@@ -52,7 +52,8 @@ abbrev mutual
       EitherType (is_written_in_flow s place start (has_no_nodes items))
       (LeafFits rules s directives (sequence_node start items) place cursor)
       (BegunReads rules s directives start cursor
-      × ItemLeaves items rules s directives (entries_column false (is_in_mapping place.role) s.indent place.column (begun_laid s directives start cursor).cursor))
+      × ItemLeaves items rules s directives
+      (entries_column false (is_in_mapping place.role) s.indent place.column (begun_laid s directives start cursor).cursor))
   Leaves (mapping_node start pairs) rules s directives place cursor =
       EitherType (is_written_in_flow s place start (has_no_pairs pairs))
       (LeafFits rules s directives (mapping_node start pairs) place cursor)
@@ -97,9 +98,12 @@ compact_behind c k cursor deep at h =
       count = k;
       sum = omega arith;
       text =
-          ap (λ x. if not x || nat_lt (c + suc k) cursor.column || ((cursor.column == (c + suc k)) && not cursor.whitespace) then line_feed ∷ spaces (c + suc k) else spaces (c + suc k - cursor.column)) h
-          ∙ ap (λ x. if x || ((cursor.column == (c + suc k)) && not cursor.whitespace) then line_feed ∷ spaces (c + suc k) else spaces (c + suc k - cursor.column)) (le-ltb (c + suc k) cursor.column (omega arith))
-          ∙ ap (λ x. if x && not cursor.whitespace then line_feed ∷ spaces (c + suc k) else spaces (c + suc k - cursor.column)) (less_not cursor.column (c + suc k) more)
+          ap (λ x. if not x || nat_lt (c + suc k) cursor.column
+          || ((cursor.column == (c + suc k)) && not cursor.whitespace) then line_feed ∷ spaces (c + suc k) else spaces (c + suc k - cursor.column)) h
+          ∙ ap (λ x. if x || ((cursor.column == (c + suc k)) && not cursor.whitespace) then line_feed ∷ spaces (c + suc k) else
+          spaces (c + suc k - cursor.column)) (le-ltb (c + suc k) cursor.column (omega arith))
+          ∙ ap (λ x. if x && not cursor.whitespace then line_feed ∷ spaces (c + suc k) else spaces (c + suc k - cursor.column))
+          (less_not cursor.column (c + suc k) more)
           ∙ ap spaces less;
       some = λ w. omega arith;
     }
@@ -129,7 +133,8 @@ compact_at (Some c) undented (suc k) cursor deep stands h =
     and_no false = refl
 
 -- behind properties or without them
-compact_begun : (rules : Rules) (anchor tag : Option Text) (column : Option ℕ) (undented : Bool) (indent : ℕ) (cursor : Cursor) (begun : Laid) → 2 ≤ indent → Stands column cursor
+compact_begun : (rules : Rules) (anchor tag : Option Text) (column : Option ℕ) (undented : Bool) (indent : ℕ) (cursor : Cursor) (begun : Laid) → 2 ≤ indent
+    → Stands column cursor
     → BegunKind rules anchor tag cursor begun → begun.cursor.indention ≡ true → Compact (entries_column false undented indent column begun.cursor) begun.cursor
 compact_begun rules anchor tag column undented indent cursor begun deep stands (is_said is) h = absurd (false≢true (sym is.ends ∙ h))
 compact_begun rules anchor tag column undented indent cursor begun deep stands (unsaid no_anchor no_tag nothing) h =
@@ -163,7 +168,8 @@ pairs_within q d role (Some c) indent cursor deep within = by (q && is_in_mappin
 -- The law
 
 -- what fits for a size fits for a greater one
-fits_deeper : (rules : Rules) (m n : ℕ) (own : Laid) (tree : Tree) (place : Place) (cursor : Cursor) → m ≤ n → Fits rules m own tree place cursor → Fits rules n own tree place cursor
+fits_deeper : (rules : Rules) (m n : ℕ) (own : Laid) (tree : Tree) (place : Place) (cursor : Cursor) → m ≤ n → Fits rules m own tree place cursor
+    → Fits rules n own tree place cursor
 fits_deeper rules m n own tree place cursor le fit = record {
   settled = fit.settled;
   ends = fit.ends;
@@ -177,9 +183,12 @@ not_empty : (s : Effective) (place : Place) (start : Collection) (empty : Bool) 
 not_empty s place start empty h = (or_parts (place.in_flow || s.canonical || asks_flow start.style) empty h).1
 
 -- a sequence fits where its items do, or by itself
-sequence_fits : (start : Collection) (items : Nodes) (rules : Rules) (s : Effective) (directives : List TagDirective) (place : Place) (cursor : Cursor) → 2 ≤ s.indent → Stands place.column cursor
-    → Leaves (sequence_node start items) rules s directives place cursor → ((e : ℕ) → ItemLeaves items rules s directives e → ItemsFit rules s directives items e)
-    → Fits rules (size (sequence_node start items)) (node_own (sequence_node start items) s directives place cursor) (node_tree (sequence_node start items) s directives place) place cursor
+sequence_fits : (start : Collection) (items : Nodes) (rules : Rules) (s : Effective) (directives : List TagDirective) (place : Place) (cursor : Cursor)
+    → 2 ≤ s.indent → Stands place.column cursor
+    → Leaves (sequence_node start items) rules s directives place cursor
+    → ((e : ℕ) → ItemLeaves items rules s directives e → ItemsFit rules s directives items e)
+    → Fits rules (size (sequence_node start items)) (node_own (sequence_node start items) s directives place cursor)
+    (node_tree (sequence_node start items) s directives place) place cursor
 sequence_fits start items rules s directives place cursor deep stands leaves each = by (is_written_in_flow s place start (has_no_nodes items)) refl leaves
   where
     begun : Laid
@@ -195,10 +204,12 @@ sequence_fits start items rules s directives place cursor deep stands leaves eac
     tree x = sequence_tree start.anchor (collection_tag s.canonical start) (nodes_tree items s directives x)
 
     by : (x : Bool) → is_written_in_flow s place start (has_no_nodes items) ≡ x
-        → EitherType x (LeafFits rules s directives (sequence_node start items) place cursor) (BegunReads rules s directives start cursor × ItemLeaves items rules s directives e)
+        → EitherType x (LeafFits rules s directives (sequence_node start items) place cursor)
+        (BegunReads rules s directives start cursor × ItemLeaves items rules s directives e)
         → Fits rules (suc (items_size items)) (own x) (tree x) place cursor
     by true h leaf =
-        fits_deeper rules 1 (suc (items_size items)) (own true) (tree true) place cursor (omega arith) (subst (λ x. Fits rules 1 (own x) (tree x) place cursor) h leaf)
+        fits_deeper rules 1 (suc (items_size items)) (own true) (tree true) place cursor (omega arith)
+        (subst (λ x. Fits rules 1 (own x) (tree x) place cursor) h leaf)
     by false h leaves =
         let fit = each e leaves.1 in
         let some = not_empty s place start (has_no_nodes items) h in
@@ -210,13 +221,17 @@ sequence_fits start items rules s directives place cursor deep stands leaves eac
           ends = items_end rules s directives items e fit;
           lays = items_lay rules s directives items e begun.cursor fit some;
           inside = λ q d within. items_inside rules s directives items e fit q d (items_within q d place.role place.column s.indent begun.cursor deep within);
-          compact = compact_begun rules start.anchor (collection_tag s.canonical start) place.column (is_in_mapping place.role) s.indent cursor begun deep stands leaves.0;
+          compact = compact_begun rules start.anchor (collection_tag s.canonical start) place.column
+              (is_in_mapping place.role) s.indent cursor begun deep stands leaves.0;
         })
 
 -- so does a mapping
-mapping_fits : (start : Collection) (pairs : Pairs) (rules : Rules) (s : Effective) (directives : List TagDirective) (place : Place) (cursor : Cursor) → 2 ≤ s.indent → Stands place.column cursor
-    → Leaves (mapping_node start pairs) rules s directives place cursor → ((e : ℕ) → PairLeaves pairs rules s directives e → PairsFit rules s directives pairs e)
-    → Fits rules (size (mapping_node start pairs)) (node_own (mapping_node start pairs) s directives place cursor) (node_tree (mapping_node start pairs) s directives place) place cursor
+mapping_fits : (start : Collection) (pairs : Pairs) (rules : Rules) (s : Effective) (directives : List TagDirective) (place : Place) (cursor : Cursor)
+    → 2 ≤ s.indent → Stands place.column cursor
+    → Leaves (mapping_node start pairs) rules s directives place cursor
+    → ((e : ℕ) → PairLeaves pairs rules s directives e → PairsFit rules s directives pairs e)
+    → Fits rules (size (mapping_node start pairs)) (node_own (mapping_node start pairs) s directives place cursor)
+    (node_tree (mapping_node start pairs) s directives place) place cursor
 mapping_fits start pairs rules s directives place cursor deep stands leaves each = by (is_written_in_flow s place start (has_no_pairs pairs)) refl leaves
   where
     begun : Laid
@@ -232,10 +247,12 @@ mapping_fits start pairs rules s directives place cursor deep stands leaves each
     tree x = mapping_tree start.anchor (collection_tag s.canonical start) (pairs_tree pairs s directives x)
 
     by : (x : Bool) → is_written_in_flow s place start (has_no_pairs pairs) ≡ x
-        → EitherType x (LeafFits rules s directives (mapping_node start pairs) place cursor) (BegunReads rules s directives start cursor × PairLeaves pairs rules s directives e)
+        → EitherType x (LeafFits rules s directives (mapping_node start pairs) place cursor)
+        (BegunReads rules s directives start cursor × PairLeaves pairs rules s directives e)
         → Fits rules (suc (pairs_size pairs)) (own x) (tree x) place cursor
     by true h leaf =
-        fits_deeper rules 1 (suc (pairs_size pairs)) (own true) (tree true) place cursor (omega arith) (subst (λ x. Fits rules 1 (own x) (tree x) place cursor) h leaf)
+        fits_deeper rules 1 (suc (pairs_size pairs)) (own true) (tree true) place cursor (omega arith)
+        (subst (λ x. Fits rules 1 (own x) (tree x) place cursor) h leaf)
     by false h leaves =
         let fit = each e leaves.1 in
         let some = not_empty s place start (has_no_pairs pairs) h in
@@ -259,16 +276,19 @@ pair_fits : (x : Bool) (pairs : Pairs) (key value : Node) (rules : Rules) (s : E
     → ((y : Bool) (cursor : Cursor) → Stands (Some e) cursor → Leaves value rules s directives (value_place y e) cursor
     → Fits rules (size value) (node_own value s directives (value_place y e) cursor) (node_tree value s directives (value_place y e)) (value_place y e) cursor)
     → (Leaves key rules s directives (key_place pairs e) (sign_cursor e)
-    → Fits rules (size key) (node_own key s directives (key_place pairs e) (sign_cursor e)) (node_tree key s directives (key_place pairs e)) (key_place pairs e) (sign_cursor e))
+    → Fits rules (size key) (node_own key s directives (key_place pairs e) (sign_cursor e)) (node_tree key s directives (key_place pairs e)) (key_place pairs e)
+    (sign_cursor e))
     → PairFits x rules s directives pairs key value e
 pair_fits true pairs key value rules s directives e leaves value_fits key_fits =
     let own = (simple_key pairs key s directives e).cursor in
     (leaves.0, value_fits true (colon_cursor own) (refl, λ h. absurd (false≢true (sym (colon_ends own) ∙ h))) leaves.1)
-pair_fits false pairs key value rules s directives e leaves value_fits key_fits = (key_fits leaves.0, value_fits false (sign_cursor e) (refl, λ h. refl) leaves.1)
+pair_fits false pairs key value rules s directives e leaves value_fits
+    key_fits = (key_fits leaves.0, value_fits false (sign_cursor e) (refl, λ h. refl) leaves.1)
 
 -- a node in a block fits where its leaves do; so do the items of a sequence and the pairs of a mapping
 mutual
-  pub node_fits : (n : Node) (rules : Rules) (s : Effective) (directives : List TagDirective) (place : Place) (cursor : Cursor) → 2 ≤ s.indent → Stands place.column cursor
+  pub node_fits : (n : Node) (rules : Rules) (s : Effective) (directives : List TagDirective) (place : Place) (cursor : Cursor) → 2 ≤ s.indent
+      → Stands place.column cursor
       → Leaves n rules s directives place cursor → Fits rules (size n) (node_own n s directives place cursor) (node_tree n s directives place) place cursor
   node_fits (alias_node name) rules s directives place cursor deep stands leaves = leaves
   node_fits (scalar_node content) rules s directives place cursor deep stands leaves = leaves
@@ -277,13 +297,17 @@ mutual
   node_fits (mapping_node start pairs) rules s directives place cursor deep stands leaves =
       mapping_fits start pairs rules s directives place cursor deep stands leaves (λ e each. pairs_fit pairs rules s directives e deep each)
 
-  pub items_fit : (items : Nodes) (rules : Rules) (s : Effective) (directives : List TagDirective) (e : ℕ) → 2 ≤ s.indent → ItemLeaves items rules s directives e
+  pub items_fit : (items : Nodes) (rules : Rules) (s : Effective) (directives : List TagDirective) (e : ℕ) → 2 ≤ s.indent
+      → ItemLeaves items rules s directives e
       → ItemsFit rules s directives items e
   items_fit no_nodes rules s directives e deep leaves = tt
-  items_fit (nodes_and items last) rules s directives e deep leaves =
-      (items_fit items rules s directives e deep leaves.0, node_fits last rules s directives (item_place items e) (sign_cursor e) deep (refl, λ h. refl) leaves.1)
+  items_fit (nodes_and items last) rules s directives e deep leaves = (
+    items_fit items rules s directives e deep leaves.0,
+    node_fits last rules s directives (item_place items e) (sign_cursor e) deep (refl, λ h. refl) leaves.1,
+  )
 
-  pub pairs_fit : (pairs : Pairs) (rules : Rules) (s : Effective) (directives : List TagDirective) (e : ℕ) → 2 ≤ s.indent → PairLeaves pairs rules s directives e
+  pub pairs_fit : (pairs : Pairs) (rules : Rules) (s : Effective) (directives : List TagDirective) (e : ℕ) → 2 ≤ s.indent
+      → PairLeaves pairs rules s directives e
       → PairsFit rules s directives pairs e
   pairs_fit no_pairs rules s directives e deep leaves = tt
   pairs_fit (pairs_and pairs key value) rules s directives e deep leaves = (

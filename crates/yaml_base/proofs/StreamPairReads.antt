@@ -42,7 +42,8 @@ question rules n own tree role e fit depth deep pairs =
 -- an entry that begins with `:`
 colon : (rules : Rules) (n : ℕ) (own : Laid) (tree : Tree) (role : Role) (e : ℕ) (fit : Fits rules n own tree (entry_place false role e) (sign_cursor e))
     (depth : ℕ) → n ≤ depth → (pairs : TreePairs) (key : Tree)
-    → entry_read rules (node_read depth rules) e (held pairs (Some key)) (lines_of rules.breaks12 (spaces e ++ (0x3A ∷ closed own))) ≡ held (tree_pairs_and pairs key tree) None
+    → entry_read rules (node_read depth rules) e (held pairs (Some key)) (lines_of rules.breaks12 (spaces e ++ (0x3A ∷ closed own)))
+    ≡ held (tree_pairs_and pairs key tree) None
 colon rules n own tree role e fit depth deep pairs key =
     let o = fit.opens refl in
     let before : HeldPairs = record { pairs = pairs; key = Some key } in
@@ -54,8 +55,10 @@ colon rules n own tree role e fit depth deep pairs key =
 
 -- an entry that begins with a simple key
 keyed : (rules : Rules) (text : Text) (key_tree : Tree) (n : ℕ) (own : Laid) (tree : Tree) (role : Role) (e : ℕ) (cursor : Cursor) → KeyFits rules text key_tree
-    → (fit : Fits rules n own tree (entry_place false role e) cursor) → cursor.whitespace ≡ false → cursor.indention ≡ false → (depth : ℕ) → n ≤ depth → (pairs : TreePairs)
-    → entry_read rules (node_read depth rules) e (held pairs None) (lines_of rules.breaks12 (spaces e ++ (text ++ (0x3A ∷ closed own)))) ≡ held (tree_pairs_and pairs key_tree tree) None
+    → (fit : Fits rules n own tree (entry_place false role e) cursor) → cursor.whitespace ≡ false → cursor.indention ≡ false → (depth : ℕ) → n ≤ depth
+    → (pairs : TreePairs)
+    → entry_read rules (node_read depth rules) e (held pairs None) (lines_of rules.breaks12 (spaces e ++ (text ++ (0x3A ∷ closed own))))
+    ≡ held (tree_pairs_and pairs key_tree tree) None
 keyed rules text key_tree n own tree role e cursor key fit w i depth deep pairs =
     let o = fit.opens w in
     let before : HeldPairs = record { pairs = pairs; key = None } in
@@ -63,8 +66,10 @@ keyed rules text key_tree n own tree role e cursor key fit w i depth deep pairs 
     ap (entry_read rules (node_read depth rules) e (held pairs None)) (keyed_lines rules text (closed own) key_tree e key o)
     ∙ ap (entry_at rules (node_read depth rules) e o.ending o.rest before) (past_spaces e line)
     ∙ ap (λ k. entry_by_kind k rules (node_read depth rules) e o.ending o.rest before line) (key.simple o.head o.sign)
-    ∙ ap (option_and_then (λ (found : SimpleKey). simple_pair (node_read depth rules) e o.ending o.rest (with_key before (Some found.key)) (Some found))) (key.cut o.head o.sign)
-    ∙ ap (λ ls. with_value pairs (Some key_tree) (node_read depth rules false (Some e) ls)) (sym (blanked_lines rules.breaks12 (suc (e + length text)) (closed own) o))
+    ∙ ap (option_and_then (λ (found : SimpleKey). simple_pair (node_read depth rules) e o.ending o.rest (with_key before (Some found.key)) (Some found)))
+    (key.cut o.head o.sign)
+    ∙ ap (λ ls. with_value pairs (Some key_tree) (node_read depth rules false (Some e) ls))
+    (sym (blanked_lines rules.breaks12 (suc (e + length text)) (closed own) o))
     ∙ ap (with_value pairs (Some key_tree)) (fit.reads depth deep false (suc (e + length text)) (λ h. absurd (false≢true (sym i ∙ h))))
 
 -- no cursor stands in indentation behind the `:` of a simple key
@@ -76,7 +81,8 @@ colon_ends cursor = by cursor.indention
     by false = refl
 
 -- the entries of one pair
-pair_reads : (x : Bool) (rules : Rules) (s : Effective) (directives : List TagDirective) (pairs : Pairs) (key value : Node) (e : ℕ) → PairFits x rules s directives pairs key value e
+pair_reads : (x : Bool) (rules : Rules) (s : Effective) (directives : List TagDirective) (pairs : Pairs) (key value : Node) (e : ℕ)
+    → PairFits x rules s directives pairs key value e
     → (depth : ℕ) → size key ≤ depth → size value ≤ depth → (before : TreePairs) (rest : List (List Line))
     → fold (entry_read rules (node_read depth rules) e) (held before None) (entries_of_pair rules.breaks12 x pairs key value s directives e ++ rest)
     ≡ fold (entry_read rules (node_read depth rules) e)
@@ -84,14 +90,17 @@ pair_reads : (x : Bool) (rules : Rules) (s : Effective) (directives : List TagDi
 pair_reads true rules s directives pairs key value e fit depth deep_key deep_value before rest =
     let own = simple_key pairs key s directives e in
     ap (λ h. fold (entry_read rules (node_read depth rules) e) h rest)
-    (keyed rules own.text (node_tree key s directives (key_place pairs e)) (size value) (simple_value pairs key value s directives e) (node_tree value s directives (value_place true e))
+    (keyed rules own.text (node_tree key s directives (key_place pairs e)) (size value) (simple_value pairs key value s directives e)
+    (node_tree value s directives (value_place true e))
     (as_value true) e (colon_cursor own.cursor) fit.0 fit.1 refl (colon_ends own.cursor) depth deep_value before)
 pair_reads false rules s directives pairs key value e fit depth deep_key deep_value before rest =
     let k = node_tree key s directives (key_place pairs e) in
-    ap (λ h. fold (entry_read rules (node_read depth rules) e) (entry_read rules (node_read depth rules) e h (lines_of rules.breaks12 (spaces e ++ (0x3A ∷ closed (signed_value value s directives e))))) rest)
+    ap (λ h. fold (entry_read rules (node_read depth rules) e)
+    (entry_read rules (node_read depth rules) e h (lines_of rules.breaks12 (spaces e ++ (0x3A ∷ closed (signed_value value s directives e))))) rest)
     (question rules (size key) (signed_key pairs key s directives e) k (as_key (has_no_pairs pairs)) e fit.0 depth deep_key before)
     ∙ ap (λ h. fold (entry_read rules (node_read depth rules) e) h rest)
-    (colon rules (size value) (signed_value value s directives e) (node_tree value s directives (value_place false e)) (as_value false) e fit.1 depth deep_value before k)
+    (colon rules (size value) (signed_value value s directives e) (node_tree value s directives (value_place false e))
+    (as_value false) e fit.1 depth deep_value before k)
 
 -- the entries of a mapping read as its pairs, whatever entries follow
 pub pairs_read_back : (rules : Rules) (s : Effective) (directives : List TagDirective) (pairs : Pairs) (e : ℕ) → PairsFit rules s directives pairs e
@@ -108,7 +117,8 @@ pairs_read_back rules s directives (pairs_and pairs key value) e fit depth deep 
     ∙ pair_reads x rules s directives pairs key value e fit.1 depth (omega arith) (omega arith) before rest
     ∙ ap (λ k. fold (entry_read rules (node_read depth rules) e) (held (tree_pairs_and before k (node_tree value s directives (value_place x e))) None) rest)
     (tree_anywhere key s directives false (as_key (has_no_pairs pairs)) e 0)
-    ∙ ap (λ v. fold (entry_read rules (node_read depth rules) e) (held (tree_pairs_and before (node_tree key s directives (entry_place false (as_key (has_no_pairs pairs)) 0)) v) None) rest)
+    ∙ ap (λ v. fold (entry_read rules (node_read depth rules) e)
+    (held (tree_pairs_and before (node_tree key s directives (entry_place false (as_key (has_no_pairs pairs)) 0)) v) None) rest)
     (tree_anywhere value s directives false (as_value x) e 0)
 
 -- Layout
@@ -140,7 +150,8 @@ keyed_regrouped a n k v c =
     ∙ ap (λ t. a ++ ((t ++ k) ++ (0x3A ∷ (v ++ c)))) (append-nil n) ∙ ap (λ t. a ++ t) (append_assoc n k (0x3A ∷ (v ++ c)))
 
 -- regrouped: a key with its sign, and a value with its own
-signed_regrouped : (a n k m v c : Text) → ((a ++ ((n ++ (0x3F ∷ [])) ++ k)) ++ ((m ++ (0x3A ∷ [])) ++ v)) ++ c ≡ a ++ (n ++ (0x3F ∷ (k ++ (m ++ (0x3A ∷ (v ++ c))))))
+signed_regrouped : (a n k m v c : Text)
+    → ((a ++ ((n ++ (0x3F ∷ [])) ++ k)) ++ ((m ++ (0x3A ∷ [])) ++ v)) ++ c ≡ a ++ (n ++ (0x3F ∷ (k ++ (m ++ (0x3A ∷ (v ++ c))))))
 signed_regrouped a n k m v c =
     append_assoc (a ++ ((n ++ (0x3F ∷ [])) ++ k)) ((m ++ (0x3A ∷ [])) ++ v) c
     ∙ ap (λ t. (a ++ ((n ++ (0x3F ∷ [])) ++ k)) ++ t) (append_assoc (m ++ (0x3A ∷ [])) v c ∙ append_assoc m (0x3A ∷ []) (v ++ c))
@@ -177,7 +188,8 @@ pair_lays false rules s directives pairs key value e before fit =
     }
 
 -- the pairs of a mapping leave off settled
-pub pairs_settled : (rules : Rules) (s : Effective) (directives : List TagDirective) (pairs : Pairs) (e : ℕ) (cursor : Cursor) → PairsFit rules s directives pairs e
+pub pairs_settled : (rules : Rules) (s : Effective) (directives : List TagDirective) (pairs : Pairs) (e : ℕ) (cursor : Cursor)
+    → PairsFit rules s directives pairs e
     → has_no_pairs pairs ≡ false → Settled (pairs_own pairs s directives false e cursor).cursor
 pairs_settled rules s directives no_pairs e cursor fit h = absurd (true≢false h)
 pairs_settled rules s directives (pairs_and pairs key value) e cursor fit h =
@@ -202,8 +214,10 @@ pairs_lay rules s directives (pairs_and (pairs_and pairs a b) key value) e curso
       is = ap (λ t. t ++ more) lays.is ∙ append_assoc (spaces e) (lays.head ∷ lays.tail) more;
       lays =
           one.lays
-          ∙ ap (λ t. before.text ++ (t ++ (one.head ∷ one.tail))) (new_line_closes e before.cursor (pairs_settled rules s directives (pairs_and pairs a b) e cursor fit.0 refl))
-          ∙ ap (λ t. before.text ++ t) (append_assoc (closing before.cursor) (spaces e) (one.head ∷ one.tail) ∙ ap (λ t. closing before.cursor ++ t) (sym one.is))
+          ∙ ap (λ t. before.text ++ (t ++ (one.head ∷ one.tail)))
+          (new_line_closes e before.cursor (pairs_settled rules s directives (pairs_and pairs a b) e cursor fit.0 refl))
+          ∙ ap (λ t. before.text ++ t) (append_assoc (closing before.cursor) (spaces e) (one.head ∷ one.tail)
+          ∙ ap (λ t. closing before.cursor ++ t) (sym one.is))
           ∙ sym (append_assoc before.text (closing before.cursor) more)
           ∙ ap (λ t. t ++ more) lays.lays
           ∙ append_assoc (new_line e cursor).text (lays.head ∷ lays.tail) more;

@@ -125,7 +125,8 @@ keyed_lines rules text t tree e key o =
     (lines_behind rules.breaks12 (0x3A ∷ []) t o.head o.ending o.rest (colon_line rules.breaks12) o.is))
 
 -- a key begins an entry
-keyed_begins : (rules : Rules) (text after : Text) (tree : Tree) → KeyFits rules text tree → ends_sign after ≡ true → begins_entry false (text ++ (0x3A ∷ after)) ≡ true
+keyed_begins : (rules : Rules) (text after : Text) (tree : Tree) → KeyFits rules text tree → ends_sign after ≡ true
+    → begins_entry false (text ++ (0x3A ∷ after)) ≡ true
 keyed_begins rules text after tree key h =
     ap (λ t. begins_entry false (t ++ (0x3A ∷ after))) key.is
     ∙ and_from (not (key.first == space)) (not (begins_with_sign 0x2D ((key.first ∷ key.tail) ++ (0x3A ∷ after)))) (ap not key.shows)
@@ -138,14 +139,16 @@ within_less true d e false h = omega arith
 within_less false d e x h = h
 
 -- the lines after the first of what a sign opens are inside the column, where the node fits there
-pub rest_inside : (rules : Rules) (n : ℕ) (own : Laid) (tree : Tree) (role : Role) (cursor : Cursor) (e : ℕ) (fit : Fits rules n own tree (entry_place false role e) cursor) (w : cursor.whitespace ≡ false)
+pub rest_inside : (rules : Rules) (n : ℕ) (own : Laid) (tree : Tree) (role : Role) (cursor : Cursor) (e : ℕ)
+    (fit : Fits rules n own tree (entry_place false role e) cursor) (w : cursor.whitespace ≡ false)
     (q : Bool) (d : ℕ) → d + rank q ≤ e → AllInside q d (fit.opens w).rest
 rest_inside rules n own tree role cursor e fit w q d h =
     ap (λ ls. list_all (λ line. is_inside q d line.text) (lines_after_first ls)) (sym (fit.opens w).is)
     ∙ fit.inside q d (within_less q d e (is_in_mapping role) h)
 
 -- all lines of a sign and what it opens are deeper than a column farther out
-signed_inside : (rules : Rules) (n : ℕ) (own : Laid) (tree : Tree) (role : Role) (cursor : Cursor) (e c : ℕ) (fit : Fits rules n own tree (entry_place false role e) cursor) (w : cursor.whitespace ≡ false)
+signed_inside : (rules : Rules) (n : ℕ) (own : Laid) (tree : Tree) (role : Role) (cursor : Cursor) (e c : ℕ)
+    (fit : Fits rules n own tree (entry_place false role e) cursor) (w : cursor.whitespace ≡ false)
     → OneLine rules.breaks12 (c ∷ []) → (q : Bool) (d : ℕ) → d < e → AllInside q d (lines_of rules.breaks12 (spaces e ++ (c ∷ closed own)))
 signed_inside rules n own tree role cursor e c fit w one q d h =
     let o = fit.opens w in
@@ -158,7 +161,8 @@ signed_inside rules n own tree role cursor e c fit w one q d h =
     ranked false = omega arith
 
 -- they are one entry of a mapping
-signed_splits : (rules : Rules) (n : ℕ) (own : Laid) (tree : Tree) (role : Role) (cursor : Cursor) (e c : ℕ) (fit : Fits rules n own tree (entry_place false role e) cursor) (w : cursor.whitespace ≡ false)
+signed_splits : (rules : Rules) (n : ℕ) (own : Laid) (tree : Tree) (role : Role) (cursor : Cursor) (e c : ℕ)
+    (fit : Fits rules n own tree (entry_place false role e) cursor) (w : cursor.whitespace ≡ false)
     → OneLine rules.breaks12 (c ∷ []) → ((t : Text) → begins_entry false (c ∷ t) ≡ true)
     → Splits false e (lines_of rules.breaks12 (spaces e ++ (c ∷ closed own))) (lines_of rules.breaks12 (spaces e ++ (c ∷ closed own)) ∷ [])
 signed_splits rules n own tree role cursor e c fit w one begins =
@@ -170,7 +174,8 @@ signed_splits rules n own tree role cursor e c fit w one begins =
 -- One pair
 
 -- a pair ends at a line's end
-pair_ends : (x : Bool) (rules : Rules) (s : Effective) (directives : List TagDirective) (pairs : Pairs) (key value : Node) (e : ℕ) → PairFits x rules s directives pairs key value e
+pair_ends : (x : Bool) (rules : Rules) (s : Effective) (directives : List TagDirective) (pairs : Pairs) (key value : Node) (e : ℕ)
+    → PairFits x rules s directives pairs key value e
     → is_closed rules.breaks12 (pair_text x pairs key value s directives e) ≡ true
 pair_ends true rules s directives pairs key value e fit =
     let k = (simple_key pairs key s directives e).text in
@@ -184,15 +189,19 @@ pair_ends false rules s directives pairs key value e fit =
     (signed_ends rules.breaks12 e 0x3A v (fit.1.opens refl) fit.1.ends)
 
 -- a pair with `?` has the lines of both
-pub signed_pair_lines : (rules : Rules) (s : Effective) (directives : List TagDirective) (pairs : Pairs) (key value : Node) (e : ℕ) → PairFits false rules s directives pairs key value e
+pub signed_pair_lines : (rules : Rules) (s : Effective) (directives : List TagDirective) (pairs : Pairs) (key value : Node) (e : ℕ)
+    → PairFits false rules s directives pairs key value e
     → lines_of rules.breaks12 (pair_text false pairs key value s directives e)
-    ≡ lines_of rules.breaks12 (spaces e ++ (0x3F ∷ closed (signed_key pairs key s directives e))) ++ lines_of rules.breaks12 (spaces e ++ (0x3A ∷ closed (signed_value value s directives e)))
+    ≡ lines_of rules.breaks12 (spaces e ++ (0x3F ∷ closed (signed_key pairs key s directives e)))
+    ++ lines_of rules.breaks12 (spaces e ++ (0x3A ∷ closed (signed_value value s directives e)))
 signed_pair_lines rules s directives pairs key value e fit =
-    lines_after_break rules.breaks12 (spaces e ++ (0x3F ∷ closed (signed_key pairs key s directives e))) (spaces e ++ (0x3A ∷ closed (signed_value value s directives e)))
+    lines_after_break rules.breaks12 (spaces e ++ (0x3F ∷ closed (signed_key pairs key s directives e)))
+    (spaces e ++ (0x3A ∷ closed (signed_value value s directives e)))
     (signed_ends rules.breaks12 e 0x3F (closed (signed_key pairs key s directives e)) (fit.0.opens refl) fit.0.ends)
 
 -- a pair's lines split into its entries
-pair_splits : (x : Bool) (rules : Rules) (s : Effective) (directives : List TagDirective) (pairs : Pairs) (key value : Node) (e : ℕ) → PairFits x rules s directives pairs key value e
+pair_splits : (x : Bool) (rules : Rules) (s : Effective) (directives : List TagDirective) (pairs : Pairs) (key value : Node) (e : ℕ)
+    → PairFits x rules s directives pairs key value e
     → Splits false e (lines_of rules.breaks12 (pair_text x pairs key value s directives e)) (entries_of_pair rules.breaks12 x pairs key value s directives e)
 pair_splits true rules s directives pairs key value e fit =
     let k = (simple_key pairs key s directives e).text in
@@ -206,20 +215,25 @@ pair_splits true rules s directives pairs key value e fit =
 pair_splits false rules s directives pairs key value e fit =
     let k = spaces e ++ (0x3F ∷ closed (signed_key pairs key s directives e)) in
     let v = spaces e ++ (0x3A ∷ closed (signed_value value s directives e)) in
-    subst (λ ls. Splits false e ls (lines_of rules.breaks12 k ∷ lines_of rules.breaks12 v ∷ [])) (sym (signed_pair_lines rules s directives pairs key value e fit))
+    subst (λ ls. Splits false e ls (lines_of rules.breaks12 k ∷ lines_of rules.breaks12 v ∷ []))
+    (sym (signed_pair_lines rules s directives pairs key value e fit))
     (splits_both false e (lines_of rules.breaks12 k) (lines_of rules.breaks12 v) (lines_of rules.breaks12 k ∷ []) (lines_of rules.breaks12 v ∷ [])
-    (signed_splits rules (size key) (signed_key pairs key s directives e) (node_tree key s directives (key_place pairs e)) (as_key (has_no_pairs pairs)) (sign_cursor e) e 0x3F fit.0 refl (question_line rules.breaks12) (λ t. refl))
-    (signed_splits rules (size value) (signed_value value s directives e) (node_tree value s directives (value_place false e)) (as_value false) (sign_cursor e) e 0x3A fit.1 refl (colon_line rules.breaks12) (λ t. refl)))
+    (signed_splits rules (size key) (signed_key pairs key s directives e) (node_tree key s directives (key_place pairs e)) (as_key (has_no_pairs pairs))
+    (sign_cursor e) e 0x3F fit.0 refl (question_line rules.breaks12) (λ t. refl))
+    (signed_splits rules (size value) (signed_value value s directives e) (node_tree value s directives (value_place false e)) (as_value false)
+    (sign_cursor e) e 0x3A fit.1 refl (colon_line rules.breaks12) (λ t. refl)))
 
 -- a pair's lines are deeper than a column farther out
-pair_inside : (x : Bool) (rules : Rules) (s : Effective) (directives : List TagDirective) (pairs : Pairs) (key value : Node) (e : ℕ) → PairFits x rules s directives pairs key value e
+pair_inside : (x : Bool) (rules : Rules) (s : Effective) (directives : List TagDirective) (pairs : Pairs) (key value : Node) (e : ℕ)
+    → PairFits x rules s directives pairs key value e
     → (q : Bool) (d : ℕ) → d < e → AllInside q d (lines_of rules.breaks12 (pair_text x pairs key value s directives e))
 pair_inside true rules s directives pairs key value e fit q d h =
     let k = (simple_key pairs key s directives e).text in
     let tree = node_tree key s directives (key_place pairs e) in
     let o = fit.1.opens refl in
     ap (λ ls. list_all (λ line. is_inside q d line.text) ls) (keyed_lines rules k (closed (simple_value pairs key value s directives e)) tree e fit.0 o)
-    ∙ and_from (is_inside q d (spaces e ++ (k ++ (0x3A ∷ o.head)))) (list_all (λ line. is_inside q d line.text) o.rest) (inside_deeper q d e (k ++ (0x3A ∷ o.head)) h)
+    ∙ and_from (is_inside q d (spaces e ++ (k ++ (0x3A ∷ o.head)))) (list_all (λ line. is_inside q d line.text) o.rest)
+    (inside_deeper q d e (k ++ (0x3A ∷ o.head)) h)
     (rest_inside rules (size value) (simple_value pairs key value s directives e) (node_tree value s directives (value_place true e)) (as_value true)
     (colon_cursor (simple_key pairs key s directives e).cursor) e fit.1 refl q d (ranked q))
   where
@@ -228,9 +242,12 @@ pair_inside true rules s directives pairs key value e fit q d h =
     ranked false = omega arith
 pair_inside false rules s directives pairs key value e fit q d h =
     ap (λ ls. list_all (λ line. is_inside q d line.text) ls) (signed_pair_lines rules s directives pairs key value e fit)
-    ∙ inside_both q d (lines_of rules.breaks12 (spaces e ++ (0x3F ∷ closed (signed_key pairs key s directives e)))) (lines_of rules.breaks12 (spaces e ++ (0x3A ∷ closed (signed_value value s directives e))))
-    (signed_inside rules (size key) (signed_key pairs key s directives e) (node_tree key s directives (key_place pairs e)) (as_key (has_no_pairs pairs)) (sign_cursor e) e 0x3F fit.0 refl (question_line rules.breaks12) q d h)
-    (signed_inside rules (size value) (signed_value value s directives e) (node_tree value s directives (value_place false e)) (as_value false) (sign_cursor e) e 0x3A fit.1 refl (colon_line rules.breaks12) q d h)
+    ∙ inside_both q d (lines_of rules.breaks12 (spaces e ++ (0x3F ∷ closed (signed_key pairs key s directives e))))
+    (lines_of rules.breaks12 (spaces e ++ (0x3A ∷ closed (signed_value value s directives e))))
+    (signed_inside rules (size key) (signed_key pairs key s directives e) (node_tree key s directives (key_place pairs e)) (as_key (has_no_pairs pairs))
+    (sign_cursor e) e 0x3F fit.0 refl (question_line rules.breaks12) q d h)
+    (signed_inside rules (size value) (signed_value value s directives e) (node_tree value s directives (value_place false e)) (as_value false)
+    (sign_cursor e) e 0x3A fit.1 refl (colon_line rules.breaks12) q d h)
 
 -- All pairs
 
@@ -244,9 +261,11 @@ pairs_end rules s directives (pairs_and pairs key value) e fit =
     (pair_ends x rules s directives pairs key value e fit.1)
 
 -- the lines of pairs, and of one more
-pub pairs_lines : (rules : Rules) (s : Effective) (directives : List TagDirective) (pairs : Pairs) (key value : Node) (e : ℕ) → PairsFit rules s directives pairs e
+pub pairs_lines : (rules : Rules) (s : Effective) (directives : List TagDirective) (pairs : Pairs) (key value : Node) (e : ℕ)
+    → PairsFit rules s directives pairs e
     → lines_of rules.breaks12 (pairs_text (pairs_and pairs key value) s directives e)
-    ≡ lines_of rules.breaks12 (pairs_text pairs s directives e) ++ lines_of rules.breaks12 (pair_text (is_simple s.canonical directives key) pairs key value s directives e)
+    ≡ lines_of rules.breaks12 (pairs_text pairs s directives e)
+    ++ lines_of rules.breaks12 (pair_text (is_simple s.canonical directives key) pairs key value s directives e)
 pairs_lines rules s directives pairs key value e fit =
     lines_after_break rules.breaks12 (pairs_text pairs s directives e) (pair_text (is_simple s.canonical directives key) pairs key value s directives e)
     (pairs_end rules s directives pairs e fit)
@@ -259,7 +278,8 @@ pairs_split rules s directives (pairs_and pairs key value) e fit =
     let x = is_simple s.canonical directives key in
     let own = entries_of_pair rules.breaks12 x pairs key value s directives e in
     subst (λ ls. Splits false e ls (pair_entries rules.breaks12 pairs s directives e ++ own)) (sym (pairs_lines rules s directives pairs key value e fit.0))
-    (splits_both false e (lines_of rules.breaks12 (pairs_text pairs s directives e)) (lines_of rules.breaks12 (pair_text x pairs key value s directives e)) (pair_entries rules.breaks12 pairs s directives e) own
+    (splits_both false e (lines_of rules.breaks12 (pairs_text pairs s directives e)) (lines_of rules.breaks12 (pair_text x pairs key value s directives e))
+    (pair_entries rules.breaks12 pairs s directives e) own
     (pairs_split rules s directives pairs e fit.0) (pair_splits x rules s directives pairs key value e fit.1))
 
 -- all lines of a mapping are deeper than a column farther out

@@ -24,14 +24,16 @@ pub passes_nothing : (rules : Rules) (from : FlowReading) → Passes rules from 
 passes_nothing rules from = record { passes = λ rest. refl }
 
 -- one such text after another
-pub passes_both : (rules : Rules) (from through to : FlowReading) (a b : Text) → Passes rules from a through → Passes rules through b to → Passes rules from (a ++ b) to
+pub passes_both : (rules : Rules) (from through to : FlowReading) (a b : Text) → Passes rules from a through → Passes rules through b to
+    → Passes rules from (a ++ b) to
 passes_both rules from through to a b one two = record {
   passes = λ rest.
       ap (λ t. steps rules from (flow_tokens rules.breaks12 free t)) (append_assoc a b rest) ∙ one.passes (b ++ rest) ∙ two.passes rest;
 }
 
 -- and then one that takes it on before what ends a word
-pub passes_then : (rules : Rules) (from through to : FlowReading) (a b : Text) → Passes rules from a through → Takes rules through b to → Takes rules from (a ++ b) to
+pub passes_then : (rules : Rules) (from through to : FlowReading) (a b : Text) → Passes rules from a through → Takes rules through b to
+    → Takes rules from (a ++ b) to
 passes_then rules from through to a b one two = record {
   takes = λ rest h.
       ap (λ t. steps rules from (flow_tokens rules.breaks12 free t)) (append_assoc a b rest) ∙ one.passes (b ++ rest) ∙ two.takes rest h;
@@ -50,7 +52,8 @@ takes_text rules from to a b e one = record {
 
 -- One character
 
-passes_sign : (rules : Rules) (from to : FlowReading) (c : ℕ) → class_of rules.breaks12 c ≡ is_flow_sign → flow_step rules from (sign c) ≡ to → Passes rules from (c ∷ []) to
+passes_sign : (rules : Rules) (from to : FlowReading) (c : ℕ) → class_of rules.breaks12 c ≡ is_flow_sign → flow_step rules from (sign c) ≡ to
+    → Passes rules from (c ∷ []) to
 passes_sign rules from to c e step = record {
   passes = λ rest.
       ap (λ class. steps rules from (let here : FlowTurn = begun class [] c in here.tokens ++ flow_tokens rules.breaks12 here.place rest)) e
@@ -60,14 +63,16 @@ passes_sign rules from to c e step = record {
 passes_space : (rules : Rules) (from to : FlowReading) → flow_step rules from blank ≡ to → Passes rules from (space ∷ []) to
 passes_space rules from to step = record {
   passes = λ rest.
-      ap (λ class. steps rules from (let here : FlowTurn = begun class [] space in here.tokens ++ flow_tokens rules.breaks12 here.place rest)) (space_class rules.breaks12)
+      ap (λ class. steps rules from (let here : FlowTurn = begun class [] space in here.tokens ++ flow_tokens rules.breaks12 here.place rest))
+      (space_class rules.breaks12)
       ∙ ap (λ r. steps rules r (flow_tokens rules.breaks12 free rest)) step;
 }
 
 passes_line_feed : (rules : Rules) (from to : FlowReading) → flow_step rules from line_end ≡ to → Passes rules from (line_feed ∷ []) to
 passes_line_feed rules from to step = record {
   passes = λ rest.
-      ap (λ class. steps rules from (let here : FlowTurn = begun class [] line_feed in here.tokens ++ flow_tokens rules.breaks12 here.place rest)) (line_feed_class rules.breaks12)
+      ap (λ class. steps rules from (let here : FlowTurn = begun class [] line_feed in here.tokens ++ flow_tokens rules.breaks12 here.place rest))
+      (line_feed_class rules.breaks12)
       ∙ ap (λ r. steps rules r (flow_tokens rules.breaks12 free rest)) step;
 }
 
@@ -77,10 +82,12 @@ passes_comma rules levels = passes_sign rules (within levels comma_awaited) (wit
 
 -- a `:` at once
 pub passes_colon : (rules : Rules) (levels : List Level) → Passes rules (within levels (colon_awaited at_once)) (0x3A ∷ []) (within levels (node_awaited false))
-passes_colon rules levels = passes_sign rules (within levels (colon_awaited at_once)) (within levels (node_awaited false)) 0x3A (colon_class rules.breaks12) refl
+passes_colon rules levels = passes_sign rules (within levels (colon_awaited at_once)) (within levels (node_awaited false)) 0x3A
+    (colon_class rules.breaks12) refl
 
 -- a `:` after something white
-pub passes_late_colon : (rules : Rules) (levels : List Level) → Passes rules (within levels (colon_awaited (after_white true))) (0x3A ∷ []) (within levels (node_awaited false))
+pub passes_late_colon : (rules : Rules) (levels : List Level)
+    → Passes rules (within levels (colon_awaited (after_white true))) (0x3A ∷ []) (within levels (node_awaited false))
 passes_late_colon rules levels =
     passes_sign rules (within levels (colon_awaited (after_white true))) (within levels (node_awaited false)) 0x3A (colon_class rules.breaks12) refl
 
@@ -90,7 +97,8 @@ pub passes_question : (rules : Rules) (levels : List Level) (to : FlowReading) �
 passes_question rules levels to step = passes_sign rules (within levels entry_awaited) to 0x3F (question_class rules.breaks12) step
 
 -- the space between `?` or `:` and a node
-pub passes_node_space : (rules : Rules) (levels : List Level) → Passes rules (within levels (node_awaited false)) (space ∷ []) (within levels (node_awaited true))
+pub passes_node_space : (rules : Rules) (levels : List Level)
+    → Passes rules (within levels (node_awaited false)) (space ∷ []) (within levels (node_awaited true))
 passes_node_space rules levels = passes_space rules (within levels (node_awaited false)) (within levels (node_awaited true)) refl
 
 -- White space
@@ -124,7 +132,8 @@ pub passes_colon_white : (rules : Rules) (levels : List Level) (c : ℕ) (text :
     → Passes rules (within levels (colon_awaited (after_white false))) (c ∷ text) (within levels (colon_awaited (after_white true)))
 passes_colon_white rules levels c text h =
     let parts = and_parts (c == space || c == line_feed) (is_white_text text) h in
-    passes_both rules (within levels (colon_awaited (after_white false))) (within levels (colon_awaited (after_white true))) (within levels (colon_awaited (after_white true)))
+    passes_both rules (within levels (colon_awaited (after_white false))) (within levels (colon_awaited (after_white true)))
+    (within levels (colon_awaited (after_white true)))
     (c ∷ []) text (by (c == space) (c == line_feed) refl refl parts.0)
     (white_passes rules (within levels (colon_awaited (after_white true))) text refl refl parts.1)
   where
@@ -198,6 +207,7 @@ late_colon s column cursor white indention = by (s.canonical || is_past_width s.
     same true e = absurd (true≢false e)
     same false e = record { first = space; more = []; whole = refl; white = refl }
 
-    by : (x : Bool) → WhiteThen (let laid : Laid = then_laid (if x then new_line (line_column column) cursor else nothing_laid cursor) (indicator (codes ":") true false false) in laid.text) 0x3A
+    by : (x : Bool) → WhiteThen (let laid : Laid = then_laid (if x then new_line (line_column column) cursor else nothing_laid cursor)
+        (indicator (codes ":") true false false) in laid.text) 0x3A
     by true = line (breaks_line (line_column column) cursor) breaks
     by false = same cursor.whitespace white

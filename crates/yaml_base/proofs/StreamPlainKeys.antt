@@ -42,7 +42,8 @@ indicators = codes "#,[]{}&*!|>'\"%@`"
 
 pub begins : (breaks12 : Bool) (c : ℕ) (t : Text) → begins_no_plain breaks12 (c ∷ t) ≡ false → is_read_white breaks12 c ≡ false → Begins c
 begins breaks12 c t h white =
-    let outer = or_parts (begins_with_three 45 (c ∷ t) || begins_with_three 46 (c ∷ t) || is_among indicators c) (is_among (codes "?:-") c && begins_white breaks12 t) h in
+    let outer = or_parts (begins_with_three 45 (c ∷ t) || begins_with_three 46 (c ∷ t) || is_among indicators c)
+    (is_among (codes "?:-") c && begins_white breaks12 t) h in
     let inner = or_parts (begins_with_three 45 (c ∷ t) || begins_with_three 46 (c ∷ t)) (is_among indicators c) outer.0 in
     record {
       anchor = not_among indicators c 0x26 refl inner.1;
@@ -61,7 +62,8 @@ begins breaks12 c t h white =
     no_space true e = absurd (true≢false (ap (is_read_white breaks12) (sym (eqb-true c space e)) ∙ white))
     no_space false e = refl
 
-plain_properties : (directives : List TagDirective) (c : ℕ) (t : Text) → Begins c → properties_read directives (c ∷ t) ≡ Some (record { properties = no_properties; text = c ∷ t })
+plain_properties : (directives : List TagDirective) (c : ℕ) (t : Text) → Begins c
+    → properties_read directives (c ∷ t) ≡ Some (record { properties = no_properties; text = c ∷ t })
 plain_properties directives c t b =
     ap (λ x. option_and_then (λ read. let after : Indented = indented read.text in tag_first directives read.properties.anchor after.column after.text)
     (if x then anchor_of_word (word_cut t) else Some (record { properties = no_properties; text = c ∷ t }))) b.anchor
@@ -77,7 +79,8 @@ pub plain_style : (c : ℕ) (t : Text) → Begins c → style_begun (c ∷ t) �
 plain_style c t b = rw (b.single, b.double, b.literal, b.folded) refl
 
 -- a word that begins so is a plain scalar
-word_of_plain : (rules : Rules) (flow : Bool) (c : ℕ) (t : Text) → Begins c → word_read rules flow (c ∷ t) ≡ scalar_of_style plain rules flow None no_properties (c ∷ t)
+word_of_plain : (rules : Rules) (flow : Bool) (c : ℕ) (t : Text) → Begins c
+    → word_read rules flow (c ∷ t) ≡ scalar_of_style plain rules flow None no_properties (c ∷ t)
 word_of_plain rules flow c t b =
     ap (option_and_then (λ read. word_after rules flow None read.properties (indented read.text).text)) (plain_properties rules.directives c t b)
     ∙ ap (λ x. word_after rules flow None no_properties (indented_step x (c ∷ t) (indented t)).text) b.blank
@@ -88,10 +91,12 @@ word_of_plain rules flow c t b =
 pub plain_no_key : (rules : Rules) (before t after : Text) → holds_no_plain rules.breaks12 false t ≡ false → NoKey rules before t after
 plain_no_key rules before [] after h = tt
 plain_no_key rules before (c ∷ t) after h =
-    let parts = or_parts ((c == 58 && begins_white rules.breaks12 t) || (is_read_white rules.breaks12 c && begins_with_hash t) || false) (holds_no_plain rules.breaks12 false t) h in
+    let parts = or_parts ((c == 58 && begins_white rules.breaks12 t) || (is_read_white rules.breaks12 c && begins_with_hash t) || false)
+    (holds_no_plain rules.breaks12 false t) h in
     let sign = or_parts ((c == 58 && begins_white rules.breaks12 t) || (is_read_white rules.breaks12 c && begins_with_hash t)) false parts.0 in
     let colon = or_parts (c == 58 && begins_white rules.breaks12 t) (is_read_white rules.breaks12 c && begins_with_hash t) sign.0 in (
-      (λ e. absurd (no_end t (and_parts (c == 0x3A) (ends_sign (t ++ (0x3A ∷ after))) e).0 (and_parts (c == 0x3A) (ends_sign (t ++ (0x3A ∷ after))) e).1 colon.0)),
+      (λ e. absurd (no_end t (and_parts (c == 0x3A) (ends_sign (t ++ (0x3A ∷ after))) e).0
+          (and_parts (c == 0x3A) (ends_sign (t ++ (0x3A ∷ after))) e).1 colon.0)),
       plain_no_key rules (before ++ (c ∷ [])) t after parts.1,
     )
   where
@@ -139,7 +144,8 @@ reads_plain breaks12 flow c t v read = by (begins_no_plain breaks12 (c ∷ t)) (
 -- a tidy plain text doesn't begin with white space
 pub tidy_begins : (breaks12 : Bool) (c : ℕ) (t : Text) → is_tidy plain breaks12 None (c ∷ t) ≡ true → is_read_white breaks12 c ≡ false
 tidy_begins breaks12 c t tidy =
-    let style = (and_parts (list_all is_printable (c ∷ t) && has_deep_lines breaks12 1 (c ∷ t)) (has_no_space_before_break breaks12 (c ∷ t) && has_clean_edges breaks12 (c ∷ t)) tidy).1 in
+    let style = (and_parts (list_all is_printable (c ∷ t) && has_deep_lines breaks12 1 (c ∷ t))
+    (has_no_space_before_break breaks12 (c ∷ t) && has_clean_edges breaks12 (c ∷ t)) tidy).1 in
     let clean = (and_parts (has_no_space_before_break breaks12 (c ∷ t)) (has_clean_edges breaks12 (c ∷ t)) style).1 in
     by (is_read_white breaks12 c) (and_parts (not (is_read_white breaks12 c)) (not (ends_white breaks12 (c ∷ t))) clean).0
   where

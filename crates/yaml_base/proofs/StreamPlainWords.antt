@@ -45,7 +45,8 @@ plain_ends breaks12 text white (c ∷ rest) h = by (class_of breaks12 c) refl h 
 
     by : (class : FlowClass) → class_of breaks12 c ≡ class → ends_by class (ends_word breaks12 rest) ≡ true
         → (ends_word breaks12 rest ≡ true
-        → flow_tokens breaks12 (in_plain text (white ++ (c ∷ []))) rest ≡ word text ∷ (white_tokens breaks12 (white ++ (c ∷ [])) ++ flow_tokens breaks12 free rest))
+        → flow_tokens breaks12 (in_plain text (white ++ (c ∷ []))) rest
+        ≡ word text ∷ (white_tokens breaks12 (white ++ (c ∷ [])) ++ flow_tokens breaks12 free rest))
         → (let here : FlowTurn = plain_turn class breaks12 text white c in here.tokens ++ flow_tokens breaks12 here.place rest)
         ≡ word text ∷ (white_tokens breaks12 white ++ (let here : FlowTurn = begun class [] c in here.tokens ++ flow_tokens breaks12 here.place rest))
     by is_white_blank e h ih = ih h ∙ ap (λ t. word text ∷ t) (one_more is_white_blank (white_of_class is_white_blank) e refl)
@@ -107,7 +108,8 @@ plain_passes breaks12 c (d ∷ t) text white rest h k =
     (λ text white. plain_passes breaks12 d t text white rest parts.1 k)
   where
     by : (w : Bool) (class : FlowClass) → is_white_class class ≡ w → stays_plain class ≡ true
-        → ((text white : Text) → flow_tokens breaks12 (in_plain text white) ((d ∷ t) ++ rest) ≡ flow_tokens breaks12 (in_plain (text ++ (white ++ (d ∷ t))) []) rest)
+        → ((text white : Text) → flow_tokens breaks12 (in_plain text white) ((d ∷ t) ++ rest)
+        ≡ flow_tokens breaks12 (in_plain (text ++ (white ++ (d ∷ t))) []) rest)
         → (let here : FlowTurn = plain_turn class breaks12 text white c in here.tokens ++ flow_tokens breaks12 here.place ((d ∷ t) ++ rest))
         ≡ flow_tokens breaks12 (in_plain (text ++ (white ++ (c ∷ d ∷ t))) []) rest
     by false class e h ih =
@@ -171,7 +173,8 @@ stays_at breaks12 c h =
 pub plain_stays : (breaks12 : Bool) (t : Text) → holds_no_plain breaks12 true t ≡ false → all_stay breaks12 t ≡ true
 plain_stays breaks12 [] h = refl
 plain_stays breaks12 (c ∷ t) h =
-    let parts = or_parts ((c == 58 && begins_white breaks12 t) || (is_read_white breaks12 c && begins_with_hash t) || is_among (codes ",?:[]{}") c) (holds_no_plain breaks12 true t) h in
+    let parts = or_parts ((c == 58 && begins_white breaks12 t) || (is_read_white breaks12 c && begins_with_hash t) || is_among (codes ",?:[]{}") c)
+    (holds_no_plain breaks12 true t) h in
     let sign = or_parts ((c == 58 && begins_white breaks12 t) || (is_read_white breaks12 c && begins_with_hash t)) (is_among (codes ",?:[]{}") c) parts.0 in
     ap (λ x. x && all_stay breaks12 t) (stays_at breaks12 c sign.1) ∙ plain_stays breaks12 t parts.1
 
@@ -179,7 +182,8 @@ plain_stays breaks12 (c ∷ t) h =
 pub shown_at : (breaks12 : Bool) (c : ℕ) → is_read_white breaks12 c ≡ false → is_white_class (class_of breaks12 c) ≡ false
 shown_at breaks12 c h =
     let parts = or_parts (is_blank c) (is_read_break breaks12 c) h in
-    by (is_blank c) (is_read_break breaks12 c) (is_among (codes "]},:?") c) (is_among (codes "&!") c) (c == 0x22) (c == 0x27) (is_among (codes "[{") c) parts.0 parts.1
+    by (is_blank c) (is_read_break breaks12 c) (is_among (codes "]},:?") c) (is_among (codes "&!") c) (c == 0x22) (c == 0x27)
+    (is_among (codes "[{") c) parts.0 parts.1
   where
     by : (blank line_break sign property double single bracket : Bool) → blank ≡ false → line_break ≡ false
         → is_white_class (if blank then is_white_blank else (if line_break then is_white_break else (if sign then is_flow_sign

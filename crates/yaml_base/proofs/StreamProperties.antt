@@ -131,7 +131,8 @@ read_as anchor said count rest =
 no_tag : (directives : List TagDirective) (anchor : Option Text) (column : ℕ) (rest : Text) → begins_content rest ≡ true
     → tag_first directives anchor column rest ≡ read_as anchor None column rest
 no_tag directives anchor column [] h =
-    ap (λ t. let made : Option PropertiesRead = Some (record { properties = record { anchor = anchor; tag = None }; text = t }) in made) (sym (append-nil (spaces column)))
+    ap (λ t. let made : Option PropertiesRead = Some (record { properties = record { anchor = anchor; tag = None }; text = t }) in made)
+    (sym (append-nil (spaces column)))
 no_tag directives anchor column (c ∷ rest) h =
     let parts = and_parts (not (c == space)) (not (c == 0x26) && not (c == 0x21)) h in
     ap (λ x. if x then tag_of_word directives anchor column (word_cut (c ∷ rest)) else read_as anchor None column (c ∷ rest))
@@ -147,7 +148,10 @@ with_tag directives anchor column [] rest said written h = absurd (begins_nothin
 with_tag directives anchor column (c ∷ tag) rest said written h =
     ap (λ x. if x then tag_of_word directives anchor column (word_cut ((c ∷ tag) ++ rest)) else read_as anchor None column ((c ∷ tag) ++ rest)) mark
     ∙ ap (tag_of_word directives anchor column) (word_whole (c ∷ tag) rest (no_white_no_space (c ∷ tag) written.no_white) h)
-    ∙ ap (option_map (λ said. let made : PropertiesRead = record { properties = record { anchor = anchor; tag = Some said }; text = spaces (column + length (c ∷ tag)) ++ rest } in made)) written.says
+    ∙ ap (option_map (λ said. let made : PropertiesRead = record {
+      properties = record { anchor = anchor; tag = Some said };
+      text = spaces (column + length (c ∷ tag)) ++ rest;
+    } in made)) written.says
   where
     first : ℕ → Text → ℕ
     first d [] = d
@@ -161,7 +165,10 @@ pub with_anchor : (name rest : Text) → name_read name ≡ Some name → ends_s
     → anchor_of_word (word_cut (name ++ rest)) ≡ read_as (Some name) None (suc (length name)) rest
 with_anchor name rest h ends =
     ap anchor_of_word (word_whole name rest (letters_no_space name (name_letters name h)) ends)
-    ∙ ap (option_map (λ name_read. let made : PropertiesRead = record { properties = record { anchor = Some name_read; tag = None }; text = spaces (suc (length name)) ++ rest } in made)) h
+    ∙ ap (option_map (λ name_read. let made : PropertiesRead = record {
+      properties = record { anchor = Some name_read; tag = None };
+      text = spaces (suc (length name)) ++ rest;
+    } in made)) h
 
 -- no anchor begins a text
 no_anchor : (n : ℕ) (rest : Text) → begins_content rest ≡ true
@@ -212,13 +219,17 @@ properties_said directives None (Some tag) (Some said) n rest named tagged own e
     ∙ ap (λ t. let made : Option PropertiesRead = Some (record { properties = record { anchor = None; tag = Some said }; text = t }) in made)
     (spaces_both (0 + length tag) n rest ∙ (let e : (0 + length tag) + n ≡ length tag + n = omega arith in ap (λ k. spaces k ++ rest) e))
   where
-    no_anchor_tag : {more : Text} → tag ≡ 0x21 ∷ more → anchor_first (tag ++ (spaces n ++ rest)) ≡ Some (record { properties = no_properties; text = tag ++ (spaces n ++ rest) })
-    no_anchor_tag {more} e = ap (λ t. anchor_first (t ++ (spaces n ++ rest))) e ∙ ap (λ t. let made : Option PropertiesRead = Some (record { properties = no_properties; text = t ++ (spaces n ++ rest) }) in made) (sym e)
+    no_anchor_tag : {more : Text} → tag ≡ 0x21 ∷ more
+        → anchor_first (tag ++ (spaces n ++ rest)) ≡ Some (record { properties = no_properties; text = tag ++ (spaces n ++ rest) })
+    no_anchor_tag {more} e = ap (λ t. anchor_first (t ++ (spaces n ++ rest))) e
+        ∙ ap (λ t. let made : Option PropertiesRead = Some (record { properties = no_properties; text = t ++ (spaces n ++ rest) }) in made) (sym e)
 properties_said directives (Some name) (Some tag) (Some said) n rest named tagged own ends =
     ap (λ t. then_tag directives (anchor_first (0x26 ∷ t))) (append_assoc name (space ∷ tag) (spaces n ++ rest))
     ∙ ap (then_tag directives) (with_anchor name (space ∷ (tag ++ (spaces n ++ rest))) named refl)
-    ∙ ap (λ t. let after : Indented = indented t in tag_first directives (Some name) after.column after.text) (space_after (suc (length name)) (tag ++ (spaces n ++ rest)))
-    ∙ ap (λ (after : Indented). tag_first directives (Some name) after.column after.text) (tag_content directives (suc (suc (length name))) tag (spaces n ++ rest) said tagged)
+    ∙ ap (λ t. let after : Indented = indented t in tag_first directives (Some name) after.column after.text)
+    (space_after (suc (length name)) (tag ++ (spaces n ++ rest)))
+    ∙ ap (λ (after : Indented). tag_first directives (Some name) after.column after.text)
+    (tag_content directives (suc (suc (length name))) tag (spaces n ++ rest) said tagged)
     ∙ with_tag directives (Some name) (suc (suc (length name))) tag (spaces n ++ rest) said tagged (ends refl)
     ∙ ap (λ t. let made : Option PropertiesRead = Some (record { properties = record { anchor = Some name; tag = Some said }; text = t }) in made)
     (spaces_both (suc (suc (length name)) + length tag) n rest

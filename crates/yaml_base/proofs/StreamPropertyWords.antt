@@ -56,7 +56,8 @@ rest_passes : (breaks12 : Bool) (before text rest : Text) → holds_white text �
 rest_passes breaks12 before [] rest h = ap (λ t. flow_tokens breaks12 (in_property t) rest) (sym (append-nil before))
 rest_passes breaks12 before (c ∷ text) rest h =
     let parts = or_parts (is_blank c || is_break c) (holds_white text) h in
-    ap (λ (here : FlowTurn). here.tokens ++ flow_tokens breaks12 here.place (text ++ rest)) (property_passes (class_of breaks12 c) before c (not_white breaks12 c parts.0))
+    ap (λ (here : FlowTurn). here.tokens ++ flow_tokens breaks12 here.place (text ++ rest))
+    (property_passes (class_of breaks12 c) before c (not_white breaks12 c parts.0))
     ∙ rest_passes breaks12 (before ++ (c ∷ [])) text rest parts.1
     ∙ ap (λ t. flow_tokens breaks12 (in_property t) rest) (append_assoc before (c ∷ []) text)
 
@@ -161,7 +162,8 @@ Leads breaks12 before = (rest : Text) → flow_tokens breaks12 free (before ++ r
 -- a word that begins after such a text
 begun_after : (breaks12 : Bool) (before : Text) (c : ℕ) (t rest : Text) (class : FlowClass) → Leads breaks12 before → class_of breaks12 c ≡ class
     → begins_own class ≡ true
-    → flow_tokens breaks12 free ((before ++ (c ∷ t)) ++ rest) ≡ (let here : FlowTurn = begun class before c in here.tokens ++ flow_tokens breaks12 here.place (t ++ rest))
+    → flow_tokens breaks12 free ((before ++ (c ∷ t)) ++ rest)
+    ≡ (let here : FlowTurn = begun class before c in here.tokens ++ flow_tokens breaks12 here.place (t ++ rest))
 begun_after breaks12 before c t rest class leads e own =
     ap (flow_tokens breaks12 free) (append_assoc before (c ∷ t) rest) ∙ leads (c ∷ (t ++ rest)) ∙ begun_with breaks12 before c (t ++ rest) class e own
 

@@ -26,7 +26,8 @@ root_reads rules n own tree fit margin depth deep =
     ∙ fit.reads depth deep true 0 (λ h. (refl, refl))
 
 -- what isn't blank stays so
-shown_once : (lines : List Line) → (begins_blank (without_blank_lines lines) ≡ false) × (without_blank_lines (without_blank_lines lines) ≡ without_blank_lines lines)
+shown_once : (lines : List Line) → (begins_blank (without_blank_lines lines) ≡ false)
+    × (without_blank_lines (without_blank_lines lines) ≡ without_blank_lines lines)
 shown_once [] = (refl, refl)
 shown_once (line ∷ rest) = by (is_spaces line.text) refl (shown_once rest)
   where
@@ -72,7 +73,8 @@ root_marked_reads rules n own tree fit margin depth deep = by (is_spaces o.head)
     o = fit.opens refl
 
     whole : node_read depth rules false None (blanked 3 o.head o.ending ∷ o.rest) ≡ Some tree
-    whole = ap (node_read depth rules false None) (sym (blanked_lines rules.breaks12 3 (closed own) o)) ∙ fit.reads depth deep false 3 (λ h. absurd (false≢true h))
+    whole = ap (node_read depth rules false None) (sym (blanked_lines rules.breaks12 3 (closed own) o))
+        ∙ fit.reads depth deep false 3 (λ h. absurd (false≢true h))
 
     by : (x : Bool) → is_spaces o.head ≡ x → root_after_mark x depth rules (blanked 3 o.head o.ending) o.rest ≡ Some tree
     by false e = whole

@@ -20,7 +20,8 @@ abbrev pub EndsWord : Bool → Text → Type 0
 EndsWord breaks12 text = (rest : Text) → ends_word breaks12 rest ≡ true → ends_word breaks12 (text ++ rest) ≡ true
 
 -- a text, and then one that ends a word
-pub says_both : (breaks12 : Bool) (a b : Text) (j k : List FlowToken) → Says breaks12 a j → Says breaks12 b k → EndsWord breaks12 b → Says breaks12 (a ++ b) (j ++ k)
+pub says_both : (breaks12 : Bool) (a b : Text) (j k : List FlowToken) → Says breaks12 a j → Says breaks12 b k → EndsWord breaks12 b
+    → Says breaks12 (a ++ b) (j ++ k)
 says_both breaks12 a b j k one two ends = record {
   says = λ rest h.
       ap (flow_tokens breaks12 free) (append_assoc a b rest) ∙ one.says (b ++ rest) (ends rest h)
@@ -92,7 +93,8 @@ ends_unquoted breaks12 [] h = absurd (false≢true h)
 ends_unquoted breaks12 (c ∷ rest) h = by (c == 0x27) refl
   where
     by : (x : Bool) → (c == 0x27) ≡ x → (if x then false else true) ≡ true
-    by true e = absurd (false≢true (sym (ap (λ class. ends_by class (ends_word breaks12 rest)) (ap (class_of breaks12) (eqb-true c 0x27 e) ∙ single_class breaks12)) ∙ h))
+    by true e = absurd (false≢true (sym
+        (ap (λ class. ends_by class (ends_word breaks12 rest)) (ap (class_of breaks12) (eqb-true c 0x27 e) ∙ single_class breaks12)) ∙ h))
     by false e = refl
 
 -- Words
@@ -136,10 +138,12 @@ opens_before breaks12 b c rest e h =
 -- `[]` and `{}` are words
 pub says_empty_sequence : (breaks12 : Bool) → Says breaks12 (0x5B ∷ 0x5D ∷ []) (word (0x5B ∷ 0x5D ∷ []) ∷ [])
 says_empty_sequence breaks12 = record {
-  says = λ rest h. ap (λ class. (let here : FlowTurn = begun class [] 0x5B in here.tokens ++ flow_tokens breaks12 here.place (0x5D ∷ rest))) (bracket_class breaks12).0;
+  says = λ rest h. ap (λ class. (let here : FlowTurn = begun class [] 0x5B in here.tokens ++ flow_tokens breaks12 here.place (0x5D ∷ rest)))
+      (bracket_class breaks12).0;
 }
 
 pub says_empty_mapping : (breaks12 : Bool) → Says breaks12 (0x7B ∷ 0x7D ∷ []) (word (0x7B ∷ 0x7D ∷ []) ∷ [])
 says_empty_mapping breaks12 = record {
-  says = λ rest h. ap (λ class. (let here : FlowTurn = begun class [] 0x7B in here.tokens ++ flow_tokens breaks12 here.place (0x7D ∷ rest))) (bracket_class breaks12).1;
+  says = λ rest h. ap (λ class. (let here : FlowTurn = begun class [] 0x7B in here.tokens ++ flow_tokens breaks12 here.place (0x7D ∷ rest)))
+      (bracket_class breaks12).1;
 }

@@ -25,7 +25,8 @@ unmarked_before (line ∷ body) lines h =
   where
     by : (mark : MarkKind) → is_unmarked mark ≡ true
         → sections_of (body ++ lines) ≡ record { before = body ++ (sections_of lines).before; sections = (sections_of lines).sections }
-        → section_before mark line (sections_of (body ++ lines)) ≡ record { before = line ∷ (body ++ (sections_of lines).before); sections = (sections_of lines).sections }
+        → section_before mark line (sections_of (body ++ lines))
+        ≡ record { before = line ∷ (body ++ (sections_of lines).before); sections = (sections_of lines).sections }
     by no_mark u h = ap (section_before no_mark line) h
     by start_mark u h = absurd (false≢true u)
     by end_mark u h = absurd (false≢true u)
@@ -59,7 +60,8 @@ pub marks_one : (line : Line) (body : List Line) → IsMark (mark_of line.text) 
 marks_one line body is h = record {
   marks = λ rest none.
       by (mark_of line.text) is (sections_of (body ++ rest))
-      ∙ ap (λ all. record { before = []; sections = record { mark = mark_of line.text; line = line; rest = all.before } ∷ all.sections }) (unmarked_before body rest h)
+      ∙ ap (λ all. record { before = []; sections = record { mark = mark_of line.text; line = line; rest = all.before } ∷ all.sections })
+      (unmarked_before body rest h)
       ∙ ap (λ b. record { before = []; sections = record { mark = mark_of line.text; line = line; rest = body ++ b } ∷ (sections_of rest).sections }) none
       ∙ ap (λ b. record { before = []; sections = record { mark = mark_of line.text; line = line; rest = b } ∷ (sections_of rest).sections }) (append-nil body);
 }

@@ -48,12 +48,14 @@ abbrev mutual
 
   pub AllNamesStand : (portable : Bool) → List TagDirective → Bool → List TagDirective → Nodes → Type 0
   AllNamesStand portable own canonical directives no_nodes = Unit {0}
-  AllNamesStand portable own canonical directives (nodes_and items last) = AllNamesStand portable own canonical directives items × NamesStand portable own canonical directives last
+  AllNamesStand portable own canonical directives (nodes_and items last) = AllNamesStand portable own canonical directives items
+      × NamesStand portable own canonical directives last
 
   pub PairsNamesStand : (portable : Bool) → List TagDirective → Bool → List TagDirective → Pairs → Type 0
   PairsNamesStand portable own canonical directives no_pairs = Unit {0}
   PairsNamesStand portable own canonical directives (pairs_and pairs key value) =
-      PairsNamesStand portable own canonical directives pairs × NamesStand portable own canonical directives key × NamesStand portable own canonical directives value
+      PairsNamesStand portable own canonical directives pairs × NamesStand portable own canonical directives key
+      × NamesStand portable own canonical directives value
 
 -- Bodies
 

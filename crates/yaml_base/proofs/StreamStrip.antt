@@ -25,7 +25,8 @@ before_more false c (line_end b ∷ rest) = refl
 -- it is one element more
 elements_more : (breaks12 : Bool) (body : Text) → elements breaks12 (body ++ feed) ≡ elements breaks12 body ++ last_end
 elements_more breaks12 [] = refl
-elements_more breaks12 (c ∷ body) = ap (element_before breaks12 c) (elements_more breaks12 body) ∙ before_more (is_read_break breaks12 c) c (elements breaks12 body)
+elements_more breaks12 (c ∷ body) = ap (element_before breaks12 c) (elements_more breaks12 body)
+    ∙ before_more (is_read_break breaks12 c) c (elements breaks12 body)
 
 -- it shows no indentation
 detected_more : (es : List Element) → detected (es ++ last_end) ≡ detected es
@@ -72,7 +73,8 @@ lines_more : (folded : Bool) (es : List Element) → lines_read folded strip (es
 lines_more folded es = ap (λ t. (if folded then unfolded false t else joined t) ++ []) (kept_more es)
 
 -- so the lines after a header read the same
-read_more : (folded : Bool) (digit column : Option ℕ) (es : List Element) → read_lines folded strip digit column (es ++ last_end) ≡ read_lines folded strip digit column es
+read_more : (folded : Bool) (digit column : Option ℕ) (es : List Element)
+    → read_lines folded strip digit column (es ++ last_end) ≡ read_lines folded strip digit column es
 read_more folded digit column es =
     ap (λ n. option_map (lines_read folded strip) (all_unindented n (es ++ last_end))) (indentation_more digit column es)
     ∙ ap (option_map (lines_read folded strip)) (unindented_more (indentation digit column es) es)
@@ -131,13 +133,16 @@ strip_more breaks12 column sign rest v strips read = by (sign == 124 || sign == 
         ap (read_lines (sign == 62) strip (digit_first rest) column) (elements_more breaks12 body)
         ∙ read_more (sign == 62) (digit_first rest) column (elements breaks12 body)
 
-    by : (x : Bool) → (if x then option_and_then (λ body. reads (chomping_first (after_digit rest)) (digit_first rest) body) (after_break breaks12 (after_chomping (after_digit rest))) else None) ≡ Some v
-        → (if x then option_and_then (λ body. reads (chomping_first (after_digit (rest ++ feed))) (digit_first (rest ++ feed)) body) (after_break breaks12 (after_chomping (after_digit (rest ++ feed)))) else None) ≡ Some v
+    by : (x : Bool) → (if x then option_and_then (λ body. reads (chomping_first (after_digit rest)) (digit_first rest) body)
+        (after_break breaks12 (after_chomping (after_digit rest))) else None) ≡ Some v
+        → (if x then option_and_then (λ body. reads (chomping_first (after_digit (rest ++ feed))) (digit_first (rest ++ feed)) body)
+        (after_break breaks12 (after_chomping (after_digit (rest ++ feed)))) else None) ≡ Some v
     by false h = absurd (none_not_some h)
     by true h =
         let digit = digit_more rest strips in
         let chomping = chomping_more (after_digit rest) strips in
-        ap (λ d. option_and_then (λ body. reads (chomping_first (after_digit (rest ++ feed))) d body) (after_break breaks12 (after_chomping (after_digit (rest ++ feed))))) digit.1
+        ap (λ d. option_and_then (λ body. reads (chomping_first (after_digit (rest ++ feed))) d body)
+        (after_break breaks12 (after_chomping (after_digit (rest ++ feed))))) digit.1
         ∙ ap (λ t. option_and_then (λ body. reads (chomping_first t) (digit_first rest) body) (after_break breaks12 (after_chomping t))) digit.0
         ∙ ap (λ c. option_and_then (λ body. reads c (digit_first rest) body) (after_break breaks12 (after_chomping (after_digit rest ++ feed)))) chomping.0
         ∙ ap (λ t. option_and_then (λ body. reads strip (digit_first rest) body) (after_break breaks12 t)) chomping.1

@@ -96,11 +96,13 @@ collection_joined a b e f x y z h k l =
 
 -- the same, with the cursors
 collection_parts : (signs begun : Laid) (entries : PiecesLaid) (own : Laid) (ending : Cursor → Laid) → Joined entries own
-    → (text_of ((record { lead = signs.text ++ begun.text; body = None } ∷ [] ++ entries.pieces) ++ record { lead = (ending entries.standing.cursor).text; body = None } ∷ [])
+    → (text_of ((record { lead = signs.text ++ begun.text; body = None } ∷ [] ++ entries.pieces)
+    ++ record { lead = (ending entries.standing.cursor).text; body = None } ∷ [])
     ≡ signs.text ++ ((begun.text ++ own.text) ++ (ending own.cursor).text))
     × ((ending entries.standing.cursor).cursor ≡ (ending own.cursor).cursor)
 collection_parts signs begun entries own ending all = (
-  text_both (record { lead = signs.text ++ begun.text; body = None } ∷ [] ++ entries.pieces) (record { lead = (ending entries.standing.cursor).text; body = None } ∷ [])
+  text_both (record { lead = signs.text ++ begun.text; body = None } ∷ [] ++ entries.pieces)
+      (record { lead = (ending entries.standing.cursor).text; body = None } ∷ [])
       ∙ collection_joined signs.text begun.text own.text (ending own.cursor).text ((signs.text ++ begun.text) ++ []) (text_of entries.pieces)
       (((ending entries.standing.cursor).text ++ []) ++ []) refl all.0
       (append-nil ((ending entries.standing.cursor).text ++ []) ∙ ap (λ c. (ending c).text ++ []) all.1),
@@ -113,8 +115,11 @@ mutual
       → Joined (node_laid n s directives place standing) (node_placed n s directives place standing.cursor)
   node_joined (alias_node name) s directives place standing =
       let simple = is_simple_at place s.canonical directives (alias_node name) in
-      let signs = place_laid s place simple standing.cursor in
-      (append-nil ((signs.text ++ (alias_laid name simple signs.cursor).text) ++ []) ∙ append-nil (signs.text ++ (alias_laid name simple signs.cursor).text), refl)
+      let signs = place_laid s place simple standing.cursor in (
+        append-nil ((signs.text ++ (alias_laid name simple signs.cursor).text) ++ [])
+            ∙ append-nil (signs.text ++ (alias_laid name simple signs.cursor).text),
+        refl,
+      )
   node_joined (scalar_node content) s directives place standing =
       let simple = is_simple_at place s.canonical directives (scalar_node content) in
       let choice = choice_of s place simple content in

@@ -44,7 +44,8 @@ deep_lines_fewer breaks12 m n (c ∷ t) le h =
     by false h = refl
 
 -- a text that is tidy in a block is tidy at the root
-pub tidy_at_root : (style : ScalarStyle) (breaks12 : Bool) (column : Option ℕ) (text : Text) → is_tidy style breaks12 column text ≡ true → is_tidy style breaks12 None text ≡ true
+pub tidy_at_root : (style : ScalarStyle) (breaks12 : Bool) (column : Option ℕ) (text : Text) → is_tidy style breaks12 column text ≡ true
+    → is_tidy style breaks12 None text ≡ true
 tidy_at_root style breaks12 None text h = h
 tidy_at_root style breaks12 (Some column) text h =
     let parts = and_parts (list_all is_printable text && has_deep_lines breaks12 (suc column) text) (is_tidy_style style breaks12 text) h in
@@ -87,7 +88,8 @@ first_after_space breaks12 c t e =
     ap (λ x. first_text (character_before x c (lines_of breaks12 t))) (no_break breaks12 c e) ∙ first_extended c (lines_of breaks12 t)
 
 -- so many spaces begin a line inside the column before them
-pub spaces_inside : (breaks12 : Bool) (column : ℕ) (t : Text) → begins_with_spaces (suc column) t ≡ true → is_inside true column (first_text (lines_of breaks12 t)) ≡ true
+pub spaces_inside : (breaks12 : Bool) (column : ℕ) (t : Text) → begins_with_spaces (suc column) t ≡ true
+    → is_inside true column (first_text (lines_of breaks12 t)) ≡ true
 spaces_inside breaks12 column [] h = absurd (false≢true h)
 spaces_inside breaks12 zero (c ∷ t) h =
     let parts = and_parts (c == space) true h in
@@ -98,7 +100,8 @@ spaces_inside breaks12 (suc column) (c ∷ t) h =
     ∙ and_from (c == space) (is_inside true column (first_text (lines_of breaks12 t))) parts.0 (spaces_inside breaks12 column t parts.1)
 
 -- a deep line lies inside the column
-first_inside : (breaks12 : Bool) (column : ℕ) (t : Text) → begins_with_deep_line breaks12 (suc column) t ≡ true → is_inside true column (first_text (lines_of breaks12 t)) ≡ true
+first_inside : (breaks12 : Bool) (column : ℕ) (t : Text) → begins_with_deep_line breaks12 (suc column) t ≡ true
+    → is_inside true column (first_text (lines_of breaks12 t)) ≡ true
 first_inside breaks12 column [] h = refl
 first_inside breaks12 column (c ∷ t) h = by (is_read_break breaks12 c) refl h
   where
@@ -110,12 +113,14 @@ first_inside breaks12 column (c ∷ t) h = by (is_read_break breaks12 c) refl h
         spaces_inside breaks12 column (c ∷ t) (and_parts (begins_with_spaces (suc column) (c ∷ t)) (not (begins_with_blank_line breaks12 (c ∷ t))) h).0
 
 -- the first line and those after it
-all_inside : (column : ℕ) (lines : List Line) → is_inside true column (first_text lines) ≡ true → AllInside true column (lines_after_first lines) → AllInside true column lines
+all_inside : (column : ℕ) (lines : List Line) → is_inside true column (first_text lines) ≡ true → AllInside true column (lines_after_first lines)
+    → AllInside true column lines
 all_inside column [] h k = refl
 all_inside column (line ∷ rest) h k = and_from (is_inside true column line.text) (list_all (λ line. is_inside true column line.text) rest) h k
 
 -- the lines of a text after its first are inside the column where they are deep
-pub deep_lines_inside : (breaks12 : Bool) (column : ℕ) (t : Text) → has_deep_lines breaks12 (suc column) t ≡ true → AllInside true column (lines_after_first (lines_of breaks12 t))
+pub deep_lines_inside : (breaks12 : Bool) (column : ℕ) (t : Text) → has_deep_lines breaks12 (suc column) t ≡ true
+    → AllInside true column (lines_after_first (lines_of breaks12 t))
 deep_lines_inside breaks12 column [] h = refl
 deep_lines_inside breaks12 column (c ∷ t) h =
     let parts = and_parts (not (is_read_break breaks12 c) || begins_with_deep_line breaks12 (suc column) t) (has_deep_lines breaks12 (suc column) t) h in

@@ -66,7 +66,8 @@ pub all_unmarked : (s : Bool) (lines : List Line) → AllInside s 0 lines → Al
 all_unmarked s [] h = refl
 all_unmarked s (line ∷ rest) h =
     let parts = and_parts (is_inside s 0 line.text) (list_all (λ line. is_inside s 0 line.text) rest) h in
-    and_from (is_unmarked (mark_of line.text)) (list_all (λ line. is_unmarked (mark_of line.text)) rest) (inside_unmarked s line.text parts.0) (all_unmarked s rest parts.1)
+    and_from (is_unmarked (mark_of line.text)) (list_all (λ line. is_unmarked (mark_of line.text)) rest) (inside_unmarked s line.text parts.0)
+    (all_unmarked s rest parts.1)
 
 -- lines, and then others
 pub unmarked_both : (a b : List Line) → AllUnmarked a → AllUnmarked b → AllUnmarked (a ++ b)
@@ -82,8 +83,10 @@ items_unmarked rules s directives items fit =
     all_unmarked false (lines_of rules.breaks12 (items_text items s directives 0)) (items_inside rules s directives items 0 fit false 0 (omega arith))
 
 -- no line of a sign at column 0 and what it opens is one
-signed_unmarked : (rules : Rules) (n : ℕ) (own : Laid) (tree : Tree) (role : Role) (c : ℕ) (fit : Fits rules n own tree (entry_place false role 0) (sign_cursor 0))
-    → OneLine rules.breaks12 (c ∷ []) → ((t : Text) → is_unmarked (mark_of (c ∷ t)) ≡ true) → AllUnmarked (lines_of rules.breaks12 (spaces 0 ++ (c ∷ closed own)))
+signed_unmarked : (rules : Rules) (n : ℕ) (own : Laid) (tree : Tree) (role : Role) (c : ℕ)
+    (fit : Fits rules n own tree (entry_place false role 0) (sign_cursor 0))
+    → OneLine rules.breaks12 (c ∷ []) → ((t : Text) → is_unmarked (mark_of (c ∷ t)) ≡ true)
+    → AllUnmarked (lines_of rules.breaks12 (spaces 0 ++ (c ∷ closed own)))
 signed_unmarked rules n own tree role c fit one none =
     let o = fit.opens refl in
     ap (λ ls. list_all (λ line. is_unmarked (mark_of line.text)) ls) (signed_lines rules.breaks12 0 c (closed own) o one)
@@ -91,7 +94,8 @@ signed_unmarked rules n own tree role c fit one none =
     (all_unmarked false o.rest (rest_inside rules n own tree role (sign_cursor 0) 0 fit refl false 0 (omega arith)))
 
 -- no line of a pair is one
-pair_unmarked : (x : Bool) (rules : Rules) (s : Effective) (directives : List TagDirective) (pairs : Pairs) (key value : Node) → PairFits x rules s directives pairs key value 0
+pair_unmarked : (x : Bool) (rules : Rules) (s : Effective) (directives : List TagDirective) (pairs : Pairs) (key value : Node)
+    → PairFits x rules s directives pairs key value 0
     → AllUnmarked (lines_of rules.breaks12 (pair_text x pairs key value s directives 0))
 pair_unmarked true rules s directives pairs key value fit =
     let k = (simple_key pairs key s directives 0).text in
@@ -100,14 +104,17 @@ pair_unmarked true rules s directives pairs key value fit =
     ap (λ ls. list_all (λ line. is_unmarked (mark_of line.text)) ls) (keyed_lines rules k (closed v) (node_tree key s directives (key_place pairs 0)) 0 fit.0 o)
     ∙ and_from (is_unmarked (mark_of (k ++ (0x3A ∷ o.head)))) (list_all (λ line. is_unmarked (mark_of line.text)) o.rest) (fit.0.unmarked o.head o.sign)
     (all_unmarked false o.rest
-    (rest_inside rules (size value) v (node_tree value s directives (value_place true 0)) (as_value true) (colon_cursor (simple_key pairs key s directives 0).cursor) 0 fit.1 refl false 0 (omega arith)))
+    (rest_inside rules (size value) v (node_tree value s directives (value_place true 0)) (as_value true)
+    (colon_cursor (simple_key pairs key s directives 0).cursor) 0 fit.1 refl false 0 (omega arith)))
 pair_unmarked false rules s directives pairs key value fit =
     let k = signed_key pairs key s directives 0 in
     let v = signed_value value s directives 0 in
     ap (λ ls. list_all (λ line. is_unmarked (mark_of line.text)) ls) (signed_pair_lines rules s directives pairs key value 0 fit)
     ∙ unmarked_both (lines_of rules.breaks12 (spaces 0 ++ (0x3F ∷ closed k))) (lines_of rules.breaks12 (spaces 0 ++ (0x3A ∷ closed v)))
-    (signed_unmarked rules (size key) k (node_tree key s directives (key_place pairs 0)) (as_key (has_no_pairs pairs)) 0x3F fit.0 (question_line rules.breaks12) question_unmarked)
-    (signed_unmarked rules (size value) v (node_tree value s directives (value_place false 0)) (as_value false) 0x3A fit.1 (colon_line rules.breaks12) colon_unmarked)
+    (signed_unmarked rules (size key) k (node_tree key s directives (key_place pairs 0)) (as_key (has_no_pairs pairs)) 0x3F fit.0
+    (question_line rules.breaks12) question_unmarked)
+    (signed_unmarked rules (size value) v (node_tree value s directives (value_place false 0)) (as_value false) 0x3A fit.1
+    (colon_line rules.breaks12) colon_unmarked)
 
 -- no line of a mapping at column 0 is a mark
 pub pairs_unmarked : (rules : Rules) (s : Effective) (directives : List TagDirective) (pairs : Pairs) → PairsFit rules s directives pairs 0

@@ -44,7 +44,8 @@ spaces_stay rules reading (suc n) one =
 -- a blank before an entry
 pub entry_blank : (rules : Rules) (levels : List Level) → StaysAtBlank rules (within levels entry_awaited)
 entry_blank rules levels =
-    takes_to rules (within levels entry_awaited) (within levels entry_awaited) (space ∷ []) (blank ∷ []) (says_blank rules.breaks12 space (space_class rules.breaks12)) refl
+    takes_to rules (within levels entry_awaited) (within levels entry_awaited) (space ∷ []) (blank ∷ [])
+    (says_blank rules.breaks12 space (space_class rules.breaks12)) refl
 
 -- a break and spaces before an entry
 pub entry_line : (rules : Rules) (levels : List Level) (n : ℕ) → Takes rules (within levels entry_awaited) (line_feed ∷ spaces n) (within levels entry_awaited)
@@ -56,19 +57,22 @@ entry_line rules levels n =
     (spaces_end_word rules.breaks12 n)
 
 -- a blank between `?` or `:` and a node
-pub node_blank : (rules : Rules) (levels : List Level) (came : Bool) → Takes rules (within levels (node_awaited came)) (space ∷ []) (within levels (node_awaited true))
+pub node_blank : (rules : Rules) (levels : List Level) (came : Bool)
+    → Takes rules (within levels (node_awaited came)) (space ∷ []) (within levels (node_awaited true))
 node_blank rules levels came =
     takes_to rules (within levels (node_awaited came)) (within levels (node_awaited true)) (space ∷ []) (blank ∷ [])
     (says_blank rules.breaks12 space (space_class rules.breaks12)) refl
 
 -- the blank after an alias that is a key
-pub alias_blank : (rules : Rules) (levels : List Level) → Takes rules (within levels (colon_awaited after_blank)) (space ∷ []) (within levels (colon_awaited at_once))
+pub alias_blank : (rules : Rules) (levels : List Level)
+    → Takes rules (within levels (colon_awaited after_blank)) (space ∷ []) (within levels (colon_awaited at_once))
 alias_blank rules levels =
     takes_to rules (within levels (colon_awaited after_blank)) (within levels (colon_awaited at_once)) (space ∷ []) (blank ∷ [])
     (says_blank rules.breaks12 space (space_class rules.breaks12)) refl
 
 -- a blank before the `:` after a key with `?`
-pub colon_blank : (rules : Rules) (levels : List Level) (came : Bool) → Takes rules (within levels (colon_awaited (after_white came))) (space ∷ []) (within levels (colon_awaited (after_white true)))
+pub colon_blank : (rules : Rules) (levels : List Level) (came : Bool)
+    → Takes rules (within levels (colon_awaited (after_white came))) (space ∷ []) (within levels (colon_awaited (after_white true)))
 colon_blank rules levels came =
     takes_to rules (within levels (colon_awaited (after_white came))) (within levels (colon_awaited (after_white true))) (space ∷ []) (blank ∷ [])
     (says_blank rules.breaks12 space (space_class rules.breaks12)) refl
@@ -77,7 +81,8 @@ colon_blank rules levels came =
 pub colon_line : (rules : Rules) (levels : List Level) (came : Bool) (n : ℕ)
     → Takes rules (within levels (colon_awaited (after_white came))) (line_feed ∷ spaces n) (within levels (colon_awaited (after_white true)))
 colon_line rules levels came n =
-    takes_both rules (within levels (colon_awaited (after_white came))) (within levels (colon_awaited (after_white true))) (within levels (colon_awaited (after_white true)))
+    takes_both rules (within levels (colon_awaited (after_white came))) (within levels (colon_awaited (after_white true)))
+    (within levels (colon_awaited (after_white true)))
     (line_feed ∷ []) (spaces n)
     (takes_to rules (within levels (colon_awaited (after_white came))) (within levels (colon_awaited (after_white true))) (line_feed ∷ []) (line_end ∷ [])
     (says_break rules.breaks12 line_feed (line_feed_class rules.breaks12)) refl)

@@ -57,14 +57,18 @@ at_between : (breaks12 : Bool) (c : ℕ) (t : Text) → IsQuoted breaks12 t → 
     → GivesWord breaks12 (in_double before) before (c ∷ t) rest
 at_between breaks12 c t ih ends before rest = by (c == 0x22) (c == 0x5C) ends
   where
-    by : (x y : Bool) → Ends (after_step (if x then ends_quotes else (if y then goes_on backslash_place else gives (unit_of breaks12 c))) (λ next. quoted_from breaks12 next t) t)
-        → (let here : FlowTurn = if x then completes (word (before ++ (c ∷ []))) else goes_to (if y then after_backslash (before ++ (c ∷ [])) else in_double (before ++ (c ∷ []))) in here.tokens ++ flow_tokens breaks12 here.place (t ++ rest))
+    by : (x y : Bool) → Ends (after_step (if x then ends_quotes else (if y then goes_on backslash_place else gives (unit_of breaks12 c)))
+        (λ next. quoted_from breaks12 next t) t)
+        → (let here : FlowTurn = if x then completes (word (before ++ (c ∷ []))) else
+        goes_to (if y then after_backslash (before ++ (c ∷ [])) else in_double (before ++ (c ∷ []))) in here.tokens
+        ++ flow_tokens breaks12 here.place (t ++ rest))
         ≡ word (before ++ (c ∷ t)) ∷ flow_tokens breaks12 free rest
     by true y ends =
         ap (λ s. word (before ++ (c ∷ [])) ∷ flow_tokens breaks12 free (s ++ rest)) ends
         ∙ ap (λ s. word (before ++ (c ∷ s)) ∷ flow_tokens breaks12 free rest) (sym ends)
     by false true ends = ih backslash_place ends (before ++ (c ∷ [])) rest ∙ shifted breaks12 before c t rest
-    by false false ends = ih between (unit_ends (unit_of breaks12 c) (quoted_from breaks12 between t) ends) (before ++ (c ∷ [])) rest ∙ shifted breaks12 before c t rest
+    by false false ends = ih between (unit_ends (unit_of breaks12 c) (quoted_from breaks12 between t) ends) (before ++ (c ∷ [])) rest
+        ∙ shifted breaks12 before c t rest
 
 at_backslash : (breaks12 : Bool) (c : ℕ) (t : Text) → IsQuoted breaks12 t → Ends (quoted_from breaks12 backslash_place (c ∷ t)) → (before rest : Text)
     → GivesWord breaks12 (after_backslash before) before (c ∷ t) rest
@@ -72,26 +76,31 @@ at_backslash breaks12 c t ih ends before rest = by (letter_meaning c) (digits_af
   where
     by : (meaning digits : Option ℕ) → Ends (after_step (escape_step meaning digits) (λ next. quoted_from breaks12 next t) t)
         → GivesWord breaks12 (after_backslash before) before (c ∷ t) rest
-    by (Some n) digits ends = ih between (unit_ends (itself n) (quoted_from breaks12 between t) ends) (before ++ (c ∷ [])) rest ∙ shifted breaks12 before c t rest
+    by (Some n) digits ends = ih between (unit_ends (itself n) (quoted_from breaks12 between t) ends) (before ++ (c ∷ [])) rest
+        ∙ shifted breaks12 before c t rest
     by None (Some more) ends = ih (within_digits more 0) ends (before ++ (c ∷ [])) rest ∙ shifted breaks12 before c t rest
     by None None ends = absurd ends
 
-at_digits : (breaks12 : Bool) (c : ℕ) (t : Text) (more number : ℕ) → IsQuoted breaks12 t → Ends (quoted_from breaks12 (within_digits more number) (c ∷ t)) → (before rest : Text)
+at_digits : (breaks12 : Bool) (c : ℕ) (t : Text) (more number : ℕ) → IsQuoted breaks12 t → Ends (quoted_from breaks12 (within_digits more number) (c ∷ t))
+    → (before rest : Text)
     → GivesWord breaks12 (in_double before) before (c ∷ t) rest
 at_digits breaks12 c t more number ih ends before rest = by (digit_meaning c) refl more ends
   where
-    within : (place : QuotePlace) → (d : ℕ) → digit_meaning c ≡ Some d → scan_place place (before ++ (c ∷ [])) ≡ in_double (before ++ (c ∷ [])) → Ends (quoted_from breaks12 place t)
+    within : (place : QuotePlace) → (d : ℕ) → digit_meaning c ≡ Some d → scan_place place (before ++ (c ∷ [])) ≡ in_double (before ++ (c ∷ []))
+        → Ends (quoted_from breaks12 place t)
         → GivesWord breaks12 (in_double before) before (c ∷ t) rest
     within place d e same ends =
         passed breaks12 before c (t ++ rest) (no_digit c d 0x22 refl e) (no_digit c d 0x5C refl e)
         ∙ ap (λ p. flow_tokens breaks12 p (t ++ rest)) (sym same)
         ∙ ih place ends (before ++ (c ∷ [])) rest ∙ shifted breaks12 before c t rest
 
-    number_ends : (b : Bool) (n : ℕ) → Ends (after_step (if b then gives (itself n) else has_no_reading) (λ next. quoted_from breaks12 next t) t) → Ends (quoted_from breaks12 between t)
+    number_ends : (b : Bool) (n : ℕ) → Ends (after_step (if b then gives (itself n) else has_no_reading) (λ next. quoted_from breaks12 next t) t)
+        → Ends (quoted_from breaks12 between t)
     number_ends true n ends = unit_ends (itself n) (quoted_from breaks12 between t) ends
     number_ends false n ends = absurd ends
 
-    by : (meaning : Option ℕ) → digit_meaning c ≡ meaning → (more : ℕ) → Ends (after_step (digit_step more number meaning) (λ next. quoted_from breaks12 next t) t)
+    by : (meaning : Option ℕ) → digit_meaning c ≡ meaning → (more : ℕ)
+        → Ends (after_step (digit_step more number meaning) (λ next. quoted_from breaks12 next t) t)
         → GivesWord breaks12 (in_double before) before (c ∷ t) rest
     by None e more ends = absurd ends
     by (Some d) e zero ends = within between d e refl (number_ends (is_scalar_number (number * 16 + d)) (number * 16 + d) ends)
@@ -126,19 +135,22 @@ begins_unquoted [] = false
 begins_unquoted (c ∷ rest) = if c == 0x27 then false else true
 
 -- a word in single quotes ends before what is no quote
-after_quote_ends : (breaks12 : Bool) (text rest : Text) → begins_unquoted rest ≡ true → flow_tokens breaks12 (after_quote text) rest ≡ word text ∷ flow_tokens breaks12 free rest
+after_quote_ends : (breaks12 : Bool) (text rest : Text) → begins_unquoted rest ≡ true
+    → flow_tokens breaks12 (after_quote text) rest ≡ word text ∷ flow_tokens breaks12 free rest
 after_quote_ends breaks12 text [] h = absurd (false≢true h)
 after_quote_ends breaks12 text (c ∷ rest) h = by (c == 0x27) h
   where
     by : (x : Bool) → (if x then false else true) ≡ true
-        → (let here : FlowTurn = if x then goes_to (in_single (text ++ (c ∷ []))) else tokens_before (word text ∷ []) (begun (class_of breaks12 c) [] c) in here.tokens ++ flow_tokens breaks12 here.place rest)
+        → (let here : FlowTurn = if x then goes_to (in_single (text ++ (c ∷ []))) else tokens_before (word text ∷ []) (begun (class_of breaks12 c) [] c) in
+        here.tokens ++ flow_tokens breaks12 here.place rest)
         ≡ word text ∷ flow_tokens breaks12 free (c ∷ rest)
     by true h = absurd (false≢true h)
     by false h = refl
 
 -- two characters more
 shifted_twice : (breaks12 : Bool) (before : Text) (c d : ℕ) (t rest : Text)
-    → ◌≡◌ {A = List FlowToken} (word (((before ++ (c ∷ [])) ++ (d ∷ [])) ++ t) ∷ flow_tokens breaks12 free rest) (word (before ++ (c ∷ d ∷ t)) ∷ flow_tokens breaks12 free rest)
+    → ◌≡◌ {A = List FlowToken} (word (((before ++ (c ∷ [])) ++ (d ∷ [])) ++ t) ∷ flow_tokens breaks12 free rest)
+    (word (before ++ (c ∷ d ∷ t)) ∷ flow_tokens breaks12 free rest)
 shifted_twice breaks12 before c d t rest = shifted breaks12 (before ++ (c ∷ [])) d t rest ∙ shifted breaks12 before c (d ∷ t) rest
 
 -- a text that a quote closes is a word
@@ -149,19 +161,22 @@ at_closing : (breaks12 : Bool) (c : ℕ) → IsUnquoted breaks12 (c ∷ [])
 at_closing breaks12 c closes before rest h = by (c == 0x27) closes
   where
     by : (x : Bool) → (◌≡◌ {A = Option Text} (if x then Some [] else None) None → ⊥)
-        → flow_tokens breaks12 (if x then after_quote (before ++ (c ∷ [])) else in_single (before ++ (c ∷ []))) rest ≡ word (before ++ (c ∷ [])) ∷ flow_tokens breaks12 free rest
+        → flow_tokens breaks12 (if x then after_quote (before ++ (c ∷ [])) else in_single (before ++ (c ∷ []))) rest
+        ≡ word (before ++ (c ∷ [])) ∷ flow_tokens breaks12 free rest
     by true closes = after_quote_ends breaks12 (before ++ (c ∷ [])) rest h
     by false closes = absurd (closes refl)
 
 at_inside : (breaks12 : Bool) (c d : ℕ) (t : Text) → IsUnquoted breaks12 t → IsUnquoted breaks12 (d ∷ t) → IsUnquoted breaks12 (c ∷ d ∷ t)
 at_inside breaks12 c d t one two closes before rest h = by (c == 0x27) (d == 0x27) refl closes
   where
-    quote_passed : (text : Text) → (d == 0x27) ≡ true → flow_tokens breaks12 (after_quote text) (d ∷ (t ++ rest)) ≡ flow_tokens breaks12 (in_single (text ++ (d ∷ []))) (t ++ rest)
+    quote_passed : (text : Text) → (d == 0x27) ≡ true
+        → flow_tokens breaks12 (after_quote text) (d ∷ (t ++ rest)) ≡ flow_tokens breaks12 (in_single (text ++ (d ∷ []))) (t ++ rest)
     quote_passed text e = rw e refl
 
     by : (x y : Bool) → (d == 0x27) ≡ y
         → ((if x then (if y then option_map (λ t. 39 ∷ t) (unquoted t) else None) else option_map (λ t. c ∷ t) (unquoted (d ∷ t))) ≡ None → ⊥)
-        → flow_tokens breaks12 (if x then after_quote (before ++ (c ∷ [])) else in_single (before ++ (c ∷ []))) (d ∷ (t ++ rest)) ≡ word (before ++ (c ∷ d ∷ t)) ∷ flow_tokens breaks12 free rest
+        → flow_tokens breaks12 (if x then after_quote (before ++ (c ∷ [])) else in_single (before ++ (c ∷ []))) (d ∷ (t ++ rest))
+        ≡ word (before ++ (c ∷ d ∷ t)) ∷ flow_tokens breaks12 free rest
     by true true e closes =
         quote_passed (before ++ (c ∷ [])) e
         ∙ one (λ none. closes (ap (option_map (λ t. 39 ∷ t)) none)) ((before ++ (c ∷ [])) ++ (d ∷ [])) rest h ∙ shifted_twice breaks12 before c d t rest
