@@ -25,7 +25,7 @@ use Rattle.yaml_base.proofs.StreamNodesFit.{Stands}
 use Rattle.yaml_base.proofs.StreamStands.{NamesStand, BodyStands, BodiesHold}
 use Rattle.yaml_base.proofs.StreamEachDocument.{AllDocuments, documents_both}
 use Rattle.yaml_base.proofs.StreamNames.{IsSoundDocument, accepted_names_stand}
-use Rattle.yaml_base.proofs.StreamHeadingLines.{laid_heading_reads}
+use Rattle.yaml_base.proofs.StreamHeadingLines.{heading_stands}
 use Rattle.yaml_base.proofs.StreamBodies.{DocumentsHold, roots_stand}
 use Rattle.yaml_base.proofs.StreamSimpleKeys.{simple_keys_fit}
 use Rattle.yaml_base.proofs.StreamScalarLeaves.{scalars_fit}
@@ -50,7 +50,6 @@ documents_stand s no_documents low high sound bodies = tt
 documents_stand s (documents_and before document) low high sound bodies =
     let parts = documents_parts (IsSoundDocument s.portable s.canonical) (documents_in_order before) (document ∷ []) sound in
     let own = document.start.directives in
-    let says = laid_heading_reads s.breaks12 s.portable document.start parts.1.0.version parts.1.0.directives parts.1.0.prefixes in
     let at = start_laid s (has_no_documents before) document.start (documents_laid s before first_standing).standing (documents_end s before) in (
       documents_stand s before low high parts.0 bodies.0,
       record {
@@ -58,7 +57,7 @@ documents_stand s (documents_and before document) low high sound bodies =
             (simple_keys_fit s own (directives_in_force own))
             (keys_fit s own (directives_in_force own)) parts.1.0.names
             (subst (λ (l : Laid). BodiesHold (BodyStands s) document.root s (directives_in_force own) root_place l.cursor) at bodies.1);
-        heading = record { ends = says.0; percents = says.1; reads = says.2 };
+        heading = heading_stands s document.start parts.1.0.version parts.1.0.directives parts.1.0.prefixes;
       },
     )
 
