@@ -8,7 +8,7 @@ use Rattle.yaml_base.specs.Layout.{text_of}
 use Rattle.yaml_base.specs.Pieces.{list_layout}
 use Rattle.yaml_base.specs.Output.{text_written}
 use Rattle.yaml_base.specs.StreamLaw.{StreamReadsBack}
-use Rattle.yaml_base.proofs.StreamAllStand.{LayoutsArePrintable, LayoutsAreRead, streams_read_back}
+use Rattle.yaml_base.proofs.stream_documents.StreamAllStand.{LayoutsArePrintable, LayoutsAreRead, streams_read_back}
 use Rattle.yaml_emitter.proofs.MeaningBodies.{charset_of}
 use Rattle.yaml_emitter.proofs.Meaning.{is_indent, meaning_is_kept}
 use Rattle.yaml_emitter.proofs.TidyStreams.{bodies_are_tidy}

@@ -1,0 +1,102 @@
+-- Worked rows of portable mode, computed, each beside what is written without it.
+use Rattle.std.specs.Prelude.{◌≡◌, ℕ, zero, suc, true, false, None, Some, List, [], ◌∷◌, ◌++◌, codes, replicate, refl}
+use Rattle.std.specs.Char.{encode_utf8}
+use Rattle.std.specs.Str.{chars, is_utf8}
+use Rattle.yaml_base.specs.Characters.{Text}
+use Rattle.yaml_base.specs.Settings.{Settings, utf16_big, both_break}
+use Rattle.yaml_base.specs.Event.{any_layout, block, flow, Event, document_start, document_end}
+use Rattle.yaml_base.specs.Percent.{suffix_escaped, prefix_escaped}
+use Rattle.yaml_base.specs.Output.{output_of}
+use Rattle.yaml_base.specs.StreamContent.{agrees}
+use Rattle.yaml_base.specs.StreamReader.{stream_trees}
+use Rattle.yaml_base.proofs.rows.RowEvents.{plain_settings, canonical_settings, leaf, tagged, sequence, mapping, implicit_start, document_of, stream_of, alone, laid_under, laid}
+
+abbrev portable_settings : Settings
+portable_settings = record plain_settings { portable = true }
+
+abbrev portably : List Event → Text
+portably events = laid_under portable_settings events
+
+-- a scalar without flags that has this tag
+abbrev of_tag : Text → Event
+of_tag tag = tagged None (Some tag) (codes "x")
+
+-- a root of nothing: a document's start is written
+nothing_at_the_root : (portably (alone (leaf [] ∷ [])) ≡ codes "---\n") × (laid (alone (leaf [] ∷ [])) ≡ codes "\n")
+nothing_at_the_root = (refl, refl)
+
+explicit_end : portably (stream_of (implicit_start ∷ leaf [] ∷ document_end false ∷ [])) ≡ codes "---\n...\n"
+explicit_end = refl
+
+two_of_nothing : portably (stream_of (document_of (leaf [] ∷ []) ++ document_of (leaf [] ∷ []))) ≡ codes "---\n---\n"
+two_of_nothing = refl
+
+in_sixteen_bits : output_of (record portable_settings { encoding = Some utf16_big; line_break = Some both_break }) (alone (leaf [] ∷ []))
+    ≡ 0xFE ∷ 0xFF ∷ 0 ∷ 0x2D ∷ 0 ∷ 0x2D ∷ 0 ∷ 0x2D ∷ 0 ∷ 0x0D ∷ 0 ∷ 0x0A ∷ []
+in_sixteen_bits = refl
+
+roots : (portably (alone (leaf (codes "a") ∷ [])) ≡ codes "--- a\n")
+    × (portably (alone (sequence any_layout [])) ≡ codes "--- []\n")
+    × (portably (alone (sequence any_layout (leaf (codes "a") ∷ []))) ≡ codes "---\n- a\n")
+    × (portably (alone (mapping any_layout (leaf (codes "a") ∷ leaf [] ∷ []))) ≡ codes "---\na:\n")
+unfolding encode_utf8
+roots = (refl, refl, refl, refl)
+
+canonical_as_before : laid_under (record canonical_settings { portable = true }) (alone (leaf (codes "a") ∷ [])) ≡ codes "---\n\"a\"\n"
+canonical_as_before = refl
+
+-- signs of flow after a handle, and in a verbatim tag
+after_a_handle : (portably (alone (of_tag (codes "!a,b[c]") ∷ [])) ≡ codes "--- !a%2Cb%5Bc%5D x\n")
+    × (laid (alone (of_tag (codes "!a,b[c]") ∷ [])) ≡ codes "!a,b[c] x\n")
+unfolding encode_utf8
+after_a_handle = (refl, refl)
+
+verbatim_tags : (portably (alone (of_tag (codes "tag:yaml.org,2002:") ∷ [])) ≡ codes "--- !<tag:yaml.org,2002:> x\n")
+    × (portably (alone (sequence flow (of_tag (codes "tag:yaml.org,2002:,") ∷ of_tag (codes "a,b") ∷ []))) ≡ codes "--- [!!%2C x, !<a,b> x]\n")
+unfolding encode_utf8
+verbatim_tags = (refl, refl)
+
+-- so many percent forms of a comma
+abbrev percent_forms : ℕ → Text
+percent_forms zero = []
+percent_forms (suc n) = codes "%2C" ++ percent_forms n
+
+-- the length of a simple key is that before escapes
+long_tag_at_a_key :
+    portably (alone (mapping block (tagged None (Some (codes "!" ++ replicate 127 0x2C)) [] ∷ leaf (codes "v") ∷ [])))
+    ≡ codes "---\n!" ++ (percent_forms 127 ++ codes " '': v\n")
+unfolding encode_utf8
+long_tag_at_a_key = refl
+
+-- a document that gives a prefix for `!e!`, and a scalar with a tag
+abbrev with_prefix : Text → Text → List Event
+with_prefix prefix tag =
+    stream_of
+    (document_start (record { version = None; directives = record { handle = codes "!e!"; prefix = prefix } ∷ []; implicit = true })
+    ∷ of_tag tag ∷ document_end true ∷ [])
+
+-- a `!` that begins a prefix, and others
+prefixes : (portably (with_prefix (codes "!x") (codes "!xy")) ≡ codes "%TAG !e! !x\n--- !e!y x\n")
+    × (laid (with_prefix (codes "!x") (codes "!xy")) ≡ codes "%TAG !e! %21x\n--- !e!y x\n")
+    × (portably (with_prefix (codes "!!a!") (codes "!!a!b")) ≡ codes "%TAG !e! !%21a%21\n--- !e!b x\n")
+    × (portably (with_prefix (codes "a!,[") (codes "a!,[,")) ≡ codes "%TAG !e! a%21,[\n--- !e!%2C x\n")
+unfolding encode_utf8
+prefixes = (refl, refl, refl, refl)
+
+-- what is written is read as what was given
+abbrev reads : List Event → Text → Type 0
+reads events text = agrees false events (stream_trees false text) ≡ true
+
+all_read : reads (alone (leaf [] ∷ [])) (codes "---\n")
+    × reads (alone (of_tag (codes "!a,b[c]") ∷ [])) (codes "--- !a%2Cb%5Bc%5D x\n")
+    × reads (with_prefix (codes "!!a!") (codes "!!a!b")) (codes "%TAG !e! !%21a%21\n--- !e!b x\n")
+    × reads (with_prefix (codes "a!,[") (codes "a!,[,")) (codes "%TAG !e! a%21,[\n--- !e!%2C x\n")
+unfolding chars is_utf8 encode_utf8
+all_read = (refl, refl, refl, refl)
+
+-- the texts alone
+escapes : (suffix_escaped true (codes "a,b!%") ≡ codes "a%2Cb%21%25") × (suffix_escaped false (codes "a,b!%") ≡ codes "a,b%21%25")
+    × (prefix_escaped true (codes "!a!,") ≡ codes "!a%21,") × (prefix_escaped false (codes "!a!,") ≡ codes "%21a%21,")
+    × (prefix_escaped true (codes "%!") ≡ codes "%25%21")
+unfolding encode_utf8
+escapes = (refl, refl, refl, refl, refl)

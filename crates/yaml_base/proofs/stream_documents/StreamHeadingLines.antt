@@ -1,0 +1,203 @@
+-- The lines of a document's directives: each begins with `%`, and they are read as its version and its directives.
+use Rattle.std.proofs.Common.{◌≡◌, refl, sym, ap, ◌∙◌, append_assoc, int_eq, arith, pos, option_and_then, append-nil}
+use Rattle.std.proofs.lemmas.Bool.{or_parts, or_from}
+use Rattle.std.proofs.lemmas.Bool.Decides.{nat_tests}
+use Rattle.std.specs.List.{list_all, list_any}
+use Rattle.std.specs.Prelude.{Bool, true, false, Option, None, Some, List, [], ◌∷◌, ◌++◌, ◌||◌, codes, if◌then◌else◌}
+use Rattle.yaml_base.specs.Characters.{Text, space, line_feed, is_break, is_blank}
+use Rattle.yaml_base.specs.LineBreaks.{is_read_break}
+use Rattle.yaml_base.specs.Settings.{Effective}
+use Rattle.yaml_base.specs.Cursor.{Cursor, Laid, first_cursor, then_laid}
+use Rattle.yaml_base.specs.Event.{Version, TagDirective, DocumentStart}
+use Rattle.yaml_base.specs.Percent.{prefix_escaped}
+use Rattle.yaml_base.specs.Tags.{directives_fault, handle_fault, directives_fault_after, next_directive_fault, directive_fault, gives_handle, duplicate_directive, prefix_fault, version_fault}
+use Rattle.yaml_base.specs.Indicators.{indicator_laid, yaml_directive, version_1_1, version_1_2}
+use Rattle.yaml_base.specs.Layout.{line_ended, version_laid, tag_directives_laid}
+use Rattle.yaml_base.specs.Meaning.{directive_scalars}
+use Rattle.yaml_base.specs.StreamLines.{Line, lines_of, text_of_lines}
+use Rattle.yaml_base.specs.StreamDocuments.{begins_with_percent, heading_of}
+use Rattle.yaml_base.proofs.PercentLaws.{prefix_stands}
+use Rattle.yaml_base.proofs.TagLaws.{handle_form, handle_ends_no_word, neither}
+use Rattle.yaml_base.proofs.stream_lines.StreamLineLaws.{OneLine, one_line_both, is_closed}
+use Rattle.yaml_base.proofs.stream_lines.StreamClosed.{lines_broken, character_line, closed_behind}
+use Rattle.yaml_base.proofs.stream_nodes.StreamProperties.{holds_white}
+use Rattle.yaml_base.proofs.stream_documents.StreamRootsStand.{heading_text, HeadingStands}
+use Rattle.yaml_base.proofs.stream_documents.StreamSoFar.{Percents}
+use Rattle.yaml_base.proofs.stream_documents.StreamHeadings.{directive_text, tag_lines, version_lines, heading_lines, prefix_no_white, heading_reads}
+
+-- Lines with their breaks
+
+-- each line is one, and a break ends it
+abbrev pub WholeLines : Bool → List Line → Type 0
+WholeLines breaks12 [] = Unit {0}
+WholeLines breaks12 (line ∷ rest) = OneLine breaks12 line.text × (line.ending ≡ line_feed ∷ []) × WholeLines breaks12 rest
+
+-- they are the first lines of what follows them
+whole_lines : (breaks12 : Bool) (lines : List Line) (rest : Text) → WholeLines breaks12 lines
+    → lines_of breaks12 (text_of_lines lines ++ rest) ≡ lines ++ lines_of breaks12 rest
+whole_lines breaks12 [] rest h = refl
+whole_lines breaks12 (line ∷ lines) rest h =
+    ap (lines_of breaks12) (append_assoc line.text (line.ending ++ text_of_lines lines) rest)
+    ∙ ap (λ ending. lines_of breaks12 (line.text ++ ((ending ++ text_of_lines lines) ++ rest))) h.1
+    ∙ lines_broken breaks12 line.text (text_of_lines lines ++ rest) h.0
+    ∙ ap (λ ending. let made : Line = record { text = line.text; ending = ending } in made ∷ lines_of breaks12 (text_of_lines lines ++ rest))
+    (sym h.1)
+    ∙ ap (λ all. line ∷ all) (whole_lines breaks12 lines rest h.2)
+
+-- lines, and then others
+whole_both : (breaks12 : Bool) (some others : List Line) → WholeLines breaks12 some → WholeLines breaks12 others → WholeLines breaks12 (some ++ others)
+whole_both breaks12 [] others h k = k
+whole_both breaks12 (line ∷ rest) others h k = (h.0, h.1, whole_both breaks12 rest others h.2 k)
+
+-- the text of lines, and then of others
+text_of_both : (some others : List Line) → text_of_lines (some ++ others) ≡ text_of_lines some ++ text_of_lines others
+text_of_both [] others = refl
+text_of_both (line ∷ rest) others =
+    ap (λ t. line.text ++ (line.ending ++ t)) (text_of_both rest others)
+    ∙ ap (λ t. line.text ++ t) (sym (append_assoc line.ending (text_of_lines rest) (text_of_lines others)))
+    ∙ sym (append_assoc line.text (line.ending ++ text_of_lines rest) (text_of_lines others))
+
+-- A heading's lines
+
+-- a text without white space is on one line
+dark_line : (breaks12 : Bool) (text : Text) → holds_white text ≡ false → OneLine breaks12 text
+dark_line breaks12 [] h = refl
+dark_line breaks12 (c ∷ text) h =
+    let parts = or_parts (is_blank c || is_break c) (holds_white text) h in
+    or_from (is_read_break breaks12 c) (list_any (is_read_break breaks12) text)
+    (by breaks12 (or_parts (is_blank c) (is_break c) parts.0).1) (dark_line breaks12 text parts.1)
+  where
+    by : (x : Bool) → is_break c ≡ false → is_read_break x c ≡ false
+    by true h = grind (arith, nat_tests)
+    by false h = grind (arith, nat_tests)
+
+-- a directive's line
+directive_whole : (breaks12 portable : Bool) (directive : TagDirective) → handle_fault directive.handle ≡ None
+    → OneLine breaks12 (directive_text portable directive)
+directive_whole breaks12 portable directive sound =
+    let prefix = prefix_escaped portable directive.prefix in
+    one_line_both breaks12 (codes "%TAG" ++ space ∷ []) (directive.handle ++ (space ∷ prefix)) (by breaks12)
+    (one_line_both breaks12 directive.handle (space ∷ prefix)
+    (dark_line breaks12 directive.handle (handle_ends_no_word directive.handle (handle_form directive.handle sound)))
+    (character_line breaks12 space prefix (at breaks12) (dark_line breaks12 prefix (prefix_no_white prefix (prefix_stands portable directive.prefix)))))
+  where
+    by : (x : Bool) → OneLine x (codes "%TAG" ++ space ∷ [])
+    by true = refl
+    by false = refl
+
+    at : (x : Bool) → is_read_break x space ≡ false
+    at true = refl
+    at false = refl
+
+tags_whole : (breaks12 portable : Bool) (before directives : List TagDirective) → directives_fault_after before directives ≡ None
+    → WholeLines breaks12 (tag_lines portable directives)
+tags_whole breaks12 portable before [] sound = tt
+tags_whole breaks12 portable before (directive ∷ rest) sound =
+    let both = neither (next_directive_fault before directive) (directives_fault_after (before ++ directive ∷ []) rest) sound in
+    let own = neither (directive_fault directive) (if gives_handle directive.handle before then Some duplicate_directive else None) both.0 in
+    let parts = neither (handle_fault directive.handle) (prefix_fault directive.prefix) own.0 in
+    (directive_whole breaks12 portable directive parts.0, refl, tags_whole breaks12 portable (before ++ directive ∷ []) rest both.1)
+
+version_whole : (breaks12 : Bool) (version : Option Version) → WholeLines breaks12 (version_lines version)
+version_whole breaks12 None = tt
+version_whole breaks12 (Some version) = (by breaks12 (int_eq version.minor (pos 2)), refl, tt)
+  where
+    by : (x two : Bool) → OneLine x (codes "%YAML" ++ (space ∷ (if two then version_1_2 else version_1_1).text))
+    by true true = refl
+    by true false = refl
+    by false true = refl
+    by false false = refl
+
+-- the lines of a heading without a fault
+heading_whole : (breaks12 portable : Bool) (start : DocumentStart) → directives_fault start.directives ≡ None
+    → WholeLines breaks12 (heading_lines portable start)
+heading_whole breaks12 portable start sound =
+    whole_both breaks12 (version_lines start.version) (tag_lines portable start.directives)
+    (version_whole breaks12 start.version) (tags_whole breaks12 portable [] start.directives sound)
+
+-- they are the first lines of what follows
+heading_first : (breaks12 portable : Bool) (start : DocumentStart) (rest : Text) → directives_fault start.directives ≡ None
+    → lines_of breaks12 (text_of_lines (heading_lines portable start) ++ rest) ≡ heading_lines portable start ++ lines_of breaks12 rest
+heading_first breaks12 portable start rest sound =
+    whole_lines breaks12 (heading_lines portable start) rest (heading_whole breaks12 portable start sound)
+
+-- Each begins with a `%`
+
+tags_percent : (portable : Bool) (directives : List TagDirective) → Percents (tag_lines portable directives)
+tags_percent portable [] = refl
+tags_percent portable (directive ∷ rest) = tags_percent portable rest
+
+-- each line of a heading does
+heading_percent : (portable : Bool) (start : DocumentStart) → Percents (heading_lines portable start)
+heading_percent portable start = by start.version
+  where
+    by : (version : Option Version) → Percents (version_lines version ++ tag_lines portable start.directives)
+    by None = tags_percent portable start.directives
+    by (Some version) = tags_percent portable start.directives
+
+-- As they are laid out
+
+-- a text at the start of a line
+abbrev laid_as : Text → Cursor → Laid
+laid_as text cursor = record { text = text; cursor = cursor }
+
+version_is : (version : Option Version) → version_laid version first_cursor ≡ record { text = text_of_lines (version_lines version); cursor = first_cursor }
+version_is None = refl
+version_is (Some version) = by (int_eq version.minor (pos 2))
+  where
+    by : (two : Bool) → line_ended (then_laid (indicator_laid yaml_directive first_cursor) (indicator_laid (if two then version_1_2 else version_1_1)))
+        ≡ (let line : Line = record { text = codes "%YAML" ++ (space ∷ (if two then version_1_2 else version_1_1).text); ending = line_feed ∷ [] } in
+        let laid : Laid = record { text = text_of_lines (line ∷ []); cursor = first_cursor } in laid)
+    by true = refl
+    by false = refl
+
+tags_are : (portable : Bool) (directives : List TagDirective)
+    → tag_directives_laid portable directives first_cursor ≡ record { text = text_of_lines (tag_lines portable directives); cursor = first_cursor }
+tags_are portable [] = refl
+tags_are portable (directive ∷ rest) =
+    let text = directive_text portable directive in
+    ap (λ (after : Laid). laid_as ((text ++ line_feed ∷ []) ++ after.text) after.cursor) (tags_are portable rest)
+    ∙ ap (λ t. laid_as t first_cursor) (append_assoc text (line_feed ∷ []) (text_of_lines (tag_lines portable rest)))
+
+-- the version and the directives are laid out as these lines
+heading_laid : (portable : Bool) (start : DocumentStart)
+    → then_laid (version_laid start.version first_cursor) (tag_directives_laid portable start.directives)
+    ≡ record { text = text_of_lines (heading_lines portable start); cursor = first_cursor }
+heading_laid portable start =
+    ap (λ (laid : Laid). then_laid laid (tag_directives_laid portable start.directives)) (version_is start.version)
+    ∙ ap (λ (after : Laid). laid_as (text_of_lines (version_lines start.version) ++ after.text) after.cursor) (tags_are portable start.directives)
+    ∙ ap (λ t. laid_as t first_cursor) (sym (text_of_both (version_lines start.version) (tag_lines portable start.directives)))
+
+-- A heading as it is laid out
+
+-- the last of whole lines ends their text
+whole_closed : (breaks12 : Bool) (lines : List Line) → WholeLines breaks12 lines → is_closed breaks12 (text_of_lines lines) ≡ true
+whole_closed breaks12 [] h = refl
+whole_closed breaks12 (line ∷ rest) h =
+    ap (λ ending. is_closed breaks12 (line.text ++ (ending ++ text_of_lines rest))) h.1
+    ∙ closed_behind breaks12 line.text line_feed (text_of_lines rest) (by (text_of_lines rest) (whole_closed breaks12 rest h.2))
+  where
+    by : (t : Text) → is_closed breaks12 t ≡ true → is_closed breaks12 (line_feed ∷ t) ≡ true
+    by [] h = refl
+    by (c ∷ t) h = h
+
+-- the lines of its text
+heading_text_lines : (s : Effective) (start : DocumentStart) → directives_fault start.directives ≡ None
+    → lines_of s.breaks12 (heading_text s start) ≡ heading_lines s.portable start
+heading_text_lines s start sound =
+    ap (λ (laid : Laid). lines_of s.breaks12 laid.text) (heading_laid s.portable start)
+    ∙ ap (lines_of s.breaks12) (sym (append-nil (text_of_lines (heading_lines s.portable start))))
+    ∙ heading_first s.breaks12 s.portable start [] sound
+    ∙ append-nil (heading_lines s.portable start)
+
+-- it ends with a break, each of its lines begins with a `%`, and they are read as the version and the directives
+pub heading_stands : (s : Effective) (start : DocumentStart) → option_and_then version_fault start.version ≡ None
+    → directives_fault start.directives ≡ None → list_all directive_scalars start.directives ≡ true → HeadingStands s start
+heading_stands s start version directives scalars =
+    let lines = heading_text_lines s start directives in
+    record {
+      ends = ap (λ (laid : Laid). is_closed s.breaks12 laid.text) (heading_laid s.portable start)
+          ∙ whole_closed s.breaks12 (heading_lines s.portable start) (heading_whole s.breaks12 s.portable start directives);
+      percents = ap (list_all (λ line. begins_with_percent line.text)) lines ∙ heading_percent s.portable start;
+      reads = ap heading_of lines ∙ heading_reads s.portable start version directives scalars;
+    }

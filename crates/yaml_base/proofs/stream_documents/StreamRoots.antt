@@ -1,0 +1,83 @@
+-- A root that fits reads as its document's tree: on lines of its own, on the line of `---`, and below that line.
+use Rattle.std.proofs.Common.{◌≡◌, zero, suc, ◌≤◌, refl, sym, ap, ◌∙◌}
+use Rattle.std.proofs.lemmas.Bool.{false≢true}
+use Rattle.std.specs.Prelude.{ℕ, Bool, true, false, None, Some, List, [], ◌∷◌, ◌++◌, ◌||◌, not, codes, if◌then◌else◌}
+use Rattle.yaml_base.specs.Cursor.{Cursor, Laid}
+use Rattle.yaml_base.specs.Layout.{root_place}
+use Rattle.yaml_base.specs.StreamContent.{Tree}
+use Rattle.yaml_base.specs.StreamLines.{Line, lines_of, is_spaces, without_blank_lines, begins_blank, indented, blanked}
+use Rattle.yaml_base.specs.StreamScalars.{Rules, Properties, no_properties}
+use Rattle.yaml_base.specs.StreamNodes.{NodeKind, begins_sequence, begins_mapping, begins_text, kind_of_node, Reads, ReadsText, node_by_kind, node_at, begins_properties, text_or_properties, node_read}
+use Rattle.yaml_base.specs.StreamDocuments.{stands_at_margin, root_below, root_after_mark, root_marked}
+use Rattle.yaml_base.proofs.stream_lines.StreamCuts.{none_not_some}
+use Rattle.yaml_base.proofs.stream_lines.StreamClosed.{closed, margin_cursor}
+use Rattle.yaml_base.proofs.stream_nodes.StreamFits.{Opens, Fits, blanked_lines}
+
+-- the cursor behind `---`
+abbrev pub mark_cursor : Cursor
+mark_cursor = record { column = 3; whitespace = false; indention = false }
+
+-- a root on lines of its own
+pub root_reads : (rules : Rules) (n : ℕ) (own : Laid) (tree : Tree) → Fits rules n own tree root_place (margin_cursor 0)
+    → stands_at_margin (lines_of rules.breaks12 (closed own)) ≡ true → (depth : ℕ) → n ≤ depth
+    → root_below depth rules (lines_of rules.breaks12 (closed own)) ≡ Some tree
+root_reads rules n own tree fit margin depth deep =
+    ap (λ x. if x then node_read depth rules true None (lines_of rules.breaks12 (closed own)) else None) margin
+    ∙ fit.reads depth deep true 0 (λ h. (refl, refl))
+
+-- what isn't blank stays so
+shown_once : (lines : List Line) → (begins_blank (without_blank_lines lines) ≡ false)
+    × (without_blank_lines (without_blank_lines lines) ≡ without_blank_lines lines)
+shown_once [] = (refl, refl)
+shown_once (line ∷ rest) = by (is_spaces line.text) refl (shown_once rest)
+  where
+    by : (x : Bool) → is_spaces line.text ≡ x
+        → (begins_blank (without_blank_lines rest) ≡ false) × (without_blank_lines (without_blank_lines rest) ≡ without_blank_lines rest)
+        → (begins_blank (if x then without_blank_lines rest else line ∷ rest) ≡ false)
+        × (without_blank_lines (if x then without_blank_lines rest else line ∷ rest) ≡ (if x then without_blank_lines rest else line ∷ rest))
+    by true e once = once
+    by false e once = (e, ap (λ x. if x then without_blank_lines rest else line ∷ rest) e)
+
+-- what reads where no text may begin reads where one may
+first_more : (rules : Rules) (reads : Reads) (reads_text : ReadsText) (properties : Properties) (lines : List Line) (tree : Tree)
+    → node_at rules reads reads_text properties true false lines ≡ Some tree → node_at rules reads reads_text properties true true lines ≡ Some tree
+first_more rules reads reads_text properties [] tree h = h
+first_more rules reads reads_text properties (line ∷ rest) tree h = by (kind_of_node rules (indented line.text).text) h
+  where
+    by : (kind : NodeKind) → node_by_kind kind rules reads reads_text properties true false (indented line.text) line.ending rest (line ∷ rest) ≡ Some tree
+        → node_by_kind kind rules reads reads_text properties true true (indented line.text) line.ending rest (line ∷ rest) ≡ Some tree
+    by begins_sequence h = h
+    by begins_mapping h = h
+    by begins_text h = absurd (none_not_some h)
+
+-- a node below a blank line reads on lines of its own
+below_blank : (depth : ℕ) (rules : Rules) (line : Line) (rest : List Line) (tree : Tree) → is_spaces line.text ≡ true
+    → node_read depth rules false None (line ∷ rest) ≡ Some tree → node_read depth rules true None (without_blank_lines rest) ≡ Some tree
+below_blank zero rules line rest tree blank h = absurd (none_not_some h)
+below_blank (suc depth) rules line rest tree blank h =
+    let by : ReadsText = λ at text. text_or_properties (begins_properties text) rules (node_read depth rules) None at text in
+    let lines = without_blank_lines rest in
+    let once = shown_once rest in
+    ap (λ x. node_at rules (node_read depth rules) by no_properties true (not x) (without_blank_lines lines)) once.0
+    ∙ ap (node_at rules (node_read depth rules) by no_properties true true) once.1
+    ∙ first_more rules (node_read depth rules) by no_properties lines tree
+    (sym (ap (λ x. node_at rules (node_read depth rules) by no_properties (false || x) (not x) (if x then lines else line ∷ rest)) blank) ∙ h)
+
+-- a root behind `---`, on its line or below it
+pub root_marked_reads : (rules : Rules) (n : ℕ) (own : Laid) (tree : Tree) (fit : Fits rules n own tree root_place mark_cursor)
+    → (is_spaces (fit.opens refl).head ≡ true → stands_at_margin (without_blank_lines (fit.opens refl).rest) ≡ true) → (depth : ℕ) → n ≤ depth
+    → root_marked depth rules (record { text = codes "---" ++ (fit.opens refl).head; ending = (fit.opens refl).ending }) (fit.opens refl).rest ≡ Some tree
+root_marked_reads rules n own tree fit margin depth deep = by (is_spaces o.head) refl
+  where
+    o : Opens rules.breaks12 (closed own)
+    o = fit.opens refl
+
+    whole : node_read depth rules false None (blanked 3 o.head o.ending ∷ o.rest) ≡ Some tree
+    whole = ap (node_read depth rules false None) (sym (blanked_lines rules.breaks12 3 (closed own) o))
+        ∙ fit.reads depth deep false 3 (λ h. absurd (false≢true h))
+
+    by : (x : Bool) → is_spaces o.head ≡ x → root_after_mark x depth rules (blanked 3 o.head o.ending) o.rest ≡ Some tree
+    by false e = whole
+    by true e =
+        ap (λ x. if x then node_read depth rules true None (without_blank_lines o.rest) else None) (margin e)
+        ∙ below_blank depth rules (blanked 3 o.head o.ending) o.rest tree e whole

@@ -1,0 +1,17 @@
+pub mod StreamWords
+pub mod StreamPlainWords
+pub mod StreamSays
+pub mod StreamTakes
+pub mod StreamWhites
+pub mod StreamPropertyWords
+pub mod StreamPasses
+pub mod StreamFlowWords
+pub mod StreamFlowTakes
+pub mod StreamFlowScalars
+pub mod StreamFlowPairs
+pub mod StreamFlowKinds
+pub mod StreamFlowNodes
+pub mod StreamFlowReads
+pub mod StreamFlowLines
+pub mod StreamFlowDeep
+pub mod StreamFlowFits

@@ -1,0 +1,267 @@
+-- Each kind of node that stands in flow takes the reader of flow collections to its place with its tree, where what it holds does.
+use Rattle.std.proofs.Common.{◌≡◌, refl, sym, ap, ◌∙◌, subst, append_assoc, append-nil}
+use Rattle.std.proofs.lemmas.Bool.{true≢false, false≢true}
+use Rattle.std.specs.Prelude.{ℕ, Bool, true, false, Option, None, Some, List, [], ◌∷◌, ◌++◌, ◌&&◌, not, is_some, if◌then◌else◌}
+use Rattle.yaml_base.specs.Characters.{Text, space}
+use Rattle.yaml_base.specs.Settings.{Effective}
+use Rattle.yaml_base.specs.Event.{TagDirective, Scalar, Collection}
+use Rattle.yaml_base.specs.Cursor.{Cursor, Laid, space_if}
+use Rattle.yaml_base.specs.Style.{is_plain}
+use Rattle.yaml_base.specs.Grammar.{Node, alias_node, scalar_node, sequence_node, mapping_node, Nodes, no_nodes, nodes_and, Pairs, no_pairs, pairs_and}
+use Rattle.yaml_base.specs.Refusal.{scalar_tag, collection_tag}
+use Rattle.yaml_base.specs.Layout.{Role, is_key, deeper, is_simple, properties_laid, alias_laid, separation_laid, body_laid, choice_of, square, curly, end_laid, entry_place}
+use Rattle.yaml_base.specs.StreamContent.{Tree, alias_tree, sequence_tree, mapping_tree, no_trees, no_tree_pairs}
+use Rattle.yaml_base.specs.StreamScalars.{Rules, name_read}
+use Rattle.yaml_base.specs.StreamTokens.{begins_bracket, class_of}
+use Rattle.yaml_base.specs.StreamFlow.{is_alias, is_key_text, no_key, key_held, Level, in_sequence, in_mapping, ColonPlace, at_once, after_blank, entry_awaited, comma_awaited, colon_awaited, within, with_tree, level_opened}
+use Rattle.yaml_base.proofs.stream_nodes.StreamAgrees.{node_tree, nodes_tree, pairs_tree}
+use Rattle.yaml_base.proofs.stream_flow.StreamSays.{bracket_class}
+use Rattle.yaml_base.proofs.stream_flow.StreamTakes.{Takes, takes_both, takes_simple_key}
+use Rattle.yaml_base.proofs.stream_flow.StreamWhites.{alias_blank, spaces_end_word}
+use Rattle.yaml_base.proofs.stream_nodes.StreamTexts.{node_own, items_own, pairs_own}
+use Rattle.yaml_base.proofs.stream_flow.StreamPropertyWords.{lead}
+use Rattle.yaml_base.proofs.stream_nodes.StreamStands.{tag_written, tag_meant, NamesStand, BodyStands, BodiesHold, body_from}
+use Rattle.yaml_base.proofs.stream_nodes.StreamLeads.{Ended, lead_laid, tag_is_written}
+use Rattle.yaml_base.proofs.stream_flow.StreamFlowWords.{opens_inside, FlowWord, Given, lead_opens, alias_flow_word, empty_sequence_word, empty_mapping_word}
+use Rattle.yaml_base.proofs.stream_flow.StreamFlowScalars.{rules_of, chosen_in_flow, bare_not_plain, body_flow_word, body_ended, scalar_whole}
+use Rattle.yaml_base.proofs.stream_flow.StreamFlowTakes.{FlowNode, FlowEntries, FlowEnd, takes_word, takes_collection, opens_more, and_false, sequence_ends, mapping_ends}
+
+-- the space after an alias that is a simple key
+abbrev pub alias_space : Node → Text
+alias_space (alias_node name) = space ∷ []
+alias_space _ = []
+
+-- the text of each simple key, without the space before it and that after an alias, is on one line and not too long
+abbrev pub KeysFit : Effective → List TagDirective → List TagDirective → Type 0
+KeysFit s own directives =
+    (n : Node) (role : Role) (column : ℕ) (cursor : Cursor) (text : Text) → (is_key role && is_simple s.canonical directives n) ≡ true
+    → NamesStand s.portable own s.canonical directives n → BodiesHold (BodyStands s) n s directives (entry_place true role column) cursor
+    → (node_own n s directives (entry_place true role column) cursor).text ≡ space_if true cursor ++ (text ++ alias_space n)
+    → is_key_text s.breaks12 (node_tree n s directives (entry_place true role 0)) text ≡ true
+
+-- Words
+
+-- a word is a node in flow, and a key where it may be one
+word_node : (rules : Rules) (simple : Bool) (cursor : Cursor) (own : Laid) (text : Text) (tree : Tree) → own.text ≡ space_if true cursor ++ text
+    → Ended own.cursor
+    → FlowWord rules text tree → is_alias tree ≡ false → (simple ≡ true → is_key_text rules.breaks12 tree text ≡ true) → FlowNode rules simple cursor own tree
+word_node rules simple cursor own text tree whole ended of other fits = record {
+  content = text;
+  whole = whole;
+  ended = ended;
+  opens = of.opens;
+  takes = λ h levels open_level spaced. takes_word rules levels spaced text tree of open_level;
+  key = λ h anchor tag pairs levels.
+      let at : ColonPlace → Type 0 = λ place. Takes rules (within (in_mapping anchor tag pairs no_key ∷ levels) entry_awaited) text
+      (within (in_mapping anchor tag pairs (key_held tree) ∷ levels) (colon_awaited place)) in
+      subst at (ap (λ x. if x then after_blank else at_once) other) (takes_simple_key rules anchor tag pairs levels text tree of.says of.reads (fits h));
+}
+
+-- an alias, with a space after it where it is a simple key
+pub alias_step : (s : Effective) (own directives : List TagDirective) (fits : KeysFit s own directives) (role : Role) (column : ℕ) (cursor : Cursor)
+    (name : Text) → name_read name ≡ Some name
+    → (simple : Bool) → (is_key role && is_simple s.canonical directives (alias_node name)) ≡ simple
+    → FlowNode (rules_of s own) simple cursor (alias_laid name simple cursor) (alias_tree name)
+alias_step s own directives fits role column cursor name named false e = record {
+  content = 0x2A ∷ name;
+  whole = append-nil ((space_if true cursor ++ (0x2A ∷ [])) ++ name) ∙ append_assoc (space_if true cursor) (0x2A ∷ []) name;
+  ended = record { white = refl; indention = refl };
+  opens = refl;
+  takes = λ h levels open_level spaced. takes_word (rules_of s own) levels spaced (0x2A ∷ name) (alias_tree name)
+      (alias_flow_word (rules_of s own) name named) open_level;
+  key = λ h. absurd (false≢true h);
+}
+alias_step s own directives fits role column cursor name named true e = record {
+  content = (0x2A ∷ name) ++ (space ∷ []);
+  whole = whole;
+  ended = record { white = refl; indention = refl };
+  opens = refl;
+  takes = λ h. absurd (true≢false h);
+  key = λ h anchor tag pairs levels.
+      let of = alias_flow_word (rules_of s own) name named in
+      takes_both (rules_of s own) (within (in_mapping anchor tag pairs no_key ∷ levels) entry_awaited)
+      (within (in_mapping anchor tag pairs (key_held (alias_tree name)) ∷ levels) (colon_awaited after_blank))
+      (within (in_mapping anchor tag pairs (key_held (alias_tree name)) ∷ levels) (colon_awaited at_once)) (0x2A ∷ name) (space ∷ [])
+      (takes_simple_key (rules_of s own) anchor tag pairs levels (0x2A ∷ name) (alias_tree name) of.says of.reads
+      (fits (alias_node name) role column cursor (0x2A ∷ name) e named tt (ap (λ x. (alias_laid name x cursor).text) e ∙ whole)))
+      (alias_blank (rules_of s own) (in_mapping anchor tag pairs (key_held (alias_tree name)) ∷ levels))
+      (spaces_end_word s.breaks12 1);
+}
+  where
+    whole : (alias_laid name true cursor).text ≡ space_if true cursor ++ ((0x2A ∷ name) ++ (space ∷ []))
+    whole =
+        ap (λ t. t ++ (space ∷ [])) (append_assoc (space_if true cursor) (0x2A ∷ []) name)
+        ∙ append_assoc (space_if true cursor) (0x2A ∷ name) (space ∷ [])
+
+-- a scalar
+pub scalar_step : (s : Effective) (own directives : List TagDirective) (fits : KeysFit s own directives) (role : Role) (column : ℕ) (cursor : Cursor)
+    (content : Scalar)
+    → NamesStand s.portable own s.canonical directives (scalar_node content)
+    → BodyStands s (body_from s directives (entry_place true role column) content cursor)
+    → FlowNode (rules_of s own) (is_key role && is_simple s.canonical directives (scalar_node content)) cursor
+    (node_own (scalar_node content) s directives (entry_place true role column) cursor) (node_tree (scalar_node content) s directives (entry_place true role 0))
+scalar_step s own directives fits role column cursor content names body =
+    let place = entry_place true role column in
+    let simple = is_key role && is_simple s.canonical directives (scalar_node content) in
+    let tag = scalar_tag s.canonical content in
+    let choice = choice_of s place simple content in
+    let properties = properties_laid s.portable directives content.anchor tag choice.bare cursor in
+    let separation = separation_laid choice.style true content.value properties.cursor in
+    let limit = if simple then None else s.width in
+    let text = (body_laid choice.style s limit (deeper s.indent (Some column)) content.value separation.cursor).text in
+    let whole = scalar_whole s.portable directives content.anchor tag choice.bare choice.style content.value cursor text in
+    let flow = chosen_in_flow s role column simple content in
+    word_node (rules_of s own) simple cursor (node_own (scalar_node content) s directives place cursor)
+    (lead content.anchor (tag_written s.portable directives tag choice.bare) ++ text) (node_tree (scalar_node content) s directives (entry_place true role 0))
+    whole
+    (body_ended s choice.style limit (deeper s.indent (Some column)) content.value separation.cursor flow)
+    (body_flow_word s own content.anchor (tag_written s.portable directives tag choice.bare) tag choice.style choice.bare limit
+    (deeper s.indent (Some column)) column content.value separation.cursor
+    (record { named = names.0; tagged = tag_is_written s.portable own directives tag choice.bare names.1 })
+    flow (bare_not_plain (is_some tag) content.quoted_implicit (is_plain choice.style)) body.tidy body.reads)
+    refl
+    (λ h.
+    fits (scalar_node content) role column cursor (lead content.anchor (tag_written s.portable directives tag choice.bare) ++ text) h names body
+    (whole ∙ ap (λ t. space_if true cursor ++ t) (sym (append-nil (lead content.anchor (tag_written s.portable directives tag choice.bare) ++ text)))))
+
+-- Collections
+
+-- an empty collection's text
+pub empty_whole : (properties : Laid) (cursor : Cursor) (before : Text) (a b : ℕ)
+    → properties.text ++ space_if true properties.cursor ≡ space_if true cursor ++ before
+    → (properties.text ++ []) ++ ((space_if true properties.cursor ++ (a ∷ [])) ++ (b ∷ [])) ≡ space_if true cursor ++ (before ++ (a ∷ b ∷ []))
+empty_whole properties cursor before a b e =
+    ap (λ t. t ++ ((space_if true properties.cursor ++ (a ∷ [])) ++ (b ∷ []))) (append-nil properties.text)
+    ∙ ap (λ t. properties.text ++ t) (append_assoc (space_if true properties.cursor) (a ∷ []) (b ∷ []))
+    ∙ sym (append_assoc properties.text (space_if true properties.cursor) (a ∷ b ∷ []))
+    ∙ ap (λ t. t ++ (a ∷ b ∷ [])) e
+    ∙ append_assoc (space_if true cursor) before (a ∷ b ∷ [])
+
+-- the text of a collection that holds something
+pub collection_whole : (properties : Laid) (cursor : Cursor) (before : Text) (bracket : ℕ) (inside entries ending : Text)
+    → properties.text ++ space_if true properties.cursor ≡ space_if true cursor ++ before
+    → entries ≡ space_if true properties.cursor ++ (bracket ∷ inside)
+    → (properties.text ++ entries) ++ ending ≡ space_if true cursor ++ (before ++ (bracket ∷ (inside ++ ending)))
+collection_whole properties cursor before bracket inside entries ending e whole =
+    ap (λ t. (properties.text ++ t) ++ ending) whole
+    ∙ ap (λ t. t ++ ending) (sym (append_assoc properties.text (space_if true properties.cursor) (bracket ∷ inside)))
+    ∙ ap (λ t. (t ++ (bracket ∷ inside)) ++ ending) e
+    ∙ ap (λ t. t ++ ending) (append_assoc (space_if true cursor) before (bracket ∷ inside))
+    ∙ append_assoc (space_if true cursor) (before ++ (bracket ∷ inside)) ending
+    ∙ ap (λ t. space_if true cursor ++ t) (append_assoc before (bracket ∷ inside) ending)
+
+-- such a collection is a node in flow
+collection_node : (rules : Rules) (simple : Bool) (cursor : Cursor) (properties entries ending : Laid) (bracket : ℕ) (anchor tag given_tag : Option Text)
+    (last : Option Text → Option Text → Level) (tree : Tree) → Given rules anchor tag (tag_meant given_tag false)
+    → properties.text ++ space_if true properties.cursor ≡ space_if true cursor ++ lead anchor tag → class_of rules.breaks12 bracket ≡ begins_bracket
+    → opens_inside (bracket ∷ []) ≡ true → FlowEntries rules bracket properties.cursor entries (level_opened bracket) last
+    → ((levels : List Level) → FlowEnd rules ending (last anchor given_tag ∷ levels) (with_tree levels tree)) → simple ≡ false
+    → FlowNode rules simple cursor (record { text = (properties.text ++ entries.text) ++ ending.text; cursor = ending.cursor }) tree
+collection_node rules simple cursor properties entries ending bracket anchor tag given_tag last tree given e class open_bracket of end other = record {
+  content = lead anchor tag ++ (bracket ∷ (of.inside ++ ending.text));
+  whole = collection_whole properties cursor (lead anchor tag) bracket of.inside entries.text ending.text e of.whole;
+  ended = (end []).ended;
+  opens = lead_opens rules anchor tag (tag_meant given_tag false) (bracket ∷ (of.inside ++ ending.text)) given open_bracket;
+  takes = λ h levels open_level spaced.
+      takes_collection rules levels spaced bracket anchor tag given_tag (of.inside ++ ending.text) (with_tree levels tree) given open_level class
+      (opens_more of.inside ending.text of.opens)
+      (takes_both rules (within (level_opened bracket anchor given_tag ∷ levels) entry_awaited) (within (last anchor given_tag ∷ levels) comma_awaited)
+      (with_tree levels tree)
+      of.inside ending.text (of.takes anchor given_tag levels) (end levels).takes (end levels).ends);
+  key = λ h. absurd (true≢false (sym h ∙ other));
+}
+
+-- neither of two that rest on what doesn't hold
+neither_holds : (x y : Bool) → (x && (y && false)) ≡ false
+neither_holds true true = refl
+neither_holds true false = refl
+neither_holds false y = refl
+
+-- the items of a sequence in flow
+abbrev pub ItemsTake : Effective → List TagDirective → List TagDirective → Nodes → ℕ → Cursor → Type 0
+ItemsTake s own directives no_nodes column cursor = Unit {0}
+ItemsTake s own directives (nodes_and items last) column cursor =
+    FlowEntries (rules_of s own) 0x5B cursor (items_own (nodes_and items last) s directives true column cursor) (level_opened 0x5B)
+    (λ anchor tag. in_sequence anchor tag (nodes_tree (nodes_and items last) s directives true))
+
+-- the pairs of a mapping in flow
+abbrev pub PairsTake : Effective → List TagDirective → List TagDirective → Pairs → ℕ → Cursor → Type 0
+PairsTake s own directives no_pairs column cursor = Unit {0}
+PairsTake s own directives (pairs_and pairs key value) column cursor =
+    FlowEntries (rules_of s own) 0x7B cursor (pairs_own (pairs_and pairs key value) s directives true column cursor) (level_opened 0x7B)
+    (λ anchor tag. in_mapping anchor tag (pairs_tree (pairs_and pairs key value) s directives true) no_key)
+
+-- a sequence, where its items take
+pub sequence_step : (s : Effective) (own directives : List TagDirective) (fits : KeysFit s own directives) (role : Role) (column : ℕ) (cursor : Cursor)
+    (start : Collection) (items : Nodes)
+    → NamesStand s.portable own s.canonical directives (sequence_node start items)
+    → BodiesHold (BodyStands s) (sequence_node start items) s directives (entry_place true role column) cursor
+    → ItemsTake s own directives items (deeper s.indent (Some column)) (properties_laid s.portable directives start.anchor
+    (collection_tag s.canonical start) false cursor).cursor
+    → FlowNode (rules_of s own) (is_key role && is_simple s.canonical directives (sequence_node start items)) cursor
+    (node_own (sequence_node start items) s directives (entry_place true role column) cursor)
+    (node_tree (sequence_node start items) s directives (entry_place true role 0))
+sequence_step s own directives fits role column cursor start no_nodes names bodies take =
+    let tag = collection_tag s.canonical start in
+    let properties = properties_laid s.portable directives start.anchor tag false cursor in
+    let text = lead start.anchor (tag_written s.portable directives tag false) ++ (0x5B ∷ 0x5D ∷ []) in
+    let whole = empty_whole properties cursor (lead start.anchor (tag_written s.portable directives tag false)) 0x5B 0x5D
+    (lead_laid s.portable directives start.anchor tag false cursor) in
+    word_node (rules_of s own) (is_key role && is_simple s.canonical directives (sequence_node start no_nodes)) cursor
+    (node_own (sequence_node start no_nodes) s directives (entry_place true role column) cursor) text (sequence_tree start.anchor tag no_trees)
+    whole
+    (record { white = refl; indention = and_false (properties.cursor.indention && false) })
+    (empty_sequence_word (rules_of s own) start.anchor (tag_written s.portable directives tag false) tag
+    (record { named = names.0; tagged = tag_is_written s.portable own directives tag false names.1 }))
+    refl
+    (λ h. fits (sequence_node start no_nodes) role column cursor text h names bodies (whole ∙ ap (λ t. space_if true cursor ++ t) (sym (append-nil text))))
+sequence_step s own directives fits role column cursor start (nodes_and items last) names bodies take =
+    let tag = collection_tag s.canonical start in
+    let properties = properties_laid s.portable directives start.anchor tag false cursor in
+    let entries = items_own (nodes_and items last) s directives true (deeper s.indent (Some column)) properties.cursor in
+    let trees = nodes_tree (nodes_and items last) s directives true in
+    collection_node (rules_of s own) (is_key role && is_simple s.canonical directives (sequence_node start (nodes_and items last))) cursor properties entries
+    (end_laid s square true false (Some column) entries.cursor) 0x5B start.anchor (tag_written s.portable directives tag false) tag
+    (λ anchor tag. in_sequence anchor tag trees) (sequence_tree start.anchor tag trees)
+    (record { named = names.0; tagged = tag_is_written s.portable own directives tag false names.1 })
+    (lead_laid s.portable directives start.anchor tag false cursor) (bracket_class s.breaks12).0 refl take
+    (λ levels. sequence_ends (rules_of s own) s start.anchor tag trees levels (Some column) entries.cursor)
+    (neither_holds (is_key role) (not s.canonical))
+
+-- a mapping, where its pairs take
+pub mapping_step : (s : Effective) (own directives : List TagDirective) (fits : KeysFit s own directives) (role : Role) (column : ℕ) (cursor : Cursor)
+    (start : Collection) (pairs : Pairs)
+    → NamesStand s.portable own s.canonical directives (mapping_node start pairs)
+    → BodiesHold (BodyStands s) (mapping_node start pairs) s directives (entry_place true role column) cursor
+    → PairsTake s own directives pairs (deeper s.indent (Some column)) (properties_laid s.portable directives start.anchor
+    (collection_tag s.canonical start) false cursor).cursor
+    → FlowNode (rules_of s own) (is_key role && is_simple s.canonical directives (mapping_node start pairs)) cursor
+    (node_own (mapping_node start pairs) s directives (entry_place true role column) cursor)
+    (node_tree (mapping_node start pairs) s directives (entry_place true role 0))
+mapping_step s own directives fits role column cursor start no_pairs names bodies take =
+    let tag = collection_tag s.canonical start in
+    let properties = properties_laid s.portable directives start.anchor tag false cursor in
+    let text = lead start.anchor (tag_written s.portable directives tag false) ++ (0x7B ∷ 0x7D ∷ []) in
+    let whole = empty_whole properties cursor (lead start.anchor (tag_written s.portable directives tag false)) 0x7B 0x7D
+    (lead_laid s.portable directives start.anchor tag false cursor) in
+    word_node (rules_of s own) (is_key role && is_simple s.canonical directives (mapping_node start no_pairs)) cursor
+    (node_own (mapping_node start no_pairs) s directives (entry_place true role column) cursor) text (mapping_tree start.anchor tag no_tree_pairs)
+    whole
+    (record { white = refl; indention = and_false (properties.cursor.indention && false) })
+    (empty_mapping_word (rules_of s own) start.anchor (tag_written s.portable directives tag false) tag
+    (record { named = names.0; tagged = tag_is_written s.portable own directives tag false names.1 }))
+    refl
+    (λ h. fits (mapping_node start no_pairs) role column cursor text h names bodies (whole ∙ ap (λ t. space_if true cursor ++ t) (sym (append-nil text))))
+mapping_step s own directives fits role column cursor start (pairs_and pairs key value) names bodies take =
+    let tag = collection_tag s.canonical start in
+    let properties = properties_laid s.portable directives start.anchor tag false cursor in
+    let entries = pairs_own (pairs_and pairs key value) s directives true (deeper s.indent (Some column)) properties.cursor in
+    let trees = pairs_tree (pairs_and pairs key value) s directives true in
+    collection_node (rules_of s own) (is_key role && is_simple s.canonical directives
+    (mapping_node start (pairs_and pairs key value))) cursor properties entries
+    (end_laid s curly true false (Some column) entries.cursor) 0x7B start.anchor (tag_written s.portable directives tag false) tag
+    (λ anchor tag. in_mapping anchor tag trees no_key) (mapping_tree start.anchor tag trees)
+    (record { named = names.0; tagged = tag_is_written s.portable own directives tag false names.1 })
+    (lead_laid s.portable directives start.anchor tag false cursor) (bracket_class s.breaks12).1 refl take
+    (λ levels. mapping_ends (rules_of s own) s start.anchor tag trees levels (Some column) entries.cursor)
+    (neither_holds (is_key role) (not s.canonical))

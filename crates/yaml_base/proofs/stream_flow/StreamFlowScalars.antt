@@ -1,0 +1,145 @@
+-- A scalar of the layout in flow is one word that reads as its tree.
+use Rattle.std.proofs.Common.{◌≡◌, refl, ap, ◌∙◌, append_assoc}
+use Rattle.std.proofs.lemmas.Bool.{true≢false, false≢true, and_parts}
+use Rattle.std.specs.Prelude.{ℕ, Bool, true, false, Option, None, Some, List, [], ◌∷◌, ◌++◌, ◌||◌, ◌&&◌, not, is_some, if◌then◌else◌}
+use Rattle.yaml_base.specs.Characters.{Text}
+use Rattle.yaml_base.specs.Settings.{Effective}
+use Rattle.yaml_base.specs.Cursor.{Cursor, Laid, space_if}
+use Rattle.yaml_base.specs.Event.{ScalarStyle, any_style, plain, single_quoted, double_quoted, literal, folded, TagDirective, Scalar}
+use Rattle.yaml_base.specs.Analysis.{Allowances, is_empty, allowances}
+use Rattle.yaml_base.specs.Style.{is_plain, style_asked, style_quoted, style_fitting, fits_plain}
+use Rattle.yaml_base.specs.Plain.{runs, runs_laid}
+use Rattle.yaml_base.specs.SingleQuoted.{quotes_doubled, single_quote}
+use Rattle.yaml_base.specs.DoubleQuoted.{double_inside, quote_laid}
+use Rattle.yaml_base.specs.Meaning.{read_in_style}
+use Rattle.yaml_base.specs.ReadPlain.{read_plain}
+use Rattle.yaml_base.specs.Layout.{properties_laid, separation_laid, body_laid, choice_of, entry_place, Role}
+use Rattle.yaml_base.specs.Refusal.{scalar_tag}
+use Rattle.yaml_base.specs.TidyBodies.{is_tidy}
+use Rattle.yaml_base.specs.StreamScalars.{Rules}
+use Rattle.yaml_base.proofs.stream_lines.StreamCuts.{none_not_some}
+use Rattle.yaml_base.proofs.stream_flow.StreamPropertyWords.{lead}
+use Rattle.yaml_base.proofs.stream_nodes.StreamStands.{tag_written, tag_meant}
+use Rattle.yaml_base.proofs.stream_nodes.StreamLeads.{Ended, lead_laid}
+use Rattle.yaml_base.proofs.stream_flow.StreamFlowWords.{FlowWord, Given, scalar_in, double_flow_word, single_flow_word, plain_flow_word}
+use Rattle.yaml_base.proofs.stream_flow.StreamFlowTakes.{and_false}
+
+-- by what a document of the layout is read
+abbrev pub rules_of : Effective → List TagDirective → Rules
+rules_of s own = record { breaks12 = s.breaks12; directives = own }
+
+-- a style that may stand in flow
+abbrev pub is_flow_style : ScalarStyle → Bool
+is_flow_style literal = false
+is_flow_style folded = false
+is_flow_style _ = true
+
+quotes_in_flow : (allowed : Allowances) → is_flow_style (style_quoted allowed) ≡ true
+quotes_in_flow allowed = by allowed.single_quoted
+  where
+    by : (x : Bool) → is_flow_style (if x then single_quoted else double_quoted) ≡ true
+    by true = refl
+    by false = refl
+
+-- where no block style fits the style is one of flow
+style_in_flow : (allowed : Allowances) (fits x : Bool) (asked : ScalarStyle)
+    → is_flow_style (style_fitting allowed fits (allowed.block && not true && not x) asked) ≡ true
+style_in_flow allowed true x plain = refl
+style_in_flow allowed false x plain = quotes_in_flow allowed
+style_in_flow allowed fits x single_quoted = quotes_in_flow allowed
+style_in_flow allowed fits x literal = by allowed.block
+  where
+    by : (b : Bool) → is_flow_style (if b && not true && not x then literal else double_quoted) ≡ true
+    by true = refl
+    by false = refl
+style_in_flow allowed fits x folded = by allowed.block
+  where
+    by : (b : Bool) → is_flow_style (if b && not true && not x then folded else double_quoted) ≡ true
+    by true = refl
+    by false = refl
+style_in_flow allowed fits x any_style = refl
+style_in_flow allowed fits x double_quoted = refl
+
+-- so is the style that is chosen in flow
+pub chosen_in_flow : (s : Effective) (role : Role) (column : ℕ) (simple : Bool) (content : Scalar)
+    → is_flow_style (choice_of s (entry_place true role column) simple content).style ≡ true
+chosen_in_flow s role column simple content =
+    let allowed = allowances (record { unicode = s.unicode; breaks12 = s.breaks12 }) content.value in
+    style_in_flow allowed
+    (fits_plain allowed (is_empty content.value) (is_some (scalar_tag s.canonical content)) content.plain_implicit true simple) simple
+    (style_asked (s.canonical || (simple && allowed.multiline)) content.style)
+
+-- the bare tag stands before no plain scalar
+pub bare_not_plain : (tag quoted plain_style : Bool) → (not tag && not quoted && not plain_style) ≡ true → plain_style ≡ false
+bare_not_plain tag quoted true h = absurd (false≢true (and_parts (not tag && not quoted) false h).1)
+bare_not_plain tag quoted false h = refl
+
+-- a plain text isn't empty in flow
+plain_case : (s : Effective) (own : List TagDirective) (anchor tag given_tag : Option Text) (column : ℕ) (text value : Text)
+    → Given (rules_of s own) anchor tag (tag_meant given_tag false) → is_tidy plain s.breaks12 (Some column) text ≡ true
+    → read_plain s.breaks12 true text ≡ Some value
+    → FlowWord (rules_of s own) (lead anchor tag ++ text) (scalar_in anchor given_tag plain false value)
+plain_case s own anchor tag given_tag column [] value given tidy read = absurd (none_not_some read)
+plain_case s own anchor tag given_tag column (c ∷ t) value given tidy read =
+    plain_flow_word (rules_of s own) anchor tag given_tag (Some column) c t value given tidy read
+
+-- a body that is laid out in a style of flow is a word with what leads it
+pub body_flow_word : (s : Effective) (own : List TagDirective) (anchor tag given_tag : Option Text) (style : ScalarStyle) (bare : Bool) (limit : Option ℕ)
+    (indent column : ℕ)
+    (value : Text) (cursor : Cursor) → Given (rules_of s own) anchor tag (tag_meant given_tag bare) → is_flow_style style ≡ true
+    → (bare ≡ true → is_plain style ≡ false)
+    → is_tidy style s.breaks12 (Some column) (body_laid style s limit indent value cursor).text ≡ true
+    → read_in_style style s.breaks12 true (Some column) (body_laid style s limit indent value cursor).text ≡ Some value
+    → FlowWord (rules_of s own) (lead anchor tag ++ (body_laid style s limit indent value cursor).text) (scalar_in anchor given_tag style bare value)
+body_flow_word s own anchor tag given_tag plain true limit indent column value cursor given flow h tidy read = absurd (true≢false (h refl))
+body_flow_word s own anchor tag given_tag plain false limit indent column value cursor given flow h tidy read =
+    plain_case s own anchor tag given_tag column (body_laid plain s limit indent value cursor).text value given tidy read
+body_flow_word s own anchor tag given_tag single_quoted bare limit indent column value cursor given flow h tidy read =
+    single_flow_word (rules_of s own) anchor tag given_tag bare (Some column)
+    ((runs_laid quotes_doubled limit indent true (runs value) (single_quote cursor).cursor).text ++ (0x27 ∷ [])) value given tidy read
+body_flow_word s own anchor tag given_tag double_quoted bare limit indent column value cursor given flow h tidy read =
+    double_flow_word (rules_of s own) anchor tag given_tag bare (Some column)
+    ((double_inside s.unicode limit indent None value (quote_laid cursor).cursor).text ++ (0x22 ∷ [])) value given tidy read
+body_flow_word s own anchor tag given_tag any_style bare limit indent column value cursor given flow h tidy read = absurd (none_not_some read)
+body_flow_word s own anchor tag given_tag literal bare limit indent column value cursor given flow h tidy read = absurd (false≢true flow)
+body_flow_word s own anchor tag given_tag folded bare limit indent column value cursor given flow h tidy read = absurd (false≢true flow)
+
+-- after such a body white space has ended
+pub body_ended : (s : Effective) (style : ScalarStyle) (limit : Option ℕ) (indent : ℕ) (value : Text) (cursor : Cursor) → is_flow_style style ≡ true
+    → Ended (body_laid style s limit indent value cursor).cursor
+body_ended s plain limit indent value cursor h = record { white = refl; indention = refl }
+body_ended s single_quoted limit indent value cursor h = record {
+  white = refl;
+  indention = and_false (runs_laid quotes_doubled limit indent true (runs value) (single_quote cursor).cursor).cursor.indention;
+}
+body_ended s double_quoted limit indent value cursor h = record {
+  white = refl;
+  indention = and_false (double_inside s.unicode limit indent None value (quote_laid cursor).cursor).cursor.indention;
+}
+body_ended s any_style limit indent value cursor h = record {
+  white = refl;
+  indention = and_false (double_inside s.unicode limit indent None value (quote_laid cursor).cursor).cursor.indention;
+}
+body_ended s literal limit indent value cursor h = absurd (false≢true h)
+body_ended s folded limit indent value cursor h = absurd (false≢true h)
+
+-- in flow a space stands before each body, where none stands there
+pub separation_in_flow : (style : ScalarStyle) (value : Text) (cursor : Cursor) → (separation_laid style true value cursor).text ≡ space_if true cursor
+separation_in_flow plain value cursor = refl
+separation_in_flow single_quoted value cursor = refl
+separation_in_flow double_quoted value cursor = refl
+separation_in_flow any_style value cursor = refl
+separation_in_flow literal value cursor = refl
+separation_in_flow folded value cursor = refl
+
+-- a scalar's text is a space where one is needed, and what leads its body, and the body
+pub scalar_whole : (portable : Bool) (directives : List TagDirective) (anchor tag : Option Text) (bare : Bool) (style : ScalarStyle) (value : Text)
+    (cursor : Cursor) (body : Text)
+    → (let properties : Laid = properties_laid portable directives anchor tag bare cursor in
+    (properties.text ++ (separation_laid style true value properties.cursor).text) ++ body)
+    ≡ space_if true cursor ++ (lead anchor (tag_written portable directives tag bare) ++ body)
+scalar_whole portable directives anchor tag bare style value cursor body =
+    let properties = properties_laid portable directives anchor tag bare cursor in
+    ap (λ t. (properties.text ++ t) ++ body) (separation_in_flow style value properties.cursor)
+    ∙ ap (λ t. t ++ body) (lead_laid portable directives anchor tag bare cursor)
+    ∙ append_assoc (space_if true cursor) (lead anchor (tag_written portable directives tag bare)) body

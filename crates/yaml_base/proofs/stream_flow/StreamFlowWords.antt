@@ -1,0 +1,292 @@
+-- A node's own word in flow, with its anchor and tag: it is one word among the tokens, and reads as the node's tree.
+use Rattle.std.proofs.Common.{◌≡◌, refl, ap, ◌∙◌, arith}
+use Rattle.std.proofs.lemmas.Bool.Decides.{nat_tests}
+use Rattle.std.proofs.lemmas.Bool.{true≢false, false≢true, and_parts, or_parts}
+use Rattle.std.specs.List.{list_all}
+use Rattle.std.specs.Prelude.{ℕ, Bool, true, false, Option, None, Some, [], ◌∷◌, ◌++◌, ◌==◌, ◌||◌, ◌&&◌, not, codes, option_map, if◌then◌else◌}
+use Rattle.yaml_base.specs.Characters.{Text, space, is_alpha, is_among, is_blank, is_printable}
+use Rattle.yaml_base.specs.LineBreaks.{is_read_break}
+use Rattle.yaml_base.specs.Event.{ScalarStyle, any_style, plain, single_quoted, double_quoted, literal, folded}
+use Rattle.yaml_base.specs.Style.{is_plain}
+use Rattle.yaml_base.specs.ReadTags.{TagSaid}
+use Rattle.yaml_base.specs.ReadPlain.{is_read_white, begins_white, begins_with_hash, holds_no_plain, read_plain}
+use Rattle.yaml_base.specs.ReadSingle.{read_single}
+use Rattle.yaml_base.specs.ReadDouble.{read_double}
+use Rattle.yaml_base.specs.TidyBodies.{is_tidy, has_deep_lines, has_no_space_before_break, has_clean_edges}
+use Rattle.yaml_base.specs.StreamContent.{Tree, alias_tree, scalar_tree, sequence_tree, mapping_tree, no_trees, no_tree_pairs}
+use Rattle.yaml_base.specs.StreamLines.{spaces, ends_sign}
+use Rattle.yaml_base.specs.StreamScalars.{Rules, name_read, tagging_said, standing_of, scalar_said, scalar_of_style, collection_tag_said, a_scalar, word_by_kind, kind_of_word, word_after, word_read}
+use Rattle.yaml_base.specs.StreamTokens.{word, begins_plain, class_of, flow_tokens, begun, FlowTurn}
+use Rattle.yaml_base.proofs.stream_nodes.StreamAgrees.{tagging_in}
+use Rattle.yaml_base.proofs.stream_lines.StreamTidyLaws.{tidy_at_root}
+use Rattle.yaml_base.proofs.stream_flow.StreamPlainWords.{all_stay, ends_shown, stays_plain, is_white_class, plain_text_word}
+use Rattle.yaml_base.proofs.stream_keys.StreamPlainKeys.{Begins, begins, not_among, reads_plain, tidy_begins, plain_kind, plain_style}
+use Rattle.yaml_base.proofs.stream_lines.StreamCuts.{none_not_some}
+use Rattle.yaml_base.proofs.stream_keys.StreamAliasKeys.{alias_word}
+use Rattle.yaml_base.proofs.stream_flow.StreamSays.{Says, bracket_class}
+use Rattle.yaml_base.proofs.stream_nodes.StreamProperties.{IsTagged, IsNamed, has_properties, begins_content, name_letters, word_with_properties}
+use Rattle.yaml_base.proofs.stream_flow.StreamPropertyWords.{lead, Leads, lead_passes, says_double_after, says_single_after, says_plain_after, says_empty_after}
+use Rattle.yaml_base.proofs.stream_nodes.StreamStands.{tag_meant}
+use Rattle.yaml_base.proofs.stream_nodes.StreamLeads.{lead_spaces, lead_then}
+
+-- a text begins with a character that closes no collection
+abbrev pub opens_inside : Text → Bool
+opens_inside [] = false
+opens_inside (c ∷ rest) = not (c == 0x5D) && not (c == 0x7D)
+
+-- a word in flow, and the tree that it is
+pub record FlowWord (rules : Rules) (text : Text) (tree : Tree) : Type 0 where
+  pub says : Says rules.breaks12 text (word text ∷ [])
+  pub reads : word_read rules true text ≡ Some tree
+  pub opens : opens_inside text ≡ true
+
+-- an anchor and a tag, as they are written and as they are meant
+pub record Given (rules : Rules) (anchor tag : Option Text) (said : Option TagSaid) : Type 0 where
+  pub named : IsNamed anchor
+  pub tagged : IsTagged rules.directives tag said
+
+-- they are passed by the tokens
+pub given_leads : (rules : Rules) (anchor tag : Option Text) (said : Option TagSaid) → Given rules anchor tag said → Leads rules.breaks12 (lead anchor tag)
+given_leads rules anchor tag said given rest = lead_passes rules.breaks12 rules.directives anchor tag said rest given.named given.tagged
+
+-- what follows them is read with them
+pub given_reads : (rules : Rules) (flow : Bool) (anchor tag : Option Text) (said : Option TagSaid) (rest : Text) → Given rules anchor tag said
+    → begins_content rest ≡ true → word_read rules flow (lead anchor tag ++ rest) ≡ word_after rules flow None (record { anchor = anchor; tag = said }) rest
+given_reads rules flow anchor tag said rest given own =
+    ap (word_read rules flow) (lead_then anchor tag rest)
+    ∙ word_with_properties rules flow anchor tag said (lead_spaces anchor tag) rest given.named given.tagged own (by (has_properties anchor tag))
+  where
+    by : (x : Bool) → x ≡ true → ends_sign (spaces (if x then 1 else 0) ++ rest) ≡ true
+    by true h = refl
+    by false h = absurd (false≢true h)
+
+-- properties begin with `&` or `!`, and else it is what follows them
+pub lead_opens : (rules : Rules) (anchor tag : Option Text) (said : Option TagSaid) (rest : Text) → Given rules anchor tag said → opens_inside rest ≡ true
+    → opens_inside (lead anchor tag ++ rest) ≡ true
+lead_opens rules None None None rest given h = h
+lead_opens rules (Some name) None said rest given h = refl
+lead_opens rules (Some name) (Some tag) said rest given h = refl
+lead_opens rules None (Some tag) (Some said) rest given h = ap (λ t. opens_inside ((t ++ (space ∷ [])) ++ rest)) given.tagged.begins
+lead_opens rules None (Some tag) None rest given h = absurd given.tagged
+lead_opens rules None None (Some said) rest given h = absurd given.tagged
+
+-- Scalars
+
+-- how a scalar is tagged that is written so
+pub tagging_meant : (tag : Option Text) (style : ScalarStyle) (bare : Bool) → (bare ≡ true → is_plain style ≡ false)
+    → tagging_said (tag_meant tag bare) (standing_of style) ≡ Some (tagging_in tag (record { style = style; bare = bare }))
+tagging_meant (Some tag) style bare h = refl
+tagging_meant None plain true h = absurd (true≢false (h refl))
+tagging_meant None any_style true h = refl
+tagging_meant None single_quoted true h = refl
+tagging_meant None double_quoted true h = refl
+tagging_meant None literal true h = refl
+tagging_meant None folded true h = refl
+tagging_meant None plain false h = refl
+tagging_meant None any_style false h = refl
+tagging_meant None single_quoted false h = refl
+tagging_meant None double_quoted false h = refl
+tagging_meant None literal false h = refl
+tagging_meant None folded false h = refl
+
+-- the tree of a scalar
+abbrev pub scalar_in : Option Text → Option Text → ScalarStyle → (bare : Bool) → Text → Tree
+scalar_in anchor tag style bare value = scalar_tree anchor (tagging_in tag (record { style = style; bare = bare })) value
+
+-- what is said of a scalar that is tidy and reads
+pub scalar_meant : (rules : Rules) (flow : Bool) (anchor tag : Option Text) (style : ScalarStyle) (bare : Bool) (column : Option ℕ) (text v : Text)
+    (value : Option Text)
+    → (bare ≡ true → is_plain style ≡ false) → is_tidy style rules.breaks12 column text ≡ true → value ≡ Some v
+    → scalar_said (record { anchor = anchor; tag = tag_meant tag bare }) (standing_of style) (if is_tidy style rules.breaks12 column text then value else None)
+    ≡ Some (scalar_in anchor tag style bare v)
+scalar_meant rules flow anchor tag style bare column text v value h tidy read =
+    ap (λ x. scalar_said (record { anchor = anchor; tag = tag_meant tag bare }) (standing_of style) (if x then value else None)) tidy
+    ∙ ap (scalar_said (record { anchor = anchor; tag = tag_meant tag bare }) (standing_of style)) read
+    ∙ ap (option_map (λ tagging. scalar_tree anchor tagging v)) (tagging_meant tag style bare h)
+
+-- a text in quotes is a scalar
+pub double_kind : (t : Text) → kind_of_word (0x22 ∷ t) ≡ a_scalar
+double_kind [] = refl
+double_kind (c ∷ []) = refl
+double_kind (c ∷ d ∷ t) = refl
+
+pub single_kind : (t : Text) → kind_of_word (0x27 ∷ t) ≡ a_scalar
+single_kind [] = refl
+single_kind (c ∷ []) = refl
+single_kind (c ∷ d ∷ t) = refl
+
+-- one in double quotes
+pub double_flow_word : (rules : Rules) (anchor tag given_tag : Option Text) (bare : Bool) (column : Option ℕ) (t v : Text)
+    → Given rules anchor tag (tag_meant given_tag bare) → is_tidy double_quoted rules.breaks12 column (0x22 ∷ t) ≡ true
+    → read_double rules.breaks12 (0x22 ∷ t) ≡ Some v
+    → FlowWord rules (lead anchor tag ++ (0x22 ∷ t)) (scalar_in anchor given_tag double_quoted bare v)
+double_flow_word rules anchor tag given_tag bare column t v given tidy read = record {
+  says = says_double_after rules.breaks12 (lead anchor tag) t v (given_leads rules anchor tag (tag_meant given_tag bare) given) read;
+  reads =
+      given_reads rules true anchor tag (tag_meant given_tag bare) (0x22 ∷ t) given refl
+      ∙ ap (λ kind. word_by_kind kind rules true None (record { anchor = anchor; tag = tag_meant given_tag bare }) (0x22 ∷ t)) (double_kind t)
+      ∙ scalar_meant rules true anchor given_tag double_quoted bare None (0x22 ∷ t) v (read_double rules.breaks12 (0x22 ∷ t)) (λ h. refl)
+      (tidy_at_root double_quoted rules.breaks12 column (0x22 ∷ t) tidy) read;
+  opens = lead_opens rules anchor tag (tag_meant given_tag bare) (0x22 ∷ t) given refl;
+}
+
+-- one in single quotes
+pub single_flow_word : (rules : Rules) (anchor tag given_tag : Option Text) (bare : Bool) (column : Option ℕ) (t v : Text)
+    → Given rules anchor tag (tag_meant given_tag bare) → is_tidy single_quoted rules.breaks12 column (0x27 ∷ t) ≡ true
+    → read_single rules.breaks12 (0x27 ∷ t) ≡ Some v
+    → FlowWord rules (lead anchor tag ++ (0x27 ∷ t)) (scalar_in anchor given_tag single_quoted bare v)
+single_flow_word rules anchor tag given_tag bare column t v given tidy read = record {
+  says = says_single_after rules.breaks12 (lead anchor tag) t v (given_leads rules anchor tag (tag_meant given_tag bare) given) read;
+  reads =
+      given_reads rules true anchor tag (tag_meant given_tag bare) (0x27 ∷ t) given refl
+      ∙ ap (λ kind. word_by_kind kind rules true None (record { anchor = anchor; tag = tag_meant given_tag bare }) (0x27 ∷ t)) (single_kind t)
+      ∙ scalar_meant rules true anchor given_tag single_quoted bare None (0x27 ∷ t) v (read_single rules.breaks12 (0x27 ∷ t)) (λ h. refl)
+      (tidy_at_root single_quoted rules.breaks12 column (0x27 ∷ t) tidy) read;
+  opens = lead_opens rules anchor tag (tag_meant given_tag bare) (0x27 ∷ t) given refl;
+}
+
+-- what begins plain text in flow is of that class
+plain_class : (breaks12 : Bool) (c : ℕ) → is_read_white breaks12 c ≡ false → Begins c → is_among (codes ",?:[]{}") c ≡ false
+    → class_of breaks12 c ≡ begins_plain
+plain_class breaks12 c white b sign =
+    let parts = or_parts (is_blank c) (is_read_break breaks12 c) white in
+    let is_not : (n : ℕ) → is_among (codes ",?:[]{}") n ≡ true → (c == n) ≡ false = λ n member. not_among (codes ",?:[]{}") c n member sign in
+    rw (
+      parts.0,
+      parts.1,
+      is_not 0x5D refl,
+      is_not 0x7D refl,
+      is_not 0x2C refl,
+      is_not 0x3A refl,
+      is_not 0x3F refl,
+      b.anchor,
+      b.tag,
+      b.double,
+      b.single,
+      is_not 0x5B refl,
+      is_not 0x7B refl,
+    ) refl
+
+-- what holds no sign of flow doesn't begin with one
+first_no_sign : (breaks12 : Bool) (c : ℕ) (t : Text) → holds_no_plain breaks12 true (c ∷ t) ≡ false → is_among (codes ",?:[]{}") c ≡ false
+first_no_sign breaks12 c t h =
+    let parts = or_parts ((c == 58 && begins_white breaks12 t) || (is_read_white breaks12 c && begins_with_hash t) || is_among (codes ",?:[]{}") c)
+    (holds_no_plain breaks12 true t) h in
+    (or_parts ((c == 58 && begins_white breaks12 t) || (is_read_white breaks12 c && begins_with_hash t)) (is_among (codes ",?:[]{}") c) parts.0).1
+
+-- a tidy plain text has clean edges
+tidy_clean : (breaks12 : Bool) (text : Text) → is_tidy plain breaks12 None text ≡ true → has_clean_edges breaks12 text ≡ true
+tidy_clean breaks12 text tidy =
+    let style = (and_parts (list_all is_printable text && has_deep_lines breaks12 1 text)
+    (has_no_space_before_break breaks12 text && has_clean_edges breaks12 text) tidy).1 in
+    (and_parts (has_no_space_before_break breaks12 text) (has_clean_edges breaks12 text) style).1
+
+-- a plain scalar
+pub plain_flow_word : (rules : Rules) (anchor tag given_tag : Option Text) (column : Option ℕ) (c : ℕ) (t v : Text)
+    → Given rules anchor tag (tag_meant given_tag false) → is_tidy plain rules.breaks12 column (c ∷ t) ≡ true → read_plain rules.breaks12 true (c ∷ t) ≡ Some v
+    → FlowWord rules (lead anchor tag ++ (c ∷ t)) (scalar_in anchor given_tag plain false v)
+plain_flow_word rules anchor tag given_tag column c t v given tidy read =
+    let at_root = tidy_at_root plain rules.breaks12 column (c ∷ t) tidy in
+    let white = tidy_begins rules.breaks12 c t at_root in
+    let parts = reads_plain rules.breaks12 true c t v read in
+    let b = begins rules.breaks12 c t parts.0 white in
+    let sign = first_no_sign rules.breaks12 c t parts.1 in
+    record {
+      says =
+          says_plain_after rules.breaks12 (lead anchor tag) c t v (given_leads rules anchor tag (tag_meant given_tag false) given)
+          (plain_class rules.breaks12 c white b sign) read (tidy_clean rules.breaks12 (c ∷ t) at_root);
+      reads =
+          given_reads rules true anchor tag (tag_meant given_tag false) (c ∷ t) given (own b)
+          ∙ ap (λ kind. word_by_kind kind rules true None (record { anchor = anchor; tag = tag_meant given_tag false }) (c ∷ t)) (plain_kind c t b)
+          ∙ ap (λ style. scalar_of_style style rules true None (record { anchor = anchor; tag = tag_meant given_tag false }) (c ∷ t)) (plain_style c t b)
+          ∙ scalar_meant rules true anchor given_tag plain false None (c ∷ t) v (read_plain rules.breaks12 true (c ∷ t))
+          (λ h. absurd (false≢true h)) at_root read;
+      opens = lead_opens rules anchor tag (tag_meant given_tag false) (c ∷ t) given (opened sign);
+    }
+  where
+    own : Begins c → begins_content (c ∷ t) ≡ true
+    own b = rw (b.blank, b.anchor, b.tag) refl
+
+    opened : is_among (codes ",?:[]{}") c ≡ false → opens_inside (c ∷ t) ≡ true
+    opened sign = rw (not_among (codes ",?:[]{}") c 0x5D refl sign, not_among (codes ",?:[]{}") c 0x7D refl sign) refl
+
+-- Aliases
+
+-- a letter is of the class of plain text
+letter_class : (breaks12 : Bool) (c : ℕ) → is_alpha c ≡ true → class_of breaks12 c ≡ begins_plain
+letter_class breaks12 c h =
+    let blank : is_blank c ≡ false = grind (arith, nat_tests, h) in
+    let sign : is_among (codes "]},:?") c ≡ false = grind (arith, nat_tests, h) in
+    let property : is_among (codes "&!") c ≡ false = grind (arith, nat_tests, h) in
+    let double : (c == 0x22) ≡ false = grind (arith, nat_tests, h) in
+    let single : (c == 0x27) ≡ false = grind (arith, nat_tests, h) in
+    let bracket : is_among (codes "[{") c ≡ false = grind (arith, nat_tests, h) in
+    rw (blank, no_break breaks12, sign, property, double, single, bracket) refl
+  where
+    no_break : (breaks12 : Bool) → is_read_break breaks12 c ≡ false
+    no_break true = grind (arith, nat_tests, h)
+    no_break false = grind (arith, nat_tests, h)
+
+-- letters stay in plain text
+letters_stay : (breaks12 : Bool) (name : Text) → list_all is_alpha name ≡ true → all_stay breaks12 name ≡ true
+letters_stay breaks12 [] h = refl
+letters_stay breaks12 (c ∷ name) h =
+    let parts = and_parts (is_alpha c) (list_all is_alpha name) h in
+    ap (λ class. stays_plain class && all_stay breaks12 name) (letter_class breaks12 c parts.0) ∙ letters_stay breaks12 name parts.1
+
+-- and the last of them isn't white
+letters_shown : (breaks12 : Bool) (c : ℕ) (name : Text) → list_all is_alpha (c ∷ name) ≡ true → ends_shown breaks12 (c ∷ name) ≡ true
+letters_shown breaks12 c [] h =
+    ap (λ class. not (is_white_class class)) (letter_class breaks12 c (and_parts (is_alpha c) true h).0)
+letters_shown breaks12 c (d ∷ name) h = letters_shown breaks12 d name (and_parts (is_alpha c) (list_all is_alpha (d ∷ name)) h).1
+
+-- `*` is of that class too
+star_class : (breaks12 : Bool) → class_of breaks12 0x2A ≡ begins_plain
+star_class true = refl
+star_class false = refl
+
+-- an alias
+pub alias_flow_word : (rules : Rules) (name : Text) → name_read name ≡ Some name → FlowWord rules (0x2A ∷ name) (alias_tree name)
+alias_flow_word rules [] h = absurd (none_not_some h)
+alias_flow_word rules (n ∷ name) h = record {
+  says = record {
+    says = λ rest ends.
+        ap (λ class. (let here : FlowTurn = begun class [] 0x2A in here.tokens ++ flow_tokens rules.breaks12 here.place ((n ∷ name) ++ rest)))
+        (star_class rules.breaks12)
+        ∙ plain_text_word rules.breaks12 [] 0x2A (n ∷ name) rest (letters_stay rules.breaks12 (n ∷ name) (name_letters (n ∷ name) h))
+        (letters_shown rules.breaks12 n name (name_letters (n ∷ name) h)) ends;
+  };
+  reads = alias_word rules true n name ∙ ap (option_map alias_tree) h;
+  opens = refl;
+}
+
+-- Empty collections
+
+-- the tag of a collection, if it has one
+pub tag_of_collection : (tag : Option Text) → collection_tag_said (tag_meant tag false) ≡ Some tag
+tag_of_collection None = refl
+tag_of_collection (Some tag) = refl
+
+-- `[]`
+pub empty_sequence_word : (rules : Rules) (anchor tag given_tag : Option Text) → Given rules anchor tag (tag_meant given_tag false)
+    → FlowWord rules (lead anchor tag ++ (0x5B ∷ 0x5D ∷ [])) (sequence_tree anchor given_tag no_trees)
+empty_sequence_word rules anchor tag given_tag given = record {
+  says = says_empty_after rules.breaks12 (lead anchor tag) 0x5B 0x5D (given_leads rules anchor tag (tag_meant given_tag false) given)
+      (bracket_class rules.breaks12).0 refl;
+  reads =
+      given_reads rules true anchor tag (tag_meant given_tag false) (0x5B ∷ 0x5D ∷ []) given refl
+      ∙ ap (option_map (λ tag. sequence_tree anchor tag no_trees)) (tag_of_collection given_tag);
+  opens = lead_opens rules anchor tag (tag_meant given_tag false) (0x5B ∷ 0x5D ∷ []) given refl;
+}
+
+-- `{}`
+pub empty_mapping_word : (rules : Rules) (anchor tag given_tag : Option Text) → Given rules anchor tag (tag_meant given_tag false)
+    → FlowWord rules (lead anchor tag ++ (0x7B ∷ 0x7D ∷ [])) (mapping_tree anchor given_tag no_tree_pairs)
+empty_mapping_word rules anchor tag given_tag given = record {
+  says = says_empty_after rules.breaks12 (lead anchor tag) 0x7B 0x7D (given_leads rules anchor tag (tag_meant given_tag false) given)
+      (bracket_class rules.breaks12).1 refl;
+  reads =
+      given_reads rules true anchor tag (tag_meant given_tag false) (0x7B ∷ 0x7D ∷ []) given refl
+      ∙ ap (option_map (λ tag. mapping_tree anchor tag no_tree_pairs)) (tag_of_collection given_tag);
+  opens = lead_opens rules anchor tag (tag_meant given_tag false) (0x7B ∷ 0x7D ∷ []) given refl;
+}

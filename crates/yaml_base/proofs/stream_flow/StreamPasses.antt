@@ -1,0 +1,213 @@
+-- Signs and white space in flow, which take the reader of flow collections on whatever follows them.
+use Rattle.std.proofs.Common.{◌≡◌, zero, suc, refl, ap, ◌∙◌, append_assoc}
+use Rattle.std.proofs.lemmas.Bool.{true≢false, false≢true, eqb-true, and_parts, and_from}
+use Rattle.std.proofs.lemmas.List.Folds.{list_all-append}
+use Rattle.std.specs.List.{list_all}
+use Rattle.std.specs.Prelude.{ℕ, Bool, true, false, Option, List, [], ◌∷◌, ◌++◌, ◌==◌, ◌||◌, ◌&&◌, ◌-◌, not, nat_lt, replicate, codes, if◌then◌else◌}
+use Rattle.yaml_base.specs.Characters.{Text, space, line_feed}
+use Rattle.yaml_base.specs.Settings.{Effective}
+use Rattle.yaml_base.specs.Cursor.{Cursor, Laid, nothing_laid, then_laid, new_line, breaks_line, space_if, indicator, is_past_width}
+use Rattle.yaml_base.specs.Layout.{line_column, flow_break}
+use Rattle.yaml_base.specs.StreamScalars.{Rules}
+use Rattle.yaml_base.specs.StreamTokens.{sign, blank, line_end, free, is_flow_sign, class_of, FlowTurn, begun, flow_tokens}
+use Rattle.yaml_base.specs.StreamFlow.{Level, at_once, after_white, entry_awaited, node_awaited, comma_awaited, colon_awaited, FlowReading, within, flow_step}
+use Rattle.yaml_base.proofs.stream_flow.StreamWhites.{space_class, line_feed_class}
+use Rattle.yaml_base.proofs.stream_flow.StreamSays.{comma_class, colon_class, question_class}
+use Rattle.yaml_base.proofs.stream_flow.StreamTakes.{Takes, steps}
+
+-- a text takes the reader from a reading to another, before anything
+pub record Passes (rules : Rules) (from : FlowReading) (text : Text) (to : FlowReading) : Type 0 where
+  pub passes : (rest : Text) → steps rules from (flow_tokens rules.breaks12 free (text ++ rest)) ≡ steps rules to (flow_tokens rules.breaks12 free rest)
+
+-- no text
+pub passes_nothing : (rules : Rules) (from : FlowReading) → Passes rules from [] from
+passes_nothing rules from = record { passes = λ rest. refl }
+
+-- one such text after another
+pub passes_both : (rules : Rules) (from through to : FlowReading) (a b : Text) → Passes rules from a through → Passes rules through b to
+    → Passes rules from (a ++ b) to
+passes_both rules from through to a b one two = record {
+  passes = λ rest.
+      ap (λ t. steps rules from (flow_tokens rules.breaks12 free t)) (append_assoc a b rest) ∙ one.passes (b ++ rest) ∙ two.passes rest;
+}
+
+-- and then one that takes it on before what ends a word
+pub passes_then : (rules : Rules) (from through to : FlowReading) (a b : Text) → Passes rules from a through → Takes rules through b to
+    → Takes rules from (a ++ b) to
+passes_then rules from through to a b one two = record {
+  takes = λ rest h.
+      ap (λ t. steps rules from (flow_tokens rules.breaks12 free t)) (append_assoc a b rest) ∙ one.passes (b ++ rest) ∙ two.takes rest h;
+}
+
+-- the same text
+pub passes_text : (rules : Rules) (from to : FlowReading) (a b : Text) → a ≡ b → Passes rules from b to → Passes rules from a to
+passes_text rules from to a b e one = record {
+  passes = λ rest. ap (λ t. steps rules from (flow_tokens rules.breaks12 free (t ++ rest))) e ∙ one.passes rest;
+}
+
+pub takes_text : (rules : Rules) (from to : FlowReading) (a b : Text) → a ≡ b → Takes rules from b to → Takes rules from a to
+takes_text rules from to a b e one = record {
+  takes = λ rest h. ap (λ t. steps rules from (flow_tokens rules.breaks12 free (t ++ rest))) e ∙ one.takes rest h;
+}
+
+-- One character
+
+passes_sign : (rules : Rules) (from to : FlowReading) (c : ℕ) → class_of rules.breaks12 c ≡ is_flow_sign → flow_step rules from (sign c) ≡ to
+    → Passes rules from (c ∷ []) to
+passes_sign rules from to c e step = record {
+  passes = λ rest.
+      ap (λ class. steps rules from (let here : FlowTurn = begun class [] c in here.tokens ++ flow_tokens rules.breaks12 here.place rest)) e
+      ∙ ap (λ r. steps rules r (flow_tokens rules.breaks12 free rest)) step;
+}
+
+passes_space : (rules : Rules) (from to : FlowReading) → flow_step rules from blank ≡ to → Passes rules from (space ∷ []) to
+passes_space rules from to step = record {
+  passes = λ rest.
+      ap (λ class. steps rules from (let here : FlowTurn = begun class [] space in here.tokens ++ flow_tokens rules.breaks12 here.place rest))
+      (space_class rules.breaks12)
+      ∙ ap (λ r. steps rules r (flow_tokens rules.breaks12 free rest)) step;
+}
+
+passes_line_feed : (rules : Rules) (from to : FlowReading) → flow_step rules from line_end ≡ to → Passes rules from (line_feed ∷ []) to
+passes_line_feed rules from to step = record {
+  passes = λ rest.
+      ap (λ class. steps rules from (let here : FlowTurn = begun class [] line_feed in here.tokens ++ flow_tokens rules.breaks12 here.place rest))
+      (line_feed_class rules.breaks12)
+      ∙ ap (λ r. steps rules r (flow_tokens rules.breaks12 free rest)) step;
+}
+
+-- a comma after an entry
+pub passes_comma : (rules : Rules) (levels : List Level) → Passes rules (within levels comma_awaited) (0x2C ∷ []) (within levels entry_awaited)
+passes_comma rules levels = passes_sign rules (within levels comma_awaited) (within levels entry_awaited) 0x2C (comma_class rules.breaks12) refl
+
+-- a `:` at once
+pub passes_colon : (rules : Rules) (levels : List Level) → Passes rules (within levels (colon_awaited at_once)) (0x3A ∷ []) (within levels (node_awaited false))
+passes_colon rules levels = passes_sign rules (within levels (colon_awaited at_once)) (within levels (node_awaited false)) 0x3A
+    (colon_class rules.breaks12) refl
+
+-- a `:` after something white
+pub passes_late_colon : (rules : Rules) (levels : List Level)
+    → Passes rules (within levels (colon_awaited (after_white true))) (0x3A ∷ []) (within levels (node_awaited false))
+passes_late_colon rules levels =
+    passes_sign rules (within levels (colon_awaited (after_white true))) (within levels (node_awaited false)) 0x3A (colon_class rules.breaks12) refl
+
+-- a `?` where a key may stand
+pub passes_question : (rules : Rules) (levels : List Level) (to : FlowReading) → flow_step rules (within levels entry_awaited) (sign 0x3F) ≡ to
+    → Passes rules (within levels entry_awaited) (0x3F ∷ []) to
+passes_question rules levels to step = passes_sign rules (within levels entry_awaited) to 0x3F (question_class rules.breaks12) step
+
+-- the space between `?` or `:` and a node
+pub passes_node_space : (rules : Rules) (levels : List Level)
+    → Passes rules (within levels (node_awaited false)) (space ∷ []) (within levels (node_awaited true))
+passes_node_space rules levels = passes_space rules (within levels (node_awaited false)) (within levels (node_awaited true)) refl
+
+-- White space
+
+-- a text of spaces and LF
+abbrev pub is_white_text : Text → Bool
+is_white_text text = list_all (λ c. c == space || c == line_feed) text
+
+-- what a space and an LF do alike they do in any order
+white_passes : (rules : Rules) (reading : FlowReading) (text : Text) → flow_step rules reading blank ≡ reading → flow_step rules reading line_end ≡ reading
+    → is_white_text text ≡ true → Passes rules reading text reading
+white_passes rules reading [] one two h = passes_nothing rules reading
+white_passes rules reading (c ∷ text) one two h =
+    let parts = and_parts (c == space || c == line_feed) (is_white_text text) h in
+    passes_both rules reading reading reading (c ∷ []) text (by (c == space) (c == line_feed) refl refl parts.0)
+    (white_passes rules reading text one two parts.1)
+  where
+    by : (x y : Bool) → (c == space) ≡ x → (c == line_feed) ≡ y → (x || y) ≡ true → Passes rules reading (c ∷ []) reading
+    by true y e f h = passes_text rules reading reading (c ∷ []) (space ∷ []) (ap (λ d. d ∷ []) (eqb-true c space e)) (passes_space rules reading reading one)
+    by false true e f h =
+        passes_text rules reading reading (c ∷ []) (line_feed ∷ []) (ap (λ d. d ∷ []) (eqb-true c line_feed f)) (passes_line_feed rules reading reading two)
+    by false false e f h = absurd (false≢true h)
+
+-- white space before an entry
+pub passes_entry_white : (rules : Rules) (levels : List Level) (text : Text) → is_white_text text ≡ true
+    → Passes rules (within levels entry_awaited) text (within levels entry_awaited)
+passes_entry_white rules levels text h = white_passes rules (within levels entry_awaited) text refl refl h
+
+-- white space before the `:` after a key with `?`
+pub passes_colon_white : (rules : Rules) (levels : List Level) (c : ℕ) (text : Text) → is_white_text (c ∷ text) ≡ true
+    → Passes rules (within levels (colon_awaited (after_white false))) (c ∷ text) (within levels (colon_awaited (after_white true)))
+passes_colon_white rules levels c text h =
+    let parts = and_parts (c == space || c == line_feed) (is_white_text text) h in
+    passes_both rules (within levels (colon_awaited (after_white false))) (within levels (colon_awaited (after_white true)))
+    (within levels (colon_awaited (after_white true)))
+    (c ∷ []) text (by (c == space) (c == line_feed) refl refl parts.0)
+    (white_passes rules (within levels (colon_awaited (after_white true))) text refl refl parts.1)
+  where
+    by : (x y : Bool) → (c == space) ≡ x → (c == line_feed) ≡ y → (x || y) ≡ true
+        → Passes rules (within levels (colon_awaited (after_white false))) (c ∷ []) (within levels (colon_awaited (after_white true)))
+    by true y e f h =
+        passes_text rules (within levels (colon_awaited (after_white false))) (within levels (colon_awaited (after_white true))) (c ∷ []) (space ∷ [])
+        (ap (λ d. d ∷ []) (eqb-true c space e))
+        (passes_space rules (within levels (colon_awaited (after_white false))) (within levels (colon_awaited (after_white true))) refl)
+    by false true e f h =
+        passes_text rules (within levels (colon_awaited (after_white false))) (within levels (colon_awaited (after_white true))) (c ∷ []) (line_feed ∷ [])
+        (ap (λ d. d ∷ []) (eqb-true c line_feed f))
+        (passes_line_feed rules (within levels (colon_awaited (after_white false))) (within levels (colon_awaited (after_white true))) refl)
+    by false false e f h = absurd (false≢true h)
+
+-- What the layout puts between
+
+spaces_white : (n : ℕ) → is_white_text (replicate n space) ≡ true
+spaces_white zero = refl
+spaces_white (suc n) = spaces_white n
+
+-- a new line is white space
+pub new_line_white : (at : ℕ) (cursor : Cursor) → is_white_text (new_line at cursor).text ≡ true
+new_line_white at cursor = by (breaks_line at cursor)
+  where
+    by : (x : Bool) → is_white_text (if x then line_feed ∷ replicate at space else replicate (at - cursor.column) space) ≡ true
+    by true = spaces_white at
+    by false = spaces_white (at - cursor.column)
+
+-- so is what stands where a line in flow is too long
+pub flow_break_white : (s : Effective) (column : Option ℕ) (cursor : Cursor) → is_white_text (flow_break s column cursor).text ≡ true
+flow_break_white s column cursor = by (s.canonical || is_past_width s.width cursor)
+  where
+    by : (x : Bool) → is_white_text (let laid : Laid = if x then new_line (line_column column) cursor else nothing_laid cursor in laid.text) ≡ true
+    by true = new_line_white (line_column column) cursor
+    by false = refl
+
+-- and the space before a word
+pub space_white : (cursor : Cursor) → is_white_text (space_if true cursor) ≡ true
+space_white cursor = by cursor.whitespace
+  where
+    by : (x : Bool) → is_white_text (if true && not x then space ∷ [] else []) ≡ true
+    by true = refl
+    by false = refl
+
+-- two white texts
+pub white_both : (a b : Text) → is_white_text a ≡ true → is_white_text b ≡ true → is_white_text (a ++ b) ≡ true
+white_both a b h k = list_all-append (λ c. c == space || c == line_feed) a b ∙ and_from (is_white_text a) (is_white_text b) h k
+
+-- a text has this one as its first character and white space after it
+pub record WhiteThen (text : Text) (c : ℕ) : Type 0 where
+  pub first : ℕ
+  pub more : Text
+  pub whole : text ≡ (first ∷ more) ++ (c ∷ [])
+  pub white : is_white_text (first ∷ more) ≡ true
+
+-- after a node the `:` of a long key stands after white space
+pub late_colon : (s : Effective) (column : Option ℕ) (cursor : Cursor) → cursor.whitespace ≡ false → cursor.indention ≡ false
+    → WhiteThen (then_laid (flow_break s column cursor) (indicator (codes ":") true false false)).text 0x3A
+late_colon s column cursor white indention = by (s.canonical || is_past_width s.width cursor)
+  where
+    line : (x : Bool) → x ≡ true
+        → WhiteThen ((if x then line_feed ∷ replicate (line_column column) space else replicate (line_column column - cursor.column) space) ++ (0x3A ∷ [])) 0x3A
+    line true e = record { first = line_feed; more = replicate (line_column column) space; whole = refl; white = spaces_white (line_column column) }
+    line false e = absurd (false≢true e)
+
+    breaks : breaks_line (line_column column) cursor ≡ true
+    breaks = ap (λ x. not x || nat_lt (line_column column) cursor.column || (cursor.column == line_column column && not cursor.whitespace)) indention
+
+    same : (x : Bool) → x ≡ false → WhiteThen ((if true && not x then space ∷ [] else []) ++ (0x3A ∷ [])) 0x3A
+    same true e = absurd (true≢false e)
+    same false e = record { first = space; more = []; whole = refl; white = refl }
+
+    by : (x : Bool) → WhiteThen (let laid : Laid = then_laid (if x then new_line (line_column column) cursor else nothing_laid cursor)
+        (indicator (codes ":") true false false) in laid.text) 0x3A
+    by true = line (breaks_line (line_column column) cursor) breaks
+    by false = same cursor.whitespace white

@@ -1,0 +1,226 @@
+-- Plain text is one word among the tokens of flow, before white space and a sign of flow.
+use Rattle.std.proofs.Common.{◌≡◌, refl, sym, ap, ◌∙◌, append_assoc, append-nil}
+use Rattle.std.proofs.lemmas.Bool.{true≢false, false≢true, and_parts, or_parts}
+use Rattle.std.proofs.lemmas.List.{map-append}
+use Rattle.std.specs.List.{list_all}
+use Rattle.std.specs.Prelude.{ℕ, Bool, true, false, None, Some, List, [], ◌∷◌, ◌++◌, ◌==◌, ◌||◌, ◌&&◌, not, map, codes, if◌then◌else◌}
+use Rattle.yaml_base.specs.Characters.{Text, is_among, is_blank}
+use Rattle.yaml_base.specs.LineBreaks.{is_read_break}
+use Rattle.yaml_base.specs.ReadFolding.{unit_of, folding_read}
+use Rattle.yaml_base.specs.ReadPlain.{is_read_white, begins_white, begins_with_hash, begins_no_plain, holds_no_plain, read_plain}
+use Rattle.yaml_base.specs.TidyBodies.{ends_white, has_clean_edges}
+use Rattle.yaml_base.specs.StreamTokens.{FlowToken, word, free, in_plain, FlowClass, is_white_blank, is_white_break, is_flow_sign, begins_property, begins_double, begins_single, begins_bracket, begins_plain, class_of, FlowTurn, begun, plain_turn, white_of_class, white_token, flow_tokens}
+use Rattle.yaml_base.proofs.stream_lines.StreamCuts.{none_not_some}
+use Rattle.yaml_base.proofs.stream_flow.StreamWords.{GivesWord}
+
+-- a character of a class ends a word, where white space does if what follows it does
+abbrev pub ends_by : FlowClass → Bool → Bool
+ends_by is_white_blank more = more
+ends_by is_white_break more = more
+ends_by is_flow_sign more = true
+ends_by begins_bracket more = true
+ends_by _ more = false
+
+-- a word ends before white space and then a sign of flow or a bracket
+abbrev pub ends_word : Bool → Text → Bool
+ends_word breaks12 [] = false
+ends_word breaks12 (c ∷ rest) = ends_by (class_of breaks12 c) (ends_word breaks12 rest)
+
+-- the tokens of some white characters
+abbrev white_tokens : Bool → Text → List FlowToken
+white_tokens breaks12 white = map (white_token breaks12) white
+
+-- plain text ends there, and the white space after it is free again
+plain_ends : (breaks12 : Bool) (text white rest : Text) → ends_word breaks12 rest ≡ true
+    → flow_tokens breaks12 (in_plain text white) rest ≡ word text ∷ (white_tokens breaks12 white ++ flow_tokens breaks12 free rest)
+plain_ends breaks12 text white [] h = absurd (false≢true h)
+plain_ends breaks12 text white (c ∷ rest) h = by (class_of breaks12 c) refl h (plain_ends breaks12 text (white ++ (c ∷ [])) rest)
+  where
+    one_more : (class : FlowClass) (token : FlowToken) → class_of breaks12 c ≡ class → white_of_class class ≡ token
+        → white_tokens breaks12 (white ++ (c ∷ [])) ++ flow_tokens breaks12 free rest ≡ white_tokens breaks12 white ++ (token ∷ flow_tokens breaks12 free rest)
+    one_more class token e same =
+        ap (λ t. t ++ flow_tokens breaks12 free rest) (map-append (white_token breaks12) white (c ∷ []))
+        ∙ append_assoc (white_tokens breaks12 white) (white_token breaks12 c ∷ []) (flow_tokens breaks12 free rest)
+        ∙ ap (λ t. white_tokens breaks12 white ++ (t ∷ flow_tokens breaks12 free rest)) (ap white_of_class e ∙ same)
+
+    by : (class : FlowClass) → class_of breaks12 c ≡ class → ends_by class (ends_word breaks12 rest) ≡ true
+        → (ends_word breaks12 rest ≡ true
+        → flow_tokens breaks12 (in_plain text (white ++ (c ∷ []))) rest
+        ≡ word text ∷ (white_tokens breaks12 (white ++ (c ∷ [])) ++ flow_tokens breaks12 free rest))
+        → (let here : FlowTurn = plain_turn class breaks12 text white c in here.tokens ++ flow_tokens breaks12 here.place rest)
+        ≡ word text ∷ (white_tokens breaks12 white ++ (let here : FlowTurn = begun class [] c in here.tokens ++ flow_tokens breaks12 here.place rest))
+    by is_white_blank e h ih = ih h ∙ ap (λ t. word text ∷ t) (one_more is_white_blank (white_of_class is_white_blank) e refl)
+    by is_white_break e h ih = ih h ∙ ap (λ t. word text ∷ t) (one_more is_white_break (white_of_class is_white_break) e refl)
+    by is_flow_sign e h ih =
+        ap (λ t. word text ∷ t)
+        (append_assoc (white_tokens breaks12 white) (begun is_flow_sign [] c).tokens (flow_tokens breaks12 (begun is_flow_sign [] c).place rest))
+    by begins_bracket e h ih =
+        ap (λ t. word text ∷ t)
+        (append_assoc (white_tokens breaks12 white) (begun begins_bracket [] c).tokens (flow_tokens breaks12 (begun begins_bracket [] c).place rest))
+    by begins_property e h ih = absurd (false≢true h)
+    by begins_double e h ih = absurd (false≢true h)
+    by begins_single e h ih = absurd (false≢true h)
+    by begins_plain e h ih = absurd (false≢true h)
+
+-- a class of characters that plain text goes on over
+abbrev pub stays_plain : FlowClass → Bool
+stays_plain is_flow_sign = false
+stays_plain begins_bracket = false
+stays_plain _ = true
+
+-- a class of white characters
+abbrev pub is_white_class : FlowClass → Bool
+is_white_class is_white_blank = true
+is_white_class is_white_break = true
+is_white_class _ = false
+
+-- no sign of flow stands in a text
+abbrev pub all_stay : Bool → Text → Bool
+all_stay breaks12 text = list_all (λ c. stays_plain (class_of breaks12 c)) text
+
+-- the last character of a text isn't white
+abbrev pub ends_shown : Bool → Text → Bool
+ends_shown breaks12 [] = false
+ends_shown breaks12 (c ∷ []) = not (is_white_class (class_of breaks12 c))
+ends_shown breaks12 (c ∷ d ∷ rest) = ends_shown breaks12 (d ∷ rest)
+
+-- one character that isn't white
+passes_one : (breaks12 : Bool) (c : ℕ) (text white rest : Text) → (class : FlowClass) → stays_plain class ≡ true → not (is_white_class class) ≡ true
+    → (let here : FlowTurn = plain_turn class breaks12 text white c in here.tokens ++ flow_tokens breaks12 here.place rest)
+    ≡ flow_tokens breaks12 (in_plain (text ++ (white ++ (c ∷ []))) []) rest
+passes_one breaks12 c text white rest is_white_blank h k = absurd (false≢true k)
+passes_one breaks12 c text white rest is_white_break h k = absurd (false≢true k)
+passes_one breaks12 c text white rest is_flow_sign h k = absurd (false≢true h)
+passes_one breaks12 c text white rest begins_bracket h k = absurd (false≢true h)
+passes_one breaks12 c text white rest begins_property h k = refl
+passes_one breaks12 c text white rest begins_double h k = refl
+passes_one breaks12 c text white rest begins_single h k = refl
+passes_one breaks12 c text white rest begins_plain h k = refl
+
+-- plain text is passed whole, with the white space inside it
+pub plain_passes : (breaks12 : Bool) (c : ℕ) (t text white rest : Text) → all_stay breaks12 (c ∷ t) ≡ true → ends_shown breaks12 (c ∷ t) ≡ true
+    → flow_tokens breaks12 (in_plain text white) ((c ∷ t) ++ rest) ≡ flow_tokens breaks12 (in_plain (text ++ (white ++ (c ∷ t))) []) rest
+plain_passes breaks12 c [] text white rest h k =
+    passes_one breaks12 c text white rest (class_of breaks12 c) (and_parts (stays_plain (class_of breaks12 c)) true h).0 k
+plain_passes breaks12 c (d ∷ t) text white rest h k =
+    let parts = and_parts (stays_plain (class_of breaks12 c)) (all_stay breaks12 (d ∷ t)) h in
+    by (is_white_class (class_of breaks12 c)) (class_of breaks12 c) refl parts.0
+    (λ text white. plain_passes breaks12 d t text white rest parts.1 k)
+  where
+    by : (w : Bool) (class : FlowClass) → is_white_class class ≡ w → stays_plain class ≡ true
+        → ((text white : Text) → flow_tokens breaks12 (in_plain text white) ((d ∷ t) ++ rest)
+        ≡ flow_tokens breaks12 (in_plain (text ++ (white ++ (d ∷ t))) []) rest)
+        → (let here : FlowTurn = plain_turn class breaks12 text white c in here.tokens ++ flow_tokens breaks12 here.place ((d ∷ t) ++ rest))
+        ≡ flow_tokens breaks12 (in_plain (text ++ (white ++ (c ∷ d ∷ t))) []) rest
+    by false class e h ih =
+        passes_one breaks12 c text white ((d ∷ t) ++ rest) class h (ap not e)
+        ∙ ih (text ++ (white ++ (c ∷ []))) []
+        ∙ ap (λ s. flow_tokens breaks12 (in_plain s []) rest)
+        (append_assoc text (white ++ (c ∷ [])) (d ∷ t) ∙ ap (λ s. text ++ s) (append_assoc white (c ∷ []) (d ∷ t)))
+    by true is_white_blank e h ih =
+        ih text (white ++ (c ∷ [])) ∙ ap (λ s. flow_tokens breaks12 (in_plain (text ++ s) []) rest) (append_assoc white (c ∷ []) (d ∷ t))
+    by true is_white_break e h ih =
+        ih text (white ++ (c ∷ [])) ∙ ap (λ s. flow_tokens breaks12 (in_plain (text ++ s) []) rest) (append_assoc white (c ∷ []) (d ∷ t))
+    by true is_flow_sign e h ih = absurd (false≢true h)
+    by true begins_bracket e h ih = absurd (false≢true h)
+    by true begins_property e h ih = absurd (false≢true e)
+    by true begins_double e h ih = absurd (false≢true e)
+    by true begins_single e h ih = absurd (false≢true e)
+    by true begins_plain e h ih = absurd (false≢true e)
+
+-- a text without signs of flow, whose last character isn't white, is a word after its first character
+pub plain_text_word : (breaks12 : Bool) (before : Text) (c : ℕ) (t rest : Text) → all_stay breaks12 t ≡ true → ends_shown breaks12 (c ∷ t) ≡ true
+    → ends_word breaks12 rest ≡ true → GivesWord breaks12 (in_plain (before ++ (c ∷ [])) []) (before ++ (c ∷ [])) t rest
+plain_text_word breaks12 before c [] rest h k ends =
+    plain_ends breaks12 (before ++ (c ∷ [])) [] rest ends
+    ∙ ap (λ s. word s ∷ flow_tokens breaks12 free rest) (sym (append-nil (before ++ (c ∷ []))))
+plain_text_word breaks12 before c (d ∷ t) rest h k ends =
+    plain_passes breaks12 d t (before ++ (c ∷ [])) [] rest h k ∙ plain_ends breaks12 ((before ++ (c ∷ [])) ++ (d ∷ t)) [] rest ends
+
+-- What reads as plain
+
+-- what is none of the signs of flow
+stays_at : (breaks12 : Bool) (c : ℕ) → is_among (codes ",?:[]{}") c ≡ false → stays_plain (class_of breaks12 c) ≡ true
+stays_at breaks12 c h =
+    let comma = or_parts (c == 0x2C) (is_among (codes "?:[]{}") c) h in
+    let question = or_parts (c == 0x3F) (is_among (codes ":[]{}") c) comma.1 in
+    let colon = or_parts (c == 0x3A) (is_among (codes "[]{}") c) question.1 in
+    let opening = or_parts (c == 0x5B) (is_among (codes "]{}") c) colon.1 in
+    let closing = or_parts (c == 0x5D) (is_among (codes "{}") c) opening.1 in
+    let curly = or_parts (c == 0x7B) (is_among (codes "}") c) closing.1 in
+    let last = or_parts (c == 0x7D) false curly.1 in
+    by (is_blank c) (is_read_break breaks12 c) (is_among (codes "&!") c) (c == 0x22) (c == 0x27)
+    (none closing.0 (none last.0 (none comma.0 (none colon.0 (none question.0 refl)))))
+    (none opening.0 (none curly.0 refl))
+  where
+    none : {x y : Bool} → x ≡ false → y ≡ false → (x || y) ≡ false
+    none {x} {y} e f = ap (λ b. b || y) e ∙ f
+
+    by : (blank line_break property double single : Bool) → is_among (codes "]},:?") c ≡ false → is_among (codes "[{") c ≡ false
+        → stays_plain (if blank then is_white_blank else (if line_break then is_white_break else (if is_among (codes "]},:?") c then is_flow_sign
+        else (if property then begins_property else (if double then begins_double else (if single then begins_single
+        else (if is_among (codes "[{") c then begins_bracket else begins_plain))))))) ≡ true
+    by true l p d s e f = refl
+    by false true l d s e f = refl
+    by false false true d s e f = ap (λ x. stays_plain (if x then is_flow_sign else begins_property)) e
+    by false false false true s e f = ap (λ x. stays_plain (if x then is_flow_sign else begins_double)) e
+    by false false false false true e f = ap (λ x. stays_plain (if x then is_flow_sign else begins_single)) e
+    by false false false false false e f =
+        ap (λ x. stays_plain (if x then is_flow_sign else (if is_among (codes "[{") c then begins_bracket else begins_plain))) e
+        ∙ ap (λ x. stays_plain (if x then begins_bracket else begins_plain)) f
+
+-- what plain text in flow holds is no sign of flow
+pub plain_stays : (breaks12 : Bool) (t : Text) → holds_no_plain breaks12 true t ≡ false → all_stay breaks12 t ≡ true
+plain_stays breaks12 [] h = refl
+plain_stays breaks12 (c ∷ t) h =
+    let parts = or_parts ((c == 58 && begins_white breaks12 t) || (is_read_white breaks12 c && begins_with_hash t) || is_among (codes ",?:[]{}") c)
+    (holds_no_plain breaks12 true t) h in
+    let sign = or_parts ((c == 58 && begins_white breaks12 t) || (is_read_white breaks12 c && begins_with_hash t)) (is_among (codes ",?:[]{}") c) parts.0 in
+    ap (λ x. x && all_stay breaks12 t) (stays_at breaks12 c sign.1) ∙ plain_stays breaks12 t parts.1
+
+-- a character that isn't white is of no white class
+pub shown_at : (breaks12 : Bool) (c : ℕ) → is_read_white breaks12 c ≡ false → is_white_class (class_of breaks12 c) ≡ false
+shown_at breaks12 c h =
+    let parts = or_parts (is_blank c) (is_read_break breaks12 c) h in
+    by (is_blank c) (is_read_break breaks12 c) (is_among (codes "]},:?") c) (is_among (codes "&!") c) (c == 0x22) (c == 0x27)
+    (is_among (codes "[{") c) parts.0 parts.1
+  where
+    by : (blank line_break sign property double single bracket : Bool) → blank ≡ false → line_break ≡ false
+        → is_white_class (if blank then is_white_blank else (if line_break then is_white_break else (if sign then is_flow_sign
+        else (if property then begins_property else (if double then begins_double else (if single then begins_single
+        else (if bracket then begins_bracket else begins_plain))))))) ≡ false
+    by true l g p d s b e f = absurd (true≢false e)
+    by false true g p d s b e f = absurd (true≢false f)
+    by false false true p d s b e f = refl
+    by false false false true d s b e f = refl
+    by false false false false true s b e f = refl
+    by false false false false false true b e f = refl
+    by false false false false false false true e f = refl
+    by false false false false false false false e f = refl
+
+-- the last character of a text with clean edges isn't white
+pub clean_shown : (breaks12 : Bool) (c : ℕ) (t : Text) → ends_white breaks12 (c ∷ t) ≡ false → ends_shown breaks12 (c ∷ t) ≡ true
+clean_shown breaks12 c [] h = ap not (shown_at breaks12 c h)
+clean_shown breaks12 c (d ∷ t) h = clean_shown breaks12 d t h
+
+-- what reads as plain in flow, with clean edges, is a word after its first character
+pub plain_word : (breaks12 : Bool) (before : Text) (c : ℕ) (t rest v : Text) → read_plain breaks12 true (c ∷ t) ≡ Some v
+    → has_clean_edges breaks12 (c ∷ t) ≡ true → ends_word breaks12 rest ≡ true
+    → GivesWord breaks12 (in_plain (before ++ (c ∷ [])) []) (before ++ (c ∷ [])) t rest
+plain_word breaks12 before c t rest v read clean ends =
+    plain_text_word breaks12 before c t rest
+    (and_parts (stays_plain (class_of breaks12 c)) (all_stay breaks12 t) (plain_stays breaks12 (c ∷ t) holds)).1
+    (clean_shown breaks12 c t (shown (ends_white breaks12 (c ∷ t)) (and_parts (not (is_read_white breaks12 c)) (not (ends_white breaks12 (c ∷ t))) clean).1))
+    ends
+  where
+    shown : (x : Bool) → not x ≡ true → x ≡ false
+    shown true h = absurd (false≢true h)
+    shown false h = refl
+
+    by : (x y : Bool) → (if x || y then None else Some (folding_read (map (unit_of breaks12) (c ∷ t)))) ≡ Some v → y ≡ false
+    by true y h = absurd (none_not_some h)
+    by false true h = absurd (none_not_some h)
+    by false false h = refl
+
+    holds : holds_no_plain breaks12 true (c ∷ t) ≡ false
+    holds = by (begins_no_plain breaks12 (c ∷ t)) (holds_no_plain breaks12 true (c ∷ t)) read

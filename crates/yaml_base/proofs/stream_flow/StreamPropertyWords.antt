@@ -1,0 +1,213 @@
+-- The tokens of a word in flow with its anchor and tag before it: it is one word with them, and so is what opens a collection.
+use Rattle.std.proofs.Common.{◌≡◌, refl, sym, ap, ◌∙◌, append_assoc, append-nil, arith}
+use Rattle.std.proofs.lemmas.Bool.{true≢false, false≢true, or_parts}
+use Rattle.std.proofs.lemmas.Bool.Decides.{nat_tests}
+use Rattle.std.specs.Prelude.{ℕ, Bool, true, false, Option, None, Some, List, [], ◌∷◌, ◌++◌, ◌||◌}
+use Rattle.yaml_base.specs.Characters.{Text, space, is_blank, is_break}
+use Rattle.yaml_base.specs.Event.{TagDirective}
+use Rattle.yaml_base.specs.ReadTags.{TagSaid}
+use Rattle.yaml_base.specs.ReadPlain.{is_read_white, read_plain}
+use Rattle.yaml_base.specs.ReadSingle.{read_single}
+use Rattle.yaml_base.specs.ReadDouble.{read_double}
+use Rattle.yaml_base.specs.TidyBodies.{has_clean_edges}
+use Rattle.yaml_base.specs.StreamTokens.{word, opens, FlowPlace, free, in_property, after_property, FlowClass, is_white_blank, is_white_break, is_flow_sign, begins_property, begins_double, begins_single, begins_bracket, begins_plain, class_of, FlowTurn, begun, begun_after_property, property_turn, bracket_turn, is_pair, flow_tokens}
+use Rattle.yaml_base.proofs.stream_flow.StreamWords.{shifted, double_quoted_word, single_quoted_word}
+use Rattle.yaml_base.proofs.stream_flow.StreamPlainWords.{is_white_class, shown_at, plain_word}
+use Rattle.yaml_base.proofs.stream_flow.StreamWhites.{space_class}
+use Rattle.yaml_base.proofs.stream_flow.StreamSays.{Says, double_class, single_class, ends_unquoted}
+use Rattle.yaml_base.proofs.TagLaws.{letters_end_no_word}
+use Rattle.yaml_base.proofs.stream_nodes.StreamProperties.{holds_white, WrittenTag, IsTagged, IsNamed, name_letters}
+
+-- the anchor and the tag as they are written, and a space after them
+abbrev pub lead : Option Text → Option Text → Text
+lead None None = []
+lead (Some name) None = 0x26 ∷ (name ++ (space ∷ []))
+lead None (Some tag) = tag ++ (space ∷ [])
+lead (Some name) (Some tag) = (0x26 ∷ (name ++ (space ∷ tag))) ++ (space ∷ [])
+
+-- where the tokens stand after such a text
+abbrev pub lead_place : Text → FlowPlace
+lead_place [] = free
+lead_place (c ∷ text) = after_property (c ∷ text)
+
+-- what is neither a blank nor a break is of no white class
+not_white : (breaks12 : Bool) (c : ℕ) → (is_blank c || is_break c) ≡ false → is_white_class (class_of breaks12 c) ≡ false
+not_white breaks12 c h = shown_at breaks12 c (by breaks12)
+  where
+    by : (breaks12 : Bool) → is_read_white breaks12 c ≡ false
+    by true = grind (arith, nat_tests, h)
+    by false = grind (arith, nat_tests, h)
+
+-- a character of a property is passed
+property_passes : (class : FlowClass) (text : Text) (c : ℕ) → is_white_class class ≡ false
+    → property_turn class text c ≡ record { tokens = []; place = in_property (text ++ (c ∷ [])) }
+property_passes is_white_blank text c h = absurd (true≢false h)
+property_passes is_white_break text c h = absurd (true≢false h)
+property_passes is_flow_sign text c h = refl
+property_passes begins_property text c h = refl
+property_passes begins_double text c h = refl
+property_passes begins_single text c h = refl
+property_passes begins_bracket text c h = refl
+property_passes begins_plain text c h = refl
+
+-- the rest of a property is passed whole
+rest_passes : (breaks12 : Bool) (before text rest : Text) → holds_white text ≡ false
+    → flow_tokens breaks12 (in_property before) (text ++ rest) ≡ flow_tokens breaks12 (in_property (before ++ text)) rest
+rest_passes breaks12 before [] rest h = ap (λ t. flow_tokens breaks12 (in_property t) rest) (sym (append-nil before))
+rest_passes breaks12 before (c ∷ text) rest h =
+    let parts = or_parts (is_blank c || is_break c) (holds_white text) h in
+    ap (λ (here : FlowTurn). here.tokens ++ flow_tokens breaks12 here.place (text ++ rest))
+    (property_passes (class_of breaks12 c) before c (not_white breaks12 c parts.0))
+    ∙ rest_passes breaks12 (before ++ (c ∷ [])) text rest parts.1
+    ∙ ap (λ t. flow_tokens breaks12 (in_property t) rest) (append_assoc before (c ∷ []) text)
+
+-- `&` and `!` begin a property
+property_class : (breaks12 : Bool) → (class_of breaks12 0x26 ≡ begins_property) × (class_of breaks12 0x21 ≡ begins_property)
+property_class true = (refl, refl)
+property_class false = (refl, refl)
+
+-- where it begins, between tokens or after another
+begin_property : (breaks12 : Bool) (c : ℕ) (rest : Text) → class_of breaks12 c ≡ begins_property
+    → flow_tokens breaks12 free (c ∷ rest) ≡ flow_tokens breaks12 (in_property (c ∷ [])) rest
+begin_property breaks12 c rest e =
+    ap (λ class. (let here : FlowTurn = begun class [] c in here.tokens ++ flow_tokens breaks12 here.place rest)) e
+
+next_property : (breaks12 : Bool) (before : Text) (c : ℕ) (rest : Text) → class_of breaks12 c ≡ begins_property
+    → flow_tokens breaks12 (after_property before) (c ∷ rest) ≡ flow_tokens breaks12 (in_property (before ++ (c ∷ []))) rest
+next_property breaks12 before c rest e =
+    ap (λ class. (let here : FlowTurn = begun_after_property class before c in here.tokens ++ flow_tokens breaks12 here.place rest)) e
+
+-- the rest of a tag isn't white
+rest_not_white : (directives : List TagDirective) (tag : Text) (said : TagSaid) (tagged : WrittenTag directives tag said) → holds_white tagged.rest ≡ false
+rest_not_white directives tag said tagged =
+    (or_parts (is_blank 0x21 || is_break 0x21) (holds_white tagged.rest) (ap holds_white (sym tagged.begins) ∙ tagged.no_white)).1
+
+-- the space after it ends it
+property_ends : (breaks12 : Bool) (before rest : Text)
+    → flow_tokens breaks12 (in_property before) (space ∷ rest) ≡ flow_tokens breaks12 (after_property (before ++ (space ∷ []))) rest
+property_ends breaks12 before rest =
+    ap (λ class. (let here : FlowTurn = property_turn class before space in here.tokens ++ flow_tokens breaks12 here.place rest)) (space_class breaks12)
+
+-- tokens after an anchor and a tag, and the space after them
+pub lead_passes : (breaks12 : Bool) (directives : List TagDirective) (anchor tag : Option Text) (said : Option TagSaid) (rest : Text)
+    → IsNamed anchor → IsTagged directives tag said
+    → flow_tokens breaks12 free (lead anchor tag ++ rest) ≡ flow_tokens breaks12 (lead_place (lead anchor tag)) rest
+lead_passes breaks12 directives None None None rest named tagged = refl
+lead_passes breaks12 directives (Some name) None None rest named tagged =
+    begin_property breaks12 0x26 ((name ++ (space ∷ [])) ++ rest) (property_class breaks12).0
+    ∙ ap (flow_tokens breaks12 (in_property (0x26 ∷ []))) (append_assoc name (space ∷ []) rest)
+    ∙ rest_passes breaks12 (0x26 ∷ []) name (space ∷ rest) (letters_end_no_word name (name_letters name named))
+    ∙ property_ends breaks12 (0x26 ∷ name) rest
+lead_passes breaks12 directives None (Some tag) (Some said) rest named tagged =
+    ap (λ t. flow_tokens breaks12 free ((t ++ (space ∷ [])) ++ rest)) tagged.begins
+    ∙ begin_property breaks12 0x21 ((tagged.rest ++ (space ∷ [])) ++ rest) (property_class breaks12).1
+    ∙ ap (flow_tokens breaks12 (in_property (0x21 ∷ []))) (append_assoc tagged.rest (space ∷ []) rest)
+    ∙ rest_passes breaks12 (0x21 ∷ []) tagged.rest (space ∷ rest) (rest_not_white directives tag said tagged)
+    ∙ property_ends breaks12 (0x21 ∷ tagged.rest) rest
+    ∙ ap (λ t. flow_tokens breaks12 (lead_place (t ++ (space ∷ []))) rest) (sym tagged.begins)
+lead_passes breaks12 directives (Some name) (Some tag) (Some said) rest named tagged =
+    ap (λ t. flow_tokens breaks12 free (((0x26 ∷ (name ++ (space ∷ t))) ++ (space ∷ [])) ++ rest)) tagged.begins
+    ∙ begin_property breaks12 0x26 (((name ++ (space ∷ 0x21 ∷ tagged.rest)) ++ (space ∷ [])) ++ rest) (property_class breaks12).0
+    ∙ ap (flow_tokens breaks12 (in_property (0x26 ∷ []))) (moved name (space ∷ 0x21 ∷ tagged.rest) (space ∷ []) rest)
+    ∙ rest_passes breaks12 (0x26 ∷ []) name (space ∷ 0x21 ∷ ((tagged.rest ++ (space ∷ [])) ++ rest)) (letters_end_no_word name (name_letters name named))
+    ∙ property_ends breaks12 (0x26 ∷ name) (0x21 ∷ ((tagged.rest ++ (space ∷ [])) ++ rest))
+    ∙ next_property breaks12 ((0x26 ∷ name) ++ (space ∷ [])) 0x21 ((tagged.rest ++ (space ∷ [])) ++ rest) (property_class breaks12).1
+    ∙ ap (flow_tokens breaks12 (in_property (((0x26 ∷ name) ++ (space ∷ [])) ++ (0x21 ∷ [])))) (append_assoc tagged.rest (space ∷ []) rest)
+    ∙ rest_passes breaks12 (((0x26 ∷ name) ++ (space ∷ [])) ++ (0x21 ∷ [])) tagged.rest (space ∷ rest) (rest_not_white directives tag said tagged)
+    ∙ property_ends breaks12 ((((0x26 ∷ name) ++ (space ∷ [])) ++ (0x21 ∷ [])) ++ tagged.rest) rest
+    ∙ ap (λ t. flow_tokens breaks12 (after_property (t ++ (space ∷ []))) rest)
+    (append_assoc ((0x26 ∷ name) ++ (space ∷ [])) (0x21 ∷ []) tagged.rest
+    ∙ append_assoc (0x26 ∷ name) (space ∷ []) (0x21 ∷ tagged.rest)
+    ∙ ap (λ t. 0x26 ∷ (name ++ (space ∷ t))) (sym tagged.begins))
+  where
+    moved : (a b c d : Text) → ((a ++ b) ++ c) ++ d ≡ a ++ ((b ++ c) ++ d)
+    moved a b c d = ap (λ t. t ++ d) (append_assoc a b c) ∙ append_assoc a (b ++ c) d
+lead_passes breaks12 directives None None (Some said) rest named tagged = absurd tagged
+lead_passes breaks12 directives None (Some tag) None rest named tagged = absurd tagged
+lead_passes breaks12 directives (Some name) None (Some said) rest named tagged = absurd tagged
+lead_passes breaks12 directives (Some name) (Some tag) None rest named tagged = absurd tagged
+
+-- Words after properties
+
+-- what begins a node's own text
+abbrev pub begins_own : FlowClass → Bool
+begins_own begins_double = true
+begins_own begins_single = true
+begins_own begins_bracket = true
+begins_own begins_plain = true
+begins_own _ = false
+
+-- after properties or without them, it begins a word with these
+begun_with : (breaks12 : Bool) (before : Text) (c : ℕ) (rest : Text) (class : FlowClass) → class_of breaks12 c ≡ class → begins_own class ≡ true
+    → flow_tokens breaks12 (lead_place before) (c ∷ rest) ≡ (let here : FlowTurn = begun class before c in here.tokens ++ flow_tokens breaks12 here.place rest)
+begun_with breaks12 [] c rest class e own = ap (λ class. (let here : FlowTurn = begun class [] c in here.tokens ++ flow_tokens breaks12 here.place rest)) e
+begun_with breaks12 (x ∷ before) c rest class e own =
+    ap (λ class. (let here : FlowTurn = begun_after_property class (x ∷ before) c in here.tokens ++ flow_tokens breaks12 here.place rest)) e
+    ∙ ap (λ (here : FlowTurn). here.tokens ++ flow_tokens breaks12 here.place rest) (by class own)
+  where
+    by : (class : FlowClass) → begins_own class ≡ true → begun_after_property class (x ∷ before) c ≡ begun class (x ∷ before) c
+    by begins_double own = refl
+    by begins_single own = refl
+    by begins_bracket own = refl
+    by begins_plain own = refl
+    by is_white_blank own = absurd (false≢true own)
+    by is_white_break own = absurd (false≢true own)
+    by is_flow_sign own = absurd (false≢true own)
+    by begins_property own = absurd (false≢true own)
+
+-- a text is passed by the tokens, to where what follows it begins a word with it
+abbrev pub Leads : Bool → Text → Type 0
+Leads breaks12 before = (rest : Text) → flow_tokens breaks12 free (before ++ rest) ≡ flow_tokens breaks12 (lead_place before) rest
+
+-- a word that begins after such a text
+begun_after : (breaks12 : Bool) (before : Text) (c : ℕ) (t rest : Text) (class : FlowClass) → Leads breaks12 before → class_of breaks12 c ≡ class
+    → begins_own class ≡ true
+    → flow_tokens breaks12 free ((before ++ (c ∷ t)) ++ rest)
+    ≡ (let here : FlowTurn = begun class before c in here.tokens ++ flow_tokens breaks12 here.place (t ++ rest))
+begun_after breaks12 before c t rest class leads e own =
+    ap (flow_tokens breaks12 free) (append_assoc before (c ∷ t) rest) ∙ leads (c ∷ (t ++ rest)) ∙ begun_with breaks12 before c (t ++ rest) class e own
+
+-- a scalar in double quotes, with its properties
+pub says_double_after : (breaks12 : Bool) (before t v : Text) → Leads breaks12 before → read_double breaks12 (0x22 ∷ t) ≡ Some v
+    → Says breaks12 (before ++ (0x22 ∷ t)) (word (before ++ (0x22 ∷ t)) ∷ [])
+says_double_after breaks12 before t v leads read = record {
+  says = λ rest h.
+      begun_after breaks12 before 0x22 t rest begins_double leads (double_class breaks12) refl
+      ∙ double_quoted_word breaks12 before t rest v read ∙ shifted breaks12 before 0x22 t rest;
+}
+
+-- one in single quotes
+pub says_single_after : (breaks12 : Bool) (before t v : Text) → Leads breaks12 before → read_single breaks12 (0x27 ∷ t) ≡ Some v
+    → Says breaks12 (before ++ (0x27 ∷ t)) (word (before ++ (0x27 ∷ t)) ∷ [])
+says_single_after breaks12 before t v leads read = record {
+  says = λ rest h.
+      begun_after breaks12 before 0x27 t rest begins_single leads (single_class breaks12) refl
+      ∙ single_quoted_word breaks12 before t rest v read (ends_unquoted breaks12 rest h) ∙ shifted breaks12 before 0x27 t rest;
+}
+
+-- a plain one
+pub says_plain_after : (breaks12 : Bool) (before : Text) (c : ℕ) (t v : Text) → Leads breaks12 before → class_of breaks12 c ≡ begins_plain
+    → read_plain breaks12 true (c ∷ t) ≡ Some v → has_clean_edges breaks12 (c ∷ t) ≡ true
+    → Says breaks12 (before ++ (c ∷ t)) (word (before ++ (c ∷ t)) ∷ [])
+says_plain_after breaks12 before c t v leads e read clean = record {
+  says = λ rest h.
+      begun_after breaks12 before c t rest begins_plain leads e refl
+      ∙ plain_word breaks12 before c t rest v read clean h ∙ shifted breaks12 before c t rest;
+}
+
+-- an empty collection
+pub says_empty_after : (breaks12 : Bool) (before : Text) (b c : ℕ) → Leads breaks12 before → class_of breaks12 b ≡ begins_bracket → is_pair b c ≡ true
+    → Says breaks12 (before ++ (b ∷ c ∷ [])) (word (before ++ (b ∷ c ∷ [])) ∷ [])
+says_empty_after breaks12 before b c leads e pair = record {
+  says = λ rest h.
+      begun_after breaks12 before b (c ∷ []) rest begins_bracket leads e refl
+      ∙ ap (λ x. (let here : FlowTurn = bracket_turn x (class_of breaks12 c) before b c in here.tokens ++ flow_tokens breaks12 here.place rest)) pair;
+}
+
+-- a bracket opens a collection with its properties, where the next character doesn't close it
+pub opens_after : (breaks12 : Bool) (before : Text) (b c : ℕ) (rest : Text) → Leads breaks12 before → class_of breaks12 b ≡ begins_bracket → is_pair b c ≡ false
+    → flow_tokens breaks12 free (before ++ (b ∷ c ∷ rest)) ≡ opens before b ∷ flow_tokens breaks12 free (c ∷ rest)
+opens_after breaks12 before b c rest leads e pair =
+    leads (b ∷ c ∷ rest)
+    ∙ begun_with breaks12 before b (c ∷ rest) begins_bracket e refl
+    ∙ ap (λ x. (let here : FlowTurn = bracket_turn x (class_of breaks12 c) before b c in here.tokens ++ flow_tokens breaks12 here.place rest)) pair

@@ -1,0 +1,149 @@
+-- What a text in flow is to its reader: these tokens, before anything that ends a word.
+use Rattle.std.proofs.Common.{◌≡◌, refl, sym, ap, ◌∙◌, append_assoc}
+use Rattle.std.proofs.lemmas.Bool.{false≢true, eqb-true}
+use Rattle.std.specs.Prelude.{ℕ, Bool, true, false, Some, List, [], ◌∷◌, ◌++◌, ◌==◌, if◌then◌else◌}
+use Rattle.yaml_base.specs.Characters.{Text}
+use Rattle.yaml_base.specs.ReadPlain.{read_plain}
+use Rattle.yaml_base.specs.ReadSingle.{read_single}
+use Rattle.yaml_base.specs.ReadDouble.{read_double}
+use Rattle.yaml_base.specs.TidyBodies.{has_clean_edges}
+use Rattle.yaml_base.specs.StreamTokens.{FlowToken, word, opens, sign, blank, line_end, free, is_white_blank, is_white_break, is_flow_sign, begins_double, begins_single, begins_bracket, begins_plain, class_of, FlowTurn, begun, bracket_turn, is_pair, flow_tokens}
+use Rattle.yaml_base.proofs.stream_flow.StreamWords.{begins_unquoted, double_quoted_word, single_quoted_word}
+use Rattle.yaml_base.proofs.stream_flow.StreamPlainWords.{ends_by, ends_word, plain_word}
+
+-- a text is these tokens where what follows ends a word
+pub record Says (breaks12 : Bool) (text : Text) (tokens : List FlowToken) : Type 0 where
+  pub says : (rest : Text) → ends_word breaks12 rest ≡ true → flow_tokens breaks12 free (text ++ rest) ≡ tokens ++ flow_tokens breaks12 free rest
+
+-- a text ends a word before it, if what follows does
+abbrev pub EndsWord : Bool → Text → Type 0
+EndsWord breaks12 text = (rest : Text) → ends_word breaks12 rest ≡ true → ends_word breaks12 (text ++ rest) ≡ true
+
+-- a text, and then one that ends a word
+pub says_both : (breaks12 : Bool) (a b : Text) (j k : List FlowToken) → Says breaks12 a j → Says breaks12 b k → EndsWord breaks12 b
+    → Says breaks12 (a ++ b) (j ++ k)
+says_both breaks12 a b j k one two ends = record {
+  says = λ rest h.
+      ap (flow_tokens breaks12 free) (append_assoc a b rest) ∙ one.says (b ++ rest) (ends rest h)
+      ∙ ap (λ t. j ++ t) (two.says rest h) ∙ sym (append_assoc j k (flow_tokens breaks12 free rest));
+}
+
+-- no text
+pub says_nothing : (breaks12 : Bool) → Says breaks12 [] []
+says_nothing breaks12 = record { says = λ rest h. refl }
+
+-- a text that ends a word whatever follows
+pub ends_anyhow : (breaks12 : Bool) (c : ℕ) (text : Text) → ((more : Bool) → ends_by (class_of breaks12 c) more ≡ true) → EndsWord breaks12 (c ∷ text)
+ends_anyhow breaks12 c text h rest k = h (ends_word breaks12 (text ++ rest))
+
+-- a sign of flow
+pub says_sign : (breaks12 : Bool) (c : ℕ) → class_of breaks12 c ≡ is_flow_sign → Says breaks12 (c ∷ []) (sign c ∷ [])
+says_sign breaks12 c e = record {
+  says = λ rest h. ap (λ class. (let here : FlowTurn = begun class [] c in here.tokens ++ flow_tokens breaks12 here.place rest)) e;
+}
+
+-- a blank
+pub says_blank : (breaks12 : Bool) (c : ℕ) → class_of breaks12 c ≡ is_white_blank → Says breaks12 (c ∷ []) (blank ∷ [])
+says_blank breaks12 c e = record {
+  says = λ rest h. ap (λ class. (let here : FlowTurn = begun class [] c in here.tokens ++ flow_tokens breaks12 here.place rest)) e;
+}
+
+-- a break
+pub says_break : (breaks12 : Bool) (c : ℕ) → class_of breaks12 c ≡ is_white_break → Says breaks12 (c ∷ []) (line_end ∷ [])
+says_break breaks12 c e = record {
+  says = λ rest h. ap (λ class. (let here : FlowTurn = begun class [] c in here.tokens ++ flow_tokens breaks12 here.place rest)) e;
+}
+
+-- The signs of flow, with either rule of breaks
+pub comma_class : (breaks12 : Bool) → class_of breaks12 0x2C ≡ is_flow_sign
+comma_class true = refl
+comma_class false = refl
+
+pub colon_class : (breaks12 : Bool) → class_of breaks12 0x3A ≡ is_flow_sign
+colon_class true = refl
+colon_class false = refl
+
+pub question_class : (breaks12 : Bool) → class_of breaks12 0x3F ≡ is_flow_sign
+question_class true = refl
+question_class false = refl
+
+pub square_class : (breaks12 : Bool) → class_of breaks12 0x5D ≡ is_flow_sign
+square_class true = refl
+square_class false = refl
+
+pub curly_class : (breaks12 : Bool) → class_of breaks12 0x7D ≡ is_flow_sign
+curly_class true = refl
+curly_class false = refl
+
+pub double_class : (breaks12 : Bool) → class_of breaks12 0x22 ≡ begins_double
+double_class true = refl
+double_class false = refl
+
+pub single_class : (breaks12 : Bool) → class_of breaks12 0x27 ≡ begins_single
+single_class true = refl
+single_class false = refl
+
+-- a sign ends a word
+pub sign_ends : (breaks12 : Bool) (c : ℕ) (text : Text) → class_of breaks12 c ≡ is_flow_sign → EndsWord breaks12 (c ∷ text)
+sign_ends breaks12 c text e = ends_anyhow breaks12 c text (λ more. ap (λ class. ends_by class more) e)
+
+-- what ends a word is no quote
+pub ends_unquoted : (breaks12 : Bool) (rest : Text) → ends_word breaks12 rest ≡ true → begins_unquoted rest ≡ true
+ends_unquoted breaks12 [] h = absurd (false≢true h)
+ends_unquoted breaks12 (c ∷ rest) h = by (c == 0x27) refl
+  where
+    by : (x : Bool) → (c == 0x27) ≡ x → (if x then false else true) ≡ true
+    by true e = absurd (false≢true (sym
+        (ap (λ class. ends_by class (ends_word breaks12 rest)) (ap (class_of breaks12) (eqb-true c 0x27 e) ∙ single_class breaks12)) ∙ h))
+    by false e = refl
+
+-- Words
+
+-- a scalar in double quotes
+pub says_double : (breaks12 : Bool) (t v : Text) → read_double breaks12 (0x22 ∷ t) ≡ Some v → Says breaks12 (0x22 ∷ t) (word (0x22 ∷ t) ∷ [])
+says_double breaks12 t v read = record {
+  says = λ rest h.
+      ap (λ class. (let here : FlowTurn = begun class [] 0x22 in here.tokens ++ flow_tokens breaks12 here.place (t ++ rest))) (double_class breaks12)
+      ∙ double_quoted_word breaks12 [] t rest v read;
+}
+
+-- a scalar in single quotes
+pub says_single : (breaks12 : Bool) (t v : Text) → read_single breaks12 (0x27 ∷ t) ≡ Some v → Says breaks12 (0x27 ∷ t) (word (0x27 ∷ t) ∷ [])
+says_single breaks12 t v read = record {
+  says = λ rest h.
+      ap (λ class. (let here : FlowTurn = begun class [] 0x27 in here.tokens ++ flow_tokens breaks12 here.place (t ++ rest))) (single_class breaks12)
+      ∙ single_quoted_word breaks12 [] t rest v read (ends_unquoted breaks12 rest h);
+}
+
+-- a plain scalar
+pub says_plain : (breaks12 : Bool) (c : ℕ) (t v : Text) → class_of breaks12 c ≡ begins_plain → read_plain breaks12 true (c ∷ t) ≡ Some v
+    → has_clean_edges breaks12 (c ∷ t) ≡ true → Says breaks12 (c ∷ t) (word (c ∷ t) ∷ [])
+says_plain breaks12 c t v e read clean = record {
+  says = λ rest h.
+      ap (λ class. (let here : FlowTurn = begun class [] c in here.tokens ++ flow_tokens breaks12 here.place (t ++ rest))) e
+      ∙ plain_word breaks12 [] c t rest v read clean h;
+}
+
+pub bracket_class : (breaks12 : Bool) → (class_of breaks12 0x5B ≡ begins_bracket) × (class_of breaks12 0x7B ≡ begins_bracket)
+bracket_class true = (refl, refl)
+bracket_class false = (refl, refl)
+
+-- a bracket opens a collection where the next character doesn't close it
+pub opens_before : (breaks12 : Bool) (b c : ℕ) (rest : Text) → class_of breaks12 b ≡ begins_bracket → is_pair b c ≡ false
+    → flow_tokens breaks12 free (b ∷ c ∷ rest) ≡ opens [] b ∷ flow_tokens breaks12 free (c ∷ rest)
+opens_before breaks12 b c rest e h =
+    ap (λ class. (let here : FlowTurn = begun class [] b in here.tokens ++ flow_tokens breaks12 here.place (c ∷ rest))) e
+    ∙ ap (λ x. (let here : FlowTurn = bracket_turn x (class_of breaks12 c) [] b c in here.tokens ++ flow_tokens breaks12 here.place rest)) h
+
+-- `[]` and `{}` are words
+pub says_empty_sequence : (breaks12 : Bool) → Says breaks12 (0x5B ∷ 0x5D ∷ []) (word (0x5B ∷ 0x5D ∷ []) ∷ [])
+says_empty_sequence breaks12 = record {
+  says = λ rest h. ap (λ class. (let here : FlowTurn = begun class [] 0x5B in here.tokens ++ flow_tokens breaks12 here.place (0x5D ∷ rest)))
+      (bracket_class breaks12).0;
+}
+
+pub says_empty_mapping : (breaks12 : Bool) → Says breaks12 (0x7B ∷ 0x7D ∷ []) (word (0x7B ∷ 0x7D ∷ []) ∷ [])
+says_empty_mapping breaks12 = record {
+  says = λ rest h. ap (λ class. (let here : FlowTurn = begun class [] 0x7B in here.tokens ++ flow_tokens breaks12 here.place (0x7D ∷ rest)))
+      (bracket_class breaks12).1;
+}

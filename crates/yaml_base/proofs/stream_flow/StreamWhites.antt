@@ -1,0 +1,90 @@
+-- White space in flow, and what it does to the reader of flow collections.
+use Rattle.std.proofs.Common.{◌≡◌, zero, suc, refl, ap, ◌∙◌}
+use Rattle.std.specs.Prelude.{ℕ, Bool, true, false, List, [], ◌∷◌, ◌++◌}
+use Rattle.yaml_base.specs.Characters.{space, line_feed}
+use Rattle.yaml_base.specs.StreamLines.{spaces}
+use Rattle.yaml_base.specs.StreamScalars.{Rules}
+use Rattle.yaml_base.specs.StreamTokens.{blank, line_end, is_white_blank, is_white_break, class_of}
+use Rattle.yaml_base.specs.StreamFlow.{Level, at_once, after_blank, after_white, entry_awaited, node_awaited, colon_awaited, FlowReading, within}
+use Rattle.yaml_base.proofs.stream_flow.StreamPlainWords.{ends_by, ends_word}
+use Rattle.yaml_base.proofs.stream_flow.StreamSays.{EndsWord, says_blank, says_break}
+use Rattle.yaml_base.proofs.stream_flow.StreamTakes.{Takes, takes_to, takes_nothing, takes_both}
+
+-- a space is a blank
+pub space_class : (breaks12 : Bool) → class_of breaks12 space ≡ is_white_blank
+space_class true = refl
+space_class false = refl
+
+-- LF is a break
+pub line_feed_class : (breaks12 : Bool) → class_of breaks12 line_feed ≡ is_white_break
+line_feed_class true = refl
+line_feed_class false = refl
+
+-- spaces end a word, if what follows them does
+pub spaces_end_word : (breaks12 : Bool) (n : ℕ) → EndsWord breaks12 (spaces n)
+spaces_end_word breaks12 zero rest h = h
+spaces_end_word breaks12 (suc n) rest h =
+    ap (λ class. ends_by class (ends_word breaks12 (spaces n ++ rest))) (space_class breaks12) ∙ spaces_end_word breaks12 n rest h
+
+-- and so do a break and spaces
+pub line_ends_word : (breaks12 : Bool) (n : ℕ) → EndsWord breaks12 (line_feed ∷ spaces n)
+line_ends_word breaks12 n rest h =
+    ap (λ class. ends_by class (ends_word breaks12 (spaces n ++ rest))) (line_feed_class breaks12) ∙ spaces_end_word breaks12 n rest h
+
+-- a reading that blanks leave as it is
+abbrev pub StaysAtBlank : Rules → FlowReading → Type 0
+StaysAtBlank rules reading = Takes rules reading (space ∷ []) reading
+
+-- so do spaces
+pub spaces_stay : (rules : Rules) (reading : FlowReading) (n : ℕ) → StaysAtBlank rules reading → Takes rules reading (spaces n) reading
+spaces_stay rules reading zero one = takes_nothing rules reading
+spaces_stay rules reading (suc n) one =
+    takes_both rules reading reading reading (space ∷ []) (spaces n) one (spaces_stay rules reading n one) (spaces_end_word rules.breaks12 n)
+
+-- a blank before an entry
+pub entry_blank : (rules : Rules) (levels : List Level) → StaysAtBlank rules (within levels entry_awaited)
+entry_blank rules levels =
+    takes_to rules (within levels entry_awaited) (within levels entry_awaited) (space ∷ []) (blank ∷ [])
+    (says_blank rules.breaks12 space (space_class rules.breaks12)) refl
+
+-- a break and spaces before an entry
+pub entry_line : (rules : Rules) (levels : List Level) (n : ℕ) → Takes rules (within levels entry_awaited) (line_feed ∷ spaces n) (within levels entry_awaited)
+entry_line rules levels n =
+    takes_both rules (within levels entry_awaited) (within levels entry_awaited) (within levels entry_awaited) (line_feed ∷ []) (spaces n)
+    (takes_to rules (within levels entry_awaited) (within levels entry_awaited) (line_feed ∷ []) (line_end ∷ [])
+    (says_break rules.breaks12 line_feed (line_feed_class rules.breaks12)) refl)
+    (spaces_stay rules (within levels entry_awaited) n (entry_blank rules levels))
+    (spaces_end_word rules.breaks12 n)
+
+-- a blank between `?` or `:` and a node
+pub node_blank : (rules : Rules) (levels : List Level) (came : Bool)
+    → Takes rules (within levels (node_awaited came)) (space ∷ []) (within levels (node_awaited true))
+node_blank rules levels came =
+    takes_to rules (within levels (node_awaited came)) (within levels (node_awaited true)) (space ∷ []) (blank ∷ [])
+    (says_blank rules.breaks12 space (space_class rules.breaks12)) refl
+
+-- the blank after an alias that is a key
+pub alias_blank : (rules : Rules) (levels : List Level)
+    → Takes rules (within levels (colon_awaited after_blank)) (space ∷ []) (within levels (colon_awaited at_once))
+alias_blank rules levels =
+    takes_to rules (within levels (colon_awaited after_blank)) (within levels (colon_awaited at_once)) (space ∷ []) (blank ∷ [])
+    (says_blank rules.breaks12 space (space_class rules.breaks12)) refl
+
+-- a blank before the `:` after a key with `?`
+pub colon_blank : (rules : Rules) (levels : List Level) (came : Bool)
+    → Takes rules (within levels (colon_awaited (after_white came))) (space ∷ []) (within levels (colon_awaited (after_white true)))
+colon_blank rules levels came =
+    takes_to rules (within levels (colon_awaited (after_white came))) (within levels (colon_awaited (after_white true))) (space ∷ []) (blank ∷ [])
+    (says_blank rules.breaks12 space (space_class rules.breaks12)) refl
+
+-- a break and spaces there
+pub colon_line : (rules : Rules) (levels : List Level) (came : Bool) (n : ℕ)
+    → Takes rules (within levels (colon_awaited (after_white came))) (line_feed ∷ spaces n) (within levels (colon_awaited (after_white true)))
+colon_line rules levels came n =
+    takes_both rules (within levels (colon_awaited (after_white came))) (within levels (colon_awaited (after_white true)))
+    (within levels (colon_awaited (after_white true)))
+    (line_feed ∷ []) (spaces n)
+    (takes_to rules (within levels (colon_awaited (after_white came))) (within levels (colon_awaited (after_white true))) (line_feed ∷ []) (line_end ∷ [])
+    (says_break rules.breaks12 line_feed (line_feed_class rules.breaks12)) refl)
+    (spaces_stay rules (within levels (colon_awaited (after_white true))) n (colon_blank rules levels true))
+    (spaces_end_word rules.breaks12 n)

@@ -1,0 +1,10 @@
+pub mod StreamKeys
+pub mod StreamPlainKeys
+pub mod StreamAliasKeys
+pub mod StreamNoKeys
+pub mod StreamKeyBodies
+pub mod StreamKeyLengths
+pub mod StreamKeysFit
+pub mod StreamKeyFronts
+pub mod StreamKeyReads
+pub mod StreamSimpleKeys

@@ -1,0 +1,78 @@
+-- An alias and a space are a simple key, before the `:` that follows.
+use Rattle.std.proofs.Common.{◌≡◌, refl, sym, ap, ◌∙◌}
+use Rattle.std.proofs.lemmas.Bool.{true≢false, false≢true, eqb-true, and_parts}
+use Rattle.std.specs.Option.{option_or}
+use Rattle.std.specs.List.{list_all}
+use Rattle.std.specs.Prelude.{ℕ, Bool, true, false, None, Some, [], ◌∷◌, ◌++◌, ◌==◌, ◌&&◌, nat_le, length, option_map, option_and_then, if◌then◌else◌}
+use Rattle.yaml_base.specs.Characters.{Text, space, is_alpha}
+use Rattle.yaml_base.specs.StreamContent.{alias_tree}
+use Rattle.yaml_base.specs.StreamLines.{ends_sign}
+use Rattle.yaml_base.specs.StreamScalars.{Rules, name_read, word_read}
+use Rattle.yaml_base.specs.StreamFlow.{is_alias, longest_key}
+use Rattle.yaml_base.specs.StreamNodes.{without_last_space, word_but_alias, word_of_alias, key_of_line}
+use Rattle.yaml_base.proofs.stream_keys.StreamKeys.{NoKey, found, key_found}
+
+-- a name and a space
+abbrev spaced : Text → Text
+spaced name = name ++ (space ∷ [])
+
+-- a letter of the anchor alphabet is no `:`
+no_colon : (c : ℕ) → is_alpha c ≡ true → (c == 0x3A) ≡ false
+no_colon c h = by (c == 0x3A) refl
+  where
+    by : (x : Bool) → (c == 0x3A) ≡ x → x ≡ false
+    by true e = absurd (true≢false (sym h ∙ ap is_alpha (eqb-true c 0x3A e)))
+    by false e = refl
+
+-- no `:` stands in a name and the space after it
+name_no_key : (rules : Rules) (before name after : Text) → list_all is_alpha name ≡ true → NoKey rules before (spaced name) after
+name_no_key rules before [] after h = ((λ e. absurd (false≢true e)), tt)
+name_no_key rules before (c ∷ name) after h =
+    let parts = and_parts (is_alpha c) (list_all is_alpha name) h in (
+      (λ e. absurd (true≢false (sym (and_parts (c == 0x3A) (ends_sign (spaced name ++ (0x3A ∷ after))) e).0 ∙ no_colon c parts.0))),
+      name_no_key rules (before ++ (c ∷ [])) name after parts.1,
+    )
+
+-- a space is in no name
+spaced_no_name : (name : Text) → list_all is_alpha (spaced name) ≡ false
+spaced_no_name [] = refl
+spaced_no_name (c ∷ name) = ap (λ x. is_alpha c && x) (spaced_no_name name) ∙ by (is_alpha c)
+  where
+    by : (x : Bool) → (x && false) ≡ false
+    by true = refl
+    by false = refl
+
+-- the space after a text is its last
+last_space : (c : ℕ) (t : Text) → without_last_space (spaced (c ∷ t)) ≡ Some (c ∷ t)
+last_space c [] = refl
+last_space c (d ∷ t) = ap (option_map (λ text. c ∷ text)) (last_space d t)
+
+-- a word that begins with `*` is an alias, if its name is one
+pub alias_word : (rules : Rules) (flow : Bool) (n : ℕ) (t : Text) → word_read rules flow (0x2A ∷ n ∷ t) ≡ option_map alias_tree (name_read (n ∷ t))
+alias_word rules flow n [] = refl
+alias_word rules flow n (c ∷ t) = refl
+
+spaced_word : (rules : Rules) (n : ℕ) (t : Text) → word_but_alias rules (0x2A ∷ n ∷ spaced t) ≡ None
+spaced_word rules n t =
+    ap (option_and_then (λ tree. if is_alias tree then None else Some tree)) (alias_word rules false n (spaced t))
+    ∙ ap (λ x. option_and_then (λ tree. if is_alias tree then None else Some tree) (option_map alias_tree (if x then Some (n ∷ spaced t) else None)))
+    (spaced_no_name (n ∷ t))
+
+named_word : (rules : Rules) (n : ℕ) (t : Text) → list_all is_alpha (n ∷ t) ≡ true → word_of_alias rules (0x2A ∷ n ∷ t) ≡ Some (alias_tree (n ∷ t))
+named_word rules n t h =
+    ap (option_and_then (λ tree. if is_alias tree then Some tree else None)) (alias_word rules false n t)
+    ∙ ap (λ x. option_and_then (λ tree. if is_alias tree then Some tree else None) (option_map alias_tree (if x then Some (n ∷ t) else None))) h
+
+-- an alias that isn't too long is a simple key, with the space before `:`
+pub alias_key : (rules : Rules) (n : ℕ) (t after : Text) → list_all is_alpha (n ∷ t) ≡ true → nat_le (length (0x2A ∷ n ∷ spaced t)) longest_key ≡ true
+    → ends_sign after ≡ true
+    → key_of_line rules ((0x2A ∷ n ∷ spaced t) ++ (0x3A ∷ after)) ≡ found (alias_tree (n ∷ t)) (0x2A ∷ n ∷ spaced t) after
+alias_key rules n t after name short h =
+    key_found rules [] (0x2A ∷ n ∷ spaced t) after (alias_tree (n ∷ t))
+    ((λ e. absurd (false≢true e)), name_no_key rules (0x2A ∷ []) (n ∷ t) after name)
+    (ap (λ x. if x then option_or (word_but_alias rules (0x2A ∷ n ∷ spaced t))
+    (option_and_then (word_of_alias rules) (without_last_space (0x2A ∷ n ∷ spaced t))) else None) short
+    ∙ ap (λ x. option_or x (option_and_then (word_of_alias rules) (without_last_space (0x2A ∷ n ∷ spaced t)))) (spaced_word rules n t)
+    ∙ ap (λ x. option_or None (option_and_then (word_of_alias rules) x)) (last_space 0x2A (n ∷ t))
+    ∙ ap (option_or None) (named_word rules n t name))
+    h

@@ -1,0 +1,215 @@
+-- A simple key in quotes is found where its text ends, before the `:` that follows it.
+use Rattle.std.proofs.Common.{◌≡◌, refl, sym, ap, ◌∙◌, append_assoc}
+use Rattle.std.proofs.lemmas.Bool.{false≢true, eqb-true, and_parts}
+use Rattle.std.specs.Option.{option_or}
+use Rattle.std.specs.Prelude.{ℕ, Bool, true, false, Option, None, Some, [], ◌∷◌, ◌++◌, ◌==◌, ◌&&◌, nat_le, length, option_map, option_and_then, if◌then◌else◌}
+use Rattle.yaml_base.specs.Characters.{Text, space}
+use Rattle.yaml_base.specs.Event.{single_quoted, double_quoted}
+use Rattle.yaml_base.specs.ReadSingle.{read_single}
+use Rattle.yaml_base.specs.ReadDouble.{read_double}
+use Rattle.yaml_base.specs.TidyBodies.{is_tidy}
+use Rattle.yaml_base.specs.StreamContent.{Standing, stood_quoted, Tagging, without_tag, Tree, scalar_tree}
+use Rattle.yaml_base.specs.StreamLines.{ends_sign}
+use Rattle.yaml_base.specs.StreamScalars.{Rules, Properties, no_properties, tagging_said, scalar_said, scalar_of_style, word_read}
+use Rattle.yaml_base.specs.StreamFlow.{is_alias, longest_key}
+use Rattle.yaml_base.specs.StreamNodes.{SimpleKey, without_last_space, word_but_alias, word_of_alias, key_of_text, key_ends, key_from, key_of_line}
+use Rattle.yaml_base.proofs.stream_lines.StreamCuts.{double_quoted_whole, single_quoted_whole}
+
+-- no `:` inside a text ends a key, where so much stands before it and a `:` after it
+abbrev pub NoKey : Rules → Text → Text → Text → Type 0
+NoKey rules before [] after = Unit {0}
+NoKey rules before (c ∷ t) after =
+    ((c == 0x3A && ends_sign (t ++ (0x3A ∷ after))) ≡ true → key_of_text rules before ≡ None) × NoKey rules (before ++ (c ∷ [])) t after
+
+-- a key, and what follows its `:`
+abbrev pub found : Tree → Text → Text → Option SimpleKey
+found key text after = Some (record { key = key; length = length text; after = after })
+
+-- the first `:` that ends a key is found
+pub key_found : (rules : Rules) (before t after : Text) (key : Tree) → NoKey rules before t after → key_of_text rules (before ++ t) ≡ Some key
+    → ends_sign after ≡ true
+    → key_from rules before (t ++ (0x3A ∷ after)) ≡ found key (before ++ t) after
+key_found rules before [] after key clear read h =
+    ap (λ x. option_or (key_ends rules x before after) (key_from rules (before ++ (0x3A ∷ [])) after)) h
+    ∙ ap (λ x. option_or (option_map (λ k. record { key = k; length = length before; after = after }) x) (key_from rules (before ++ (0x3A ∷ [])) after))
+    (ap (key_of_text rules) (sym (nothing_after before)) ∙ read)
+    ∙ ap (λ t. found key t after) (sym (nothing_after before))
+  where
+    nothing_after : (t : Text) → t ++ [] ≡ t
+    nothing_after [] = refl
+    nothing_after (c ∷ t) = ap (λ s. c ∷ s) (nothing_after t)
+key_found rules before (c ∷ t) after key clear read h =
+    by (c == 0x3A && ends_sign (t ++ (0x3A ∷ after))) clear.0
+    ∙ key_found rules (before ++ (c ∷ [])) t after key clear.1 (ap (key_of_text rules) (append_assoc before (c ∷ []) t) ∙ read) h
+    ∙ ap (λ s. found key s after) (append_assoc before (c ∷ []) t)
+  where
+    by : (x : Bool) → (x ≡ true → key_of_text rules before ≡ None)
+        → option_or (key_ends rules x before (t ++ (0x3A ∷ after))) (key_from rules (before ++ (c ∷ [])) (t ++ (0x3A ∷ after)))
+        ≡ key_from rules (before ++ (c ∷ [])) (t ++ (0x3A ∷ after))
+    by true none =
+        ap (λ x. option_or (option_map (λ k. record { key = k; length = length before; after = t ++ (0x3A ∷ after) }) x)
+        (key_from rules (before ++ (c ∷ [])) (t ++ (0x3A ∷ after)))) (none refl)
+    by false none = refl
+
+-- a scalar is no alias
+pub scalar_no_alias : (properties : Properties) (standing : Standing) (value : Option Text)
+    → option_and_then (λ tree. if is_alias tree then Some tree else None) (scalar_said properties standing value) ≡ None
+scalar_no_alias properties standing None = refl
+scalar_no_alias properties standing (Some text) = by (tagging_said properties.tag standing)
+  where
+    by : (tagging : Option Tagging)
+        → option_and_then (λ tree. if is_alias tree then Some tree else None) (option_map (λ tagging. scalar_tree properties.anchor tagging text) tagging)
+        ≡ None
+    by None = refl
+    by (Some tagging) = refl
+
+-- a scalar stays one where aliases are left out
+pub scalar_but_alias : (properties : Properties) (standing : Standing) (value : Option Text)
+    → option_and_then (λ tree. if is_alias tree then None else Some tree) (scalar_said properties standing value) ≡ scalar_said properties standing value
+scalar_but_alias properties standing None = refl
+scalar_but_alias properties standing (Some text) = by (tagging_said properties.tag standing)
+  where
+    by : (tagging : Option Tagging)
+        → option_and_then (λ tree. if is_alias tree then None else Some tree) (option_map (λ tagging. scalar_tree properties.anchor tagging text) tagging)
+        ≡ option_map (λ tagging. scalar_tree properties.anchor tagging text) tagging
+    by None = refl
+    by (Some tagging) = refl
+
+-- a word that begins with a double quote is a scalar in such quotes
+word_of_double : (rules : Rules) (flow : Bool) (t : Text)
+    → word_read rules flow (0x22 ∷ t) ≡ scalar_of_style double_quoted rules flow None no_properties (0x22 ∷ t)
+word_of_double rules flow [] = refl
+word_of_double rules flow (c ∷ []) = refl
+word_of_double rules flow (c ∷ d ∷ t) = refl
+
+-- one that begins with a single quote, in such quotes
+word_of_single : (rules : Rules) (flow : Bool) (t : Text)
+    → word_read rules flow (0x27 ∷ t) ≡ scalar_of_style single_quoted rules flow None no_properties (0x27 ∷ t)
+word_of_single rules flow [] = refl
+word_of_single rules flow (c ∷ []) = refl
+word_of_single rules flow (c ∷ d ∷ t) = refl
+
+-- a text that begins with a quote is no alias before a space
+pub no_alias_before : (rules : Rules) (q : ℕ) (t : Text) → (q == space) ≡ false → ((u : Text) → word_of_alias rules (q ∷ u) ≡ None)
+    → option_and_then (word_of_alias rules) (without_last_space (q ∷ t)) ≡ None
+no_alias_before rules q [] other none = ap (λ x. option_and_then (word_of_alias rules) (if x then Some [] else None)) other
+no_alias_before rules q (d ∷ t) other none = by (without_last_space (d ∷ t))
+  where
+    by : (u : Option Text) → option_and_then (word_of_alias rules) (option_map (λ text. q ∷ text) u) ≡ None
+    by None = refl
+    by (Some u) = none u
+
+pub double_no_alias : (rules : Rules) (u : Text) → word_of_alias rules (0x22 ∷ u) ≡ None
+double_no_alias rules u =
+    ap (option_and_then (λ tree. if is_alias tree then Some tree else None)) (word_of_double rules false u)
+    ∙ scalar_no_alias no_properties stood_quoted (if is_tidy double_quoted rules.breaks12 None (0x22 ∷ u) then read_double rules.breaks12 (0x22 ∷ u) else None)
+
+pub single_no_alias : (rules : Rules) (u : Text) → word_of_alias rules (0x27 ∷ u) ≡ None
+single_no_alias rules u =
+    ap (option_and_then (λ tree. if is_alias tree then Some tree else None)) (word_of_single rules false u)
+    ∙ scalar_no_alias no_properties stood_quoted (if is_tidy single_quoted rules.breaks12 None (0x27 ∷ u) then read_single rules.breaks12 (0x27 ∷ u) else None)
+
+-- a text is a key where the word is, if no alias stands before its last space
+pub key_by_word : (rules : Rules) (text : Text) (word : Option Tree) → word_but_alias rules text ≡ word
+    → option_and_then (word_of_alias rules) (without_last_space text) ≡ None
+    → key_of_text rules text ≡ (if nat_le (length text) longest_key then word else None)
+key_by_word rules text word e none =
+    ap (λ x. if nat_le (length text) longest_key then option_or x (option_and_then (word_of_alias rules) (without_last_space text)) else None) e
+    ∙ ap (λ x. if nat_le (length text) longest_key then option_or word x else None) none
+    ∙ ap (λ x. if nat_le (length text) longest_key then x else None) (alone word)
+  where
+    alone : (word : Option Tree) → option_or word None ≡ word
+    alone None = refl
+    alone (Some tree) = refl
+
+-- what is said of a quoted value
+abbrev quoted_said : Option Text → Option Tree
+quoted_said value = scalar_said no_properties stood_quoted value
+
+-- one of two that are nothing
+neither : (x : Bool) → ◌≡◌ {A = Option Tree} (if x then None else None) None
+neither true = refl
+neither false = refl
+
+abbrev if_tidy_double : Rules → Text → Option Text → Option Text
+if_tidy_double rules text value = if is_tidy double_quoted rules.breaks12 None text then value else None
+
+double_key_text : (rules : Rules) (t : Text) (value : Option Text) → read_double rules.breaks12 (0x22 ∷ t) ≡ value
+    → key_of_text rules (0x22 ∷ t) ≡ (if nat_le (length (0x22 ∷ t)) longest_key then quoted_said (if_tidy_double rules (0x22 ∷ t) value) else None)
+double_key_text rules t value e =
+    key_by_word rules (0x22 ∷ t) (quoted_said (if_tidy_double rules (0x22 ∷ t) value))
+    (ap (option_and_then (λ tree. if is_alias tree then None else Some tree)) (word_of_double rules false t)
+    ∙ scalar_but_alias no_properties stood_quoted (if_tidy_double rules (0x22 ∷ t) (read_double rules.breaks12 (0x22 ∷ t)))
+    ∙ ap (λ v. quoted_said (if_tidy_double rules (0x22 ∷ t) v)) e)
+    (no_alias_before rules 0x22 t refl (double_no_alias rules))
+
+abbrev if_tidy_single : Rules → Text → Option Text → Option Text
+if_tidy_single rules text value = if is_tidy single_quoted rules.breaks12 None text then value else None
+
+single_key_text : (rules : Rules) (t : Text) (value : Option Text) → read_single rules.breaks12 (0x27 ∷ t) ≡ value
+    → key_of_text rules (0x27 ∷ t) ≡ (if nat_le (length (0x27 ∷ t)) longest_key then quoted_said (if_tidy_single rules (0x27 ∷ t) value) else None)
+single_key_text rules t value e =
+    key_by_word rules (0x27 ∷ t) (quoted_said (if_tidy_single rules (0x27 ∷ t) value))
+    (ap (option_and_then (λ tree. if is_alias tree then None else Some tree)) (word_of_single rules false t)
+    ∙ scalar_but_alias no_properties stood_quoted (if_tidy_single rules (0x27 ∷ t) (read_single rules.breaks12 (0x27 ∷ t)))
+    ∙ ap (λ v. quoted_said (if_tidy_single rules (0x27 ∷ t) v)) e)
+    (no_alias_before rules 0x27 t refl (single_no_alias rules))
+
+-- nothing is said of no value
+nothing_if : (x : Bool) → ◌≡◌ {A = Option Tree} (quoted_said (if x then None else None)) None
+nothing_if true = refl
+nothing_if false = refl
+
+double_no_text : (rules : Rules) (t : Text) → read_double rules.breaks12 (0x22 ∷ t) ≡ None → key_of_text rules (0x22 ∷ t) ≡ None
+double_no_text rules t none =
+    double_key_text rules t None none
+    ∙ ap (λ x. if nat_le (length (0x22 ∷ t)) longest_key then x else None) (nothing_if (is_tidy double_quoted rules.breaks12 None (0x22 ∷ t)))
+    ∙ neither (nat_le (length (0x22 ∷ t)) longest_key)
+
+single_no_text : (rules : Rules) (t : Text) → read_single rules.breaks12 (0x27 ∷ t) ≡ None → key_of_text rules (0x27 ∷ t) ≡ None
+single_no_text rules t none =
+    single_key_text rules t None none
+    ∙ ap (λ x. if nat_le (length (0x27 ∷ t)) longest_key then x else None) (nothing_if (is_tidy single_quoted rules.breaks12 None (0x27 ∷ t)))
+    ∙ neither (nat_le (length (0x27 ∷ t)) longest_key)
+
+double_no_key : (rules : Rules) (b t after v : Text) → read_double rules.breaks12 ((0x22 ∷ b) ++ t) ≡ Some v → NoKey rules (0x22 ∷ b) t after
+double_no_key rules b [] after v read = tt
+double_no_key rules b (c ∷ t) after v read = (
+  λ h. double_no_text rules b (double_quoted_whole rules.breaks12 (0x22 ∷ b) c t v read),
+  double_no_key rules (b ++ (c ∷ [])) t after v (ap (read_double rules.breaks12) (append_assoc (0x22 ∷ b) (c ∷ []) t) ∙ read),
+)
+
+single_no_key : (rules : Rules) (b t after v : Text) → read_single rules.breaks12 ((0x27 ∷ b) ++ t) ≡ Some v → NoKey rules (0x27 ∷ b) t after
+single_no_key rules b [] after v read = tt
+single_no_key rules b (c ∷ t) after v read = (
+  λ h. single_no_text rules b
+      (single_quoted_whole rules.breaks12 (0x27 ∷ b) c t v
+      (ap (λ n. n == 39) (eqb-true c 0x3A (and_parts (c == 0x3A) (ends_sign (t ++ (0x3A ∷ after))) h).0)) read),
+  single_no_key rules (b ++ (c ∷ [])) t after v (ap (read_single rules.breaks12) (append_assoc (0x27 ∷ b) (c ∷ []) t) ∙ read),
+)
+
+-- the tree of a scalar in quotes
+abbrev pub quoted_tree : Text → Tree
+quoted_tree value = scalar_tree None (without_tag stood_quoted) value
+
+-- a tidy text in double quotes that isn't too long is a simple key before `:`
+pub double_quoted_key : (rules : Rules) (t after v : Text) → read_double rules.breaks12 (0x22 ∷ t) ≡ Some v
+    → is_tidy double_quoted rules.breaks12 None (0x22 ∷ t) ≡ true → nat_le (length (0x22 ∷ t)) longest_key ≡ true → ends_sign after ≡ true
+    → key_of_line rules ((0x22 ∷ t) ++ (0x3A ∷ after)) ≡ found (quoted_tree v) (0x22 ∷ t) after
+double_quoted_key rules t after v read tidy short h =
+    key_found rules [] (0x22 ∷ t) after (quoted_tree v) (λ e. absurd (false≢true e), double_no_key rules [] t after v read)
+    (double_key_text rules t (Some v) read
+    ∙ ap (λ x. if x then quoted_said (if_tidy_double rules (0x22 ∷ t) (Some v)) else None) short
+    ∙ ap (λ x. quoted_said (if x then Some v else None)) tidy)
+    h
+
+-- and so is one in single quotes
+pub single_quoted_key : (rules : Rules) (t after v : Text) → read_single rules.breaks12 (0x27 ∷ t) ≡ Some v
+    → is_tidy single_quoted rules.breaks12 None (0x27 ∷ t) ≡ true → nat_le (length (0x27 ∷ t)) longest_key ≡ true → ends_sign after ≡ true
+    → key_of_line rules ((0x27 ∷ t) ++ (0x3A ∷ after)) ≡ found (quoted_tree v) (0x27 ∷ t) after
+single_quoted_key rules t after v read tidy short h =
+    key_found rules [] (0x27 ∷ t) after (quoted_tree v) (λ e. absurd (false≢true e), single_no_key rules [] t after v read)
+    (single_key_text rules t (Some v) read
+    ∙ ap (λ x. if x then quoted_said (if_tidy_single rules (0x27 ∷ t) (Some v)) else None) short
+    ∙ ap (λ x. quoted_said (if x then Some v else None)) tidy)
+    h

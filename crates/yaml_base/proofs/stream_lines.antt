@@ -1,0 +1,12 @@
+pub mod StreamLineLaws
+pub mod StreamInside
+pub mod StreamCuts
+pub mod StreamBytes
+pub mod StreamSections
+pub mod StreamTidyLaws
+pub mod StreamClosed
+pub mod StreamUnmarked
+pub mod StreamStrip
+pub mod StreamUnread
+pub mod StreamDeepBreaks
+pub mod StreamBlockEnds

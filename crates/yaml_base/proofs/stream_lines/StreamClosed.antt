@@ -1,0 +1,171 @@
+-- How a node's text leaves off: at a line's start, or before the break that the next new line begins with.
+use Rattle.std.proofs.Common.{◌≡◌, zero, suc, ◌≤◌, refl, sym, ap, ◌∙◌, append-nil, arith}
+use Rattle.std.proofs.lemmas.Bool.{le-ltb, and_parts, and_from, or_parts}
+use Rattle.std.specs.Prelude.{ℕ, Bool, true, false, List, [], ◌∷◌, ◌++◌, ◌+◌, ◌-◌, ◌==◌, ◌||◌, ◌&&◌, not, nat_lt, if◌then◌else◌}
+use Rattle.std.specs.List.{list_all, list_any}
+use Rattle.yaml_base.specs.Characters.{Text, line_feed, space}
+use Rattle.yaml_base.specs.LineBreaks.{is_read_break}
+use Rattle.yaml_base.specs.Cursor.{Cursor, Laid, new_line}
+use Rattle.yaml_base.specs.StreamLines.{Line, character_before, extending, lines_of, ends_sign, is_inside, spaces}
+use Rattle.yaml_base.proofs.stream_lines.StreamLineLaws.{is_closed, OneLine}
+use Rattle.yaml_base.proofs.stream_lines.StreamInside.{AllInside, inside_deeper}
+use Rattle.yaml_base.proofs.stream_lines.StreamTidyLaws.{lines_after_first}
+
+-- Cursors
+
+-- the break that a new line begins with, which is there already where indentation goes on
+abbrev pub closing : Cursor → Text
+closing cursor = if cursor.indention then [] else line_feed ∷ []
+
+-- a text up to the end of its last line
+abbrev pub closed : Laid → Text
+closed laid = laid.text ++ closing laid.cursor
+
+-- indentation goes on only where a line begins
+abbrev pub Settled : Cursor → Type 0
+Settled cursor = cursor.indention ≡ true → (cursor.column ≡ 0) × (cursor.whitespace ≡ true)
+
+-- a new line closes the line before it and begins with its spaces
+pub new_line_closes : (e : ℕ) (cursor : Cursor) → Settled cursor → (new_line e cursor).text ≡ closing cursor ++ spaces e
+new_line_closes e cursor settled = by cursor.indention refl
+  where
+    at_margin : (e : ℕ) → (if nat_lt e 0 || ((0 == e) && false) then line_feed ∷ spaces e else spaces (e - 0)) ≡ spaces e
+    at_margin e =
+        ap (λ x. if x || ((0 == e) && false) then line_feed ∷ spaces e else spaces (e - 0)) (le-ltb e 0 (omega arith))
+        ∙ ap (λ x. if x then line_feed ∷ spaces e else spaces (e - 0)) (and_false (0 == e))
+        ∙ ap spaces minus_zero
+      where
+        and_false : (x : Bool) → x && false ≡ false
+        and_false true = refl
+        and_false false = refl
+
+        minus_zero : e - 0 ≡ e
+        minus_zero = omega arith
+
+    by : (x : Bool) → cursor.indention ≡ x
+        → (if not x || nat_lt e cursor.column || ((cursor.column == e) && not cursor.whitespace) then line_feed ∷ spaces e else spaces (e - cursor.column))
+        ≡ (if x then [] else line_feed ∷ []) ++ spaces e
+    by false h = refl
+    by true h =
+        ap (λ c. if nat_lt e c || ((c == e) && not cursor.whitespace) then line_feed ∷ spaces e else spaces (e - c)) (settled h).0
+        ∙ ap (λ w. if nat_lt e 0 || ((0 == e) && not w) then line_feed ∷ spaces e else spaces (e - 0)) (settled h).1
+        ∙ at_margin e
+
+-- the cursor behind the sign of an entry at a column
+abbrev pub sign_cursor : ℕ → Cursor
+sign_cursor e = record { column = e + 1; whitespace = false; indention = true }
+
+-- the cursor where an entry at a column begins
+abbrev pub margin_cursor : ℕ → Cursor
+margin_cursor e = record { column = e; whitespace = true; indention = true }
+
+-- Lines
+
+-- a space breaks no line
+space_goes_on : (breaks12 : Bool) → is_read_break breaks12 space ≡ false
+space_goes_on true = refl
+space_goes_on false = refl
+
+-- spaces are on one line
+pub spaces_line : (breaks12 : Bool) (k : ℕ) → OneLine breaks12 (spaces k)
+spaces_line breaks12 zero = refl
+spaces_line breaks12 (suc k) = ap (λ x. x || list_any (is_read_break breaks12) (spaces k)) (space_goes_on breaks12) ∙ spaces_line breaks12 k
+
+-- a character that breaks no line
+pub character_line : (breaks12 : Bool) (c : ℕ) (a : Text) → is_read_break breaks12 c ≡ false → OneLine breaks12 a → OneLine breaks12 (c ∷ a)
+character_line breaks12 c a h one = ap (λ x. x || list_any (is_read_break breaks12) a) h ∙ one
+
+-- a text whose lines begin with this one
+pub record Begins (breaks12 : Bool) (text : Text) : Type 0 where
+  pub head : Text
+  pub ending : Text
+  pub rest : List Line
+  pub is : lines_of breaks12 text ≡ record { text = head; ending = ending } ∷ rest
+
+-- any text that isn't empty
+pub begins_cons : (breaks12 : Bool) (c : ℕ) (t : Text) → Begins breaks12 (c ∷ t)
+begins_cons breaks12 c t = by (is_read_break breaks12 c) refl (lines_of breaks12 t) refl
+  where
+    by : (x : Bool) → is_read_break breaks12 c ≡ x → (lines : List Line) → lines_of breaks12 t ≡ lines → Begins breaks12 (c ∷ t)
+    by true h lines e = record { head = []; ending = c ∷ []; rest = lines_of breaks12 t; is = ap (λ x. character_before x c (lines_of breaks12 t)) h }
+    by false h [] e = record { head = c ∷ []; ending = []; rest = []; is = ap (λ x. character_before x c (lines_of breaks12 t)) h ∙ ap (extending c) e }
+    by false h (line ∷ rest) e = record {
+      head = c ∷ line.text;
+      ending = line.ending;
+      rest = rest;
+      is = ap (λ x. character_before x c (lines_of breaks12 t)) h ∙ ap (extending c) e;
+    }
+
+-- a text on one line stands before the first line of what follows
+pub lines_behind : (breaks12 : Bool) (a t head ending : Text) (rest : List Line) → OneLine breaks12 a
+    → lines_of breaks12 t ≡ record { text = head; ending = ending } ∷ rest
+    → lines_of breaks12 (a ++ t) ≡ record { text = a ++ head; ending = ending } ∷ rest
+lines_behind breaks12 [] t head ending rest one is = is
+lines_behind breaks12 (c ∷ a) t head ending rest one is =
+    let parts : (is_read_break breaks12 c ≡ false) × OneLine breaks12 a = or_parts (is_read_break breaks12 c) (list_any (is_read_break breaks12) a) one in
+    ap (λ x. character_before x c (lines_of breaks12 (a ++ t))) parts.0
+    ∙ ap (extending c) (lines_behind breaks12 a t head ending rest parts.1 is)
+
+-- it moves no line but the first
+pub after_line : (breaks12 : Bool) (a t : Text) → OneLine breaks12 a
+    → lines_after_first (lines_of breaks12 (a ++ t)) ≡ lines_after_first (lines_of breaks12 t)
+after_line breaks12 [] t one = refl
+after_line breaks12 (c ∷ a) t one =
+    let parts : (is_read_break breaks12 c ≡ false) × OneLine breaks12 a = or_parts (is_read_break breaks12 c) (list_any (is_read_break breaks12) a) one in
+    ap (λ x. lines_after_first (character_before x c (lines_of breaks12 (a ++ t)))) parts.0
+    ∙ extended (lines_of breaks12 (a ++ t)) ∙ after_line breaks12 a t parts.1
+  where
+    extended : (lines : List Line) → lines_after_first (extending c lines) ≡ lines_after_first lines
+    extended [] = refl
+    extended (line ∷ rest) = refl
+
+-- a text on one line, and its break
+pub lines_broken : (breaks12 : Bool) (a t : Text) → OneLine breaks12 a
+    → lines_of breaks12 (a ++ (line_feed ∷ t)) ≡ record { text = a; ending = line_feed ∷ [] } ∷ lines_of breaks12 t
+lines_broken breaks12 a t one =
+    lines_behind breaks12 a (line_feed ∷ t) [] (line_feed ∷ []) (lines_of breaks12 t) one refl
+    ∙ ap (λ h. record { text = h; ending = line_feed ∷ [] } ∷ lines_of breaks12 t) (append-nil a)
+
+-- Texts that end with a break
+
+-- a text before one that ends with a break
+pub closed_behind : (breaks12 : Bool) (a : Text) (c : ℕ) (t : Text) → is_closed breaks12 (c ∷ t) ≡ true → is_closed breaks12 (a ++ (c ∷ t)) ≡ true
+closed_behind breaks12 [] c t h = h
+closed_behind breaks12 (d ∷ []) c t h = h
+closed_behind breaks12 (d ∷ e ∷ a) c t h = closed_behind breaks12 (e ∷ a) c t h
+
+-- a text ends as what stands at its end
+pub closed_alike : (breaks12 : Bool) (a b : Text) (c : ℕ) (t : Text) → is_closed breaks12 (b ++ (c ∷ t)) ≡ true → is_closed breaks12 (a ++ (c ∷ t)) ≡ true
+closed_alike breaks12 a b c t h = closed_behind breaks12 a c t (sym (ends b) ∙ h)
+  where
+    ends : (b : Text) → is_closed breaks12 (b ++ (c ∷ t)) ≡ is_closed breaks12 (c ∷ t)
+    ends [] = refl
+    ends (d ∷ []) = refl
+    ends (d ∷ e ∷ b) = ends (e ∷ b)
+
+-- two that do, or are empty
+pub closed_both : (breaks12 : Bool) (a t : Text) → is_closed breaks12 a ≡ true → is_closed breaks12 t ≡ true → is_closed breaks12 (a ++ t) ≡ true
+closed_both breaks12 a [] h k = ap (is_closed breaks12) (append-nil a) ∙ h
+closed_both breaks12 a (c ∷ t) h k = closed_behind breaks12 a c t k
+
+-- Inside
+
+-- one column more for a `-` at the column of a sequence
+abbrev pub rank : Bool → ℕ
+rank true = 1
+rank false = 0
+
+-- a `-` at a column of no sequence farther out
+pub dash_inside : (s : Bool) (d e : ℕ) (t : Text) → d + rank s ≤ e → ends_sign t ≡ true → is_inside s d (spaces e ++ (0x2D ∷ t)) ≡ true
+dash_inside true d e t h k = inside_deeper true d e (0x2D ∷ t) (omega arith)
+dash_inside false zero zero t h k = k
+dash_inside false zero (suc e) t h k = refl
+dash_inside false (suc d) zero t h k = absurd (omega arith)
+dash_inside false (suc d) (suc e) t h k = dash_inside false d e t (omega arith) k
+
+-- lines, and then others
+pub inside_both : (s : Bool) (d : ℕ) (a b : List Line) → AllInside s d a → AllInside s d b → AllInside s d (a ++ b)
+inside_both s d [] b h k = k
+inside_both s d (line ∷ a) b h k =
+    let parts = and_parts (is_inside s d line.text) (list_all (λ line. is_inside s d line.text) a) h in
+    and_from (is_inside s d line.text) (list_all (λ line. is_inside s d line.text) (a ++ b)) parts.0 (inside_both s d a b parts.1 k)

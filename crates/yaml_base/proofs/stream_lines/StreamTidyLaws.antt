@@ -1,0 +1,140 @@
+-- The lines of a tidy text after its first lie inside the column of the block around, and of any block farther out.
+use Rattle.std.proofs.Common.{◌≡◌, zero, suc, ◌≤◌, refl, ap, ◌∙◌, arith}
+use Rattle.std.proofs.lemmas.Bool.{false≢true, eqb-true, and_parts, and_from}
+use Rattle.std.specs.List.{list_all}
+use Rattle.std.specs.Prelude.{ℕ, Bool, true, false, Option, None, Some, List, [], ◌∷◌, ◌==◌, ◌||◌, ◌&&◌, not}
+use Rattle.yaml_base.specs.Characters.{Text, space, is_printable}
+use Rattle.yaml_base.specs.LineBreaks.{is_read_break}
+use Rattle.yaml_base.specs.Event.{ScalarStyle}
+use Rattle.yaml_base.specs.TidyBodies.{ends_line, begins_with_spaces, begins_with_blank_line, begins_with_deep_line, has_deep_lines, is_tidy_style, is_tidy}
+use Rattle.yaml_base.specs.StreamLines.{Line, extending, character_before, lines_of, is_inside}
+use Rattle.yaml_base.proofs.stream_lines.StreamInside.{AllInside}
+
+-- Fewer spaces
+
+-- fewer spaces than stand there
+pub spaces_fewer : (m n : ℕ) (t : Text) → m ≤ n → begins_with_spaces n t ≡ true → begins_with_spaces m t ≡ true
+spaces_fewer zero n t le h = refl
+spaces_fewer (suc m) zero t le h = absurd (omega arith)
+spaces_fewer (suc m) (suc n) [] le h = absurd (false≢true h)
+spaces_fewer (suc m) (suc n) (c ∷ t) le h =
+    let parts = and_parts (c == space) (begins_with_spaces n t) h in
+    and_from (c == space) (begins_with_spaces m t) parts.0 (spaces_fewer m n t (omega arith) parts.1)
+
+deep_line_fewer : (breaks12 : Bool) (m n : ℕ) (t : Text) → m ≤ n → begins_with_deep_line breaks12 n t ≡ true → begins_with_deep_line breaks12 m t ≡ true
+deep_line_fewer breaks12 m n t le h = by (ends_line breaks12 t) h
+  where
+    by : (x : Bool) → (x || (begins_with_spaces n t && not (begins_with_blank_line breaks12 t))) ≡ true
+        → (x || (begins_with_spaces m t && not (begins_with_blank_line breaks12 t))) ≡ true
+    by true h = refl
+    by false h =
+        let parts = and_parts (begins_with_spaces n t) (not (begins_with_blank_line breaks12 t)) h in
+        and_from (begins_with_spaces m t) (not (begins_with_blank_line breaks12 t)) (spaces_fewer m n t le parts.0) parts.1
+
+-- lines that are deep enough for a block are deep enough for one farther out
+pub deep_lines_fewer : (breaks12 : Bool) (m n : ℕ) (t : Text) → m ≤ n → has_deep_lines breaks12 n t ≡ true → has_deep_lines breaks12 m t ≡ true
+deep_lines_fewer breaks12 m n [] le h = refl
+deep_lines_fewer breaks12 m n (c ∷ t) le h =
+    let parts = and_parts (not (is_read_break breaks12 c) || begins_with_deep_line breaks12 n t) (has_deep_lines breaks12 n t) h in
+    and_from (not (is_read_break breaks12 c) || begins_with_deep_line breaks12 m t) (has_deep_lines breaks12 m t)
+    (by (is_read_break breaks12 c) parts.0) (deep_lines_fewer breaks12 m n t le parts.1)
+  where
+    by : (x : Bool) → (not x || begins_with_deep_line breaks12 n t) ≡ true → (not x || begins_with_deep_line breaks12 m t) ≡ true
+    by true h = deep_line_fewer breaks12 m n t le h
+    by false h = refl
+
+-- a text that is tidy in a block is tidy at the root
+pub tidy_at_root : (style : ScalarStyle) (breaks12 : Bool) (column : Option ℕ) (text : Text) → is_tidy style breaks12 column text ≡ true
+    → is_tidy style breaks12 None text ≡ true
+tidy_at_root style breaks12 None text h = h
+tidy_at_root style breaks12 (Some column) text h =
+    let parts = and_parts (list_all is_printable text && has_deep_lines breaks12 (suc column) text) (is_tidy_style style breaks12 text) h in
+    let both = and_parts (list_all is_printable text) (has_deep_lines breaks12 (suc column) text) parts.0 in
+    and_from (list_all is_printable text && has_deep_lines breaks12 1 text) (is_tidy_style style breaks12 text)
+    (and_from (list_all is_printable text) (has_deep_lines breaks12 1 text) both.0 (deep_lines_fewer breaks12 1 (suc column) text (omega arith) both.1))
+    parts.1
+
+-- Lines
+
+-- the text of the first of some lines
+abbrev pub first_text : List Line → Text
+first_text [] = []
+first_text (line ∷ rest) = line.text
+
+-- the lines after the first
+abbrev pub lines_after_first : List Line → List Line
+lines_after_first [] = []
+lines_after_first (line ∷ rest) = rest
+
+pub first_extended : (c : ℕ) (lines : List Line) → first_text (extending c lines) ≡ c ∷ first_text lines
+first_extended c [] = refl
+first_extended c (line ∷ rest) = refl
+
+pub after_extended : (c : ℕ) (lines : List Line) → lines_after_first (extending c lines) ≡ lines_after_first lines
+after_extended c [] = refl
+after_extended c (line ∷ rest) = refl
+
+-- a space is no break
+no_break : (breaks12 : Bool) (c : ℕ) → (c == space) ≡ true → is_read_break breaks12 c ≡ false
+no_break breaks12 c e = ap (is_read_break breaks12) (eqb-true c space e) ∙ by breaks12
+  where
+    by : (x : Bool) → is_read_break x space ≡ false
+    by true = refl
+    by false = refl
+
+-- a character that is a space begins the first line
+first_after_space : (breaks12 : Bool) (c : ℕ) (t : Text) → (c == space) ≡ true → first_text (lines_of breaks12 (c ∷ t)) ≡ c ∷ first_text (lines_of breaks12 t)
+first_after_space breaks12 c t e =
+    ap (λ x. first_text (character_before x c (lines_of breaks12 t))) (no_break breaks12 c e) ∙ first_extended c (lines_of breaks12 t)
+
+-- so many spaces begin a line inside the column before them
+pub spaces_inside : (breaks12 : Bool) (column : ℕ) (t : Text) → begins_with_spaces (suc column) t ≡ true
+    → is_inside true column (first_text (lines_of breaks12 t)) ≡ true
+spaces_inside breaks12 column [] h = absurd (false≢true h)
+spaces_inside breaks12 zero (c ∷ t) h =
+    let parts = and_parts (c == space) true h in
+    ap (is_inside true zero) (first_after_space breaks12 c t parts.0) ∙ ap (λ x. x || false) parts.0
+spaces_inside breaks12 (suc column) (c ∷ t) h =
+    let parts = and_parts (c == space) (begins_with_spaces (suc column) t) h in
+    ap (is_inside true (suc column)) (first_after_space breaks12 c t parts.0)
+    ∙ and_from (c == space) (is_inside true column (first_text (lines_of breaks12 t))) parts.0 (spaces_inside breaks12 column t parts.1)
+
+-- a deep line lies inside the column
+first_inside : (breaks12 : Bool) (column : ℕ) (t : Text) → begins_with_deep_line breaks12 (suc column) t ≡ true
+    → is_inside true column (first_text (lines_of breaks12 t)) ≡ true
+first_inside breaks12 column [] h = refl
+first_inside breaks12 column (c ∷ t) h = by (is_read_break breaks12 c) refl h
+  where
+    by : (x : Bool) → is_read_break breaks12 c ≡ x
+        → (x || (begins_with_spaces (suc column) (c ∷ t) && not (begins_with_blank_line breaks12 (c ∷ t)))) ≡ true
+        → is_inside true column (first_text (lines_of breaks12 (c ∷ t))) ≡ true
+    by true e h = ap (λ b. is_inside true column (first_text (character_before b c (lines_of breaks12 t)))) e
+    by false e h =
+        spaces_inside breaks12 column (c ∷ t) (and_parts (begins_with_spaces (suc column) (c ∷ t)) (not (begins_with_blank_line breaks12 (c ∷ t))) h).0
+
+-- the first line and those after it
+all_inside : (column : ℕ) (lines : List Line) → is_inside true column (first_text lines) ≡ true → AllInside true column (lines_after_first lines)
+    → AllInside true column lines
+all_inside column [] h k = refl
+all_inside column (line ∷ rest) h k = and_from (is_inside true column line.text) (list_all (λ line. is_inside true column line.text) rest) h k
+
+-- the lines of a text after its first are inside the column where they are deep
+pub deep_lines_inside : (breaks12 : Bool) (column : ℕ) (t : Text) → has_deep_lines breaks12 (suc column) t ≡ true
+    → AllInside true column (lines_after_first (lines_of breaks12 t))
+deep_lines_inside breaks12 column [] h = refl
+deep_lines_inside breaks12 column (c ∷ t) h =
+    let parts = and_parts (not (is_read_break breaks12 c) || begins_with_deep_line breaks12 (suc column) t) (has_deep_lines breaks12 (suc column) t) h in
+    by (is_read_break breaks12 c) parts.0 (deep_lines_inside breaks12 column t parts.1)
+  where
+    by : (x : Bool) → (not x || begins_with_deep_line breaks12 (suc column) t) ≡ true → AllInside true column (lines_after_first (lines_of breaks12 t))
+        → AllInside true column (lines_after_first (character_before x c (lines_of breaks12 t)))
+    by true deep ih = all_inside column (lines_of breaks12 t) (first_inside breaks12 column t deep) ih
+    by false deep ih = ap (λ ls. list_all (λ line. is_inside true column line.text) ls) (after_extended c (lines_of breaks12 t)) ∙ ih
+
+-- so it is for a tidy text
+pub tidy_lines_inside : (style : ScalarStyle) (breaks12 : Bool) (column : ℕ) (text : Text) → is_tidy style breaks12 (Some column) text ≡ true
+    → AllInside true column (lines_after_first (lines_of breaks12 text))
+tidy_lines_inside style breaks12 column text h =
+    deep_lines_inside breaks12 column text
+    (and_parts (list_all is_printable text) (has_deep_lines breaks12 (suc column) text)
+    (and_parts (list_all is_printable text && has_deep_lines breaks12 (suc column) text) (is_tidy_style style breaks12 text) h).0).1

@@ -1,0 +1,157 @@
+-- An alias that is no simple key fits where it stands in a block.
+use Rattle.std.proofs.Common.{◌≡◌, ◌<◌, refl, sym, ap, ◌∙◌, append_assoc, append-nil, arith, subst}
+use Rattle.std.proofs.lemmas.Bool.{true≢false, false≢true, eqb-true, and_parts}
+use Rattle.std.specs.List.{list_all, list_any}
+use Rattle.std.specs.Option.{option_or}
+use Rattle.std.specs.Prelude.{ℕ, Bool, true, false, Option, None, Some, List, [], ◌∷◌, ◌++◌, ◌==◌, ◌||◌, ◌&&◌, not, is_some, option_map, if◌then◌else◌}
+use Rattle.yaml_base.specs.Characters.{Text, is_alpha, line_feed, space, tab, line_separator, paragraph_separator}
+use Rattle.yaml_base.specs.LineBreaks.{is_read_break}
+use Rattle.yaml_base.specs.ReadPlain.{is_read_white}
+use Rattle.yaml_base.specs.Settings.{Effective}
+use Rattle.yaml_base.specs.Event.{TagDirective}
+use Rattle.yaml_base.specs.Cursor.{Cursor}
+use Rattle.yaml_base.specs.Grammar.{alias_node}
+use Rattle.yaml_base.specs.Layout.{Place, is_simple_at, alias_laid}
+use Rattle.yaml_base.specs.StreamContent.{alias_tree}
+use Rattle.yaml_base.specs.StreamLines.{ends_sign, all_deeper, spaces}
+use Rattle.yaml_base.specs.StreamScalars.{Rules, no_properties, word_after}
+use Rattle.yaml_base.specs.StreamNodes.{key_ends, key_from, trimmed, before_trimmed, begins_mapping, begins_text, kind_of_node}
+use Rattle.yaml_base.proofs.stream_lines.StreamLineLaws.{is_closed, OneLine}
+use Rattle.yaml_base.proofs.stream_lines.StreamClosed.{closed, lines_broken}
+use Rattle.yaml_base.proofs.stream_nodes.StreamFits.{Fits}
+use Rattle.yaml_base.proofs.stream_nodes.StreamBlocks.{below_ends}
+use Rattle.yaml_base.proofs.stream_nodes.StreamLeafFits.{TextReads, text_fits}
+use Rattle.yaml_base.proofs.stream_nodes.StreamNodesFit.{LeafFits}
+
+-- a letter of a name is none of what names don't hold
+other_letter : (c n : ℕ) → is_alpha n ≡ false → is_alpha c ≡ true → (c == n) ≡ false
+other_letter c n none h = by (c == n) refl
+  where
+    by : (x : Bool) → (c == n) ≡ x → x ≡ false
+    by true e = absurd (true≢false (sym h ∙ ap is_alpha (eqb-true c n e) ∙ none))
+    by false e = refl
+
+-- a letter breaks no line
+letter_line : (breaks12 : Bool) (c : ℕ) → is_alpha c ≡ true → is_read_break breaks12 c ≡ false
+letter_line breaks12 c h =
+    ap (λ x. x || (not breaks12 && (c == line_separator || c == paragraph_separator))) (other_letter c line_feed refl h)
+    ∙ ap (λ x. not breaks12 && (x || c == paragraph_separator)) (other_letter c line_separator refl h)
+    ∙ ap (λ x. not breaks12 && x) (other_letter c paragraph_separator refl h)
+    ∙ by breaks12
+  where
+    by : (x : Bool) → not x && false ≡ false
+    by true = refl
+    by false = refl
+
+-- nor is it white
+letter_shows : (breaks12 : Bool) (c : ℕ) → is_alpha c ≡ true → is_read_white breaks12 c ≡ false
+letter_shows breaks12 c h =
+    ap (λ x. (x || c == tab) || is_read_break breaks12 c) (other_letter c space refl h)
+    ∙ ap (λ x. x || is_read_break breaks12 c) (other_letter c tab refl h)
+    ∙ letter_line breaks12 c h
+
+-- a name is on one line
+pub name_line : (breaks12 : Bool) (name : Text) → list_all is_alpha name ≡ true → OneLine breaks12 name
+name_line breaks12 [] h = refl
+name_line breaks12 (c ∷ name) h =
+    let parts = and_parts (is_alpha c) (list_all is_alpha name) h in
+    ap (λ x. x || list_any (is_read_break breaks12) name) (letter_line breaks12 c parts.0) ∙ name_line breaks12 name parts.1
+
+-- the break after it is cut off
+name_trimmed : (breaks12 : Bool) (name : Text) → list_all is_alpha name ≡ true → trimmed breaks12 (name ++ (line_feed ∷ [])) ≡ name
+name_trimmed true [] h = refl
+name_trimmed false [] h = refl
+name_trimmed breaks12 (c ∷ name) h =
+    let parts = and_parts (is_alpha c) (list_all is_alpha name) h in
+    ap (λ x. before_trimmed x c (trimmed breaks12 (name ++ (line_feed ∷ [])))) (letter_shows breaks12 c parts.0)
+    ∙ ap (λ t. c ∷ t) (name_trimmed breaks12 name parts.1)
+
+-- no key ends in it
+name_no_key : (rules : Rules) (before name : Text) → list_all is_alpha name ≡ true → key_from rules before name ≡ None
+name_no_key rules before [] h = refl
+name_no_key rules before (c ∷ name) h =
+    let parts = and_parts (is_alpha c) (list_all is_alpha name) h in
+    ap (λ x. option_or (key_ends rules (x && ends_sign name) before name) (key_from rules (before ++ c ∷ []) name)) (other_letter c 0x3A refl parts.0)
+    ∙ name_no_key rules (before ++ (c ∷ [])) name parts.1
+
+-- an alias is a text of its own
+alias_kind : (rules : Rules) (name : Text) → list_all is_alpha name ≡ true → kind_of_node rules (0x2A ∷ name) ≡ begins_text
+alias_kind rules name h = ap (λ key. if is_some key then begins_mapping else begins_text) (name_no_key rules (0x2A ∷ []) name h)
+
+-- an alias is on one line
+star_line : (breaks12 : Bool) (name : Text) → list_all is_alpha name ≡ true → OneLine breaks12 (0x2A ∷ name)
+star_line true name h = name_line true name h
+star_line false name h = name_line false name h
+
+-- the break after an alias is cut off
+star_trimmed : (breaks12 : Bool) (name : Text) → list_all is_alpha name ≡ true → trimmed breaks12 (0x2A ∷ (name ++ (line_feed ∷ []))) ≡ 0x2A ∷ name
+star_trimmed true name h = ap (λ t. 0x2A ∷ t) (name_trimmed true name h)
+star_trimmed false name h = ap (λ t. 0x2A ∷ t) (name_trimmed false name h)
+
+-- it reads as one
+alias_word : (rules : Rules) (column : Option ℕ) (n : ℕ) (t : Text) → list_all is_alpha (n ∷ t) ≡ true
+    → word_after rules false column no_properties (0x2A ∷ n ∷ t) ≡ Some (alias_tree (n ∷ t))
+alias_word rules column n t h = by t ∙ ap (λ x. option_map alias_tree (if x then Some (n ∷ t) else None)) h
+  where
+    by : (u : Text) → word_after rules false column no_properties (0x2A ∷ n ∷ u)
+        ≡ option_map alias_tree (if list_all is_alpha (n ∷ u) then Some (n ∷ u) else None)
+    by [] = refl
+    by (c ∷ u) = refl
+
+-- so does its line
+alias_read : (rules : Rules) (column : Option ℕ) (n : ℕ) (t : Text) → list_all is_alpha (n ∷ t) ≡ true
+    → (if all_deeper column [] then word_after rules false column no_properties (trimmed rules.breaks12 (0x2A ∷ n ∷ (t ++ (line_feed ∷ [])))) else None)
+    ≡ Some (alias_tree (n ∷ t))
+alias_read rules column n t h =
+    ap (λ x. if x then word_after rules false column no_properties (trimmed rules.breaks12 (0x2A ∷ n ∷ (t ++ (line_feed ∷ [])))) else None) (deeper column)
+    ∙ ap (word_after rules false column no_properties) (star_trimmed rules.breaks12 (n ∷ t) h) ∙ alias_word rules column n t h
+  where
+    deeper : (column : Option ℕ) → all_deeper column [] ≡ true
+    deeper None = refl
+    deeper (Some c) = refl
+
+-- so it reads on its line
+alias_reads : (rules : Rules) (column : Option ℕ) (n : ℕ) (t : Text) → list_all is_alpha (n ∷ t) ≡ true
+    → TextReads rules column ((0x2A ∷ n ∷ t) ++ (line_feed ∷ [])) (alias_tree (n ∷ t))
+alias_reads rules column n t h = record {
+  head = 0x2A;
+  first = n ∷ t;
+  ending = line_feed ∷ [];
+  rest = [];
+  is = lines_broken rules.breaks12 (0x2A ∷ n ∷ t) [] (star_line rules.breaks12 (n ∷ t) h);
+  shows = refl;
+  kind = alias_kind rules (n ∷ t) h;
+  deeper = λ c e. refl;
+  read = λ reads at. alias_read rules column n t h;
+}
+
+-- what is laid out for an alias, with the break after it
+alias_text : (n : ℕ) (t : Text) (cursor : Cursor) (count : ℕ) → (if true && not cursor.whitespace then space ∷ [] else []) ≡ spaces count
+    → closed (alias_laid (n ∷ t) false cursor) ≡ (spaces count ++ (0x2A ∷ n ∷ t)) ++ (line_feed ∷ [])
+alias_text n t cursor count h =
+    ap (λ u. u ++ (line_feed ∷ [])) (append-nil (((if true && not cursor.whitespace then space ∷ [] else []) ++ (0x2A ∷ [])) ++ (n ∷ t)))
+    ∙ ap (λ u. ((u ++ (0x2A ∷ [])) ++ (n ∷ t)) ++ (line_feed ∷ [])) h
+    ∙ ap (λ u. u ++ (line_feed ∷ [])) (append_assoc (spaces count) (0x2A ∷ []) (n ∷ t))
+
+-- an alias behind some spaces fits
+named_fits : (rules : Rules) (n : ℕ) (t : Text) (place : Place) (cursor : Cursor) (count : ℕ) → list_all is_alpha (n ∷ t) ≡ true
+    → (if true && not cursor.whitespace then space ∷ [] else []) ≡ spaces count → (cursor.whitespace ≡ false → 0 < count)
+    → Fits rules 1 (alias_laid (n ∷ t) false cursor) (alias_tree (n ∷ t)) place cursor
+named_fits rules n t place cursor count name spaced some =
+    let word = 0x2A ∷ n ∷ t in
+    let same = alias_text n t cursor count spaced in
+    text_fits rules (alias_laid (n ∷ t) false cursor) place cursor count (word ++ (line_feed ∷ [])) (alias_tree (n ∷ t))
+    (same ∙ append_assoc (spaces count) word (line_feed ∷ []))
+    (ap (is_closed rules.breaks12) same ∙ below_ends rules.breaks12 (spaces count ++ word) [] refl) (λ h. absurd (false≢true h)) some
+    (alias_reads rules place.column n t name)
+
+-- an alias that is no simple key fits
+pub alias_fits : (rules : Rules) (s : Effective) (directives : List TagDirective) (n : ℕ) (t : Text) (place : Place) (cursor : Cursor)
+    → list_all is_alpha (n ∷ t) ≡ true
+    → is_simple_at place s.canonical directives (alias_node (n ∷ t)) ≡ false → LeafFits rules s directives (alias_node (n ∷ t)) place cursor
+alias_fits rules s directives n t place cursor name simple =
+    subst (λ x. Fits rules 1 (alias_laid (n ∷ t) x cursor) (alias_tree (n ∷ t)) place cursor) (sym simple) (by cursor.whitespace refl)
+  where
+    by : (x : Bool) → cursor.whitespace ≡ x → Fits rules 1 (alias_laid (n ∷ t) false cursor) (alias_tree (n ∷ t)) place cursor
+    by true h = named_fits rules n t place cursor 0 name (ap (λ x. if true && not x then space ∷ [] else []) h) (λ w. absurd (true≢false (sym h ∙ w)))
+    by false h = named_fits rules n t place cursor 1 name (ap (λ x. if true && not x then space ∷ [] else []) h) (λ w. omega arith)

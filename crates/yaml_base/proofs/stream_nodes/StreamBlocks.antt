@@ -1,0 +1,360 @@
+-- A collection in a block, on the line of what stands before it or below, behind its properties or without them, fits where
+-- the text of its entries reads.
+use Rattle.std.proofs.Common.{◌≡◌, zero, suc, ◌≤◌, ◌<◌, refl, sym, ap, ◌∙◌, append_assoc, append-nil, arith, subst}
+use Rattle.std.proofs.lemmas.Bool.{and_parts}
+use Rattle.std.specs.Prelude.{ℕ, Bool, true, false, Option, None, Some, List, [], ◌∷◌, ◌++◌, ◌+◌, ◌-◌, ◌==◌, ◌||◌, ◌&&◌, not, nat_lt, if◌then◌else◌}
+use Rattle.std.specs.List.{list_all}
+use Rattle.yaml_base.specs.Characters.{Text, space, line_feed}
+use Rattle.yaml_base.specs.Cursor.{Cursor, Laid, nothing_laid, new_line}
+use Rattle.yaml_base.specs.Layout.{Place}
+use Rattle.yaml_base.specs.StreamContent.{Tree}
+use Rattle.yaml_base.specs.StreamLines.{Line, lines_of, ends_sign, is_spaces, without_blank_lines, begins_blank, is_inside, Indented, spaces, blanked}
+use Rattle.yaml_base.specs.StreamScalars.{Rules, Properties, no_properties, PropertiesRead, properties_read, collection_tag_said}
+use Rattle.yaml_base.specs.StreamNodes.{NodeKind, begins_text, kind_of_node, Reads, ReadsText, node_by_kind, node_at, node_lines, begins_properties, after_properties, text_or_properties, text_read, node_read}
+use Rattle.yaml_base.proofs.stream_lines.StreamLineLaws.{is_closed, OneLine, one_line_both}
+use Rattle.yaml_base.proofs.stream_lines.StreamInside.{AllInside, indented_spaces, not_blank, blank_spaces}
+use Rattle.yaml_base.proofs.stream_lines.StreamTidyLaws.{lines_after_first}
+use Rattle.yaml_base.proofs.stream_lines.StreamClosed.{closing, closed, Settled, spaces_line, lines_broken, lines_behind, begins_cons, after_line, closed_both, closed_alike}
+use Rattle.yaml_base.proofs.stream_nodes.StreamFits.{WithinColumn, Opens, Fits}
+use Rattle.yaml_base.proofs.stream_nodes.StreamItems.{Lays}
+
+-- Lines
+
+-- some lines, the first of which begins a node at a column
+pub record Opened (rules : Rules) (e : ℕ) (lines : List Line) (kind : NodeKind) : Type 0 where
+  pub head : ℕ
+  pub tail : Text
+  pub ending : Text
+  pub rest : List Line
+  pub is : lines ≡ record { text = spaces e ++ (head ∷ tail); ending = ending } ∷ rest
+  pub shows : (head == space) ≡ false
+  pub begins : kind_of_node rules (head ∷ tail) ≡ kind
+
+-- more lines behind them
+pub opened_more : (rules : Rules) (e : ℕ) (lines more : List Line) (kind : NodeKind) → Opened rules e lines kind → Opened rules e (lines ++ more) kind
+opened_more rules e lines more kind o = record {
+  head = o.head;
+  tail = o.tail;
+  ending = o.ending;
+  rest = o.rest ++ more;
+  is = ap (λ t. t ++ more) o.is;
+  shows = o.shows;
+  begins = o.begins;
+}
+
+-- the node that such lines begin is read by its kind
+pub opened_reads : (rules : Rules) (reads : Reads) (reads_text : ReadsText) (properties : Properties) (here first : Bool) (e : ℕ) (lines : List Line)
+    (kind : NodeKind) (o : Opened rules e lines kind)
+    → node_at rules reads reads_text properties here first lines
+    ≡ node_by_kind kind rules reads reads_text properties here first (record { column = e; text = o.head ∷ o.tail }) o.ending o.rest lines
+opened_reads rules reads reads_text properties here first e lines kind o =
+    let line : Line = record { text = spaces e ++ (o.head ∷ o.tail); ending = o.ending } in
+    let begun : Indented = record { column = e; text = o.head ∷ o.tail } in
+    ap (node_at rules reads reads_text properties here first) o.is
+    ∙ ap (λ (i : Indented). node_by_kind (kind_of_node rules i.text) rules reads reads_text properties here first i o.ending o.rest (line ∷ o.rest))
+    (indented_spaces e o.head o.tail o.shows)
+    ∙ ap (λ k. node_by_kind k rules reads reads_text properties here first begun o.ending o.rest (line ∷ o.rest)) o.begins
+    ∙ ap (node_by_kind kind rules reads reads_text properties here first begun o.ending o.rest) (sym o.is)
+
+-- no line is blank there
+pub opened_shows : (rules : Rules) (e : ℕ) (lines : List Line) (kind : NodeKind) → Opened rules e lines kind → (begins_blank lines ≡ false)
+    × (without_blank_lines lines ≡ lines)
+opened_shows rules e lines kind o =
+    let line : Line = record { text = spaces e ++ (o.head ∷ o.tail); ending = o.ending } in
+    let shown = not_blank e o.head o.tail o.shows in (
+      ap begins_blank o.is ∙ shown,
+      ap without_blank_lines o.is ∙ ap (λ x. if x then without_blank_lines o.rest else line ∷ o.rest) shown ∙ sym o.is,
+    )
+
+-- the text of a collection's entries at a column reads as a tree of its properties, at every depth from a size on
+pub record Block (rules : Rules) (size e : ℕ) (text : Text) (make : Option Text → Option Text → Tree) : Type 0 where
+  pub kind : NodeKind
+  pub opened : Opened rules e (lines_of rules.breaks12 text) kind
+  pub reads : (depth : ℕ) → size ≤ depth → (reads_text : ReadsText) (properties : Properties) (first : Bool) (tag : Option Text)
+      → collection_tag_said properties.tag ≡ Some tag
+      → node_at rules (node_read depth rules) reads_text properties true first (lines_of rules.breaks12 text) ≡ Some (make properties.anchor tag)
+
+-- it reads on these lines, and below a blank one
+block_below : (rules : Rules) (n e : ℕ) (text : Text) (make : Option Text → Option Text → Tree) → Block rules n e text make → (depth : ℕ) → n ≤ depth
+    → (reads_text : ReadsText) (properties : Properties) (tag : Option Text) → collection_tag_said properties.tag ≡ Some tag → (here : Bool) (line : Line)
+    → is_spaces line.text ≡ true
+    → node_lines rules (node_read depth rules) reads_text properties here (line ∷ lines_of rules.breaks12 text) ≡ Some (make properties.anchor tag)
+block_below rules n e text make block depth deep reads_text properties tag said here line blank =
+    let lines = lines_of rules.breaks12 text in
+    ap (λ x. node_at rules (node_read depth rules) reads_text properties (here || x) (not x) (if x then without_blank_lines lines else line ∷ lines)) blank
+    ∙ ap (λ x. node_at rules (node_read depth rules) reads_text properties x false (without_blank_lines lines)) (or_true here)
+    ∙ ap (node_at rules (node_read depth rules) reads_text properties true false) (opened_shows rules e lines block.kind block.opened).1
+    ∙ block.reads depth deep reads_text properties false tag said
+  where
+    or_true : (x : Bool) → x || true ≡ true
+    or_true true = refl
+    or_true false = refl
+
+-- and on its line where a block may begin
+block_on_line : (rules : Rules) (n e : ℕ) (text : Text) (make : Option Text → Option Text → Tree) → Block rules n e text make → (depth : ℕ) → n ≤ depth
+    → (reads_text : ReadsText) (properties : Properties) (tag : Option Text) → collection_tag_said properties.tag ≡ Some tag
+    → node_lines rules (node_read depth rules) reads_text properties true (lines_of rules.breaks12 text) ≡ Some (make properties.anchor tag)
+block_on_line rules n e text make block depth deep reads_text properties tag said =
+    let lines = lines_of rules.breaks12 text in
+    ap (λ ls. node_at rules (node_read depth rules) reads_text properties true (not (begins_blank lines)) ls)
+    (opened_shows rules e lines block.kind block.opened).1
+    ∙ block.reads depth deep reads_text properties (not (begins_blank lines)) tag said
+
+-- Cursors
+
+-- where indentation goes on, a new line at a column is spaces alone
+pub record Compact (e : ℕ) (cursor : Cursor) : Type 0 where
+  pub count : ℕ
+  pub sum : cursor.column + count ≡ e
+  pub text : (new_line e cursor).text ≡ spaces count
+  pub some : cursor.whitespace ≡ false → 0 < count
+
+-- elsewhere it begins with a break
+broken : (e : ℕ) (cursor : Cursor) → cursor.indention ≡ false → (new_line e cursor).text ≡ line_feed ∷ spaces e
+broken e cursor h =
+    ap (λ x. if not x || nat_lt e cursor.column || ((cursor.column == e) && not cursor.whitespace) then line_feed ∷ spaces e else spaces (e - cursor.column)) h
+
+-- spaces, and then others
+pub spaces_both : (j k e : ℕ) (t : Text) → j + k ≡ e → spaces j ++ (spaces k ++ t) ≡ spaces e ++ t
+spaces_both zero k e t h = let same : k ≡ e = omega arith in ap (λ n. spaces n ++ t) same
+spaces_both (suc j) k zero t h = absurd (omega arith)
+spaces_both (suc j) k (suc e) t h = ap (λ t. space ∷ t) (spaces_both j k e t (omega arith))
+
+-- Properties
+
+-- what the properties of a collection are to the reader: nothing, or words on the line before it, behind some spaces
+pub record Said (rules : Rules) (anchor tag : Option Text) (cursor : Cursor) (begun : Laid) : Type 0 where
+  pub count : ℕ
+  pub head : ℕ
+  pub tail : Text
+  pub text : begun.text ≡ spaces count ++ (head ∷ tail)
+  pub some : cursor.whitespace ≡ false → 0 < count
+  pub one_line : OneLine rules.breaks12 (head ∷ tail)
+  pub shows : (head == space) ≡ false
+  pub kind : kind_of_node rules (head ∷ tail) ≡ begins_text
+  pub begins : begins_properties (head ∷ tail) ≡ true
+  pub read : PropertiesRead
+  pub reads : properties_read rules.directives (head ∷ tail) ≡ Some read
+  pub blank : is_spaces read.text ≡ true
+  pub anchor_read : read.properties.anchor ≡ anchor
+  pub tag_read : collection_tag_said read.properties.tag ≡ Some tag
+  pub ends : begun.cursor.indention ≡ false
+
+pub data BegunKind (rules : Rules) (anchor tag : Option Text) (cursor : Cursor) (begun : Laid) : Type 0 where
+  unsaid : anchor ≡ None → tag ≡ None → begun ≡ nothing_laid cursor → BegunKind rules anchor tag cursor begun
+  is_said : Said rules anchor tag cursor begun → BegunKind rules anchor tag cursor begun
+
+-- Blocks
+
+-- what is laid out for a collection in a block: its properties and its entries, whose end writes nothing
+abbrev pub block_own : Laid → Laid → Laid
+block_own begun entries = record { text = (begun.text ++ entries.text) ++ []; cursor = entries.cursor }
+
+-- up to its last line's end
+pub own_closed : (begun entries : Laid) → closed (block_own begun entries) ≡ begun.text ++ closed entries
+own_closed begun entries =
+    ap (λ t. t ++ closing entries.cursor) (append-nil (begun.text ++ entries.text)) ∙ append_assoc begun.text entries.text (closing entries.cursor)
+
+-- what is known of a collection in a block whose entries stand at a column and are laid out behind its properties
+pub record Entries (rules : Rules) (e : ℕ) (place : Place) (begun entries : Laid) (text : Text) : Type 0 where
+  pub settled : Settled entries.cursor
+  pub ends : is_closed rules.breaks12 text ≡ true
+  pub lays : Lays e begun.cursor entries text
+  pub inside : (q : Bool) (d : ℕ) → WithinColumn q d place.role place.column → AllInside q d (lines_of rules.breaks12 text)
+  pub compact : begun.cursor.indention ≡ true → Compact e begun.cursor
+
+-- on lines below
+pub below : (rules : Rules) (e : ℕ) (cursor : Cursor) (entries : Laid) (text : Text) → Lays e cursor entries text → cursor.indention ≡ false
+    → closed entries ≡ line_feed ∷ text
+below rules e cursor entries text lays h =
+    lays.lays ∙ ap (λ t. t ++ (lays.head ∷ lays.tail)) (broken e cursor h) ∙ ap (λ t. line_feed ∷ t) (sym lays.is)
+
+-- a text on one line before the break
+pub opened_below : (breaks12 : Bool) (a text : Text) → OneLine breaks12 a → ends_sign a ≡ true → Opens breaks12 (a ++ (line_feed ∷ text))
+opened_below breaks12 a text one sign = record {
+  head = a;
+  ending = line_feed ∷ [];
+  rest = lines_of breaks12 text;
+  is = lines_broken breaks12 a text one;
+  sign = sign;
+}
+
+-- lines after the first are among all
+later_inside : (q : Bool) (d : ℕ) (lines : List Line) → AllInside q d lines → AllInside q d (lines_after_first lines)
+later_inside q d [] h = refl
+later_inside q d (line ∷ rest) h = (and_parts (is_inside q d line.text) (list_all (λ line. is_inside q d line.text) rest) h).1
+
+-- below a line the lines are those of the entries
+pub below_inside : (breaks12 : Bool) (a text : Text) (q : Bool) (d : ℕ) → OneLine breaks12 a → AllInside q d (lines_of breaks12 text)
+    → AllInside q d (lines_after_first (lines_of breaks12 (a ++ (line_feed ∷ text))))
+below_inside breaks12 a text q d one h = ap (λ ls. list_all (λ line. is_inside q d line.text) (lines_after_first ls)) (lines_broken breaks12 a text one) ∙ h
+
+-- what ends with a break below a line does behind it
+pub below_ends : (breaks12 : Bool) (a text : Text) → is_closed breaks12 text ≡ true → is_closed breaks12 (a ++ (line_feed ∷ text)) ≡ true
+below_ends breaks12 a text h =
+    ap (is_closed breaks12) (sym (append_assoc a (line_feed ∷ []) text)) ∙ closed_both breaks12 (a ++ (line_feed ∷ [])) text (closed_feed a) h
+  where
+    closed_feed : (a : Text) → is_closed breaks12 (a ++ (line_feed ∷ [])) ≡ true
+    closed_feed [] = refl
+    closed_feed (c ∷ []) = refl
+    closed_feed (c ∷ d ∷ a) = closed_feed (d ∷ a)
+
+-- Below a break without properties
+unsaid_below : (rules : Rules) (n e : ℕ) (place : Place) (cursor : Cursor) (entries : Laid) (text : Text) (make : Option Text → Option Text → Tree)
+    → Block rules n e text make → Entries rules e place (nothing_laid cursor) entries text → cursor.indention ≡ false
+    → Fits rules (suc n) (block_own (nothing_laid cursor) entries) (make None None) place cursor
+unsaid_below rules n e place cursor entries text make block all h =
+    let same : closed (block_own (nothing_laid cursor) entries) ≡ line_feed ∷ text = own_closed (nothing_laid cursor) entries
+    ∙ below rules e cursor entries text all.lays h in
+    record {
+      settled = all.settled;
+      ends = ap (is_closed rules.breaks12) same ∙ below_ends rules.breaks12 [] text all.ends;
+      opens = λ w. subst (Opens rules.breaks12) (sym same) (opened_below rules.breaks12 [] text refl refl);
+      inside = λ q d within. ap (λ t. list_all (λ line. is_inside q d line.text) (lines_after_first (lines_of rules.breaks12 t))) same
+          ∙ below_inside rules.breaks12 [] text q d refl (all.inside q d within);
+      reads = λ depth deep here k begins. ap (λ t. node_read depth rules here place.column (lines_of rules.breaks12 (spaces k ++ t))) same
+          ∙ read depth deep here k;
+    }
+  where
+    read : (depth : ℕ) → suc n ≤ depth → (here : Bool) (k : ℕ)
+        → node_read depth rules here place.column (lines_of rules.breaks12 (spaces k ++ (line_feed ∷ text))) ≡ Some (make None None)
+    read zero deep here k = absurd (omega arith)
+    read (suc depth) deep here k =
+        ap (node_read (suc depth) rules here place.column) (lines_broken rules.breaks12 (spaces k) text (spaces_line rules.breaks12 k))
+        ∙ block_below rules n e text make block depth (omega arith)
+        (λ at text. text_or_properties (begins_properties text) rules (node_read depth rules) place.column at text) no_properties None refl here
+        (record { text = spaces k; ending = line_feed ∷ [] }) (blank_spaces k)
+
+-- On the line without properties
+unsaid_on_line : (rules : Rules) (n e : ℕ) (place : Place) (cursor : Cursor) (entries : Laid) (text : Text) (make : Option Text → Option Text → Tree)
+    → Block rules n e text make → Entries rules e place (nothing_laid cursor) entries text → cursor.indention ≡ true
+    → Fits rules (suc n) (block_own (nothing_laid cursor) entries) (make None None) place cursor
+unsaid_on_line rules n e place cursor entries text make block all h =
+    let compact = all.compact h in
+    let rest = all.lays.head ∷ all.lays.tail in
+    let same : closed (block_own (nothing_laid cursor) entries) ≡ spaces compact.count ++ rest
+    = own_closed (nothing_laid cursor) entries ∙ all.lays.lays ∙ ap (λ t. t ++ rest) compact.text in
+    let after : (k : ℕ) → lines_after_first (lines_of rules.breaks12 (spaces k ++ rest))
+    ≡ lines_after_first (lines_of rules.breaks12 rest) = λ k. after_line rules.breaks12 (spaces k) rest (spaces_line rules.breaks12 k) in
+    record {
+      settled = all.settled;
+      ends = ap (is_closed rules.breaks12) same
+          ∙ closed_alike rules.breaks12 (spaces compact.count) (spaces e) all.lays.head all.lays.tail
+          (ap (is_closed rules.breaks12) (sym all.lays.is) ∙ all.ends);
+      opens = λ w. subst (Opens rules.breaks12) (sym same) (opened compact.count (compact.some w));
+      inside = λ q d within.
+          ap (λ t. list_all (λ line. is_inside q d line.text) (lines_after_first (lines_of rules.breaks12 t))) same
+          ∙ ap (λ ls. list_all (λ line. is_inside q d line.text) ls)
+          (after compact.count ∙ sym (after e) ∙ ap (λ t. lines_after_first (lines_of rules.breaks12 t)) (sym all.lays.is))
+          ∙ later_inside q d (lines_of rules.breaks12 text) (all.inside q d within);
+      reads = λ depth deep here k begins. ap (λ t. node_read depth rules here place.column (lines_of rules.breaks12 (spaces k ++ t))) same
+          ∙ read depth deep here k (begins h).0 (begins h).1;
+    }
+  where
+    opened : (count : ℕ) → 0 < count → Opens rules.breaks12 (spaces count ++ (all.lays.head ∷ all.lays.tail))
+    opened zero h = absurd (omega arith)
+    opened (suc count) h =
+        let begins = begins_cons rules.breaks12 all.lays.head all.lays.tail in
+        record {
+          head = spaces (suc count) ++ begins.head;
+          ending = begins.ending;
+          rest = begins.rest;
+          is = lines_behind rules.breaks12 (spaces (suc count)) (all.lays.head ∷ all.lays.tail) begins.head begins.ending begins.rest
+              (spaces_line rules.breaks12 (suc count)) begins.is;
+          sign = refl;
+        }
+
+    read : (depth : ℕ) → suc n ≤ depth → (here : Bool) (k : ℕ) → here ≡ true → k ≡ cursor.column
+        → node_read depth rules here place.column (lines_of rules.breaks12 (spaces k ++ (spaces (all.compact h).count ++ (all.lays.head ∷ all.lays.tail))))
+        ≡ Some (make None None)
+    read zero deep here k is_here same = absurd (omega arith)
+    read (suc depth) deep here k is_here same =
+        ap (λ t. node_read (suc depth) rules here place.column (lines_of rules.breaks12 t))
+        (spaces_both k (all.compact h).count e (all.lays.head ∷ all.lays.tail) (ap (λ j. j + (all.compact h).count) same ∙ (all.compact h).sum)
+        ∙ sym all.lays.is)
+        ∙ ap (λ x. node_read (suc depth) rules x place.column (lines_of rules.breaks12 text)) is_here
+        ∙ block_on_line rules n e text make block depth (omega arith)
+        (λ at text. text_or_properties (begins_properties text) rules (node_read depth rules) place.column at text) no_properties None refl
+
+-- Behind properties
+
+-- what follows the words of properties on a line, where the block stands below
+said_reads : (rules : Rules) (n e : ℕ) (column : Option ℕ) (text : Text) (c : ℕ) (t : Text) (make : Option Text → Option Text → Tree)
+    → Block rules n e text make
+    → (read : PropertiesRead) (anchor tag : Option Text) → properties_read rules.directives (c ∷ t) ≡ Some read → is_spaces read.text ≡ true
+    → read.properties.anchor ≡ anchor → collection_tag_said read.properties.tag ≡ Some tag → begins_properties (c ∷ t) ≡ true → (c == space) ≡ false
+    → kind_of_node rules (c ∷ t) ≡ begins_text
+    → OneLine rules.breaks12 (c ∷ t) → (depth : ℕ) → suc n ≤ depth → (here : Bool) (k : ℕ)
+    → node_read depth rules here column (lines_of rules.breaks12 ((spaces k ++ (c ∷ t)) ++ (line_feed ∷ text))) ≡ Some (make anchor tag)
+said_reads rules n e column text c t make block read anchor tag reads blank anchor_read tag_read begins shows kind one zero deep here k = absurd (omega arith)
+said_reads rules n e column text c t make block read anchor tag reads blank anchor_read tag_read begins shows kind one (suc depth) deep here k =
+    let lines = lines_of rules.breaks12 text in
+    let line : Line = record { text = spaces k ++ (c ∷ t); ending = line_feed ∷ [] } in
+    let by : ReadsText = λ at text. text_or_properties (begins_properties text) rules (node_read depth rules) column at text in
+    let begun : Indented = record { column = k; text = c ∷ t } in
+    ap (node_read (suc depth) rules here column)
+    (lines_broken rules.breaks12 (spaces k ++ (c ∷ t)) text (one_line_both rules.breaks12 (spaces k) (c ∷ t) (spaces_line rules.breaks12 k) one))
+    ∙ ap (λ x. node_at rules (node_read depth rules) by no_properties (here || x) (not x) (if x then without_blank_lines lines else line ∷ lines))
+    (not_blank k c t shows)
+    ∙ ap (λ (i : Indented). node_by_kind (kind_of_node rules i.text) rules (node_read depth rules) by no_properties (here || false) true i
+    (line_feed ∷ []) lines (line ∷ lines)) (indented_spaces k c t shows)
+    ∙ ap (λ x. node_by_kind x rules (node_read depth rules) by no_properties (here || false) true begun (line_feed ∷ []) lines (line ∷ lines)) kind
+    ∙ ap (λ x. text_or_properties x rules (node_read depth rules) column k (c ∷ t) (line_feed ∷ []) lines) begins
+    ∙ ap (after_properties rules (node_read depth rules) column k (line_feed ∷ []) lines) reads
+    ∙ block_below rules n e text make block depth (omega arith) (λ at. text_read rules column read.properties) read.properties tag tag_read false
+    (blanked k read.text (line_feed ∷ []))
+    (blank_both k read.text blank)
+    ∙ ap (λ a. Some (make a tag)) anchor_read
+  where
+    blank_both : (k : ℕ) (t : Text) → is_spaces t ≡ true → is_spaces (spaces k ++ t) ≡ true
+    blank_both zero t h = h
+    blank_both (suc k) t h = blank_both k t h
+
+-- a collection behind its properties fits
+said_fits : (rules : Rules) (n e : ℕ) (place : Place) (cursor : Cursor) (begun entries : Laid) (text : Text) (make : Option Text → Option Text → Tree)
+    (anchor tag : Option Text)
+    → Block rules n e text make → Entries rules e place begun entries text → Said rules anchor tag cursor begun
+    → Fits rules (suc n) (block_own begun entries) (make anchor tag) place cursor
+said_fits rules n e place cursor begun entries text make anchor tag block all said =
+    let core = said.head ∷ said.tail in
+    let front = spaces said.count ++ core in
+    let one = one_line_both rules.breaks12 (spaces said.count) core (spaces_line rules.breaks12 said.count) said.one_line in
+    let same : closed (block_own begun entries) ≡ front ++ (line_feed ∷ text)
+    = own_closed begun entries ∙ ap (λ t. begun.text ++ t) (below rules e begun.cursor entries text all.lays said.ends)
+    ∙ ap (λ t. t ++ (line_feed ∷ text)) said.text in
+    record {
+      settled = all.settled;
+      ends = ap (is_closed rules.breaks12) same ∙ below_ends rules.breaks12 front text all.ends;
+      opens = λ w. subst (Opens rules.breaks12) (sym same) (opened_below rules.breaks12 front text one (opens said.count (said.some w) core));
+      inside = λ q d within. ap (λ t. list_all (λ line. is_inside q d line.text) (lines_after_first (lines_of rules.breaks12 t))) same
+          ∙ below_inside rules.breaks12 front text q d one (all.inside q d within);
+      reads = λ depth deep here k begins.
+          ap (λ t. node_read depth rules here place.column (lines_of rules.breaks12 (spaces k ++ t))) same
+          ∙ ap (λ t. node_read depth rules here place.column (lines_of rules.breaks12 t))
+          (sym (append_assoc (spaces k) front (line_feed ∷ text)) ∙ ap (λ t. t ++ (line_feed ∷ text)) (spaces_both k said.count (k + said.count) core refl))
+          ∙ said_reads rules n e place.column text said.head said.tail make block said.read anchor tag said.reads said.blank said.anchor_read said.tag_read
+          said.begins said.shows said.kind
+          said.one_line depth deep here (k + said.count);
+    }
+  where
+    opens : (count : ℕ) → 0 < count → (t : Text) → ends_sign (spaces count ++ t) ≡ true
+    opens zero h t = absurd (omega arith)
+    opens (suc count) h t = refl
+
+-- a collection in a block fits
+pub block_fits : (rules : Rules) (n e : ℕ) (place : Place) (cursor : Cursor) (begun entries : Laid) (text : Text) (make : Option Text → Option Text → Tree)
+    (anchor tag : Option Text)
+    → BegunKind rules anchor tag cursor begun → Block rules n e text make → Entries rules e place begun entries text
+    → Fits rules (suc n) (block_own begun entries) (make anchor tag) place cursor
+block_fits rules n e place cursor begun entries text make anchor tag
+    (is_said is) block all = said_fits rules n e place cursor begun entries text make anchor tag block all is
+block_fits rules n e place cursor begun entries text make anchor tag (unsaid no_anchor no_tag nothing) block all =
+    subst (λ a. Fits rules (suc n) (block_own begun entries) (make a tag) place cursor) (sym no_anchor)
+    (subst (λ t. Fits rules (suc n) (block_own begun entries) (make None t) place cursor) (sym no_tag)
+    (subst (λ b. Fits rules (suc n) (block_own b entries) (make None None) place cursor) (sym nothing)
+    (by cursor.indention refl (subst (λ b. Entries rules e place b entries text) nothing all))))
+  where
+    by : (x : Bool) → cursor.indention ≡ x → Entries rules e place (nothing_laid cursor) entries text
+        → Fits rules (suc n) (block_own (nothing_laid cursor) entries) (make None None) place cursor
+    by true h all = unsaid_on_line rules n e place cursor entries text make block all h
+    by false h all = unsaid_below rules n e place cursor entries text make block all h

@@ -1,0 +1,97 @@
+-- What a node in a block is to the reader of lines, from its place and its cursor on; and the items of a sequence, where
+-- each of them is so: their lines split into one entry each, lie inside the columns around, and read as their trees.
+use Rattle.std.proofs.Common.{◌≡◌, suc, ◌≤◌, refl, ap}
+use Rattle.std.proofs.lemmas.Bool.{true≢false}
+use Rattle.std.specs.Prelude.{ℕ, Bool, true, false, Option, None, Some, List, [], ◌∷◌, ◌++◌, ◌+◌, ◌&&◌}
+use Rattle.yaml_base.specs.Characters.{Text}
+use Rattle.yaml_base.specs.Settings.{Effective}
+use Rattle.yaml_base.specs.Event.{TagDirective}
+use Rattle.yaml_base.specs.Cursor.{Cursor, Laid}
+use Rattle.yaml_base.specs.Grammar.{Node, alias_node, scalar_node, sequence_node, mapping_node, Nodes, no_nodes, nodes_and, Pairs, no_pairs, pairs_and}
+use Rattle.yaml_base.specs.Layout.{Role, Place, is_in_mapping, entry_place}
+use Rattle.yaml_base.specs.StreamContent.{Tree}
+use Rattle.yaml_base.specs.StreamLines.{Line, lines_of, ends_sign, spaces, blanked}
+use Rattle.yaml_base.specs.StreamScalars.{Rules}
+use Rattle.yaml_base.specs.StreamNodes.{node_read}
+use Rattle.yaml_base.proofs.stream_nodes.StreamAgrees.{node_tree}
+use Rattle.yaml_base.proofs.stream_lines.StreamLineLaws.{is_closed, OneLine}
+use Rattle.yaml_base.proofs.stream_lines.StreamInside.{AllInside}
+use Rattle.yaml_base.proofs.stream_lines.StreamTidyLaws.{lines_after_first}
+use Rattle.yaml_base.proofs.stream_lines.StreamClosed.{closed, Settled, spaces_line, lines_behind, closed_behind, rank}
+
+-- Sizes
+
+-- how deep a node is read at most: itself and the nodes in it
+abbrev mutual
+  pub size : Node → ℕ
+  size (alias_node name) = 1
+  size (scalar_node content) = 1
+  size (sequence_node start items) = suc (items_size items)
+  size (mapping_node start pairs) = suc (pairs_size pairs)
+
+  pub items_size : Nodes → ℕ
+  items_size no_nodes = 0
+  items_size (nodes_and items last) = items_size items + size last
+
+  pub pairs_size : Pairs → ℕ
+  pairs_size no_pairs = 0
+  pairs_size (pairs_and pairs key value) = pairs_size pairs + (size key + size value)
+
+-- Fits
+
+-- a place lies inside a column, in a mapping by one more where a `-` at its column counts
+abbrev pub WithinColumn : Bool → ℕ → Role → Option ℕ → Type 0
+WithinColumn s d role None = ⊥
+WithinColumn s d role (Some c) = d + rank (s && is_in_mapping role) ≤ c
+
+-- where a cursor stands in indentation, a block may begin on the line, which has so many spaces
+abbrev pub Here : Cursor → (here : Bool) → ℕ → Type 0
+Here cursor here k = cursor.indention ≡ true → (here ≡ true) × (k ≡ cursor.column)
+
+-- a text opens what follows a sign: a space or a break comes first
+pub record Opens (breaks12 : Bool) (text : Text) : Type 0 where
+  pub head : Text
+  pub ending : Text
+  pub rest : List Line
+  pub is : lines_of breaks12 text ≡ record { text = head; ending = ending } ∷ rest
+  pub sign : ends_sign head ≡ true
+
+-- what is laid out for a node in a block from a cursor on: it leaves off settled at a line's end, opens what stands behind
+-- a sign, lies inside the columns around, and reads as a tree at every depth from its size on
+pub record Fits (rules : Rules) (size : ℕ) (own : Laid) (tree : Tree) (place : Place) (cursor : Cursor) : Type 0 where
+  pub settled : Settled own.cursor
+  pub ends : is_closed rules.breaks12 (closed own) ≡ true
+  pub opens : cursor.whitespace ≡ false → Opens rules.breaks12 (closed own)
+  pub inside : (s : Bool) (d : ℕ) → WithinColumn s d place.role place.column → AllInside s d (lines_after_first (lines_of rules.breaks12 (closed own)))
+  pub reads : (depth : ℕ) → size ≤ depth → (here : Bool) (k : ℕ) → Here cursor here k
+      → node_read depth rules here place.column (lines_of rules.breaks12 (spaces k ++ closed own)) ≡ Some tree
+
+-- the tree of a node doesn't depend on the column
+pub tree_anywhere : (n : Node) (s : Effective) (directives : List TagDirective) (in_flow : Bool) (role : Role) (c d : ℕ)
+    → node_tree n s directives (entry_place in_flow role c) ≡ node_tree n s directives (entry_place in_flow role d)
+tree_anywhere (alias_node name) s directives in_flow role c d = refl
+tree_anywhere (scalar_node content) s directives in_flow role c d = refl
+tree_anywhere (sequence_node start items) s directives in_flow role c d = refl
+tree_anywhere (mapping_node start pairs) s directives in_flow role c d = refl
+
+-- Behind a sign
+
+-- the lines of a sign and a text that it opens
+pub signed_lines : (breaks12 : Bool) (e c : ℕ) (t : Text) (o : Opens breaks12 t) → OneLine breaks12 (c ∷ [])
+    → lines_of breaks12 (spaces e ++ (c ∷ t)) ≡ record { text = spaces e ++ (c ∷ o.head); ending = o.ending } ∷ o.rest
+signed_lines breaks12 e c t o one =
+    lines_behind breaks12 (spaces e) (c ∷ t) (c ∷ o.head) o.ending o.rest (spaces_line breaks12 e)
+    (lines_behind breaks12 (c ∷ []) t o.head o.ending o.rest one o.is)
+
+-- the lines of the text alone, where the sign is blanked
+pub blanked_lines : (breaks12 : Bool) (k : ℕ) (t : Text) (o : Opens breaks12 t) → lines_of breaks12 (spaces k ++ t) ≡ blanked k o.head o.ending ∷ o.rest
+blanked_lines breaks12 k t o = lines_behind breaks12 (spaces k) t o.head o.ending o.rest (spaces_line breaks12 k) o.is
+
+-- what a sign opens is closed where its text is
+pub signed_ends : (breaks12 : Bool) (e c : ℕ) (t : Text) → Opens breaks12 t → is_closed breaks12 t ≡ true → is_closed breaks12 (spaces e ++ (c ∷ t)) ≡ true
+signed_ends breaks12 e c [] o h = absurd (true≢false (ap empty o.is))
+  where
+    empty : List Line → Bool
+    empty [] = true
+    empty (line ∷ rest) = false
+signed_ends breaks12 e c (d ∷ t) o h = closed_behind breaks12 (spaces e) c (d ∷ t) h

@@ -1,0 +1,109 @@
+-- A node's own text that reads on its lines fits where it stands in a block.
+use Rattle.std.proofs.Common.{◌≡◌, zero, suc, ◌≤◌, ◌<◌, refl, ap, ◌∙◌, arith}
+use Rattle.std.proofs.lemmas.Bool.{and_parts, and_from}
+use Rattle.std.specs.List.{list_all}
+use Rattle.std.specs.Prelude.{ℕ, Bool, true, false, Option, None, Some, List, [], ◌∷◌, ◌++◌, ◌+◌, ◌==◌, ◌||◌, ◌&&◌, not, if◌then◌else◌}
+use Rattle.yaml_base.specs.Characters.{Text, space}
+use Rattle.yaml_base.specs.Cursor.{Cursor, Laid}
+use Rattle.yaml_base.specs.Layout.{Place, is_in_mapping}
+use Rattle.yaml_base.specs.StreamContent.{Tree}
+use Rattle.yaml_base.specs.StreamLines.{Line, lines_of, ends_sign, without_blank_lines, is_inside, Indented, spaces}
+use Rattle.yaml_base.specs.StreamScalars.{Rules, no_properties}
+use Rattle.yaml_base.specs.StreamNodes.{begins_text, kind_of_node, Reads, ReadsText, node_by_kind, node_at, begins_properties, text_or_properties, node_read}
+use Rattle.yaml_base.proofs.stream_lines.StreamLineLaws.{is_closed}
+use Rattle.yaml_base.proofs.stream_lines.StreamInside.{AllInside, indented_spaces, not_blank, inside_mapping}
+use Rattle.yaml_base.proofs.stream_lines.StreamTidyLaws.{lines_after_first}
+use Rattle.yaml_base.proofs.stream_lines.StreamClosed.{closed, Settled, spaces_line, lines_behind, rank}
+use Rattle.yaml_base.proofs.stream_nodes.StreamFits.{WithinColumn, Fits}
+use Rattle.yaml_base.proofs.stream_nodes.StreamBlocks.{spaces_both}
+
+-- Inside
+
+-- what is deeper than a column is deeper than one farther out
+inside_farther : (d c : ℕ) (t : Text) → d ≤ c → is_inside true c t ≡ true → is_inside true d t ≡ true
+inside_farther d c [] le h = refl
+inside_farther zero zero (x ∷ t) le h = h
+inside_farther zero (suc c) (x ∷ t) le h = ap (λ y. y || false) (and_parts (x == space) (is_inside true c t) h).0
+inside_farther (suc d) zero (x ∷ t) le h = absurd (omega arith)
+inside_farther (suc d) (suc c) (x ∷ t) le h =
+    let parts = and_parts (x == space) (is_inside true c t) h in
+    and_from (x == space) (is_inside true d t) parts.0 (inside_farther d c t (omega arith) parts.1)
+
+-- lines deeper than a column are inside each that is farther out
+pub all_farther : (q : Bool) (d c : ℕ) (lines : List Line) → d ≤ c → AllInside true c lines → AllInside q d lines
+all_farther q d c [] le h = refl
+all_farther q d c (line ∷ rest) le h =
+    let parts = and_parts (is_inside true c line.text) (list_all (λ line. is_inside true c line.text) rest) h in
+    and_from (is_inside q d line.text) (list_all (λ line. is_inside q d line.text) rest)
+    (inside_mapping q d line.text (inside_farther d c line.text le parts.0))
+    (all_farther q d c rest le parts.1)
+
+-- Texts
+
+-- a text, up to its last line's end, reads on its lines as a tree: its first line begins no block, the others are deeper
+-- than the column around
+pub record TextReads (rules : Rules) (column : Option ℕ) (text : Text) (tree : Tree) : Type 0 where
+  pub head : ℕ
+  pub first : Text
+  pub ending : Text
+  pub rest : List Line
+  pub is : lines_of rules.breaks12 text ≡ record { text = head ∷ first; ending = ending } ∷ rest
+  pub shows : (head == space) ≡ false
+  pub kind : kind_of_node rules (head ∷ first) ≡ begins_text
+  pub deeper : (c : ℕ) → column ≡ Some c → AllInside true c rest
+  pub read : (reads : Reads) (at : ℕ) → text_or_properties (begins_properties (head ∷ first)) rules reads column at (head ∷ first) ending rest ≡ Some tree
+
+-- it reads behind spaces
+text_lines : (rules : Rules) (column : Option ℕ) (text : Text) (tree : Tree) → TextReads rules column text tree → (depth : ℕ) → 1 ≤ depth
+    → (here : Bool) (k : ℕ)
+    → node_read depth rules here column (lines_of rules.breaks12 (spaces k ++ text)) ≡ Some tree
+text_lines rules column text tree t zero deep here k = absurd (omega arith)
+text_lines rules column text tree t (suc depth) deep here k =
+    let line : Line = record { text = spaces k ++ (t.head ∷ t.first); ending = t.ending } in
+    let by : ReadsText = λ at text. text_or_properties (begins_properties text) rules (node_read depth rules) column at text in
+    let begun : Indented = record { column = k; text = t.head ∷ t.first } in
+    ap (node_read (suc depth) rules here column)
+    (lines_behind rules.breaks12 (spaces k) text (t.head ∷ t.first) t.ending t.rest (spaces_line rules.breaks12 k) t.is)
+    ∙ ap (λ x. node_at rules (node_read depth rules) by no_properties (here || x) (not x) (if x then without_blank_lines t.rest else line ∷ t.rest))
+    (not_blank k t.head t.first t.shows)
+    ∙ ap (λ (i : Indented). node_by_kind (kind_of_node rules i.text) rules (node_read depth rules) by no_properties (here || false) true i t.ending t.rest
+    (line ∷ t.rest)) (indented_spaces k t.head t.first t.shows)
+    ∙ ap (λ x. node_by_kind x rules (node_read depth rules) by no_properties (here || false) true begun t.ending t.rest (line ∷ t.rest)) t.kind
+    ∙ t.read (node_read depth rules) k
+
+-- what is laid out as such a text fits
+pub text_fits : (rules : Rules) (own : Laid) (place : Place) (cursor : Cursor) (count : ℕ) (text : Text) (tree : Tree) → closed own ≡ spaces count ++ text
+    → is_closed rules.breaks12 (closed own) ≡ true → Settled own.cursor → (cursor.whitespace ≡ false → 0 < count) → TextReads rules place.column text tree
+    → Fits rules 1 own tree place cursor
+text_fits rules own place cursor count text tree same ends settled some t =
+    let front = lines_behind rules.breaks12 (spaces count) text (t.head ∷ t.first) t.ending t.rest (spaces_line rules.breaks12 count) t.is in
+    record {
+      settled = settled;
+      ends = ends;
+      opens = λ w. record {
+        head = spaces count ++ (t.head ∷ t.first);
+        ending = t.ending;
+        rest = t.rest;
+        is = ap (lines_of rules.breaks12) same ∙ front;
+        sign = opens count (some w);
+      };
+      inside = λ q d within.
+          ap (λ u. list_all (λ line. is_inside q d line.text) (lines_after_first (lines_of rules.breaks12 u))) same
+          ∙ ap (λ ls. list_all (λ line. is_inside q d line.text) (lines_after_first ls)) front ∙ inside q d place.column refl within;
+      reads = λ depth deep here k begins.
+          ap (λ u. node_read depth rules here place.column (lines_of rules.breaks12 (spaces k ++ u))) same
+          ∙ ap (λ u. node_read depth rules here place.column (lines_of rules.breaks12 u)) (spaces_both k count (k + count) text refl)
+          ∙ text_lines rules place.column text tree t depth deep here (k + count);
+    }
+  where
+    opens : (count : ℕ) → 0 < count → ends_sign (spaces count ++ (t.head ∷ t.first)) ≡ true
+    opens zero h = absurd (omega arith)
+    opens (suc count) h = refl
+
+    inside : (q : Bool) (d : ℕ) (column : Option ℕ) → place.column ≡ column → WithinColumn q d place.role column → AllInside q d t.rest
+    inside q d None e within = absurd within
+    inside q d (Some c) e within = all_farther q d c t.rest (less (q && is_in_mapping place.role) within) (t.deeper c e)
+      where
+        less : (x : Bool) → d + rank x ≤ c → d ≤ c
+        less true h = omega arith
+        less false h = omega arith

@@ -1,0 +1,318 @@
+-- The central law: a node in a block fits where its leaves, its simple keys and the properties of its collections do.
+use Rattle.std.proofs.Common.{◌≡◌, zero, suc, ◌≤◌, ◌<◌, refl, sym, ap, ◌∙◌, arith, subst}
+use Rattle.std.proofs.lemmas.Bool.{le-ltb, true≢false, false≢true, or_parts, eqb-true}
+use Rattle.std.specs.Prelude.{ℕ, Bool, true, false, Option, None, Some, List, [], ◌∷◌, ◌++◌, ◌+◌, ◌-◌, ◌==◌, ◌||◌, ◌&&◌, not, nat_lt, if◌then◌else◌}
+use Rattle.yaml_base.specs.Characters.{Text, line_feed}
+use Rattle.yaml_base.specs.Settings.{Effective}
+use Rattle.yaml_base.specs.Event.{TagDirective, Collection}
+use Rattle.yaml_base.specs.Cursor.{Cursor, Laid}
+use Rattle.yaml_base.specs.Grammar.{Node, alias_node, scalar_node, sequence_node, mapping_node, Nodes, no_nodes, nodes_and, Pairs, no_pairs, pairs_and}
+use Rattle.yaml_base.specs.Refusal.{collection_tag}
+use Rattle.yaml_base.specs.Layout.{Role, Place, is_in_mapping, entries_column, has_no_nodes, has_no_pairs, is_simple, asks_flow, is_written_in_flow, properties_laid, square, curly}
+use Rattle.yaml_base.specs.StreamContent.{Tree, sequence_tree, mapping_tree}
+use Rattle.yaml_base.specs.StreamLines.{spaces}
+use Rattle.yaml_base.specs.StreamScalars.{Rules}
+use Rattle.yaml_base.proofs.stream_nodes.StreamAgrees.{node_tree, nodes_tree, pairs_tree}
+use Rattle.yaml_base.proofs.stream_nodes.StreamTexts.{collection_own, node_own, items_own, pairs_own}
+use Rattle.yaml_base.proofs.stream_lines.StreamClosed.{Settled, new_line_closes, sign_cursor, rank}
+use Rattle.yaml_base.proofs.stream_nodes.StreamFits.{size, items_size, pairs_size, WithinColumn, Fits}
+use Rattle.yaml_base.proofs.stream_nodes.StreamItems.{item_place, items_text, ItemsFit, items_settled, items_end, items_inside, items_lay}
+use Rattle.yaml_base.proofs.stream_nodes.StreamPairs.{KeyFits, key_place, value_place, colon_cursor, simple_key, pairs_text, PairFits, PairsFit, pairs_end, pairs_inside}
+use Rattle.yaml_base.proofs.stream_nodes.StreamPairReads.{pairs_settled, pairs_lay, colon_ends}
+use Rattle.yaml_base.proofs.stream_nodes.StreamBlocks.{Compact, BegunKind, unsaid, is_said, block_fits}
+use Rattle.yaml_base.proofs.stream_nodes.StreamCentral.{items_block, pairs_block}
+
+-- Premises
+
+-- one type or another
+abbrev pub EitherType : Bool → Type 0 → Type 0 → Type 0
+EitherType true a b = a
+EitherType false a b = b
+
+-- a node fits by itself, with nothing in it that is read alone
+abbrev pub LeafFits : Rules → Effective → List TagDirective → Node → Place → Cursor → Type 0
+LeafFits rules s directives n place cursor = Fits rules 1 (node_own n s directives place cursor) (node_tree n s directives place) place cursor
+
+-- the properties of a collection, laid out from a cursor on
+abbrev pub begun_laid : Effective → List TagDirective → Collection → Cursor → Laid
+begun_laid s directives start cursor = properties_laid s.portable directives start.anchor (collection_tag s.canonical start) false cursor
+
+-- they are read
+abbrev pub BegunReads : Rules → Effective → List TagDirective → Collection → Cursor → Type 0
+BegunReads rules s directives start cursor =
+    BegunKind rules start.anchor (collection_tag s.canonical start) cursor (begun_laid s directives start cursor)
+
+-- what is asked of the parts of a node in a block: each alias, scalar and flow collection fits, each simple key is cut off,
+-- and the properties of each block collection are read
+abbrev mutual
+  pub Leaves : Node → Rules → Effective → List TagDirective → Place → Cursor → Type 0
+  Leaves (alias_node name) rules s directives place cursor = LeafFits rules s directives (alias_node name) place cursor
+  Leaves (scalar_node content) rules s directives place cursor = LeafFits rules s directives (scalar_node content) place cursor
+  Leaves (sequence_node start items) rules s directives place cursor =
+      EitherType (is_written_in_flow s place start (has_no_nodes items))
+      (LeafFits rules s directives (sequence_node start items) place cursor)
+      (BegunReads rules s directives start cursor
+      × ItemLeaves items rules s directives
+      (entries_column false (is_in_mapping place.role) s.indent place.column (begun_laid s directives start cursor).cursor))
+  Leaves (mapping_node start pairs) rules s directives place cursor =
+      EitherType (is_written_in_flow s place start (has_no_pairs pairs))
+      (LeafFits rules s directives (mapping_node start pairs) place cursor)
+      (BegunReads rules s directives start cursor
+      × PairLeaves pairs rules s directives (entries_column false false s.indent place.column (begun_laid s directives start cursor).cursor))
+
+  pub ItemLeaves : Nodes → Rules → Effective → List TagDirective → ℕ → Type 0
+  ItemLeaves no_nodes rules s directives e = Unit {0}
+  ItemLeaves (nodes_and items last) rules s directives e =
+      ItemLeaves items rules s directives e × Leaves last rules s directives (item_place items e) (sign_cursor e)
+
+  pub PairLeaves : Pairs → Rules → Effective → List TagDirective → ℕ → Type 0
+  PairLeaves no_pairs rules s directives e = Unit {0}
+  PairLeaves (pairs_and pairs key value) rules s directives e =
+      PairLeaves pairs rules s directives e
+      × EitherType (is_simple s.canonical directives key)
+      (KeyFits rules (simple_key pairs key s directives e).text (node_tree key s directives (key_place pairs e))
+      × Leaves value rules s directives (value_place true e) (colon_cursor (simple_key pairs key s directives e).cursor))
+      (Leaves key rules s directives (key_place pairs e) (sign_cursor e) × Leaves value rules s directives (value_place false e) (sign_cursor e))
+
+-- Places
+
+-- a cursor stands behind the signs of a place in a block at a column, or where the root begins
+abbrev pub Stands : Option ℕ → Cursor → Type 0
+Stands None cursor = Settled cursor
+Stands (Some c) cursor = (cursor.whitespace ≡ false) × (cursor.indention ≡ true → cursor.column ≡ c + 1)
+
+-- a number is none that is less
+less_not : (a b : ℕ) → a < b → (a == b) ≡ false
+less_not a b h = by (a == b) refl
+  where
+    by : (x : Bool) → (a == b) ≡ x → x ≡ false
+    by true e = let same = eqb-true a b e in absurd (omega arith)
+    by false e = refl
+
+-- behind a sign a new line one indent further in is spaces
+compact_behind : (c k : ℕ) (cursor : Cursor) → 1 ≤ k → cursor.column ≡ c + 1 → cursor.indention ≡ true → Compact (c + suc k) cursor
+compact_behind c k cursor deep at h =
+    let more : cursor.column < c + suc k = omega arith in
+    let less : c + suc k - cursor.column ≡ k = omega arith in
+    record {
+      count = k;
+      sum = omega arith;
+      text =
+          ap (λ x. if not x || nat_lt (c + suc k) cursor.column
+          || ((cursor.column == (c + suc k)) && not cursor.whitespace) then line_feed ∷ spaces (c + suc k) else spaces (c + suc k - cursor.column)) h
+          ∙ ap (λ x. if x || ((cursor.column == (c + suc k)) && not cursor.whitespace) then line_feed ∷ spaces (c + suc k) else
+          spaces (c + suc k - cursor.column)) (le-ltb (c + suc k) cursor.column (omega arith))
+          ∙ ap (λ x. if x && not cursor.whitespace then line_feed ∷ spaces (c + suc k) else spaces (c + suc k - cursor.column))
+          (less_not cursor.column (c + suc k) more)
+          ∙ ap spaces less;
+      some = λ w. omega arith;
+    }
+
+-- where the root begins it is nothing
+compact_root : (cursor : Cursor) → Settled cursor → cursor.indention ≡ true → Compact 0 cursor
+compact_root cursor settled h =
+    let at = (settled h).0 in
+    record {
+      count = 0;
+      sum = omega arith;
+      text = new_line_closes 0 cursor settled ∙ ap (λ x. (if x then [] else line_feed ∷ []) ++ []) h;
+      some = λ w. absurd (true≢false (sym (settled h).1 ∙ w));
+    }
+
+-- the column of a collection's entries where indentation goes on
+compact_at : (column : Option ℕ) (undented : Bool) (indent : ℕ) (cursor : Cursor) → 2 ≤ indent → Stands column cursor → cursor.indention ≡ true
+    → Compact (entries_column false undented indent column cursor) cursor
+compact_at None undented indent cursor deep stands h = compact_root cursor stands h
+compact_at (Some c) undented zero cursor deep stands h = absurd (omega arith)
+compact_at (Some c) undented (suc k) cursor deep stands h =
+    subst (λ e. Compact e cursor) (sym (ap (λ x. if undented && not x then c else c + suc k) h ∙ ap (λ x. if x then c else c + suc k) (and_no undented)))
+    (compact_behind c k cursor (omega arith) (stands.1 h) h)
+  where
+    and_no : (x : Bool) → x && false ≡ false
+    and_no true = refl
+    and_no false = refl
+
+-- behind properties or without them
+compact_begun : (rules : Rules) (anchor tag : Option Text) (column : Option ℕ) (undented : Bool) (indent : ℕ) (cursor : Cursor) (begun : Laid) → 2 ≤ indent
+    → Stands column cursor
+    → BegunKind rules anchor tag cursor begun → begun.cursor.indention ≡ true → Compact (entries_column false undented indent column begun.cursor) begun.cursor
+compact_begun rules anchor tag column undented indent cursor begun deep stands (is_said is) h = absurd (false≢true (sym is.ends ∙ h))
+compact_begun rules anchor tag column undented indent cursor begun deep stands (unsaid no_anchor no_tag nothing) h =
+    subst (λ (b : Laid). Compact (entries_column false undented indent column b.cursor) b.cursor) (sym nothing)
+    (compact_at column undented indent cursor deep stands (ap (λ (b : Laid). b.cursor.indention) (sym nothing) ∙ h))
+
+-- the items of a sequence in a block stand within the columns around
+items_within : (q : Bool) (d : ℕ) (role : Role) (column : Option ℕ) (indent : ℕ) (cursor : Cursor) → 2 ≤ indent → WithinColumn q d role column
+    → d + rank q ≤ entries_column false (is_in_mapping role) indent column cursor
+items_within q d role None indent cursor deep within = absurd within
+items_within q d role (Some c) indent cursor deep within = by q (is_in_mapping role) (not cursor.indention) within
+  where
+    by : (q m x : Bool) → d + rank (q && m) ≤ c → d + rank q ≤ (if m && x then c else c + indent)
+    by true true true h = h
+    by true true false h = omega arith
+    by true false x h = omega arith
+    by false true true h = h
+    by false true false h = omega arith
+    by false false x h = omega arith
+
+-- the pairs of a mapping in a block stand deeper than the columns around
+pairs_within : (q : Bool) (d : ℕ) (role : Role) (column : Option ℕ) (indent : ℕ) (cursor : Cursor) → 2 ≤ indent → WithinColumn q d role column
+    → d < entries_column false false indent column cursor
+pairs_within q d role None indent cursor deep within = absurd within
+pairs_within q d role (Some c) indent cursor deep within = by (q && is_in_mapping role) within
+  where
+    by : (x : Bool) → d + rank x ≤ c → d < c + indent
+    by true h = omega arith
+    by false h = omega arith
+
+-- The law
+
+-- what fits for a size fits for a greater one
+fits_deeper : (rules : Rules) (m n : ℕ) (own : Laid) (tree : Tree) (place : Place) (cursor : Cursor) → m ≤ n → Fits rules m own tree place cursor
+    → Fits rules n own tree place cursor
+fits_deeper rules m n own tree place cursor le fit = record {
+  settled = fit.settled;
+  ends = fit.ends;
+  opens = fit.opens;
+  inside = fit.inside;
+  reads = λ depth deep here k begins. fit.reads depth (omega arith) here k begins;
+}
+
+-- what isn't written in flow isn't empty
+not_empty : (s : Effective) (place : Place) (start : Collection) (empty : Bool) → is_written_in_flow s place start empty ≡ false → empty ≡ false
+not_empty s place start empty h = (or_parts (place.in_flow || s.canonical || asks_flow start.style) empty h).1
+
+-- a sequence fits where its items do, or by itself
+sequence_fits : (start : Collection) (items : Nodes) (rules : Rules) (s : Effective) (directives : List TagDirective) (place : Place) (cursor : Cursor)
+    → 2 ≤ s.indent → Stands place.column cursor
+    → Leaves (sequence_node start items) rules s directives place cursor
+    → ((e : ℕ) → ItemLeaves items rules s directives e → ItemsFit rules s directives items e)
+    → Fits rules (size (sequence_node start items)) (node_own (sequence_node start items) s directives place cursor)
+    (node_tree (sequence_node start items) s directives place) place cursor
+sequence_fits start items rules s directives place cursor deep stands leaves each = by (is_written_in_flow s place start (has_no_nodes items)) refl leaves
+  where
+    begun : Laid
+    begun = begun_laid s directives start cursor
+
+    e : ℕ
+    e = entries_column false (is_in_mapping place.role) s.indent place.column begun.cursor
+
+    own : Bool → Laid
+    own x = collection_own s square x (is_in_mapping place.role) (has_no_nodes items) place.column begun (items_own items s directives x)
+
+    tree : Bool → Tree
+    tree x = sequence_tree start.anchor (collection_tag s.canonical start) (nodes_tree items s directives x)
+
+    by : (x : Bool) → is_written_in_flow s place start (has_no_nodes items) ≡ x
+        → EitherType x (LeafFits rules s directives (sequence_node start items) place cursor)
+        (BegunReads rules s directives start cursor × ItemLeaves items rules s directives e)
+        → Fits rules (suc (items_size items)) (own x) (tree x) place cursor
+    by true h leaf =
+        fits_deeper rules 1 (suc (items_size items)) (own true) (tree true) place cursor (omega arith)
+        (subst (λ x. Fits rules 1 (own x) (tree x) place cursor) h leaf)
+    by false h leaves =
+        let fit = each e leaves.1 in
+        let some = not_empty s place start (has_no_nodes items) h in
+        block_fits rules (items_size items) e place cursor begun (items_own items s directives false e begun.cursor) (items_text items s directives e)
+        (λ anchor tag. sequence_tree anchor tag (nodes_tree items s directives false)) start.anchor (collection_tag s.canonical start) leaves.0
+        (items_block rules s directives items e fit some)
+        (record {
+          settled = items_settled rules s directives items e begun.cursor fit some;
+          ends = items_end rules s directives items e fit;
+          lays = items_lay rules s directives items e begun.cursor fit some;
+          inside = λ q d within. items_inside rules s directives items e fit q d (items_within q d place.role place.column s.indent begun.cursor deep within);
+          compact = compact_begun rules start.anchor (collection_tag s.canonical start) place.column
+              (is_in_mapping place.role) s.indent cursor begun deep stands leaves.0;
+        })
+
+-- so does a mapping
+mapping_fits : (start : Collection) (pairs : Pairs) (rules : Rules) (s : Effective) (directives : List TagDirective) (place : Place) (cursor : Cursor)
+    → 2 ≤ s.indent → Stands place.column cursor
+    → Leaves (mapping_node start pairs) rules s directives place cursor
+    → ((e : ℕ) → PairLeaves pairs rules s directives e → PairsFit rules s directives pairs e)
+    → Fits rules (size (mapping_node start pairs)) (node_own (mapping_node start pairs) s directives place cursor)
+    (node_tree (mapping_node start pairs) s directives place) place cursor
+mapping_fits start pairs rules s directives place cursor deep stands leaves each = by (is_written_in_flow s place start (has_no_pairs pairs)) refl leaves
+  where
+    begun : Laid
+    begun = begun_laid s directives start cursor
+
+    e : ℕ
+    e = entries_column false false s.indent place.column begun.cursor
+
+    own : Bool → Laid
+    own x = collection_own s curly x false (has_no_pairs pairs) place.column begun (pairs_own pairs s directives x)
+
+    tree : Bool → Tree
+    tree x = mapping_tree start.anchor (collection_tag s.canonical start) (pairs_tree pairs s directives x)
+
+    by : (x : Bool) → is_written_in_flow s place start (has_no_pairs pairs) ≡ x
+        → EitherType x (LeafFits rules s directives (mapping_node start pairs) place cursor)
+        (BegunReads rules s directives start cursor × PairLeaves pairs rules s directives e)
+        → Fits rules (suc (pairs_size pairs)) (own x) (tree x) place cursor
+    by true h leaf =
+        fits_deeper rules 1 (suc (pairs_size pairs)) (own true) (tree true) place cursor (omega arith)
+        (subst (λ x. Fits rules 1 (own x) (tree x) place cursor) h leaf)
+    by false h leaves =
+        let fit = each e leaves.1 in
+        let some = not_empty s place start (has_no_pairs pairs) h in
+        block_fits rules (pairs_size pairs) e place cursor begun (pairs_own pairs s directives false e begun.cursor) (pairs_text pairs s directives e)
+        (λ anchor tag. mapping_tree anchor tag (pairs_tree pairs s directives false)) start.anchor (collection_tag s.canonical start) leaves.0
+        (pairs_block rules s directives pairs e fit some)
+        (record {
+          settled = pairs_settled rules s directives pairs e begun.cursor fit some;
+          ends = pairs_end rules s directives pairs e fit;
+          lays = pairs_lay rules s directives pairs e begun.cursor fit some;
+          inside = λ q d within. pairs_inside rules s directives pairs e fit q d (pairs_within q d place.role place.column s.indent begun.cursor deep within);
+          compact = compact_begun rules start.anchor (collection_tag s.canonical start) place.column false s.indent cursor begun deep stands leaves.0;
+        })
+
+-- a pair fits where its key and its value do
+pair_fits : (x : Bool) (pairs : Pairs) (key value : Node) (rules : Rules) (s : Effective) (directives : List TagDirective) (e : ℕ)
+    → EitherType x
+    (KeyFits rules (simple_key pairs key s directives e).text (node_tree key s directives (key_place pairs e))
+    × Leaves value rules s directives (value_place true e) (colon_cursor (simple_key pairs key s directives e).cursor))
+    (Leaves key rules s directives (key_place pairs e) (sign_cursor e) × Leaves value rules s directives (value_place false e) (sign_cursor e))
+    → ((y : Bool) (cursor : Cursor) → Stands (Some e) cursor → Leaves value rules s directives (value_place y e) cursor
+    → Fits rules (size value) (node_own value s directives (value_place y e) cursor) (node_tree value s directives (value_place y e)) (value_place y e) cursor)
+    → (Leaves key rules s directives (key_place pairs e) (sign_cursor e)
+    → Fits rules (size key) (node_own key s directives (key_place pairs e) (sign_cursor e)) (node_tree key s directives (key_place pairs e)) (key_place pairs e)
+    (sign_cursor e))
+    → PairFits x rules s directives pairs key value e
+pair_fits true pairs key value rules s directives e leaves value_fits key_fits =
+    let own = (simple_key pairs key s directives e).cursor in
+    (leaves.0, value_fits true (colon_cursor own) (refl, λ h. absurd (false≢true (sym (colon_ends own) ∙ h))) leaves.1)
+pair_fits false pairs key value rules s directives e leaves value_fits
+    key_fits = (key_fits leaves.0, value_fits false (sign_cursor e) (refl, λ h. refl) leaves.1)
+
+-- a node in a block fits where its leaves do; so do the items of a sequence and the pairs of a mapping
+mutual
+  pub node_fits : (n : Node) (rules : Rules) (s : Effective) (directives : List TagDirective) (place : Place) (cursor : Cursor) → 2 ≤ s.indent
+      → Stands place.column cursor
+      → Leaves n rules s directives place cursor → Fits rules (size n) (node_own n s directives place cursor) (node_tree n s directives place) place cursor
+  node_fits (alias_node name) rules s directives place cursor deep stands leaves = leaves
+  node_fits (scalar_node content) rules s directives place cursor deep stands leaves = leaves
+  node_fits (sequence_node start items) rules s directives place cursor deep stands leaves =
+      sequence_fits start items rules s directives place cursor deep stands leaves (λ e each. items_fit items rules s directives e deep each)
+  node_fits (mapping_node start pairs) rules s directives place cursor deep stands leaves =
+      mapping_fits start pairs rules s directives place cursor deep stands leaves (λ e each. pairs_fit pairs rules s directives e deep each)
+
+  pub items_fit : (items : Nodes) (rules : Rules) (s : Effective) (directives : List TagDirective) (e : ℕ) → 2 ≤ s.indent
+      → ItemLeaves items rules s directives e
+      → ItemsFit rules s directives items e
+  items_fit no_nodes rules s directives e deep leaves = tt
+  items_fit (nodes_and items last) rules s directives e deep leaves = (
+    items_fit items rules s directives e deep leaves.0,
+    node_fits last rules s directives (item_place items e) (sign_cursor e) deep (refl, λ h. refl) leaves.1,
+  )
+
+  pub pairs_fit : (pairs : Pairs) (rules : Rules) (s : Effective) (directives : List TagDirective) (e : ℕ) → 2 ≤ s.indent
+      → PairLeaves pairs rules s directives e
+      → PairsFit rules s directives pairs e
+  pairs_fit no_pairs rules s directives e deep leaves = tt
+  pairs_fit (pairs_and pairs key value) rules s directives e deep leaves = (
+    pairs_fit pairs rules s directives e deep leaves.0,
+    pair_fits (is_simple s.canonical directives key) pairs key value rules s directives e leaves.1
+        (λ y cursor stands each. node_fits value rules s directives (value_place y e) cursor deep stands each)
+        (λ each. node_fits key rules s directives (key_place pairs e) (sign_cursor e) deep (refl, λ h. refl) each),
+  )

@@ -1,0 +1,224 @@
+-- The entries of a mapping read as its pairs, where each of them fits; and how a mapping's text is laid out.
+use Rattle.std.proofs.Common.{◌≡◌, suc, ◌≤◌, refl, sym, ap, ◌∙◌, append_assoc, append-nil, arith}
+use Rattle.std.proofs.lemmas.Bool.{true≢false, false≢true}
+use Rattle.std.specs.Prelude.{ℕ, Bool, true, false, Option, None, Some, List, [], ◌∷◌, ◌++◌, ◌+◌, ◌&&◌, fold, length, option_and_then, if◌then◌else◌}
+use Rattle.yaml_base.specs.Characters.{Text}
+use Rattle.yaml_base.specs.Settings.{Effective}
+use Rattle.yaml_base.specs.Event.{TagDirective}
+use Rattle.yaml_base.specs.Cursor.{Cursor, Laid, new_line, then_laid}
+use Rattle.yaml_base.specs.Grammar.{Node, Pairs, no_pairs, pairs_and}
+use Rattle.yaml_base.specs.Layout.{Role, as_key, as_value, has_no_pairs, is_simple, entry_place, place_laid}
+use Rattle.yaml_base.specs.StreamContent.{Tree, TreePairs, tree_pairs_and}
+use Rattle.yaml_base.specs.StreamLines.{Line, lines_of, spaces}
+use Rattle.yaml_base.specs.StreamScalars.{Rules}
+use Rattle.yaml_base.specs.StreamNodes.{SimpleKey, HeldPairs, with_key, with_value, simple_pair, key_entry, value_entry, simple_entry, entry_by_kind, entry_at, entry_read, no_pairs_held, node_read}
+use Rattle.yaml_base.proofs.stream_nodes.StreamAgrees.{node_tree, pairs_tree}
+use Rattle.yaml_base.proofs.stream_nodes.StreamTexts.{node_own, pairs_own}
+use Rattle.yaml_base.proofs.stream_lines.StreamInside.{past_spaces}
+use Rattle.yaml_base.proofs.stream_lines.StreamClosed.{closing, closed, Settled, new_line_closes, sign_cursor}
+use Rattle.yaml_base.proofs.stream_nodes.StreamFits.{size, pairs_size, Fits, tree_anywhere, signed_lines, blanked_lines}
+use Rattle.yaml_base.proofs.stream_nodes.StreamItems.{Lays, regrouped}
+use Rattle.yaml_base.proofs.stream_nodes.StreamPairs.{KeyFits, key_place, value_place, colon_cursor, simple_key, signed_key, simple_value, signed_value, pair_text, pairs_text, entries_of_pair, pair_entries, PairFits, PairsFit, question_line, colon_line, keyed_lines}
+
+-- Reading
+
+-- the pairs so far, and the key that waits for its value
+abbrev held : TreePairs → Option Tree → Option HeldPairs
+held pairs key = Some (record { pairs = pairs; key = key })
+
+-- an entry that begins with `?`
+question : (rules : Rules) (n : ℕ) (own : Laid) (tree : Tree) (role : Role) (e : ℕ) (fit : Fits rules n own tree (entry_place false role e) (sign_cursor e))
+    (depth : ℕ) → n ≤ depth → (pairs : TreePairs)
+    → entry_read rules (node_read depth rules) e (held pairs None) (lines_of rules.breaks12 (spaces e ++ (0x3F ∷ closed own))) ≡ held pairs (Some tree)
+question rules n own tree role e fit depth deep pairs =
+    let o = fit.opens refl in
+    let before : HeldPairs = record { pairs = pairs; key = None } in
+    ap (entry_read rules (node_read depth rules) e (held pairs None)) (signed_lines rules.breaks12 e 0x3F (closed own) o (question_line rules.breaks12))
+    ∙ ap (entry_at rules (node_read depth rules) e o.ending o.rest before) (past_spaces e (0x3F ∷ o.head))
+    ∙ ap (λ x. entry_by_kind (if x then key_entry else simple_entry) rules (node_read depth rules) e o.ending o.rest before (0x3F ∷ o.head)) o.sign
+    ∙ ap (λ ls. with_key before (node_read depth rules true (Some e) ls)) (sym (blanked_lines rules.breaks12 (suc e) (closed own) o))
+    ∙ ap (with_key before) (fit.reads depth deep true (suc e) (λ h. (refl, omega arith)))
+
+-- an entry that begins with `:`
+colon : (rules : Rules) (n : ℕ) (own : Laid) (tree : Tree) (role : Role) (e : ℕ) (fit : Fits rules n own tree (entry_place false role e) (sign_cursor e))
+    (depth : ℕ) → n ≤ depth → (pairs : TreePairs) (key : Tree)
+    → entry_read rules (node_read depth rules) e (held pairs (Some key)) (lines_of rules.breaks12 (spaces e ++ (0x3A ∷ closed own)))
+    ≡ held (tree_pairs_and pairs key tree) None
+colon rules n own tree role e fit depth deep pairs key =
+    let o = fit.opens refl in
+    let before : HeldPairs = record { pairs = pairs; key = Some key } in
+    ap (entry_read rules (node_read depth rules) e (held pairs (Some key))) (signed_lines rules.breaks12 e 0x3A (closed own) o (colon_line rules.breaks12))
+    ∙ ap (entry_at rules (node_read depth rules) e o.ending o.rest before) (past_spaces e (0x3A ∷ o.head))
+    ∙ ap (λ x. entry_by_kind (if x then value_entry else simple_entry) rules (node_read depth rules) e o.ending o.rest before (0x3A ∷ o.head)) o.sign
+    ∙ ap (λ ls. with_value pairs (Some key) (node_read depth rules true (Some e) ls)) (sym (blanked_lines rules.breaks12 (suc e) (closed own) o))
+    ∙ ap (with_value pairs (Some key)) (fit.reads depth deep true (suc e) (λ h. (refl, omega arith)))
+
+-- an entry that begins with a simple key
+keyed : (rules : Rules) (text : Text) (key_tree : Tree) (n : ℕ) (own : Laid) (tree : Tree) (role : Role) (e : ℕ) (cursor : Cursor) → KeyFits rules text key_tree
+    → (fit : Fits rules n own tree (entry_place false role e) cursor) → cursor.whitespace ≡ false → cursor.indention ≡ false → (depth : ℕ) → n ≤ depth
+    → (pairs : TreePairs)
+    → entry_read rules (node_read depth rules) e (held pairs None) (lines_of rules.breaks12 (spaces e ++ (text ++ (0x3A ∷ closed own))))
+    ≡ held (tree_pairs_and pairs key_tree tree) None
+keyed rules text key_tree n own tree role e cursor key fit w i depth deep pairs =
+    let o = fit.opens w in
+    let before : HeldPairs = record { pairs = pairs; key = None } in
+    let line = text ++ (0x3A ∷ o.head) in
+    ap (entry_read rules (node_read depth rules) e (held pairs None)) (keyed_lines rules text (closed own) key_tree e key o)
+    ∙ ap (entry_at rules (node_read depth rules) e o.ending o.rest before) (past_spaces e line)
+    ∙ ap (λ k. entry_by_kind k rules (node_read depth rules) e o.ending o.rest before line) (key.simple o.head o.sign)
+    ∙ ap (option_and_then (λ (found : SimpleKey). simple_pair (node_read depth rules) e o.ending o.rest (with_key before (Some found.key)) (Some found)))
+    (key.cut o.head o.sign)
+    ∙ ap (λ ls. with_value pairs (Some key_tree) (node_read depth rules false (Some e) ls))
+    (sym (blanked_lines rules.breaks12 (suc (e + length text)) (closed own) o))
+    ∙ ap (with_value pairs (Some key_tree)) (fit.reads depth deep false (suc (e + length text)) (λ h. absurd (false≢true (sym i ∙ h))))
+
+-- no cursor stands in indentation behind the `:` of a simple key
+pub colon_ends : (cursor : Cursor) → (colon_cursor cursor).indention ≡ false
+colon_ends cursor = by cursor.indention
+  where
+    by : (x : Bool) → x && false ≡ false
+    by true = refl
+    by false = refl
+
+-- the entries of one pair
+pair_reads : (x : Bool) (rules : Rules) (s : Effective) (directives : List TagDirective) (pairs : Pairs) (key value : Node) (e : ℕ)
+    → PairFits x rules s directives pairs key value e
+    → (depth : ℕ) → size key ≤ depth → size value ≤ depth → (before : TreePairs) (rest : List (List Line))
+    → fold (entry_read rules (node_read depth rules) e) (held before None) (entries_of_pair rules.breaks12 x pairs key value s directives e ++ rest)
+    ≡ fold (entry_read rules (node_read depth rules) e)
+    (held (tree_pairs_and before (node_tree key s directives (key_place pairs e)) (node_tree value s directives (value_place x e))) None) rest
+pair_reads true rules s directives pairs key value e fit depth deep_key deep_value before rest =
+    let own = simple_key pairs key s directives e in
+    ap (λ h. fold (entry_read rules (node_read depth rules) e) h rest)
+    (keyed rules own.text (node_tree key s directives (key_place pairs e)) (size value) (simple_value pairs key value s directives e)
+    (node_tree value s directives (value_place true e))
+    (as_value true) e (colon_cursor own.cursor) fit.0 fit.1 refl (colon_ends own.cursor) depth deep_value before)
+pair_reads false rules s directives pairs key value e fit depth deep_key deep_value before rest =
+    let k = node_tree key s directives (key_place pairs e) in
+    ap (λ h. fold (entry_read rules (node_read depth rules) e)
+    (entry_read rules (node_read depth rules) e h (lines_of rules.breaks12 (spaces e ++ (0x3A ∷ closed (signed_value value s directives e))))) rest)
+    (question rules (size key) (signed_key pairs key s directives e) k (as_key (has_no_pairs pairs)) e fit.0 depth deep_key before)
+    ∙ ap (λ h. fold (entry_read rules (node_read depth rules) e) h rest)
+    (colon rules (size value) (signed_value value s directives e) (node_tree value s directives (value_place false e))
+    (as_value false) e fit.1 depth deep_value before k)
+
+-- the entries of a mapping read as its pairs, whatever entries follow
+pub pairs_read_back : (rules : Rules) (s : Effective) (directives : List TagDirective) (pairs : Pairs) (e : ℕ) → PairsFit rules s directives pairs e
+    → (depth : ℕ) → pairs_size pairs ≤ depth → (rest : List (List Line))
+    → fold (entry_read rules (node_read depth rules) e) (Some no_pairs_held) (pair_entries rules.breaks12 pairs s directives e ++ rest)
+    ≡ fold (entry_read rules (node_read depth rules) e) (held (pairs_tree pairs s directives false) None) rest
+pairs_read_back rules s directives no_pairs e fit depth deep rest = refl
+pairs_read_back rules s directives (pairs_and pairs key value) e fit depth deep rest =
+    let x = is_simple s.canonical directives key in
+    let own = entries_of_pair rules.breaks12 x pairs key value s directives e in
+    let before = pairs_tree pairs s directives false in
+    ap (fold (entry_read rules (node_read depth rules) e) (Some no_pairs_held)) (append_assoc (pair_entries rules.breaks12 pairs s directives e) own rest)
+    ∙ pairs_read_back rules s directives pairs e fit.0 depth (omega arith) (own ++ rest)
+    ∙ pair_reads x rules s directives pairs key value e fit.1 depth (omega arith) (omega arith) before rest
+    ∙ ap (λ k. fold (entry_read rules (node_read depth rules) e) (held (tree_pairs_and before k (node_tree value s directives (value_place x e))) None) rest)
+    (tree_anywhere key s directives false (as_key (has_no_pairs pairs)) e 0)
+    ∙ ap (λ v. fold (entry_read rules (node_read depth rules) e)
+    (held (tree_pairs_and before (node_tree key s directives (entry_place false (as_key (has_no_pairs pairs)) 0)) v) None) rest)
+    (tree_anywhere value s directives false (as_value x) e 0)
+
+-- Layout
+
+-- what is laid out for a pair after other text
+abbrev pair_own : (simple : Bool) → Pairs → Node → Node → Effective → List TagDirective → ℕ → Laid → Laid
+pair_own x pairs key value s directives e before =
+    then_laid
+    (then_laid before (λ after. then_laid (place_laid s (key_place pairs e) x after) (node_own key s directives (key_place pairs e))))
+    (λ after. then_laid (place_laid s (value_place x e) false after) (node_own value s directives (value_place x e)))
+
+-- it leaves off settled
+pair_settled : (x : Bool) (rules : Rules) (s : Effective) (directives : List TagDirective) (pairs : Pairs) (key value : Node) (e : ℕ) (before : Laid)
+    → PairFits x rules s directives pairs key value e → Settled (pair_own x pairs key value s directives e before).cursor
+pair_settled true rules s directives pairs key value e before fit = fit.1.settled
+pair_settled false rules s directives pairs key value e before fit = fit.1.settled
+
+-- it is a new line and the pair's text without its first spaces
+pub record PairLays (text before : Text) (own : Laid) (line : Text) (e : ℕ) : Type 0 where
+  pub head : ℕ
+  pub tail : Text
+  pub is : text ≡ spaces e ++ (head ∷ tail)
+  pub lays : closed own ≡ before ++ (line ++ (head ∷ tail))
+
+-- regrouped: a key, its `:` and what that opens
+keyed_regrouped : (a n k v c : Text) → ((a ++ ((n ++ []) ++ k)) ++ ((0x3A ∷ []) ++ v)) ++ c ≡ a ++ (n ++ (k ++ (0x3A ∷ (v ++ c))))
+keyed_regrouped a n k v c =
+    append_assoc (a ++ ((n ++ []) ++ k)) (0x3A ∷ v) c ∙ append_assoc a ((n ++ []) ++ k) (0x3A ∷ (v ++ c))
+    ∙ ap (λ t. a ++ ((t ++ k) ++ (0x3A ∷ (v ++ c)))) (append-nil n) ∙ ap (λ t. a ++ t) (append_assoc n k (0x3A ∷ (v ++ c)))
+
+-- regrouped: a key with its sign, and a value with its own
+signed_regrouped : (a n k m v c : Text)
+    → ((a ++ ((n ++ (0x3F ∷ [])) ++ k)) ++ ((m ++ (0x3A ∷ [])) ++ v)) ++ c ≡ a ++ (n ++ (0x3F ∷ (k ++ (m ++ (0x3A ∷ (v ++ c))))))
+signed_regrouped a n k m v c =
+    append_assoc (a ++ ((n ++ (0x3F ∷ [])) ++ k)) ((m ++ (0x3A ∷ [])) ++ v) c
+    ∙ ap (λ t. (a ++ ((n ++ (0x3F ∷ [])) ++ k)) ++ t) (append_assoc (m ++ (0x3A ∷ [])) v c ∙ append_assoc m (0x3A ∷ []) (v ++ c))
+    ∙ regrouped a n k (m ++ (0x3A ∷ (v ++ c))) 0x3F
+
+-- so it is for a pair of either kind
+pair_lays : (x : Bool) (rules : Rules) (s : Effective) (directives : List TagDirective) (pairs : Pairs) (key value : Node) (e : ℕ) (before : Laid)
+    → PairFits x rules s directives pairs key value e
+    → PairLays (pair_text x pairs key value s directives e) before.text (pair_own x pairs key value s directives e before) (new_line e before.cursor).text e
+pair_lays true rules s directives pairs key value e before fit =
+    let k = simple_key pairs key s directives e in
+    let v = simple_value pairs key value s directives e in
+    record {
+      head = fit.0.first;
+      tail = fit.0.tail ++ (0x3A ∷ closed v);
+      is = ap (λ t. spaces e ++ (t ++ (0x3A ∷ closed v))) fit.0.is;
+      lays =
+          keyed_regrouped before.text (new_line e before.cursor).text k.text v.text (closing v.cursor)
+          ∙ ap (λ t. before.text ++ ((new_line e before.cursor).text ++ (t ++ (0x3A ∷ closed v)))) fit.0.is;
+    }
+pair_lays false rules s directives pairs key value e before fit =
+    let k = signed_key pairs key s directives e in
+    let v = signed_value value s directives e in
+    record {
+      head = 0x3F;
+      tail = closed k ++ (spaces e ++ (0x3A ∷ closed v));
+      is = append_assoc (spaces e) (0x3F ∷ closed k) (spaces e ++ (0x3A ∷ closed v));
+      lays =
+          signed_regrouped before.text (new_line e before.cursor).text k.text (new_line e k.cursor).text v.text (closing v.cursor)
+          ∙ ap (λ t. before.text ++ ((new_line e before.cursor).text ++ (0x3F ∷ t)))
+          (ap (λ m. k.text ++ (m ++ (0x3A ∷ closed v))) (new_line_closes e k.cursor fit.0.settled)
+          ∙ ap (λ m. k.text ++ m) (append_assoc (closing k.cursor) (spaces e) (0x3A ∷ closed v))
+          ∙ sym (append_assoc k.text (closing k.cursor) (spaces e ++ (0x3A ∷ closed v))));
+    }
+
+-- the pairs of a mapping leave off settled
+pub pairs_settled : (rules : Rules) (s : Effective) (directives : List TagDirective) (pairs : Pairs) (e : ℕ) (cursor : Cursor)
+    → PairsFit rules s directives pairs e
+    → has_no_pairs pairs ≡ false → Settled (pairs_own pairs s directives false e cursor).cursor
+pairs_settled rules s directives no_pairs e cursor fit h = absurd (true≢false h)
+pairs_settled rules s directives (pairs_and pairs key value) e cursor fit h =
+    pair_settled (is_simple s.canonical directives key) rules s directives pairs key value e (pairs_own pairs s directives false e cursor) fit.1
+
+-- the pairs of a mapping are laid out from a new line on
+pub pairs_lay : (rules : Rules) (s : Effective) (directives : List TagDirective) (pairs : Pairs) (e : ℕ) (cursor : Cursor) → PairsFit rules s directives pairs e
+    → has_no_pairs pairs ≡ false → Lays e cursor (pairs_own pairs s directives false e cursor) (pairs_text pairs s directives e)
+pairs_lay rules s directives no_pairs e cursor fit h = absurd (true≢false h)
+pairs_lay rules s directives (pairs_and no_pairs key value) e cursor fit h =
+    let one = pair_lays (is_simple s.canonical directives key) rules s directives no_pairs key value e (pairs_own no_pairs s directives false e cursor) fit.1 in
+    record { head = one.head; tail = one.tail; is = one.is; lays = one.lays }
+pairs_lay rules s directives (pairs_and (pairs_and pairs a b) key value) e cursor fit h =
+    let x = is_simple s.canonical directives key in
+    let before = pairs_own (pairs_and pairs a b) s directives false e cursor in
+    let one = pair_lays x rules s directives (pairs_and pairs a b) key value e before fit.1 in
+    let lays = pairs_lay rules s directives (pairs_and pairs a b) e cursor fit.0 refl in
+    let more = pair_text x (pairs_and pairs a b) key value s directives e in
+    record {
+      head = lays.head;
+      tail = lays.tail ++ more;
+      is = ap (λ t. t ++ more) lays.is ∙ append_assoc (spaces e) (lays.head ∷ lays.tail) more;
+      lays =
+          one.lays
+          ∙ ap (λ t. before.text ++ (t ++ (one.head ∷ one.tail)))
+          (new_line_closes e before.cursor (pairs_settled rules s directives (pairs_and pairs a b) e cursor fit.0 refl))
+          ∙ ap (λ t. before.text ++ t) (append_assoc (closing before.cursor) (spaces e) (one.head ∷ one.tail)
+          ∙ ap (λ t. closing before.cursor ++ t) (sym one.is))
+          ∙ sym (append_assoc before.text (closing before.cursor) more)
+          ∙ ap (λ t. t ++ more) lays.lays
+          ∙ append_assoc (new_line e cursor).text (lays.head ∷ lays.tail) more;
+    }

@@ -1,0 +1,293 @@
+-- The pairs of a mapping in a block, where each of them fits: their lines split into one entry for a pair with a simple key
+-- and two for another, lie inside the columns around, and read as their trees.
+use Rattle.std.proofs.Common.{◌≡◌, ◌≤◌, ◌<◌, refl, sym, ap, ◌∙◌, append_assoc, arith, subst}
+use Rattle.std.proofs.lemmas.Bool.{and_from}
+use Rattle.std.specs.Prelude.{ℕ, Bool, true, false, Some, List, [], ◌∷◌, ◌++◌, ◌+◌, ◌==◌, ◌&&◌, not, length, codes}
+use Rattle.std.specs.List.{list_all}
+use Rattle.yaml_base.specs.Characters.{Text, space}
+use Rattle.yaml_base.specs.Settings.{Effective}
+use Rattle.yaml_base.specs.Event.{TagDirective}
+use Rattle.yaml_base.specs.Cursor.{Cursor, Laid, indicator}
+use Rattle.yaml_base.specs.Grammar.{Node, Pairs, no_pairs, pairs_and}
+use Rattle.yaml_base.specs.Layout.{Role, as_key, as_value, Place, is_in_mapping, has_no_pairs, is_simple, entry_place}
+use Rattle.yaml_base.specs.StreamContent.{Tree}
+use Rattle.yaml_base.specs.StreamLines.{Line, lines_of, ends_sign, begins_with_sign, is_inside, spaces}
+use Rattle.yaml_base.specs.StreamScalars.{Rules}
+use Rattle.yaml_base.specs.StreamNodes.{key_of_line, simple_entry, kind_of_entry}
+use Rattle.yaml_base.specs.StreamDocuments.{mark_of}
+use Rattle.yaml_base.proofs.stream_lines.StreamSections.{is_unmarked}
+use Rattle.yaml_base.proofs.stream_nodes.StreamAgrees.{node_tree}
+use Rattle.yaml_base.proofs.stream_nodes.StreamTexts.{node_own}
+use Rattle.yaml_base.proofs.stream_lines.StreamLineLaws.{is_closed, OneLine, lines_after_break}
+use Rattle.yaml_base.proofs.stream_lines.StreamInside.{AllInside, Splits, splits_none, splits_both, splits_one, begins_entry, outside, inside_deeper}
+use Rattle.yaml_base.proofs.stream_lines.StreamTidyLaws.{lines_after_first}
+use Rattle.yaml_base.proofs.stream_lines.StreamClosed.{closed, sign_cursor, margin_cursor, spaces_line, lines_behind, closed_behind, closed_both, rank, inside_both}
+use Rattle.yaml_base.proofs.stream_nodes.StreamFits.{size, Opens, Fits, signed_lines, signed_ends}
+
+-- what the text of a simple key is to the reader, before `:` and what a sign opens: a line begins with it, no sign of an
+-- entry does, it is no mark, and it is cut off as the key
+pub record KeyFits (rules : Rules) (text : Text) (tree : Tree) : Type 0 where
+  pub first : ℕ
+  pub tail : Text
+  pub is : text ≡ first ∷ tail
+  pub shows : (first == space) ≡ false
+  pub one_line : OneLine rules.breaks12 text
+  pub no_dash : (after : Text) → ends_sign after ≡ true → begins_with_sign 0x2D (text ++ (0x3A ∷ after)) ≡ false
+  pub simple : (after : Text) → ends_sign after ≡ true → kind_of_entry (text ++ (0x3A ∷ after)) ≡ simple_entry
+  pub unmarked : (after : Text) → ends_sign after ≡ true → is_unmarked (mark_of (text ++ (0x3A ∷ after))) ≡ true
+  pub cut : (after : Text) → ends_sign after ≡ true
+      → key_of_line rules (text ++ (0x3A ∷ after)) ≡ Some (record { key = tree; length = length text; after = after })
+
+-- the place of a key, and of a value
+abbrev pub key_place : Pairs → ℕ → Place
+key_place pairs e = entry_place false (as_key (has_no_pairs pairs)) e
+
+abbrev pub value_place : (simple : Bool) → ℕ → Place
+value_place simple e = entry_place false (as_value simple) e
+
+-- the cursor behind the `:` after a simple key
+abbrev pub colon_cursor : Cursor → Cursor
+colon_cursor cursor = (indicator (codes ":") false false false cursor).cursor
+
+-- what is laid out for a simple key, and for a key behind `?`
+abbrev pub simple_key : Pairs → Node → Effective → List TagDirective → ℕ → Laid
+simple_key pairs key s directives e = node_own key s directives (key_place pairs e) (margin_cursor e)
+
+abbrev pub signed_key : Pairs → Node → Effective → List TagDirective → ℕ → Laid
+signed_key pairs key s directives e = node_own key s directives (key_place pairs e) (sign_cursor e)
+
+-- what is laid out for a value behind a simple key, and behind a `:` of its own
+abbrev pub simple_value : Pairs → Node → Node → Effective → List TagDirective → ℕ → Laid
+simple_value pairs key value s directives e =
+    node_own value s directives (value_place true e) (colon_cursor (simple_key pairs key s directives e).cursor)
+
+abbrev pub signed_value : Node → Effective → List TagDirective → ℕ → Laid
+signed_value value s directives e = node_own value s directives (value_place false e) (sign_cursor e)
+
+-- a pair from its column on and up to its line's end
+abbrev pub pair_text : (simple : Bool) → Pairs → Node → Node → Effective → List TagDirective → ℕ → Text
+pair_text true pairs key value s directives e =
+    spaces e ++ ((simple_key pairs key s directives e).text ++ (0x3A ∷ closed (simple_value pairs key value s directives e)))
+pair_text false pairs key value s directives e =
+    (spaces e ++ (0x3F ∷ closed (signed_key pairs key s directives e))) ++ (spaces e ++ (0x3A ∷ closed (signed_value value s directives e)))
+
+-- the pairs of a mapping at a column
+abbrev pub pairs_text : Pairs → Effective → List TagDirective → ℕ → Text
+pairs_text no_pairs s directives e = []
+pairs_text (pairs_and pairs key value) s directives e =
+    pairs_text pairs s directives e ++ pair_text (is_simple s.canonical directives key) pairs key value s directives e
+
+-- the lines of each entry of a pair
+abbrev pub entries_of_pair : Bool → (simple : Bool) → Pairs → Node → Node → Effective → List TagDirective → ℕ → List (List Line)
+entries_of_pair breaks12 true pairs key value s directives e = lines_of breaks12 (pair_text true pairs key value s directives e) ∷ []
+entries_of_pair breaks12 false pairs key value s directives e =
+    lines_of breaks12 (spaces e ++ (0x3F ∷ closed (signed_key pairs key s directives e)))
+    ∷ lines_of breaks12 (spaces e ++ (0x3A ∷ closed (signed_value value s directives e))) ∷ []
+
+-- those of all pairs
+abbrev pub pair_entries : Bool → Pairs → Effective → List TagDirective → ℕ → List (List Line)
+pair_entries breaks12 no_pairs s directives e = []
+pair_entries breaks12 (pairs_and pairs key value) s directives e =
+    pair_entries breaks12 pairs s directives e ++ entries_of_pair breaks12 (is_simple s.canonical directives key) pairs key value s directives e
+
+-- a pair fits
+abbrev pub PairFits : (simple : Bool) → Rules → Effective → List TagDirective → Pairs → Node → Node → ℕ → Type 0
+PairFits true rules s directives pairs key value e =
+    KeyFits rules (simple_key pairs key s directives e).text (node_tree key s directives (key_place pairs e))
+    × Fits rules (size value) (simple_value pairs key value s directives e) (node_tree value s directives (value_place true e)) (value_place true e)
+    (colon_cursor (simple_key pairs key s directives e).cursor)
+PairFits false rules s directives pairs key value e =
+    Fits rules (size key) (signed_key pairs key s directives e) (node_tree key s directives (key_place pairs e)) (key_place pairs e) (sign_cursor e)
+    × Fits rules (size value) (signed_value value s directives e) (node_tree value s directives (value_place false e)) (value_place false e) (sign_cursor e)
+
+-- each pair fits
+abbrev pub PairsFit : Rules → Effective → List TagDirective → Pairs → ℕ → Type 0
+PairsFit rules s directives no_pairs e = Unit {0}
+PairsFit rules s directives (pairs_and pairs key value) e =
+    PairsFit rules s directives pairs e × PairFits (is_simple s.canonical directives key) rules s directives pairs key value e
+
+-- the signs of a pair break no line
+pub question_line : (breaks12 : Bool) → OneLine breaks12 (0x3F ∷ [])
+question_line true = refl
+question_line false = refl
+
+-- nor does a `:`
+pub colon_line : (breaks12 : Bool) → OneLine breaks12 (0x3A ∷ [])
+colon_line true = refl
+colon_line false = refl
+
+-- the lines of a simple key and what its `:` opens
+pub keyed_lines : (rules : Rules) (text t : Text) (tree : Tree) (e : ℕ) → KeyFits rules text tree → (o : Opens rules.breaks12 t)
+    → lines_of rules.breaks12 (spaces e ++ (text ++ (0x3A ∷ t))) ≡ record { text = spaces e ++ (text ++ (0x3A ∷ o.head)); ending = o.ending } ∷ o.rest
+keyed_lines rules text t tree e key o =
+    lines_behind rules.breaks12 (spaces e) (text ++ (0x3A ∷ t)) (text ++ (0x3A ∷ o.head)) o.ending o.rest (spaces_line rules.breaks12 e)
+    (lines_behind rules.breaks12 text (0x3A ∷ t) (0x3A ∷ o.head) o.ending o.rest key.one_line
+    (lines_behind rules.breaks12 (0x3A ∷ []) t o.head o.ending o.rest (colon_line rules.breaks12) o.is))
+
+-- a key begins an entry
+keyed_begins : (rules : Rules) (text after : Text) (tree : Tree) → KeyFits rules text tree → ends_sign after ≡ true
+    → begins_entry false (text ++ (0x3A ∷ after)) ≡ true
+keyed_begins rules text after tree key h =
+    ap (λ t. begins_entry false (t ++ (0x3A ∷ after))) key.is
+    ∙ and_from (not (key.first == space)) (not (begins_with_sign 0x2D ((key.first ∷ key.tail) ++ (0x3A ∷ after)))) (ap not key.shows)
+    (ap not (ap (λ t. begins_with_sign 0x2D (t ++ (0x3A ∷ after))) (sym key.is) ∙ key.no_dash after h))
+
+-- a place in a column is within those around
+within_less : (q : Bool) (d e : ℕ) (x : Bool) → d + rank q ≤ e → d + rank (q && x) ≤ e
+within_less true d e true h = h
+within_less true d e false h = omega arith
+within_less false d e x h = h
+
+-- the lines after the first of what a sign opens are inside the column, where the node fits there
+pub rest_inside : (rules : Rules) (n : ℕ) (own : Laid) (tree : Tree) (role : Role) (cursor : Cursor) (e : ℕ)
+    (fit : Fits rules n own tree (entry_place false role e) cursor) (w : cursor.whitespace ≡ false)
+    (q : Bool) (d : ℕ) → d + rank q ≤ e → AllInside q d (fit.opens w).rest
+rest_inside rules n own tree role cursor e fit w q d h =
+    ap (λ ls. list_all (λ line. is_inside q d line.text) (lines_after_first ls)) (sym (fit.opens w).is)
+    ∙ fit.inside q d (within_less q d e (is_in_mapping role) h)
+
+-- all lines of a sign and what it opens are deeper than a column farther out
+signed_inside : (rules : Rules) (n : ℕ) (own : Laid) (tree : Tree) (role : Role) (cursor : Cursor) (e c : ℕ)
+    (fit : Fits rules n own tree (entry_place false role e) cursor) (w : cursor.whitespace ≡ false)
+    → OneLine rules.breaks12 (c ∷ []) → (q : Bool) (d : ℕ) → d < e → AllInside q d (lines_of rules.breaks12 (spaces e ++ (c ∷ closed own)))
+signed_inside rules n own tree role cursor e c fit w one q d h =
+    let o = fit.opens w in
+    ap (λ ls. list_all (λ line. is_inside q d line.text) ls) (signed_lines rules.breaks12 e c (closed own) o one)
+    ∙ and_from (is_inside q d (spaces e ++ (c ∷ o.head))) (list_all (λ line. is_inside q d line.text) o.rest) (inside_deeper q d e (c ∷ o.head) h)
+    (rest_inside rules n own tree role cursor e fit w q d (ranked q))
+  where
+    ranked : (q : Bool) → d + rank q ≤ e
+    ranked true = omega arith
+    ranked false = omega arith
+
+-- they are one entry of a mapping
+signed_splits : (rules : Rules) (n : ℕ) (own : Laid) (tree : Tree) (role : Role) (cursor : Cursor) (e c : ℕ)
+    (fit : Fits rules n own tree (entry_place false role e) cursor) (w : cursor.whitespace ≡ false)
+    → OneLine rules.breaks12 (c ∷ []) → ((t : Text) → begins_entry false (c ∷ t) ≡ true)
+    → Splits false e (lines_of rules.breaks12 (spaces e ++ (c ∷ closed own))) (lines_of rules.breaks12 (spaces e ++ (c ∷ closed own)) ∷ [])
+signed_splits rules n own tree role cursor e c fit w one begins =
+    let o = fit.opens w in
+    subst (λ ls. Splits false e ls (ls ∷ [])) (sym (signed_lines rules.breaks12 e c (closed own) o one))
+    (splits_one false e (record { text = spaces e ++ (c ∷ o.head); ending = o.ending }) o.rest (outside false e (c ∷ o.head) (begins o.head))
+    (rest_inside rules n own tree role cursor e fit w false e (omega arith)))
+
+-- One pair
+
+-- a pair ends at a line's end
+pair_ends : (x : Bool) (rules : Rules) (s : Effective) (directives : List TagDirective) (pairs : Pairs) (key value : Node) (e : ℕ)
+    → PairFits x rules s directives pairs key value e
+    → is_closed rules.breaks12 (pair_text x pairs key value s directives e) ≡ true
+pair_ends true rules s directives pairs key value e fit =
+    let k = (simple_key pairs key s directives e).text in
+    let v = closed (simple_value pairs key value s directives e) in
+    ap (is_closed rules.breaks12) (sym (append_assoc (spaces e) k (0x3A ∷ v)))
+    ∙ closed_behind rules.breaks12 (spaces e ++ k) 0x3A v (signed_ends rules.breaks12 0 0x3A v (fit.1.opens refl) fit.1.ends)
+pair_ends false rules s directives pairs key value e fit =
+    let k = closed (signed_key pairs key s directives e) in
+    let v = closed (signed_value value s directives e) in
+    closed_both rules.breaks12 (spaces e ++ (0x3F ∷ k)) (spaces e ++ (0x3A ∷ v)) (signed_ends rules.breaks12 e 0x3F k (fit.0.opens refl) fit.0.ends)
+    (signed_ends rules.breaks12 e 0x3A v (fit.1.opens refl) fit.1.ends)
+
+-- a pair with `?` has the lines of both
+pub signed_pair_lines : (rules : Rules) (s : Effective) (directives : List TagDirective) (pairs : Pairs) (key value : Node) (e : ℕ)
+    → PairFits false rules s directives pairs key value e
+    → lines_of rules.breaks12 (pair_text false pairs key value s directives e)
+    ≡ lines_of rules.breaks12 (spaces e ++ (0x3F ∷ closed (signed_key pairs key s directives e)))
+    ++ lines_of rules.breaks12 (spaces e ++ (0x3A ∷ closed (signed_value value s directives e)))
+signed_pair_lines rules s directives pairs key value e fit =
+    lines_after_break rules.breaks12 (spaces e ++ (0x3F ∷ closed (signed_key pairs key s directives e)))
+    (spaces e ++ (0x3A ∷ closed (signed_value value s directives e)))
+    (signed_ends rules.breaks12 e 0x3F (closed (signed_key pairs key s directives e)) (fit.0.opens refl) fit.0.ends)
+
+-- a pair's lines split into its entries
+pair_splits : (x : Bool) (rules : Rules) (s : Effective) (directives : List TagDirective) (pairs : Pairs) (key value : Node) (e : ℕ)
+    → PairFits x rules s directives pairs key value e
+    → Splits false e (lines_of rules.breaks12 (pair_text x pairs key value s directives e)) (entries_of_pair rules.breaks12 x pairs key value s directives e)
+pair_splits true rules s directives pairs key value e fit =
+    let k = (simple_key pairs key s directives e).text in
+    let tree = node_tree key s directives (key_place pairs e) in
+    let o = fit.1.opens refl in
+    subst (λ ls. Splits false e ls (ls ∷ [])) (sym (keyed_lines rules k (closed (simple_value pairs key value s directives e)) tree e fit.0 o))
+    (splits_one false e (record { text = spaces e ++ (k ++ (0x3A ∷ o.head)); ending = o.ending }) o.rest
+    (outside false e (k ++ (0x3A ∷ o.head)) (keyed_begins rules k o.head tree fit.0 o.sign))
+    (rest_inside rules (size value) (simple_value pairs key value s directives e) (node_tree value s directives (value_place true e)) (as_value true)
+    (colon_cursor (simple_key pairs key s directives e).cursor) e fit.1 refl false e (omega arith)))
+pair_splits false rules s directives pairs key value e fit =
+    let k = spaces e ++ (0x3F ∷ closed (signed_key pairs key s directives e)) in
+    let v = spaces e ++ (0x3A ∷ closed (signed_value value s directives e)) in
+    subst (λ ls. Splits false e ls (lines_of rules.breaks12 k ∷ lines_of rules.breaks12 v ∷ []))
+    (sym (signed_pair_lines rules s directives pairs key value e fit))
+    (splits_both false e (lines_of rules.breaks12 k) (lines_of rules.breaks12 v) (lines_of rules.breaks12 k ∷ []) (lines_of rules.breaks12 v ∷ [])
+    (signed_splits rules (size key) (signed_key pairs key s directives e) (node_tree key s directives (key_place pairs e)) (as_key (has_no_pairs pairs))
+    (sign_cursor e) e 0x3F fit.0 refl (question_line rules.breaks12) (λ t. refl))
+    (signed_splits rules (size value) (signed_value value s directives e) (node_tree value s directives (value_place false e)) (as_value false)
+    (sign_cursor e) e 0x3A fit.1 refl (colon_line rules.breaks12) (λ t. refl)))
+
+-- a pair's lines are deeper than a column farther out
+pair_inside : (x : Bool) (rules : Rules) (s : Effective) (directives : List TagDirective) (pairs : Pairs) (key value : Node) (e : ℕ)
+    → PairFits x rules s directives pairs key value e
+    → (q : Bool) (d : ℕ) → d < e → AllInside q d (lines_of rules.breaks12 (pair_text x pairs key value s directives e))
+pair_inside true rules s directives pairs key value e fit q d h =
+    let k = (simple_key pairs key s directives e).text in
+    let tree = node_tree key s directives (key_place pairs e) in
+    let o = fit.1.opens refl in
+    ap (λ ls. list_all (λ line. is_inside q d line.text) ls) (keyed_lines rules k (closed (simple_value pairs key value s directives e)) tree e fit.0 o)
+    ∙ and_from (is_inside q d (spaces e ++ (k ++ (0x3A ∷ o.head)))) (list_all (λ line. is_inside q d line.text) o.rest)
+    (inside_deeper q d e (k ++ (0x3A ∷ o.head)) h)
+    (rest_inside rules (size value) (simple_value pairs key value s directives e) (node_tree value s directives (value_place true e)) (as_value true)
+    (colon_cursor (simple_key pairs key s directives e).cursor) e fit.1 refl q d (ranked q))
+  where
+    ranked : (q : Bool) → d + rank q ≤ e
+    ranked true = omega arith
+    ranked false = omega arith
+pair_inside false rules s directives pairs key value e fit q d h =
+    ap (λ ls. list_all (λ line. is_inside q d line.text) ls) (signed_pair_lines rules s directives pairs key value e fit)
+    ∙ inside_both q d (lines_of rules.breaks12 (spaces e ++ (0x3F ∷ closed (signed_key pairs key s directives e))))
+    (lines_of rules.breaks12 (spaces e ++ (0x3A ∷ closed (signed_value value s directives e))))
+    (signed_inside rules (size key) (signed_key pairs key s directives e) (node_tree key s directives (key_place pairs e)) (as_key (has_no_pairs pairs))
+    (sign_cursor e) e 0x3F fit.0 refl (question_line rules.breaks12) q d h)
+    (signed_inside rules (size value) (signed_value value s directives e) (node_tree value s directives (value_place false e)) (as_value false)
+    (sign_cursor e) e 0x3A fit.1 refl (colon_line rules.breaks12) q d h)
+
+-- All pairs
+
+-- the pairs of a mapping end at a line's end
+pub pairs_end : (rules : Rules) (s : Effective) (directives : List TagDirective) (pairs : Pairs) (e : ℕ) → PairsFit rules s directives pairs e
+    → is_closed rules.breaks12 (pairs_text pairs s directives e) ≡ true
+pairs_end rules s directives no_pairs e fit = refl
+pairs_end rules s directives (pairs_and pairs key value) e fit =
+    let x = is_simple s.canonical directives key in
+    closed_both rules.breaks12 (pairs_text pairs s directives e) (pair_text x pairs key value s directives e) (pairs_end rules s directives pairs e fit.0)
+    (pair_ends x rules s directives pairs key value e fit.1)
+
+-- the lines of pairs, and of one more
+pub pairs_lines : (rules : Rules) (s : Effective) (directives : List TagDirective) (pairs : Pairs) (key value : Node) (e : ℕ)
+    → PairsFit rules s directives pairs e
+    → lines_of rules.breaks12 (pairs_text (pairs_and pairs key value) s directives e)
+    ≡ lines_of rules.breaks12 (pairs_text pairs s directives e)
+    ++ lines_of rules.breaks12 (pair_text (is_simple s.canonical directives key) pairs key value s directives e)
+pairs_lines rules s directives pairs key value e fit =
+    lines_after_break rules.breaks12 (pairs_text pairs s directives e) (pair_text (is_simple s.canonical directives key) pairs key value s directives e)
+    (pairs_end rules s directives pairs e fit)
+
+-- the lines of a mapping split into the entries of its pairs
+pub pairs_split : (rules : Rules) (s : Effective) (directives : List TagDirective) (pairs : Pairs) (e : ℕ) → PairsFit rules s directives pairs e
+    → Splits false e (lines_of rules.breaks12 (pairs_text pairs s directives e)) (pair_entries rules.breaks12 pairs s directives e)
+pairs_split rules s directives no_pairs e fit = splits_none false e
+pairs_split rules s directives (pairs_and pairs key value) e fit =
+    let x = is_simple s.canonical directives key in
+    let own = entries_of_pair rules.breaks12 x pairs key value s directives e in
+    subst (λ ls. Splits false e ls (pair_entries rules.breaks12 pairs s directives e ++ own)) (sym (pairs_lines rules s directives pairs key value e fit.0))
+    (splits_both false e (lines_of rules.breaks12 (pairs_text pairs s directives e)) (lines_of rules.breaks12 (pair_text x pairs key value s directives e))
+    (pair_entries rules.breaks12 pairs s directives e) own
+    (pairs_split rules s directives pairs e fit.0) (pair_splits x rules s directives pairs key value e fit.1))
+
+-- all lines of a mapping are deeper than a column farther out
+pub pairs_inside : (rules : Rules) (s : Effective) (directives : List TagDirective) (pairs : Pairs) (e : ℕ) → PairsFit rules s directives pairs e
+    → (q : Bool) (d : ℕ) → d < e → AllInside q d (lines_of rules.breaks12 (pairs_text pairs s directives e))
+pairs_inside rules s directives no_pairs e fit q d h = refl
+pairs_inside rules s directives (pairs_and pairs key value) e fit q d h =
+    let x = is_simple s.canonical directives key in
+    ap (λ ls. list_all (λ line. is_inside q d line.text) ls) (pairs_lines rules s directives pairs key value e fit.0)
+    ∙ inside_both q d (lines_of rules.breaks12 (pairs_text pairs s directives e)) (lines_of rules.breaks12 (pair_text x pairs key value s directives e))
+    (pairs_inside rules s directives pairs e fit.0 q d h) (pair_inside x rules s directives pairs key value e fit.1 q d h)

@@ -1,0 +1,254 @@
+-- The anchor and the tag before a node, as they are written, are read as they were given, and spaces of their length stay.
+use Rattle.std.proofs.Common.{◌≡◌, zero, suc, refl, sym, ap, ◌∙◌, append_assoc, append-nil, arith}
+use Rattle.std.proofs.lemmas.Bool.{false≢true, eqb-true, and_parts, or_parts}
+use Rattle.std.proofs.lemmas.List.{length-append}
+use Rattle.std.specs.List.{list_all, list_any}
+use Rattle.std.specs.Prelude.{ℕ, Bool, true, false, Option, None, Some, List, [], ◌∷◌, ◌++◌, ◌==◌, ◌||◌, ◌&&◌, ◌+◌, not, length, option_map, option_and_then, if◌then◌else◌}
+use Rattle.yaml_base.specs.Characters.{Text, space, is_alpha, is_blank, is_break}
+use Rattle.yaml_base.specs.Event.{TagDirective}
+use Rattle.yaml_base.specs.ReadTags.{TagSaid, CutText, tag_said}
+use Rattle.yaml_base.specs.StreamLines.{Indented, indented, indented_step, spaces, ends_sign}
+use Rattle.yaml_base.specs.StreamScalars.{Rules, no_properties, PropertiesRead, word_step, word_cut, name_read, anchor_of_word, anchor_first, tag_of_word, tag_first, properties_read, word_after, word_read}
+use Rattle.yaml_base.proofs.stream_lines.StreamCuts.{none_not_some}
+
+-- a text holds a blank or a break
+abbrev pub holds_white : Text → Bool
+holds_white text = list_any (λ c. is_blank c || is_break c) text
+
+-- a written tag, and what it says
+pub record WrittenTag (directives : List TagDirective) (text : Text) (said : TagSaid) : Type 0 where
+  pub rest : Text
+  pub begins : text ≡ 0x21 ∷ rest
+  pub no_white : holds_white text ≡ false
+  pub says : tag_said directives text ≡ Some said
+
+-- a written tag, if there is one, and what it says
+abbrev pub IsTagged : List TagDirective → Option Text → Option TagSaid → Type 0
+IsTagged directives None None = Unit {0}
+IsTagged directives (Some text) (Some said) = WrittenTag directives text said
+IsTagged directives _ _ = ⊥
+
+-- an anchor's name, if there is one
+abbrev pub IsNamed : Option Text → Type 0
+IsNamed None = Unit {0}
+IsNamed (Some name) = name_read name ≡ Some name
+
+-- the anchor and the tag as they are written
+abbrev pub properties_text : Option Text → Option Text → Text
+properties_text None None = []
+properties_text (Some name) None = 0x26 ∷ name
+properties_text None (Some tag) = tag
+properties_text (Some name) (Some tag) = 0x26 ∷ (name ++ (space ∷ tag))
+
+-- there are neither
+abbrev pub has_properties : Option Text → Option Text → Bool
+has_properties None None = false
+has_properties _ _ = true
+
+-- no space, `&` or `!` begins a text
+abbrev pub begins_content : Text → Bool
+begins_content [] = true
+begins_content (c ∷ rest) = not (c == space) && (not (c == 0x26) && not (c == 0x21))
+
+-- a text without a space
+abbrev pub has_no_space : Text → Bool
+has_no_space text = list_all (λ c. not (c == space)) text
+
+not_true : (x : Bool) → not x ≡ true → x ≡ false
+not_true true h = absurd (false≢true h)
+not_true false h = refl
+
+-- Words
+
+-- a word is cut before a space or the end
+pub word_whole : (word rest : Text) → has_no_space word ≡ true → ends_sign rest ≡ true → word_cut (word ++ rest) ≡ record { front = word; rest = rest }
+word_whole [] [] h ends = refl
+word_whole [] (c ∷ rest) h ends = ap (λ x. word_step x c rest (word_cut rest)) ends
+word_whole (c ∷ word) rest h ends =
+    let parts = and_parts (not (c == space)) (has_no_space word) h in
+    ap (λ x. word_step x c (word ++ rest) (word_cut (word ++ rest))) (not_true (c == space) parts.0)
+    ∙ ap (λ (cut : CutText). let made : CutText = record { front = c ∷ cut.front; rest = cut.rest } in made) (word_whole word rest parts.1 ends)
+
+-- a letter is no space
+letter_no_space : (c : ℕ) → is_alpha c ≡ true → not (c == space) ≡ true
+letter_no_space c h = by (c == space) refl
+  where
+    by : (x : Bool) → (c == space) ≡ x → not x ≡ true
+    by true e = absurd (false≢true (ap is_alpha (sym (eqb-true c space e)) ∙ h))
+    by false e = refl
+
+pub letters_no_space : (name : Text) → list_all is_alpha name ≡ true → has_no_space name ≡ true
+letters_no_space [] h = refl
+letters_no_space (c ∷ name) h =
+    let parts = and_parts (is_alpha c) (list_all is_alpha name) h in
+    ap (λ x. x && has_no_space name) (letter_no_space c parts.0) ∙ letters_no_space name parts.1
+
+-- what is a name consists of letters
+pub name_letters : (name : Text) → name_read name ≡ Some name → list_all is_alpha name ≡ true
+name_letters [] h = refl
+name_letters (c ∷ name) h = by (list_all is_alpha (c ∷ name)) h
+  where
+    by : (x : Bool) → (if x then Some (c ∷ name) else None) ≡ Some (c ∷ name) → x ≡ true
+    by true e = refl
+    by false e = absurd (none_not_some e)
+
+-- where nothing is white no space is
+pub no_white_no_space : (text : Text) → holds_white text ≡ false → has_no_space text ≡ true
+no_white_no_space [] h = refl
+no_white_no_space (c ∷ text) h =
+    let parts = or_parts (is_blank c || is_break c) (holds_white text) h in
+    ap (λ x. not x && has_no_space text) (or_parts (c == space) (c == 0x9) (or_parts (is_blank c) (is_break c) parts.0).0).0
+    ∙ no_white_no_space text parts.1
+
+-- Spaces
+
+-- a space after spaces is one of them
+pub space_after : (n : ℕ) (t : Text) → spaces n ++ (space ∷ t) ≡ spaces (suc n) ++ t
+space_after zero t = refl
+space_after (suc n) t = ap (λ s. space ∷ s) (space_after n t)
+
+-- spaces and then more of them
+spaces_both : (m n : ℕ) (t : Text) → spaces m ++ (spaces n ++ t) ≡ spaces (m + n) ++ t
+spaces_both zero n t = let e : n ≡ zero + n = omega arith in ap (λ k. spaces k ++ t) e
+spaces_both (suc m) n t =
+    let e : suc (m + n) ≡ suc m + n = omega arith in ap (λ s. space ∷ s) (spaces_both m n t) ∙ ap (λ k. spaces k ++ t) e
+
+-- what stands after spaces, where it begins with none
+pub content_indented : (n : ℕ) (t : Text) → begins_content t ≡ true → indented (spaces n ++ t) ≡ record { column = n; text = t }
+content_indented zero [] h = refl
+content_indented zero (c ∷ t) h =
+    ap (λ x. indented_step x (c ∷ t) (indented t)) (not_true (c == space) (and_parts (not (c == space)) (not (c == 0x26) && not (c == 0x21)) h).0)
+content_indented (suc n) t h = ap (λ (after : Indented). indented_step true (spaces (suc n) ++ t) after) (content_indented n t h)
+
+-- Properties
+
+-- what is read of properties, and spaces in their place
+abbrev pub read_as : Option Text → Option TagSaid → ℕ → Text → Option PropertiesRead
+read_as anchor said count rest =
+    Some (record { properties = record { anchor = anchor; tag = said }; text = spaces count ++ rest })
+
+-- without a tag
+no_tag : (directives : List TagDirective) (anchor : Option Text) (column : ℕ) (rest : Text) → begins_content rest ≡ true
+    → tag_first directives anchor column rest ≡ read_as anchor None column rest
+no_tag directives anchor column [] h =
+    ap (λ t. let made : Option PropertiesRead = Some (record { properties = record { anchor = anchor; tag = None }; text = t }) in made)
+    (sym (append-nil (spaces column)))
+no_tag directives anchor column (c ∷ rest) h =
+    let parts = and_parts (not (c == space)) (not (c == 0x26) && not (c == 0x21)) h in
+    ap (λ x. if x then tag_of_word directives anchor column (word_cut (c ∷ rest)) else read_as anchor None column (c ∷ rest))
+    (not_true (c == 0x21) (and_parts (not (c == 0x26)) (not (c == 0x21)) parts.1).1)
+
+-- a tag, before a space or the end
+with_tag : (directives : List TagDirective) (anchor : Option Text) (column : ℕ) (tag rest : Text) (said : TagSaid) → WrittenTag directives tag said
+    → ends_sign rest ≡ true → tag_first directives anchor column (tag ++ rest) ≡ read_as anchor (Some said) (column + length tag) rest
+with_tag directives anchor column [] rest said written h = absurd (begins_nothing written.begins)
+  where
+    begins_nothing : {t : Text} → ◌≡◌ {A = Text} [] (0x21 ∷ t) → ⊥
+    begins_nothing e = cc
+with_tag directives anchor column (c ∷ tag) rest said written h =
+    ap (λ x. if x then tag_of_word directives anchor column (word_cut ((c ∷ tag) ++ rest)) else read_as anchor None column ((c ∷ tag) ++ rest)) mark
+    ∙ ap (tag_of_word directives anchor column) (word_whole (c ∷ tag) rest (no_white_no_space (c ∷ tag) written.no_white) h)
+    ∙ ap (option_map (λ said. let made : PropertiesRead = record {
+      properties = record { anchor = anchor; tag = Some said };
+      text = spaces (column + length (c ∷ tag)) ++ rest;
+    } in made)) written.says
+  where
+    first : ℕ → Text → ℕ
+    first d [] = d
+    first d (x ∷ t) = x
+
+    mark : (c == 0x21) ≡ true
+    mark = ap (λ t. first 0 t == 0x21) written.begins
+
+-- an anchor, before a space or the end
+pub with_anchor : (name rest : Text) → name_read name ≡ Some name → ends_sign rest ≡ true
+    → anchor_of_word (word_cut (name ++ rest)) ≡ read_as (Some name) None (suc (length name)) rest
+with_anchor name rest h ends =
+    ap anchor_of_word (word_whole name rest (letters_no_space name (name_letters name h)) ends)
+    ∙ ap (option_map (λ name_read. let made : PropertiesRead = record {
+      properties = record { anchor = Some name_read; tag = None };
+      text = spaces (suc (length name)) ++ rest;
+    } in made)) h
+
+-- no anchor begins a text
+no_anchor : (n : ℕ) (rest : Text) → begins_content rest ≡ true
+    → anchor_first (spaces n ++ rest) ≡ Some (record { properties = no_properties; text = spaces n ++ rest })
+no_anchor zero [] own = refl
+no_anchor zero (c ∷ rest) own =
+    let parts = and_parts (not (c == space)) (not (c == 0x26) && not (c == 0x21)) own in
+    ap (λ x. if x then anchor_of_word (word_cut rest) else Some (record { properties = no_properties; text = c ∷ rest }))
+    (not_true (c == 0x26) (and_parts (not (c == 0x26)) (not (c == 0x21)) parts.1).0)
+no_anchor (suc n) rest own = refl
+
+-- what follows the reading of an anchor
+abbrev then_tag : List TagDirective → Option PropertiesRead → Option PropertiesRead
+then_tag directives found =
+    option_and_then (λ read. let after : Indented = indented read.text in tag_first directives read.properties.anchor after.column after.text) found
+
+-- where a tag begins the text after spaces
+tag_content : (directives : List TagDirective) (n : ℕ) (tag rest : Text) (said : TagSaid) → WrittenTag directives tag said
+    → indented (spaces n ++ (tag ++ rest)) ≡ record { column = n; text = tag ++ rest }
+tag_content directives n tag rest said written =
+    ap (λ t. indented (spaces n ++ (t ++ rest))) written.begins
+    ∙ spaced n (written.rest ++ rest)
+    ∙ ap (λ t. let made : Indented = record { column = n; text = t ++ rest } in made) (sym written.begins)
+  where
+    spaced : (n : ℕ) (t : Text) → indented (spaces n ++ (0x21 ∷ t)) ≡ record { column = n; text = 0x21 ∷ t }
+    spaced zero t = refl
+    spaced (suc n) t = ap (λ (after : Indented). indented_step true (spaces (suc n) ++ (0x21 ∷ t)) after) (spaced n t)
+
+-- written properties are read as they were given, before spaces and what they belong to
+pub properties_said : (directives : List TagDirective) (anchor tag : Option Text) (said : Option TagSaid) (n : ℕ) (rest : Text)
+    → IsNamed anchor → IsTagged directives tag said → begins_content rest ≡ true
+    → (has_properties anchor tag ≡ true → ends_sign (spaces n ++ rest) ≡ true)
+    → properties_read directives (properties_text anchor tag ++ (spaces n ++ rest)) ≡ read_as anchor said (length (properties_text anchor tag) + n) rest
+properties_said directives None None None n rest named tagged own ends =
+    ap (then_tag directives) (no_anchor n rest own)
+    ∙ ap (λ (after : Indented). tag_first directives None after.column after.text) (content_indented n rest own)
+    ∙ no_tag directives None n rest own
+    ∙ (let e : n ≡ zero + n = omega arith in ap (λ k. read_as None None k rest) e)
+properties_said directives (Some name) None None n rest named tagged own ends =
+    ap (then_tag directives) (with_anchor name (spaces n ++ rest) named (ends refl))
+    ∙ ap (λ t. let after : Indented = indented t in tag_first directives (Some name) after.column after.text) (spaces_both (suc (length name)) n rest)
+    ∙ ap (λ (after : Indented). tag_first directives (Some name) after.column after.text) (content_indented (suc (length name) + n) rest own)
+    ∙ no_tag directives (Some name) (suc (length name) + n) rest own
+properties_said directives None (Some tag) (Some said) n rest named tagged own ends =
+    ap (then_tag directives) (no_anchor_tag tagged.begins)
+    ∙ ap (λ (after : Indented). tag_first directives None after.column after.text) (tag_content directives 0 tag (spaces n ++ rest) said tagged)
+    ∙ with_tag directives None 0 tag (spaces n ++ rest) said tagged (ends refl)
+    ∙ ap (λ t. let made : Option PropertiesRead = Some (record { properties = record { anchor = None; tag = Some said }; text = t }) in made)
+    (spaces_both (0 + length tag) n rest ∙ (let e : (0 + length tag) + n ≡ length tag + n = omega arith in ap (λ k. spaces k ++ rest) e))
+  where
+    no_anchor_tag : {more : Text} → tag ≡ 0x21 ∷ more
+        → anchor_first (tag ++ (spaces n ++ rest)) ≡ Some (record { properties = no_properties; text = tag ++ (spaces n ++ rest) })
+    no_anchor_tag {more} e = ap (λ t. anchor_first (t ++ (spaces n ++ rest))) e
+        ∙ ap (λ t. let made : Option PropertiesRead = Some (record { properties = no_properties; text = t ++ (spaces n ++ rest) }) in made) (sym e)
+properties_said directives (Some name) (Some tag) (Some said) n rest named tagged own ends =
+    ap (λ t. then_tag directives (anchor_first (0x26 ∷ t))) (append_assoc name (space ∷ tag) (spaces n ++ rest))
+    ∙ ap (then_tag directives) (with_anchor name (space ∷ (tag ++ (spaces n ++ rest))) named refl)
+    ∙ ap (λ t. let after : Indented = indented t in tag_first directives (Some name) after.column after.text)
+    (space_after (suc (length name)) (tag ++ (spaces n ++ rest)))
+    ∙ ap (λ (after : Indented). tag_first directives (Some name) after.column after.text)
+    (tag_content directives (suc (suc (length name))) tag (spaces n ++ rest) said tagged)
+    ∙ with_tag directives (Some name) (suc (suc (length name))) tag (spaces n ++ rest) said tagged (ends refl)
+    ∙ ap (λ t. let made : Option PropertiesRead = Some (record { properties = record { anchor = Some name; tag = Some said }; text = t }) in made)
+    (spaces_both (suc (suc (length name)) + length tag) n rest
+    ∙ ap (λ k. spaces (k + n) ++ rest) (counted (length name) (length tag) ∙ ap suc (sym (length-append name (space ∷ tag)))))
+  where
+    counted : (a b : ℕ) → suc (suc a) + b ≡ suc (a + suc b)
+    counted a b = omega arith
+properties_said directives None None (Some said) n rest named tagged own ends = absurd tagged
+properties_said directives None (Some tag) None n rest named tagged own ends = absurd tagged
+properties_said directives (Some name) None (Some said) n rest named tagged own ends = absurd tagged
+properties_said directives (Some name) (Some tag) None n rest named tagged own ends = absurd tagged
+
+-- a word with properties is what follows them, with these properties
+pub word_with_properties : (rules : Rules) (flow : Bool) (anchor tag : Option Text) (said : Option TagSaid) (n : ℕ) (rest : Text)
+    → IsNamed anchor → IsTagged rules.directives tag said → begins_content rest ≡ true
+    → (has_properties anchor tag ≡ true → ends_sign (spaces n ++ rest) ≡ true)
+    → word_read rules flow (properties_text anchor tag ++ (spaces n ++ rest)) ≡ word_after rules flow None (record { anchor = anchor; tag = said }) rest
+word_with_properties rules flow anchor tag said n rest named tagged own ends =
+    ap (option_and_then (λ read. word_after rules flow None read.properties (indented read.text).text))
+    (properties_said rules.directives anchor tag said n rest named tagged own ends)
+    ∙ ap (λ (after : Indented). word_after rules flow None (record { anchor = anchor; tag = said }) after.text)
+    (content_indented (length (properties_text anchor tag) + n) rest own)
