@@ -42,6 +42,7 @@ pub mod Unfolding
 pub mod Dumped
 pub mod SeenNodes
 pub mod Documents
+pub mod ScriptWords
 pub mod Script
 pub mod ReadPercent
 pub mod ReadTags

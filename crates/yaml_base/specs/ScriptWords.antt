@@ -1,0 +1,172 @@
+-- The words of a script's lines: characters, texts between quotation marks, fields, words and numbers (the notation of docs/SCRIPTS.md).
+use Rattle.std.specs.Prelude.{ℕ, ℤ, pos, neg_ℤ, Bool, true, false, Option, None, Some, List, [], ◌∷◌, ◌++◌, ◌==◌, ◌||◌, ◌&&◌, ◌+◌, nat_le, length, codes, bytes_eq, option_map, if◌then◌else◌}
+use Rattle.std.specs.List.{list_all, onto_first}
+use Rattle.std.specs.Char.{is_digit}
+use Rattle.std.specs.Str.{all_scalars}
+use Rattle.std.specs.Str.Parse.{digits_value}
+use Rattle.yaml_base.specs.Characters.{Text, is_between, line_feed, space}
+use Rattle.yaml_base.specs.Settings.{largest_i32, Encoding, utf8, utf16_little, utf16_big, LineBreak, carriage_return_break, line_feed_break, both_break}
+use Rattle.yaml_base.specs.Event.{ScalarStyle, any_style, plain, single_quoted, double_quoted, literal, folded, CollectionStyle, any_layout, block, flow}
+
+-- ---- the characters of the notation
+
+-- the sign at both ends of a text
+abbrev pub quotation_mark : ℕ
+quotation_mark = 0x22
+
+-- the sign that begins a comment
+abbrev pub number_sign : ℕ
+number_sign = 0x23
+
+-- the sign that begins an escape
+abbrev pub backslash : ℕ
+backslash = 0x5C
+
+-- a text is this word
+abbrev pub is_word : Text → Text → Bool
+is_word text word = bytes_eq text word
+
+-- ---- texts between quotation marks
+
+-- a text's next character stands after a whole character, a backslash, `\u`, or `\u{` and these characters
+pub data Within : Type 0 where
+  at_character : Within
+  at_escape : Within
+  at_brace : Within
+  at_digits : Text → Within
+
+-- the next character goes on with an escape, completes one that stands for a character, ends the text, or is wrong there
+pub data Turn : Type 0 where
+  goes_on : Within → Turn
+  stands_for : ℕ → Turn
+  ends : Turn
+  fails : Turn
+
+-- the character of `\u{..}`: one to six hexadecimal digits of a Unicode scalar value
+abbrev pub numbered_turn : Text → Turn
+numbered_turn digits =
+    let number = digits_value 16 digits in
+    if is_between 1 6 (length digits) && list_all (λ digit. is_digit digit 16) digits && all_scalars (number ∷ [])
+    then stands_for number else fails
+
+-- what a character does in a text: `\\`, `\"`, `\n` and `\u{..}` stand for characters, any other but these two for itself
+abbrev pub turn : Within → ℕ → Turn
+turn at_character c =
+    if c == quotation_mark then ends else (if c == backslash then goes_on at_escape else stands_for c)
+turn at_escape c =
+    if c == 0x75 then goes_on at_brace
+    else (if c == 0x6E then stands_for line_feed
+    else (if c == backslash || c == quotation_mark then stands_for c else fails))
+turn at_brace c = if c == 0x7B then goes_on (at_digits []) else fails
+turn (at_digits digits) c = if c == 0x7D then numbered_turn digits else goes_on (at_digits (digits ++ c ∷ []))
+
+-- what the characters behind an opening mark stand for, where the last of them is the closing mark
+abbrev pub text_from : Within → Text → Option Text
+text_from within [] = None
+text_from within (c ∷ rest) =
+    elim (turn within c) as (λ _. Option Text) [
+      | goes_on next ↦ text_from next rest
+      | stands_for character ↦ option_map (λ value. character ∷ value) (text_from at_character rest)
+      | ends ↦ if length rest == 0 then Some [] else None
+      | fails ↦ None
+    ]
+
+-- ---- fields
+
+-- a field is a word as it stands, or what a text between quotation marks stands for
+pub data Field : Type 0 where
+  bare : Text → Field
+  quoted : Text → Field
+
+-- a character of a line stands outside texts, inside one, or after a backslash inside one
+pub data Standing : Type 0 where
+  outside : Standing
+  inside : Standing
+  escaped : Standing
+
+-- where the character after this one stands
+abbrev pub standing_after : Standing → ℕ → Standing
+standing_after outside c = if c == quotation_mark then inside else outside
+standing_after inside c = if c == quotation_mark then outside else (if c == backslash then escaped else inside)
+standing_after escaped c = inside
+
+-- a space outside texts separates two fields
+abbrev pub separates : Standing → ℕ → Bool
+separates outside c = c == space
+separates inside c = false
+separates escaped c = false
+
+-- a character that separates ends a piece; any other stands first in the piece that follows
+abbrev pub cut_before : Bool → ℕ → List Text → List Text
+cut_before true c pieces = [] ∷ pieces
+cut_before false c pieces = onto_first c pieces
+
+-- a line cut at each separator
+abbrev pub cut_from : Standing → Text → List Text
+cut_from standing [] = [] ∷ []
+cut_from standing (c ∷ rest) = cut_before (separates standing c) c (cut_from (standing_after standing c) rest)
+
+-- no field is empty; one that begins with a quotation mark is a text, any other a word
+abbrev pub field_read : Text → Option Field
+field_read [] = None
+field_read (c ∷ rest) =
+    if c == quotation_mark then option_map quoted (text_from at_character rest) else Some (bare (c ∷ rest))
+
+-- the first, before the others, where all have a reading
+abbrev pub field_and : Option Field → Option (List Field) → Option (List Field)
+field_and (Some field) (Some fields) = Some (field ∷ fields)
+field_and _ _ = None
+
+-- each piece read as a field
+abbrev pub each_field : List Text → Option (List Field)
+each_field [] = Some []
+each_field (piece ∷ pieces) = field_and (field_read piece) (each_field pieces)
+
+-- the fields of a line: exactly one space stands between two, and none at either end
+abbrev pub fields_read : Text → Option (List Field)
+fields_read line = each_field (cut_from outside line)
+
+-- ---- words and numbers
+
+-- what a word means in a table
+abbrev pub named : {A : Type 0} → List (Text × A) → Text → Option A
+named [] word = None
+named (entry ∷ rest) word = if is_word word entry.0 then Some entry.1 else named rest word
+
+-- off and on, of a flag and of a setting
+abbrev pub flags : List (Text × Bool)
+flags = (codes "0", false) ∷ (codes "1", true) ∷ []
+
+-- the words for settings that are off or on
+abbrev pub switches : List (Text × Bool)
+switches = (codes "off", false) ∷ (codes "on", true) ∷ []
+
+-- the names of encodings, line breaks and styles; `any` leaves the choice to the emitter
+abbrev pub encodings : List (Text × Option Encoding)
+encodings = (codes "any", None) ∷ (codes "utf8", Some utf8) ∷ (codes "utf16le", Some utf16_little) ∷ (codes "utf16be", Some utf16_big) ∷ []
+
+-- the words for line breaks
+abbrev pub line_breaks : List (Text × Option LineBreak)
+line_breaks = (codes "any", None) ∷ (codes "cr", Some carriage_return_break) ∷ (codes "ln", Some line_feed_break) ∷ (codes "crln", Some both_break) ∷ []
+
+-- the words for styles of scalars
+abbrev pub scalar_styles : List (Text × ScalarStyle)
+scalar_styles = (codes "any", any_style) ∷ (codes "plain", plain) ∷ (codes "single", single_quoted) ∷ (codes "double", double_quoted) ∷
+    (codes "literal", literal) ∷ (codes "folded", folded) ∷ []
+
+-- the words for styles of collections
+abbrev pub collection_styles : List (Text × CollectionStyle)
+collection_styles = (codes "any", any_layout) ∷ (codes "block", block) ∷ (codes "flow", flow) ∷ []
+
+-- a number of at most this: decimal digits, one or more
+abbrev pub number_up_to : ℕ → Text → Option ℕ
+number_up_to most word =
+    let number = digits_value 10 word in
+    if nat_le 1 (length word) && list_all (λ digit. is_digit digit 10) word && nat_le number most then Some number else None
+
+-- a number of 32 bits with a sign: `-` stands before a negative one
+abbrev pub signed_number : Text → Option ℤ
+signed_number [] = None
+signed_number (c ∷ rest) =
+    if c == 0x2D then option_map (λ number. neg_ℤ (pos number)) (number_up_to (largest_i32 + 1) rest)
+    else option_map pos (number_up_to largest_i32 (c ∷ rest))
