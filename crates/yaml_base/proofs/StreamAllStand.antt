@@ -1,29 +1,27 @@
 -- Each document of an accepted list stands: its names and tags by what is accepted, its scalars by their bodies.
 use Rattle.std.proofs.Common.{◌≡◌, ◌≤◌, refl, sym, ap, ◌∙◌, subst, arith}
-use Rattle.std.proofs.lemmas.Bool.{false≢true, and_parts, leb-true}
+use Rattle.std.proofs.lemmas.Bool.{leb-true}
 use Rattle.std.specs.List.{list_all}
-use Rattle.std.specs.Prelude.{ℕ, ℤ, pos, negsuc, Bool, true, false, Option, None, Some, List, [], ◌∷◌, ◌++◌, ◌&&◌, nat_le, if◌then◌else◌}
+use Rattle.std.specs.Prelude.{ℤ, pos, negsuc, Bool, true, false, Option, None, Some, List, [], ◌∷◌, ◌&&◌, nat_le, if◌then◌else◌}
 use Rattle.yaml_base.specs.Characters.{is_printable}
 use Rattle.yaml_base.specs.Settings.{Encoding, Settings, Effective, effective_indent, effective}
-use Rattle.yaml_base.specs.Event.{TagDirective, Event}
+use Rattle.yaml_base.specs.Event.{Event}
 use Rattle.yaml_base.specs.Tags.{directives_in_force}
-use Rattle.yaml_base.specs.Cursor.{Cursor, Laid}
-use Rattle.yaml_base.specs.Grammar.{Node, alias_node, scalar_node, sequence_node, mapping_node, Document, Documents, no_documents, documents_and, stream_events, tree_of}
-use Rattle.yaml_base.specs.Refusal.{collection_tag, IsAccepted}
-use Rattle.yaml_base.specs.Layout.{as_root, text_of, root_place, has_no_documents, documents_laid, first_standing, document_start_piece}
+use Rattle.yaml_base.specs.Cursor.{Laid}
+use Rattle.yaml_base.specs.Grammar.{Documents, no_documents, documents_and, tree_of}
+use Rattle.yaml_base.specs.Refusal.{IsAccepted}
+use Rattle.yaml_base.specs.Layout.{text_of, root_place, has_no_documents, documents_laid, first_standing}
 use Rattle.yaml_base.specs.Pieces.{list_layout}
 use Rattle.yaml_base.specs.Output.{bytes_written, text_written}
 use Rattle.yaml_base.specs.CanonicalReader.{characters_read}
 use Rattle.yaml_base.specs.Meaning.{has_scalar_texts, has_scalar_values, MeaningIsKept}
 use Rattle.yaml_base.specs.WrittenTexts.{BodiesAreTidy}
 use Rattle.yaml_base.specs.StreamContent.{documents_in_order}
-use Rattle.yaml_base.specs.StreamLaw.{is_written_as_nothing, is_portable, StreamReadsBack}
+use Rattle.yaml_base.specs.StreamLaw.{StreamReadsBack}
 use Rattle.yaml_base.proofs.Trees.{tree_of-stream_events}
-use Rattle.yaml_base.proofs.StreamTexts.{node_own}
 use Rattle.yaml_base.proofs.StreamClosed.{margin_cursor}
-use Rattle.yaml_base.proofs.StreamNodesFit.{Stands}
-use Rattle.yaml_base.proofs.StreamStands.{NamesStand, BodyStands, BodiesHold}
-use Rattle.yaml_base.proofs.StreamEachDocument.{AllDocuments, documents_both}
+use Rattle.yaml_base.proofs.StreamStands.{BodyStands, BodiesHold}
+use Rattle.yaml_base.proofs.StreamEachDocument.{AllDocuments}
 use Rattle.yaml_base.proofs.StreamNames.{IsSoundDocument, accepted_names_stand}
 use Rattle.yaml_base.proofs.StreamHeadingLines.{heading_stands}
 use Rattle.yaml_base.proofs.StreamBodies.{DocumentsHold, roots_stand}

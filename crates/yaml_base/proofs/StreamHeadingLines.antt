@@ -1,9 +1,9 @@
 -- The lines of a document's directives: each begins with `%`, and they are read as its version and its directives.
-use Rattle.std.proofs.Common.{◌≡◌, refl, sym, ap, ◌∙◌, append_assoc, int_eq, arith, pos, suc, option_and_then, append-nil}
-use Rattle.std.proofs.lemmas.Bool.{true≢false, false≢true, eqb-true, and_parts, and_from, or_parts, or_from}
+use Rattle.std.proofs.Common.{◌≡◌, refl, sym, ap, ◌∙◌, append_assoc, int_eq, arith, pos, option_and_then, append-nil}
+use Rattle.std.proofs.lemmas.Bool.{or_parts, or_from}
 use Rattle.std.proofs.lemmas.Bool.Decides.{nat_tests}
 use Rattle.std.specs.List.{list_all, list_any}
-use Rattle.std.specs.Prelude.{ℕ, Bool, true, false, Option, None, Some, List, [], ◌∷◌, ◌++◌, ◌==◌, ◌||◌, ◌&&◌, not, codes, is_some, length, if◌then◌else◌}
+use Rattle.std.specs.Prelude.{Bool, true, false, Option, None, Some, List, [], ◌∷◌, ◌++◌, ◌||◌, codes, if◌then◌else◌}
 use Rattle.yaml_base.specs.Characters.{Text, space, line_feed, is_break, is_blank}
 use Rattle.yaml_base.specs.LineBreaks.{is_read_break}
 use Rattle.yaml_base.specs.Settings.{Effective}
@@ -11,16 +11,14 @@ use Rattle.yaml_base.specs.Cursor.{Cursor, Laid, first_cursor, then_laid}
 use Rattle.yaml_base.specs.Event.{Version, TagDirective, DocumentStart}
 use Rattle.yaml_base.specs.Percent.{prefix_escaped}
 use Rattle.yaml_base.specs.Tags.{directives_fault, handle_fault, directives_fault_after, next_directive_fault, directive_fault, gives_handle, duplicate_directive, prefix_fault, version_fault}
-use Rattle.yaml_base.specs.Layout.{laid_if, closing_mark_laid, version_text, version_laid, tag_directives_laid, has_directives, is_explicit, document_mark_laid, document_start_laid}
+use Rattle.yaml_base.specs.Layout.{version_laid, tag_directives_laid}
 use Rattle.yaml_base.specs.Meaning.{directive_scalars}
-use Rattle.yaml_base.specs.StreamLines.{Line, lines_of, text_of_lines, is_spaces, without_blank_lines, all_blank}
-use Rattle.yaml_base.specs.StreamDocuments.{mark_of, directive_lines, begins_with_percent, front_kind, document_lines, heading_of}
+use Rattle.yaml_base.specs.StreamLines.{Line, lines_of, text_of_lines}
+use Rattle.yaml_base.specs.StreamDocuments.{begins_with_percent, heading_of}
 use Rattle.yaml_base.proofs.PercentLaws.{prefix_stands}
 use Rattle.yaml_base.proofs.TagLaws.{handle_form, handle_ends_no_word, neither}
 use Rattle.yaml_base.proofs.StreamLineLaws.{OneLine, one_line_both, is_closed}
 use Rattle.yaml_base.proofs.StreamClosed.{lines_broken, character_line, closed_behind}
-use Rattle.yaml_base.proofs.StreamSections.{is_unmarked, AllUnmarked}
-use Rattle.yaml_base.proofs.StreamRoots.{mark_cursor}
 use Rattle.yaml_base.proofs.StreamProperties.{holds_white}
 use Rattle.yaml_base.proofs.StreamRootsStand.{heading_text, HeadingStands}
 use Rattle.yaml_base.proofs.StreamSoFar.{Percents}

@@ -167,7 +167,7 @@ nothing_stands : (n : Node) (given : List TagDirective) (s : Effective) (directi
 nothing_stands (alias_node name) given s directives h leaves = absurd (false≢true h)
 nothing_stands (scalar_node content) given s directives h leaves =
     scalar_stands (record { breaks12 = s.breaks12; directives = given }) 1
-        (node_own (scalar_node content) s directives root_place mark_cursor) content.anchor _ content.value leaves
+    (node_own (scalar_node content) s directives root_place mark_cursor) content.anchor _ content.value leaves
 nothing_stands (sequence_node start items) given s directives h leaves = absurd (false≢true h)
 nothing_stands (mapping_node start pairs) given s directives h leaves = absurd (false≢true h)
 

@@ -162,17 +162,17 @@ sign_unread sign t ending rest zero rules here column = refl
 sign_unread percent t ending rest (suc depth) rules here column =
     ap (λ k. node_by_kind k rules (node_read depth rules) (λ at text. text_or_properties (begins_properties text) rules (node_read depth rules) column at text)
     no_properties (here || false) true (record { column = 0; text = codes "%" ++ t }) ending rest (record { text = codes "%" ++ t; ending = ending } ∷ rest))
-        (sign_kind percent t rules)
+    (sign_kind percent t rules)
     ∙ sign_text_read percent t ending rest rules column no_properties
 sign_unread dashes t ending rest (suc depth) rules here column =
     ap (λ k. node_by_kind k rules (node_read depth rules) (λ at text. text_or_properties (begins_properties text) rules (node_read depth rules) column at text)
     no_properties (here || false) true (record { column = 0; text = codes "---" ++ t }) ending rest
-        (record { text = codes "---" ++ t; ending = ending } ∷ rest)) (sign_kind dashes t rules)
+    (record { text = codes "---" ++ t; ending = ending } ∷ rest)) (sign_kind dashes t rules)
     ∙ sign_text_read dashes t ending rest rules column no_properties
 sign_unread dots t ending rest (suc depth) rules here column =
     ap (λ k. node_by_kind k rules (node_read depth rules) (λ at text. text_or_properties (begins_properties text) rules (node_read depth rules) column at text)
     no_properties (here || false) true (record { column = 0; text = codes "..." ++ t }) ending rest
-        (record { text = codes "..." ++ t; ending = ending } ∷ rest)) (sign_kind dots t rules)
+    (record { text = codes "..." ++ t; ending = ending } ∷ rest)) (sign_kind dots t rules)
     ∙ sign_text_read dots t ending rest rules column no_properties
 
 -- First lines

@@ -99,8 +99,11 @@ document_so_laid : (s : Effective) (first : Bool) (documents : Documents) (laid 
     → Awaits s.breaks12 depth (text_of laid.pieces ++ document_text s first (laid.standing.mark == 0) document)
     (document_trees s (documents_and documents document)) (not document.end_implicit))
     → SoLaid s (documents_and documents document)
-    (record { pieces = laid.pieces ++ (document_laid s first document laid.standing).pieces; standing =
-    (document_laid s first document laid.standing).standing })
+    (record {
+      pieces = laid.pieces ++ (document_laid s first document laid.standing).pieces;
+      standing =
+          (document_laid s first document laid.standing).standing;
+    })
 document_so_laid s first documents laid document deep stands at awaits = record {
   cursor = joined.cursor;
   awaits = λ depth long.
