@@ -40,10 +40,6 @@ dots_line : (breaks12 : Bool) → OneLine breaks12 (codes "...")
 dots_line true = refl
 dots_line false = refl
 
-dashes_line : (breaks12 : Bool) → OneLine breaks12 (codes "---")
-dashes_line true = refl
-dashes_line false = refl
-
 -- and behind `...`
 pub awaits_ended : (breaks12 : Bool) (depth : ℕ) (text : Text) (documents : List DocumentTree)
     → SoFar breaks12 depth text (record { documents = documents; place = after_root })

@@ -1,11 +1,10 @@
 -- What holds of each body in the layout of a list holds of the bodies of each document's root, from its own cursor on.
-use Rattle.std.proofs.Common.{◌≡◌, suc, refl, sym, ap, ◌∙◌, subst}
-use Rattle.std.proofs.lemmas.Bool.{true≢false, eqb-true, and_parts}
+use Rattle.std.proofs.Common.{◌≡◌, suc, sym, ap, ◌∙◌, subst}
+use Rattle.std.proofs.lemmas.Bool.{and_parts}
 use Rattle.std.proofs.lemmas.List.Elements.{All-head, All-tail}
 use Rattle.std.specs.List.{All, list_all}
-use Rattle.std.specs.Prelude.{ℕ, Bool, true, false, Option, None, Some, List, [], ◌∷◌, ◌++◌, ◌==◌, ◌||◌, ◌&&◌, not, unwrap_or, option_map, slice_index_or}
-use Rattle.yaml_base.specs.Characters.{Text, is_printable, carriage_return, next_line}
-use Rattle.yaml_base.specs.LineBreaks.{is_laid_text}
+use Rattle.std.specs.Prelude.{ℕ, Bool, true, false, Option, None, Some, List, [], ◌∷◌, ◌++◌, ◌&&◌, unwrap_or, option_map, slice_index_or}
+use Rattle.yaml_base.specs.Characters.{is_printable}
 use Rattle.yaml_base.specs.Settings.{Encoding, Settings, Effective, effective}
 use Rattle.yaml_base.specs.Event.{TagDirective}
 use Rattle.yaml_base.specs.Tags.{directives_in_force}
@@ -18,6 +17,7 @@ use Rattle.yaml_base.specs.WrittenTexts.{BodiesAreTidy}
 use Rattle.yaml_base.specs.TidyBodies.{IsTidy, has_deep_lines, is_tidy_style}
 use Rattle.yaml_base.proofs.Trees.{tree_of-stream_events}
 use Rattle.yaml_base.proofs.BreakLaws.{breaks-round}
+use Rattle.yaml_base.proofs.stream_lines.StreamBytes.{printable_laid}
 use Rattle.yaml_base.proofs.stream_nodes.StreamTexts.{node_own, node_joined, items_joined, pairs_joined}
 use Rattle.yaml_base.proofs.stream_nodes.StreamStands.{BodyStands, BodiesHold, ItemsHold, PairsHold}
 
@@ -137,21 +137,6 @@ stream_bodies P stream s all =
     documents_bodies P stream.documents s (hold_both P (documents_laid s stream.documents first_standing).pieces _ whole.1).0
 
 -- Bodies that stand
-
--- what is printable holds neither CR nor U+0085
-printable_laid : (text : Text) → list_all is_printable text ≡ true → is_laid_text text ≡ true
-printable_laid [] h = refl
-printable_laid (c ∷ text) h =
-    let parts = and_parts (is_printable c) (list_all is_printable text) h in
-    ap (λ x. not (x || c == next_line) && is_laid_text text) (is_not carriage_return refl parts.0)
-    ∙ ap (λ x. not x && is_laid_text text) (is_not next_line refl parts.0) ∙ printable_laid text parts.1
-  where
-    is_not : (n : ℕ) → is_printable n ≡ false → is_printable c ≡ true → (c == n) ≡ false
-    is_not n none shown = by (c == n) refl
-      where
-        by : (x : Bool) → (c == n) ≡ x → x ≡ false
-        by true e = absurd (true≢false (sym shown ∙ ap is_printable (eqb-true c n e) ∙ none))
-        by false e = refl
 
 -- a tidy body that reads as its value, as it is written, stands
 body_stands : (s : Effective) (body : Body) → IsTidy s body → BodyReads s body → BodyStands s body
