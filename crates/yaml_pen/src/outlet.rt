@@ -119,6 +119,7 @@ impl<A: Allocator> Outlet<A> {
         }
     }
 
+    #[inline(always)]
     fn append_all(&mut self, bytes: &[u8]) -> Result<(), yaml_error_t>
         requires { length bytes.now ≤ 16384 }
         ensures { Appended bytes.now self.old self.new result }

@@ -315,8 +315,8 @@ fn past_unbroken(text: &str) -> &str
     rest
 }
 
-/// Some character is a break.
-fn holds_break(text: &str) -> bool
+/// Whether some character of a text is a break.
+pub fn holds_break(text: &str) -> bool
     ensures { result ≡ list_any class.is_break (chars text.now) }
 {
     let mut chars = past_unbroken(text).chars();

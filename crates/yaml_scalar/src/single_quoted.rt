@@ -60,5 +60,5 @@ fn write_quote<A: Allocator>(pen: &mut Pen<A>, need_whitespace: bool) -> Result<
     requires { IsReady pen.old }
     ensures { Wrote (indicator (codes "'") need_whitespace false false) pen.old pen.new result }
 {
-    pen.write_indicator("'", need_whitespace, false, false)
+    pen.put_indicator(b'\'', need_whitespace, false, false)
 }
