@@ -242,7 +242,8 @@ pub page_more : (s : Effective) (x : Event) (front : List Event) (pieces : List 
 page_more s x front pieces piece lay before after h wrote is =
     (is_page_wrote h.0 wrote, (wrote_all wrote).text ∙ named_more s x front pieces piece lay before h is, wrote_no_error wrote)
 
-pub writes_later : (event : Event) (empty : Bool) (before after : State) → IsLater event → WritesPage event empty before after → (after.settings ≡ before.settings)
+pub writes_later : (event : Event) (empty : Bool) (before after : State) → IsLater event → WritesPage event empty before after
+    → (after.settings ≡ before.settings)
     × Wrote (event_laid before event empty) before.page after.page (Ok tt)
 writes_later (stream_start encoding) empty before after later h = absurd later
 writes_later event empty before after later h = h

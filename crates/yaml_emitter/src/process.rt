@@ -32,7 +32,11 @@ use yaml_pen::Pen;
 
 impl<A: Allocator + Copy> yaml_emitter_t<A> {
     /// One event. Its names and tags are looked at before its place.
-    pub(crate) fn process(&mut self, event: &yaml_event_t<A>, empty: bool) -> Result<(), yaml_error_t>
+    pub(crate) fn process(
+        &mut self,
+        event: &yaml_event_t<A>,
+        empty: bool,
+    ) -> Result<(), yaml_error_t>
         requires output { self.old.has_output ≡ true }
         ensures { Processed (seen_event event.now) empty self.old self.new result }
     {

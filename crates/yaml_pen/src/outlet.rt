@@ -120,6 +120,7 @@ impl<A: Allocator> Outlet<A> {
         }
     }
 
+    #[inline(always)]
     fn append_all(&mut self, bytes: &[u8]) -> Result<(), yaml_error_t>
         requires { length bytes.now ≤ buffer_size }
         ensures { Appended bytes.now self.old self.new result }

@@ -189,6 +189,7 @@ impl<A: Allocator> Pen<A> {
     }
 
     /// Writes characters none of which is a break.
+    #[inline(always)]
     pub fn write_run(&mut self, text: &str) -> Result<(), yaml_error_t>
         requires ready { IsReady self.old }
         requires no_break { list_any is_break (chars text.now) ≡ false }
@@ -205,6 +206,7 @@ impl<A: Allocator> Pen<A> {
     }
 
     /// Writes characters of ASCII none of which is a break, at most as many as the buffer holds.
+    #[inline(always)]
     pub fn write_ascii(&mut self, text: &[u8]) -> Result<(), yaml_error_t>
         requires ready { IsReady self.old }
         requires ascii { IsAscii text.now }
@@ -274,6 +276,27 @@ impl<A: Allocator> Pen<A> {
     {
         self.separate(need_whitespace)?;
         self.write_run(text)?;
+        self.set_flags(whitespace, indention);
+        Ok(())
+    }
+
+    /// Writes an indicator of one character of ASCII that is no break, likewise.
+    #[inline]
+    pub fn put_indicator(
+        &mut self,
+        sign: u8,
+        need_whitespace: bool,
+        whitespace: bool,
+        indention: bool,
+    ) -> Result<(), yaml_error_t>
+        requires ready { IsReady self.old }
+        requires ascii { sign < 128 }
+        requires no_break { is_break sign ≡ false }
+        ensures written { Wrote (indicator (sign ∷ []) need_whitespace whitespace indention) self.old self.new result }
+        ensures stays { IsSome self.old.error → self.new ≡ self.old }
+    {
+        self.separate(need_whitespace)?;
+        self.put(sign)?;
         self.set_flags(whitespace, indention);
         Ok(())
     }

@@ -14,11 +14,6 @@ use Rattle.yaml_scalar.specs.ReadsBack.{ReadsBack}
 use Rattle.yaml_scalar.proofs.DoubleReads.{double-indented, double-reads}
 use Rattle.yaml_scalar.proofs.LinesReadBack.{body_back}
 
--- the quote as a text
-pub quote-text : chars (quote ∷ []) ≡ quote ∷ []
-unfolding chars
-quote-text = refl
-
 -- from the opening quote, with its lead, to the closing quote
 abbrev pub double_steps : (unicode : Bool) (limit : Option ℕ) (indent : ℕ) (value : Text) → Cursor → Laid
 double_steps unicode limit indent value cursor =

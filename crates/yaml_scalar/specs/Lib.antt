@@ -7,3 +7,4 @@ pub mod BlockCode
 pub mod BlockSteps
 pub mod WholeRuns
 pub mod ByteClasses
+pub mod EscapeBytes

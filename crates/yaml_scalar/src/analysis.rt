@@ -165,7 +165,8 @@ fn stands_alone(c: char, rest: &str) -> bool
 
 /// The value, which begins with `c` before `rest`, begins as no plain text may.
 fn first_bars_plain(value: &str, c: char, rest: &str) -> bool
-    ensures { result ≡ (class.is_space c || spec.begins_like_mark (chars value.now) || spec.is_indicator c || (class.is_among (codes "?:-") c && spec.ends_word (chars rest.now))) }
+    ensures { result ≡ (class.is_space c || spec.begins_like_mark (chars value.now) || spec.is_indicator c
+        || (class.is_among (codes "?:-") c && spec.ends_word (chars rest.now))) }
 {
     is_space(c) || begins_like_mark(value) || is_indicator(c) || stands_alone(c, rest)
 }
@@ -288,7 +289,8 @@ fn with_space(barred: barred_t, last: char, rest: &str, charset: charset_t) -> b
 /// What was read, and the next characters that bar nothing, unless the last of them is a space; and what
 /// follows them.
 fn past_quiet(barred: barred_t, text: &str, charset: charset_t) -> (barred_t, &str)
-    ensures same { either (seen_barred barred) (barred_in (seen_charset charset) (chars text.now)) ≡ either (seen_barred result.0) (barred_in (seen_charset charset) (chars result.1.now)) }
+    ensures same { either (seen_barred barred) (barred_in (seen_charset charset) (chars text.now))
+        ≡ either (seen_barred result.0) (barred_in (seen_charset charset) (chars result.1.now)) }
     ensures is_text { IsUtf8 result.1.now }
     ensures shorter { length result.1.now ≤ length text.now }
 {
@@ -315,8 +317,8 @@ fn past_unbroken(text: &str) -> &str
     rest
 }
 
-/// Some character is a break.
-fn holds_break(text: &str) -> bool
+/// Whether some character of a text is a break.
+pub fn holds_break(text: &str) -> bool
     ensures { result ≡ list_any class.is_break (chars text.now) }
 {
     let mut chars = past_unbroken(text).chars();

@@ -13,7 +13,7 @@ ghost use Rattle.yaml_scalar.specs.WholeRuns.{IsRun, stays, stays_where};
 ghost use Rattle.yaml_scalar.specs.Width.{limit_where};
 
 use crate::classes::{BREAK, ESCAPED, SPACE, UNPRINTABLE, WIDE};
-use crate::escapes::escape_of;
+use crate::escapes::{Escape, escape_of};
 use crate::runs::{Run, run_up_to};
 use crate::steps::{go_on, has_limit, may_fold_here};
 use std::alloc::Allocator;
@@ -72,11 +72,12 @@ fn write_quoted<A: Allocator>(
 ) -> Result<(), yaml_error_t>
     requires ready { IsReady pen.old }
     requires not_negative { pos 0 ≤ℤ quoting.indent }
-    ensures { Wrote (spec.double_quoted_laid quoting.unicode (limit_where quoting.allow_breaks quoting.width) (natural quoting.indent) (chars value.now)) pen.old pen.new result }
+    ensures { Wrote (spec.double_quoted_laid quoting.unicode (limit_where quoting.allow_breaks quoting.width) (natural quoting.indent) (chars value.now))
+        pen.old pen.new result }
 {
-    pen.write_indicator("\"", true, false, false)?;
+    pen.put_indicator(b'"', true, false, false)?;
     write_inside(pen, value, quoting)?;
-    pen.write_indicator("\"", false, false, false)
+    pen.put_indicator(b'"', false, false, false)
 }
 
 /// Unprintable, past ASCII where that isn't kept, a break, the quote or the backslash.
@@ -91,8 +92,22 @@ fn write_escape<A: Allocator>(pen: &mut Pen<A>, c: char) -> Result<(), yaml_erro
     requires { IsReady pen.old }
     ensures { Wrote (text_laid (spec.escape_text c)) pen.old pen.new result }
 {
-    let escape = escape_of(c);
-    pen.write_ascii(escape.as_slice())
+    match escape_of(c) {
+        Escape::Letter(bytes) => write_bytes(pen, c, &bytes),
+        Escape::Two(bytes) => write_bytes(pen, c, &bytes),
+        Escape::Four(bytes) => write_bytes(pen, c, &bytes),
+        Escape::Eight(bytes) => write_bytes(pen, c, &bytes),
+    }
+}
+
+/// The bytes of a character's escape.
+#[inline(always)]
+fn write_bytes<A: Allocator>(pen: &mut Pen<A>, c: char, bytes: &[u8]) -> Result<(), yaml_error_t>
+    requires ready { IsReady pen.old }
+    requires bytes { bytes.now ≡ spec.escape_text c }
+    ensures { Wrote (text_laid (spec.escape_text c)) pen.old pen.new result }
+{
+    pen.write_ascii(bytes)
 }
 
 /// A character as an escape, or as itself.
@@ -176,7 +191,8 @@ fn write_next<A: Allocator>(
 ) -> Result<(), yaml_error_t>
     requires ready { IsReady pen.old }
     requires not_negative { pos 0 ≤ℤ quoting.indent }
-    ensures { Wrote (spec.double_character quoting.unicode (limit_where quoting.allow_breaks quoting.width) (natural quoting.indent) before c (chars rest.now)) pen.old pen.new result }
+    ensures { Wrote (spec.double_character quoting.unicode (limit_where quoting.allow_breaks quoting.width) (natural quoting.indent) before c (chars rest.now))
+        pen.old pen.new result }
 {
     if folds(pen, before, c, rest, quoting) {
         write_fold(pen, rest, quoting.indent)
@@ -220,7 +236,8 @@ fn write_inside<A: Allocator>(
 ) -> Result<(), yaml_error_t>
     requires ready { IsReady pen.old }
     requires not_negative { pos 0 ≤ℤ quoting.indent }
-    ensures { Wrote (spec.double_inside quoting.unicode (limit_where quoting.allow_breaks quoting.width) (natural quoting.indent) None (chars value.now)) pen.old pen.new result }
+    ensures { Wrote (spec.double_inside quoting.unicode (limit_where quoting.allow_breaks quoting.width) (natural quoting.indent) None (chars value.now))
+        pen.old pen.new result }
 {
     let mut before = None;
     let mut chars = value.chars();

@@ -1,24 +1,31 @@
 //! The escapes of characters between double quotes (YAML 1.1, section 5.6).
-ghost use Rattle.std.specs.Prelude.{◌≡◌, ◌≤◌, ◌++◌, None, length};
-ghost use Rattle.yaml_base.specs.Characters.{hex_digit, hex_digits};
+ghost use Rattle.std.specs.Prelude.{◌≡◌, ◌≤◌, ◌∷◌, ◌%◌, None};
+ghost use Rattle.yaml_base.specs.Characters.{hex_digit};
 ghost use Rattle.yaml_base.specs.DoubleQuoted as spec;
+ghost use Rattle.yaml_scalar.specs.EscapeBytes.{escape_bytes};
 
-use arrayvec::ArrayVec;
-
-/// An escape has ten characters at most, all of ASCII.
-pub(crate) type Escape = ArrayVec<u8, 10>;
+/// An escape, by how many characters it has, all of ASCII.
+#[derive(Clone, Copy)]
+pub(crate) enum Escape {
+    /// A backslash and a letter.
+    Letter([u8; 2]),
+    /// A backslash, `x` and two digits.
+    Two([u8; 4]),
+    /// A backslash, `u` and four digits.
+    Four([u8; 6]),
+    /// A backslash, `U` and eight digits.
+    Eight([u8; 10]),
+}
 
 /// A backslash, and a letter where there is one for the character, else its number.
+#[inline]
 pub(crate) fn escape_of(c: char) -> Escape
-    ensures { result.items ≡ spec.escape_text c }
+    ensures { escape_bytes result ≡ spec.escape_text c }
 {
-    let mut escape = Escape::new();
-    escape.push(b'\\');
     match short_letter(c) {
-        Some(letter) => escape.push(letter),
-        None => push_number(&mut escape, c as u32),
+        Some(letter) => Escape::Letter([b'\\', letter]),
+        None => number_escape(c as u32),
     }
-    escape
 }
 
 /// The letter of a character that has an escape of one letter (YAML 1.1, section 5.6).
@@ -46,40 +53,43 @@ fn short_letter(c: char) -> Option<u8>
     Some(letter)
 }
 
-/// What follows the backslash of an escape by number: `x`, `u` or `U`, and two, four or eight digits.
-fn push_number(escape: &mut Escape, n: u32)
-    requires { length escape.old.items ≤ 1 }
-    ensures { escape.new.items ≡ escape.old.items ++ spec.escape_after_backslash None n }
+/// An escape by number, with two, four or eight digits.
+#[inline]
+fn number_escape(n: u32) -> Escape
+    ensures { escape_bytes result ≡ spec.backslash ∷ spec.escape_after_backslash None n }
 {
     if n <= 0xFF {
-        escape.push(b'x');
-        push_two(escape, n);
+        Escape::Two([b'\\', b'x', digit_at(n / 16), digit_at(n)])
     } else if n <= 0xFFFF {
-        escape.push(b'u');
-        push_four(escape, n);
+        Escape::Four([
+            b'\\',
+            b'u',
+            digit_at(n / 16 / 16 / 16),
+            digit_at(n / 16 / 16),
+            digit_at(n / 16),
+            digit_at(n),
+        ])
     } else {
-        escape.push(b'U');
-        push_four(escape, n / 16 / 16 / 16 / 16);
-        push_four(escape, n);
+        Escape::Eight([
+            b'\\',
+            b'U',
+            digit_at(n / 16 / 16 / 16 / 16 / 16 / 16 / 16),
+            digit_at(n / 16 / 16 / 16 / 16 / 16 / 16),
+            digit_at(n / 16 / 16 / 16 / 16 / 16),
+            digit_at(n / 16 / 16 / 16 / 16),
+            digit_at(n / 16 / 16 / 16),
+            digit_at(n / 16 / 16),
+            digit_at(n / 16),
+            digit_at(n),
+        ])
     }
 }
 
-/// The last four hexadecimal digits of a number.
-fn push_four(escape: &mut Escape, n: u32)
-    requires { length escape.old.items ≤ 6 }
-    ensures { escape.new.items ≡ escape.old.items ++ hex_digits 4 n }
+/// The last hexadecimal digit of a number.
+fn digit_at(n: u32) -> u8
+    ensures { result ≡ hex_digit (n % 16) }
 {
-    push_two(escape, n / 16 / 16);
-    push_two(escape, n);
-}
-
-/// The last two.
-fn push_two(escape: &mut Escape, n: u32)
-    requires { length escape.old.items ≤ 8 }
-    ensures { escape.new.items ≡ escape.old.items ++ hex_digits 2 n }
-{
-    escape.push(hex_digit(n / 16 % 16));
-    escape.push(hex_digit(n % 16));
+    hex_digit(n % 16)
 }
 
 /// An upper-case hexadecimal digit.

@@ -17,7 +17,7 @@ mod steps;
 mod style;
 mod width;
 
-pub use analysis::{analyze_scalar, scalar_data_t};
+pub use analysis::{analyze_scalar, holds_break, scalar_data_t};
 pub use block_header::write_block_scalar_hints;
 pub use double_quoted::write_double_quoted_scalar;
 pub use folded::write_folded_scalar;

@@ -32,7 +32,8 @@ pub fn write_single_quoted_scalar<A: Allocator>(
     requires ready { IsReady pen.old }
     requires indented { pos 2 ≤ℤ indent }
     ensures written { Wrote (single_quoted_laid (limit_where allow_breaks width) (natural indent) (chars value.now)) pen.old pen.new result }
-    ensures reads { (charset : Charset) → allows_single_quoted charset (chars value.now) ≡ true → IfOk result (λ _. ReadsBack (read_single charset.breaks12) (chars value.now) pen.old.text pen.new.text) }
+    ensures reads { (charset : Charset) → allows_single_quoted charset (chars value.now) ≡ true
+        → IfOk result (λ _. ReadsBack (read_single charset.breaks12) (chars value.now) pen.old.text pen.new.text) }
 {
     write_laid(
         pen,
@@ -60,5 +61,5 @@ fn write_quote<A: Allocator>(pen: &mut Pen<A>, need_whitespace: bool) -> Result<
     requires { IsReady pen.old }
     ensures { Wrote (indicator (codes "'") need_whitespace false false) pen.old pen.new result }
 {
-    pen.write_indicator("'", need_whitespace, false, false)
+    pen.put_indicator(b'\'', need_whitespace, false, false)
 }

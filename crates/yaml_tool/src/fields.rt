@@ -219,11 +219,11 @@ pub fn choice_after<A: Allocator>(
         MatchOption choice (HasNoChoice (fields_after (chars rest.now)))
         (λ parts. fields_after (chars rest.now) ≡ led_by (field_of (option_map seen_text parts.0)) (fields_after (chars parts.1.now)))) }
 {
+    if let Some(others) = past_dash(rest) {
+        return Ok(Some((None, others)));
+    }
     match text_after(alloc, rest)? {
         Some((text, others)) => Ok(Some((Some(text), others))),
-        None => match past_dash(rest) {
-            Some(others) => Ok(Some((None, others))),
-            None => Ok(None),
-        },
+        None => Ok(None),
     }
 }

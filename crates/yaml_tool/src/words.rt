@@ -1,7 +1,7 @@
 //! The words of a script's lines, and what they mean.
 ghost use Rattle.std.specs.Prelude.{◌≡◌, None, List, MatchOption, option_map, nat_lt, IsTrue};
 ghost use Rattle.std.specs.List.{list_all};
-ghost use Rattle.std.specs.Str.{chars};
+ghost use Rattle.std.specs.Str.{bytes_eq, chars};
 ghost use Rattle.yaml_base.specs.Script as notation;
 ghost use Rattle.yaml_base.specs.Seen.{seen_encoding, seen_break, seen_scalar_style, seen_sequence_style, seen_mapping_style};
 ghost use Rattle.yaml_tool.specs.Events.{event_word};
@@ -16,7 +16,29 @@ pub fn is_word(word: &str, name: &'static str) -> bool
     requires { IsTrue (list_all (λ byte. nat_lt byte 128) name.now) }
     ensures { result ≡ notation.is_word (chars word.now) name.now }
 {
-    word == name
+    is_same(word.as_bytes(), name.as_bytes())
+}
+
+/// Byte by byte, as the name has a few bytes that are known.
+#[inline(always)]
+fn is_same(word: &[u8], name: &[u8]) -> bool
+    ensures { result ≡ bytes_eq word.now name.now }
+{
+    let mut left = word;
+    let mut named = name;
+    loop {
+        match (left, named) {
+            ([byte, rest @ ..], [sign, others @ ..]) => {
+                if *byte != *sign {
+                    return false;
+                }
+                left = rest;
+                named = others;
+            }
+            ([], []) => return true,
+            ([_, ..], []) | ([], [_, ..]) => return false,
+        }
+    }
 }
 
 /// The names of events.

@@ -166,10 +166,18 @@ pub(crate) fn write_indicator<A: Allocator>(
     ensures { Wrote (indicator_laid (seen_indicator indicator)) pen.old pen.new result }
 {
     let row = indicator.row();
-    pen.write_indicator(
-        row.text,
-        row.needs_space,
-        row.leaves_space,
-        row.keeps_indention,
-    )
+    match row.text.as_bytes() {
+        [sign] => pen.put_indicator(
+            *sign,
+            row.needs_space,
+            row.leaves_space,
+            row.keeps_indention,
+        ),
+        _ => pen.write_indicator(
+            row.text,
+            row.needs_space,
+            row.leaves_space,
+            row.keeps_indention,
+        ),
+    }
 }

@@ -1,19 +1,22 @@
 //! What a place puts before its node, and what a collection's end writes.
 
 ghost use Rattle.std.specs.Prelude.{◌≡◌, true, false};
-ghost use Rattle.yaml_base.specs.Cursor.{Cursor};
-ghost use Rattle.yaml_base.specs.Layout.{Place, end_laid, flow_place_laid, block_place_laid, place_laid};
+ghost use Rattle.yaml_base.specs.Cursor.{Cursor, nothing_laid, new_line, then_laid};
+ghost use Rattle.yaml_base.specs.Indicators.{flow_key, flow_value, indicator_laid};
+ghost use Rattle.yaml_base.specs.Layout as layout;
+ghost use Rattle.yaml_base.specs.Layout.{end_laid, flow_break, flow_place_laid, block_place_laid, line_column, place_laid};
 ghost use Rattle.yaml_base.specs.Settings.{Effective};
 ghost use Rattle.yaml_pen.specs.Page.{IsReady};
 ghost use Rattle.yaml_pen.specs.Wrote.{Wrote};
 ghost use Rattle.yaml_emitter.specs.Given.{seen_effective};
 ghost use Rattle.yaml_emitter.specs.NodeEvents.{brackets_of};
 ghost use Rattle.yaml_emitter.specs.Places.{seen_role, seen_place};
-ghost use Rattle.yaml_emitter.specs.WrittenSigns.{signs_laid, some_sign_breaks};
+ghost use Rattle.yaml_emitter.specs.WrittenSigns.{seen_indicator, signs_laid, some_sign_breaks};
 
-use crate::place::Role;
-use crate::writing::indicators::Indicator;
-use crate::writing::signs::{Sign, Signs, write_signs};
+use crate::effective::EffectiveSettings;
+use crate::place::{Place, Role};
+use crate::writing::indicators::{Indicator, write_indicator};
+use crate::writing::signs::{Sign, Signs, write_flow_line, write_line, write_nothing};
 use crate::writing::site::Site;
 use std::alloc::Allocator;
 use yaml_base::yaml_error_t;
@@ -25,56 +28,151 @@ pub(crate) fn write_place<A: Allocator>(pen: &mut Pen<A>, site: &Site) -> Result
     ensures { Wrote (place_laid (seen_effective site.now.settings.now) (seen_place site.now.place) site.now.simple) pen.old pen.new result }
 {
     if site.place.in_flow {
-        write_signs(pen, site, flow_signs(site.place.role, site.simple))
+        write_flow_place(pen, site.settings, &site.place, site.simple)
     } else {
-        write_signs(pen, site, block_signs(site.place.role, site.simple))
+        write_block_place(pen, &site.place, site.simple)
     }
 }
 
-/// The signs of a place in flow (YAML 1.1, sections 10.1.1 and 10.2.1).
-fn flow_signs(role: Role, simple: bool) -> Signs<'static>
-    ensures whole { some_sign_breaks result ≡ false }
-    ensures laid { (s : Effective) (place : Place) (cursor : Cursor)
-        → signs_laid s place result cursor ≡ flow_place_laid s (seen_role role) simple place.column cursor }
+/// What a place in flow puts before its node (YAML 1.1, sections 10.1.1 and 10.2.1).
+fn write_flow_place<A: Allocator>(
+    pen: &mut Pen<A>,
+    settings: &EffectiveSettings,
+    place: &Place,
+    simple: bool,
+) -> Result<(), yaml_error_t>
+    requires { IsReady pen.old }
+    ensures { Wrote (flow_place_laid (seen_effective settings.now) (seen_role place.now.role) simple place.now.column) pen.old pen.new result }
 {
     use Indicator::*;
-    use Sign::*;
-    match (role, simple) {
-        (Role::Root, _) => (Nothing, Nothing, Nothing),
-        (Role::Item { first: true }, _) => (Nothing, Mark(FlowSequenceStart), FlowLine),
-        (Role::Item { first: false }, _) => (Nothing, Mark(FlowEntry), FlowLine),
-        (Role::Key { first: true }, true) => (Mark(FlowMappingStart), FlowLine, Nothing),
-        (Role::Key { first: true }, false) => (Mark(FlowMappingStart), FlowLine, Mark(FlowKey)),
-        (Role::Key { first: false }, true) => (Mark(FlowEntry), FlowLine, Nothing),
-        (Role::Key { first: false }, false) => (Mark(FlowEntry), FlowLine, Mark(FlowKey)),
-        (Role::Value { simple: true }, _) => (Nothing, Nothing, Mark(SimpleValue)),
-        (Role::Value { simple: false }, _) => (Nothing, FlowLine, Mark(FlowValue)),
+    match (place.role, simple) {
+        (Role::Root, _) => write_nothing(pen),
+        (Role::Item { first: true }, _) => write_entry(pen, settings, place, FlowSequenceStart),
+        (Role::Item { first: false }, _) => write_entry(pen, settings, place, FlowEntry),
+        (Role::Key { first: true }, true) => write_simple_key(
+            pen,
+            settings,
+            place,
+            FlowMappingStart,
+        ),
+        (Role::Key { first: false }, true) => write_simple_key(pen, settings, place, FlowEntry),
+        (Role::Key { first: true }, false) => write_long_key(
+            pen,
+            settings,
+            place,
+            FlowMappingStart,
+        ),
+        (Role::Key { first: false }, false) => write_long_key(pen, settings, place, FlowEntry),
+        (Role::Value { simple: true }, _) => write_indicator(pen, SimpleValue),
+        (Role::Value { simple: false }, _) => write_long_value(pen, settings, place),
     }
 }
 
-/// The signs of a place in a block (YAML 1.1, sections 10.1.2 and 10.2.2).
-fn block_signs(role: Role, simple: bool) -> Signs<'static>
-    ensures whole { some_sign_breaks result ≡ false }
-    ensures laid { (s : Effective) (place : Place) (cursor : Cursor)
-        → signs_laid s place result cursor ≡ block_place_laid (seen_role role) simple place.column cursor }
+/// The sign before an entry in flow, and a new line where one is due.
+fn write_entry<A: Allocator>(
+    pen: &mut Pen<A>,
+    settings: &EffectiveSettings,
+    place: &Place,
+    sign: Indicator,
+) -> Result<(), yaml_error_t>
+    requires { IsReady pen.old }
+    ensures { Wrote (λ cursor. then_laid (indicator_laid (seen_indicator sign) cursor) (flow_break (seen_effective settings.now) place.now.column)) pen.old
+        pen.new result }
+{
+    write_indicator(pen, sign)?;
+    write_flow_line(pen, settings, place)
+}
+
+/// The same before a simple key, whose sign is left out.
+fn write_simple_key<A: Allocator>(
+    pen: &mut Pen<A>,
+    settings: &EffectiveSettings,
+    place: &Place,
+    sign: Indicator,
+) -> Result<(), yaml_error_t>
+    requires { IsReady pen.old }
+    ensures { Wrote (λ cursor. then_laid
+        (then_laid (indicator_laid (seen_indicator sign) cursor) (flow_break (seen_effective settings.now) place.now.column)) nothing_laid) pen.old pen.new
+        result }
+{
+    write_entry(pen, settings, place, sign)
+}
+
+/// The same before another key, and its sign.
+fn write_long_key<A: Allocator>(
+    pen: &mut Pen<A>,
+    settings: &EffectiveSettings,
+    place: &Place,
+    sign: Indicator,
+) -> Result<(), yaml_error_t>
+    requires { IsReady pen.old }
+    ensures { Wrote (λ cursor. then_laid (then_laid (indicator_laid (seen_indicator sign) cursor) (flow_break (seen_effective settings.now) place.now.column))
+        (indicator_laid flow_key)) pen.old pen.new result }
+{
+    write_entry(pen, settings, place, sign)?;
+    write_indicator(pen, Indicator::FlowKey)
+}
+
+/// The sign of the value of another key in flow, on a new line where one is due.
+fn write_long_value<A: Allocator>(
+    pen: &mut Pen<A>,
+    settings: &EffectiveSettings,
+    place: &Place,
+) -> Result<(), yaml_error_t>
+    requires { IsReady pen.old }
+    ensures { Wrote (λ cursor. then_laid (flow_break (seen_effective settings.now) place.now.column cursor) (indicator_laid flow_value)) pen.old pen.new
+        result }
+{
+    write_flow_line(pen, settings, place)?;
+    write_indicator(pen, Indicator::FlowValue)
+}
+
+/// What a place in a block puts before its node (YAML 1.1, sections 10.1.2 and 10.2.2).
+fn write_block_place<A: Allocator>(
+    pen: &mut Pen<A>,
+    place: &Place,
+    simple: bool,
+) -> Result<(), yaml_error_t>
+    requires { IsReady pen.old }
+    ensures { Wrote (block_place_laid (seen_role place.now.role) simple place.now.column) pen.old pen.new result }
 {
     use Indicator::*;
-    use Sign::*;
-    match (role, simple) {
-        (Role::Root, _) => (Nothing, Nothing, Nothing),
-        (Role::Item { .. }, _) => (Nothing, Line, Mark(BlockEntry)),
-        (Role::Key { .. }, true) => (Nothing, Line, Nothing),
-        (Role::Key { .. }, false) => (Nothing, Line, Mark(BlockKey)),
-        (Role::Value { simple: true }, _) => (Nothing, Nothing, Mark(SimpleValue)),
-        (Role::Value { simple: false }, _) => (Nothing, Line, Mark(BlockValue)),
+    match (place.role, simple) {
+        (Role::Root, _) => write_nothing(pen),
+        (Role::Item { .. }, _) => write_on_line(pen, place, BlockEntry),
+        (Role::Key { .. }, true) => write_line_alone(pen, place),
+        (Role::Key { .. }, false) => write_on_line(pen, place, BlockKey),
+        (Role::Value { simple: true }, _) => write_indicator(pen, SimpleValue),
+        (Role::Value { simple: false }, _) => write_on_line(pen, place, BlockValue),
     }
+}
+
+/// A new line, and a sign on it.
+fn write_on_line<A: Allocator>(
+    pen: &mut Pen<A>,
+    place: &Place,
+    sign: Indicator,
+) -> Result<(), yaml_error_t>
+    requires { IsReady pen.old }
+    ensures { Wrote (λ cursor. then_laid (new_line (line_column place.now.column) cursor) (indicator_laid (seen_indicator sign))) pen.old pen.new result }
+{
+    write_line(pen, place)?;
+    write_indicator(pen, sign)
+}
+
+/// A new line without a sign.
+fn write_line_alone<A: Allocator>(pen: &mut Pen<A>, place: &Place) -> Result<(), yaml_error_t>
+    requires { IsReady pen.old }
+    ensures { Wrote (λ cursor. then_laid (new_line (line_column place.now.column) cursor) nothing_laid) pen.old pen.new result }
+{
+    write_line(pen, place)
 }
 
 /// The signs of the end of a collection in flow: where nothing stands between the brackets, the opening one comes
 /// first; in canonical mode a comma and a new line.
 pub(crate) fn flow_end_signs(mapping: bool, empty: bool, canonical: bool) -> Signs<'static>
     ensures whole { some_sign_breaks result ≡ false }
-    ensures laid { (s : Effective) (place : Place) (cursor : Cursor) → s.canonical ≡ canonical
+    ensures laid { (s : Effective) (place : layout.Place) (cursor : Cursor) → s.canonical ≡ canonical
         → signs_laid s place result cursor ≡ end_laid s (brackets_of mapping) true empty place.column cursor }
 {
     use Indicator::*;

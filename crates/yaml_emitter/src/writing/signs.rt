@@ -81,14 +81,14 @@ fn write_sign<A: Allocator>(pen: &mut Pen<A>, site: &Site, sign: Sign) -> Result
 }
 
 /// A new line at the column of the entries around a place.
-fn write_line<A: Allocator>(pen: &mut Pen<A>, place: &Place) -> Result<(), yaml_error_t>
+pub(crate) fn write_line<A: Allocator>(pen: &mut Pen<A>, place: &Place) -> Result<(), yaml_error_t>
     requires { IsReady pen.old }
     ensures { Wrote (new_line (line_column place.now.column)) pen.old pen.new result }
 {
     pen.write_indent(place.line_column() as i32)
 }
 
-fn write_flow_line<A: Allocator>(
+pub(crate) fn write_flow_line<A: Allocator>(
     pen: &mut Pen<A>,
     settings: &EffectiveSettings,
     place: &Place,

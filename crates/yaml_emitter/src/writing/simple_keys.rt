@@ -16,7 +16,7 @@ use crate::effective::EffectiveSettings;
 use crate::place::Place;
 use crate::writing::contents::{CollectionContent, ScalarContent};
 use crate::writing::spelling::SpelledTag;
-use yaml_base::is_break;
+use yaml_scalar::holds_break;
 
 /// A simple key has at most so many bytes.
 const MOST_BYTES: usize = 128;
@@ -78,12 +78,6 @@ fn is_simple_scalar(content: &ScalarContent, tag: Option<SpelledTag>) -> bool
         (seen_tag tag.entry))) }
 {
     !holds_break(content.value) && is_short(byte_count(content.value), content.anchor, tag)
-}
-
-fn holds_break(value: &str) -> bool
-    ensures { result ≡ list_any class.is_break (chars value.now) }
-{
-    value.chars().any(|c| is_break(c))
 }
 
 fn byte_count(text: &str) -> usize

@@ -67,7 +67,8 @@ returns-in_err-enqueue-clause-grows g c =
 
 pub returns-clause-grows : goal.returns-clause-grows
 returns-clause-grows g c =
-    subst (λ (p : Page). Grows p c.write_ready.new.self.page) (c.enqueue.ensures.page ∙ ap (λ (s : State). s.page) c.emitter.view_is) c.write_ready.ensures.grows
+    subst (λ (p : Page). Grows p c.write_ready.new.self.page)
+    (c.enqueue.ensures.page ∙ ap (λ (s : State). s.page) c.emitter.view_is) c.write_ready.ensures.grows
 
 pub write_at_once-requires-clause-alone : goal.write_at_once-requires-clause-alone
 write_at_once-requires-clause-alone g c = ap seen_events (sym c.as_slice.ensures.value) ∙ c.is_ready_alone.ensures.alone c.if-is_ready_alone.true

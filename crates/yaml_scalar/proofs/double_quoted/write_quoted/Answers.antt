@@ -4,14 +4,8 @@ use Rattle.yaml_base.specs.DoubleQuoted.{double_inside, double_quoted_laid, quot
 use Rattle.yaml_pen.proofs.Composing.{wrote_as, wrote_exit, wrote_failed, wrote_then}
 use Rattle.yaml_pen.specs.Page.{natural}
 use Rattle.yaml_scalar.specs.Width.{limit_where}
-use Rattle.yaml_scalar.proofs.QuotedSteps.{double-steps, quote-text}
+use Rattle.yaml_scalar.proofs.QuotedSteps.{double-steps}
 use Rattle.yaml_scalar.proofs.double_quoted.write_quoted.Goals as goal
-
-pub write_indicator-requires-clause-no_break : goal.write_indicator-requires-clause-no_break
-write_indicator-requires-clause-no_break g c = rw quote-text
-
-pub write_indicator-requires-2-clause-no_break : goal.write_indicator-requires-2-clause-no_break
-write_indicator-requires-2-clause-no_break g c = rw quote-text
 
 pub returns : goal.returns
 returns g c =
@@ -19,18 +13,17 @@ returns g c =
     wrote_as
     (double_quoted_laid quoting.unicode (limit_where quoting.allow_breaks quoting.width) (natural quoting.indent) (chars c.args.value.now))
     (double-steps quoting.unicode (limit_where quoting.allow_breaks quoting.width) (natural quoting.indent) (chars c.args.value.now) c.args.pen.now.cursor)
-    (wrote_then (wrote_then (rw quote-text at c.in_ok-write_indicator.ensures.written) c.in_ok-write_inside.ensures)
-    (rw quote-text at c.write_indicator-2.ensures.written))
+    (wrote_then (wrote_then c.in_ok-put_indicator.ensures.written c.in_ok-write_inside.ensures) c.put_indicator-2.ensures.written)
 
-pub returns-in_err-write_indicator : goal.returns-in_err-write_indicator
-returns-in_err-write_indicator g c =
+pub returns-in_err-put_indicator : goal.returns-in_err-put_indicator
+returns-in_err-put_indicator g c =
     let quoting = c.args.quoting in
     let inside = double_inside quoting.unicode (limit_where quoting.allow_breaks quoting.width) (natural quoting.indent) None (chars c.args.value.now) in
     wrote_exit c.from_residual.ensures
     (wrote_as
     (double_quoted_laid quoting.unicode (limit_where quoting.allow_breaks quoting.width) (natural quoting.indent) (chars c.args.value.now))
     (double-steps quoting.unicode (limit_where quoting.allow_breaks quoting.width) (natural quoting.indent) (chars c.args.value.now) c.args.pen.now.cursor)
-    (wrote_failed quote_laid (wrote_failed inside (rw quote-text at c.in_err-write_indicator.ensures.written))))
+    (wrote_failed quote_laid (wrote_failed inside c.in_err-put_indicator.ensures.written)))
 
 pub returns-in_err-write_inside : goal.returns-in_err-write_inside
 returns-in_err-write_inside g c =
@@ -39,4 +32,4 @@ returns-in_err-write_inside g c =
     (wrote_as
     (double_quoted_laid quoting.unicode (limit_where quoting.allow_breaks quoting.width) (natural quoting.indent) (chars c.args.value.now))
     (double-steps quoting.unicode (limit_where quoting.allow_breaks quoting.width) (natural quoting.indent) (chars c.args.value.now) c.args.pen.now.cursor)
-    (wrote_failed quote_laid (wrote_then (rw quote-text at c.in_ok-write_indicator.ensures.written) c.in_err-write_inside.ensures)))
+    (wrote_failed quote_laid (wrote_then c.in_ok-put_indicator.ensures.written c.in_err-write_inside.ensures)))
