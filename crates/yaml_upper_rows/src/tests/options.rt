@@ -1,6 +1,6 @@
 //! What the program's arguments ask for.
-use crate::arguments::{Task, task_of};
 use std::test::Fail;
+use yaml_tool::{Task, task_of};
 
 #[test]
 fn arguments_are_understood(rt: HostRuntime) -> Result<(), Fail> {

@@ -1,10 +1,10 @@
 //! Values written where memory is short.
 use super::{mixed, nested_lists};
-use crate::write_canonical;
 use linked_list_allocator::LocalHeap;
 use std::alloc::{AllocError, Global};
 use std::test::Fail;
 use yaml_base::yaml_error_t;
+use yaml_value::write_canonical;
 
 type Blocks<'a> = Vec<Vec<u8, &'a LocalHeap>>;
 

@@ -1,8 +1,4 @@
-mod devices;
-mod errors;
-mod options;
-
-use super::*;
+//! Scripts read by `yaml_tool`, and what each end of a run says.
 use std::alloc::{AllocError, Global};
 use std::test::Fail;
 use yaml_base::{
@@ -11,6 +7,9 @@ use yaml_base::{
     YAML_SCALAR_EVENT, YAML_SEQUENCE_START_EVENT, YAML_STREAM_END_EVENT, YAML_STREAM_START_EVENT,
     YAML_UTF16BE_ENCODING, yaml_error_t, yaml_event_t, yaml_tag_directive_t,
     yaml_version_directive_t,
+};
+use yaml_tool::{
+    NumberedEvent, ScriptError, Settings, read_script, run_answer_t, status, write_line,
 };
 
 fn text(alloc: Global, s: &str) -> Result<String, AllocError> {

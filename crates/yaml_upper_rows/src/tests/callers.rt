@@ -1,5 +1,6 @@
-use super::{cycle_written, letter_written, same_bytes};
+//! The proved callers, called.
 use std::test::Fail;
+use yaml_caller::{cycle_written, letter_written, same_bytes};
 use yaml_value::Value;
 
 #[test]

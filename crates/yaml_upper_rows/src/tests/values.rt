@@ -3,8 +3,8 @@ mod bytes;
 mod memory;
 mod sizes;
 
-use crate::Value;
 use std::alloc::{AllocError, Allocator};
+use yaml_value::Value;
 
 /// A text.
 fn text<A: Allocator>(alloc: A, characters: &str) -> Result<Value<A>, AllocError> {

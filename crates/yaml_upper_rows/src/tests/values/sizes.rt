@@ -1,9 +1,9 @@
 //! How many values there are, and how deep they lie.
 use super::{mixed, nested_lists, text};
-use crate::{Value, write_canonical};
 use std::alloc::Global;
 use std::test::Fail;
 use yaml_base::yaml_error_t;
+use yaml_value::{Value, write_canonical};
 
 #[test]
 fn a_value_counts_itself(rt: HostRuntime) -> Result<(), Fail> {

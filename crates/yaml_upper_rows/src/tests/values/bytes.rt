@@ -1,9 +1,9 @@
 //! Values whose canonical form was written out by hand.
 use super::{mixed, text};
-use crate::{Value, equal_bytes_equal_values, write_canonical};
 use std::alloc::Global;
 use std::process::Abort;
 use std::test::Fail;
+use yaml_value::{Value, equal_bytes_equal_values, write_canonical};
 
 /// Writes a value and compares it with the document that should come out.
 fn writes(rt: &impl Abort, alloc: Global, value: Value<Global>, expected: &str) {
