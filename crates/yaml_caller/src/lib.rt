@@ -110,6 +110,3 @@ fn emit_letter<A: Allocator + Copy>(
     yaml_emitter_emit(emitter, YAML_DOCUMENT_END_EVENT { implicit: true })?;
     yaml_emitter_emit(emitter, YAML_STREAM_END_EVENT)
 }
-
-#[cfg(test)]
-mod tests;

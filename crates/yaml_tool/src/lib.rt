@@ -23,6 +23,3 @@ pub use program::{read_arguments, serve};
 pub use runs::run;
 pub use scripts::{NumberedEvent, Script, ScriptError, read_script};
 pub use settings::Settings;
-
-#[cfg(test)]
-mod tests;

@@ -4,8 +4,6 @@
 mod events;
 mod laws;
 mod size;
-#[cfg(test)]
-mod tests;
 mod value;
 mod writing;
 
