@@ -93,3 +93,4 @@ pub mod StreamFlowKinds
 pub mod StreamFlowNodes
 pub mod StreamFlowReads
 pub mod StreamFlowLines
+mod RowsSchema

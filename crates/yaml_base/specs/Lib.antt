@@ -58,3 +58,6 @@ pub mod StreamReader
 pub mod StreamLaw
 pub mod TypedValues
 pub mod Laws
+pub mod Resolved
+pub mod SchemaCore
+pub mod SchemaOf11
