@@ -94,3 +94,4 @@ pub mod StreamFlowNodes
 pub mod StreamFlowReads
 pub mod StreamFlowLines
 mod RowsSchema
+pub mod SurelyTexts

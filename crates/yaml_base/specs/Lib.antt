@@ -61,3 +61,4 @@ pub mod Laws
 pub mod Resolved
 pub mod SchemaCore
 pub mod SchemaOf11
+pub mod SurelyText

@@ -53,14 +53,17 @@ words_of_core =
     ++ all_mean (codes "-.inf -.Inf -.INF") (meant_infinity true)
     ++ all_mean (codes ".nan .NaN .NAN") meant_nan
 
--- those of the type repository are the same and more
-abbrev pub words_of_11 : List (Text × Resolved)
-words_of_11 =
-    words_of_core
-    ++ all_mean (codes "y Y yes Yes YES on On ON") (meant_boolean true)
+-- those that the type repository has besides
+abbrev pub words_besides : List (Text × Resolved)
+words_besides =
+    all_mean (codes "y Y yes Yes YES on On ON") (meant_boolean true)
     ++ all_mean (codes "n N no No NO off Off OFF") (meant_boolean false)
     ++ all_mean (codes "<<") meant_merge
     ++ all_mean (codes "=") meant_value
+
+-- the words of the type repository
+abbrev pub words_of_11 : List (Text × Resolved)
+words_of_11 = words_of_core ++ words_besides
 
 -- ---- signs and digits
 

@@ -4,7 +4,7 @@ use Rattle.std.specs.Prelude.{ℕ, pos, ℤ, neg_ℤ, Bool, false, Option, None,
 use Rattle.std.specs.List.{list_all, slice_split, filter, concat, prefix_len, take_while}
 use Rattle.std.specs.Char.{is_digit}
 use Rattle.std.specs.Str.Parse.{digits_value}
-use Rattle.yaml_base.specs.Characters.{Text, is_blank, is_between}
+use Rattle.yaml_base.specs.Characters.{Text, is_blank}
 use Rattle.yaml_base.specs.Script.{named, is_word}
 use Rattle.yaml_base.specs.Resolved.{Decimal, Resolved, meant_integer, meant_decimal, meant_timestamp, meant_by_nobody, first_reading, reading_if, words_of_11, is_point, is_exponent_mark, is_sign, is_decimal, first_is, past_sign, is_negative, signed, are_digits, counted_digits, pointed, exponent_read, scientific}
 
@@ -28,7 +28,7 @@ begins_grouped test text = first_is test text && are_grouped 10 text
 
 -- a decimal digit that isn't 0
 abbrev pub is_leading : ℕ → Bool
-is_leading c = is_between 0x31 0x39 c
+is_leading c = is_decimal c && not (c == 0x30)
 
 -- an integer of these digits; where there is none, underscores alone, it is meant by nobody
 abbrev pub integer_of : (negative : Bool) → ℕ → Text → Resolved
