@@ -172,7 +172,20 @@ def lemmas_of_document(case, n):
     graph = record(start=record(version="None", directives="[]", implicit=flag(case["start"])), nodes=several(map(graph_node, case["nodes"])), end_implicit=flag(case["end"]))
     yield "events", "document_event_list %s" % graph, several(map(event, case["events"]))
 
-LEMMAS = dict(list=lemmas_of_list, text=lemmas_of_text, bytes=lemmas_of_bytes, stream=lemmas_of_stream, script=lemmas_of_script, document=lemmas_of_document)
+def meant(found):
+    kind, value = found[0], found[-1]
+    if kind == "bool": return "meant_boolean " + flag(value)
+    if kind == "decimal": return "meant_decimal " + record(digits=integer(found[1]), exponent=integer(value))
+    if kind in ("int", "float") and value is None: return "meant_by_nobody"
+    if kind == "int": return "meant_integer " + integer(value)
+    if kind == "float": return "meant_nan" if value == "nan" else "meant_infinity " + flag(value == "-inf")
+    return "meant_" + kind
+
+def lemmas_of_resolved(case, n):
+    for schema in ("by_11", "by_core"):
+        yield schema, "resolved_%s (%s)" % (schema, text(case["text"])), meant(case[schema])
+
+LEMMAS = dict(list=lemmas_of_list, text=lemmas_of_text, bytes=lemmas_of_bytes, stream=lemmas_of_stream, script=lemmas_of_script, document=lemmas_of_document, resolved=lemmas_of_resolved)
 
 # ---- files
 
@@ -192,6 +205,9 @@ use Rattle.yaml_base.specs.StreamContent.{DocumentTree, stood_plain, stood_quote
 use Rattle.yaml_base.specs.StreamReader.{stream_trees}
 use Rattle.yaml_base.specs.Meetings.{GraphNode, Graph, decimal_digits, scalar_held, sequence_held, mapping_held, document_event_list}
 use Rattle.yaml_base.specs.Script.{Script, bad_line, understood, script_of}
+use Rattle.yaml_base.specs.Resolved.{meant_null, meant_boolean, meant_integer, meant_decimal, meant_infinity, meant_nan, meant_timestamp, meant_merge, meant_value, meant_text, meant_by_nobody}
+use Rattle.yaml_base.specs.SchemaOf11.{resolved_by_11}
+use Rattle.yaml_base.specs.SchemaCore.{resolved_by_core}
 use Rattle.yaml_base.proofs.ComparedCommon.{written_after_each, refusals_after, texts, bodies, tidy_bodies, read_by, read_back}
 """
 
@@ -219,7 +235,7 @@ def file_of(cases, spoil):
 def spoiler(r):
     """Changes one number, flag or text of an expected value."""
     def spoil(expected):
-        places = [(m.start(), m.end(), m.group()) for m in re.finditer(r'\b(true|false)\b|codes "[a-z]|Some \d', expected)]
+        places = [(m.start(), m.end(), m.group()) for m in re.finditer(r'\b(true|false)\b|codes "[a-z]|Some \d|\(pos \d', expected)]
         if not places or r.random() < 0.9: return expected
         start, end, found = r.choice(places)
         other = {"true": "false", "false": "true"}.get(found) or (found[:-1] + ("7" if found[-1] == "6" else "6") if found[-1].isdigit() else found[:-1] + ("Z" if found[-1] != "Z" else "Y"))
@@ -242,7 +258,8 @@ def main():
     o = p.parse_args()
     beside = ROOT.parent / "shared" / "oracle"
     model = o.model or (beside if beside.is_dir() else None)
-    cases = modelled(model, o.first, o.count, o.kind) if model else stored()[:o.count]
+    if not model: cases = stored()[:o.count + o.count // 3]
+    else: cases = modelled(model, o.first, o.count, o.kind) + (modelled(model, o.first, o.count // 3, "resolved") if o.kind is None else [])
 
     scratch = pathlib.Path(tempfile.mkdtemp(prefix="definitions-"))
     crate = scratch / "crates" / "yaml_base"

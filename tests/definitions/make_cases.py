@@ -2,7 +2,7 @@
 """Random cases with what a model makes of them, as JSON lines: make_cases.py MODEL [FIRST [COUNT [KIND]]]
 
 MODEL is a folder with the plain model of the library in Python (layout.py, readers.py, cases.py, gen.py, compare.py,
-stream_reader.py, lines_reader.py, scalar_bodies.py, content.py).
+stream_reader.py, lines_reader.py, scalar_bodies.py, content.py, schema.py).
 The model was written from the rules alone and shares nothing with the definitions. A case is one of these kinds, by its seed:
 
   list      settings and events: effective settings, how many events are ready after each front, the first refusal or
@@ -13,8 +13,12 @@ The model was written from the rules alone and shares nothing with the definitio
   stream    bytes in any mode, half of them spoiled, and the documents in them or null
   script    a script, many of them spoiled, and what it says
   document  nodes, and the events of their document
+
+And of this kind where it is asked for, whatever the seed:
+
+  resolved  a plain scalar, half of them near misses, and what it means in YAML 1.1 and by the core schema of 1.2
 """
-import dataclasses, json, random, re, sys
+import dataclasses, decimal, json, random, re, sys
 
 KINDS = ["list"] * 5 + ["text"] * 2 + ["bytes", "script", "document"] + ["stream"] * 4
 
@@ -194,9 +198,53 @@ def of_document(seed):
     return dict(nodes=nodes, start=start.implicit, end=end.implicit, events=[cases.plain(e) for e in layout.document_events(nodes, start, end)])
 
 
-def case_of(seed):
-    kind = KINDS[seed % len(KINDS)]
-    return dict(dict(list=of_list, text=of_text, bytes=of_bytes, stream=of_stream, script=of_script, document=of_document)[kind](seed), what=kind, seed=seed)
+def drawn_digits(r, digits, least, most):
+    return "".join(r.choice(digits) for _ in range(r.randint(least, most)))
+
+
+def drawn_scalar(r):
+    """A scalar that some schema reads as more than a text, most of the time."""
+    def d(least=1, most=4, digits="0123456789"): return drawn_digits(r, digits, least, most)
+    def grouped(): return d(1, 1) + d(0, 5, "0123456789_")
+    sign, exponent = r.choice(["", "", "+", "-"]), r.choice(["", "", r.choice("eE") + r.choice(["", "+", "-"]) + d(1, 2)])
+    sixties = grouped() + "".join(":" + r.choice([d(1, 1), d(1, 1, "012345") + d(1, 1)]) for _ in range(r.randint(1, 3)))
+    date = d(4, 4) + "-" + d(1, 2) + "-" + d(1, 2)
+    zone = r.choice(["", "", " ", "\t"]) + r.choice(["Z", r.choice("+-") + d(1, 2) + r.choice(["", ":" + d(2, 2)])])
+    time = d(1, 2) + ":" + d(2, 2) + ":" + d(2, 2) + r.choice(["", "." + d(0, 3)]) + r.choice(["", zone])
+    return r.choice([
+        lambda: r.choice(sorted(schema.WORDS)), lambda: sign + "." + r.choice(["inf", "Inf", "INF", "nan", "NaN", "NAN"]),
+        lambda: sign + d(1, 9), lambda: sign + grouped(), lambda: sign + "0" + d(1, 5, "01234567_"),
+        lambda: sign + "0b" + d(0, 6, "01_"), lambda: sign + "0o" + d(0, 5, "01234567"), lambda: sign + "0x" + d(0, 5, "0123456789abcdefABCDEF_"),
+        lambda: sign + sixties, lambda: sign + sixties + "." + d(0, 3, "0123456789_"),
+        lambda: sign + d(0, 3) + "." + d(0, 3) + exponent, lambda: sign + grouped() + "." + d(0, 3, "0123456789_") + exponent, lambda: sign + d() + exponent,
+        lambda: sign + d(0, 2) + "." + d(0, 4, "0123.") + exponent, lambda: d(4, 4) + "-" + d(2, 2) + "-" + d(2, 2),
+        lambda: date + r.choice("Tt ") + r.choice(["", "", " ", "\t"]) + time, lambda: some(r, "0123456789abefnotuysxTZ.:-+_~=<eE ", 7)])()
+
+
+def meant(text, found):
+    """What the model says of a text; a decimal by the digits that the text has, and its exponent."""
+    kind, value = found[0], found[-1]
+    if kind != "float" or value in (None, "inf", "-inf", "nan"): return list(found)
+    mantissa, _, power = (text, "", "") if ":" in text else text.lower().partition("e")
+    exponent = int(power or 0) - len(mantissa.replace("_", "").partition(".")[2])
+    with decimal.localcontext() as exact:
+        exact.prec = 200
+        return ["decimal", int(value.scaleb(-exponent)), exponent]
+
+
+def of_resolved(seed):
+    r = random.Random(seed)
+    text = drawn_scalar(r)
+    if r.random() < 0.5:
+        i = r.randrange(len(text) + 1)
+        text = r.choice([text[:i] + text[i + 1:], text[:i] + r.choice("0123456789.:-+_eExobTZ ~=<n\té") + text[i:], text[:i] + text[i:i + 1].swapcase() + text[i + 1:], text + text])
+    return dict(text=text, by_11=meant(text, schema.resolve_1_1(text)), by_core=meant(text, schema.resolve_1_2(text)))
+
+
+def case_of(seed, kind=None):
+    kind = "resolved" if kind == "resolved" else KINDS[seed % len(KINDS)]
+    made = dict(list=of_list, text=of_text, bytes=of_bytes, stream=of_stream, script=of_script, document=of_document, resolved=of_resolved)
+    return dict(made[kind](seed), what=kind, seed=seed)
 
 
 def is_small(case):
@@ -207,14 +255,14 @@ def is_small(case):
 if __name__ == "__main__":
     sys.path.insert(0, sys.argv[1])
     sys.setrecursionlimit(100000)
-    import cases, compare, content, gen, layout, lines_reader, readers, scalar_bodies, stream_reader
+    import cases, compare, content, gen, layout, lines_reader, readers, scalar_bodies, schema, stream_reader
     stream_reader.Reader = lines_reader.Reader = strict_reader()
     gen.settings = half_portable(gen.settings)
     first, count = (int(x) for x in (sys.argv[2:4] + ["0", "300"][len(sys.argv[2:4]):]))
     kind = sys.argv[4] if len(sys.argv) > 4 else None
     seed = first
     while count > 0:
-        if kind not in (None, KINDS[seed % len(KINDS)]): seed += 1; continue
-        case = case_of(seed)
+        if kind not in (None, "resolved", KINDS[seed % len(KINDS)]): seed += 1; continue
+        case = case_of(seed, kind)
         if is_small(case) and "differs" not in (case.get("trees"), case.get("agrees")): print(json.dumps(case)); count -= 1
         seed += 1

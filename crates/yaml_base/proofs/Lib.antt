@@ -29,3 +29,4 @@ pub mod stream_keys
 pub mod stream_nodes
 pub mod stream_documents
 pub mod CallerLaws
+pub mod SurelyTexts

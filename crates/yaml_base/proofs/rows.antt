@@ -26,3 +26,4 @@ pub mod RowsTidy
 pub mod RowsStreamLaw
 pub mod RowsPortable
 mod RowsWrittenTexts
+mod RowsSchema

@@ -59,3 +59,7 @@ pub mod StreamReader
 pub mod StreamLaw
 pub mod TypedValues
 pub mod Laws
+pub mod Resolved
+pub mod SchemaCore
+pub mod SchemaOf11
+pub mod SurelyText
