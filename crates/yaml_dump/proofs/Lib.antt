@@ -3,6 +3,7 @@ pub mod ChildLemmas
 pub mod Emissions
 pub mod EventLemmas
 pub mod GraphLemmas
+pub mod GraphTreeLemmas
 pub mod NameLemmas
 pub mod StandingLemmas
 pub mod TagLemmas

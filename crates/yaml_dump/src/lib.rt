@@ -5,6 +5,7 @@ mod anchors;
 mod dumps;
 mod emitting;
 mod events;
+mod laws;
 mod steps;
 mod streams;
 #[cfg(test)]
@@ -14,6 +15,7 @@ mod walk;
 pub use dumps::document_events;
 pub use dumps::yaml_emitter_dump;
 pub use emitting::emit_each;
+pub use laws::dumped_trees_unfold;
 pub use streams::yaml_emitter_close;
 pub use streams::yaml_emitter_open;
 pub use yaml_emitter::Directives;
