@@ -165,7 +165,7 @@ none_right : (a b : Option ℕ) → option_or a b ≡ None → b ≡ None
 none_right None b h = h
 none_right (Some x) b h = cc
 
-is_none_none : (a : Option ℕ) → is_none a ≡ true → a ≡ None
+pub is_none_none : (a : Option ℕ) → is_none a ≡ true → a ≡ None
 is_none_none None h = refl
 is_none_none (Some x) h = cc
 

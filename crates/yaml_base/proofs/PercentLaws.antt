@@ -110,7 +110,7 @@ forms_stand : (bs : List ℕ) → list_all stands_written (flat_map byte_escaped
 forms_stand [] = refl
 forms_stand (b ∷ bs) = rw (digit_stands (b / 16), digit_stands b, forms_stand bs) refl
 
-character_stands : (kept : Bool) (c : ℕ) → (kept ≡ true → is_tag_character c ≡ true) → list_all stands_written (character_written kept c) ≡ true
+pub character_stands : (kept : Bool) (c : ℕ) → (kept ≡ true → is_tag_character c ≡ true) → list_all stands_written (character_written kept c) ≡ true
 character_stands true c k = rw (k refl) refl
 character_stands false c k = forms_stand (encode c)
 
@@ -173,7 +173,7 @@ forms_hold_no_flow_sign : (bs : List ℕ) → list_any is_flow_sign (flat_map by
 forms_hold_no_flow_sign [] = refl
 forms_hold_no_flow_sign (b ∷ bs) = rw (digit_is_no_flow_sign (b / 16), digit_is_no_flow_sign b, forms_hold_no_flow_sign bs) refl
 
-character_is_no_flow_sign : (kept : Bool) (c : ℕ) → (kept ≡ true → is_flow_sign c ≡ false) → list_any is_flow_sign (character_written kept c) ≡ false
+pub character_is_no_flow_sign : (kept : Bool) (c : ℕ) → (kept ≡ true → is_flow_sign c ≡ false) → list_any is_flow_sign (character_written kept c) ≡ false
 character_is_no_flow_sign true c k = rw (k refl) refl
 character_is_no_flow_sign false c k = forms_hold_no_flow_sign (encode c)
 

@@ -51,7 +51,7 @@ letter_shows breaks12 c h =
     ∙ letter_line breaks12 c h
 
 -- a name is on one line
-name_line : (breaks12 : Bool) (name : Text) → list_all is_alpha name ≡ true → OneLine breaks12 name
+pub name_line : (breaks12 : Bool) (name : Text) → list_all is_alpha name ≡ true → OneLine breaks12 name
 name_line breaks12 [] h = refl
 name_line breaks12 (c ∷ name) h =
     let parts = and_parts (is_alpha c) (list_all is_alpha name) h in

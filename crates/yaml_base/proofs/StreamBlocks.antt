@@ -55,7 +55,7 @@ opened_reads rules reads reads_text properties here first e lines kind o =
     ∙ ap (node_by_kind kind rules reads reads_text properties here first begun o.ending o.rest) (sym o.is)
 
 -- no line is blank there
-opened_shows : (rules : Rules) (e : ℕ) (lines : List Line) (kind : NodeKind) → Opened rules e lines kind → (begins_blank lines ≡ false) × (without_blank_lines lines ≡ lines)
+pub opened_shows : (rules : Rules) (e : ℕ) (lines : List Line) (kind : NodeKind) → Opened rules e lines kind → (begins_blank lines ≡ false) × (without_blank_lines lines ≡ lines)
 opened_shows rules e lines kind o =
     let line : Line = record { text = spaces e ++ (o.head ∷ o.tail); ending = o.ending } in
     let shown = not_blank e o.head o.tail o.shows in (
@@ -146,7 +146,7 @@ abbrev pub block_own : Laid → Laid → Laid
 block_own begun entries = record { text = (begun.text ++ entries.text) ++ []; cursor = entries.cursor }
 
 -- up to its last line's end
-own_closed : (begun entries : Laid) → closed (block_own begun entries) ≡ begun.text ++ closed entries
+pub own_closed : (begun entries : Laid) → closed (block_own begun entries) ≡ begun.text ++ closed entries
 own_closed begun entries =
     ap (λ t. t ++ closing entries.cursor) (append-nil (begun.text ++ entries.text)) ∙ append_assoc begun.text entries.text (closing entries.cursor)
 
@@ -159,7 +159,7 @@ pub record Entries (rules : Rules) (e : ℕ) (place : Place) (begun entries : La
   pub compact : begun.cursor.indention ≡ true → Compact e begun.cursor
 
 -- on lines below
-below : (rules : Rules) (e : ℕ) (cursor : Cursor) (entries : Laid) (text : Text) → Lays e cursor entries text → cursor.indention ≡ false → closed entries ≡ line_feed ∷ text
+pub below : (rules : Rules) (e : ℕ) (cursor : Cursor) (entries : Laid) (text : Text) → Lays e cursor entries text → cursor.indention ≡ false → closed entries ≡ line_feed ∷ text
 below rules e cursor entries text lays h =
     lays.lays ∙ ap (λ t. t ++ (lays.head ∷ lays.tail)) (broken e cursor h) ∙ ap (λ t. line_feed ∷ t) (sym lays.is)
 

@@ -1,19 +1,25 @@
--- A line that begins with the bracket of a collection in flow holds no simple key, so it begins no mapping in a block.
+-- A line that begins with the bracket of a collection in flow, after its properties, holds no simple key, so it begins no mapping
+-- in a block.
 use Rattle.std.proofs.Common.{◌≡◌, refl, ap, ◌∙◌, append_assoc}
 use Rattle.std.proofs.lemmas.Bool.{false≢true, and_parts}
 use Rattle.std.specs.Option.{option_or}
-use Rattle.std.specs.Prelude.{ℕ, Bool, true, false, Option, None, Some, [], ◌∷◌, ◌++◌, ◌==◌, ◌&&◌, not, nat_le, length, is_some, option_map, option_and_then, if◌then◌else◌}
+use Rattle.std.specs.Prelude.{ℕ, Bool, true, false, Option, None, Some, [], ◌∷◌, ◌++◌, ◌==◌, ◌&&◌, not, nat_le, length, option_map, option_and_then, if◌then◌else◌}
 use Rattle.yaml_base.specs.Characters.{Text, space}
 use Rattle.yaml_base.specs.Event.{plain}
 use Rattle.yaml_base.specs.ReadPlain.{read_plain}
+use Rattle.yaml_base.specs.ReadTags.{TagSaid}
 use Rattle.yaml_base.specs.TidyBodies.{is_tidy}
 use Rattle.yaml_base.specs.StreamContent.{stood_plain, Tree}
-use Rattle.yaml_base.specs.StreamLines.{ends_sign}
-use Rattle.yaml_base.specs.StreamScalars.{Rules, no_properties, scalar_said, scalar_of_style, empty_sequence, empty_mapping, a_scalar, word_by_kind, word_read}
+use Rattle.yaml_base.specs.StreamLines.{ends_sign, begins_with_sign}
+use Rattle.yaml_base.specs.StreamScalars.{Rules, Properties, no_properties, scalar_said, scalar_of_style, empty_sequence, empty_mapping, a_scalar, word_by_kind, word_after}
 use Rattle.yaml_base.specs.StreamFlow.{is_alias, longest_key}
-use Rattle.yaml_base.specs.StreamNodes.{word_of_alias, key_of_text, key_ends, key_from, begins_mapping, begins_text, kind_of_node}
+use Rattle.yaml_base.specs.StreamNodes.{without_last_space, word_of_alias, key_of_text, key_ends, key_from, begins_text, kind_of_node}
 use Rattle.yaml_base.proofs.StreamKeys.{no_alias_before, key_by_word}
-use Rattle.yaml_base.proofs.StreamFlowWords.{opens_inside}
+use Rattle.yaml_base.proofs.StreamProperties.{begins_content}
+use Rattle.yaml_base.proofs.StreamPropertyWords.{lead}
+use Rattle.yaml_base.proofs.StreamFlowWords.{opens_inside, Given, given_reads}
+use Rattle.yaml_base.proofs.StreamNoKeys.{tag_no_alias, anchor_no_alias}
+use Rattle.yaml_base.proofs.StreamOwnTexts.{own_kind}
 
 -- the bracket that begins a sequence, and the one that begins a mapping
 abbrev pub opening : (is_sequence : Bool) → ℕ
@@ -25,10 +31,17 @@ abbrev pub keeps_open : Text → Bool
 keeps_open [] = true
 keeps_open (c ∷ rest) = opens_inside (c ∷ rest)
 
+-- the front of what keeps a bracket open does so too
+pub keeps_front : (a b : Text) → keeps_open (a ++ b) ≡ true → keeps_open a ≡ true
+keeps_front [] b h = refl
+keeps_front (c ∷ a) b h = h
+
+-- No words
+
 -- nothing is said of no plain value
-nothing_plain : (x : Bool) → ◌≡◌ {A = Option Tree} (scalar_said no_properties stood_plain (if x then None else None)) None
-nothing_plain true = refl
-nothing_plain false = refl
+nothing_plain : (properties : Properties) (x : Bool) → ◌≡◌ {A = Option Tree} (scalar_said properties stood_plain (if x then None else None)) None
+nothing_plain properties true = refl
+nothing_plain properties false = refl
 
 -- no plain text begins with a bracket
 no_plain_read : (breaks12 q : Bool) (t : Text) → read_plain breaks12 false (opening q ∷ t) ≡ None
@@ -40,10 +53,10 @@ no_plain_read breaks12 false (c ∷ []) = refl
 no_plain_read breaks12 false (c ∷ d ∷ t) = refl
 
 -- so no plain scalar does
-no_scalar : (rules : Rules) (q : Bool) (t : Text) → scalar_of_style plain rules false None no_properties (opening q ∷ t) ≡ None
-no_scalar rules q t =
-    ap (λ v. scalar_said no_properties stood_plain (if is_tidy plain rules.breaks12 None (opening q ∷ t) then v else None)) (no_plain_read rules.breaks12 q t)
-    ∙ nothing_plain (is_tidy plain rules.breaks12 None (opening q ∷ t))
+no_scalar : (rules : Rules) (q : Bool) (properties : Properties) (t : Text) → scalar_of_style plain rules false None properties (opening q ∷ t) ≡ None
+no_scalar rules q properties t =
+    ap (λ v. scalar_said properties stood_plain (if is_tidy plain rules.breaks12 None (opening q ∷ t) then v else None)) (no_plain_read rules.breaks12 q t)
+    ∙ nothing_plain properties (is_tidy plain rules.breaks12 None (opening q ∷ t))
 
 -- a character that closes nothing is no closing bracket
 not_closing : (c : ℕ) → opens_inside (c ∷ []) ≡ true → ((c == 0x5D) ≡ false) × ((c == 0x7D) ≡ false)
@@ -53,74 +66,116 @@ not_closing c h = let parts = and_parts (not (c == 0x5D)) (not (c == 0x7D)) h in
     by true h = absurd (false≢true h)
     by false h = refl
 
--- a bracket and what keeps it open is no word
-no_word : (rules : Rules) (q : Bool) (t : Text) → keeps_open t ≡ true → word_read rules false (opening q ∷ t) ≡ None
-no_word rules true [] h = no_scalar rules true []
-no_word rules true (c ∷ []) h =
-    ap (λ x. word_by_kind (if x then empty_sequence else a_scalar) rules false None no_properties (0x5B ∷ c ∷ [])) (not_closing c h).0
-    ∙ no_scalar rules true (c ∷ [])
-no_word rules true (c ∷ d ∷ t) h = no_scalar rules true (c ∷ d ∷ t)
-no_word rules false [] h = no_scalar rules false []
-no_word rules false (c ∷ []) h =
-    ap (λ x. word_by_kind (if x then empty_mapping else a_scalar) rules false None no_properties (0x7B ∷ c ∷ [])) (not_closing c h).1
-    ∙ no_scalar rules false (c ∷ [])
-no_word rules false (c ∷ d ∷ t) h = no_scalar rules false (c ∷ d ∷ t)
+-- a bracket and what keeps it open is no word, whatever properties it has
+no_word : (rules : Rules) (q : Bool) (properties : Properties) (t : Text) → keeps_open t ≡ true → word_after rules false None properties (opening q ∷ t) ≡ None
+no_word rules true properties [] h = no_scalar rules true properties []
+no_word rules true properties (c ∷ []) h =
+    ap (λ x. word_by_kind (if x then empty_sequence else a_scalar) rules false None properties (0x5B ∷ c ∷ [])) (not_closing c h).0
+    ∙ no_scalar rules true properties (c ∷ [])
+no_word rules true properties (c ∷ d ∷ t) h = no_scalar rules true properties (c ∷ d ∷ t)
+no_word rules false properties [] h = no_scalar rules false properties []
+no_word rules false properties (c ∷ []) h =
+    ap (λ x. word_by_kind (if x then empty_mapping else a_scalar) rules false None properties (0x7B ∷ c ∷ [])) (not_closing c h).1
+    ∙ no_scalar rules false properties (c ∷ [])
+no_word rules false properties (c ∷ d ∷ t) h = no_scalar rules false properties (c ∷ d ∷ t)
+
+-- No aliases
 
 -- no alias begins with a bracket
 no_alias : (rules : Rules) (q : Bool) (t : Text) → word_of_alias rules (opening q ∷ t) ≡ None
-no_alias rules true [] = ap (option_and_then (λ tree. if is_alias tree then Some tree else None)) (no_scalar rules true [])
+no_alias rules true [] = ap (option_and_then (λ tree. if is_alias tree then Some tree else None)) (no_scalar rules true no_properties [])
 no_alias rules true (c ∷ []) = by (c == 0x5D)
   where
     by : (x : Bool) → option_and_then (λ tree. if is_alias tree then Some tree else None)
         (word_by_kind (if x then empty_sequence else a_scalar) rules false None no_properties (0x5B ∷ c ∷ [])) ≡ None
     by true = refl
-    by false = ap (option_and_then (λ tree. if is_alias tree then Some tree else None)) (no_scalar rules true (c ∷ []))
-no_alias rules true (c ∷ d ∷ t) = ap (option_and_then (λ tree. if is_alias tree then Some tree else None)) (no_scalar rules true (c ∷ d ∷ t))
-no_alias rules false [] = ap (option_and_then (λ tree. if is_alias tree then Some tree else None)) (no_scalar rules false [])
+    by false = ap (option_and_then (λ tree. if is_alias tree then Some tree else None)) (no_scalar rules true no_properties (c ∷ []))
+no_alias rules true (c ∷ d ∷ t) = ap (option_and_then (λ tree. if is_alias tree then Some tree else None)) (no_scalar rules true no_properties (c ∷ d ∷ t))
+no_alias rules false [] = ap (option_and_then (λ tree. if is_alias tree then Some tree else None)) (no_scalar rules false no_properties [])
 no_alias rules false (c ∷ []) = by (c == 0x7D)
   where
     by : (x : Bool) → option_and_then (λ tree. if is_alias tree then Some tree else None)
         (word_by_kind (if x then empty_mapping else a_scalar) rules false None no_properties (0x7B ∷ c ∷ [])) ≡ None
     by true = refl
-    by false = ap (option_and_then (λ tree. if is_alias tree then Some tree else None)) (no_scalar rules false (c ∷ []))
-no_alias rules false (c ∷ d ∷ t) = ap (option_and_then (λ tree. if is_alias tree then Some tree else None)) (no_scalar rules false (c ∷ d ∷ t))
+    by false = ap (option_and_then (λ tree. if is_alias tree then Some tree else None)) (no_scalar rules false no_properties (c ∷ []))
+no_alias rules false (c ∷ d ∷ t) = ap (option_and_then (λ tree. if is_alias tree then Some tree else None)) (no_scalar rules false no_properties (c ∷ d ∷ t))
 
--- so such a text is no key
-no_key_text : (rules : Rules) (q : Bool) (t : Text) → keeps_open t ≡ true → key_of_text rules (opening q ∷ t) ≡ None
-no_key_text rules q t h =
-    key_by_word rules (opening q ∷ t) None (ap (option_and_then (λ tree. if is_alias tree then None else Some tree)) (no_word rules q t h))
-    (no_alias_before rules (opening q) t (other q) (no_alias rules q))
-    ∙ neither (nat_le (length (opening q ∷ t)) longest_key)
+-- a bracket is no space
+bracket_shows : (q : Bool) → (opening q == space) ≡ false
+bracket_shows true = refl
+bracket_shows false = refl
+
+-- nor does one with properties
+no_alias_led : (rules : Rules) (anchor tag : Option Text) (said : Option TagSaid) (q : Bool) (t : Text) → Given rules anchor tag said
+    → option_and_then (word_of_alias rules) (without_last_space (lead anchor tag ++ (opening q ∷ t))) ≡ None
+no_alias_led rules None None said q t given = no_alias_before rules (opening q) t (bracket_shows q) (no_alias rules q)
+no_alias_led rules (Some name) None said q t given =
+    no_alias_before rules 0x26 ((name ++ (space ∷ [])) ++ (opening q ∷ t)) refl (anchor_no_alias rules)
+no_alias_led rules (Some name) (Some tag) said q t given =
+    no_alias_before rules 0x26 (((name ++ (space ∷ tag)) ++ (space ∷ [])) ++ (opening q ∷ t)) refl (anchor_no_alias rules)
+no_alias_led rules None (Some tag) (Some said) q t given =
+    ap (λ u. option_and_then (word_of_alias rules) (without_last_space ((u ++ (space ∷ [])) ++ (opening q ∷ t)))) given.tagged.begins
+    ∙ no_alias_before rules 0x21 ((given.tagged.rest ++ (space ∷ [])) ++ (opening q ∷ t)) refl (tag_no_alias rules)
+no_alias_led rules None (Some tag) None q t given = absurd given.tagged
+
+-- No keys
+
+-- a bracket begins a node's own text
+bracket_content : (q : Bool) (t : Text) → begins_content (opening q ∷ t) ≡ true
+bracket_content true t = refl
+bracket_content false t = refl
+
+-- such a text is no key
+no_key_text : (rules : Rules) (anchor tag : Option Text) (said : Option TagSaid) (q : Bool) (t : Text) → Given rules anchor tag said → keeps_open t ≡ true
+    → key_of_text rules (lead anchor tag ++ (opening q ∷ t)) ≡ None
+no_key_text rules anchor tag said q t given h =
+    key_by_word rules (lead anchor tag ++ (opening q ∷ t)) None
+    (ap (option_and_then (λ tree. if is_alias tree then None else Some tree))
+    (given_reads rules false anchor tag said (opening q ∷ t) given (bracket_content q t)
+    ∙ no_word rules q (record { anchor = anchor; tag = said }) t h))
+    (no_alias_led rules anchor tag said q t given)
+    ∙ neither (nat_le (length (lead anchor tag ++ (opening q ∷ t))) longest_key)
   where
-    other : (q : Bool) → (opening q == space) ≡ false
-    other true = refl
-    other false = refl
-
     neither : (x : Bool) → ◌≡◌ {A = Option Tree} (if x then None else None) None
     neither true = refl
     neither false = refl
 
--- the front of what keeps a bracket open does so too
-pub keeps_front : (a b : Text) → keeps_open (a ++ b) ≡ true → keeps_open a ≡ true
-keeps_front [] b h = refl
-keeps_front (c ∷ a) b h = h
-
 -- no `:` after it ends a key
-no_key_from : (rules : Rules) (q : Bool) (b t : Text) → keeps_open (b ++ t) ≡ true → key_from rules (opening q ∷ b) t ≡ None
-no_key_from rules q b [] h = refl
-no_key_from rules q b (x ∷ t) h =
-    ap (λ r. option_or r (key_from rules ((opening q ∷ b) ++ (x ∷ [])) t)) (ends (x == 0x3A && ends_sign t) (no_key_text rules q b (keeps_front b (x ∷ t) h)))
-    ∙ no_key_from rules q (b ++ (x ∷ [])) t (ap keeps_open (append_assoc b (x ∷ []) t) ∙ h)
+no_key_from : (rules : Rules) (anchor tag : Option Text) (said : Option TagSaid) (q : Bool) (b t : Text)
+    → Given rules anchor tag said → keeps_open (b ++ t) ≡ true
+    → key_from rules (lead anchor tag ++ (opening q ∷ b)) t ≡ None
+no_key_from rules anchor tag said q b [] given h = refl
+no_key_from rules anchor tag said q b (x ∷ t) given h =
+    let before = lead anchor tag ++ (opening q ∷ b) in
+    ap (λ r. option_or r (key_from rules (before ++ (x ∷ [])) t))
+    (ends (x == 0x3A && ends_sign t) (no_key_text rules anchor tag said q b given (keeps_front b (x ∷ t) h)))
+    ∙ ap (λ u. key_from rules u t) (append_assoc (lead anchor tag) (opening q ∷ b) (x ∷ []))
+    ∙ no_key_from rules anchor tag said q (b ++ (x ∷ [])) t given (ap keeps_open (append_assoc b (x ∷ []) t) ∙ h)
   where
-    ends : (e : Bool) → key_of_text rules (opening q ∷ b) ≡ None → key_ends rules e (opening q ∷ b) t ≡ None
-    ends true none = ap (option_map (λ k. record { key = k; length = length (opening q ∷ b); after = t })) none
+    ends : (e : Bool) → key_of_text rules (lead anchor tag ++ (opening q ∷ b)) ≡ None → key_ends rules e (lead anchor tag ++ (opening q ∷ b)) t ≡ None
+    ends true none = ap (option_map (λ k. record { key = k; length = length (lead anchor tag ++ (opening q ∷ b)); after = t })) none
     ends false none = refl
 
+-- Kinds
+
+-- a bracket is no sign of an item and none of a key
+bracket_sign : (q : Bool) (t : Text) → (begins_with_sign 0x2D (opening q ∷ t) ≡ false) × (begins_with_sign 0x3F (opening q ∷ t) ≡ false)
+bracket_sign true t = (refl, refl)
+bracket_sign false t = (refl, refl)
+
 -- the first line of a collection in flow that holds something is a text
-pub collection_kind : (rules : Rules) (q : Bool) (t : Text) → keeps_open t ≡ true → kind_of_node rules (opening q ∷ t) ≡ begins_text
-collection_kind rules true t h = ap (λ key. if is_some key then begins_mapping else begins_text) (no_key_from rules true [] t h)
-collection_kind rules false t h = ap (λ key. if is_some key then begins_mapping else begins_text) (no_key_from rules false [] t h)
+pub collection_kind : (rules : Rules) (anchor tag : Option Text) (said : Option TagSaid) (q : Bool) (t : Text)
+    → Given rules anchor tag said → keeps_open t ≡ true
+    → kind_of_node rules (lead anchor tag ++ (opening q ∷ t)) ≡ begins_text
+collection_kind rules anchor tag said q t given h =
+    own_kind rules anchor tag said (opening q) t given (bracket_sign q t).0 (bracket_sign q t).1 (at q ∙ no_key_from rules anchor tag said q [] t given h)
+  where
+    at : (q : Bool) → key_from rules (lead anchor tag) (opening q ∷ t) ≡ key_from rules (lead anchor tag ++ (opening q ∷ [])) t
+    at true = refl
+    at false = refl
 
 -- and so is an empty one
-pub empty_kind : (rules : Rules) → (kind_of_node rules (0x5B ∷ 0x5D ∷ []) ≡ begins_text) × (kind_of_node rules (0x7B ∷ 0x7D ∷ []) ≡ begins_text)
-empty_kind rules = (refl, refl)
+pub empty_kind : (rules : Rules) (anchor tag : Option Text) (said : Option TagSaid) → Given rules anchor tag said
+    → (kind_of_node rules (lead anchor tag ++ (0x5B ∷ 0x5D ∷ [])) ≡ begins_text) × (kind_of_node rules (lead anchor tag ++ (0x7B ∷ 0x7D ∷ [])) ≡ begins_text)
+empty_kind rules anchor tag said given =
+    (own_kind rules anchor tag said 0x5B (0x5D ∷ []) given refl refl refl, own_kind rules anchor tag said 0x7B (0x7D ∷ []) given refl refl refl)

@@ -11,11 +11,14 @@ use Rattle.yaml_base.specs.Grammar.{sequence_node, mapping_node, Nodes, no_nodes
 use Rattle.yaml_base.specs.Refusal.{collection_tag}
 use Rattle.yaml_base.specs.Layout.{Place, is_in_mapping, line_column, deeper, entries_column, has_no_nodes, has_no_pairs, properties_laid, is_written_in_flow, Brackets, square, curly, end_laid}
 use Rattle.yaml_base.specs.ReadPlain.{is_read_white}
+use Rattle.yaml_base.specs.ReadTags.{TagSaid}
 use Rattle.yaml_base.specs.StreamContent.{Tree, sequence_tree, mapping_tree, no_trees, no_tree_pairs}
 use Rattle.yaml_base.specs.StreamScalars.{Rules, Properties, word_after}
 use Rattle.yaml_base.specs.StreamTokens.{sign, free, is_flow_sign, begins_bracket, class_of, is_pair, FlowTurn, begun, bracket_turn, flow_tokens}
 use Rattle.yaml_base.specs.StreamFlow.{no_key, Level, in_sequence, in_mapping, Awaited, collection_awaited, entry_awaited, comma_awaited, FlowReading, done, within, level_opened, opened, word_step, flow_step, tree_at_end, flow_read}
 use Rattle.yaml_base.specs.StreamNodes.{before_trimmed, trimmed, flow_text, kind_of_text, text_by_kind, begins_text, kind_of_node}
+use Rattle.yaml_base.proofs.StreamLineLaws.{OneLine}
+use Rattle.yaml_base.proofs.StreamProperties.{begins_content}
 use Rattle.yaml_base.proofs.StreamAgrees.{node_tree, nodes_tree, pairs_tree}
 use Rattle.yaml_base.proofs.StreamSays.{opens_before, bracket_class, square_class, curly_class, comma_class, sign_ends}
 use Rattle.yaml_base.proofs.StreamTakes.{Takes, steps, takes_both, flow_reads}
@@ -24,7 +27,7 @@ use Rattle.yaml_base.proofs.StreamPropertyWords.{lead}
 use Rattle.yaml_base.proofs.StreamStands.{tag_written, tag_meant, NamesStand, BodyStands, BodiesHold, ItemsHold, PairsHold}
 use Rattle.yaml_base.proofs.StreamLeads.{Ended, lead_laid}
 use Rattle.yaml_base.proofs.StreamPasses.{passes_both, passes_comma, passes_entry_white, takes_text, new_line_white}
-use Rattle.yaml_base.proofs.StreamFlowWords.{opens_inside, tag_of_collection}
+use Rattle.yaml_base.proofs.StreamFlowWords.{opens_inside, Given, tag_of_collection}
 use Rattle.yaml_base.proofs.StreamFlowTakes.{FlowEntries, opens_more, and_false, no_pair}
 use Rattle.yaml_base.proofs.StreamFlowScalars.{rules_of}
 use Rattle.yaml_base.proofs.StreamFlowKinds.{KeysFit, empty_whole, collection_whole, ItemsTake, PairsTake}
@@ -41,7 +44,10 @@ pub record FlowContent (rules : Rules) (cursor : Cursor) (own : Laid) (anchor ta
   pub closes : class_of rules.breaks12 closing ≡ is_flow_sign
   pub kind : (rest : Text) → kind_of_text (bracket ∷ rest) ≡ flow_text
   pub shown : is_read_white rules.breaks12 closing ≡ false
-  pub line : (first more : Text) → inside ++ (closing ∷ []) ≡ first ++ more → kind_of_node rules (bracket ∷ first) ≡ begins_text
+  pub one_line : OneLine rules.breaks12 (bracket ∷ [])
+  pub content : begins_content (bracket ∷ []) ≡ true
+  pub line : (before_anchor before_tag : Option Text) (said : Option TagSaid) → Given rules before_anchor before_tag said → (first more : Text)
+      → inside ++ (closing ∷ []) ≡ first ++ more → kind_of_node rules (lead before_anchor before_tag ++ (bracket ∷ first)) ≡ begins_text
   pub whole : own.text ≡ space_if true cursor ++ (lead anchor tag ++ ((bracket ∷ inside) ++ (closing ∷ [])))
   pub ended : Ended own.cursor
   pub reads : flow_read rules (record { anchor = anchor; tag = tag_meant given_tag false }) ((bracket ∷ inside) ++ (closing ∷ [])) ≡ Some tree
@@ -52,13 +58,22 @@ record AreBrackets (rules : Rules) (bracket closing : ℕ) : Type 0 where
   pub closes : class_of rules.breaks12 closing ≡ is_flow_sign
   pub kind : (rest : Text) → kind_of_text (bracket ∷ rest) ≡ flow_text
   pub shown : is_read_white rules.breaks12 closing ≡ false
-  pub line : (first : Text) → keeps_open first ≡ true → kind_of_node rules (bracket ∷ first) ≡ begins_text
-  pub empty : kind_of_node rules (bracket ∷ closing ∷ []) ≡ begins_text
+  pub one_line : OneLine rules.breaks12 (bracket ∷ [])
+  pub content : begins_content (bracket ∷ []) ≡ true
+  pub line : (anchor tag : Option Text) (said : Option TagSaid) (first : Text) → Given rules anchor tag said → keeps_open first ≡ true
+      → kind_of_node rules (lead anchor tag ++ (bracket ∷ first)) ≡ begins_text
+  pub empty : (anchor tag : Option Text) (said : Option TagSaid) → Given rules anchor tag said
+      → kind_of_node rules (lead anchor tag ++ (bracket ∷ closing ∷ [])) ≡ begins_text
 
 -- a bracket that closes isn't white
 sign_shown : (breaks12 : Bool) → (is_read_white breaks12 0x5D ≡ false) × (is_read_white breaks12 0x7D ≡ false)
 sign_shown true = (refl, refl)
 sign_shown false = (refl, refl)
+
+-- one that opens breaks no line
+bracket_line : (breaks12 : Bool) → OneLine breaks12 (0x5B ∷ []) × OneLine breaks12 (0x7B ∷ [])
+bracket_line true = (refl, refl)
+bracket_line false = (refl, refl)
 
 -- the brackets of sequences
 square_brackets : (rules : Rules) → AreBrackets rules 0x5B 0x5D
@@ -67,8 +82,10 @@ square_brackets rules = record {
   closes = square_class rules.breaks12;
   kind = λ rest. refl;
   shown = (sign_shown rules.breaks12).0;
-  line = collection_kind rules true;
-  empty = (empty_kind rules).0;
+  one_line = (bracket_line rules.breaks12).0;
+  content = refl;
+  line = λ anchor tag said first given h. collection_kind rules anchor tag said true first given h;
+  empty = λ anchor tag said given. (empty_kind rules anchor tag said given).0;
 }
 
 -- and those of mappings
@@ -78,8 +95,10 @@ curly_brackets rules = record {
   closes = curly_class rules.breaks12;
   kind = λ rest. refl;
   shown = (sign_shown rules.breaks12).1;
-  line = collection_kind rules false;
-  empty = (empty_kind rules).1;
+  one_line = (bracket_line rules.breaks12).1;
+  content = refl;
+  line = λ anchor tag said first given h. collection_kind rules anchor tag said false first given h;
+  empty = λ anchor tag said given. (empty_kind rules anchor tag said given).1;
 }
 
 -- Empty ones
@@ -95,10 +114,12 @@ holds_two (c ∷ d ∷ rest) = true
 holds_two _ = false
 
 -- the first line of two brackets
-empty_line : (rules : Rules) (b c : ℕ) → AreBrackets rules b c → (first more : Text) → c ∷ [] ≡ first ++ more → kind_of_node rules (b ∷ first) ≡ begins_text
-empty_line rules b c brackets [] more e = brackets.line [] refl
-empty_line rules b c brackets (x ∷ []) more e = ap (λ n. kind_of_node rules (b ∷ n ∷ [])) (sym (ap first_of e)) ∙ brackets.empty
-empty_line rules b c brackets (x ∷ y ∷ first) more e = absurd (false≢true (ap holds_two e))
+empty_line : (rules : Rules) (b c : ℕ) → AreBrackets rules b c → (anchor tag : Option Text) (said : Option TagSaid) → Given rules anchor tag said
+    → (first more : Text) → c ∷ [] ≡ first ++ more → kind_of_node rules (lead anchor tag ++ (b ∷ first)) ≡ begins_text
+empty_line rules b c brackets anchor tag said given [] more e = brackets.line anchor tag said [] given refl
+empty_line rules b c brackets anchor tag said given (x ∷ []) more e =
+    ap (λ n. kind_of_node rules (lead anchor tag ++ (b ∷ n ∷ []))) (sym (ap first_of e)) ∙ brackets.empty anchor tag said given
+empty_line rules b c brackets anchor tag said given (x ∷ y ∷ first) more e = absurd (false≢true (ap holds_two e))
 
 -- two brackets that are a word
 empty_content : (rules : Rules) (cursor : Cursor) (properties own : Laid) (anchor tag given_tag : Option Text) (b c : ℕ) (tree : Tree)
@@ -115,6 +136,8 @@ empty_content rules cursor properties own anchor tag given_tag b c tree e text e
   closes = brackets.closes;
   kind = brackets.kind;
   shown = brackets.shown;
+  one_line = brackets.one_line;
+  content = brackets.content;
   line = empty_line rules b c brackets;
   whole = text ∙ empty_whole properties cursor (lead anchor tag) b c e;
   ended = ended;
@@ -208,8 +231,10 @@ whole_content rules cursor properties entries ending bracket closing anchor tag 
   closes = brackets.closes;
   kind = brackets.kind;
   shown = brackets.shown;
-  line = λ first more same.
-      brackets.line first
+  one_line = brackets.one_line;
+  content = brackets.content;
+  line = λ before_anchor before_tag said given first more same.
+      brackets.line before_anchor before_tag said first given
       (keeps_front first more
       (ap keeps_open (sym same) ∙ opens_kept ((of.inside ++ end.before) ++ (closing ∷ []))
       (opens_more (of.inside ++ end.before) (closing ∷ []) (opens_more of.inside end.before of.opens))));

@@ -104,12 +104,12 @@ scalar_meant rules flow anchor tag style bare column text v value h tidy read =
     ∙ ap (option_map (λ tagging. scalar_tree anchor tagging v)) (tagging_meant tag style bare h)
 
 -- a text in quotes is a scalar
-double_kind : (t : Text) → kind_of_word (0x22 ∷ t) ≡ a_scalar
+pub double_kind : (t : Text) → kind_of_word (0x22 ∷ t) ≡ a_scalar
 double_kind [] = refl
 double_kind (c ∷ []) = refl
 double_kind (c ∷ d ∷ t) = refl
 
-single_kind : (t : Text) → kind_of_word (0x27 ∷ t) ≡ a_scalar
+pub single_kind : (t : Text) → kind_of_word (0x27 ∷ t) ≡ a_scalar
 single_kind [] = refl
 single_kind (c ∷ []) = refl
 single_kind (c ∷ d ∷ t) = refl

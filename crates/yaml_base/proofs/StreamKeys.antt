@@ -94,12 +94,12 @@ no_alias_before rules q (d ∷ t) other none = by (without_last_space (d ∷ t))
     by None = refl
     by (Some u) = none u
 
-double_no_alias : (rules : Rules) (u : Text) → word_of_alias rules (0x22 ∷ u) ≡ None
+pub double_no_alias : (rules : Rules) (u : Text) → word_of_alias rules (0x22 ∷ u) ≡ None
 double_no_alias rules u =
     ap (option_and_then (λ tree. if is_alias tree then Some tree else None)) (word_of_double rules false u)
     ∙ scalar_no_alias no_properties stood_quoted (if is_tidy double_quoted rules.breaks12 None (0x22 ∷ u) then read_double rules.breaks12 (0x22 ∷ u) else None)
 
-single_no_alias : (rules : Rules) (u : Text) → word_of_alias rules (0x27 ∷ u) ≡ None
+pub single_no_alias : (rules : Rules) (u : Text) → word_of_alias rules (0x27 ∷ u) ≡ None
 single_no_alias rules u =
     ap (option_and_then (λ tree. if is_alias tree then Some tree else None)) (word_of_single rules false u)
     ∙ scalar_no_alias no_properties stood_quoted (if is_tidy single_quoted rules.breaks12 None (0x27 ∷ u) then read_single rules.breaks12 (0x27 ∷ u) else None)

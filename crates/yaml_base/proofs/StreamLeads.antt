@@ -20,13 +20,13 @@ pub record Ended (cursor : Cursor) : Type 0 where
   pub indention : cursor.indention ≡ false
 
 -- a tag as it is laid out, after a space where one is needed
-spelling_text : (portable : Bool) (s : Spelling) (cursor : Cursor) → (spelling_laid portable s cursor).text ≡ space_if true cursor ++ spelled portable s
+pub spelling_text : (portable : Bool) (s : Spelling) (cursor : Cursor) → (spelling_laid portable s cursor).text ≡ space_if true cursor ++ spelled portable s
 spelling_text portable (shorthand handle suffix) cursor = append_assoc (space_if true cursor) handle (suffix_escaped portable suffix)
 spelling_text portable (verbatim tag) cursor =
     append_assoc (space_if true cursor ++ codes "!<") (percent_escaped tag) (codes ">")
     ∙ append_assoc (space_if true cursor) (codes "!<") (percent_escaped tag ++ codes ">")
 
-spelling_ended : (portable : Bool) (s : Spelling) (cursor : Cursor) → Ended (spelling_laid portable s cursor).cursor
+pub spelling_ended : (portable : Bool) (s : Spelling) (cursor : Cursor) → Ended (spelling_laid portable s cursor).cursor
 spelling_ended portable (shorthand handle suffix) cursor = record { white = refl; indention = refl }
 spelling_ended portable (verbatim tag) cursor = record { white = refl; indention = refl }
 

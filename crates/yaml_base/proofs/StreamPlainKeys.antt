@@ -85,7 +85,7 @@ word_of_plain rules flow c t b =
     ∙ ap (λ s. scalar_of_style s rules flow None no_properties (c ∷ t)) (plain_style c t b)
 
 -- no `:` of plain text ends a key before its end
-plain_no_key : (rules : Rules) (before t after : Text) → holds_no_plain rules.breaks12 false t ≡ false → NoKey rules before t after
+pub plain_no_key : (rules : Rules) (before t after : Text) → holds_no_plain rules.breaks12 false t ≡ false → NoKey rules before t after
 plain_no_key rules before [] after h = tt
 plain_no_key rules before (c ∷ t) after h =
     let parts = or_parts ((c == 58 && begins_white rules.breaks12 t) || (is_read_white rules.breaks12 c && begins_with_hash t) || false) (holds_no_plain rules.breaks12 false t) h in

@@ -61,7 +61,7 @@ not_true false h = refl
 -- Words
 
 -- a word is cut before a space or the end
-word_whole : (word rest : Text) → has_no_space word ≡ true → ends_sign rest ≡ true → word_cut (word ++ rest) ≡ record { front = word; rest = rest }
+pub word_whole : (word rest : Text) → has_no_space word ≡ true → ends_sign rest ≡ true → word_cut (word ++ rest) ≡ record { front = word; rest = rest }
 word_whole [] [] h ends = refl
 word_whole [] (c ∷ rest) h ends = ap (λ x. word_step x c rest (word_cut rest)) ends
 word_whole (c ∷ word) rest h ends =
@@ -103,7 +103,7 @@ no_white_no_space (c ∷ text) h =
 -- Spaces
 
 -- a space after spaces is one of them
-space_after : (n : ℕ) (t : Text) → spaces n ++ (space ∷ t) ≡ spaces (suc n) ++ t
+pub space_after : (n : ℕ) (t : Text) → spaces n ++ (space ∷ t) ≡ spaces (suc n) ++ t
 space_after zero t = refl
 space_after (suc n) t = ap (λ s. space ∷ s) (space_after n t)
 
@@ -157,7 +157,7 @@ with_tag directives anchor column (c ∷ tag) rest said written h =
     mark = ap (λ t. first 0 t == 0x21) written.begins
 
 -- an anchor, before a space or the end
-with_anchor : (name rest : Text) → name_read name ≡ Some name → ends_sign rest ≡ true
+pub with_anchor : (name rest : Text) → name_read name ≡ Some name → ends_sign rest ≡ true
     → anchor_of_word (word_cut (name ++ rest)) ≡ read_as (Some name) None (suc (length name)) rest
 with_anchor name rest h ends =
     ap anchor_of_word (word_whole name rest (letters_no_space name (name_letters name h)) ends)

@@ -12,7 +12,8 @@ use Rattle.yaml_base.proofs.StreamInside.{AllInside}
 
 -- Fewer spaces
 
-spaces_fewer : (m n : ℕ) (t : Text) → m ≤ n → begins_with_spaces n t ≡ true → begins_with_spaces m t ≡ true
+-- fewer spaces than stand there
+pub spaces_fewer : (m n : ℕ) (t : Text) → m ≤ n → begins_with_spaces n t ≡ true → begins_with_spaces m t ≡ true
 spaces_fewer zero n t le h = refl
 spaces_fewer (suc m) zero t le h = absurd (omega arith)
 spaces_fewer (suc m) (suc n) [] le h = absurd (false≢true h)
@@ -64,11 +65,11 @@ abbrev pub lines_after_first : List Line → List Line
 lines_after_first [] = []
 lines_after_first (line ∷ rest) = rest
 
-first_extended : (c : ℕ) (lines : List Line) → first_text (extending c lines) ≡ c ∷ first_text lines
+pub first_extended : (c : ℕ) (lines : List Line) → first_text (extending c lines) ≡ c ∷ first_text lines
 first_extended c [] = refl
 first_extended c (line ∷ rest) = refl
 
-after_extended : (c : ℕ) (lines : List Line) → lines_after_first (extending c lines) ≡ lines_after_first lines
+pub after_extended : (c : ℕ) (lines : List Line) → lines_after_first (extending c lines) ≡ lines_after_first lines
 after_extended c [] = refl
 after_extended c (line ∷ rest) = refl
 
@@ -85,7 +86,8 @@ first_after_space : (breaks12 : Bool) (c : ℕ) (t : Text) → (c == space) ≡ 
 first_after_space breaks12 c t e =
     ap (λ x. first_text (character_before x c (lines_of breaks12 t))) (no_break breaks12 c e) ∙ first_extended c (lines_of breaks12 t)
 
-spaces_inside : (breaks12 : Bool) (column : ℕ) (t : Text) → begins_with_spaces (suc column) t ≡ true → is_inside true column (first_text (lines_of breaks12 t)) ≡ true
+-- so many spaces begin a line inside the column before them
+pub spaces_inside : (breaks12 : Bool) (column : ℕ) (t : Text) → begins_with_spaces (suc column) t ≡ true → is_inside true column (first_text (lines_of breaks12 t)) ≡ true
 spaces_inside breaks12 column [] h = absurd (false≢true h)
 spaces_inside breaks12 zero (c ∷ t) h =
     let parts = and_parts (c == space) true h in

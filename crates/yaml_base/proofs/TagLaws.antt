@@ -28,7 +28,7 @@ without_last-append (c ∷ []) end = refl
 without_last-append (c ∷ next ∷ rest) end = ap (λ x. c ∷ x) (without_last-append (next ∷ rest) end)
 
 -- what stands before the sign at the end
-end_sign_dropped : (text : Text) → without_end_sign (text ++ 0x3E ∷ []) ≡ Some text
+pub end_sign_dropped : (text : Text) → without_end_sign (text ++ 0x3E ∷ []) ≡ Some text
 end_sign_dropped [] = refl
 end_sign_dropped (c ∷ []) = refl
 end_sign_dropped (c ∷ d ∷ rest) = ap (option_map (λ text. c ∷ text)) (end_sign_dropped (d ∷ rest))
@@ -54,7 +54,7 @@ cut_further [] c handle suffix text e = e
 cut_further (d ∷ []) c handle suffix text e = rw e refl
 cut_further (d ∷ f ∷ front) c handle suffix text e = rw (cut_further (f ∷ front) c handle suffix text e) refl
 
-stands_no_mark : (text : Text) → list_all stands_written text ≡ true → no_mark text ≡ true
+pub stands_no_mark : (text : Text) → list_all stands_written text ≡ true → no_mark text ≡ true
 stands_no_mark [] h = refl
 stands_no_mark (c ∷ rest) h =
     let both = and_parts (stands_written c) (list_all stands_written rest) h in
@@ -99,7 +99,7 @@ handle_form (c ∷ d ∷ rest) e =
 within_marks : (handle middle text : Text) → handle ≡ (tag_mark ∷ middle) ++ tag_mark ∷ [] → handle ++ text ≡ (tag_mark ∷ middle) ++ (tag_mark ∷ text)
 within_marks handle middle text e = ap (λ x. x ++ text) e ∙ append_assoc (tag_mark ∷ middle) (tag_mark ∷ []) text
 
-cut_at_handle : (handle text : Text) → IsHandle handle → no_mark text ≡ true → cut_after_mark (handle ++ text) ≡ record { front = handle; rest = text }
+pub cut_at_handle : (handle text : Text) → IsHandle handle → no_mark text ≡ true → cut_after_mark (handle ++ text) ≡ record { front = handle; rest = text }
 cut_at_handle handle text (inl e) h = rw e (cut_at_mark text h)
 cut_at_handle handle text (inr form) h =
     ap cut_after_mark (within_marks handle form.0 text form.1)
@@ -194,11 +194,11 @@ spelling_is P own (directive ∷ rest) tag found whole by =
 
 -- Directives in force are found.
 
-neither : {A : Type 0} (x y : Option A) → option_or x y ≡ None → (x ≡ None) × (y ≡ None)
+pub neither : {A : Type 0} (x y : Option A) → option_or x y ≡ None → (x ≡ None) × (y ≡ None)
 neither None y e = (refl, e)
 neither (Some x) y e = absurd (cc)
 
-not_given : (given : Bool) (number : ℕ) → cond {A = Option ℕ} given (Some number) None ≡ None → given ≡ false
+pub not_given : (given : Bool) (number : ℕ) → cond {A = Option ℕ} given (Some number) None ≡ None → given ≡ false
 not_given true number e = absurd (cc)
 not_given false number e = refl
 
@@ -281,7 +281,7 @@ letters_end_no_word (c ∷ rest) h =
     let both = and_parts (is_alpha c) (list_all is_alpha rest) h in
     or_from _ _ (alpha_ends_no_word c both.0) (letters_end_no_word rest both.1)
 
-handle_ends_no_word : (handle : Text) → IsHandle handle → list_any ends_word handle ≡ false
+pub handle_ends_no_word : (handle : Text) → IsHandle handle → list_any ends_word handle ≡ false
 handle_ends_no_word handle (inl e) = rw e refl
 handle_ends_no_word handle (inr form) =
     rw form.1 (any-append ends_word (tag_mark ∷ form.0) (tag_mark ∷ []) (letters_end_no_word form.0 form.2) refl)

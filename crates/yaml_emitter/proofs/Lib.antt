@@ -47,3 +47,4 @@ pub mod Promising
 pub mod KeepsSet
 pub mod Growing
 pub mod StandingMarked
+pub mod StreamsReadBack

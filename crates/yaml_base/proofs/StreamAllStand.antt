@@ -1,0 +1,111 @@
+-- Each document of an accepted list stands: its names and tags by what is accepted, its scalars by their bodies.
+use Rattle.std.proofs.Common.{◌≡◌, ◌≤◌, refl, sym, ap, ◌∙◌, subst, arith}
+use Rattle.std.proofs.lemmas.Bool.{false≢true, and_parts, leb-true}
+use Rattle.std.specs.List.{list_all}
+use Rattle.std.specs.Prelude.{ℕ, ℤ, pos, negsuc, Bool, true, false, Option, None, Some, List, [], ◌∷◌, ◌++◌, ◌&&◌, nat_le, if◌then◌else◌}
+use Rattle.yaml_base.specs.Characters.{is_printable}
+use Rattle.yaml_base.specs.Settings.{Encoding, Settings, Effective, effective_indent, effective}
+use Rattle.yaml_base.specs.Event.{TagDirective, Event}
+use Rattle.yaml_base.specs.Tags.{directives_in_force}
+use Rattle.yaml_base.specs.Cursor.{Cursor, Laid}
+use Rattle.yaml_base.specs.Grammar.{Node, alias_node, scalar_node, sequence_node, mapping_node, Document, Documents, no_documents, documents_and, stream_events, tree_of}
+use Rattle.yaml_base.specs.Refusal.{collection_tag, IsAccepted}
+use Rattle.yaml_base.specs.Layout.{as_root, text_of, root_place, has_no_documents, documents_laid, first_standing, document_start_piece}
+use Rattle.yaml_base.specs.Pieces.{list_layout}
+use Rattle.yaml_base.specs.Output.{bytes_written, text_written}
+use Rattle.yaml_base.specs.CanonicalReader.{characters_read}
+use Rattle.yaml_base.specs.Meaning.{has_scalar_texts, has_scalar_values, MeaningIsKept}
+use Rattle.yaml_base.specs.WrittenTexts.{BodiesAreTidy}
+use Rattle.yaml_base.specs.StreamContent.{documents_in_order}
+use Rattle.yaml_base.specs.StreamLaw.{is_written_as_nothing, is_portable, StreamReadsBack}
+use Rattle.yaml_base.proofs.Trees.{tree_of-stream_events}
+use Rattle.yaml_base.proofs.StreamTexts.{node_own}
+use Rattle.yaml_base.proofs.StreamClosed.{margin_cursor}
+use Rattle.yaml_base.proofs.StreamNodesFit.{Stands}
+use Rattle.yaml_base.proofs.StreamStands.{NamesStand, BodyStands, BodiesHold}
+use Rattle.yaml_base.proofs.StreamEachDocument.{AllDocuments, documents_both}
+use Rattle.yaml_base.proofs.StreamNames.{IsSoundDocument, accepted_names_stand}
+use Rattle.yaml_base.proofs.StreamHeadingLines.{laid_heading_reads}
+use Rattle.yaml_base.proofs.StreamBodies.{DocumentsHold, roots_stand}
+use Rattle.yaml_base.proofs.StreamSimpleKeys.{simple_keys_fit}
+use Rattle.yaml_base.proofs.StreamScalarLeaves.{scalars_fit}
+use Rattle.yaml_base.proofs.StreamKeysFit.{keys_fit}
+use Rattle.yaml_base.proofs.StreamRootsStand.{is_on_mark, DocumentsStand}
+use Rattle.yaml_base.proofs.StreamRootLeaves.{root_stands}
+use Rattle.yaml_base.proofs.StreamDocumentTexts.{start_laid, end_cursor}
+use Rattle.yaml_base.proofs.StreamLawStands.{documents_parts, indent_deep, stream_agrees}
+
+-- Documents
+
+-- after each document a line begins
+documents_end : (s : Effective) (documents : Documents) → (documents_laid s documents first_standing).standing.cursor ≡ margin_cursor 0
+documents_end s no_documents = refl
+documents_end s (documents_and before document) = end_cursor document.end_implicit _
+
+-- each document
+documents_stand : (s : Effective) (documents : Documents) → 2 ≤ s.indent → s.indent ≤ 9
+    → AllDocuments (IsSoundDocument s.portable s.canonical) (documents_in_order documents) → DocumentsHold (BodyStands s) documents s
+    → DocumentsStand s documents
+documents_stand s no_documents low high sound bodies = tt
+documents_stand s (documents_and before document) low high sound bodies =
+    let parts = documents_parts (IsSoundDocument s.portable s.canonical) (documents_in_order before) (document ∷ []) sound in
+    let own = document.start.directives in
+    let says = laid_heading_reads s.breaks12 s.portable document.start parts.1.0.version parts.1.0.directives parts.1.0.prefixes in
+    let at = start_laid s (has_no_documents before) document.start (documents_laid s before first_standing).standing (documents_end s before) in (
+      documents_stand s before low high parts.0 bodies.0,
+      record {
+        root = root_stands s document (is_on_mark s (has_no_documents before) document.start) low (scalars_fit s own (directives_in_force own) low high)
+            (simple_keys_fit s own (directives_in_force own))
+            (keys_fit s own (directives_in_force own)) parts.1.0.names
+            (subst (λ (l : Laid). BodiesHold (BodyStands s) document.root s (directives_in_force own) root_place l.cursor) at bodies.1);
+        heading = record { ends = says.0; percents = says.1; reads = says.2 };
+      },
+    )
+
+-- Settings
+
+-- an indent is at most 9
+indent_low : (indent : Option ℤ) → effective_indent indent ≤ 9
+indent_low None = omega arith
+indent_low (Some (negsuc n)) = omega arith
+indent_low (Some (pos n)) = by (nat_le 2 n) (nat_le n 9) refl
+  where
+    by : (x y : Bool) → nat_le n 9 ≡ y → (if x && y then n else 2) ≤ 9
+    by true true e = leb-true n 9 e
+    by true false e = omega arith
+    by false y e = omega arith
+
+-- The law
+
+-- texts of Unicode scalar values are values of them
+abbrev pub TextsAreValues : Type 0
+TextsAreValues = (events : List Event) → list_all has_scalar_texts events ≡ true → list_all has_scalar_values events ≡ true
+
+-- under all settings the text of an accepted list is printable
+abbrev pub LayoutsArePrintable : Type 0
+LayoutsArePrintable =
+    (given : Settings) (encoding : Option Encoding) (events : List Event) → IsAccepted given.canonical events
+    → list_all is_printable (text_of (list_layout (effective given encoding) events)) ≡ true
+
+-- and its characters, with the line breaks of the settings, are read from its bytes
+abbrev pub LayoutsAreRead : Type 0
+LayoutsAreRead =
+    (given : Settings) (encoding : Option Encoding) (events : List Event) → IsAccepted given.canonical events
+    → characters_read (bytes_written (effective given encoding) (list_layout (effective given encoding) events))
+    ≡ Some (text_written (effective given encoding) (list_layout (effective given encoding) events))
+
+-- every stream reads back, where bodies are tidy and keep their meaning, and texts are printable and read from their bytes
+pub streams_read_back : BodiesAreTidy → MeaningIsKept → TextsAreValues → LayoutsArePrintable → LayoutsAreRead → StreamReadsBack
+streams_read_back tidy kept values printable characters = λ given encoding events accepted texts portable.
+    let s = effective given encoding in
+    let stream = accepted.stream in
+    let own = subst (IsAccepted given.canonical) (sym accepted.is_stream) accepted in
+    let scalars = ap (list_all has_scalar_values) accepted.is_stream ∙ values events texts in
+    stream_agrees given encoding events accepted portable
+    (record {
+      documents = documents_stand s stream.documents (indent_deep given.indent) (indent_low given.indent)
+          (accepted_names_stand given events stream accepted texts portable (ap tree_of (sym accepted.is_stream) ∙ tree_of-stream_events stream))
+          (roots_stand given encoding stream tidy kept own scalars);
+      printable = printable given encoding events accepted;
+      characters = characters given encoding events accepted;
+    })

@@ -1,0 +1,183 @@
+-- The properties of a collection in a block are on one line, after a space where one is needed, and are read there.
+use Rattle.std.proofs.Common.{◌≡◌, ◌<◌, refl, sym, ap, ◌∙◌, append_assoc, append-nil, arith, subst}
+use Rattle.std.proofs.lemmas.Bool.{true≢false, or_parts}
+use Rattle.std.proofs.lemmas.Bool.Decides.{nat_tests}
+use Rattle.std.specs.List.{list_any}
+use Rattle.std.specs.Prelude.{ℕ, Bool, true, false, Option, None, Some, List, [], ◌∷◌, ◌++◌, ◌==◌, ◌||◌, ◌&&◌, ◌+◌, not, is_some, length, if◌then◌else◌}
+use Rattle.yaml_base.specs.Characters.{Text, space, is_blank, is_break}
+use Rattle.yaml_base.specs.LineBreaks.{is_read_break}
+use Rattle.yaml_base.specs.Settings.{Effective}
+use Rattle.yaml_base.specs.Event.{TagDirective, Collection}
+use Rattle.yaml_base.specs.Cursor.{Cursor, space_if}
+use Rattle.yaml_base.specs.Tags.{spelling, spelled}
+use Rattle.yaml_base.specs.Refusal.{collection_tag}
+use Rattle.yaml_base.specs.Layout.{anchor_laid, properties_laid}
+use Rattle.yaml_base.specs.ReadTags.{TagSaid}
+use Rattle.yaml_base.specs.StreamLines.{is_spaces, spaces, ends_sign}
+use Rattle.yaml_base.specs.StreamScalars.{Rules, properties_read}
+use Rattle.yaml_base.specs.StreamNodes.{begins_sequence, begins_mapping, begins_text, kind_of_node, key_from, key_of_line}
+use Rattle.yaml_base.proofs.StreamLineLaws.{OneLine, one_line_both}
+use Rattle.yaml_base.proofs.StreamInside.{blank_spaces}
+use Rattle.yaml_base.proofs.StreamBlocks.{Said, BegunKind, unsaid, is_said}
+use Rattle.yaml_base.proofs.StreamNodesFit.{BegunReads}
+use Rattle.yaml_base.proofs.StreamAliasFits.{name_line}
+use Rattle.yaml_base.proofs.StreamProperties.{holds_white, IsTagged, IsNamed, properties_text, name_letters, properties_said}
+use Rattle.yaml_base.proofs.StreamPropertyWords.{lead}
+use Rattle.yaml_base.proofs.StreamStands.{tag_written, tag_meant, TagStands}
+use Rattle.yaml_base.proofs.StreamLeads.{spelling_text, spelling_ended, tag_is_written}
+use Rattle.yaml_base.proofs.StreamFlowWords.{tag_of_collection}
+use Rattle.yaml_base.proofs.StreamFlowScalars.{rules_of}
+use Rattle.yaml_base.proofs.StreamNoKeys.{KeyNowhere, nowhere_alone, properties_nowhere}
+
+-- Lines
+
+-- what isn't white breaks no line
+white_line : (breaks12 : Bool) (c : ℕ) → (is_blank c || is_break c) ≡ false → is_read_break breaks12 c ≡ false
+white_line true c h = grind (arith, nat_tests, h)
+white_line false c h = grind (arith, nat_tests, h)
+
+-- a text that holds nothing white is on one line
+shown_line : (breaks12 : Bool) (text : Text) → holds_white text ≡ false → OneLine breaks12 text
+shown_line breaks12 [] h = refl
+shown_line breaks12 (c ∷ text) h =
+    let parts = or_parts (is_blank c || is_break c) (holds_white text) h in
+    ap (λ x. x || list_any (is_read_break breaks12) text) (white_line breaks12 c parts.0) ∙ shown_line breaks12 text parts.1
+
+-- the signs of properties and the space between them break no line
+mark_line : (breaks12 : Bool) → OneLine breaks12 (0x26 ∷ []) × OneLine breaks12 (space ∷ [])
+mark_line true = (refl, refl)
+mark_line false = (refl, refl)
+
+-- properties are on one line
+pub properties_line : (rules : Rules) (anchor tag : Option Text) (said : Option TagSaid) → IsNamed anchor → IsTagged rules.directives tag said
+    → OneLine rules.breaks12 (properties_text anchor tag)
+properties_line rules None None said named tagged = refl
+properties_line rules (Some name) None said named tagged =
+    one_line_both rules.breaks12 (0x26 ∷ []) name (mark_line rules.breaks12).0 (name_line rules.breaks12 name (name_letters name named))
+properties_line rules None (Some tag) (Some said) named tagged = shown_line rules.breaks12 tag tagged.no_white
+properties_line rules (Some name) (Some tag) (Some said) named tagged =
+    one_line_both rules.breaks12 (0x26 ∷ []) (name ++ (space ∷ tag)) (mark_line rules.breaks12).0
+    (one_line_both rules.breaks12 name (space ∷ tag) (name_line rules.breaks12 name (name_letters name named))
+    (one_line_both rules.breaks12 (space ∷ []) tag (mark_line rules.breaks12).1 (shown_line rules.breaks12 tag tagged.no_white)))
+properties_line rules None (Some tag) None named tagged = absurd tagged
+properties_line rules (Some name) (Some tag) None named tagged = absurd tagged
+
+-- with the space after them
+pub lead_line : (rules : Rules) (anchor tag : Option Text) (said : Option TagSaid) → IsNamed anchor → IsTagged rules.directives tag said
+    → OneLine rules.breaks12 (lead anchor tag)
+lead_line rules None None said named tagged = refl
+lead_line rules (Some name) None said named tagged =
+    one_line_both rules.breaks12 (0x26 ∷ name) (space ∷ []) (properties_line rules (Some name) None said named tagged) (mark_line rules.breaks12).1
+lead_line rules None (Some tag) said named tagged =
+    one_line_both rules.breaks12 tag (space ∷ []) (properties_line rules None (Some tag) said named tagged) (mark_line rules.breaks12).1
+lead_line rules (Some name) (Some tag) said named tagged =
+    one_line_both rules.breaks12 (properties_text (Some name) (Some tag)) (space ∷ [])
+    (properties_line rules (Some name) (Some tag) said named tagged) (mark_line rules.breaks12).1
+
+-- Layout
+
+-- properties are laid out after a space where one is needed
+pub properties_whole : (portable : Bool) (directives : List TagDirective) (anchor tag : Option Text) (cursor : Cursor) (c : ℕ) (t : Text)
+    → properties_text anchor (tag_written portable directives tag false) ≡ c ∷ t
+    → (properties_laid portable directives anchor tag false cursor).text ≡ space_if true cursor ++ (c ∷ t)
+properties_whole portable directives anchor tag cursor c t e = by anchor tag e ∙ ap (λ u. space_if true cursor ++ u) e
+  where
+    by : (anchor tag : Option Text) → properties_text anchor (tag_written portable directives tag false) ≡ c ∷ t
+        → (properties_laid portable directives anchor tag false cursor).text ≡ space_if true cursor ++ properties_text anchor
+        (tag_written portable directives tag false)
+    by None None e = cc
+    by (Some name) None e = append-nil ((space_if true cursor ++ (0x26 ∷ [])) ++ name) ∙ append_assoc (space_if true cursor) (0x26 ∷ []) name
+    by None (Some tag) e = spelling_text portable (spelling directives tag) cursor
+    by (Some name) (Some tag) e =
+        let after = (anchor_laid (Some name) cursor).cursor in
+        ap (λ t. ((space_if true cursor ++ (0x26 ∷ [])) ++ name) ++ t) (spelling_text portable (spelling directives tag) after)
+        ∙ append_assoc (space_if true cursor ++ (0x26 ∷ [])) name (space ∷ spelled portable (spelling directives tag))
+        ∙ append_assoc (space_if true cursor) (0x26 ∷ []) (name ++ (space ∷ spelled portable (spelling directives tag)))
+
+-- after them white space has ended
+properties_ended : (portable : Bool) (directives : List TagDirective) (anchor tag : Option Text) (cursor : Cursor) (c : ℕ) (t : Text)
+    → properties_text anchor (tag_written portable directives tag false) ≡ c ∷ t
+    → (properties_laid portable directives anchor tag false cursor).cursor.indention ≡ false
+properties_ended portable directives None None cursor c t e = cc
+properties_ended portable directives (Some name) None cursor c t e = refl
+properties_ended portable directives None (Some tag) cursor c t e = (spelling_ended portable (spelling directives tag) cursor).indention
+properties_ended portable directives (Some name) (Some tag) cursor c t e =
+    (spelling_ended portable (spelling directives tag) (anchor_laid (Some name) cursor).cursor).indention
+
+-- Reading
+
+-- how many spaces stand before them
+abbrev before_count : Bool → ℕ
+before_count true = 0
+before_count false = 1
+
+before_spaces : (white : Bool) → (if true && not white then space ∷ [] else []) ≡ spaces (before_count white)
+before_spaces true = refl
+before_spaces false = refl
+
+before_some : (white : Bool) → white ≡ false → 0 < before_count white
+before_some true h = absurd (true≢false h)
+before_some false h = omega arith
+
+-- properties that begin with `&` or `!` are read on their line
+properties_begun : (s : Effective) (own directives : List TagDirective) (anchor tag : Option Text) (cursor : Cursor) (c : ℕ) (t : Text)
+    → IsNamed anchor → TagStands s.portable own directives tag → properties_text anchor (tag_written s.portable directives tag false) ≡ c ∷ t
+    → (c == space) ≡ false → (c == 0x2D) ≡ false → (c == 0x3F) ≡ false → (c == 0x26 || c == 0x21) ≡ true
+    → Said (rules_of s own) anchor tag cursor (properties_laid s.portable directives anchor tag false cursor)
+properties_begun s own directives anchor tag cursor c t named stands is shows dash question begins =
+    let written = tag_written s.portable directives tag false in
+    let tagged = tag_is_written s.portable own directives tag false stands in
+    let count = length (properties_text anchor written) + 0 in
+    record {
+      count = before_count cursor.whitespace;
+      head = c;
+      tail = t;
+      text = properties_whole s.portable directives anchor tag cursor c t is ∙ ap (λ u. u ++ (c ∷ t)) (before_spaces cursor.whitespace);
+      some = before_some cursor.whitespace;
+      one_line = subst (OneLine s.breaks12) is (properties_line (rules_of s own) anchor written (tag_meant tag false) named tagged);
+      shows = shows;
+      kind = kind;
+      begins = begins;
+      read = record { properties = record { anchor = anchor; tag = tag_meant tag false }; text = spaces count ++ [] };
+      reads =
+          ap (properties_read own) (sym is ∙ sym (append-nil (properties_text anchor written)))
+          ∙ properties_said own anchor written (tag_meant tag false) 0 [] named tagged refl (λ h. refl);
+      blank = ap is_spaces (append-nil (spaces count)) ∙ blank_spaces count;
+      anchor_read = refl;
+      tag_read = tag_of_collection tag;
+      ends = properties_ended s.portable directives anchor tag cursor c t is;
+    }
+  where
+    no_key : key_from (rules_of s own) [] (c ∷ t) ≡ None
+    no_key =
+        nowhere_alone (rules_of s own) [] (c ∷ t)
+        (subst (KeyNowhere (rules_of s own) []) is
+        (properties_nowhere (rules_of s own) anchor (tag_written s.portable directives tag false) (tag_meant tag false) named
+        (tag_is_written s.portable own directives tag false stands)))
+
+    kind : kind_of_node (rules_of s own) (c ∷ t) ≡ begins_text
+    kind =
+        ap (λ x. if x && ends_sign t then begins_sequence
+        else (if (c == 0x3F && ends_sign t) || is_some (key_of_line (rules_of s own) (c ∷ t)) then begins_mapping else begins_text)) dash
+        ∙ ap (λ x. if (x && ends_sign t) || is_some (key_of_line (rules_of s own) (c ∷ t)) then begins_mapping else begins_text) question
+        ∙ ap (λ x. if is_some x then begins_mapping else begins_text) no_key
+
+-- a collection's properties, if it has some, are read on their line
+pub begun_kind : (s : Effective) (own directives : List TagDirective) (anchor tag : Option Text) (cursor : Cursor) → IsNamed anchor
+    → TagStands s.portable own directives tag
+    → BegunKind (rules_of s own) anchor tag cursor (properties_laid s.portable directives anchor tag false cursor)
+begun_kind s own directives None None cursor named stands = unsaid refl refl refl
+begun_kind s own directives (Some name) None cursor named stands =
+    is_said (properties_begun s own directives (Some name) None cursor 0x26 name named stands refl refl refl refl refl)
+begun_kind s own directives None (Some tag) cursor named stands =
+    is_said (properties_begun s own directives None (Some tag) cursor 0x21 stands.rest named stands stands.begins refl refl refl refl)
+begun_kind s own directives (Some name) (Some tag) cursor named stands =
+    is_said
+    (properties_begun s own directives (Some name) (Some tag) cursor 0x26 (name ++ (space ∷ spelled s.portable (spelling directives tag))) named stands
+    refl refl refl refl refl)
+
+-- the properties of a collection whose names stand
+pub begun_reads : (s : Effective) (own directives : List TagDirective) (start : Collection) (cursor : Cursor) → IsNamed start.anchor
+    → TagStands s.portable own directives (collection_tag s.canonical start) → BegunReads (rules_of s own) s directives start cursor
+begun_reads s own directives start cursor named stands =
+    begun_kind s own directives start.anchor (collection_tag s.canonical start) cursor named stands

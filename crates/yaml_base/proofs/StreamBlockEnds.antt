@@ -1,0 +1,210 @@
+-- How a block scalar leaves off: at a line's start where its value ends in a break, and elsewhere after a sign that strips.
+use Rattle.std.proofs.Common.{◌≡◌, ◌≤◌, refl, sym, ap, ◌∙◌, append_assoc, arith}
+use Rattle.std.proofs.lemmas.Bool.{true≢false, false≢true, or_parts}
+use Rattle.std.proofs.lemmas.Bool.Decides.{nat_tests}
+use Rattle.std.specs.Prelude.{ℕ, Bool, true, false, Option, List, [], ◌∷◌, ◌++◌, ◌+◌, ◌==◌, ◌||◌, ◌&&◌, not, replicate, if◌then◌else◌}
+use Rattle.yaml_base.specs.Characters.{Text, line_feed, space, is_space, line_separator, paragraph_separator, is_between, is_break, is_printable, is_ascii}
+use Rattle.yaml_base.specs.LineBreaks.{is_read_break}
+use Rattle.yaml_base.specs.Cursor.{Cursor, column_after, next_column}
+use Rattle.yaml_base.specs.Event.{ScalarStyle, any_style, plain, single_quoted, double_quoted, literal, folded}
+use Rattle.yaml_base.specs.Analysis.{Charset, Allowances, somewhere, begins_with, is_empty, is_special, is_trailing_space, bars_block, allows_block}
+use Rattle.yaml_base.specs.Style.{style_fitting}
+use Rattle.yaml_base.specs.Lines.{Part, line, line_break, begun, parts}
+use Rattle.yaml_base.specs.BlockHeader.{Ending, without_break, one_break, more_breaks, ending, begins_blank, indentation_hint, ending_hint, hint_laid, ends_in_break}
+use Rattle.yaml_base.specs.Literal.{indented}
+use Rattle.yaml_base.specs.Folded.{cut_line, next_even, folded_parts}
+use Rattle.yaml_base.specs.ReadBlock.{strip, chomping_first, after_digit}
+
+-- Values that end in a break
+
+-- a text that ends in a break
+pub record EndsBreak (text : Text) : Type 0 where
+  pub front : Text
+  pub last : ℕ
+  pub is : text ≡ front ++ (last ∷ [])
+  pub breaks : is_break last ≡ true
+
+-- what is seen to end in a break does
+pub ending_breaks : (value : Text) → ends_in_break (ending value) ≡ true → EndsBreak value
+ending_breaks [] h = absurd (false≢true h)
+ending_breaks (c ∷ []) h = by (is_break c) refl h
+  where
+    by : (x : Bool) → is_break c ≡ x → ends_in_break (if x then more_breaks else without_break) ≡ true → EndsBreak (c ∷ [])
+    by true e h = record { front = []; last = c; is = refl; breaks = e }
+    by false e h = absurd (false≢true h)
+ending_breaks (c ∷ d ∷ []) h = by (is_break d) refl h
+  where
+    by : (x : Bool) → is_break d ≡ x → ends_in_break (if x then (if is_break c then more_breaks else one_break) else without_break) ≡ true
+        → EndsBreak (c ∷ d ∷ [])
+    by true e h = record { front = c ∷ []; last = d; is = refl; breaks = e }
+    by false e h = absurd (false≢true h)
+ending_breaks (c ∷ d ∷ e ∷ rest) h =
+    let more = ending_breaks (d ∷ e ∷ rest) h in record { front = c ∷ more.front; last = more.last; is = ap (λ t. c ∷ t) more.is; breaks = more.breaks }
+
+-- parts whose last is this break
+pub record EndsPart (all : List Part) (b : ℕ) : Type 0 where
+  pub front : List Part
+  pub is : all ≡ front ++ (line_break b ∷ [])
+
+-- those of such a text
+parts_end : (front : Text) (b : ℕ) → is_break b ≡ true → EndsPart (parts (front ++ (b ∷ []))) b
+parts_end [] b h = record { front = []; is = ap (λ x. if x then line_break b ∷ [] else begun b []) h }
+parts_end (c ∷ front) b h = by (is_break c) (parts_end front b h)
+  where
+    shown : (front : List Part) → EndsPart (begun c (front ++ (line_break b ∷ []))) b
+    shown [] = record { front = line (c ∷ []) ∷ []; is = refl }
+    shown (line text ∷ front) = record { front = line (c ∷ text) ∷ front; is = refl }
+    shown (line_break d ∷ front) = record { front = line (c ∷ []) ∷ line_break d ∷ front; is = refl }
+
+    by : (x : Bool) → EndsPart (parts (front ++ (b ∷ []))) b
+        → EndsPart (if x then line_break c ∷ parts (front ++ (b ∷ [])) else begun c (parts (front ++ (b ∷ [])))) b
+    by true more = record { front = line_break c ∷ more.front; is = ap (λ t. line_break c ∷ t) more.is }
+    by false more = let s = shown more.front in record { front = s.front; is = ap (begun c) more.is ∙ s.is }
+
+-- and when long lines are cut
+folded_end : (limit : Option ℕ) (indent : ℕ) (even : Bool) (front : List Part) (b : ℕ)
+    → EndsPart (folded_parts limit indent even (front ++ (line_break b ∷ []))) b
+folded_end limit indent even [] b = by (even && b == line_feed && next_even [])
+  where
+    by : (x : Bool) → EndsPart ((if x then line_break b ∷ line_break b ∷ [] else line_break b ∷ []) ++ []) b
+    by true = record { front = line_break b ∷ []; is = refl }
+    by false = record { front = []; is = refl }
+folded_end limit indent even (line text ∷ front) b =
+    let more = folded_end limit indent (not (begins_with is_space text)) front b in
+    record {
+      front = cut_line limit indent text ++ more.front;
+      is = ap (λ t. cut_line limit indent text ++ t) more.is ∙ sym (append_assoc (cut_line limit indent text) more.front (line_break b ∷ []));
+    }
+folded_end limit indent even (line_break d ∷ front) b =
+    let more = folded_end limit indent false front b in
+    let before = if even && d == line_feed && next_even (front ++ (line_break b ∷ [])) then line_break d ∷ line_break d ∷ [] else line_break d ∷ [] in
+    record { front = before ++ more.front; is = ap (λ t. before ++ t) more.is ∙ sym (append_assoc before more.front (line_break b ∷ [])) }
+
+-- such parts are written with that break last
+indented_end : (indent : ℕ) (front : List Part) (b : ℕ) → indented indent (front ++ (line_break b ∷ [])) ≡ indented indent front ++ (b ∷ [])
+indented_end indent [] b = refl
+indented_end indent (line text ∷ front) b =
+    ap (λ t. (replicate indent space ++ text) ++ t) (indented_end indent front b)
+    ∙ sym (append_assoc (replicate indent space ++ text) (indented indent front) (b ∷ []))
+indented_end indent (line_break d ∷ front) b = ap (λ t. d ∷ t) (indented_end indent front b)
+
+-- lines that end with this break
+pub record EndsLines (lines : Text) (b : ℕ) : Type 0 where
+  pub front : Text
+  pub is : lines ≡ front ++ (b ∷ [])
+
+-- a literal value's do
+pub literal_end : (indent : ℕ) (value : Text) (end : EndsBreak value) → EndsLines (indented indent (parts value)) end.last
+literal_end indent value end =
+    let cut = parts_end end.front end.last end.breaks in
+    record {
+      front = indented indent cut.front;
+      is = ap (λ t. indented indent (parts t)) end.is ∙ ap (indented indent) cut.is
+          ∙ indented_end indent cut.front end.last;
+    }
+
+-- and a folded one's
+pub folded_lines_end : (limit : Option ℕ) (indent : ℕ) (value : Text) (end : EndsBreak value)
+    → EndsLines (indented indent (folded_parts limit indent false (parts value))) end.last
+folded_lines_end limit indent value end =
+    let cut = parts_end end.front end.last end.breaks in
+    let folds = folded_end limit indent false cut.front end.last in
+    record {
+      front = indented indent folds.front;
+      is =
+          ap (λ t. indented indent (folded_parts limit indent false (parts t))) end.is
+          ∙ ap (λ ps. indented indent (folded_parts limit indent false ps)) cut.is
+          ∙ ap (indented indent) folds.is ∙ indented_end indent folds.front end.last;
+    }
+
+-- after a break the column is that of a line's start
+pub column_ended : (front : Text) (b column : ℕ) → is_break b ≡ true → column_after (front ++ (b ∷ [])) column ≡ 0
+column_ended [] b column h = ap (λ x. if x then 0 else column + 1) h
+column_ended (c ∷ front) b column h = column_ended front b (next_column c column) h
+
+-- Characters
+
+-- what holds nowhere doesn't at the end
+nowhere_last : (test : ℕ → Text → Bool) (front : Text) (b : ℕ) → somewhere test (front ++ (b ∷ [])) ≡ false → test b [] ≡ false
+nowhere_last test [] b h = (or_parts (test b []) false h).0
+nowhere_last test (c ∷ front) b h = nowhere_last test front b (or_parts (test c (front ++ (b ∷ []))) (somewhere test (front ++ (b ∷ []))) h).1
+
+-- the last break of a value that may be a block scalar is one that is read
+pub last_is_read : (charset : Charset) (value : Text) (end : EndsBreak value) → allows_block charset value ≡ true
+    → is_read_break charset.breaks12 end.last ≡ true
+last_is_read charset value end allowed =
+    let nowhere =
+    (or_parts (is_empty value) (somewhere (bars_block charset) value) (not_true (is_empty value || somewhere (bars_block charset) value) allowed)).1 in
+    let bars = nowhere_last (bars_block charset) end.front end.last (ap (somewhere (bars_block charset)) (sym end.is) ∙ nowhere) in
+    let special =
+    (or_parts (is_special charset end.last) (is_trailing_space end.last [])
+    (or_parts (is_special charset end.last || is_trailing_space end.last []) (is_space end.last && true) bars).0).0 in
+    let parts =
+    or_parts (not (is_printable end.last) || (not charset.unicode && not (is_ascii end.last)))
+    (charset.breaks12 && (end.last == line_separator || end.last == paragraph_separator)) special in
+    by charset.breaks12 end.last end.breaks
+    (not_false (is_printable end.last) (or_parts (not (is_printable end.last)) (not charset.unicode && not (is_ascii end.last)) parts.0).0) parts.1
+  where
+    not_true : (x : Bool) → not x ≡ true → x ≡ false
+    not_true true h = absurd (false≢true h)
+    not_true false h = refl
+
+    not_false : (x : Bool) → not x ≡ false → x ≡ true
+    not_false true h = refl
+    not_false false h = absurd (true≢false h)
+
+    by : (breaks12 : Bool) (b : ℕ) → is_break b ≡ true → is_printable b ≡ true → (breaks12 && (b == line_separator || b == paragraph_separator)) ≡ false
+        → is_read_break breaks12 b ≡ true
+    by true b breaks shown none = grind (arith, nat_tests, breaks, shown, none)
+    by false b breaks shown none = grind (arith, nat_tests, breaks, shown)
+
+-- Signs
+
+-- a hint is written as it is
+pub hint_text : (hint : Text) (cursor : Cursor) → (hint_laid hint cursor).text ≡ hint
+hint_text [] cursor = refl
+hint_text (c ∷ rest) cursor = refl
+
+-- where a value ends in no break the header strips
+pub strips : (best_indent : ℕ) (value rest : Text) → 2 ≤ best_indent → best_indent ≤ 9 → ends_in_break (ending value) ≡ false
+    → chomping_first (after_digit ((indentation_hint best_indent value ++ ending_hint (ending value)) ++ rest)) ≡ strip
+strips best_indent value rest low high h = by (begins_blank value) (ending value) h
+  where
+    digit : is_between 49 57 (48 + best_indent) ≡ true
+    digit = grind (arith, nat_tests, low, high)
+
+    by : (x : Bool) (e : Ending) → ends_in_break e ≡ false
+        → chomping_first (after_digit (((if x then (48 + best_indent) ∷ [] else []) ++ ending_hint e) ++ rest)) ≡ strip
+    by x one_break h = absurd (true≢false h)
+    by x more_breaks h = absurd (true≢false h)
+    by false without_break h = refl
+    by true without_break h = ap (λ x. chomping_first (if x then 45 ∷ rest else (48 + best_indent) ∷ 45 ∷ rest)) digit
+
+-- Styles
+
+-- a block style
+abbrev pub is_block : ScalarStyle → Bool
+is_block literal = true
+is_block folded = true
+is_block _ = false
+
+-- one is chosen only where it fits
+pub block_fitting : (allowed : Allowances) (plain_fits block_fits : Bool) (asked : ScalarStyle)
+    → is_block (style_fitting allowed plain_fits block_fits asked) ≡ true → block_fits ≡ true
+block_fitting allowed plain_fits block_fits plain h = absurd (false≢true (sym (quoted plain_fits allowed.single_quoted) ∙ h))
+  where
+    quoted : (x y : Bool) → is_block (if x then plain else if y then single_quoted else double_quoted) ≡ false
+    quoted true y = refl
+    quoted false true = refl
+    quoted false false = refl
+block_fitting allowed plain_fits block_fits single_quoted h = absurd (false≢true (sym (quoted allowed.single_quoted) ∙ h))
+  where
+    quoted : (y : Bool) → is_block (if y then single_quoted else double_quoted) ≡ false
+    quoted true = refl
+    quoted false = refl
+block_fitting allowed plain_fits true literal h = refl
+block_fitting allowed plain_fits false literal h = absurd (false≢true h)
+block_fitting allowed plain_fits true folded h = refl
+block_fitting allowed plain_fits false folded h = absurd (false≢true h)
+block_fitting allowed plain_fits block_fits double_quoted h = absurd (false≢true h)
+block_fitting allowed plain_fits block_fits any_style h = absurd (false≢true h)

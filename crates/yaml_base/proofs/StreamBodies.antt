@@ -1,0 +1,182 @@
+-- What holds of each body in the layout of a list holds of the bodies of each document's root, from its own cursor on.
+use Rattle.std.proofs.Common.{◌≡◌, suc, refl, sym, ap, ◌∙◌, subst}
+use Rattle.std.proofs.lemmas.Bool.{true≢false, eqb-true, and_parts}
+use Rattle.std.proofs.lemmas.List.Elements.{All-head, All-tail}
+use Rattle.std.specs.List.{All, list_all}
+use Rattle.std.specs.Prelude.{ℕ, Bool, true, false, Option, None, Some, List, [], ◌∷◌, ◌++◌, ◌==◌, ◌||◌, ◌&&◌, not, unwrap_or, option_map, slice_index_or}
+use Rattle.yaml_base.specs.Characters.{Text, is_printable, carriage_return, next_line}
+use Rattle.yaml_base.specs.LineBreaks.{is_laid_text}
+use Rattle.yaml_base.specs.Settings.{Encoding, Settings, Effective, effective}
+use Rattle.yaml_base.specs.Event.{TagDirective}
+use Rattle.yaml_base.specs.Tags.{directives_in_force}
+use Rattle.yaml_base.specs.Grammar.{Node, alias_node, scalar_node, sequence_node, mapping_node, Nodes, no_nodes, nodes_and, Pairs, no_pairs, pairs_and, Documents, no_documents, documents_and, Stream, stream_events}
+use Rattle.yaml_base.specs.Refusal.{collection_tag, IsAccepted}
+use Rattle.yaml_base.specs.Layout.{as_item, as_key, as_value, Place, is_in_mapping, entries_column, has_no_nodes, has_no_pairs, is_simple, is_simple_at, place_laid, Body, Piece, bodies_of, Standing, properties_laid, is_written_in_flow, entry_place, node_laid, nodes_laid, pairs_laid, document_start_laid, document_start_piece, document_laid, documents_laid, has_no_documents, first_standing, root_place, layout}
+use Rattle.yaml_base.specs.Pieces.{list_layout}
+use Rattle.yaml_base.specs.Meaning.{read_in_style, BodyReads, BodyMeans, has_scalar_values, MeaningIsKept}
+use Rattle.yaml_base.specs.WrittenTexts.{BodiesAreTidy}
+use Rattle.yaml_base.specs.TidyBodies.{IsTidy, has_deep_lines, is_tidy_style}
+use Rattle.yaml_base.proofs.Trees.{tree_of-stream_events}
+use Rattle.yaml_base.proofs.BreakLaws.{breaks-round}
+use Rattle.yaml_base.proofs.StreamTexts.{node_own, node_joined, items_joined, pairs_joined}
+use Rattle.yaml_base.proofs.StreamStands.{BodyStands, BodiesHold, ItemsHold, PairsHold}
+
+-- Pieces
+
+-- it holds of a body, if there is one
+abbrev pub BodyHolds : (Body → Type 0) → Option Body → Type 0
+BodyHolds P None = Unit {0}
+BodyHolds P (Some body) = P body
+
+-- it holds of the bodies of some pieces
+abbrev pub PiecesHold : (Body → Type 0) → List Piece → Type 0
+PiecesHold P [] = Unit {0}
+PiecesHold P (piece ∷ rest) = BodyHolds P piece.body × PiecesHold P rest
+
+-- what holds of all bodies of pieces does
+pub pieces_hold : (P : Body → Type 0) (pieces : List Piece) → All P (bodies_of pieces) → PiecesHold P pieces
+pieces_hold P [] all = tt
+pieces_hold P (piece ∷ rest) all = by piece.body all (pieces_hold P rest)
+  where
+    by : (body : Option Body) → All P (bodies_of (record { lead = piece.lead; body = body } ∷ rest)) → (All P (bodies_of rest) → PiecesHold P rest)
+        → BodyHolds P body × PiecesHold P rest
+    by None all more = (tt, more all)
+    by (Some body) all more = (All-head P body (bodies_of rest) all, more (All-tail P body (bodies_of rest) all))
+
+-- it holds of the first of them and of the others
+hold_both : (P : Body → Type 0) (a b : List Piece) → PiecesHold P (a ++ b) → PiecesHold P a × PiecesHold P b
+hold_both P [] b all = (tt, all)
+hold_both P (piece ∷ a) b all = let both = hold_both P a b all.1 in ((all.0, both.0), both.1)
+
+-- Nodes
+
+-- what holds of the pieces of a node holds of its bodies; with it, of those of items and of pairs
+mutual
+  pub node_bodies : (P : Body → Type 0) (n : Node) (s : Effective) (directives : List TagDirective) (place : Place) (standing : Standing)
+      → PiecesHold P (node_laid n s directives place standing).pieces
+      → BodiesHold P n s directives place (place_laid s place (is_simple_at place s.canonical directives n) standing.cursor).cursor
+  node_bodies P (alias_node name) s directives place standing all = tt
+  node_bodies P (scalar_node content) s directives place standing all = all.0
+  node_bodies P (sequence_node start items) s directives place standing all =
+      let in_flow = is_written_in_flow s place start (has_no_nodes items) in
+      let signs = place_laid s place (is_simple_at place s.canonical directives (sequence_node start items)) standing.cursor in
+      let begun = properties_laid s.portable directives start.anchor (collection_tag s.canonical start) false signs.cursor in
+      let column = entries_column in_flow (is_in_mapping place.role) s.indent place.column begun.cursor in
+      let before : Standing = record { cursor = begun.cursor; mark = standing.mark } in
+      items_bodies P items s directives in_flow column before (hold_both P (nodes_laid items s directives in_flow column before).pieces _ all.1).0
+  node_bodies P (mapping_node start pairs) s directives place standing all =
+      let in_flow = is_written_in_flow s place start (has_no_pairs pairs) in
+      let signs = place_laid s place (is_simple_at place s.canonical directives (mapping_node start pairs)) standing.cursor in
+      let begun = properties_laid s.portable directives start.anchor (collection_tag s.canonical start) false signs.cursor in
+      let column = entries_column in_flow false s.indent place.column begun.cursor in
+      let before : Standing = record { cursor = begun.cursor; mark = standing.mark } in
+      pairs_bodies P pairs s directives in_flow column before (hold_both P (pairs_laid pairs s directives in_flow column before).pieces _ all.1).0
+
+  pub items_bodies : (P : Body → Type 0) (items : Nodes) (s : Effective) (directives : List TagDirective) (in_flow : Bool) (column : ℕ) (standing : Standing)
+      → PiecesHold P (nodes_laid items s directives in_flow column standing).pieces → ItemsHold P items s directives in_flow column standing.cursor
+  items_bodies P no_nodes s directives in_flow column standing all = tt
+  items_bodies P (nodes_and items last) s directives in_flow column standing all =
+      let place = entry_place in_flow (as_item (has_no_nodes items)) column in
+      let before = nodes_laid items s directives in_flow column standing in
+      let both = hold_both P before.pieces (node_laid last s directives place before.standing).pieces all in (
+        items_bodies P items s directives in_flow column standing both.0,
+        subst (λ c. BodiesHold P last s directives place (place_laid s place false c).cursor) (items_joined items s directives in_flow column standing).1
+            (node_bodies P last s directives place before.standing both.1),
+      )
+
+  pub pairs_bodies : (P : Body → Type 0) (pairs : Pairs) (s : Effective) (directives : List TagDirective) (in_flow : Bool) (column : ℕ) (standing : Standing)
+      → PiecesHold P (pairs_laid pairs s directives in_flow column standing).pieces → PairsHold P pairs s directives in_flow column standing.cursor
+  pairs_bodies P no_pairs s directives in_flow column standing all = tt
+  pairs_bodies P (pairs_and pairs key value) s directives in_flow column standing all =
+      let key_place = entry_place in_flow (as_key (has_no_pairs pairs)) column in
+      let value_place = entry_place in_flow (as_value (is_simple s.canonical directives key)) column in
+      let simple = is_simple s.canonical directives key in
+      let before = pairs_laid pairs s directives in_flow column standing in
+      let keyed = node_laid key s directives key_place before.standing in
+      let both = hold_both P (before.pieces ++ keyed.pieces) (node_laid value s directives value_place keyed.standing).pieces all in
+      let first = hold_both P before.pieces keyed.pieces both.0 in
+      let at = (pairs_joined pairs s directives in_flow column standing).1 in (
+        pairs_bodies P pairs s directives in_flow column standing first.0,
+        subst (λ c. BodiesHold P key s directives key_place (place_laid s key_place simple c).cursor) at
+            (node_bodies P key s directives key_place before.standing first.1),
+        subst (λ c. BodiesHold P value s directives value_place (place_laid s value_place false c).cursor)
+            ((node_joined key s directives key_place before.standing).1
+            ∙ ap (λ c. (node_own key s directives key_place (place_laid s key_place simple c).cursor).cursor) at)
+            (node_bodies P value s directives value_place keyed.standing both.1),
+      )
+
+-- Documents
+
+-- it holds of the bodies of each document's root, from the cursor after the document's start on
+abbrev pub DocumentsHold : (Body → Type 0) → Documents → Effective → Type 0
+DocumentsHold P no_documents s = Unit {0}
+DocumentsHold P (documents_and before document) s =
+    let start = document_start_laid s (has_no_documents before) document.start (documents_laid s before first_standing).standing in
+    DocumentsHold P before s × BodiesHold P document.root s (directives_in_force document.start.directives) root_place start.cursor
+
+-- what holds of all pieces of some documents does
+pub documents_bodies : (P : Body → Type 0) (documents : Documents) (s : Effective)
+    → PiecesHold P (documents_laid s documents first_standing).pieces → DocumentsHold P documents s
+documents_bodies P no_documents s all = tt
+documents_bodies P (documents_and before document) s all =
+    let earlier = documents_laid s before first_standing in
+    let start = document_start_piece s (has_no_documents before) document.start earlier.standing in
+    let root = node_laid document.root s (directives_in_force document.start.directives) root_place start.standing in
+    let both = hold_both P earlier.pieces (document_laid s (has_no_documents before) document earlier.standing).pieces all in (
+      documents_bodies P before s both.0,
+      node_bodies P document.root s (directives_in_force document.start.directives) root_place start.standing (hold_both P root.pieces _ both.1.1).0,
+    )
+
+-- what holds of all bodies of a list's layout holds of those of its documents' roots
+pub stream_bodies : (P : Body → Type 0) (stream : Stream) (s : Effective)
+    → All P (bodies_of (list_layout s (stream_events stream))) → DocumentsHold P stream.documents s
+stream_bodies P stream s all =
+    let of_stream : list_layout s (stream_events stream) ≡ layout s stream =
+    ap (λ (tree : Option Stream). unwrap_or (option_map (layout s) tree) []) (tree_of-stream_events stream) in
+    let whole = pieces_hold P (layout s stream) (subst (λ (pieces : List Piece). All P (bodies_of pieces)) of_stream all) in
+    documents_bodies P stream.documents s (hold_both P (documents_laid s stream.documents first_standing).pieces _ whole.1).0
+
+-- Bodies that stand
+
+-- what is printable holds neither CR nor U+0085
+printable_laid : (text : Text) → list_all is_printable text ≡ true → is_laid_text text ≡ true
+printable_laid [] h = refl
+printable_laid (c ∷ text) h =
+    let parts = and_parts (is_printable c) (list_all is_printable text) h in
+    ap (λ x. not (x || c == next_line) && is_laid_text text) (is_not carriage_return refl parts.0)
+    ∙ ap (λ x. not x && is_laid_text text) (is_not next_line refl parts.0) ∙ printable_laid text parts.1
+  where
+    is_not : (n : ℕ) → is_printable n ≡ false → is_printable c ≡ true → (c == n) ≡ false
+    is_not n none shown = by (c == n) refl
+      where
+        by : (x : Bool) → (c == n) ≡ x → x ≡ false
+        by true e = absurd (true≢false (sym shown ∙ ap is_printable (eqb-true c n e) ∙ none))
+        by false e = refl
+
+-- a tidy body that reads as its value, as it is written, stands
+body_stands : (s : Effective) (body : Body) → IsTidy s body → BodyReads s body → BodyStands s body
+body_stands s body tidy reads =
+    let deep = has_deep_lines s.breaks12 (suc (unwrap_or body.column 0)) body.text in
+    let both = (and_parts (list_all is_printable body.text && deep) (is_tidy_style body.style s.breaks12 body.text) tidy).0 in
+    let printable = (and_parts (list_all is_printable body.text) deep both).0 in
+    record {
+      tidy = tidy;
+      reads =
+          ap (read_in_style body.style s.breaks12 body.in_flow body.column) (sym (breaks-round s.line_break body.text (printable_laid body.text printable)))
+          ∙ reads;
+    }
+
+-- so bodies that are tidy and keep their meaning all stand
+pub bodies_stand : (s : Effective) (bodies : List Body) → All (IsTidy s) bodies → All (BodyMeans s) bodies → All (BodyStands s) bodies
+bodies_stand s bodies tidy mean = λ k d less. body_stands s (slice_index_or bodies k d) (tidy k d less) (mean k d less).reads
+
+-- the bodies of the roots of an accepted list's documents stand
+pub roots_stand : (given : Settings) (encoding : Option Encoding) (stream : Stream) → BodiesAreTidy → MeaningIsKept
+    → IsAccepted given.canonical (stream_events stream)
+    → list_all has_scalar_values (stream_events stream) ≡ true
+    → DocumentsHold (BodyStands (effective given encoding)) stream.documents (effective given encoding)
+roots_stand given encoding stream tidy kept accepted scalars =
+    let s = effective given encoding in
+    let events = stream_events stream in
+    stream_bodies (BodyStands s) stream s
+    (bodies_stand s (bodies_of (list_layout s events)) (tidy given encoding events accepted) (kept given encoding events accepted scalars))

@@ -1,0 +1,217 @@
+-- Texts after each of whose breaks something stands: another break, or spaces enough to stand deeper than a column.
+use Rattle.std.proofs.Common.{◌≡◌, zero, suc, ◌≤◌, refl, ap, ◌∙◌, arith}
+use Rattle.std.proofs.lemmas.Bool.{false≢true, and_parts, and_from, or_parts}
+use Rattle.std.specs.List.{list_all, list_any}
+use Rattle.std.specs.Prelude.{ℕ, Bool, true, false, List, [], ◌∷◌, ◌++◌, ◌-◌, ◌==◌, ◌||◌, ◌&&◌, not, if◌then◌else◌}
+use Rattle.yaml_base.specs.Characters.{Text, space, line_feed, is_blank}
+use Rattle.yaml_base.specs.LineBreaks.{is_read_break}
+use Rattle.yaml_base.specs.ReadPlain.{is_read_white}
+use Rattle.yaml_base.specs.Cursor.{Cursor, breaks_line, new_line, space_if}
+use Rattle.yaml_base.specs.TidyBodies.{begins_with_spaces, begins_with_blank_line, begins_with_deep_line, has_deep_lines, begins_with_break, ends_white}
+use Rattle.yaml_base.specs.StreamLines.{Line, character_before, lines_of, is_inside, spaces}
+use Rattle.yaml_base.proofs.StreamLineLaws.{OneLine}
+use Rattle.yaml_base.proofs.StreamInside.{AllInside}
+use Rattle.yaml_base.proofs.StreamTidyLaws.{spaces_fewer, first_text, lines_after_first, after_extended, spaces_inside}
+use Rattle.yaml_base.proofs.StreamClosed.{spaces_line}
+
+-- what stands after each break of a text passes a test
+abbrev pub after_breaks : Bool → (Text → Bool) → Text → Bool
+after_breaks breaks12 test [] = true
+after_breaks breaks12 test (c ∷ rest) = (not (is_read_break breaks12 c) || test rest) && after_breaks breaks12 test rest
+
+-- a text begins with a break, or with so many spaces
+abbrev pub begins_deep : Bool → ℕ → Text → Bool
+begins_deep breaks12 count text = begins_with_break breaks12 text || begins_with_spaces count text
+
+-- after each break of a text stands another, or so many spaces
+abbrev pub Deep : Bool → ℕ → Text → Type 0
+Deep breaks12 count text = after_breaks breaks12 (begins_deep breaks12 count) text ≡ true
+
+-- Tests
+
+-- a test that more text at the end doesn't change
+abbrev pub Keeps : (Text → Bool) → Type 0
+Keeps test = (a b : Text) → test a ≡ true → test (a ++ b) ≡ true
+
+-- a text that passes one test passes another
+abbrev pub Implies : (Text → Bool) → (Text → Bool) → Type 0
+Implies test other = (t : Text) → test t ≡ true → other t ≡ true
+
+-- two such texts
+pub after_both : (breaks12 : Bool) (test : Text → Bool) → Keeps test → (a b : Text) → after_breaks breaks12 test a ≡ true → after_breaks breaks12 test b ≡ true
+    → after_breaks breaks12 test (a ++ b) ≡ true
+after_both breaks12 test keeps [] b h k = k
+after_both breaks12 test keeps (c ∷ a) b h k =
+    let parts = and_parts (not (is_read_break breaks12 c) || test a) (after_breaks breaks12 test a) h in
+    and_from (not (is_read_break breaks12 c) || test (a ++ b)) (after_breaks breaks12 test (a ++ b)) (by (is_read_break breaks12 c) parts.0)
+    (after_both breaks12 test keeps a b parts.1 k)
+  where
+    by : (x : Bool) → (not x || test a) ≡ true → (not x || test (a ++ b)) ≡ true
+    by true h = keeps a b h
+    by false h = refl
+
+-- what passes a test after each break passes a weaker one there
+pub after_weaker : (breaks12 : Bool) (test other : Text → Bool) → Implies test other → (t : Text) → after_breaks breaks12 test t ≡ true
+    → after_breaks breaks12 other t ≡ true
+after_weaker breaks12 test other weaker [] h = refl
+after_weaker breaks12 test other weaker (c ∷ t) h =
+    let parts = and_parts (not (is_read_break breaks12 c) || test t) (after_breaks breaks12 test t) h in
+    and_from (not (is_read_break breaks12 c) || other t) (after_breaks breaks12 other t) (by (is_read_break breaks12 c) parts.0)
+    (after_weaker breaks12 test other weaker t parts.1)
+  where
+    by : (x : Bool) → (not x || test t) ≡ true → (not x || other t) ≡ true
+    by true h = weaker t h
+    by false h = refl
+
+-- a text without a break
+pub after_line_of : (breaks12 : Bool) (test : Text → Bool) (t : Text) → OneLine breaks12 t → after_breaks breaks12 test t ≡ true
+after_line_of breaks12 test [] one = refl
+after_line_of breaks12 test (c ∷ t) one =
+    let parts = or_parts (is_read_break breaks12 c) (list_any (is_read_break breaks12) t) one in
+    ap (λ x. (not x || test t) && after_breaks breaks12 test t) parts.0 ∙ after_line_of breaks12 test t parts.1
+
+-- Deep texts
+
+spaces_keep : (count : ℕ) (a b : Text) → begins_with_spaces count a ≡ true → begins_with_spaces count (a ++ b) ≡ true
+spaces_keep zero a b h = refl
+spaces_keep (suc count) [] b h = absurd (false≢true h)
+spaces_keep (suc count) (c ∷ a) b h =
+    let parts = and_parts (c == space) (begins_with_spaces count a) h in
+    and_from (c == space) (begins_with_spaces count (a ++ b)) parts.0 (spaces_keep count a b parts.1)
+
+-- more text doesn't change how a text begins
+pub deep_keeps : (breaks12 : Bool) (count : ℕ) → Keeps (begins_deep breaks12 count)
+deep_keeps breaks12 zero [] b h = by (begins_with_break breaks12 b)
+  where
+    by : (x : Bool) → (x || true) ≡ true
+    by true = refl
+    by false = refl
+deep_keeps breaks12 (suc count) [] b h = absurd (false≢true h)
+deep_keeps breaks12 count (c ∷ a) b h = by (is_read_break breaks12 c) h
+  where
+    by : (x : Bool) → (x || begins_with_spaces count (c ∷ a)) ≡ true → (x || begins_with_spaces count (c ∷ (a ++ b))) ≡ true
+    by true h = refl
+    by false h = spaces_keep count (c ∷ a) b h
+
+-- two deep texts
+pub deep_both : (breaks12 : Bool) (count : ℕ) (a b : Text) → Deep breaks12 count a → Deep breaks12 count b → Deep breaks12 count (a ++ b)
+deep_both breaks12 count a b h k = after_both breaks12 (begins_deep breaks12 count) (deep_keeps breaks12 count) a b h k
+
+-- a text on one line
+pub deep_line : (breaks12 : Bool) (count : ℕ) (t : Text) → OneLine breaks12 t → Deep breaks12 count t
+deep_line breaks12 count t one = after_line_of breaks12 (begins_deep breaks12 count) t one
+
+spaces_begin : (count at : ℕ) → count ≤ at → begins_with_spaces count (spaces at) ≡ true
+spaces_begin zero at le = refl
+spaces_begin (suc count) zero le = absurd (omega arith)
+spaces_begin (suc count) (suc at) le = spaces_begin count at (omega arith)
+
+-- a new line at such a column
+pub deep_new_line : (breaks12 : Bool) (count at : ℕ) (cursor : Cursor) → count ≤ at → Deep breaks12 count (new_line at cursor).text
+deep_new_line breaks12 count at cursor le = by (breaks_line at cursor)
+  where
+    fed : (x : Bool) → begins_deep breaks12 count (spaces at) ≡ x → x ≡ true → Deep breaks12 count (line_feed ∷ spaces at)
+    fed true e h =
+        and_from (not (is_read_break breaks12 line_feed) || begins_deep breaks12 count (spaces at))
+        (after_breaks breaks12 (begins_deep breaks12 count) (spaces at)) e
+        (deep_line breaks12 count (spaces at) (spaces_line breaks12 at))
+    fed false e h = absurd (false≢true h)
+
+    begins : (x : Bool) → (x || begins_with_spaces count (spaces at)) ≡ true
+    begins true = refl
+    begins false = spaces_begin count at le
+
+    by : (x : Bool) → Deep breaks12 count (if x then line_feed ∷ spaces at else spaces (at - cursor.column))
+    by true = fed (begins_deep breaks12 count (spaces at)) refl (begins (begins_with_break breaks12 (spaces at)))
+    by false = deep_line breaks12 count (spaces (at - cursor.column)) (spaces_line breaks12 (at - cursor.column))
+
+-- more spaces than are asked
+pub deep_fewer : (breaks12 : Bool) (m n : ℕ) → m ≤ n → Implies (begins_deep breaks12 n) (begins_deep breaks12 m)
+deep_fewer breaks12 m n le t h = by (begins_with_break breaks12 t) h
+  where
+    by : (x : Bool) → (x || begins_with_spaces n t) ≡ true → (x || begins_with_spaces m t) ≡ true
+    by true h = refl
+    by false h = spaces_fewer m n t le h
+
+-- Tidy texts
+
+-- no break ends what doesn't end white
+pub deep_tidy : (breaks12 : Bool) (count : ℕ) (t : Text) → has_deep_lines breaks12 count t ≡ true → ends_white breaks12 t ≡ false → Deep breaks12 count t
+deep_tidy breaks12 count [] h e = refl
+deep_tidy breaks12 count (c ∷ []) h e =
+    ap (λ x. (not x || begins_deep breaks12 count []) && true) (or_parts (is_blank c) (is_read_break breaks12 c) e).1
+deep_tidy breaks12 count (c ∷ d ∷ t) h e =
+    let parts = and_parts (not (is_read_break breaks12 c) || begins_with_deep_line breaks12 count (d ∷ t)) (has_deep_lines breaks12 count (d ∷ t)) h in
+    and_from (not (is_read_break breaks12 c) || begins_deep breaks12 count (d ∷ t)) (after_breaks breaks12 (begins_deep breaks12 count) (d ∷ t))
+    (by (is_read_break breaks12 c) parts.0) (deep_tidy breaks12 count (d ∷ t) parts.1 e)
+  where
+    line : (y : Bool) → (y || (begins_with_spaces count (d ∷ t) && not (begins_with_blank_line breaks12 (d ∷ t)))) ≡ true
+        → (y || begins_with_spaces count (d ∷ t)) ≡ true
+    line true h = refl
+    line false h = (and_parts (begins_with_spaces count (d ∷ t)) (not (begins_with_blank_line breaks12 (d ∷ t))) h).0
+
+    by : (x : Bool) → (not x || begins_with_deep_line breaks12 count (d ∷ t)) ≡ true → (not x || begins_deep breaks12 count (d ∷ t)) ≡ true
+    by true h = line (is_read_break breaks12 d) h
+    by false h = refl
+
+-- a text ends as its last character
+pub ends_as_last : (breaks12 : Bool) (t : Text) (c : ℕ) → ends_white breaks12 (t ++ (c ∷ [])) ≡ is_read_white breaks12 c
+ends_as_last breaks12 [] c = refl
+ends_as_last breaks12 (d ∷ []) c = refl
+ends_as_last breaks12 (d ∷ e ∷ t) c = ends_as_last breaks12 (e ∷ t) c
+
+-- the front of a text on one line
+pub line_front : (breaks12 : Bool) (a b : Text) → OneLine breaks12 (a ++ b) → OneLine breaks12 a
+line_front breaks12 [] b one = refl
+line_front breaks12 (c ∷ a) b one =
+    let parts = or_parts (is_read_break breaks12 c) (list_any (is_read_break breaks12) (a ++ b)) one in
+    ap (λ x. x || list_any (is_read_break breaks12) a) parts.0 ∙ line_front breaks12 a b parts.1
+
+-- the space before a word
+pub space_line : (breaks12 need : Bool) (cursor : Cursor) → OneLine breaks12 (space_if need cursor)
+space_line breaks12 need cursor = by (need && not cursor.whitespace)
+  where
+    by : (x : Bool) → OneLine breaks12 (if x then space ∷ [] else [])
+    by true = spaces_line breaks12 1
+    by false = refl
+
+-- Lines
+
+-- the lines of a text and of the break that ends it, after the first, are so if what stands after each of its breaks is
+pub lines_pass : (breaks12 : Bool) (test line_test : Text → Bool)
+    → ((u : Text) → test u ≡ true → line_test (first_text (lines_of breaks12 (u ++ (line_feed ∷ [])))) ≡ true)
+    → (t : Text) → after_breaks breaks12 test t ≡ true
+    → list_all (λ line. line_test line.text) (lines_after_first (lines_of breaks12 (t ++ (line_feed ∷ [])))) ≡ true
+lines_pass breaks12 test line_test first [] h = refl
+lines_pass breaks12 test line_test first (c ∷ t) h =
+    let parts = and_parts (not (is_read_break breaks12 c) || test t) (after_breaks breaks12 test t) h in
+    by (is_read_break breaks12 c) parts.0 (lines_pass breaks12 test line_test first t parts.1)
+  where
+    all : (lines : List Line) → line_test (first_text lines) ≡ true → list_all (λ line. line_test line.text) (lines_after_first lines) ≡ true
+        → list_all (λ line. line_test line.text) lines ≡ true
+    all [] h k = refl
+    all (line ∷ rest) h k = and_from (line_test line.text) (list_all (λ line. line_test line.text) rest) h k
+
+    by : (x : Bool) → (not x || test t) ≡ true
+        → list_all (λ line. line_test line.text) (lines_after_first (lines_of breaks12 (t ++ (line_feed ∷ [])))) ≡ true
+        → list_all (λ line. line_test line.text) (lines_after_first (character_before x c (lines_of breaks12 (t ++ (line_feed ∷ []))))) ≡ true
+    by true h all_after = all (lines_of breaks12 (t ++ (line_feed ∷ []))) (first t h) all_after
+    by false h all_after =
+        ap (list_all (λ line. line_test line.text)) (after_extended c (lines_of breaks12 (t ++ (line_feed ∷ [])))) ∙ all_after
+
+-- so many spaces after a break begin a line inside the column before them
+pub deep_first : (breaks12 : Bool) (column : ℕ) (u : Text) → begins_deep breaks12 (suc column) u ≡ true
+    → is_inside true column (first_text (lines_of breaks12 (u ++ (line_feed ∷ [])))) ≡ true
+deep_first breaks12 column [] h = absurd (false≢true h)
+deep_first breaks12 column (c ∷ u) h = by (is_read_break breaks12 c) refl h
+  where
+    by : (x : Bool) → is_read_break breaks12 c ≡ x → (x || begins_with_spaces (suc column) (c ∷ u)) ≡ true
+        → is_inside true column (first_text (lines_of breaks12 (c ∷ (u ++ (line_feed ∷ []))))) ≡ true
+    by true e h = ap (λ b. is_inside true column (first_text (character_before b c (lines_of breaks12 (u ++ (line_feed ∷ [])))))) e
+    by false e h = spaces_inside breaks12 column (c ∷ (u ++ (line_feed ∷ []))) (spaces_keep (suc column) (c ∷ u) (line_feed ∷ []) h)
+
+-- a deep text's lines lie inside the column
+pub deep_inside : (breaks12 : Bool) (column : ℕ) (t : Text) → Deep breaks12 (suc column) t
+    → AllInside true column (lines_after_first (lines_of breaks12 (t ++ (line_feed ∷ []))))
+deep_inside breaks12 column t h =
+    lines_pass breaks12 (begins_deep breaks12 (suc column)) (is_inside true column) (λ u k. deep_first breaks12 column u k) t h

@@ -1,0 +1,140 @@
+-- One document more of a stream: its directives, its `---` and its root, or a root without `---` at the stream's start.
+use Rattle.std.proofs.Common.{◌≡◌, refl, sym, ap, ◌∙◌, append_assoc, append-nil, subst, arith}
+use Rattle.std.proofs.lemmas.Bool.{false≢true, eqb-true, or_parts}
+use Rattle.std.specs.Prelude.{ℕ, Bool, true, false, Option, None, Some, List, [], ◌∷◌, ◌++◌, ◌==◌, ◌&&◌, not, length, codes, is_some}
+use Rattle.yaml_base.specs.Characters.{Text, line_feed}
+use Rattle.yaml_base.specs.Settings.{Effective}
+use Rattle.yaml_base.specs.Event.{Version, TagDirective, DocumentStart}
+use Rattle.yaml_base.specs.Cursor.{then_laid}
+use Rattle.yaml_base.specs.Layout.{has_directives, version_laid, tag_directives_laid}
+use Rattle.yaml_base.specs.StreamContent.{DocumentTree}
+use Rattle.yaml_base.specs.StreamLines.{lines_of}
+use Rattle.yaml_base.specs.StreamDocuments.{start_mark, Section, Heading, no_heading, heading_of, StreamPlace, after_root, after_heading, document_read, heading_added, section_by_kind}
+use Rattle.yaml_base.proofs.StreamLineLaws.{is_closed, OneLine}
+use Rattle.yaml_base.proofs.StreamClosed.{margin_cursor, lines_broken, closed_both}
+use Rattle.yaml_base.proofs.StreamRootsStand.{heading_text, HeadingStands}
+use Rattle.yaml_base.proofs.StreamSoFar.{SoFar, front_alone, one_more, Percents, percents_unmarked, percents_shown, front_heading}
+
+-- Ends
+
+-- `...` on its line
+abbrev pub dots : Text
+dots = codes "..." ++ (line_feed ∷ [])
+
+-- before the first document and after one whose end is written directives may stand, which the next `---` has; after another
+-- document its root is read
+abbrev pub Awaits : (breaks12 : Bool) → ℕ → Text → List DocumentTree → (ended : Bool) → Type 0
+Awaits breaks12 depth text documents true =
+    (lines : Text) (said : Heading) → is_closed breaks12 lines ≡ true → Percents (lines_of breaks12 lines) → heading_of (lines_of breaks12 lines) ≡ Some said
+    → SoFar breaks12 depth (text ++ lines) (record { documents = documents; place = after_heading said })
+Awaits breaks12 depth text documents false = SoFar breaks12 depth text (record { documents = documents; place = after_root })
+
+-- so it is at a stream's start
+pub awaits_first : (breaks12 : Bool) (depth : ℕ) → Awaits breaks12 depth [] [] true
+awaits_first breaks12 depth = λ lines said ends percents reads.
+    front_alone breaks12 depth lines (record { documents = []; place = after_heading said }) ends (percents_unmarked (lines_of breaks12 lines) percents)
+    (front_heading breaks12 depth (lines_of breaks12 lines) said percents reads)
+
+-- three signs break no line
+dots_line : (breaks12 : Bool) → OneLine breaks12 (codes "...")
+dots_line true = refl
+dots_line false = refl
+
+dashes_line : (breaks12 : Bool) → OneLine breaks12 (codes "---")
+dashes_line true = refl
+dashes_line false = refl
+
+-- and behind `...`
+pub awaits_ended : (breaks12 : Bool) (depth : ℕ) (text : Text) (documents : List DocumentTree)
+    → SoFar breaks12 depth text (record { documents = documents; place = after_root })
+    → Awaits breaks12 depth (text ++ dots) documents true
+awaits_ended breaks12 depth text documents so = λ lines said ends percents reads.
+    subst (λ t. SoFar breaks12 depth t (record { documents = documents; place = after_heading said })) (sym (append_assoc text dots lines))
+    (one_more breaks12 depth text (dots ++ lines) (record { documents = documents; place = after_root })
+    (record { documents = documents; place = after_heading said })
+    (record { text = codes "..."; ending = line_feed ∷ [] }) (lines_of breaks12 lines) so (closed_both breaks12 dots lines refl ends)
+    (lines_broken breaks12 (codes "...") lines (dots_line breaks12)) refl (percents_unmarked (lines_of breaks12 lines) percents)
+    (ap (λ ls. heading_added documents (heading_of ls)) (percents_shown (lines_of breaks12 lines) percents) ∙ ap (heading_added documents) reads))
+
+-- Directives
+
+-- the next `---` begins a document with this heading
+pub record Headed (breaks12 : Bool) (depth : ℕ) (text : Text) (documents : List DocumentTree) (heading : Heading) : Type 0 where
+  pub place : StreamPlace
+  pub so_far : SoFar breaks12 depth text (record { documents = documents; place = place })
+  pub opens : (section : Section) → section_by_kind start_mark depth breaks12 documents place section ≡ document_read depth breaks12 documents heading section
+
+-- what a document's start says
+abbrev pub heading_said : DocumentStart → Heading
+heading_said start = record { version = start.version; directives = start.directives }
+
+-- `...` where it is needed
+abbrev pub dots_if : Bool → Text
+dots_if true = dots
+dots_if false = []
+
+-- no directives
+pub no_directives : (start : DocumentStart) → has_directives start ≡ false → (start.version ≡ None) × (start.directives ≡ [])
+no_directives start h =
+    let parts : (is_some start.version ≡ false) × (not (length start.directives == 0) ≡ false) =
+    or_parts (is_some start.version) (not (length start.directives == 0)) h in
+    (none start.version parts.0, empty start.directives parts.1)
+  where
+    none : (o : Option Version) → is_some o ≡ false → o ≡ None
+    none None h = refl
+    none (Some v) h = absurd (false≢true (sym h))
+
+    empty : (l : List TagDirective) → not (length l == 0) ≡ false → l ≡ []
+    empty [] h = refl
+    empty (d ∷ l) h = absurd (by (length (d ∷ l) == 0) refl h)
+      where
+        by : (x : Bool) → (length (d ∷ l) == 0) ≡ x → not x ≡ false → ⊥
+        by true e h = let same = eqb-true (length (d ∷ l)) 0 e in omega arith
+        by false e h = false≢true (sym h)
+
+-- are written as nothing
+pub nothing_headed : (s : Effective) (start : DocumentStart) → has_directives start ≡ false → heading_text s start ≡ []
+nothing_headed s start h =
+    let parts = no_directives start h in
+    ap (λ v. (then_laid (version_laid v (margin_cursor 0)) (tag_directives_laid s.portable start.directives)).text) parts.0
+    ∙ ap (λ l. (tag_directives_laid s.portable l (margin_cursor 0)).text) parts.1
+
+-- and say nothing
+pub nothing_said : (start : DocumentStart) → has_directives start ≡ false → no_heading ≡ heading_said start
+nothing_said start h =
+    let parts = no_directives start h in
+    sym (ap (λ v. let made : Heading = record { version = v; directives = start.directives } in made) parts.0
+    ∙ ap (λ l. let made : Heading = record { version = None; directives = l } in made) parts.1)
+
+-- the directives of a document, behind `...` where the document before them is open
+pub headed : (s : Effective) (depth : ℕ) (text : Text) (documents : List DocumentTree) (start : DocumentStart) (ended : Bool)
+    → Awaits s.breaks12 depth text documents ended → HeadingStands s start
+    → Headed s.breaks12 depth (text ++ (dots_if (has_directives start && not ended) ++ heading_text s start)) documents (heading_said start)
+headed s depth text documents start true awaits stands =
+    subst (λ x. Headed s.breaks12 depth (text ++ (dots_if x ++ heading_text s start)) documents (heading_said start)) (sym (and_no (has_directives start)))
+    (record {
+      place = after_heading (heading_said start);
+      so_far = awaits (heading_text s start) (heading_said start) stands.ends stands.percents stands.reads;
+      opens = λ section. refl;
+    })
+  where
+    and_no : (x : Bool) → x && false ≡ false
+    and_no true = refl
+    and_no false = refl
+headed s depth text documents start false awaits stands = by (has_directives start) refl
+  where
+    by : (x : Bool) → has_directives start ≡ x → Headed s.breaks12 depth (text ++ (dots_if (x && true) ++ heading_text s start)) documents (heading_said start)
+    by true h =
+        subst (λ t. Headed s.breaks12 depth t documents (heading_said start)) (append_assoc text dots (heading_text s start))
+        (record {
+          place = after_heading (heading_said start);
+          so_far = awaits_ended s.breaks12 depth text documents awaits (heading_text s start) (heading_said start) stands.ends stands.percents stands.reads;
+          opens = λ section. refl;
+        })
+    by false h =
+        subst (λ t. Headed s.breaks12 depth t documents (heading_said start)) (sym (append-nil text) ∙ ap (λ t. text ++ t) (sym (nothing_headed s start h)))
+        (record {
+          place = after_root;
+          so_far = awaits;
+          opens = λ section. ap (λ heading. document_read depth s.breaks12 documents heading section) (nothing_said start h);
+        })

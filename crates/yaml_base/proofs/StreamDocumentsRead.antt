@@ -1,0 +1,118 @@
+-- The documents of a stream, one after another: each that stands is one document more, and the stream may end after them.
+use Rattle.std.proofs.Common.{◌≡◌, ◌≤◌, refl, sym, ap, ◌∙◌, append_assoc, append-nil, subst}
+use Rattle.std.proofs.lemmas.Bool.{true≢false, or_parts}
+use Rattle.std.specs.Prelude.{ℕ, Bool, true, false, List, [], ◌++◌, ◌||◌, ◌&&◌, not, is_some}
+use Rattle.yaml_base.specs.Characters.{Text}
+use Rattle.yaml_base.specs.Settings.{Effective}
+use Rattle.yaml_base.specs.Event.{DocumentStart}
+use Rattle.yaml_base.specs.Analysis.{is_empty}
+use Rattle.yaml_base.specs.Refusal.{scalar_tag}
+use Rattle.yaml_base.specs.Grammar.{Node, alias_node, scalar_node, sequence_node, mapping_node, Document}
+use Rattle.yaml_base.specs.Layout.{has_directives, is_explicit}
+use Rattle.yaml_base.specs.StreamContent.{DocumentTree}
+use Rattle.yaml_base.specs.StreamDocuments.{after_root}
+use Rattle.yaml_base.specs.StreamLaw.{is_written_as_nothing}
+use Rattle.yaml_base.proofs.StreamClosed.{closed}
+use Rattle.yaml_base.proofs.StreamFits.{size}
+use Rattle.yaml_base.proofs.StreamRootsStand.{root_laid, heading_text, HeadingStands, RootStands, DocumentStands}
+use Rattle.yaml_base.proofs.StreamRootStood.{root_fits, root_stood}
+use Rattle.yaml_base.proofs.StreamSoFar.{SoFar}
+use Rattle.yaml_base.proofs.StreamDocumentReads.{Awaits, awaits_ended, dots_if, nothing_headed, headed}
+use Rattle.yaml_base.proofs.StreamRootAdded.{with_document, marked_added, unmarked_added}
+use Rattle.yaml_base.proofs.StreamDocumentTexts.{before_root, root_part, document_text}
+
+-- One document more
+
+-- in canonical mode each root is written
+something_canonical : (canonical : Bool) (n : Node) → canonical ≡ true → is_written_as_nothing canonical n ≡ false
+something_canonical canonical (alias_node name) h = refl
+something_canonical canonical (scalar_node content) h =
+    ap (λ c. is_written_as_nothing c (scalar_node content)) h
+    ∙ and_no (is_empty content.value && not (is_some content.anchor) && not (is_some (scalar_tag true content)) && content.plain_implicit)
+  where
+    and_no : (x : Bool) → x && false ≡ false
+    and_no true = refl
+    and_no false = refl
+something_canonical canonical (sequence_node start items) h = refl
+something_canonical canonical (mapping_node start pairs) h = refl
+
+-- the end of a document, behind its root
+ended_more : (breaks12 : Bool) (depth : ℕ) (text : Text) (documents : List DocumentTree) (implicit : Bool)
+    → SoFar breaks12 depth text (record { documents = documents; place = after_root })
+    → Awaits breaks12 depth (text ++ dots_if (not implicit)) documents (not implicit)
+ended_more breaks12 depth text documents true so =
+    subst (λ t. SoFar breaks12 depth t (record { documents = documents; place = after_root })) (sym (append-nil text)) so
+ended_more breaks12 depth text documents false so = awaits_ended breaks12 depth text documents so
+
+-- a document with its mark
+explicit_more : (s : Effective) (depth : ℕ) (text : Text) (documents : List DocumentTree) (document : Document) (ended : Bool) → 2 ≤ s.indent
+    → RootStands s document (not s.canonical) → HeadingStands s document.start → size document.root ≤ depth → Awaits s.breaks12 depth text documents ended
+    → Awaits s.breaks12 depth (text ++ (before_root s ended document.start ++ (root_part true s document ++ dots_if (not document.end_implicit))))
+    (with_document s documents document)
+    (not document.end_implicit)
+explicit_more s depth text documents document ended deep stands heading small awaits =
+    let before = before_root s ended document.start in
+    let root = root_part true s document in
+    let stood = root_stood s document (not s.canonical) deep stands (λ e. something_canonical s.canonical document.root (by s.canonical e)) in
+    subst (λ t. Awaits s.breaks12 depth t (with_document s documents document) (not document.end_implicit))
+    (append_assoc (text ++ before) root (dots_if (not document.end_implicit)) ∙ append_assoc text before (root ++ dots_if (not document.end_implicit)))
+    (ended_more s.breaks12 depth ((text ++ before) ++ root) (with_document s documents document) document.end_implicit
+    (marked_added (not s.canonical) s depth (text ++ before) documents document (headed s depth text documents document.start ended awaits heading)
+    (root_fits s document (not s.canonical) deep stands) small stood))
+  where
+    by : (x : Bool) → not x ≡ false → x ≡ true
+    by true h = refl
+    by false h = absurd (true≢false h)
+
+-- the first document, without a mark
+implicit_more : (s : Effective) (depth : ℕ) (document : Document) (ended : Bool) → 2 ≤ s.indent → RootStands s document false
+    → size document.root ≤ depth → has_directives document.start ≡ false → is_written_as_nothing s.canonical document.root ≡ false
+    → Awaits s.breaks12 depth (before_root s ended document.start ++ (root_part false s document ++ dots_if (not document.end_implicit)))
+    (with_document s [] document) (not document.end_implicit)
+implicit_more s depth document ended deep stands small none some =
+    let stood = root_stood s document false deep stands (λ e. some) in
+    subst (λ t. Awaits s.breaks12 depth (t ++ (root_part false s document ++ dots_if (not document.end_implicit))) (with_document s [] document)
+    (not document.end_implicit))
+    (sym (ap (λ x. dots_if (x && not ended) ++ heading_text s document.start) none ∙ nothing_headed s document.start none))
+    (ended_more s.breaks12 depth (closed (root_laid false s document)) (with_document s [] document) document.end_implicit
+    (unmarked_added s depth document none (root_fits s document false deep stands) small stood))
+
+-- a document that isn't the first has its mark
+pub later_explicit : (each : Bool) (start : DocumentStart) → is_explicit each false start ≡ true
+later_explicit each start = by (not start.implicit) each (has_directives start)
+  where
+    by : (x y z : Bool) → (x || true || y || z) ≡ true
+    by true y z = refl
+    by false y z = refl
+
+-- one without a mark has no directives
+without_mark : (each first : Bool) (start : DocumentStart) → is_explicit each first start ≡ false → has_directives start ≡ false
+without_mark each first start h = (or_parts (not start.implicit || not first || each) (has_directives start) h).1
+
+-- one document more, that isn't the first
+pub later_more : (s : Effective) (depth : ℕ) (text : Text) (documents : List DocumentTree) (document : Document) (ended : Bool) → 2 ≤ s.indent
+    → DocumentStands s false document
+    → size document.root ≤ depth → Awaits s.breaks12 depth text documents ended
+    → Awaits s.breaks12 depth (text ++ document_text s false ended document) (with_document s documents document) (not document.end_implicit)
+later_more s depth text documents document ended deep stands small awaits =
+    subst (λ x. Awaits s.breaks12 depth (text ++ (before_root s ended document.start ++ (root_part x s document ++ dots_if (not document.end_implicit))))
+    (with_document s documents document)
+    (not document.end_implicit))
+    (sym explicit) (explicit_more s depth text documents document ended deep
+    (subst (λ x. RootStands s document (x && not s.canonical)) explicit stands.root) stands.heading small awaits)
+  where
+    explicit : is_explicit (s.canonical || s.portable) false document.start ≡ true
+    explicit = later_explicit (s.canonical || s.portable) document.start
+
+-- the first, where it isn't lost
+pub first_more : (s : Effective) (depth : ℕ) (document : Document) → 2 ≤ s.indent → DocumentStands s true document → size document.root ≤ depth
+    → (is_explicit (s.canonical || s.portable) true document.start ≡ false → is_written_as_nothing s.canonical document.root ≡ false)
+    → Awaits s.breaks12 depth [] [] true
+    → Awaits s.breaks12 depth (document_text s true true document) (with_document s [] document) (not document.end_implicit)
+first_more s depth document deep stands small some awaits = by (is_explicit (s.canonical || s.portable) true document.start) refl stands.root
+  where
+    by : (x : Bool) → is_explicit (s.canonical || s.portable) true document.start ≡ x → RootStands s document (x && not s.canonical)
+        → Awaits s.breaks12 depth (before_root s true document.start ++ (root_part x s document ++ dots_if (not document.end_implicit)))
+        (with_document s [] document) (not document.end_implicit)
+    by true e root = explicit_more s depth [] [] document true deep root stands.heading small awaits
+    by false e root = implicit_more s depth document true deep root small (without_mark (s.canonical || s.portable) true document.start e) (some e)

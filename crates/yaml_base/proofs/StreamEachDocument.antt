@@ -1,0 +1,44 @@
+-- What holds of each document of a stream, in order.
+use Rattle.std.proofs.Common.{◌≡◌, sym, ◌∙◌}
+use Rattle.std.proofs.lemmas.Bool.{and_parts}
+use Rattle.std.proofs.lemmas.List.Folds.{list_all-append}
+use Rattle.std.specs.List.{list_all}
+use Rattle.std.specs.Prelude.{Bool, true, List, [], ◌∷◌, ◌++◌}
+use Rattle.yaml_base.specs.Event.{Event}
+use Rattle.yaml_base.specs.Grammar.{Document, Documents, no_documents, documents_and, document_events, documents_events}
+use Rattle.yaml_base.specs.StreamContent.{documents_in_order}
+
+-- P holds of each of some documents
+abbrev pub AllDocuments : (Document → Type 0) → List Document → Type 0
+AllDocuments P [] = Unit {0}
+AllDocuments P (document ∷ rest) = P document × AllDocuments P rest
+
+-- of some documents, and then of others
+pub documents_both : (P : Document → Type 0) (some others : List Document) → AllDocuments P some → AllDocuments P others → AllDocuments P (some ++ others)
+documents_both P [] others h k = k
+documents_both P (document ∷ rest) others h k = (h.0, documents_both P rest others h.1 k)
+
+-- where P holds Q does
+pub documents_more : (P Q : Document → Type 0) → ((document : Document) → P document → Q document) → (documents : List Document)
+    → AllDocuments P documents → AllDocuments Q documents
+documents_more P Q then [] h = tt
+documents_more P Q then (document ∷ rest) h = (then document h.0, documents_more P Q then rest h.1)
+
+-- a test on both of two lists
+pub all_of_both : (test : Event → Bool) (some others : List Event) → list_all test (some ++ others) ≡ true
+    → (list_all test some ≡ true) × (list_all test others ≡ true)
+all_of_both test some others h = and_parts (list_all test some) (list_all test others) (sym (list_all-append test some others) ∙ h)
+
+-- what a test on a document's events tells of it, a test on those of all documents tells of each
+pub each_document : (P : Document → Type 0) (test : Event → Bool) → ((document : Document) → list_all test (document_events document) ≡ true → P document)
+    → (documents : Documents) → list_all test (documents_events documents) ≡ true → AllDocuments P (documents_in_order documents)
+each_document P test tells no_documents h = tt
+each_document P test tells (documents_and before document) h =
+    let parts = all_of_both test (documents_events before) (document_events document) h in
+    documents_both P (documents_in_order before) (document ∷ []) (each_document P test tells before parts.0) (tells document parts.1, tt)
+
+-- what follows of each from another thing that holds of each
+pub documents_given : (P Q : Document → Type 0) (documents : List Document) → AllDocuments (λ document. P document → Q document) documents
+    → AllDocuments P documents → AllDocuments Q documents
+documents_given P Q [] then h = tt
+documents_given P Q (document ∷ rest) then h = (then.0 h.0, documents_given P Q rest then.1 h.1)

@@ -1,0 +1,325 @@
+-- Each line of a collection in flow after its first is deeper than the column around.
+use Rattle.std.proofs.Common.{◌≡◌, suc, ◌≤◌, refl, ap, ◌∙◌, arith}
+use Rattle.std.proofs.lemmas.Bool.{false≢true, and_parts}
+use Rattle.std.specs.List.{list_any, list_all}
+use Rattle.std.specs.Prelude.{ℕ, Bool, true, false, Option, None, Some, List, [], ◌∷◌, ◌++◌, ◌||◌, ◌&&◌, not, codes, if◌then◌else◌}
+use Rattle.yaml_base.specs.Characters.{Text, space, is_printable}
+use Rattle.yaml_base.specs.LineBreaks.{is_read_break}
+use Rattle.yaml_base.specs.ReadPlain.{is_read_white}
+use Rattle.yaml_base.specs.Settings.{Effective}
+use Rattle.yaml_base.specs.Event.{ScalarStyle, any_style, plain, single_quoted, double_quoted, literal, folded, TagDirective, Scalar, Collection}
+use Rattle.yaml_base.specs.Cursor.{Cursor, Laid, space_if, new_line, nothing_laid, indicator, then_laid, is_past_width}
+use Rattle.yaml_base.specs.Plain.{runs, runs_laid}
+use Rattle.yaml_base.specs.SingleQuoted.{quotes_doubled, single_quote}
+use Rattle.yaml_base.specs.DoubleQuoted.{double_inside, quote_laid}
+use Rattle.yaml_base.specs.Grammar.{Node, alias_node, scalar_node, sequence_node, mapping_node, Nodes, no_nodes, nodes_and, Pairs, no_pairs, pairs_and}
+use Rattle.yaml_base.specs.Refusal.{scalar_tag, collection_tag}
+use Rattle.yaml_base.specs.Layout.{Role, Place, is_in_mapping, entries_column, is_written_in_flow, as_root, as_item, as_key, as_value, is_key, line_column, deeper, has_no_nodes, has_no_pairs, is_simple, is_simple_at, flow_break, opening_or_comma, key_sign, flow_place_laid, place_laid, properties_laid, alias_laid, separation_laid, body_laid, choice_of, Brackets, square, curly, empty_or_comma, end_laid, entry_place}
+use Rattle.yaml_base.specs.TidyBodies.{has_deep_lines, has_no_space_before_break, has_clean_edges, ends_white, is_tidy_style, is_tidy}
+use Rattle.yaml_base.specs.StreamScalars.{name_read}
+use Rattle.yaml_base.proofs.StreamLineLaws.{OneLine, one_line_both}
+use Rattle.yaml_base.proofs.StreamTidyLaws.{deep_lines_fewer}
+use Rattle.yaml_base.proofs.StreamClosed.{spaces_line}
+use Rattle.yaml_base.proofs.StreamTexts.{collection_own, node_own, items_own, pairs_own}
+use Rattle.yaml_base.proofs.StreamProperties.{IsNamed, name_letters}
+use Rattle.yaml_base.proofs.StreamPropertyWords.{lead}
+use Rattle.yaml_base.proofs.StreamStands.{tag_written, tag_meant, TagStands, NamesStand, AllNamesStand, PairsNamesStand, BodyStands, body_from, BodiesHold, ItemsHold, PairsHold}
+use Rattle.yaml_base.proofs.StreamLeads.{lead_laid, tag_is_written}
+use Rattle.yaml_base.proofs.StreamFlowScalars.{rules_of, is_flow_style, chosen_in_flow, separation_in_flow}
+use Rattle.yaml_base.proofs.StreamBegun.{lead_line}
+use Rattle.yaml_base.proofs.StreamAliasFits.{name_line}
+use Rattle.yaml_base.proofs.StreamDeepBreaks.{Deep, deep_both, deep_line, deep_new_line, deep_tidy, ends_as_last, line_front, space_line}
+
+-- Properties
+
+-- the anchor and the tag are on one line
+pub properties_line : (s : Effective) (own directives : List TagDirective) (anchor tag : Option Text) (bare : Bool) (cursor : Cursor) → IsNamed anchor
+    → TagStands s.portable own directives tag → OneLine s.breaks12 (properties_laid s.portable directives anchor tag bare cursor).text
+properties_line s own directives anchor tag bare cursor named stands =
+    let laid = properties_laid s.portable directives anchor tag bare cursor in
+    let written = tag_written s.portable directives tag bare in
+    line_front s.breaks12 laid.text (space_if true laid.cursor)
+    (ap (list_any (is_read_break s.breaks12)) (lead_laid s.portable directives anchor tag bare cursor)
+    ∙ one_line_both s.breaks12 (space_if true cursor) (lead anchor written) (space_line s.breaks12 true cursor)
+    (lead_line (rules_of s own) anchor written (tag_meant tag bare) named (tag_is_written s.portable own directives tag bare stands)))
+
+-- Bodies
+
+-- a quote isn't white
+quote_shown : (breaks12 : Bool) → (is_read_white breaks12 0x27 ≡ false) × (is_read_white breaks12 0x22 ≡ false)
+quote_shown true = (refl, refl)
+quote_shown false = (refl, refl)
+
+-- a text with clean edges ends with nothing white
+clean_shown : (breaks12 : Bool) (t : Text) → has_clean_edges breaks12 t ≡ true → ends_white breaks12 t ≡ false
+clean_shown breaks12 [] h = refl
+clean_shown breaks12 (c ∷ t) h = by (ends_white breaks12 (c ∷ t)) (and_parts (not (is_read_white breaks12 c)) (not (ends_white breaks12 (c ∷ t))) h).1
+  where
+    by : (x : Bool) → not x ≡ true → x ≡ false
+    by true h = absurd (false≢true h)
+    by false h = refl
+
+-- a body in a style of flow that is tidy ends with nothing white
+body_shown : (s : Effective) (style : ScalarStyle) (limit : Option ℕ) (indent : ℕ) (value : Text) (cursor : Cursor) → is_flow_style style ≡ true
+    → is_tidy_style style s.breaks12 (body_laid style s limit indent value cursor).text ≡ true
+    → ends_white s.breaks12 (body_laid style s limit indent value cursor).text ≡ false
+body_shown s plain limit indent value cursor flow tidy =
+    let text = (body_laid plain s limit indent value cursor).text in
+    clean_shown s.breaks12 text (and_parts (has_no_space_before_break s.breaks12 text) (has_clean_edges s.breaks12 text) tidy).1
+body_shown s single_quoted limit indent value cursor flow tidy =
+    ends_as_last s.breaks12 (0x27 ∷ (runs_laid quotes_doubled limit indent true (runs value) (single_quote cursor).cursor).text) 0x27
+    ∙ (quote_shown s.breaks12).0
+body_shown s double_quoted limit indent value cursor flow tidy =
+    ends_as_last s.breaks12 (0x22 ∷ (double_inside s.unicode limit indent None value (quote_laid cursor).cursor).text) 0x22 ∙ (quote_shown s.breaks12).1
+body_shown s any_style limit indent value cursor flow tidy = absurd (false≢true tidy)
+body_shown s literal limit indent value cursor flow tidy = absurd (false≢true flow)
+body_shown s folded limit indent value cursor flow tidy = absurd (false≢true flow)
+
+-- the lines of such a body are deep
+body_deep : (s : Effective) (style : ScalarStyle) (limit : Option ℕ) (count indent column : ℕ) (value : Text) (cursor : Cursor) → count ≤ suc column
+    → is_flow_style style ≡ true → is_tidy style s.breaks12 (Some column) (body_laid style s limit indent value cursor).text ≡ true
+    → Deep s.breaks12 count (body_laid style s limit indent value cursor).text
+body_deep s style limit count indent column value cursor le flow tidy =
+    let text = (body_laid style s limit indent value cursor).text in
+    let parts = and_parts (list_all is_printable text && has_deep_lines s.breaks12 (suc column) text) (is_tidy_style style s.breaks12 text) tidy in
+    deep_tidy s.breaks12 count text
+    (deep_lines_fewer s.breaks12 count (suc column) text le (and_parts (list_all is_printable text) (has_deep_lines s.breaks12 (suc column) text) parts.0).1)
+    (body_shown s style limit indent value cursor flow parts.1)
+
+-- Signs
+
+-- a sign on one line, and the space before it
+pub sign_deep : (breaks12 : Bool) (count : ℕ) (sign : Text) (need white indented : Bool) (cursor : Cursor) → OneLine breaks12 sign
+    → Deep breaks12 count (indicator sign need white indented cursor).text
+sign_deep breaks12 count sign need white indented cursor one =
+    deep_line breaks12 count (space_if need cursor ++ sign) (one_line_both breaks12 (space_if need cursor) sign (space_line breaks12 need cursor) one)
+
+-- no sign of flow breaks a line
+pub signs_line : (breaks12 : Bool) → OneLine breaks12 (codes ",") × OneLine breaks12 (codes "?") × OneLine breaks12 (codes ":")
+signs_line true = (refl, refl, refl)
+signs_line false = (refl, refl, refl)
+
+-- nor does a bracket
+pub brackets_line : (breaks12 : Bool) → (OneLine breaks12 square.opening × OneLine breaks12 square.closing)
+    × (OneLine breaks12 curly.opening × OneLine breaks12 curly.closing)
+brackets_line true = ((refl, refl), (refl, refl))
+brackets_line false = ((refl, refl), (refl, refl))
+
+-- a new line where one is too long
+break_deep : (s : Effective) (count column : ℕ) (cursor : Cursor) → count ≤ column → Deep s.breaks12 count (flow_break s (Some column) cursor).text
+break_deep s count column cursor le = by (s.canonical || is_past_width s.width cursor)
+  where
+    by : (x : Bool) → Deep s.breaks12 count (let laid : Laid = if x then new_line column cursor else nothing_laid cursor in laid.text)
+    by true = deep_new_line s.breaks12 count column cursor le
+    by false = refl
+
+-- what stands before a first entry, or between two
+begin_deep : (s : Effective) (count column : ℕ) (bracket : Text) (first : Bool) (cursor : Cursor) → count ≤ column → OneLine s.breaks12 bracket
+    → Deep s.breaks12 count (then_laid (opening_or_comma bracket first cursor) (flow_break s (Some column))).text
+begin_deep s count column bracket true cursor le one =
+    let sign = indicator bracket true true false cursor in
+    deep_both s.breaks12 count sign.text (flow_break s (Some column) sign.cursor).text (sign_deep s.breaks12 count bracket true true false cursor one)
+    (break_deep s count column sign.cursor le)
+begin_deep s count column bracket false cursor le one =
+    let sign = indicator (codes ",") false false false cursor in
+    deep_both s.breaks12 count sign.text (flow_break s (Some column) sign.cursor).text
+    (sign_deep s.breaks12 count (codes ",") false false false cursor (signs_line s.breaks12).0) (break_deep s count column sign.cursor le)
+
+-- the signs of a place in flow
+place_deep : (s : Effective) (count column : ℕ) (role : Role) (simple : Bool) (cursor : Cursor) → count ≤ column
+    → Deep s.breaks12 count (flow_place_laid s role simple (Some column) cursor).text
+place_deep s count column as_root simple cursor le = refl
+place_deep s count column (as_item first) simple cursor le = begin_deep s count column (codes "[") first cursor le (brackets_line s.breaks12).0.0
+place_deep s count column (as_key first) simple cursor le =
+    let begun = then_laid (opening_or_comma (codes "{") first cursor) (flow_break s (Some column)) in
+    deep_both s.breaks12 count begun.text (key_sign simple false begun.cursor).text
+    (begin_deep s count column (codes "{") first cursor le (brackets_line s.breaks12).1.0)
+    (by simple begun.cursor)
+  where
+    by : (x : Bool) (cursor : Cursor) → Deep s.breaks12 count (key_sign x false cursor).text
+    by true cursor = refl
+    by false cursor = sign_deep s.breaks12 count (codes "?") true false false cursor (signs_line s.breaks12).1
+place_deep s count column (as_value true) simple cursor le = sign_deep s.breaks12 count (codes ":") false false false cursor (signs_line s.breaks12).2
+place_deep s count column (as_value false) simple cursor le =
+    let gap = flow_break s (Some column) cursor in
+    deep_both s.breaks12 count gap.text (indicator (codes ":") true false false gap.cursor).text (break_deep s count column cursor le)
+    (sign_deep s.breaks12 count (codes ":") true false false gap.cursor (signs_line s.breaks12).2)
+
+-- the end of a collection at a column
+end_deep : (s : Effective) (count : ℕ) (brackets : Brackets) (empty : Bool) (column : Option ℕ) (cursor : Cursor) → OneLine s.breaks12 brackets.opening
+    → OneLine s.breaks12 brackets.closing → (s.canonical ≡ true → count ≤ line_column column)
+    → Deep s.breaks12 count (end_laid s brackets true empty column cursor).text
+end_deep s count brackets empty column cursor opening closing le =
+    let begun = empty_or_comma s brackets.opening empty column cursor in
+    deep_both s.breaks12 count begun.text (indicator brackets.closing false false false begun.cursor).text (by empty)
+    (sign_deep s.breaks12 count brackets.closing false false false begun.cursor closing)
+  where
+    comma : Laid
+    comma = indicator (codes ",") false false false cursor
+
+    line : (x : Bool) → s.canonical ≡ x
+        → Deep s.breaks12 count (let laid : Laid = if x then then_laid comma (new_line (line_column column)) else nothing_laid cursor in laid.text)
+    line true e =
+        deep_both s.breaks12 count comma.text (new_line (line_column column) comma.cursor).text
+        (sign_deep s.breaks12 count (codes ",") false false false cursor (signs_line s.breaks12).0)
+        (deep_new_line s.breaks12 count (line_column column) comma.cursor (le e))
+    line false e = refl
+
+    by : (x : Bool) → Deep s.breaks12 count (empty_or_comma s brackets.opening x column cursor).text
+    by true = sign_deep s.breaks12 count brackets.opening true true false cursor opening
+    by false = line s.canonical refl
+
+-- Nodes
+
+-- `*` breaks no line
+star_line : (breaks12 : Bool) → OneLine breaks12 (codes "*")
+star_line true = refl
+star_line false = refl
+
+-- an alias
+pub alias_deep : (s : Effective) (count : ℕ) (name : Text) (simple : Bool) (cursor : Cursor) → name_read name ≡ Some name
+    → Deep s.breaks12 count (alias_laid name simple cursor).text
+alias_deep s count name simple cursor named =
+    let star = indicator (codes "*") true false false cursor in
+    deep_both s.breaks12 count (star.text ++ name) (if simple then codes " " else [])
+    (deep_both s.breaks12 count star.text name (sign_deep s.breaks12 count (codes "*") true false false cursor (star_line s.breaks12))
+    (deep_line s.breaks12 count name (name_line s.breaks12 name (name_letters name named))))
+    (by simple)
+  where
+    by : (x : Bool) → Deep s.breaks12 count (if x then codes " " else [])
+    by true = deep_line s.breaks12 count (space ∷ []) (spaces_line s.breaks12 1)
+    by false = refl
+
+-- a scalar
+scalar_deep : (s : Effective) (own directives : List TagDirective) (count column : ℕ) (role : Role) (cursor : Cursor) (content : Scalar) → count ≤ column
+    → NamesStand s.portable own s.canonical directives (scalar_node content)
+    → BodyStands s (body_from s directives (entry_place true role column) content cursor)
+    → Deep s.breaks12 count (node_own (scalar_node content) s directives (entry_place true role column) cursor).text
+scalar_deep s own directives count column role cursor content le names body =
+    let simple = is_key role && is_simple s.canonical directives (scalar_node content) in
+    let tag = scalar_tag s.canonical content in
+    let choice = choice_of s (entry_place true role column) simple content in
+    let properties = properties_laid s.portable directives content.anchor tag choice.bare cursor in
+    let separation = separation_laid choice.style true content.value properties.cursor in
+    let limit = if simple then None else s.width in
+    let text = (body_laid choice.style s limit (deeper s.indent (Some column)) content.value separation.cursor).text in
+    deep_both s.breaks12 count (properties.text ++ separation.text) text
+    (deep_line s.breaks12 count (properties.text ++ separation.text)
+    (one_line_both s.breaks12 properties.text separation.text
+    (properties_line s own directives content.anchor tag choice.bare cursor names.0 names.1)
+    (ap (list_any (is_read_break s.breaks12)) (separation_in_flow choice.style content.value properties.cursor)
+    ∙ space_line s.breaks12 true properties.cursor)))
+    (body_deep s choice.style limit count (deeper s.indent (Some column)) column content.value separation.cursor (omega arith)
+    (chosen_in_flow s role column simple content) body.tidy)
+
+-- a collection, where its entries are so
+collection_deep : (s : Effective) (own directives : List TagDirective) (count : ℕ) (brackets : Brackets) (anchor tag : Option Text) (empty : Bool)
+    (column : Option ℕ) (cursor : Cursor) (entries : Laid) → OneLine s.breaks12 brackets.opening → OneLine s.breaks12 brackets.closing
+    → (s.canonical ≡ true → count ≤ line_column column) → IsNamed anchor → TagStands s.portable own directives tag → Deep s.breaks12 count entries.text
+    → Deep s.breaks12 count
+    (((properties_laid s.portable directives anchor tag false cursor).text ++ entries.text) ++ (end_laid s brackets true empty column entries.cursor).text)
+collection_deep s own directives count brackets anchor tag empty column cursor entries opening closing le named stands deep =
+    let begun = properties_laid s.portable directives anchor tag false cursor in
+    deep_both s.breaks12 count (begun.text ++ entries.text) (end_laid s brackets true empty column entries.cursor).text
+    (deep_both s.breaks12 count begun.text entries.text
+    (deep_line s.breaks12 count begun.text (properties_line s own directives anchor tag false cursor named stands)) deep)
+    (end_deep s count brackets empty column entries.cursor opening closing le)
+
+-- each node in flow at a column, the items of each sequence and the pairs of each mapping have lines as deep as that column
+mutual
+  node_deep : (n : Node) (s : Effective) (own directives : List TagDirective) (count column : ℕ) (role : Role) (cursor : Cursor) → count ≤ column
+      → NamesStand s.portable own s.canonical directives n → BodiesHold (BodyStands s) n s directives (entry_place true role column) cursor
+      → Deep s.breaks12 count (node_own n s directives (entry_place true role column) cursor).text
+  node_deep (alias_node name) s own directives count column role cursor le names bodies =
+      alias_deep s count name (is_simple_at (entry_place true role column) s.canonical directives (alias_node name)) cursor names
+  node_deep (scalar_node content) s own directives count column role cursor le names bodies =
+      scalar_deep s own directives count column role cursor content le names bodies
+  node_deep (sequence_node start items) s own directives count column role cursor le names bodies =
+      let begun = properties_laid s.portable directives start.anchor (collection_tag s.canonical start) false cursor in
+      collection_deep s own directives count square start.anchor (collection_tag s.canonical start) (has_no_nodes items) (Some column) cursor
+      (items_own items s directives true (deeper s.indent (Some column)) begun.cursor) (brackets_line s.breaks12).0.0 (brackets_line s.breaks12).0.1 (λ h. le)
+      names.0 names.1
+      (items_deep items s own directives count (deeper s.indent (Some column)) begun.cursor (omega arith) names.2 bodies)
+  node_deep (mapping_node start pairs) s own directives count column role cursor le names bodies =
+      let begun = properties_laid s.portable directives start.anchor (collection_tag s.canonical start) false cursor in
+      collection_deep s own directives count curly start.anchor (collection_tag s.canonical start) (has_no_pairs pairs) (Some column) cursor
+      (pairs_own pairs s directives true (deeper s.indent (Some column)) begun.cursor) (brackets_line s.breaks12).1.0 (brackets_line s.breaks12).1.1 (λ h. le)
+      names.0 names.1
+      (pairs_deep pairs s own directives count (deeper s.indent (Some column)) begun.cursor (omega arith) names.2 bodies)
+
+  pub items_deep : (items : Nodes) (s : Effective) (own directives : List TagDirective) (count column : ℕ) (cursor : Cursor) → count ≤ column
+      → AllNamesStand s.portable own s.canonical directives items → ItemsHold (BodyStands s) items s directives true column cursor
+      → Deep s.breaks12 count (items_own items s directives true column cursor).text
+  items_deep no_nodes s own directives count column cursor le names bodies = refl
+  items_deep (nodes_and items last) s own directives count column cursor le names bodies =
+      let role = as_item (has_no_nodes items) in
+      let place = entry_place true role column in
+      let before = items_own items s directives true column cursor in
+      let signs = place_laid s place false before.cursor in
+      let laid = node_own last s directives place signs.cursor in
+      deep_both s.breaks12 count before.text (signs.text ++ laid.text) (items_deep items s own directives count column cursor le names.0 bodies.0)
+      (deep_both s.breaks12 count signs.text laid.text (place_deep s count column role false before.cursor le)
+      (node_deep last s own directives count column role signs.cursor le names.1 bodies.1))
+
+  pub pairs_deep : (pairs : Pairs) (s : Effective) (own directives : List TagDirective) (count column : ℕ) (cursor : Cursor) → count ≤ column
+      → PairsNamesStand s.portable own s.canonical directives pairs → PairsHold (BodyStands s) pairs s directives true column cursor
+      → Deep s.breaks12 count (pairs_own pairs s directives true column cursor).text
+  pairs_deep no_pairs s own directives count column cursor le names bodies = refl
+  pairs_deep (pairs_and pairs key value) s own directives count column cursor le names bodies =
+      let key_role = as_key (has_no_pairs pairs) in
+      let value_role = as_value (is_simple s.canonical directives key) in
+      let before = pairs_own pairs s directives true column cursor in
+      let signs = place_laid s (entry_place true key_role column) (is_simple s.canonical directives key) before.cursor in
+      let key_laid = node_own key s directives (entry_place true key_role column) signs.cursor in
+      let value_signs = place_laid s (entry_place true value_role column) false key_laid.cursor in
+      let value_laid = node_own value s directives (entry_place true value_role column) value_signs.cursor in
+      deep_both s.breaks12 count (before.text ++ (signs.text ++ key_laid.text)) (value_signs.text ++ value_laid.text)
+      (deep_both s.breaks12 count before.text (signs.text ++ key_laid.text) (pairs_deep pairs s own directives count column cursor le names.0 bodies.0)
+      (deep_both s.breaks12 count signs.text key_laid.text (place_deep s count column key_role (is_simple s.canonical directives key) before.cursor le)
+      (node_deep key s own directives count column key_role signs.cursor le names.1 bodies.1)))
+      (deep_both s.breaks12 count value_signs.text value_laid.text (place_deep s count column value_role false key_laid.cursor le)
+      (node_deep value s own directives count column value_role value_signs.cursor le names.2 bodies.2))
+
+-- Collections in a block
+
+-- a sequence that is written in flow, where its bracket stands on no line of its own or as deep
+pub sequence_deep : (s : Effective) (own directives : List TagDirective) (count : ℕ) (place : Place) (cursor : Cursor) (start : Collection) (items : Nodes)
+    → count ≤ deeper s.indent place.column → (s.canonical ≡ true → count ≤ line_column place.column)
+    → is_written_in_flow s place start (has_no_nodes items) ≡ true → NamesStand s.portable own s.canonical directives (sequence_node start items)
+    → BodiesHold (BodyStands s) (sequence_node start items) s directives place cursor
+    → Deep s.breaks12 count (node_own (sequence_node start items) s directives place cursor).text
+sequence_deep s own directives count place cursor start items le ends in_flow names bodies =
+    by (is_written_in_flow s place start (has_no_nodes items)) in_flow bodies
+  where
+    begun : Laid
+    begun = properties_laid s.portable directives start.anchor (collection_tag s.canonical start) false cursor
+
+    by : (x : Bool) → x ≡ true
+        → ItemsHold (BodyStands s) items s directives x (entries_column x (is_in_mapping place.role) s.indent place.column begun.cursor) begun.cursor
+        → Deep s.breaks12 count
+        (collection_own s square x (is_in_mapping place.role) (has_no_nodes items) place.column begun (items_own items s directives x)).text
+    by false h hold = absurd (false≢true h)
+    by true h hold =
+        collection_deep s own directives count square start.anchor (collection_tag s.canonical start) (has_no_nodes items) place.column cursor
+        (items_own items s directives true (deeper s.indent place.column) begun.cursor) (brackets_line s.breaks12).0.0 (brackets_line s.breaks12).0.1 ends
+        names.0 names.1 (items_deep items s own directives count (deeper s.indent place.column) begun.cursor le names.2 hold)
+
+-- and such a mapping
+pub mapping_deep : (s : Effective) (own directives : List TagDirective) (count : ℕ) (place : Place) (cursor : Cursor) (start : Collection) (pairs : Pairs)
+    → count ≤ deeper s.indent place.column → (s.canonical ≡ true → count ≤ line_column place.column)
+    → is_written_in_flow s place start (has_no_pairs pairs) ≡ true → NamesStand s.portable own s.canonical directives (mapping_node start pairs)
+    → BodiesHold (BodyStands s) (mapping_node start pairs) s directives place cursor
+    → Deep s.breaks12 count (node_own (mapping_node start pairs) s directives place cursor).text
+mapping_deep s own directives count place cursor start pairs le ends in_flow names bodies =
+    by (is_written_in_flow s place start (has_no_pairs pairs)) in_flow bodies
+  where
+    begun : Laid
+    begun = properties_laid s.portable directives start.anchor (collection_tag s.canonical start) false cursor
+
+    by : (x : Bool) → x ≡ true → PairsHold (BodyStands s) pairs s directives x (entries_column x false s.indent place.column begun.cursor) begun.cursor
+        → Deep s.breaks12 count (collection_own s curly x false (has_no_pairs pairs) place.column begun (pairs_own pairs s directives x)).text
+    by false h hold = absurd (false≢true h)
+    by true h hold =
+        collection_deep s own directives count curly start.anchor (collection_tag s.canonical start) (has_no_pairs pairs) place.column cursor
+        (pairs_own pairs s directives true (deeper s.indent place.column) begun.cursor) (brackets_line s.breaks12).1.0 (brackets_line s.breaks12).1.1 ends
+        names.0 names.1 (pairs_deep pairs s own directives count (deeper s.indent place.column) begun.cursor le names.2 hold)

@@ -1,0 +1,255 @@
+-- A collection in flow fits where it stands in a block.
+use Rattle.std.proofs.Common.{◌≡◌, suc, ◌≤◌, ◌<◌, refl, sym, ap, ◌∙◌, append_assoc, arith}
+use Rattle.std.proofs.lemmas.Bool.{true≢false, false≢true}
+use Rattle.std.specs.List.{list_all}
+use Rattle.std.specs.Prelude.{ℕ, Bool, true, false, Option, None, Some, List, [], ◌∷◌, ◌++◌, ◌==◌, ◌||◌, ◌&&◌, not, if◌then◌else◌}
+use Rattle.yaml_base.specs.Characters.{Text, space, line_feed}
+use Rattle.yaml_base.specs.LineBreaks.{is_read_break}
+use Rattle.yaml_base.specs.ReadPlain.{is_read_white}
+use Rattle.yaml_base.specs.Settings.{Effective}
+use Rattle.yaml_base.specs.Event.{TagDirective, Collection}
+use Rattle.yaml_base.specs.Cursor.{Cursor, Laid, space_if}
+use Rattle.yaml_base.specs.Grammar.{alias_node, scalar_node, sequence_node, mapping_node, Nodes, Pairs}
+use Rattle.yaml_base.specs.Refusal.{collection_tag}
+use Rattle.yaml_base.specs.Layout.{Place, line_column, deeper, has_no_nodes, has_no_pairs, is_written_in_flow}
+use Rattle.yaml_base.specs.StreamContent.{Tree}
+use Rattle.yaml_base.specs.StreamLines.{Line, lines_of, text_of_lines, character_before, extending, is_inside, all_deeper, spaces}
+use Rattle.yaml_base.specs.StreamScalars.{Rules, Properties}
+use Rattle.yaml_base.specs.StreamNodes.{kind_of_node, begins_properties, text_or_properties, text_read, kind_of_text, text_by_kind}
+use Rattle.yaml_base.proofs.StreamLineLaws.{is_closed, OneLine, text_of_lines_of}
+use Rattle.yaml_base.proofs.StreamInside.{AllInside}
+use Rattle.yaml_base.proofs.StreamTidyLaws.{lines_after_first}
+use Rattle.yaml_base.proofs.StreamClosed.{closed, lines_behind, after_line}
+use Rattle.yaml_base.proofs.StreamBlocks.{below_ends}
+use Rattle.yaml_base.proofs.StreamLeafFits.{TextReads, text_fits}
+use Rattle.yaml_base.proofs.StreamProperties.{begins_content}
+use Rattle.yaml_base.proofs.StreamPropertyWords.{lead}
+use Rattle.yaml_base.proofs.StreamStands.{tag_written, tag_meant, NamesStand, BodyStands, BodiesHold}
+use Rattle.yaml_base.proofs.StreamLeads.{tag_is_written}
+use Rattle.yaml_base.proofs.StreamFlowWords.{Given}
+use Rattle.yaml_base.proofs.StreamFlowReads.{FlowContent, content_read, sequence_reads, mapping_reads}
+use Rattle.yaml_base.proofs.StreamBegun.{lead_line}
+use Rattle.yaml_base.proofs.StreamOwnTexts.{deeper_all, said_reads, headed}
+use Rattle.yaml_base.proofs.StreamFits.{Fits}
+use Rattle.yaml_base.proofs.StreamNodesFit.{LeafFits}
+use Rattle.yaml_base.proofs.StreamLeaves.{block_place, FlowsFit}
+use Rattle.yaml_base.proofs.StreamCuts.{none_not_some}
+use Rattle.yaml_base.proofs.StreamAgrees.{node_tree}
+use Rattle.yaml_base.proofs.StreamTexts.{node_own}
+use Rattle.yaml_base.proofs.StreamFlowScalars.{rules_of}
+use Rattle.yaml_base.proofs.StreamFlowKinds.{KeysFit}
+use Rattle.yaml_base.proofs.StreamDeepBreaks.{Deep, deep_inside, space_line}
+use Rattle.yaml_base.proofs.StreamFlowDeep.{sequence_deep, mapping_deep}
+
+-- Lines
+
+-- the first line of a text that a break ends, and what of the text stands behind the characters of the line
+record FirstLine (breaks12 : Bool) (t : Text) : Type 0 where
+  pub first : Text
+  pub ending : Text
+  pub rest : List Line
+  pub more : Text
+  pub is : lines_of breaks12 (t ++ (line_feed ∷ [])) ≡ record { text = first; ending = ending } ∷ rest
+  pub whole : t ≡ first ++ more
+
+-- each text has one
+first_line : (breaks12 : Bool) (t : Text) → FirstLine breaks12 t
+first_line breaks12 [] = record { first = []; ending = line_feed ∷ []; rest = []; more = []; is = refl; whole = refl }
+first_line breaks12 (c ∷ t) = by (is_read_break breaks12 c) refl (first_line breaks12 t)
+  where
+    by : (x : Bool) → is_read_break breaks12 c ≡ x → FirstLine breaks12 t → FirstLine breaks12 (c ∷ t)
+    by true e line = record {
+      first = [];
+      ending = c ∷ [];
+      rest = lines_of breaks12 (t ++ (line_feed ∷ []));
+      more = c ∷ t;
+      is = ap (λ x. character_before x c (lines_of breaks12 (t ++ (line_feed ∷ [])))) e;
+      whole = refl;
+    }
+    by false e line = record {
+      first = c ∷ line.first;
+      ending = line.ending;
+      rest = line.rest;
+      more = line.more;
+      is = ap (λ x. character_before x c (lines_of breaks12 (t ++ (line_feed ∷ [])))) e ∙ ap (extending c) line.is;
+      whole = ap (λ u. c ∷ u) line.whole;
+    }
+
+-- Texts
+
+-- a line feed is white
+feed_white : (breaks12 : Bool) → list_all (is_read_white breaks12) (line_feed ∷ []) ≡ true
+feed_white breaks12 = refl
+
+-- a collection's text from its bracket on reads on its lines
+content_text : (rules : Rules) (cursor : Cursor) (own : Laid) (anchor tag given_tag : Option Text) (tree : Tree)
+    (of : FlowContent rules cursor own anchor tag given_tag tree)
+    (column : Option ℕ) (line : FirstLine rules.breaks12 (of.inside ++ (of.closing ∷ []))) → all_deeper column line.rest ≡ true
+    → text_read rules column (record { anchor = anchor; tag = tag_meant given_tag false }) (of.bracket ∷ line.first) line.ending line.rest ≡ Some tree
+content_text rules cursor own anchor tag given_tag tree of column line deep =
+    let properties : Properties = record { anchor = anchor; tag = tag_meant given_tag false } in
+    let kind = kind_of_text (of.bracket ∷ line.first) in
+    ap (λ x. if x then text_by_kind kind rules column properties ((of.bracket ∷ line.first) ++ (line.ending ++ text_of_lines line.rest)) else None) deep
+    ∙ ap (λ t. text_by_kind kind rules column properties (of.bracket ∷ t))
+    (sym (ap text_of_lines line.is) ∙ text_of_lines_of rules.breaks12 ((of.inside ++ (of.closing ∷ [])) ++ (line_feed ∷ []))
+    ∙ append_assoc of.inside (of.closing ∷ []) (line_feed ∷ []))
+    ∙ content_read rules cursor own anchor tag given_tag tree of column line.first (line_feed ∷ []) (feed_white rules.breaks12)
+
+-- what begins a node's own text is no space and no sign of a property
+pub own_shows : (c : ℕ) → begins_content (c ∷ []) ≡ true → ((c == space) ≡ false) × ((c == 0x26 || c == 0x21) ≡ false)
+own_shows c h = by (c == space) (c == 0x26) (c == 0x21) h
+  where
+    by : (x y z : Bool) → (not x && (not y && not z)) ≡ true → (x ≡ false) × ((y || z) ≡ false)
+    by true y z h = absurd (false≢true h)
+    by false true z h = absurd (false≢true h)
+    by false false true h = absurd (false≢true h)
+    by false false false h = (refl, refl)
+
+-- the text of a collection, with its properties, up to the break after it
+abbrev flow_text : (rules : Rules) (cursor : Cursor) (own : Laid) (anchor tag given_tag : Option Text) (tree : Tree)
+    → FlowContent rules cursor own anchor tag given_tag tree → Text
+flow_text rules cursor own anchor tag given_tag tree of = lead anchor tag ++ (of.bracket ∷ ((of.inside ++ (of.closing ∷ [])) ++ (line_feed ∷ [])))
+
+-- its lines
+flow_lines : (rules : Rules) (cursor : Cursor) (own : Laid) (anchor tag given_tag : Option Text) (tree : Tree)
+    (of : FlowContent rules cursor own anchor tag given_tag tree)
+    → OneLine rules.breaks12 (lead anchor tag) → (line : FirstLine rules.breaks12 (of.inside ++ (of.closing ∷ [])))
+    → lines_of rules.breaks12 (flow_text rules cursor own anchor tag given_tag tree of)
+    ≡ record { text = lead anchor tag ++ (of.bracket ∷ line.first); ending = line.ending } ∷ line.rest
+flow_lines rules cursor own anchor tag given_tag tree of one line =
+    let text = (of.inside ++ (of.closing ∷ [])) ++ (line_feed ∷ []) in
+    lines_behind rules.breaks12 (lead anchor tag) (of.bracket ∷ text) (of.bracket ∷ line.first) line.ending line.rest one
+    (lines_behind rules.breaks12 (of.bracket ∷ []) text line.first line.ending line.rest of.one_line line.is)
+
+-- it reads on its lines, behind properties or without them
+text_reads : (rules : Rules) (cursor : Cursor) (own : Laid) (anchor tag given_tag : Option Text) (tree : Tree)
+    (of : FlowContent rules cursor own anchor tag given_tag tree) (column : Option ℕ) → Given rules anchor tag (tag_meant given_tag false)
+    → (line : FirstLine rules.breaks12 (of.inside ++ (of.closing ∷ []))) → ((c : ℕ) → column ≡ Some c → AllInside true c line.rest)
+    → TextReads rules column (flow_text rules cursor own anchor tag given_tag tree of) tree
+text_reads rules cursor own anchor tag given_tag tree of column given line deeper =
+    let said = tag_meant given_tag false in
+    let front = lead anchor tag ++ (of.bracket ∷ line.first) in
+    let h = headed rules anchor tag said of.bracket line.first given (own_shows of.bracket of.content).0 in
+    let none : Given rules None None None = record { named = tt; tagged = tt } in
+    record {
+      head = h.head;
+      first = h.tail;
+      ending = line.ending;
+      rest = line.rest;
+      is =
+          flow_lines rules cursor own anchor tag given_tag tree of (lead_line rules anchor tag said given.named given.tagged) line
+          ∙ ap (λ t. record { text = t; ending = line.ending } ∷ line.rest) h.is;
+      shows = h.shows;
+      kind = ap (kind_of_node rules) (sym h.is) ∙ of.line anchor tag said given line.first line.more line.whole;
+      deeper = deeper;
+      read = λ reads at.
+          ap (λ t. text_or_properties (begins_properties t) rules reads column at t line.ending line.rest) (sym h.is)
+          ∙ said_reads rules reads column at anchor tag said of.bracket line.first line.ending line.rest given of.content
+          (of.line None None None none line.first line.more line.whole)
+          ∙ content_text rules cursor own anchor tag given_tag tree of column line (deeper_all column line.rest deeper);
+    }
+
+-- Fits
+
+-- what is laid out, with the break after it
+closed_text : (rules : Rules) (cursor : Cursor) (own : Laid) (anchor tag given_tag : Option Text) (tree : Tree)
+    (of : FlowContent rules cursor own anchor tag given_tag tree)
+    → own.text ++ (line_feed ∷ []) ≡ space_if true cursor ++ flow_text rules cursor own anchor tag given_tag tree of
+closed_text rules cursor own anchor tag given_tag tree of =
+    let core = (of.bracket ∷ of.inside) ++ (of.closing ∷ []) in
+    ap (λ t. t ++ (line_feed ∷ [])) of.whole
+    ∙ append_assoc (space_if true cursor) (lead anchor tag ++ core) (line_feed ∷ [])
+    ∙ ap (λ t. space_if true cursor ++ t) (append_assoc (lead anchor tag) core (line_feed ∷ []))
+
+-- a collection whose text is read, and whose lines are deeper than the column around, fits behind some spaces
+spaced_fits : (rules : Rules) (place : Place) (cursor : Cursor) (own : Laid) (anchor tag given_tag : Option Text) (tree : Tree)
+    (of : FlowContent rules cursor own anchor tag given_tag tree) → Given rules anchor tag (tag_meant given_tag false)
+    → ((c : ℕ) → place.column ≡ Some c → Deep rules.breaks12 (suc c) own.text) → (count : ℕ) → space_if true cursor ≡ spaces count
+    → (cursor.whitespace ≡ false → 0 < count) → Fits rules 1 own tree place cursor
+spaced_fits rules place cursor own anchor tag given_tag tree of given deep count spaced some =
+    text_fits rules own place cursor count (flow_text rules cursor own anchor tag given_tag tree of) tree
+    (fed ∙ closed_text rules cursor own anchor tag given_tag tree of ∙ ap (λ t. t ++ flow_text rules cursor own anchor tag given_tag tree of) spaced)
+    (ap (is_closed rules.breaks12) fed ∙ below_ends rules.breaks12 own.text [] refl)
+    (λ h. absurd (false≢true (sym of.ended.indention ∙ h)))
+    some
+    (text_reads rules cursor own anchor tag given_tag tree of place.column given line deeper)
+  where
+    line : FirstLine rules.breaks12 (of.inside ++ (of.closing ∷ []))
+    line = first_line rules.breaks12 (of.inside ++ (of.closing ∷ []))
+
+    fed : closed own ≡ own.text ++ (line_feed ∷ [])
+    fed = ap (λ x. own.text ++ (if x then [] else line_feed ∷ [])) of.ended.indention
+
+    after : lines_after_first (lines_of rules.breaks12 (own.text ++ (line_feed ∷ []))) ≡ line.rest
+    after =
+        let text = flow_text rules cursor own anchor tag given_tag tree of in
+        ap (λ t. lines_after_first (lines_of rules.breaks12 t)) (closed_text rules cursor own anchor tag given_tag tree of)
+        ∙ after_line rules.breaks12 (space_if true cursor) text (space_line rules.breaks12 true cursor)
+        ∙ ap lines_after_first
+        (flow_lines rules cursor own anchor tag given_tag tree of (lead_line rules anchor tag (tag_meant given_tag false) given.named given.tagged) line)
+
+    deeper : (c : ℕ) → place.column ≡ Some c → AllInside true c line.rest
+    deeper c e = ap (list_all (λ line. is_inside true c line.text)) (sym after) ∙ deep_inside rules.breaks12 c own.text (deep c e)
+
+-- behind the space that stands before it where one is needed
+pub content_fits : (rules : Rules) (place : Place) (cursor : Cursor) (own : Laid) (anchor tag given_tag : Option Text) (tree : Tree)
+    → FlowContent rules cursor own anchor tag given_tag tree → Given rules anchor tag (tag_meant given_tag false)
+    → ((c : ℕ) → place.column ≡ Some c → Deep rules.breaks12 (suc c) own.text) → Fits rules 1 own tree place cursor
+content_fits rules place cursor own anchor tag given_tag tree of given deep = by cursor.whitespace refl
+  where
+    by : (x : Bool) → cursor.whitespace ≡ x → Fits rules 1 own tree place cursor
+    by true h =
+        spaced_fits rules place cursor own anchor tag given_tag tree of given deep 0 (ap (λ x. if true && not x then space ∷ [] else []) h)
+        (λ w. absurd (true≢false (sym h ∙ w)))
+    by false h =
+        spaced_fits rules place cursor own anchor tag given_tag tree of given deep 1 (ap (λ x. if true && not x then space ∷ [] else []) h) (λ w. omega arith)
+
+-- Nodes
+
+-- the lines of a collection are deeper than the column around, in canonical mode at the root alone
+deep_column : (s : Effective) (column : Option ℕ) (c : ℕ) → 2 ≤ s.indent → (s.canonical ≡ true → column ≡ None) → column ≡ Some c
+    → (suc c ≤ deeper s.indent column) × (s.canonical ≡ true → suc c ≤ line_column column)
+deep_column s column c deep root e =
+    let same : line_column column ≡ c = ap line_column e in
+    (omega arith, λ h. absurd (none_not_some (sym (root h) ∙ e)))
+
+-- each sequence that is written in flow in a block fits
+pub sequence_fits : (s : Effective) (own directives : List TagDirective) → KeysFit s own directives → 2 ≤ s.indent → (place : Place) (cursor : Cursor)
+    (start : Collection) (items : Nodes) → (s.canonical ≡ true → place.column ≡ None)
+    → is_written_in_flow s place start (has_no_nodes items) ≡ true → NamesStand s.portable own s.canonical directives (sequence_node start items)
+    → BodiesHold (BodyStands s) (sequence_node start items) s directives place cursor
+    → LeafFits (rules_of s own) s directives (sequence_node start items) place cursor
+sequence_fits s own directives fits deep place cursor start items root in_flow names bodies =
+    let tag = collection_tag s.canonical start in
+    content_fits (rules_of s own) place cursor (node_own (sequence_node start items) s directives place cursor) start.anchor
+    (tag_written s.portable directives tag false) tag (node_tree (sequence_node start items) s directives place)
+    (sequence_reads s own directives fits place cursor start items in_flow names bodies)
+    (record { named = names.0; tagged = tag_is_written s.portable own directives tag false names.1 })
+    (λ c e.
+    sequence_deep s own directives (suc c) place cursor start items (deep_column s place.column c deep root e).0 (deep_column s place.column c deep root e).1
+    in_flow names bodies)
+
+-- and so does each mapping
+pub mapping_fits : (s : Effective) (own directives : List TagDirective) → KeysFit s own directives → 2 ≤ s.indent → (place : Place) (cursor : Cursor)
+    (start : Collection) (pairs : Pairs) → (s.canonical ≡ true → place.column ≡ None)
+    → is_written_in_flow s place start (has_no_pairs pairs) ≡ true → NamesStand s.portable own s.canonical directives (mapping_node start pairs)
+    → BodiesHold (BodyStands s) (mapping_node start pairs) s directives place cursor
+    → LeafFits (rules_of s own) s directives (mapping_node start pairs) place cursor
+mapping_fits s own directives fits deep place cursor start pairs root in_flow names bodies =
+    let tag = collection_tag s.canonical start in
+    content_fits (rules_of s own) place cursor (node_own (mapping_node start pairs) s directives place cursor) start.anchor
+    (tag_written s.portable directives tag false) tag (node_tree (mapping_node start pairs) s directives place)
+    (mapping_reads s own directives fits place cursor start pairs in_flow names bodies)
+    (record { named = names.0; tagged = tag_is_written s.portable own directives tag false names.1 })
+    (λ c e.
+    mapping_deep s own directives (suc c) place cursor start pairs (deep_column s place.column c deep root e).0 (deep_column s place.column c deep root e).1
+    in_flow names bodies)
+
+-- so all of them fit
+pub flows_fit : (s : Effective) (own directives : List TagDirective) → KeysFit s own directives → 2 ≤ s.indent → FlowsFit s own directives
+flows_fit s own directives fits deep (sequence_node start items) role column cursor may in_flow simple stands names bodies =
+    sequence_fits s own directives fits deep (block_place role column) cursor start items may in_flow names bodies
+flows_fit s own directives fits deep (mapping_node start pairs) role column cursor may in_flow simple stands names bodies =
+    mapping_fits s own directives fits deep (block_place role column) cursor start pairs may in_flow names bodies
+flows_fit s own directives fits deep (alias_node name) role column cursor may in_flow simple stands names bodies = absurd (false≢true in_flow)
+flows_fit s own directives fits deep (scalar_node content) role column cursor may in_flow simple stands names bodies = absurd (false≢true in_flow)

@@ -1,0 +1,245 @@
+-- A document's directives, as they are written, are lines that are read as these directives.
+use Rattle.std.proofs.Common.{◌≡◌, refl, sym, ap, ◌∙◌, inl, inr, append_assoc, append-nil, arith, int_eq}
+use Rattle.std.proofs.lemmas.Bool.{false≢true, eqb-true, and_parts, and_from, or_from, not-true}
+use Rattle.std.proofs.lemmas.Bool.Decides.{nat_tests}
+use Rattle.std.proofs.lemmas.List.Splits.{slice_split-cons_yes, slice_split-cons_no}
+use Rattle.std.proofs.lemmas.List.Sums.{fold-append}
+use Rattle.std.proofs.lemmas.List.Folds.{list_all-append}
+use Rattle.std.specs.List.{list_all, slice_split, onto_first}
+use Rattle.std.specs.Str.{all_scalars}
+use Rattle.std.specs.Prelude.{ℕ, ℤ, pos, negsuc, Bool, true, false, Option, None, Some, List, [], ◌∷◌, ◌++◌, ◌==◌, ◌||◌, ◌&&◌, not, codes, fold, option_and_then, if◌then◌else◌}
+use Rattle.yaml_base.specs.Characters.{Text, space, line_feed, is_space, is_alpha, is_blank, is_break}
+use Rattle.yaml_base.specs.Event.{Version, TagDirective, DocumentStart}
+use Rattle.yaml_base.specs.Percent.{percent_escaped, prefix_escaped, is_tag_character, character_written, percent_sign}
+use Rattle.yaml_base.specs.ReadPercent.{is_uri_character, percent_read}
+use Rattle.yaml_base.specs.ReadTags.{closes_handle, is_handle_text, prefix_said, is_given}
+use Rattle.yaml_base.specs.Tags.{tag_mark, prefix_fault, handle_fault, next_directive_fault, directive_fault, gives_handle, duplicate_directive, incompatible_version, directives_fault_after, version_fault, directives_fault}
+use Rattle.yaml_base.specs.Meaning.{directive_scalars}
+use Rattle.yaml_base.specs.StreamLines.{Line}
+use Rattle.yaml_base.specs.Layout.{version_text}
+use Rattle.yaml_base.specs.StreamDocuments.{Heading, with_directive, directive_by_words, directive_line, heading_of, no_heading, version_said, with_version}
+use Rattle.yaml_base.proofs.PercentLaws.{escaped_stands, stands_in_prefix, prefix_stands, prefix_begins, decoded_prefix, character_stands}
+use Rattle.yaml_base.proofs.TagLaws.{IsHandle, handle_form, handle_ends_no_word, neither, not_given}
+use Rattle.yaml_base.proofs.StreamProperties.{holds_white, has_no_space, no_white_no_space}
+use Rattle.yaml_base.proofs.StreamTags.{uri_text, uri_character}
+
+-- Words
+
+-- a word before a space
+split_word : (word rest : Text) → has_no_space word ≡ true → slice_split is_space (word ++ (space ∷ rest)) ≡ word ∷ slice_split is_space rest
+split_word [] rest h = slice_split-cons_yes is_space space rest refl
+split_word (c ∷ word) rest h =
+    let parts = and_parts (not (c == space)) (has_no_space word) h in
+    slice_split-cons_no is_space c (word ++ (space ∷ rest)) (not-true (c == space) parts.0) ∙ ap (onto_first c) (split_word word rest parts.1)
+
+-- the last word
+split_last : (word : Text) → has_no_space word ≡ true → slice_split is_space word ≡ word ∷ []
+split_last [] h = refl
+split_last (c ∷ word) h =
+    let parts = and_parts (not (c == space)) (has_no_space word) h in
+    slice_split-cons_no is_space c word (not-true (c == space) parts.0) ∙ ap (onto_first c) (split_last word parts.1)
+
+-- Handles
+
+closes_letters : (middle : Text) → list_all is_alpha middle ≡ true → closes_handle (middle ++ tag_mark ∷ []) ≡ true
+closes_letters [] h = refl
+closes_letters (c ∷ []) h = and_from (is_alpha c) true (and_parts (is_alpha c) true h).0 refl
+closes_letters (c ∷ d ∷ middle) h =
+    let parts = and_parts (is_alpha c) (list_all is_alpha (d ∷ middle)) h in
+    and_from (is_alpha c) (closes_handle (d ∷ (middle ++ tag_mark ∷ []))) parts.0 (closes_letters (d ∷ middle) parts.1)
+
+-- a handle without a fault is a handle to the reader
+handle_reads : (handle : Text) → IsHandle handle → is_handle_text handle ≡ true
+handle_reads handle (inl e) = ap is_handle_text e
+handle_reads handle (inr form) = ap is_handle_text form.1 ∙ by form.0 (closes_letters form.0 form.2)
+  where
+    by : (middle : Text) → closes_handle (middle ++ tag_mark ∷ []) ≡ true → is_handle_text ((tag_mark ∷ middle) ++ tag_mark ∷ []) ≡ true
+    by [] h = refl
+    by (c ∷ middle) h = h
+
+-- Prefixes
+
+-- what may stand in a prefix isn't white
+prefix_shows : (c : ℕ) → stands_in_prefix c ≡ true → (is_blank c || is_break c) ≡ false
+prefix_shows c h = grind (arith, nat_tests)
+
+pub prefix_no_white : (text : Text) → list_all stands_in_prefix text ≡ true → holds_white text ≡ false
+prefix_no_white [] h = refl
+prefix_no_white (c ∷ text) h =
+    let parts = and_parts (stands_in_prefix c) (list_all stands_in_prefix text) h in
+    or_from (is_blank c || is_break c) (holds_white text) (prefix_shows c parts.0) (prefix_no_white text parts.1)
+
+-- a `!` may begin a text of a URI
+abbrev may_be_prefix : Text → Bool
+may_be_prefix [] = false
+may_be_prefix (c ∷ rest) = (c == tag_mark || is_uri_character c) && list_all is_uri_character rest
+
+said_if : (text : Text) → may_be_prefix text ≡ true → prefix_said text ≡ percent_read text
+said_if [] h = absurd (false≢true h)
+said_if (c ∷ rest) h = ap (λ x. if x then percent_read (c ∷ rest) else None) h
+
+uri_prefix : (c : ℕ) (text : Text) → list_all is_uri_character (c ∷ text) ≡ true → may_be_prefix (c ∷ text) ≡ true
+uri_prefix c text h =
+    let parts = and_parts (is_uri_character c) (list_all is_uri_character text) h in
+    and_from (c == tag_mark || is_uri_character c) (list_all is_uri_character text) (by (c == tag_mark) parts.0) parts.1
+  where
+    by : (x : Bool) → is_uri_character c ≡ true → (x || is_uri_character c) ≡ true
+    by true h = refl
+    by false h = h
+
+-- what stands as itself at the start of a prefix may stand there
+kept_first : (portable : Bool) (c : ℕ) → ((portable && c == tag_mark) || is_tag_character c) ≡ true → (c == tag_mark || is_uri_character c) ≡ true
+kept_first portable c h = by portable (c == tag_mark) (is_tag_character c) refl h
+  where
+    by : (portable mark kept : Bool) → is_tag_character c ≡ kept → ((portable && mark) || kept) ≡ true → (mark || is_uri_character c) ≡ true
+    by portable true kept e h = refl
+    by portable false true e h = uri_character c (ap (λ x. x || c == percent_sign) e)
+    by true false false e h = absurd (false≢true h)
+    by false false false e h = absurd (false≢true h)
+
+-- a written prefix may be one
+written_prefix : (portable : Bool) (c : ℕ) (text : Text) → may_be_prefix (prefix_escaped portable (c ∷ text)) ≡ true
+written_prefix portable c text = by ((portable && c == tag_mark) || is_tag_character c) (kept_first portable c) (prefix_begins portable c text)
+  where
+    rest : list_all is_uri_character (percent_escaped text) ≡ true
+    rest = uri_text (percent_escaped text) (escaped_stands text)
+
+    by : (kept : Bool) → (kept ≡ true → (c == tag_mark || is_uri_character c) ≡ true)
+        → (d : ℕ) × (more : Text) × (character_written kept c ++ percent_escaped text ≡ d ∷ more)
+        → may_be_prefix (character_written kept c ++ percent_escaped text) ≡ true
+    by true k begins = and_from (c == tag_mark || is_uri_character c) (list_all is_uri_character (percent_escaped text)) (k refl) rest
+    by false k begins =
+        let whole : list_all is_uri_character (character_written false c ++ percent_escaped text) ≡ true =
+        list_all-append is_uri_character (character_written false c) (percent_escaped text)
+        ∙ and_from (list_all is_uri_character (character_written false c)) (list_all is_uri_character (percent_escaped text))
+        (uri_text (character_written false c) (character_stands false c (λ e. absurd (false≢true e)))) rest
+        in
+        ap may_be_prefix begins.2 ∙ uri_prefix begins.0 begins.1 (ap (list_all is_uri_character) (sym begins.2) ∙ whole)
+
+-- a written prefix of at least one character is read as it was given
+pub prefix_reads : (portable : Bool) (prefix : Text) → prefix_fault prefix ≡ None → all_scalars prefix ≡ true
+    → prefix_said (prefix_escaped portable prefix) ≡ Some prefix
+prefix_reads portable [] some scalars = absurd (cc)
+prefix_reads portable (c ∷ rest) some scalars =
+    said_if (prefix_escaped portable (c ∷ rest)) (written_prefix portable c rest) ∙ decoded_prefix portable (c ∷ rest) scalars
+
+-- Lines
+
+-- a line of one directive, without its break
+abbrev pub directive_text : (portable : Bool) → TagDirective → Text
+directive_text portable directive = codes "%TAG" ++ (space ∷ (directive.handle ++ (space ∷ prefix_escaped portable directive.prefix)))
+
+-- its words
+directive_words : (portable : Bool) (directive : TagDirective) → handle_fault directive.handle ≡ None
+    → slice_split is_space (directive_text portable directive) ≡ codes "%TAG" ∷ directive.handle ∷ prefix_escaped portable directive.prefix ∷ []
+directive_words portable directive sound =
+    let prefix = prefix_escaped portable directive.prefix in
+    split_word (codes "%TAG") (directive.handle ++ (space ∷ prefix)) refl
+    ∙ ap (λ (words : List Text). codes "%TAG" ∷ words)
+    (split_word directive.handle prefix (no_white_no_space directive.handle (handle_ends_no_word directive.handle (handle_form directive.handle sound)))
+    ∙ ap (λ (words : List Text). directive.handle ∷ words)
+    (split_last prefix (no_white_no_space prefix (prefix_no_white prefix (prefix_stands portable directive.prefix)))))
+
+-- a directive without a fault whose handle isn't given yet is read after those before it
+directive_reads : (portable : Bool) (version : Option Version) (before : List TagDirective) (directive : TagDirective) (ending : Text)
+    → next_directive_fault before directive ≡ None → directive_scalars directive ≡ true
+    → directive_line (Some (record { version = version; directives = before })) (record { text = directive_text portable directive; ending = ending })
+    ≡ Some (record { version = version; directives = before ++ directive ∷ [] })
+directive_reads portable version before directive ending sound scalars =
+    let both = neither (directive_fault directive) (if gives_handle directive.handle before then Some duplicate_directive else None) sound in
+    let parts = neither (handle_fault directive.handle) (prefix_fault directive.prefix) both.0 in
+    let fresh = not_given (gives_handle directive.handle before) duplicate_directive both.1 in
+    let made : Heading = record { version = version; directives = before } in
+    ap (directive_by_words made) (directive_words portable directive parts.0)
+    ∙ ap (with_directive made directive.handle) (prefix_reads portable directive.prefix parts.1 scalars)
+    ∙ ap (λ x. if x && not (is_given directive.handle before) then with_prefix else None) (handle_reads directive.handle (handle_form directive.handle parts.0))
+    ∙ ap (λ x. if not x then with_prefix else None) fresh
+  where
+    with_prefix : Option Heading
+    with_prefix = Some (record { version = version; directives = before ++ directive ∷ [] })
+
+-- the lines of some directives
+abbrev pub tag_lines : (portable : Bool) → List TagDirective → List Line
+tag_lines portable [] = []
+tag_lines portable (directive ∷ rest) = record { text = directive_text portable directive; ending = line_feed ∷ [] } ∷ tag_lines portable rest
+
+-- directives without a fault are read after those before them
+tags_read : (portable : Bool) (version : Option Version) (before directives : List TagDirective) → directives_fault_after before directives ≡ None
+    → list_all directive_scalars directives ≡ true
+    → fold directive_line (Some (record { version = version; directives = before })) (tag_lines portable directives)
+    ≡ Some (record { version = version; directives = before ++ directives })
+tags_read portable version before [] sound scalars =
+    ap (λ (all : List TagDirective). let made : Option Heading = Some (record { version = version; directives = all }) in made) (sym (append-nil before))
+tags_read portable version before (directive ∷ rest) sound scalars =
+    let both = neither (next_directive_fault before directive) (directives_fault_after (before ++ directive ∷ []) rest) sound in
+    let texts = and_parts (directive_scalars directive) (list_all directive_scalars rest) scalars in
+    ap (λ (heading : Option Heading). fold directive_line heading (tag_lines portable rest))
+    (directive_reads portable version before directive (line_feed ∷ []) both.0 texts.0)
+    ∙ tags_read portable version (before ++ directive ∷ []) rest both.1 texts.1
+    ∙ ap (λ (all : List TagDirective). let made : Option Heading = Some (record { version = version; directives = all }) in made)
+    (append_assoc before (directive ∷ []) rest)
+
+-- Versions
+
+-- the tests of a version that passed
+version_tests : (a b c : Bool) → ◌≡◌ {A = Option ℕ} (if a && (b || c) then None else Some incompatible_version) None → (a ≡ true) × ((b || c) ≡ true)
+version_tests true true c h = (refl, refl)
+version_tests true false true h = (refl, refl)
+version_tests true false false h = absurd (cc)
+version_tests false b c h = absurd (cc)
+
+-- a version without a fault is read as it was given
+version_reads : (version : Version) → version_fault version ≡ None → version_said (version_text version) ≡ Some version
+version_reads version h = by version.major version.minor h
+  where
+    made : ℤ → ℤ → Version
+    made major minor = record { major = major; minor = minor }
+
+    minor_two : (m : ℕ) → (1 == m || 2 == m) ≡ true → version_said (version_text (made (pos 1) (pos m))) ≡ Some (made (pos 1) (pos m))
+    minor_two m h = at (1 == m) refl h
+      where
+        at : (x : Bool) → (1 == m) ≡ x → (x || 2 == m) ≡ true → version_said (version_text (made (pos 1) (pos m))) ≡ Some (made (pos 1) (pos m))
+        at true e h = let f : 1 ≡ m = eqb-true 1 m e in rw (← f) refl
+        at false e h = let f : 2 ≡ m = eqb-true 2 m h in rw (← f) refl
+
+    by : (major minor : ℤ) → version_fault (made major minor) ≡ None → version_said (version_text (made major minor)) ≡ Some (made major minor)
+    by (negsuc a) minor h = absurd (cc)
+    by (pos a) (negsuc b) h = absurd (false≢true (version_tests (1 == a) false false h).1)
+    by (pos a) (pos b) h =
+        let tests = version_tests (1 == a) (1 == b) (2 == b) h in
+        let e : 1 ≡ a = eqb-true 1 a tests.0 in
+        rw (← e) (minor_two b tests.1)
+
+-- the line of a version, if there is one
+abbrev pub version_lines : Option Version → List Line
+version_lines None = []
+version_lines (Some version) = record { text = codes "%YAML" ++ (space ∷ version_text version); ending = line_feed ∷ [] } ∷ []
+
+-- it is read as the version
+version_read : (version : Option Version) → option_and_then version_fault version ≡ None
+    → heading_of (version_lines version) ≡ Some (record { version = version; directives = [] })
+version_read None sound = refl
+version_read (Some version) sound =
+    ap (directive_by_words no_heading) (words (int_eq version.minor (pos 2)))
+    ∙ ap (with_version no_heading) (version_reads version sound)
+  where
+    words : (x : Bool)
+        → slice_split is_space (codes "%YAML" ++ (space ∷ (if x then codes "1.2" else codes "1.1")))
+        ≡ codes "%YAML" ∷ (if x then codes "1.2" else codes "1.1") ∷ []
+    words true = refl
+    words false = refl
+
+-- Headings
+
+-- the lines of a document's version and directives
+abbrev pub heading_lines : (portable : Bool) → DocumentStart → List Line
+heading_lines portable start = version_lines start.version ++ tag_lines portable start.directives
+
+-- they are read as the version and the directives
+pub heading_reads : (portable : Bool) (start : DocumentStart) → option_and_then version_fault start.version ≡ None
+    → directives_fault start.directives ≡ None → list_all directive_scalars start.directives ≡ true
+    → heading_of (heading_lines portable start) ≡ Some (record { version = start.version; directives = start.directives })
+heading_reads portable start version directives scalars =
+    fold-append directive_line (Some no_heading) (version_lines start.version) (tag_lines portable start.directives)
+    ∙ ap (λ (heading : Option Heading). fold directive_line heading (tag_lines portable start.directives)) (version_read start.version version)
+    ∙ tags_read portable start.version [] start.directives directives scalars

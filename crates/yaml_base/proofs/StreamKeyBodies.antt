@@ -1,0 +1,223 @@
+-- The body of a simple key: its value has no break and no fold stands in it, so that its text is the value's characters, each as
+-- its style writes it, on one line.
+use Rattle.std.proofs.Common.{◌≡◌, zero, suc, refl, sym, ap, ◌∙◌, append_assoc, append-nil, arith}
+use Rattle.std.proofs.lemmas.Bool.{false≢true, or_parts, and_parts, agree_below_at, eqb-true}
+use Rattle.std.proofs.lemmas.Bool.Decides.{nat_tests}
+use Rattle.std.specs.List.{list_any, flat_map}
+use Rattle.std.specs.Prelude.{ℕ, Bool, true, false, Option, None, Some, List, [], ◌∷◌, ◌++◌, ◌==◌, ◌||◌, ◌&&◌, ◌/◌, ◌%◌, not, nat_le, if◌then◌else◌}
+use Rattle.yaml_base.specs.Characters.{Text, space, is_space, is_break, hex_digit, hex_digits}
+use Rattle.yaml_base.specs.LineBreaks.{is_read_break}
+use Rattle.yaml_base.specs.Settings.{Effective}
+use Rattle.yaml_base.specs.Event.{ScalarStyle, any_style, plain, single_quoted, double_quoted, literal, folded}
+use Rattle.yaml_base.specs.Cursor.{Cursor, then_laid, text_laid}
+use Rattle.yaml_base.specs.Plain.{Kind, spaces, breaks, others, is_same_kind, Run, joined_to, runs, run_text, runs_laid}
+use Rattle.yaml_base.specs.SingleQuoted.{quotes_doubled, single_quote}
+use Rattle.yaml_base.specs.DoubleQuoted.{ShortEscape, quote, short_escapes, letter_among, escape_after_backslash, escape_text, needs_escape, character_text, may_fold, double_fold, double_inside, quote_laid}
+use Rattle.yaml_base.specs.Layout.{body_laid}
+use Rattle.yaml_base.proofs.StreamLineLaws.{OneLine}
+use Rattle.yaml_base.proofs.StreamFlowScalars.{is_flow_style}
+
+-- Without folds
+
+-- how a style writes a text, character by character; a space stands for itself
+pub record Writes (written : Text → Text) (one : ℕ → Text) : Type 0 where
+  pub nothing : written [] ≡ []
+  pub more : (c : ℕ) (t : Text) → written (c ∷ t) ≡ one c ++ written t
+  pub space : (c : ℕ) → is_space c ≡ true → one c ≡ c ∷ []
+
+-- the texts of runs in which no fold stands
+abbrev run_texts : (Text → Text) → ℕ → List Run → Text
+run_texts written indent [] = []
+run_texts written indent (run ∷ more) = run_text written false indent run.kind run.text ++ run_texts written indent more
+
+-- without a limit no fold stands
+unfolded_runs : (written : Text → Text) (indent : ℕ) (edge : Bool) (all : List Run) (cursor : Cursor)
+    → (runs_laid written None indent edge all cursor).text ≡ run_texts written indent all
+unfolded_runs written indent edge [] cursor = refl
+unfolded_runs written indent edge (run ∷ more) cursor =
+    ap (λ t. run_text written false indent run.kind run.text ++ t) (unfolded_runs written indent false more _)
+
+-- a character that is no break before runs
+run_joined : (written : Text → Text) (one : ℕ → Text) (writes : Writes written one) (indent c : ℕ) (all : List Run) → is_break c ≡ false
+    → run_texts written indent (joined_to c all) ≡ one c ++ run_texts written indent all
+run_joined written one writes indent c all h = by (is_space c) refl all
+  where
+    by : (x : Bool) → is_space c ≡ x → (all : List Run) → run_texts written indent (joined_to c all) ≡ one c ++ run_texts written indent all
+    by true e [] = rw (e) (sym (ap (λ t. t ++ []) (writes.space c e)))
+    by true e (first ∷ more) = rw (e) (same first.kind)
+      where
+        same : (kind : Kind) → run_texts written indent (if is_same_kind spaces kind then record { kind = kind; text = c ∷ first.text } ∷ more else record { kind = spaces; text = c ∷ [] } ∷ record { kind = kind; text = first.text } ∷ more)
+            ≡ one c ++ (run_text written false indent kind first.text ++ run_texts written indent more)
+        same spaces = sym (ap (λ t. t ++ (first.text ++ run_texts written indent more)) (writes.space c e))
+        same breaks = sym (ap (λ t. t ++ (run_text written false indent breaks first.text ++ run_texts written indent more)) (writes.space c e))
+        same others = sym (ap (λ t. t ++ (written first.text ++ run_texts written indent more)) (writes.space c e))
+    by false e [] = rw (e, h) (ap (λ t. t ++ []) (writes.more c [] ∙ ap (λ t. one c ++ t) writes.nothing ∙ append-nil (one c)))
+    by false e (first ∷ more) = rw (e, h) (same first.kind)
+      where
+        lone : written (c ∷ []) ≡ one c
+        lone = writes.more c [] ∙ ap (λ t. one c ++ t) writes.nothing ∙ append-nil (one c)
+
+        same : (kind : Kind) → run_texts written indent (if is_same_kind others kind then record { kind = kind; text = c ∷ first.text } ∷ more else record { kind = others; text = c ∷ [] } ∷ record { kind = kind; text = first.text } ∷ more)
+            ≡ one c ++ (run_text written false indent kind first.text ++ run_texts written indent more)
+        same spaces = ap (λ t. t ++ (first.text ++ run_texts written indent more)) lone
+        same breaks = ap (λ t. t ++ (run_text written false indent breaks first.text ++ run_texts written indent more)) lone
+        same others =
+            ap (λ t. t ++ run_texts written indent more) (writes.more c first.text) ∙ append_assoc (one c) (written first.text) (run_texts written indent more)
+
+-- a value without a break is laid out as it is written
+written_alone : (written : Text → Text) (one : ℕ → Text) (writes : Writes written one) (indent : ℕ) (value : Text) → list_any is_break value ≡ false
+    → run_texts written indent (runs value) ≡ written value
+written_alone written one writes indent [] h = sym writes.nothing
+written_alone written one writes indent (c ∷ value) h =
+    let parts = or_parts (is_break c) (list_any is_break value) h in
+    run_joined written one writes indent c (runs value) parts.0
+    ∙ ap (λ t. one c ++ t) (written_alone written one writes indent value parts.1)
+    ∙ sym (writes.more c value)
+
+runs_alone : (written : Text → Text) (one : ℕ → Text) (writes : Writes written one) (indent : ℕ) (value : Text) (cursor : Cursor)
+    → list_any is_break value ≡ false → (runs_laid written None indent true (runs value) cursor).text ≡ written value
+runs_alone written one writes indent value cursor h =
+    unfolded_runs written indent true (runs value) cursor ∙ written_alone written one writes indent value h
+
+-- plain text stands for itself
+plain_writes : Writes (λ text. text) (λ c. c ∷ [])
+plain_writes = record { nothing = refl; more = λ c t. refl; space = λ c h. refl }
+
+-- in single quotes a quote stands twice
+abbrev pub quote_doubled : ℕ → Text
+quote_doubled c = if c == 39 then 39 ∷ 39 ∷ [] else c ∷ []
+
+quotes_write : Writes quotes_doubled quote_doubled
+quotes_write = record { nothing = refl; more = λ c t. refl; space = λ c h. ap quote_doubled (eqb-true c space h) ∙ ap (λ d. d ∷ []) (sym (eqb-true c space h)) }
+
+-- in double quotes each character is an escape or itself
+double_alone : (unicode : Bool) (indent : ℕ) (before : Option ℕ) (value : Text) (cursor : Cursor)
+    → (double_inside unicode None indent before value cursor).text ≡ flat_map (character_text unicode) value
+double_alone unicode indent before [] cursor = refl
+double_alone unicode indent before (c ∷ value) cursor =
+    ap (λ x. (then_laid (if x then double_fold indent value cursor else text_laid (character_text unicode c) cursor)
+    (double_inside unicode None indent (Some c) value)).text) (never (is_space c && may_fold before value))
+    ∙ ap (λ t. character_text unicode c ++ t) (double_alone unicode indent (Some c) value (text_laid (character_text unicode c) cursor).cursor)
+  where
+    never : (x : Bool) → (x && false) ≡ false
+    never true = refl
+    never false = refl
+
+-- the body of a simple key
+abbrev pub key_body : ScalarStyle → (unicode : Bool) → Text → Text
+key_body plain unicode value = value
+key_body single_quoted unicode value = 39 ∷ (quotes_doubled value ++ (39 ∷ []))
+key_body _ unicode value = quote ∷ (flat_map (character_text unicode) value ++ (quote ∷ []))
+
+-- so it is laid out
+pub body_alone : (s : Effective) (style : ScalarStyle) (indent : ℕ) (value : Text) (cursor : Cursor) → is_flow_style style ≡ true
+    → list_any is_break value ≡ false → (body_laid style s None indent value cursor).text ≡ key_body style s.unicode value
+body_alone s plain indent value cursor flow h = runs_alone (λ text. text) (λ c. c ∷ []) plain_writes indent value cursor h
+body_alone s single_quoted indent value cursor flow h =
+    ap (λ t. 39 ∷ (t ++ (39 ∷ []))) (runs_alone quotes_doubled quote_doubled quotes_write indent value (single_quote cursor).cursor h)
+body_alone s double_quoted indent value cursor flow h =
+    ap (λ t. quote ∷ (t ++ (quote ∷ []))) (double_alone s.unicode indent None value (quote_laid cursor).cursor)
+body_alone s any_style indent value cursor flow h =
+    ap (λ t. quote ∷ (t ++ (quote ∷ []))) (double_alone s.unicode indent None value (quote_laid cursor).cursor)
+body_alone s literal indent value cursor flow h = absurd (false≢true flow)
+body_alone s folded indent value cursor flow h = absurd (false≢true flow)
+
+-- On one line
+
+-- what breaks no line in a value breaks none that is read
+break_line : (breaks12 : Bool) (c : ℕ) → is_break c ≡ false → is_read_break breaks12 c ≡ false
+break_line true c h = grind (arith, nat_tests, h)
+break_line false c h = grind (arith, nat_tests, h)
+
+pub unbroken_line : (breaks12 : Bool) (text : Text) → list_any is_break text ≡ false → OneLine breaks12 text
+unbroken_line breaks12 [] h = refl
+unbroken_line breaks12 (c ∷ text) h =
+    let parts = or_parts (is_break c) (list_any is_break text) h in
+    ap (λ x. x || list_any (is_read_break breaks12) text) (break_line breaks12 c parts.0) ∙ unbroken_line breaks12 text parts.1
+
+-- two texts without a break
+unbroken_both : (a b : Text) → list_any is_break a ≡ false → list_any is_break b ≡ false → list_any is_break (a ++ b) ≡ false
+unbroken_both [] b h k = k
+unbroken_both (c ∷ a) b h k =
+    let parts = or_parts (is_break c) (list_any is_break a) h in ap (λ x. x || list_any is_break (a ++ b)) parts.0 ∙ unbroken_both a b parts.1 k
+
+-- a text of which each character is written without a break
+unbroken_each : (one : ℕ → Text) → ((c : ℕ) → is_break c ≡ false → list_any is_break (one c) ≡ false) → (value : Text)
+    → list_any is_break value ≡ false → list_any is_break (flat_map one value) ≡ false
+unbroken_each one each [] h = refl
+unbroken_each one each (c ∷ value) h =
+    let parts = or_parts (is_break c) (list_any is_break value) h in
+    unbroken_both (one c) (flat_map one value) (each c parts.0) (unbroken_each one each value parts.1)
+
+-- the letters of escapes are no breaks
+abbrev unbroken_letters : List ShortEscape → Bool
+unbroken_letters [] = true
+unbroken_letters (entry ∷ more) = not (is_break entry.letter) && unbroken_letters more
+
+unbroken_letter : (table : List ShortEscape) (c : ℕ) → unbroken_letters table ≡ true → (letter : ℕ) → letter_among table c ≡ Some letter
+    → list_any is_break (letter ∷ []) ≡ false
+unbroken_letter [] c h letter e = cc
+unbroken_letter (entry ∷ more) c h letter e =
+    let parts = and_parts (not (is_break entry.letter)) (unbroken_letters more) h in
+    by (c == entry.character) (no_break (is_break entry.letter) parts.0) (unbroken_letter more c parts.1 letter) e
+  where
+    no_break : (x : Bool) → not x ≡ true → (x || false) ≡ false
+    no_break true h = absurd (false≢true h)
+    no_break false h = refl
+
+    by : (b : Bool) → list_any is_break (entry.letter ∷ []) ≡ false
+        → (letter_among more c ≡ Some letter → list_any is_break (letter ∷ []) ≡ false)
+        → (if b then Some entry.letter else letter_among more c) ≡ Some letter → list_any is_break (letter ∷ []) ≡ false
+    by true here later e = let same : entry.letter ≡ letter = cc in rw (← same) here
+    by false here later e = later e
+
+-- nor are digits
+unbroken_digits : (count n : ℕ) → list_any is_break (hex_digits count n) ≡ false
+unbroken_digits zero n = refl
+unbroken_digits (suc count) n =
+    unbroken_both (hex_digits count (n / 16)) (hex_digit (n % 16) ∷ []) (unbroken_digits count (n / 16))
+    (ap (λ x. x || false) (agree_below_at (λ d. is_break (hex_digit d)) (λ d. false) 16 (n % 16) refl (omega arith)))
+
+unbroken_number : (c : ℕ) (two four : Bool)
+    → list_any is_break (if two then 120 ∷ hex_digits 2 c else (if four then 117 ∷ hex_digits 4 c else 85 ∷ hex_digits 8 c)) ≡ false
+unbroken_number c true four = unbroken_digits 2 c
+unbroken_number c false true = unbroken_digits 4 c
+unbroken_number c false false = unbroken_digits 8 c
+
+unbroken_after : (c : ℕ) (found : Option ℕ) → letter_among short_escapes c ≡ found → list_any is_break (escape_after_backslash found c) ≡ false
+unbroken_after c (Some letter) e = unbroken_letter short_escapes c refl letter e
+unbroken_after c None e = unbroken_number c (nat_le c 0xFF) (nat_le c 0xFFFF)
+
+-- a character in double quotes is written without a break
+unbroken_character : (unicode : Bool) (c : ℕ) → is_break c ≡ false → list_any is_break (character_text unicode c) ≡ false
+unbroken_character unicode c h = by (needs_escape unicode c)
+  where
+    by : (x : Bool) → list_any is_break (if x then escape_text c else c ∷ []) ≡ false
+    by true = unbroken_after c (letter_among short_escapes c) refl
+    by false = ap (λ x. x || false) h
+
+unbroken_quote : (c : ℕ) → is_break c ≡ false → list_any is_break (quote_doubled c) ≡ false
+unbroken_quote c h = by (c == 39)
+  where
+    by : (x : Bool) → list_any is_break (if x then 39 ∷ 39 ∷ [] else c ∷ []) ≡ false
+    by true = refl
+    by false = ap (λ x. x || false) h
+
+doubled_each : (value : Text) → quotes_doubled value ≡ flat_map quote_doubled value
+doubled_each [] = refl
+doubled_each (c ∷ value) = ap (λ t. quote_doubled c ++ t) (doubled_each value)
+
+quoted_unbroken : (unicode : Bool) (value : Text) → list_any is_break value ≡ false → list_any is_break (key_body double_quoted unicode value) ≡ false
+quoted_unbroken unicode value h =
+    unbroken_both (flat_map (character_text unicode) value) (quote ∷ []) (unbroken_each (character_text unicode) (unbroken_character unicode) value h) refl
+
+-- the body of a simple key has no break
+pub key_unbroken : (style : ScalarStyle) (unicode : Bool) (value : Text) → list_any is_break value ≡ false → list_any is_break (key_body style unicode value)
+    ≡ false
+key_unbroken plain unicode value h = h
+key_unbroken single_quoted unicode value h =
+    unbroken_both (quotes_doubled value) (39 ∷ []) (ap (list_any is_break) (doubled_each value) ∙ unbroken_each quote_doubled unbroken_quote value h) refl
+key_unbroken double_quoted unicode value h = quoted_unbroken unicode value h
+key_unbroken any_style unicode value h = quoted_unbroken unicode value h
+key_unbroken literal unicode value h = quoted_unbroken unicode value h
+key_unbroken folded unicode value h = quoted_unbroken unicode value h

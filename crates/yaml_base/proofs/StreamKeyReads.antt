@@ -1,0 +1,237 @@
+-- A simple key after its anchor and its tag is read as its tree, and no `:` inside it ends a key earlier.
+use Rattle.std.proofs.Common.{◌≡◌, refl, sym, ap, ◌∙◌, append_assoc, subst}
+use Rattle.std.proofs.lemmas.Bool.{true≢false, false≢true, eqb-true, and_parts}
+use Rattle.std.specs.Prelude.{ℕ, Bool, true, false, Option, None, Some, [], ◌∷◌, ◌++◌, ◌==◌, ◌&&◌, not, nat_le, length, option_map, option_and_then, if◌then◌else◌}
+use Rattle.yaml_base.specs.Characters.{Text, space}
+use Rattle.yaml_base.specs.Event.{plain, single_quoted, double_quoted}
+use Rattle.yaml_base.specs.ReadTags.{TagSaid}
+use Rattle.yaml_base.specs.ReadPlain.{read_plain}
+use Rattle.yaml_base.specs.ReadSingle.{read_single}
+use Rattle.yaml_base.specs.ReadDouble.{read_double}
+use Rattle.yaml_base.specs.TidyBodies.{is_tidy}
+use Rattle.yaml_base.specs.StreamContent.{stood_quoted, Tree, sequence_tree, mapping_tree, no_trees, no_tree_pairs}
+use Rattle.yaml_base.specs.StreamLines.{ends_sign}
+use Rattle.yaml_base.specs.StreamScalars.{Rules, Properties, scalar_said, scalar_of_style, an_alias, empty_sequence, empty_mapping, a_scalar, kind_of_word, word_by_kind, word_after, word_read}
+use Rattle.yaml_base.specs.StreamFlow.{is_alias, longest_key}
+use Rattle.yaml_base.specs.StreamNodes.{key_of_text, word_of_alias, without_last_space}
+use Rattle.yaml_base.proofs.StreamTidyLaws.{tidy_at_root}
+use Rattle.yaml_base.proofs.StreamCuts.{double_quoted_whole, single_quoted_whole}
+use Rattle.yaml_base.proofs.StreamKeys.{NoKey, no_alias_before, key_by_word}
+use Rattle.yaml_base.proofs.StreamPlainKeys.{Begins, plain_kind, plain_style, plain_no_key, reads_plain}
+use Rattle.yaml_base.proofs.StreamProperties.{begins_content}
+use Rattle.yaml_base.proofs.StreamPropertyWords.{lead}
+use Rattle.yaml_base.proofs.StreamStands.{tag_meant}
+use Rattle.yaml_base.proofs.StreamFlowWords.{Given, given_reads, scalar_in, scalar_meant, double_kind, single_kind, tag_of_collection}
+use Rattle.yaml_base.proofs.StreamNoKeys.{nowhere_then, reads_alias, alias_left, other_kept, kind_other, tag_no_alias, anchor_no_alias, lead_nowhere}
+
+-- Words after properties
+
+-- a text that doesn't begin with `*` is no alias
+not_star : (c : ℕ) (t : Text) → (c == 0x2A) ≡ false → kind_of_word (c ∷ t) ≡ an_alias → ⊥
+not_star c [] h e = by (c == 0x2A) h e
+  where
+    by : (x : Bool) → x ≡ false → (if x then an_alias else a_scalar) ≡ an_alias → ⊥
+    by true h e = true≢false h
+    by false h e = cc
+not_star c (d ∷ []) h e = by (c == 0x2A) (c == 0x5B && d == 0x5D) (c == 0x7B && d == 0x7D) h e
+  where
+    by : (x y z : Bool) → x ≡ false
+        → (if x then an_alias else (if y then empty_sequence else (if z then empty_mapping else a_scalar))) ≡ an_alias → ⊥
+    by true y z h e = true≢false h
+    by false true z h e = cc
+    by false false true h e = cc
+    by false false false h e = cc
+not_star c (d ∷ f ∷ t) h e = by (c == 0x2A) h e
+  where
+    by : (x : Bool) → x ≡ false → (if x then an_alias else a_scalar) ≡ an_alias → ⊥
+    by true h e = true≢false h
+    by false h e = cc
+
+-- so it is none after properties
+content_other : (rules : Rules) (properties : Properties) (c : ℕ) (t : Text) → (c == 0x2A) ≡ false
+    → reads_alias (word_after rules false None properties (c ∷ t)) ≡ false
+content_other rules properties c t star = kind_other (kind_of_word (c ∷ t)) rules false properties (c ∷ t) (not_star c t star)
+
+-- no alias stands before the last space
+lead_no_alias : (rules : Rules) (anchor tag : Option Text) (said : Option TagSaid) (c : ℕ) (t : Text) → Given rules anchor tag said
+    → begins_content (c ∷ t) ≡ true → (c == 0x2A) ≡ false → option_and_then (word_of_alias rules) (without_last_space (lead anchor tag ++ (c ∷ t))) ≡ None
+lead_no_alias rules None None None c t given own star =
+    no_alias_before rules c t (no_space (c == space) (and_parts (not (c == space)) (not (c == 0x26) && not (c == 0x21)) own).0)
+    (λ u. alias_left (word_read rules false (c ∷ u))
+    (ap reads_alias (given_reads rules false None None None (c ∷ u) given own) ∙ content_other rules (record { anchor = None; tag = None }) c u star))
+  where
+    no_space : (x : Bool) → not x ≡ true → x ≡ false
+    no_space true h = absurd (false≢true h)
+    no_space false h = refl
+lead_no_alias rules (Some name) None said c t given own star =
+    no_alias_before rules 0x26 ((name ++ (space ∷ [])) ++ (c ∷ t)) refl (anchor_no_alias rules)
+lead_no_alias rules (Some name) (Some tag) said c t given own star =
+    no_alias_before rules 0x26 (((name ++ (space ∷ tag)) ++ (space ∷ [])) ++ (c ∷ t)) refl (anchor_no_alias rules)
+lead_no_alias rules None (Some tag) (Some said) c t given own star =
+    subst (λ b. option_and_then (word_of_alias rules) (without_last_space ((b ++ (space ∷ [])) ++ (c ∷ t))) ≡ None) (sym given.tagged.begins)
+    (no_alias_before rules 0x21 ((given.tagged.rest ++ (space ∷ [])) ++ (c ∷ t)) refl (tag_no_alias rules))
+lead_no_alias rules None (Some tag) None c t given own star = absurd given.tagged
+lead_no_alias rules None None (Some said) c t given own star = absurd given.tagged
+
+-- a text after properties is a key where it is a word after them
+lead_key_text : (rules : Rules) (anchor tag : Option Text) (said : Option TagSaid) (c : ℕ) (t : Text) (read : Option Tree) → Given rules anchor tag said
+    → begins_content (c ∷ t) ≡ true → (c == 0x2A) ≡ false → word_after rules false None (record { anchor = anchor; tag = said }) (c ∷ t) ≡ read
+    → key_of_text rules (lead anchor tag ++ (c ∷ t)) ≡ (if nat_le (length (lead anchor tag ++ (c ∷ t))) longest_key then read else None)
+lead_key_text rules anchor tag said c t read given own star e =
+    key_by_word rules (lead anchor tag ++ (c ∷ t)) read
+    (ap (option_and_then (λ tree. if is_alias tree then None else Some tree)) (given_reads rules false anchor tag said (c ∷ t) given own)
+    ∙ other_kept (word_after rules false None (record { anchor = anchor; tag = said }) (c ∷ t))
+    (content_other rules (record { anchor = anchor; tag = said }) c t star)
+    ∙ e)
+    (lead_no_alias rules anchor tag said c t given own star)
+
+-- where it is none it is no key
+lead_no_text : (rules : Rules) (anchor tag : Option Text) (said : Option TagSaid) (c : ℕ) (t : Text) → Given rules anchor tag said
+    → begins_content (c ∷ t) ≡ true → (c == 0x2A) ≡ false → word_after rules false None (record { anchor = anchor; tag = said }) (c ∷ t) ≡ None
+    → key_of_text rules (lead anchor tag ++ (c ∷ t)) ≡ None
+lead_no_text rules anchor tag said c t given own star none =
+    lead_key_text rules anchor tag said c t None given own star none ∙ neither (nat_le (length (lead anchor tag ++ (c ∷ t))) longest_key)
+  where
+    neither : (x : Bool) → ◌≡◌ {A = Option Tree} (if x then None else None) None
+    neither true = refl
+    neither false = refl
+
+-- where it is one that isn't too long it is a key
+lead_text : (rules : Rules) (anchor tag : Option Text) (said : Option TagSaid) (c : ℕ) (t : Text) (tree : Tree) → Given rules anchor tag said
+    → begins_content (c ∷ t) ≡ true → (c == 0x2A) ≡ false → word_after rules false None (record { anchor = anchor; tag = said }) (c ∷ t) ≡ Some tree
+    → nat_le (length (lead anchor tag ++ (c ∷ t))) longest_key ≡ true → key_of_text rules (lead anchor tag ++ (c ∷ t)) ≡ Some tree
+lead_text rules anchor tag said c t tree given own star e short =
+    lead_key_text rules anchor tag said c t (Some tree) given own star e ∙ ap (λ x. if x then Some tree else None) short
+
+-- what a text after properties is to a line
+pub record KeyRead (rules : Rules) (text : Text) (tree : Tree) : Type 0 where
+  pub clear : (after : Text) → NoKey rules [] text after
+  pub reads : key_of_text rules text ≡ Some tree
+
+-- Quotes
+
+-- of a word in quotes that doesn't read nothing is said
+nothing_said_quoted : (properties : Properties) (x : Bool) → ◌≡◌ {A = Option Tree} (scalar_said properties stood_quoted (if x then None else None)) None
+nothing_said_quoted properties true = refl
+nothing_said_quoted properties false = refl
+
+double_no_text : (rules : Rules) (anchor tag : Option Text) (said : Option TagSaid) (b : Text) → Given rules anchor tag said
+    → read_double rules.breaks12 (0x22 ∷ b) ≡ None → key_of_text rules (lead anchor tag ++ (0x22 ∷ b)) ≡ None
+double_no_text rules anchor tag said b given none =
+    lead_no_text rules anchor tag said 0x22 b given refl refl
+    (ap (λ kind. word_by_kind kind rules false None (record { anchor = anchor; tag = said }) (0x22 ∷ b)) (double_kind b)
+    ∙ ap (λ v. scalar_said (record { anchor = anchor; tag = said }) stood_quoted (if is_tidy double_quoted rules.breaks12 None
+    (0x22 ∷ b) then v else None)) none
+    ∙ nothing_said_quoted (record { anchor = anchor; tag = said }) (is_tidy double_quoted rules.breaks12 None (0x22 ∷ b)))
+
+double_no_key : (rules : Rules) (anchor tag : Option Text) (said : Option TagSaid) (b t after v : Text) → Given rules anchor tag said
+    → read_double rules.breaks12 ((0x22 ∷ b) ++ t) ≡ Some v → NoKey rules (lead anchor tag ++ (0x22 ∷ b)) t after
+double_no_key rules anchor tag said b [] after v given read = tt
+double_no_key rules anchor tag said b (c ∷ t) after v given read = (
+  λ h. double_no_text rules anchor tag said b given (double_quoted_whole rules.breaks12 (0x22 ∷ b) c t v read),
+  subst (λ u. NoKey rules u t after) (sym (append_assoc (lead anchor tag) (0x22 ∷ b) (c ∷ [])))
+      (double_no_key rules anchor tag said (b ++ (c ∷ [])) t after v given (ap (read_double rules.breaks12) (append_assoc (0x22 ∷ b) (c ∷ []) t) ∙ read)),
+)
+
+single_no_text : (rules : Rules) (anchor tag : Option Text) (said : Option TagSaid) (b : Text) → Given rules anchor tag said
+    → read_single rules.breaks12 (0x27 ∷ b) ≡ None → key_of_text rules (lead anchor tag ++ (0x27 ∷ b)) ≡ None
+single_no_text rules anchor tag said b given none =
+    lead_no_text rules anchor tag said 0x27 b given refl refl
+    (ap (λ kind. word_by_kind kind rules false None (record { anchor = anchor; tag = said }) (0x27 ∷ b)) (single_kind b)
+    ∙ ap (λ v. scalar_said (record { anchor = anchor; tag = said }) stood_quoted (if is_tidy single_quoted rules.breaks12 None
+    (0x27 ∷ b) then v else None)) none
+    ∙ nothing_said_quoted (record { anchor = anchor; tag = said }) (is_tidy single_quoted rules.breaks12 None (0x27 ∷ b)))
+
+single_no_key : (rules : Rules) (anchor tag : Option Text) (said : Option TagSaid) (b t after v : Text) → Given rules anchor tag said
+    → read_single rules.breaks12 ((0x27 ∷ b) ++ t) ≡ Some v → NoKey rules (lead anchor tag ++ (0x27 ∷ b)) t after
+single_no_key rules anchor tag said b [] after v given read = tt
+single_no_key rules anchor tag said b (c ∷ t) after v given read = (
+  λ h. single_no_text rules anchor tag said b given
+      (single_quoted_whole rules.breaks12 (0x27 ∷ b) c t v
+      (ap (λ n. n == 39) (eqb-true c 0x3A (and_parts (c == 0x3A) (ends_sign (t ++ (0x3A ∷ after))) h).0)) read),
+  subst (λ u. NoKey rules u t after) (sym (append_assoc (lead anchor tag) (0x27 ∷ b) (c ∷ [])))
+      (single_no_key rules anchor tag said (b ++ (c ∷ [])) t after v given (ap (read_single rules.breaks12) (append_assoc (0x27 ∷ b) (c ∷ []) t) ∙ read)),
+)
+
+-- Keys after properties
+
+-- a key in double quotes
+pub double_key_read : (rules : Rules) (anchor tag given_tag : Option Text) (bare : Bool) (column : Option ℕ) (t v : Text)
+    → Given rules anchor tag (tag_meant given_tag bare) → is_tidy double_quoted rules.breaks12 column (0x22 ∷ t) ≡ true
+    → read_double rules.breaks12 (0x22 ∷ t) ≡ Some v → nat_le (length (lead anchor tag ++ (0x22 ∷ t))) longest_key ≡ true
+    → KeyRead rules (lead anchor tag ++ (0x22 ∷ t)) (scalar_in anchor given_tag double_quoted bare v)
+double_key_read rules anchor tag given_tag bare column t v given tidy read short = record {
+  clear = λ after.
+      nowhere_then rules [] (lead anchor tag) (0x22 ∷ t) after (lead_nowhere rules anchor tag (tag_meant given_tag bare) given.named given.tagged)
+      ((λ e. absurd (false≢true e)), double_no_key rules anchor tag (tag_meant given_tag bare) [] t after v given read);
+  reads =
+      lead_text rules anchor tag (tag_meant given_tag bare) 0x22 t (scalar_in anchor given_tag double_quoted bare v) given refl refl
+      (ap (λ kind. word_by_kind kind rules false None (record { anchor = anchor; tag = tag_meant given_tag bare }) (0x22 ∷ t)) (double_kind t)
+      ∙ scalar_meant rules false anchor given_tag double_quoted bare None (0x22 ∷ t) v (read_double rules.breaks12 (0x22 ∷ t)) (λ h. refl)
+      (tidy_at_root double_quoted rules.breaks12 column (0x22 ∷ t) tidy) read)
+      short;
+}
+
+-- one in single quotes
+pub single_key_read : (rules : Rules) (anchor tag given_tag : Option Text) (bare : Bool) (column : Option ℕ) (t v : Text)
+    → Given rules anchor tag (tag_meant given_tag bare) → is_tidy single_quoted rules.breaks12 column (0x27 ∷ t) ≡ true
+    → read_single rules.breaks12 (0x27 ∷ t) ≡ Some v → nat_le (length (lead anchor tag ++ (0x27 ∷ t))) longest_key ≡ true
+    → KeyRead rules (lead anchor tag ++ (0x27 ∷ t)) (scalar_in anchor given_tag single_quoted bare v)
+single_key_read rules anchor tag given_tag bare column t v given tidy read short = record {
+  clear = λ after.
+      nowhere_then rules [] (lead anchor tag) (0x27 ∷ t) after (lead_nowhere rules anchor tag (tag_meant given_tag bare) given.named given.tagged)
+      ((λ e. absurd (false≢true e)), single_no_key rules anchor tag (tag_meant given_tag bare) [] t after v given read);
+  reads =
+      lead_text rules anchor tag (tag_meant given_tag bare) 0x27 t (scalar_in anchor given_tag single_quoted bare v) given refl refl
+      (ap (λ kind. word_by_kind kind rules false None (record { anchor = anchor; tag = tag_meant given_tag bare }) (0x27 ∷ t)) (single_kind t)
+      ∙ scalar_meant rules false anchor given_tag single_quoted bare None (0x27 ∷ t) v (read_single rules.breaks12 (0x27 ∷ t)) (λ h. refl)
+      (tidy_at_root single_quoted rules.breaks12 column (0x27 ∷ t) tidy) read)
+      short;
+}
+
+-- a plain one
+pub plain_key_read : (rules : Rules) (anchor tag given_tag : Option Text) (column : Option ℕ) (c : ℕ) (t v : Text)
+    → Given rules anchor tag (tag_meant given_tag false) → Begins c → is_tidy plain rules.breaks12 column (c ∷ t) ≡ true
+    → read_plain rules.breaks12 false (c ∷ t) ≡ Some v → nat_le (length (lead anchor tag ++ (c ∷ t))) longest_key ≡ true
+    → KeyRead rules (lead anchor tag ++ (c ∷ t)) (scalar_in anchor given_tag plain false v)
+plain_key_read rules anchor tag given_tag column c t v given b tidy read short = record {
+  clear = λ after.
+      nowhere_then rules [] (lead anchor tag) (c ∷ t) after (lead_nowhere rules anchor tag (tag_meant given_tag false) given.named given.tagged)
+      (plain_no_key rules (lead anchor tag) (c ∷ t) after (reads_plain rules.breaks12 false c t v read).1);
+  reads =
+      lead_text rules anchor tag (tag_meant given_tag false) c t (scalar_in anchor given_tag plain false v) given own b.star
+      (ap (λ kind. word_by_kind kind rules false None (record { anchor = anchor; tag = tag_meant given_tag false }) (c ∷ t)) (plain_kind c t b)
+      ∙ ap (λ style. scalar_of_style style rules false None (record { anchor = anchor; tag = tag_meant given_tag false }) (c ∷ t)) (plain_style c t b)
+      ∙ scalar_meant rules false anchor given_tag plain false None (c ∷ t) v (read_plain rules.breaks12 false (c ∷ t)) (λ h. absurd (false≢true h))
+      (tidy_at_root plain rules.breaks12 column (c ∷ t) tidy) read)
+      short;
+}
+  where
+    own : begins_content (c ∷ t) ≡ true
+    own = rw (b.blank, b.anchor, b.tag) refl
+
+-- an empty sequence
+pub square_key_read : (rules : Rules) (anchor tag given_tag : Option Text) → Given rules anchor tag (tag_meant given_tag false)
+    → nat_le (length (lead anchor tag ++ (0x5B ∷ 0x5D ∷ []))) longest_key ≡ true
+    → KeyRead rules (lead anchor tag ++ (0x5B ∷ 0x5D ∷ [])) (sequence_tree anchor given_tag no_trees)
+square_key_read rules anchor tag given_tag given short = record {
+  clear = λ after.
+      nowhere_then rules [] (lead anchor tag) (0x5B ∷ 0x5D ∷ []) after (lead_nowhere rules anchor tag (tag_meant given_tag false) given.named given.tagged)
+      ((λ e. absurd (false≢true e)), ((λ e. absurd (false≢true e)), tt));
+  reads =
+      lead_text rules anchor tag (tag_meant given_tag false) 0x5B (0x5D ∷ []) (sequence_tree anchor given_tag no_trees) given refl refl
+      (ap (option_map (λ tag. sequence_tree anchor tag no_trees)) (tag_of_collection given_tag)) short;
+}
+
+-- an empty mapping
+pub curly_key_read : (rules : Rules) (anchor tag given_tag : Option Text) → Given rules anchor tag (tag_meant given_tag false)
+    → nat_le (length (lead anchor tag ++ (0x7B ∷ 0x7D ∷ []))) longest_key ≡ true
+    → KeyRead rules (lead anchor tag ++ (0x7B ∷ 0x7D ∷ [])) (mapping_tree anchor given_tag no_tree_pairs)
+curly_key_read rules anchor tag given_tag given short = record {
+  clear = λ after.
+      nowhere_then rules [] (lead anchor tag) (0x7B ∷ 0x7D ∷ []) after (lead_nowhere rules anchor tag (tag_meant given_tag false) given.named given.tagged)
+      ((λ e. absurd (false≢true e)), ((λ e. absurd (false≢true e)), tt));
+  reads =
+      lead_text rules anchor tag (tag_meant given_tag false) 0x7B (0x7D ∷ []) (mapping_tree anchor given_tag no_tree_pairs) given refl refl
+      (ap (option_map (λ tag. mapping_tree anchor tag no_tree_pairs)) (tag_of_collection given_tag)) short;
+}

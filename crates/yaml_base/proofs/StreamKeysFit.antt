@@ -1,0 +1,250 @@
+-- Simple keys in flow: the text of each is on one line and isn't too long.
+use Rattle.std.proofs.Common.{◌≡◌, suc, ◌≤◌, refl, sym, ap, ◌∙◌, append_assoc, append-nil, arith, subst}
+use Rattle.std.proofs.lemmas.Bool.{false≢true, le-leb, leb-true, and_parts, and_from}
+use Rattle.std.proofs.lemmas.List.{length-append, append_cancel_left, append_cancel_right}
+use Rattle.std.proofs.lemmas.Str.{length-le-encodes}
+use Rattle.std.specs.List.{list_any}
+use Rattle.std.specs.Prelude.{ℕ, Bool, true, false, None, Some, List, [], ◌∷◌, ◌++◌, ◌+◌, ◌||◌, ◌&&◌, not, is_some, nat_le, length, if◌then◌else◌}
+use Rattle.yaml_base.specs.Characters.{Text, space, is_break}
+use Rattle.yaml_base.specs.LineBreaks.{is_read_break}
+use Rattle.yaml_base.specs.Settings.{Effective}
+use Rattle.yaml_base.specs.Event.{ScalarStyle, any_style, plain, single_quoted, double_quoted, literal, folded, TagDirective, Scalar, Collection}
+use Rattle.yaml_base.specs.Cursor.{Cursor, space_if}
+use Rattle.yaml_base.specs.Analysis.{Allowances, is_empty, allowances}
+use Rattle.yaml_base.specs.Style.{style_asked, style_fitting, fits_plain}
+use Rattle.yaml_base.specs.Grammar.{alias_node, scalar_node, sequence_node, mapping_node, no_nodes, nodes_and, no_pairs, pairs_and}
+use Rattle.yaml_base.specs.Refusal.{scalar_tag, collection_tag}
+use Rattle.yaml_base.specs.Layout.{Role, is_key, byte_count, name_count, tag_count, is_short, is_simple, deeper, properties_laid, alias_laid, separation_laid, body_laid, choice_of, entry_place}
+use Rattle.yaml_base.specs.StreamContent.{Tree}
+use Rattle.yaml_base.specs.StreamScalars.{name_read}
+use Rattle.yaml_base.specs.StreamFlow.{is_alias, longest_key, key_length, is_key_text}
+use Rattle.yaml_base.proofs.StreamAgrees.{node_tree}
+use Rattle.yaml_base.proofs.StreamLineLaws.{OneLine, one_line_both}
+use Rattle.yaml_base.proofs.StreamAliasFits.{name_line}
+use Rattle.yaml_base.proofs.StreamProperties.{IsNamed, name_letters}
+use Rattle.yaml_base.proofs.StreamPropertyWords.{lead}
+use Rattle.yaml_base.proofs.StreamStands.{tag_written, tag_meant, TagStands}
+use Rattle.yaml_base.proofs.StreamLeads.{lead_laid, tag_is_written}
+use Rattle.yaml_base.proofs.StreamTexts.{scalar_own, node_own}
+use Rattle.yaml_base.proofs.StreamFlowScalars.{rules_of, is_flow_style, scalar_whole}
+use Rattle.yaml_base.proofs.StreamFlowKinds.{KeysFit, empty_whole}
+use Rattle.yaml_base.proofs.StreamBegun.{lead_line}
+use Rattle.yaml_base.proofs.StreamKeyBodies.{key_body, body_alone, unbroken_line, key_unbroken}
+use Rattle.yaml_base.proofs.StreamKeyLengths.{body_length, lead_length}
+
+-- the text of a simple key is on one line, and with a space after it not too long
+pub record KeyText (breaks12 : Bool) (text : Text) : Type 0 where
+  pub short : suc (length text) ≤ longest_key
+  pub line : OneLine breaks12 text
+
+-- such a text may be a key's in flow
+pub key_text_fits : (breaks12 : Bool) (tree : Tree) (text : Text) → KeyText breaks12 text → is_key_text breaks12 tree text ≡ true
+key_text_fits breaks12 tree text of = and_from (nat_le (key_length tree text) longest_key) (not (list_any (is_read_break breaks12) text))
+    (by (is_alias tree)) (ap not of.line)
+  where
+    by : (x : Bool) → nat_le (if x then suc (length text) else length text) longest_key ≡ true
+    by true = le-leb (suc (length text)) longest_key of.short
+    by false = let short = of.short in le-leb (length text) longest_key (omega arith)
+
+-- Styles
+
+-- in which no block style fits
+style_of_key : (allowed : Allowances) (fits block : Bool) (asked : ScalarStyle) → block ≡ false → is_flow_style (style_fitting allowed fits block asked) ≡ true
+style_of_key allowed fits block asked h = ap (λ x. is_flow_style (style_fitting allowed fits x asked)) h ∙ by fits asked
+  where
+    quotes : (x : Bool) → is_flow_style (if x then single_quoted else double_quoted) ≡ true
+    quotes true = refl
+    quotes false = refl
+
+    by : (fits : Bool) (asked : ScalarStyle) → is_flow_style (style_fitting allowed fits false asked) ≡ true
+    by true plain = refl
+    by false plain = quotes allowed.single_quoted
+    by fits single_quoted = quotes allowed.single_quoted
+    by fits literal = refl
+    by fits folded = refl
+    by fits any_style = refl
+    by fits double_quoted = refl
+
+-- the style of a simple key
+pub key_style : (s : Effective) (in_flow : Bool) (role : Role) (column : ℕ) (content : Scalar)
+    → is_flow_style (choice_of s (entry_place in_flow role column) true content).style ≡ true
+key_style s in_flow role column content =
+    let allowed = allowances (record { unicode = s.unicode; breaks12 = s.breaks12 }) content.value in
+    style_of_key allowed (fits_plain allowed (is_empty content.value) (is_some (scalar_tag s.canonical content)) content.plain_implicit in_flow true)
+    (allowed.block && not in_flow && false) (style_asked (s.canonical || (true && allowed.multiline)) content.style) (never (allowed.block && not in_flow))
+  where
+    never : (x : Bool) → (x && false) ≡ false
+    never true = refl
+    never false = refl
+
+-- Scalars
+
+-- what is asked of a scalar that is a simple key
+pub record SimpleScalar (directives : List TagDirective) (canonical : Bool) (content : Scalar) : Type 0 where
+  pub whole : list_any is_break content.value ≡ false
+  pub short : byte_count content.value + name_count content.anchor + tag_count directives (scalar_tag canonical content) ≤ 128
+
+pub simple_scalar : (canonical : Bool) (directives : List TagDirective) (content : Scalar) → is_simple canonical directives (scalar_node content) ≡ true
+    → SimpleScalar directives canonical content
+simple_scalar canonical directives content h =
+    let count = byte_count content.value + name_count content.anchor + tag_count directives (scalar_tag canonical content) in
+    let parts = and_parts (not (list_any is_break content.value)) (is_short count)
+    (and_parts (not canonical) (not (list_any is_break content.value) && is_short count) h).1 in
+    record { whole = no_break (list_any is_break content.value) parts.0; short = leb-true count 128 parts.1 }
+  where
+    no_break : (x : Bool) → not x ≡ true → x ≡ false
+    no_break true h = absurd (false≢true h)
+    no_break false h = refl
+
+-- its text, after its anchor and tag
+pub scalar_key_text : (s : Effective) (own directives : List TagDirective) (content : Scalar) (style : ScalarStyle) (bare : Bool)
+    → IsNamed content.anchor → TagStands s.portable own directives (scalar_tag s.canonical content) → SimpleScalar directives s.canonical content
+    → KeyText s.breaks12 (lead content.anchor (tag_written s.portable directives (scalar_tag s.canonical content) bare) ++ key_body style s.unicode content.value)
+scalar_key_text s own directives content style bare named stands simple =
+    let tag = scalar_tag s.canonical content in
+    let before = lead content.anchor (tag_written s.portable directives tag bare) in
+    let body = key_body style s.unicode content.value in
+    let both = length-append before body in
+    let one = lead_length s.portable directives content.anchor tag bare in
+    let two = body_length style s.unicode content.value in
+    let all = simple.short in
+    record {
+      short = omega arith;
+      line =
+          one_line_both s.breaks12 before body
+          (lead_line (rules_of s own) content.anchor (tag_written s.portable directives tag bare) (tag_meant tag bare) named
+          (tag_is_written s.portable own directives tag bare stands))
+          (unbroken_line s.breaks12 body (key_unbroken style s.unicode content.value simple.whole));
+    }
+
+-- Aliases and empty collections
+
+-- the text of an alias
+pub alias_key_text : (breaks12 : Bool) (name : Text) → name_read name ≡ Some name → byte_count name ≤ 128 → KeyText breaks12 (0x2A ∷ name)
+alias_key_text breaks12 name named short =
+    let less : length name ≤ byte_count name = length-le-encodes name in
+    record {
+      short = omega arith;
+      line = one_line_both breaks12 (0x2A ∷ []) name (star breaks12) (name_line breaks12 name (name_letters name named));
+    }
+  where
+    star : (breaks12 : Bool) → OneLine breaks12 (0x2A ∷ [])
+    star true = refl
+    star false = refl
+
+-- the text of an empty collection, after its anchor and tag
+pub empty_key_text : (s : Effective) (own directives : List TagDirective) (start : Collection) (a b : ℕ)
+    → ((breaks12 : Bool) → OneLine breaks12 (a ∷ b ∷ [])) → IsNamed start.anchor → TagStands s.portable own directives (collection_tag s.canonical start)
+    → name_count start.anchor + tag_count directives (collection_tag s.canonical start) ≤ 128
+    → KeyText s.breaks12 (lead start.anchor (tag_written s.portable directives (collection_tag s.canonical start) false) ++ (a ∷ b ∷ []))
+empty_key_text s own directives start a b line named stands short =
+    let tag = collection_tag s.canonical start in
+    let before = lead start.anchor (tag_written s.portable directives tag false) in
+    let both = length-append before (a ∷ b ∷ []) in
+    let one = lead_length s.portable directives start.anchor tag false in
+    record {
+      short = omega arith;
+      line =
+          one_line_both s.breaks12 before (a ∷ b ∷ [])
+          (lead_line (rules_of s own) start.anchor (tag_written s.portable directives tag false) (tag_meant tag false) named
+          (tag_is_written s.portable own directives tag false stands))
+          (line s.breaks12);
+    }
+
+-- brackets break no line
+pub square_line : (breaks12 : Bool) → OneLine breaks12 (0x5B ∷ 0x5D ∷ [])
+square_line true = refl
+square_line false = refl
+
+pub curly_line : (breaks12 : Bool) → OneLine breaks12 (0x7B ∷ 0x7D ∷ [])
+curly_line true = refl
+curly_line false = refl
+
+-- a collection that is a simple key is empty, and short
+pub simple_collection : (canonical empty : Bool) (count : ℕ) → (not canonical && (empty && is_short count)) ≡ true → (empty ≡ true) × (count ≤ 128)
+simple_collection canonical empty count h =
+    let parts = and_parts empty (is_short count) (and_parts (not canonical) (empty && is_short count) h).1 in (parts.0, leb-true count 128 parts.1)
+
+-- In flow
+
+-- what is laid out after a space is the key's text
+cancelled : (cursor : Cursor) (text whole laid : Text) → laid ≡ space_if true cursor ++ (text ++ []) → laid ≡ space_if true cursor ++ whole → text ≡ whole
+cancelled cursor text whole laid e f = sym (append-nil text) ∙ append_cancel_left (space_if true cursor) (text ++ []) whole (sym e ∙ f)
+
+-- a scalar's
+scalar_fits : (s : Effective) (own directives : List TagDirective) (content : Scalar) (role : Role) (column : ℕ) (cursor : Cursor) (text : Text)
+    → IsNamed content.anchor → TagStands s.portable own directives (scalar_tag s.canonical content) → SimpleScalar directives s.canonical content
+    → (scalar_own s directives (entry_place true role column) true content cursor).text ≡ space_if true cursor ++ (text ++ [])
+    → KeyText s.breaks12 text
+scalar_fits s own directives content role column cursor text named stands simple e =
+    let place = entry_place true role column in
+    let tag = scalar_tag s.canonical content in
+    let choice = choice_of s place true content in
+    let properties = properties_laid s.portable directives content.anchor tag choice.bare cursor in
+    let separation = separation_laid choice.style true content.value properties.cursor in
+    let body = (body_laid choice.style s None (deeper s.indent (Some column)) content.value separation.cursor).text in
+    subst (KeyText s.breaks12)
+    (sym (cancelled cursor text (lead content.anchor (tag_written s.portable directives tag choice.bare) ++ body)
+    (scalar_own s directives place true content cursor).text e
+    (scalar_whole s.portable directives content.anchor tag choice.bare choice.style content.value cursor body)))
+    (subst (λ t. KeyText s.breaks12 (lead content.anchor (tag_written s.portable directives tag choice.bare) ++ t))
+    (sym (body_alone s choice.style (deeper s.indent (Some column)) content.value separation.cursor (key_style s true role column content) simple.whole))
+    (scalar_key_text s own directives content choice.style choice.bare named stands simple))
+
+-- each simple key in flow
+pub keys_fit : (s : Effective) (own directives : List TagDirective) → KeysFit s own directives
+keys_fit s own directives (alias_node name) role column cursor text h names bodies e =
+    let simple = (and_parts (is_key role) (not s.canonical && is_short (byte_count name)) h).1 in
+    let short = leb-true (byte_count name) 128 (and_parts (not s.canonical) (is_short (byte_count name)) simple).1 in
+    subst (λ t. is_key_text s.breaks12 (node_tree (alias_node name) s directives (entry_place true role 0)) t ≡ true) (sym (same (sym (laid h) ∙ e)))
+    (key_text_fits s.breaks12 (node_tree (alias_node name) s directives (entry_place true role 0)) (0x2A ∷ name) (alias_key_text s.breaks12 name names short))
+  where
+    laid : (is_key role && (not s.canonical && is_short (byte_count name))) ≡ true
+        → (alias_laid name (is_key role && (not s.canonical && is_short (byte_count name))) cursor).text ≡ space_if true cursor ++
+        ((0x2A ∷ name) ++ (space ∷ []))
+    laid h =
+        ap (λ x. (alias_laid name x cursor).text) h
+        ∙ ap (λ t. t ++ (space ∷ [])) (append_assoc (space_if true cursor) (0x2A ∷ []) name)
+        ∙ append_assoc (space_if true cursor) (0x2A ∷ name) (space ∷ [])
+
+    same : space_if true cursor ++ ((0x2A ∷ name) ++ (space ∷ [])) ≡ space_if true cursor ++ (text ++ (space ∷ [])) → text ≡ 0x2A ∷ name
+    same e =
+        append_cancel_right text (0x2A ∷ name) (space ∷ [])
+        (append_cancel_left (space_if true cursor) (text ++ (space ∷ [])) ((0x2A ∷ name) ++ (space ∷ [])) (sym e))
+keys_fit s own directives (scalar_node content) role column cursor text h names bodies e =
+    key_text_fits s.breaks12 (node_tree (scalar_node content) s directives (entry_place true role 0)) text
+    (scalar_fits s own directives content role column cursor text names.0 names.1
+    (simple_scalar s.canonical directives content (and_parts (is_key role) (is_simple s.canonical directives (scalar_node content)) h).1)
+    (ap (λ x. (scalar_own s directives (entry_place true role column) x content cursor).text) (sym h) ∙ e))
+keys_fit s own directives (sequence_node start no_nodes) role column cursor text h names bodies e =
+    let tag = collection_tag s.canonical start in
+    let tree = node_tree (sequence_node start no_nodes) s directives (entry_place true role 0) in
+    let whole = lead start.anchor (tag_written s.portable directives tag false) ++ (0x5B ∷ 0x5D ∷ []) in
+    let short = (simple_collection s.canonical true (name_count start.anchor + tag_count directives tag)
+    (and_parts (is_key role) (is_simple s.canonical directives (sequence_node start no_nodes)) h).1).1 in
+    key_text_fits s.breaks12 tree text
+    (subst (KeyText s.breaks12)
+    (sym (cancelled cursor text whole (node_own (sequence_node start no_nodes) s directives (entry_place true role column) cursor).text e
+    (empty_whole (properties_laid s.portable directives start.anchor tag false cursor) cursor
+    (lead start.anchor (tag_written s.portable directives tag false)) 0x5B 0x5D
+    (lead_laid s.portable directives start.anchor tag false cursor))))
+    (empty_key_text s own directives start 0x5B 0x5D square_line names.0 names.1 short))
+keys_fit s own directives (sequence_node start (nodes_and items last)) role column cursor text h names bodies e =
+    absurd (false≢true (simple_collection s.canonical false 0 (and_parts (is_key role)
+    (is_simple s.canonical directives (sequence_node start (nodes_and items last))) h).1).0)
+keys_fit s own directives (mapping_node start no_pairs) role column cursor text h names bodies e =
+    let tag = collection_tag s.canonical start in
+    let tree = node_tree (mapping_node start no_pairs) s directives (entry_place true role 0) in
+    let whole = lead start.anchor (tag_written s.portable directives tag false) ++ (0x7B ∷ 0x7D ∷ []) in
+    let short = (simple_collection s.canonical true (name_count start.anchor + tag_count directives tag)
+    (and_parts (is_key role) (is_simple s.canonical directives (mapping_node start no_pairs)) h).1).1 in
+    key_text_fits s.breaks12 tree text
+    (subst (KeyText s.breaks12)
+    (sym (cancelled cursor text whole (node_own (mapping_node start no_pairs) s directives (entry_place true role column) cursor).text e
+    (empty_whole (properties_laid s.portable directives start.anchor tag false cursor) cursor
+    (lead start.anchor (tag_written s.portable directives tag false)) 0x7B 0x7D
+    (lead_laid s.portable directives start.anchor tag false cursor))))
+    (empty_key_text s own directives start 0x7B 0x7D curly_line names.0 names.1 short))
+keys_fit s own directives (mapping_node start (pairs_and pairs key value)) role column cursor text h names bodies e =
+    absurd (false≢true (simple_collection s.canonical false 0 (and_parts (is_key role)
+    (is_simple s.canonical directives (mapping_node start (pairs_and pairs key value))) h).1).0)

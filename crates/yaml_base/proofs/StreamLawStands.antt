@@ -1,0 +1,209 @@
+-- The law of whole streams, where each document stands and the layout's text is printable and read from its bytes.
+use Rattle.std.proofs.Common.{◌≡◌, ◌≤◌, refl, sym, ap, ◌∙◌, arith}
+use Rattle.std.proofs.lemmas.Bool.{false≢true, true≢false, and_parts, and_from, leb-true}
+use Rattle.std.specs.List.{list_all, list_any}
+use Rattle.std.specs.Prelude.{ℕ, ℤ, pos, negsuc, Bool, true, false, Option, None, Some, List, [], ◌∷◌, ◌++◌, ◌||◌, ◌&&◌, not, nat_le, is_some, is_none, option_map, unwrap_or, if◌then◌else◌}
+use Rattle.std.specs.Option.{option_or}
+use Rattle.yaml_base.specs.Characters.{is_printable}
+use Rattle.yaml_base.specs.Settings.{Encoding, Settings, Effective, effective_indent, effective}
+use Rattle.yaml_base.specs.LineBreaks.{with_breaks_written}
+use Rattle.yaml_base.specs.Event.{Event, stream_start, stream_end, document_start, document_end, scalar, sequence_start, sequence_end, mapping_start, mapping_end, Scalar}
+use Rattle.yaml_base.specs.Style.{lacks_tag_and_flags}
+use Rattle.yaml_base.specs.Grammar.{Node, alias_node, scalar_node, sequence_node, mapping_node, Nodes, no_nodes, nodes_and, Pairs, no_pairs, pairs_and, Document, Documents, no_documents, documents_and, Stream, node_events, nodes_events, pairs_events, documents_events, stream_events, tree_of}
+use Rattle.yaml_base.specs.Refusal.{scalar_tag, no_tag_nor_implicit, fault_if, name_or_tag_fault, is_sound, IsAccepted}
+use Rattle.yaml_base.specs.Layout.{Piece, text_of, layout, has_directives, is_explicit}
+use Rattle.yaml_base.specs.Pieces.{list_layout}
+use Rattle.yaml_base.specs.Output.{bytes_written}
+use Rattle.yaml_base.specs.CanonicalReader.{characters_read}
+use Rattle.yaml_base.specs.StreamContent.{DocumentTree, documents_in_order, document_agrees, documents_agree, agrees}
+use Rattle.yaml_base.specs.StreamDocuments.{documents_of}
+use Rattle.yaml_base.specs.StreamReader.{stream_trees}
+use Rattle.yaml_base.specs.StreamLaw.{is_written_as_nothing, is_lost, are_portable, document_has_flow_sign, is_portable}
+use Rattle.yaml_base.proofs.Trees.{tree_of-stream_events}
+use Rattle.yaml_base.proofs.StreamBytes.{trees_of_bytes}
+use Rattle.yaml_base.proofs.StreamAgrees.{node_is_tagged, nodes_are_tagged, pairs_are_tagged, document_tree, document_tree_agrees}
+use Rattle.yaml_base.proofs.StreamEachDocument.{AllDocuments, all_of_both, each_document}
+use Rattle.yaml_base.proofs.StreamRootsStand.{DocumentsStand}
+use Rattle.yaml_base.proofs.StreamWholeReads.{FirstWritten, document_trees, stream_reads}
+
+-- Tags
+
+-- a scalar that is accepted has a tag that is written, or a flag
+sound_scalar : (canonical : Bool) (content : Scalar) → is_sound canonical (scalar content) ≡ true
+    → not (lacks_tag_and_flags (is_some (scalar_tag canonical content)) content.plain_implicit content.quoted_implicit) ≡ true
+sound_scalar canonical content h =
+    by (name_or_tag_fault canonical (scalar content))
+    (lacks_tag_and_flags (is_some (scalar_tag canonical content)) content.plain_implicit content.quoted_implicit) h
+  where
+    by : (fault : Option ℕ) (x : Bool) → is_none (option_or fault (fault_if x no_tag_nor_implicit)) ≡ true → not x ≡ true
+    by (Some n) x h = absurd (false≢true h)
+    by None true h = absurd (false≢true h)
+    by None false h = refl
+
+-- a test on the events after the first
+after_first : (test : Event → Bool) (event : Event) (rest : List Event) → list_all test (event ∷ rest) ≡ true → list_all test rest ≡ true
+after_first test event rest h = (and_parts (test event) (list_all test rest) h).1
+
+-- each scalar of an accepted node has one
+mutual
+  sound_node : (n : Node) (canonical : Bool) → list_all (is_sound canonical) (node_events n) ≡ true → node_is_tagged canonical n ≡ true
+  sound_node (alias_node name) canonical h = refl
+  sound_node (scalar_node content) canonical h = sound_scalar canonical content (and_parts (is_sound canonical (scalar content)) true h).0
+  sound_node (sequence_node start items) canonical h =
+      sound_nodes items canonical
+      (all_of_both (is_sound canonical) (nodes_events items) (sequence_end ∷ [])
+      (after_first (is_sound canonical) (sequence_start start) (nodes_events items ++ (sequence_end ∷ [])) h)).0
+  sound_node (mapping_node start pairs) canonical h =
+      sound_pairs pairs canonical
+      (all_of_both (is_sound canonical) (pairs_events pairs) (mapping_end ∷ [])
+      (after_first (is_sound canonical) (mapping_start start) (pairs_events pairs ++ (mapping_end ∷ [])) h)).0
+
+  sound_nodes : (items : Nodes) (canonical : Bool) → list_all (is_sound canonical) (nodes_events items) ≡ true → nodes_are_tagged canonical items ≡ true
+  sound_nodes no_nodes canonical h = refl
+  sound_nodes (nodes_and items last) canonical h =
+      let parts = all_of_both (is_sound canonical) (nodes_events items) (node_events last) h in
+      and_from (nodes_are_tagged canonical items) (node_is_tagged canonical last) (sound_nodes items canonical parts.0) (sound_node last canonical parts.1)
+
+  sound_pairs : (pairs : Pairs) (canonical : Bool) → list_all (is_sound canonical) (pairs_events pairs) ≡ true → pairs_are_tagged canonical pairs ≡ true
+  sound_pairs no_pairs canonical h = refl
+  sound_pairs (pairs_and pairs key value) canonical h =
+      let parts = all_of_both (is_sound canonical) (pairs_events pairs) (node_events key ++ node_events value) h in
+      let both = all_of_both (is_sound canonical) (node_events key) (node_events value) parts.1 in
+      and_from (pairs_are_tagged canonical pairs && node_is_tagged canonical key) (node_is_tagged canonical value)
+      (and_from (pairs_are_tagged canonical pairs) (node_is_tagged canonical key) (sound_pairs pairs canonical parts.0) (sound_node key canonical both.0))
+      (sound_node value canonical both.1)
+
+-- so has each of each document
+abbrev IsTaggedRoot : Bool → Document → Type 0
+IsTaggedRoot canonical document = node_is_tagged canonical document.root ≡ true
+
+sound_documents : (canonical : Bool) (stream : Stream) → list_all (is_sound canonical) (stream_events stream) ≡ true
+    → AllDocuments (IsTaggedRoot canonical) (documents_in_order stream.documents)
+sound_documents canonical stream h =
+    each_document (IsTaggedRoot canonical) (is_sound canonical)
+    (λ document each. sound_node document.root canonical
+    (all_of_both (is_sound canonical) (node_events document.root) (document_end document.end_implicit ∷ [])
+    (after_first (is_sound canonical) (document_start document.start) (node_events document.root ++ (document_end document.end_implicit ∷ [])) each)).0)
+    stream.documents
+    (all_of_both (is_sound canonical) (documents_events stream.documents) (stream_end ∷ [])
+    (after_first (is_sound canonical) (stream_start stream.encoding) (documents_events stream.documents ++ (stream_end ∷ [])) h)).0
+
+-- what holds of each of two lists' documents
+pub documents_parts : (P : Document → Type 0) (some others : List Document) → AllDocuments P (some ++ others) → AllDocuments P some × AllDocuments P others
+documents_parts P [] others h = (tt, h)
+documents_parts P (document ∷ rest) others h = let parts = documents_parts P rest others h.1 in ((h.0, parts.0), parts.1)
+
+-- Agreement
+
+-- one document more agrees
+agree_more : (canonical : Bool) (some : List Document) (trees : List DocumentTree) (document : Document) (tree : DocumentTree)
+    → documents_agree canonical some trees ≡ true
+    → document_agrees canonical document tree ≡ true → documents_agree canonical (some ++ document ∷ []) (trees ++ tree ∷ []) ≡ true
+agree_more canonical [] [] document tree h k = and_from (document_agrees canonical document tree) true k refl
+agree_more canonical [] (other ∷ others) document tree h k = absurd (false≢true h)
+agree_more canonical (one ∷ rest) [] document tree h k = absurd (false≢true h)
+agree_more canonical (one ∷ rest) (other ∷ others) document tree h k =
+    let parts = and_parts (document_agrees canonical one other) (documents_agree canonical rest others) h in
+    and_from (document_agrees canonical one other) (documents_agree canonical (rest ++ document ∷ []) (others ++ tree ∷ [])) parts.0
+    (agree_more canonical rest others document tree parts.1 k)
+
+-- the trees of documents agree with them
+trees_agree : (s : Effective) (documents : Documents) → AllDocuments (IsTaggedRoot s.canonical) (documents_in_order documents)
+    → documents_agree s.canonical (documents_in_order documents) (document_trees s documents) ≡ true
+trees_agree s no_documents tagged = refl
+trees_agree s (documents_and before document) tagged =
+    let parts = documents_parts (IsTaggedRoot s.canonical) (documents_in_order before) (document ∷ []) tagged in
+    agree_more s.canonical (documents_in_order before) (document_trees s before) document (document_tree s document) (trees_agree s before parts.0)
+    (document_tree_agrees s document parts.1.0)
+
+-- Settings
+
+-- an indent is at least 2
+pub indent_deep : (indent : Option ℤ) → 2 ≤ effective_indent indent
+indent_deep None = omega arith
+indent_deep (Some (negsuc n)) = omega arith
+indent_deep (Some (pos n)) = by (nat_le 2 n) refl (nat_le n 9)
+  where
+    by : (x : Bool) → nat_le 2 n ≡ x → (y : Bool) → 2 ≤ (if x && y then n else 2)
+    by true e true = leb-true 2 n e
+    by true e false = omega arith
+    by false e y = omega arith
+
+-- no document is lost where all is read alike
+first_written : (s : Effective) (documents : List Document) → (s.portable ≡ false → is_lost s.canonical documents ≡ false) → FirstWritten s documents
+first_written s [] kept = tt
+first_written s (document ∷ rest) kept = by s.portable refl
+  where
+    none : Bool → Bool
+    none each = not (is_explicit each true document.start) && is_written_as_nothing s.canonical document.root
+
+    by : (x : Bool) → s.portable ≡ x → is_explicit (s.canonical || x) true document.start ≡ false → is_written_as_nothing s.canonical document.root ≡ false
+    by true e h = absurd (false≢true (sym h ∙ marked (not document.start.implicit) s.canonical (has_directives document.start)))
+      where
+        marked : (x y z : Bool) → (x || false || (y || true) || z) ≡ true
+        marked true y z = refl
+        marked false true z = refl
+        marked false false z = refl
+    by false e h =
+        sym (ap (λ x. not x && is_written_as_nothing s.canonical document.root) h) ∙ ap none (or_no s.canonical) ∙ kept e
+      where
+        or_no : (x : Bool) → (x || false) ≡ x
+        or_no true = refl
+        or_no false = refl
+
+-- The law
+
+-- what is asked beside the events: that each document of the stream stands, that the layout's text is printable, and that its
+-- characters are read from its bytes
+pub record StreamStands (s : Effective) (events : List Event) (stream : Stream) : Type 0 where
+  pub documents : DocumentsStand s stream.documents
+  pub printable : list_all is_printable (text_of (list_layout s events)) ≡ true
+  pub characters : characters_read (bytes_written s (list_layout s events)) ≡ Some (with_breaks_written s.line_break (text_of (list_layout s events)))
+
+-- the layout of a whole stream's events
+pub stream_layout : (s : Effective) (events : List Event) (stream : Stream) → stream_events stream ≡ events → list_layout s events ≡ layout s stream
+stream_layout s events stream is = ap (list_layout s) (sym is) ∙ ap (λ found. unwrap_or (option_map (layout s) found) []) (tree_of-stream_events stream)
+
+-- a stream that stands is read as its documents' trees
+pub stream_read_back : (given : Settings) (encoding : Option Encoding) (events : List Event) (accepted : IsAccepted given.canonical events)
+    → is_portable given.portable given.canonical events ≡ true → StreamStands (effective given encoding) events accepted.stream
+    → stream_trees given.breaks12 (bytes_written (effective given encoding) (list_layout (effective given encoding) events))
+    ≡ Some (document_trees (effective given encoding) accepted.stream.documents)
+stream_read_back given encoding events accepted portable stands =
+    trees_of_bytes given.breaks12 s.line_break (text_of (list_layout s events)) (bytes_written s (list_layout s events)) stands.printable stands.characters
+    ∙ ap (λ (pieces : List Piece). documents_of given.breaks12 (text_of pieces)) (stream_layout s events accepted.stream accepted.is_stream)
+    ∙ stream_reads s accepted.stream (indent_deep given.indent) stands.documents
+    (first_written s (documents_in_order accepted.stream.documents) (kept given.portable portable))
+  where
+    s : Effective
+    s = effective given encoding
+
+    found : tree_of events ≡ Some accepted.stream
+    found = ap tree_of (sym accepted.is_stream) ∙ tree_of-stream_events accepted.stream
+
+    kept : (x : Bool) → is_portable x given.canonical events ≡ true → x ≡ false → is_lost given.canonical (documents_in_order accepted.stream.documents) ≡ false
+    kept true h e = absurd (true≢false e)
+    kept false h e =
+        not_true (is_lost given.canonical (documents_in_order accepted.stream.documents))
+        (and_parts (not (is_lost given.canonical (documents_in_order accepted.stream.documents)))
+        (not (list_any (document_has_flow_sign given.canonical) (documents_in_order accepted.stream.documents)))
+        (sym (ap (λ found. unwrap_or (option_map (λ (stream : Stream). are_portable given.canonical (documents_in_order stream.documents)) found) false) found)
+        ∙ h)).0
+      where
+        not_true : (x : Bool) → not x ≡ true → x ≡ false
+        not_true true h = absurd (false≢true h)
+        not_true false h = refl
+
+-- and these agree with its events
+pub stream_agrees : (given : Settings) (encoding : Option Encoding) (events : List Event) (accepted : IsAccepted given.canonical events)
+    → is_portable given.portable given.canonical events ≡ true → StreamStands (effective given encoding) events accepted.stream
+    → agrees given.canonical events (stream_trees given.breaks12 (bytes_written (effective given encoding) (list_layout (effective given encoding) events)))
+    ≡ true
+stream_agrees given encoding events accepted portable stands =
+    ap (agrees given.canonical events) (stream_read_back given encoding events accepted portable stands)
+    ∙ ap (λ found. unwrap_or
+    (option_map (λ (stream : Stream). documents_agree given.canonical (documents_in_order stream.documents)
+    (document_trees (effective given encoding) accepted.stream.documents)) found) false)
+    (ap tree_of (sym accepted.is_stream) ∙ tree_of-stream_events accepted.stream)
+    ∙ trees_agree (effective given encoding) accepted.stream.documents
+    (sound_documents given.canonical accepted.stream (ap (list_all (is_sound given.canonical)) accepted.is_stream ∙ accepted.sound))

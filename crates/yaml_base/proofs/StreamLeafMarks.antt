@@ -1,0 +1,276 @@
+-- No line of a leaf at the root after its first is a document's mark.
+use Rattle.std.proofs.Common.{◌≡◌, ◌≤◌, refl, ap, ◌∙◌, append_assoc, append-nil, arith}
+use Rattle.std.proofs.lemmas.Bool.{false≢true, eqb-true, and_parts, and_from}
+use Rattle.std.specs.List.{list_all}
+use Rattle.std.specs.Prelude.{ℕ, Bool, true, false, Option, None, Some, List, [], ◌∷◌, ◌++◌, ◌-◌, ◌==◌, ◌||◌, ◌&&◌, not, codes, if◌then◌else◌}
+use Rattle.yaml_base.specs.Characters.{Text, line_feed, is_printable}
+use Rattle.yaml_base.specs.LineBreaks.{is_read_break}
+use Rattle.yaml_base.specs.Settings.{Effective}
+use Rattle.yaml_base.specs.Event.{ScalarStyle, any_style, plain, single_quoted, double_quoted, literal, folded, TagDirective, Scalar, Collection}
+use Rattle.yaml_base.specs.Analysis.{is_empty}
+use Rattle.yaml_base.specs.Grammar.{Node, alias_node, scalar_node, sequence_node, mapping_node, Nodes, Pairs}
+use Rattle.yaml_base.specs.Refusal.{scalar_tag, collection_tag}
+use Rattle.yaml_base.specs.TidyBodies.{has_deep_lines, is_tidy_style}
+use Rattle.yaml_base.specs.StreamScalars.{name_read}
+use Rattle.yaml_base.specs.Cursor.{Cursor, Laid, breaks_line, new_line, nothing_laid, then_laid, indicator}
+use Rattle.yaml_base.specs.Layout.{deeper, entries_column, has_no_nodes, has_no_pairs, root_place, properties_laid, alias_laid, separation_laid, body_laid, choice_of, is_written_in_flow, Brackets, square, curly, empty_or_comma, end_laid}
+use Rattle.yaml_base.specs.StreamLines.{character_before, lines_of, spaces}
+use Rattle.yaml_base.specs.StreamDocuments.{mark_of}
+use Rattle.yaml_base.proofs.StreamLineLaws.{OneLine, one_line_both}
+use Rattle.yaml_base.proofs.StreamTidyLaws.{first_text, lines_after_first, first_extended, deep_lines_inside}
+use Rattle.yaml_base.proofs.StreamSections.{is_unmarked, AllUnmarked}
+use Rattle.yaml_base.proofs.StreamUnmarked.{inside_unmarked, all_unmarked}
+use Rattle.yaml_base.proofs.StreamClosed.{closing, closed, spaces_line, after_line}
+use Rattle.yaml_base.proofs.StreamTexts.{collection_own, node_own, items_own, pairs_own}
+use Rattle.yaml_base.proofs.StreamProperties.{IsNamed}
+use Rattle.yaml_base.proofs.StreamStands.{TagStands, NamesStand, BodyStands, body_from, BodiesHold, ItemsHold, PairsHold}
+use Rattle.yaml_base.proofs.StreamFlowTakes.{and_false}
+use Rattle.yaml_base.proofs.StreamOwnWords.{deep_more}
+use Rattle.yaml_base.proofs.StreamRootsStand.{is_leaf}
+use Rattle.yaml_base.proofs.StreamDeepBreaks.{after_breaks, begins_deep, Deep, Keeps, after_both, after_weaker, after_line_of, space_line, deep_keeps, lines_pass, deep_first}
+use Rattle.yaml_base.proofs.StreamFlowDeep.{properties_line, signs_line, brackets_line, sign_deep, alias_deep, items_deep, pairs_deep}
+
+-- Collections in flow
+
+-- a text begins with a bracket that closes
+abbrev begins_closing : Text → Bool
+begins_closing [] = false
+begins_closing (c ∷ rest) = c == 0x5D || c == 0x7D
+
+-- a text begins with a break, a space or such a bracket
+abbrev begins_unmarked : Bool → Text → Bool
+begins_unmarked breaks12 text = begins_deep breaks12 1 text || begins_closing text
+
+-- more text doesn't change that
+unmarked_keeps : (breaks12 : Bool) → Keeps (begins_unmarked breaks12)
+unmarked_keeps breaks12 [] b h = absurd (false≢true h)
+unmarked_keeps breaks12 (c ∷ a) b h = by (begins_deep breaks12 1 (c ∷ a)) refl h
+  where
+    by : (x : Bool) → begins_deep breaks12 1 (c ∷ a) ≡ x → (x || begins_closing (c ∷ a)) ≡ true
+        → (begins_deep breaks12 1 (c ∷ (a ++ b)) || begins_closing (c ∷ (a ++ b))) ≡ true
+    by true e h = ap (λ x. x || begins_closing (c ∷ (a ++ b))) (deep_keeps breaks12 1 (c ∷ a) b e)
+    by false e h = or_true (begins_deep breaks12 1 (c ∷ (a ++ b))) (c == 0x5D || c == 0x7D) h
+      where
+        or_true : (x y : Bool) → y ≡ true → (x || y) ≡ true
+        or_true true y h = refl
+        or_true false y h = h
+
+-- a line that begins with a bracket is no mark
+bracket_unmarked : (c : ℕ) (t : Text) → (c == 0x5D || c == 0x7D) ≡ true → is_unmarked (mark_of (c ∷ t)) ≡ true
+bracket_unmarked c t h = by (c == 0x5D) (c == 0x7D) refl refl h
+  where
+    first : (t : Text) → (is_unmarked (mark_of (0x5D ∷ t)) ≡ true) × (is_unmarked (mark_of (0x7D ∷ t)) ≡ true)
+    first [] = (refl, refl)
+    first (a ∷ []) = (refl, refl)
+    first (a ∷ b ∷ t) = (refl, refl)
+
+    by : (x y : Bool) → (c == 0x5D) ≡ x → (c == 0x7D) ≡ y → (x || y) ≡ true → is_unmarked (mark_of (c ∷ t)) ≡ true
+    by true y e f h = ap (λ d. is_unmarked (mark_of (d ∷ t))) (eqb-true c 0x5D e) ∙ (first t).0
+    by false true e f h = ap (λ d. is_unmarked (mark_of (d ∷ t))) (eqb-true c 0x7D f) ∙ (first t).1
+    by false false e f h = absurd (false≢true h)
+
+-- nor is any line that begins so
+first_unmarked : (breaks12 : Bool) (u : Text) → begins_unmarked breaks12 u ≡ true
+    → is_unmarked (mark_of (first_text (lines_of breaks12 (u ++ (line_feed ∷ []))))) ≡ true
+first_unmarked breaks12 [] h = absurd (false≢true h)
+first_unmarked breaks12 (c ∷ u) h = by (begins_deep breaks12 1 (c ∷ u)) refl h
+  where
+    line : Text
+    line = first_text (lines_of breaks12 (c ∷ (u ++ (line_feed ∷ []))))
+
+    shown : (x : Bool) → is_read_break breaks12 c ≡ x → (c == 0x5D || c == 0x7D) ≡ true → is_unmarked (mark_of line) ≡ true
+    shown true e h = ap (λ x. is_unmarked (mark_of (first_text (character_before x c (lines_of breaks12 (u ++ (line_feed ∷ []))))))) e
+    shown false e h =
+        ap (λ x. is_unmarked (mark_of (first_text (character_before x c (lines_of breaks12 (u ++ (line_feed ∷ []))))))) e
+        ∙ ap (λ t. is_unmarked (mark_of t)) (first_extended c (lines_of breaks12 (u ++ (line_feed ∷ []))))
+        ∙ bracket_unmarked c (first_text (lines_of breaks12 (u ++ (line_feed ∷ [])))) h
+
+    by : (x : Bool) → begins_deep breaks12 1 (c ∷ u) ≡ x → (x || begins_closing (c ∷ u)) ≡ true → is_unmarked (mark_of line) ≡ true
+    by true e h = inside_unmarked true line (deep_first breaks12 0 (c ∷ u) e)
+    by false e h = shown (is_read_break breaks12 c) refl h
+
+-- after each break of a text something begins a line that is no mark
+abbrev Unmarked : Bool → Text → Type 0
+Unmarked breaks12 text = after_breaks breaks12 (begins_unmarked breaks12) text ≡ true
+
+-- a deep text is so
+deep_unmarked : (breaks12 : Bool) (t : Text) → Deep breaks12 1 t → Unmarked breaks12 t
+deep_unmarked breaks12 t h =
+    after_weaker breaks12 (begins_deep breaks12 1) (begins_unmarked breaks12) (λ u deep. ap (λ x. x || begins_closing u) deep) t h
+
+-- two such texts
+unmarked_text : (breaks12 : Bool) (a b : Text) → Unmarked breaks12 a → Unmarked breaks12 b → Unmarked breaks12 (a ++ b)
+unmarked_text breaks12 a b h k = after_both breaks12 (begins_unmarked breaks12) (unmarked_keeps breaks12) a b h k
+
+-- a closing bracket on a line of its own
+bracket_below : (breaks12 : Bool) (closing : Text) → OneLine breaks12 closing → begins_closing closing ≡ true → Unmarked breaks12 (line_feed ∷ closing)
+bracket_below breaks12 closing one h =
+    and_from (begins_unmarked breaks12 closing) (after_breaks breaks12 (begins_unmarked breaks12) closing) (or_true (begins_deep breaks12 1 closing) h)
+    (after_line_of breaks12 (begins_unmarked breaks12) closing one)
+  where
+    or_true : (x : Bool) → begins_closing closing ≡ true → (x || begins_closing closing) ≡ true
+    or_true true h = refl
+    or_true false h = h
+
+-- the end of a collection at the root
+end_unmarked : (s : Effective) (brackets : Brackets) (empty : Bool) (cursor : Cursor)
+    → OneLine s.breaks12 brackets.opening → OneLine s.breaks12 brackets.closing
+    → begins_closing brackets.closing ≡ true → Unmarked s.breaks12 (end_laid s brackets true empty None cursor).text
+end_unmarked s brackets true cursor opening closing h =
+    unmarked_text s.breaks12 (indicator brackets.opening true true false cursor).text brackets.closing
+    (deep_unmarked s.breaks12 (indicator brackets.opening true true false cursor).text (sign_deep s.breaks12 1 brackets.opening true true false cursor opening))
+    (after_line_of s.breaks12 (begins_unmarked s.breaks12) brackets.closing closing)
+end_unmarked s brackets false cursor opening closing h = by s.canonical
+  where
+    alone : Unmarked s.breaks12 brackets.closing
+    alone = after_line_of s.breaks12 (begins_unmarked s.breaks12) brackets.closing closing
+
+    comma : Laid
+    comma = indicator (codes ",") false false false cursor
+
+    comma_line : Unmarked s.breaks12 (codes ",")
+    comma_line = deep_unmarked s.breaks12 (codes ",") (sign_deep s.breaks12 1 (codes ",") false false false cursor (signs_line s.breaks12).0)
+
+    line : (x : Bool) → Unmarked s.breaks12 ((codes "," ++ (if x then line_feed ∷ spaces 0 else spaces (0 - comma.cursor.column))) ++ brackets.closing)
+    line true = unmarked_text s.breaks12 (codes ",") (line_feed ∷ brackets.closing) comma_line (bracket_below s.breaks12 brackets.closing closing h)
+    line false =
+        unmarked_text s.breaks12 (codes "," ++ spaces (0 - comma.cursor.column)) brackets.closing
+        (unmarked_text s.breaks12 (codes ",") (spaces (0 - comma.cursor.column)) comma_line
+        (after_line_of s.breaks12 (begins_unmarked s.breaks12) (spaces (0 - comma.cursor.column)) (spaces_line s.breaks12 (0 - comma.cursor.column))))
+        alone
+
+    by : (x : Bool) → Unmarked s.breaks12 (let laid : Laid = then_laid (if x then then_laid comma (new_line 0) else nothing_laid cursor)
+        (indicator brackets.closing false false false) in laid.text)
+    by true = line (breaks_line 0 comma.cursor)
+    by false = alone
+
+-- Lines after the first
+
+-- no line of a text up to its end after the first is a mark
+abbrev pub AfterUnmarked : Bool → Laid → Type 0
+AfterUnmarked breaks12 own = AllUnmarked (lines_after_first (lines_of breaks12 (closed own)))
+
+-- so it is for a text that is so, whose last line a break ends
+fed_unmarked : (breaks12 : Bool) (own : Laid) → own.cursor.indention ≡ false → Unmarked breaks12 own.text → AfterUnmarked breaks12 own
+fed_unmarked breaks12 own ends h =
+    ap (λ x. list_all (λ line. is_unmarked (mark_of line.text)) (lines_after_first (lines_of breaks12 (own.text ++ (if x then [] else line_feed ∷ []))))) ends
+    ∙ lines_pass breaks12 (begins_unmarked breaks12) (λ t. is_unmarked (mark_of t)) (first_unmarked breaks12) own.text h
+
+-- a collection in flow at the root, where its entries are deep
+collection_unmarked : (s : Effective) (own directives : List TagDirective) (brackets : Brackets) (anchor tag : Option Text) (empty : Bool) (cursor : Cursor)
+    (entries : Laid) → OneLine s.breaks12 brackets.opening → OneLine s.breaks12 brackets.closing → begins_closing brackets.closing ≡ true
+    → IsNamed anchor → TagStands s.portable own directives tag → Deep s.breaks12 1 entries.text
+    → (let ending : Laid = end_laid s brackets true empty None entries.cursor in
+    AfterUnmarked s.breaks12
+    (record { text = ((properties_laid s.portable directives anchor tag false cursor).text ++ entries.text) ++ ending.text; cursor = ending.cursor }))
+collection_unmarked s own directives brackets anchor tag empty cursor entries opening closing h named stands deep =
+    let begun = properties_laid s.portable directives anchor tag false cursor in
+    let ending = end_laid s brackets true empty None entries.cursor in
+    fed_unmarked s.breaks12 (record { text = (begun.text ++ entries.text) ++ ending.text; cursor = ending.cursor })
+    (and_false (empty_or_comma s brackets.opening empty None entries.cursor).cursor.indention)
+    (unmarked_text s.breaks12 (begun.text ++ entries.text) ending.text
+    (unmarked_text s.breaks12 begun.text entries.text
+    (after_line_of s.breaks12 (begins_unmarked s.breaks12) begun.text (properties_line s own directives anchor tag false cursor named stands))
+    (deep_unmarked s.breaks12 entries.text deep))
+    (end_unmarked s brackets empty entries.cursor opening closing h))
+
+-- an alias
+alias_unmarked : (s : Effective) (name : Text) (simple : Bool) (cursor : Cursor) → name_read name ≡ Some name
+    → AfterUnmarked s.breaks12 (alias_laid name simple cursor)
+alias_unmarked s name simple cursor named =
+    fed_unmarked s.breaks12 (alias_laid name simple cursor) refl
+    (deep_unmarked s.breaks12 (alias_laid name simple cursor).text (alias_deep s 1 name simple cursor named))
+
+-- the break after a text, if it is there, leaves its lines deep
+closed_deep : (breaks12 : Bool) (count : ℕ) (own : Laid) → has_deep_lines breaks12 count own.text ≡ true → has_deep_lines breaks12 count (closed own) ≡ true
+closed_deep breaks12 count own h = by own.cursor.indention
+  where
+    by : (x : Bool) → has_deep_lines breaks12 count (own.text ++ (if x then [] else line_feed ∷ [])) ≡ true
+    by true = ap (has_deep_lines breaks12 count) (append-nil own.text) ∙ h
+    by false = deep_more breaks12 count own.text h
+
+-- the space before a scalar's body
+separation_line : (breaks12 : Bool) (style : ScalarStyle) (in_flow : Bool) (value : Text) (cursor : Cursor)
+    → OneLine breaks12 (separation_laid style in_flow value cursor).text
+separation_line breaks12 plain in_flow value cursor = space_line breaks12 (in_flow || not (is_empty value)) cursor
+separation_line breaks12 any_style in_flow value cursor = space_line breaks12 true cursor
+separation_line breaks12 single_quoted in_flow value cursor = space_line breaks12 true cursor
+separation_line breaks12 double_quoted in_flow value cursor = space_line breaks12 true cursor
+separation_line breaks12 literal in_flow value cursor = space_line breaks12 true cursor
+separation_line breaks12 folded in_flow value cursor = space_line breaks12 true cursor
+
+-- a scalar
+scalar_unmarked : (s : Effective) (own directives : List TagDirective) (cursor : Cursor) (content : Scalar)
+    → NamesStand s.portable own s.canonical directives (scalar_node content) → BodyStands s (body_from s directives root_place content cursor)
+    → AfterUnmarked s.breaks12 (node_own (scalar_node content) s directives root_place cursor)
+scalar_unmarked s own directives cursor content names stands =
+    let tag = scalar_tag s.canonical content in
+    let choice = choice_of s root_place false content in
+    let properties = properties_laid s.portable directives content.anchor tag choice.bare cursor in
+    let separation = separation_laid choice.style false content.value properties.cursor in
+    let body = body_laid choice.style s s.width (deeper s.indent None) content.value separation.cursor in
+    let front = properties.text ++ separation.text in
+    let one = one_line_both s.breaks12 properties.text separation.text
+    (properties_line s own directives content.anchor tag choice.bare cursor names.0 names.1)
+    (separation_line s.breaks12 choice.style false content.value properties.cursor) in
+    let tidy = and_parts (list_all is_printable body.text && has_deep_lines s.breaks12 1 body.text)
+    (is_tidy_style choice.style s.breaks12 body.text) stands.tidy in
+    ap (λ t. list_all (λ line. is_unmarked (mark_of line.text)) (lines_after_first (lines_of s.breaks12 t)))
+    (append_assoc front body.text (closing body.cursor))
+    ∙ ap (list_all (λ line. is_unmarked (mark_of line.text))) (after_line s.breaks12 front (closed body) one)
+    ∙ all_unmarked true (lines_after_first (lines_of s.breaks12 (closed body)))
+    (deep_lines_inside s.breaks12 0 (closed body)
+    (closed_deep s.breaks12 1 body (and_parts (list_all is_printable body.text) (has_deep_lines s.breaks12 1 body.text) tidy.0).1))
+
+-- Nodes
+
+-- a sequence that is written in flow
+sequence_unmarked : (s : Effective) (own directives : List TagDirective) (cursor : Cursor) (start : Collection) (items : Nodes) → 1 ≤ s.indent
+    → is_written_in_flow s root_place start (has_no_nodes items) ≡ true → NamesStand s.portable own s.canonical directives (sequence_node start items)
+    → BodiesHold (BodyStands s) (sequence_node start items) s directives root_place cursor
+    → AfterUnmarked s.breaks12 (node_own (sequence_node start items) s directives root_place cursor)
+sequence_unmarked s own directives cursor start items deep in_flow names bodies =
+    by (is_written_in_flow s root_place start (has_no_nodes items)) in_flow bodies
+  where
+    begun : Laid
+    begun = properties_laid s.portable directives start.anchor (collection_tag s.canonical start) false cursor
+
+    by : (x : Bool) → x ≡ true → ItemsHold (BodyStands s) items s directives x (entries_column x false s.indent None begun.cursor) begun.cursor
+        → AfterUnmarked s.breaks12 (collection_own s square x false (has_no_nodes items) None begun (items_own items s directives x))
+    by false h hold = absurd (false≢true h)
+    by true h hold =
+        collection_unmarked s own directives square start.anchor (collection_tag s.canonical start) (has_no_nodes items) cursor
+        (items_own items s directives true (deeper s.indent None) begun.cursor) (brackets_line s.breaks12).0.0 (brackets_line s.breaks12).0.1
+        refl names.0 names.1
+        (items_deep items s own directives 1 (deeper s.indent None) begun.cursor (omega arith) names.2 hold)
+
+-- and a mapping
+mapping_unmarked : (s : Effective) (own directives : List TagDirective) (cursor : Cursor) (start : Collection) (pairs : Pairs) → 1 ≤ s.indent
+    → is_written_in_flow s root_place start (has_no_pairs pairs) ≡ true → NamesStand s.portable own s.canonical directives (mapping_node start pairs)
+    → BodiesHold (BodyStands s) (mapping_node start pairs) s directives root_place cursor
+    → AfterUnmarked s.breaks12 (node_own (mapping_node start pairs) s directives root_place cursor)
+mapping_unmarked s own directives cursor start pairs deep in_flow names bodies =
+    by (is_written_in_flow s root_place start (has_no_pairs pairs)) in_flow bodies
+  where
+    begun : Laid
+    begun = properties_laid s.portable directives start.anchor (collection_tag s.canonical start) false cursor
+
+    by : (x : Bool) → x ≡ true → PairsHold (BodyStands s) pairs s directives x (entries_column x false s.indent None begun.cursor) begun.cursor
+        → AfterUnmarked s.breaks12 (collection_own s curly x false (has_no_pairs pairs) None begun (pairs_own pairs s directives x))
+    by false h hold = absurd (false≢true h)
+    by true h hold =
+        collection_unmarked s own directives curly start.anchor (collection_tag s.canonical start) (has_no_pairs pairs) cursor
+        (pairs_own pairs s directives true (deeper s.indent None) begun.cursor) (brackets_line s.breaks12).1.0 (brackets_line s.breaks12).1.1
+        refl names.0 names.1
+        (pairs_deep pairs s own directives 1 (deeper s.indent None) begun.cursor (omega arith) names.2 hold)
+
+-- no line of a leaf at the root after its first is a mark, where its names and bodies stand
+pub leaf_unmarked : (n : Node) (s : Effective) (own directives : List TagDirective) (cursor : Cursor) → 1 ≤ s.indent → is_leaf s n ≡ true
+    → NamesStand s.portable own s.canonical directives n → BodiesHold (BodyStands s) n s directives root_place cursor
+    → AfterUnmarked s.breaks12 (node_own n s directives root_place cursor)
+leaf_unmarked (alias_node name) s own directives cursor deep leaf names bodies = alias_unmarked s name false cursor names
+leaf_unmarked (scalar_node content) s own directives cursor deep leaf names bodies = scalar_unmarked s own directives cursor content names bodies
+leaf_unmarked (sequence_node start items) s own directives cursor deep leaf names bodies =
+    sequence_unmarked s own directives cursor start items deep leaf names bodies
+leaf_unmarked (mapping_node start pairs) s own directives cursor deep leaf names bodies =
+    mapping_unmarked s own directives cursor start pairs deep leaf names bodies

@@ -1,0 +1,207 @@
+-- The parts of a node in a block are read, where its names and bodies stand: what is asked of scalars and of flow collections
+-- by themselves, and from it what the central law asks of the whole tree.
+use Rattle.std.proofs.Common.{◌≡◌, refl, sym, ◌∙◌}
+use Rattle.std.proofs.lemmas.Bool.{false≢true, or_parts}
+use Rattle.std.specs.Prelude.{ℕ, Bool, true, false, Option, None, Some, List, [], ◌∷◌, ◌||◌, ◌&&◌}
+use Rattle.yaml_base.specs.Characters.{Text}
+use Rattle.yaml_base.specs.Settings.{Effective}
+use Rattle.yaml_base.specs.Event.{TagDirective, Scalar, Collection}
+use Rattle.yaml_base.specs.Cursor.{Cursor, Laid}
+use Rattle.yaml_base.specs.Grammar.{Node, alias_node, scalar_node, sequence_node, mapping_node, Nodes, no_nodes, nodes_and, Pairs, no_pairs, pairs_and}
+use Rattle.yaml_base.specs.Layout.{Role, as_item, as_key, as_value, is_key, is_in_mapping, Place, entries_column, has_no_nodes, has_no_pairs, is_simple, place_laid, asks_flow, is_written_in_flow}
+use Rattle.yaml_base.specs.StreamScalars.{name_read}
+use Rattle.yaml_base.proofs.StreamAgrees.{node_tree}
+use Rattle.yaml_base.proofs.StreamCuts.{none_not_some}
+use Rattle.yaml_base.proofs.StreamTexts.{node_own, pairs_own}
+use Rattle.yaml_base.proofs.StreamClosed.{sign_cursor, margin_cursor}
+use Rattle.yaml_base.proofs.StreamPairs.{KeyFits, key_place, value_place, colon_cursor, simple_key}
+use Rattle.yaml_base.proofs.StreamPairReads.{colon_ends}
+use Rattle.yaml_base.proofs.StreamNodesFit.{EitherType, LeafFits, begun_laid, BegunReads, Leaves, ItemLeaves, PairLeaves, Stands}
+use Rattle.yaml_base.proofs.StreamAliasFits.{alias_fits}
+use Rattle.yaml_base.proofs.StreamProperties.{name_letters}
+use Rattle.yaml_base.proofs.StreamStands.{NamesStand, AllNamesStand, PairsNamesStand, BodyStands, BodiesHold, ItemsHold, PairsHold, body_from}
+use Rattle.yaml_base.proofs.StreamFlowScalars.{rules_of}
+use Rattle.yaml_base.proofs.StreamBegun.{begun_reads}
+
+-- a place in a block (no column: the root's)
+abbrev pub block_place : Role → Option ℕ → Place
+block_place role column = record { in_flow = false; role = role; column = column }
+
+-- each scalar in a block that is no simple key fits, where its names and its body stand
+abbrev pub ScalarsFit : Effective → List TagDirective → List TagDirective → Type 0
+ScalarsFit s own directives =
+    (content : Scalar) (role : Role) (column : Option ℕ) (cursor : Cursor)
+    → (is_key role && is_simple s.canonical directives (scalar_node content)) ≡ false
+    → Stands column cursor
+    → NamesStand s.portable own s.canonical directives (scalar_node content)
+    → BodyStands s (body_from s directives (block_place role column) content cursor)
+    → LeafFits (rules_of s own) s directives (scalar_node content) (block_place role column) cursor
+
+-- a collection that is written in flow at its place
+abbrev pub is_flow_node : Effective → Place → Node → Bool
+is_flow_node s place (sequence_node start items) = is_written_in_flow s place start (has_no_nodes items)
+is_flow_node s place (mapping_node start pairs) = is_written_in_flow s place start (has_no_pairs pairs)
+is_flow_node s place _ = false
+
+-- in canonical mode no node stands in a block but the root
+abbrev pub MayStand : Effective → Option ℕ → Type 0
+MayStand s column = s.canonical ≡ true → column ≡ None
+
+-- each flow collection in a block that is no simple key fits, where its names and its bodies stand
+abbrev pub FlowsFit : Effective → List TagDirective → List TagDirective → Type 0
+FlowsFit s own directives =
+    (n : Node) (role : Role) (column : Option ℕ) (cursor : Cursor)
+    → MayStand s column
+    → is_flow_node s (block_place role column) n ≡ true
+    → (is_key role && is_simple s.canonical directives n) ≡ false
+    → Stands column cursor
+    → NamesStand s.portable own s.canonical directives n
+    → BodiesHold (BodyStands s) n s directives (block_place role column) cursor
+    → LeafFits (rules_of s own) s directives n (block_place role column) cursor
+
+-- each simple key in a block is cut off before its `:`, where its names and its body stand
+abbrev pub SimpleKeysFit : Effective → List TagDirective → List TagDirective → Type 0
+SimpleKeysFit s own directives =
+    (key : Node) (pairs : Pairs) (e : ℕ)
+    → is_simple s.canonical directives key ≡ true
+    → NamesStand s.portable own s.canonical directives key
+    → BodiesHold (BodyStands s) key s directives (key_place pairs e) (margin_cursor e)
+    → KeyFits (rules_of s own) (simple_key pairs key s directives e).text (node_tree key s directives (key_place pairs e))
+
+-- an alias in a block that is no simple key
+alias_leaf : (s : Effective) (own directives : List TagDirective) (name : Text) (role : Role) (column : Option ℕ) (cursor : Cursor)
+    → (is_key role && is_simple s.canonical directives (alias_node name)) ≡ false → name_read name ≡ Some name
+    → LeafFits (rules_of s own) s directives (alias_node name) (block_place role column) cursor
+alias_leaf s own directives [] role column cursor simple named = absurd (none_not_some named)
+alias_leaf s own directives (c ∷ t) role column cursor simple named =
+    alias_fits (rules_of s own) s directives c t (block_place role column) cursor (name_letters (c ∷ t) named) simple
+
+-- a pair's parts are read
+pair_leaves : (s : Effective) (own directives : List TagDirective) (keys : SimpleKeysFit s own directives) (pairs : Pairs) (key value : Node) (e : ℕ)
+    (before : Cursor)
+    → NamesStand s.portable own s.canonical directives key
+    → (x : Bool) → is_simple s.canonical directives key ≡ x
+    → (let signs : Laid = place_laid s (key_place pairs e) x before in
+    BodiesHold (BodyStands s) key s directives (key_place pairs e) signs.cursor
+    × BodiesHold (BodyStands s) value s directives (value_place x e)
+    (place_laid s (value_place x e) false (node_own key s directives (key_place pairs e) signs.cursor).cursor).cursor)
+    → (is_simple s.canonical directives key ≡ false → BodiesHold (BodyStands s) key s directives (key_place pairs e) (sign_cursor e)
+    → Leaves key (rules_of s own) s directives (key_place pairs e) (sign_cursor e))
+    → ((y : Bool) (cursor : Cursor) → Stands (Some e) cursor → BodiesHold (BodyStands s) value s directives (value_place y e) cursor
+    → Leaves value (rules_of s own) s directives (value_place y e) cursor)
+    → EitherType x
+    (KeyFits (rules_of s own) (simple_key pairs key s directives e).text (node_tree key s directives (key_place pairs e))
+    × Leaves value (rules_of s own) s directives (value_place true e) (colon_cursor (simple_key pairs key s directives e).cursor))
+    (Leaves key (rules_of s own) s directives (key_place pairs e) (sign_cursor e)
+    × Leaves value (rules_of s own) s directives (value_place false e) (sign_cursor e))
+pair_leaves s own directives keys pairs key value e before names true h bodies of_key of_value =
+    let after = (simple_key pairs key s directives e).cursor in (
+      keys key pairs e h names bodies.0,
+      of_value true (colon_cursor after) (refl, λ i. absurd (false≢true (sym (colon_ends after) ∙ i))) bodies.1,
+    )
+pair_leaves s own directives keys pairs key value e before names false h bodies of_key of_value =
+    (of_key h bodies.0, of_value false (sign_cursor e) (refl, λ i. refl) bodies.1)
+
+-- what is written in a block isn't written in canonical mode
+no_canonical : (s : Effective) (start : Collection) (empty : Bool) → (s.canonical || asks_flow start.style || empty) ≡ false → s.canonical ≡ false
+no_canonical s start empty h =
+    (or_parts s.canonical (asks_flow start.style) (or_parts (s.canonical || asks_flow start.style) empty h).0).0
+
+-- so its parts may stand at any column
+may_stand : (s : Effective) (column : Option ℕ) → s.canonical ≡ false → MayStand s column
+may_stand s column block h = absurd (false≢true (sym block ∙ h))
+
+-- a sequence's parts are read, where those of its items are
+sequence_leaves : (s : Effective) (own directives : List TagDirective) (flows : FlowsFit s own directives) (start : Collection) (items : Nodes)
+    (role : Role) (column : Option ℕ) (cursor : Cursor) → MayStand s column
+    → (is_key role && is_simple s.canonical directives (sequence_node start items)) ≡ false → Stands column cursor
+    → NamesStand s.portable own s.canonical directives (sequence_node start items)
+    → BodiesHold (BodyStands s) (sequence_node start items) s directives (block_place role column) cursor
+    → (s.canonical ≡ false → (e : ℕ) (at : Cursor) → ItemsHold (BodyStands s) items s directives false e at → ItemLeaves items (rules_of s own) s directives e)
+    → Leaves (sequence_node start items) (rules_of s own) s directives (block_place role column) cursor
+sequence_leaves s own directives flows start items role column cursor may simple stands names bodies each =
+    by (is_written_in_flow s (block_place role column) start (has_no_nodes items)) refl bodies
+  where
+    begun : Laid
+    begun = begun_laid s directives start cursor
+
+    by : (x : Bool) → is_written_in_flow s (block_place role column) start (has_no_nodes items) ≡ x
+        → ItemsHold (BodyStands s) items s directives x (entries_column x (is_in_mapping role) s.indent column begun.cursor) begun.cursor
+        → EitherType x (LeafFits (rules_of s own) s directives (sequence_node start items) (block_place role column) cursor)
+        (BegunReads (rules_of s own) s directives start cursor
+        × ItemLeaves items (rules_of s own) s directives (entries_column false (is_in_mapping role) s.indent column begun.cursor))
+    by true h hold = flows (sequence_node start items) role column cursor may h simple stands names bodies
+    by false h hold = (
+      begun_reads s own directives start cursor names.0 names.1,
+      each (no_canonical s start (has_no_nodes items) h) (entries_column false (is_in_mapping role) s.indent column begun.cursor) begun.cursor hold,
+    )
+
+-- and a mapping's, where those of its pairs are
+mapping_leaves : (s : Effective) (own directives : List TagDirective) (flows : FlowsFit s own directives) (start : Collection) (pairs : Pairs)
+    (role : Role) (column : Option ℕ) (cursor : Cursor) → MayStand s column
+    → (is_key role && is_simple s.canonical directives (mapping_node start pairs)) ≡ false → Stands column cursor
+    → NamesStand s.portable own s.canonical directives (mapping_node start pairs)
+    → BodiesHold (BodyStands s) (mapping_node start pairs) s directives (block_place role column) cursor
+    → (s.canonical ≡ false → (e : ℕ) (at : Cursor) → PairsHold (BodyStands s) pairs s directives false e at → PairLeaves pairs (rules_of s own) s directives e)
+    → Leaves (mapping_node start pairs) (rules_of s own) s directives (block_place role column) cursor
+mapping_leaves s own directives flows start pairs role column cursor may simple stands names bodies each =
+    by (is_written_in_flow s (block_place role column) start (has_no_pairs pairs)) refl bodies
+  where
+    begun : Laid
+    begun = begun_laid s directives start cursor
+
+    by : (x : Bool) → is_written_in_flow s (block_place role column) start (has_no_pairs pairs) ≡ x
+        → PairsHold (BodyStands s) pairs s directives x (entries_column x false s.indent column begun.cursor) begun.cursor
+        → EitherType x (LeafFits (rules_of s own) s directives (mapping_node start pairs) (block_place role column) cursor)
+        (BegunReads (rules_of s own) s directives start cursor
+        × PairLeaves pairs (rules_of s own) s directives (entries_column false false s.indent column begun.cursor))
+    by true h hold = flows (mapping_node start pairs) role column cursor may h simple stands names bodies
+    by false h hold = (
+      begun_reads s own directives start cursor names.0 names.1,
+      each (no_canonical s start (has_no_pairs pairs) h) (entries_column false false s.indent column begun.cursor) begun.cursor hold,
+    )
+
+-- what is asked of the parts of a node in a block, where its names and bodies stand
+mutual
+  pub leaves_stand : (n : Node) (s : Effective) (own directives : List TagDirective) (scalars : ScalarsFit s own directives)
+      (flows : FlowsFit s own directives) (keys : SimpleKeysFit s own directives) (role : Role) (column : Option ℕ) (cursor : Cursor)
+      → MayStand s column → (is_key role && is_simple s.canonical directives n) ≡ false
+      → Stands column cursor → NamesStand s.portable own s.canonical directives n
+      → BodiesHold (BodyStands s) n s directives (block_place role column) cursor
+      → Leaves n (rules_of s own) s directives (block_place role column) cursor
+  leaves_stand (alias_node name) s own directives scalars flows keys role column cursor may simple stands names bodies =
+      alias_leaf s own directives name role column cursor simple names
+  leaves_stand (scalar_node content) s own directives scalars flows keys role column cursor may simple stands names bodies =
+      scalars content role column cursor simple stands names bodies
+  leaves_stand (sequence_node start items) s own directives scalars flows keys role column cursor may simple stands names bodies =
+      sequence_leaves s own directives flows start items role column cursor may simple stands names bodies
+      (λ block e at hold. items_stand items s own directives scalars flows keys block e at names.2 hold)
+  leaves_stand (mapping_node start pairs) s own directives scalars flows keys role column cursor may simple stands names bodies =
+      mapping_leaves s own directives flows start pairs role column cursor may simple stands names bodies
+      (λ block e at hold. pairs_stand pairs s own directives scalars flows keys block e at names.2 hold)
+
+  items_stand : (items : Nodes) (s : Effective) (own directives : List TagDirective) (scalars : ScalarsFit s own directives)
+      (flows : FlowsFit s own directives) (keys : SimpleKeysFit s own directives) → s.canonical ≡ false → (e : ℕ) (cursor : Cursor)
+      → AllNamesStand s.portable own s.canonical directives items → ItemsHold (BodyStands s) items s directives false e cursor
+      → ItemLeaves items (rules_of s own) s directives e
+  items_stand no_nodes s own directives scalars flows keys block e cursor names hold = tt
+  items_stand (nodes_and items last) s own directives scalars flows keys block e cursor names hold = (
+    items_stand items s own directives scalars flows keys block e cursor names.0 hold.0,
+    leaves_stand last s own directives scalars flows keys (as_item (has_no_nodes items)) (Some e) (sign_cursor e)
+        (may_stand s (Some e) block) refl (refl, λ h. refl) names.1 hold.1,
+  )
+
+  pairs_stand : (pairs : Pairs) (s : Effective) (own directives : List TagDirective) (scalars : ScalarsFit s own directives)
+      (flows : FlowsFit s own directives) (keys : SimpleKeysFit s own directives) → s.canonical ≡ false → (e : ℕ) (cursor : Cursor)
+      → PairsNamesStand s.portable own s.canonical directives pairs → PairsHold (BodyStands s) pairs s directives false e cursor
+      → PairLeaves pairs (rules_of s own) s directives e
+  pairs_stand no_pairs s own directives scalars flows keys block e cursor names hold = tt
+  pairs_stand (pairs_and pairs key value) s own directives scalars flows keys block e cursor names hold = (
+    pairs_stand pairs s own directives scalars flows keys block e cursor names.0 hold.0,
+    pair_leaves s own directives keys pairs key value e (pairs_own pairs s directives false e cursor).cursor names.1
+        (is_simple s.canonical directives key) refl (hold.1, hold.2)
+        (λ h bodies. leaves_stand key s own directives scalars flows keys (as_key (has_no_pairs pairs)) (Some e) (sign_cursor e) (may_stand s (Some e) block) h
+        (refl, λ i. refl) names.1 bodies)
+        (λ y at stands bodies. leaves_stand value s own directives scalars flows keys (as_value y) (Some e) at
+        (may_stand s (Some e) block) refl stands names.2 bodies),
+  )

@@ -1,0 +1,300 @@
+-- No `:` in an anchor or a tag ends a key: what stands before it is no word, and no alias.
+use Rattle.std.proofs.Common.{◌≡◌, suc, refl, sym, ap, ◌∙◌, append_assoc, append-nil, subst}
+use Rattle.std.proofs.lemmas.Bool.{true≢false, false≢true, eqb-true, and_parts, and_from}
+use Rattle.std.specs.List.{list_all}
+use Rattle.std.specs.Option.{option_or}
+use Rattle.std.specs.Prelude.{ℕ, Bool, true, false, Option, None, Some, [], ◌∷◌, ◌++◌, ◌==◌, ◌||◌, ◌&&◌, ◌+◌, not, is_some, nat_le, length, option_map, option_and_then, if◌then◌else◌}
+use Rattle.yaml_base.specs.Characters.{Text, space, is_alpha}
+use Rattle.yaml_base.specs.StreamContent.{Standing, Tagging, Tree, scalar_tree, sequence_tree, mapping_tree, no_trees, no_tree_pairs}
+use Rattle.yaml_base.specs.StreamLines.{Indented, indented, spaces, ends_sign}
+use Rattle.yaml_base.specs.ReadTags.{TagSaid, tag_said}
+use Rattle.yaml_base.specs.StreamScalars.{Rules, Properties, PropertiesRead, word_cut, name_read, tag_of_word, tag_first, collection_tag_said, tagging_said, scalar_said, standing_of, style_begun, value_read, alias_said, WordKind, an_alias, empty_sequence, empty_mapping, a_scalar, kind_of_word, word_by_kind, word_after, word_read}
+use Rattle.yaml_base.specs.TidyBodies.{is_tidy}
+use Rattle.yaml_base.specs.StreamFlow.{is_alias, longest_key}
+use Rattle.yaml_base.specs.StreamNodes.{key_ends, key_of_text, key_from, word_of_alias, without_last_space}
+use Rattle.yaml_base.proofs.StreamInside.{indented_spaces}
+use Rattle.yaml_base.proofs.StreamProperties.{WrittenTag, IsTagged, IsNamed, properties_text, has_no_space, word_whole, no_white_no_space, content_indented, space_after, with_anchor, name_letters}
+use Rattle.yaml_base.proofs.StreamPropertyWords.{lead}
+use Rattle.yaml_base.proofs.StreamKeys.{NoKey, no_alias_before, key_by_word}
+
+-- Texts in which no key ends
+
+-- before each `:` of a text, where so much stands before it, is no key
+abbrev pub KeyNowhere : Rules → Text → Text → Type 0
+KeyNowhere rules before [] = Unit {0}
+KeyNowhere rules before (c ∷ t) = ((c == 0x3A) ≡ true → key_of_text rules before ≡ None) × KeyNowhere rules (before ++ (c ∷ [])) t
+
+-- no key ends in it, nor in what follows it
+pub nowhere_then : (rules : Rules) (before a t after : Text) → KeyNowhere rules before a → NoKey rules (before ++ a) t after → NoKey rules before (a ++ t) after
+nowhere_then rules before [] t after none clear = subst (λ b. NoKey rules b t after) (append-nil before) clear
+nowhere_then rules before (c ∷ a) t after none clear = (
+  λ h. none.0 (and_parts (c == 0x3A) (ends_sign ((a ++ t) ++ (0x3A ∷ after))) h).0,
+  nowhere_then rules (before ++ (c ∷ [])) a t after none.1 (subst (λ b. NoKey rules b t after) (sym (append_assoc before (c ∷ []) a)) clear),
+)
+
+-- a line of it alone has no key
+pub nowhere_alone : (rules : Rules) (before a : Text) → KeyNowhere rules before a → key_from rules before a ≡ None
+nowhere_alone rules before [] none = refl
+nowhere_alone rules before (c ∷ a) none =
+    by (c == 0x3A && ends_sign a) (λ h. none.0 (and_parts (c == 0x3A) (ends_sign a) h).0) ∙ nowhere_alone rules (before ++ (c ∷ [])) a none.1
+  where
+    by : (x : Bool) → (x ≡ true → key_of_text rules before ≡ None)
+        → option_or (key_ends rules x before a) (key_from rules (before ++ (c ∷ [])) a) ≡ key_from rules (before ++ (c ∷ [])) a
+    by true h =
+        ap (λ x. option_or (option_map (λ key. record { key = key; length = length before; after = a }) x) (key_from rules (before ++ (c ∷ [])) a)) (h refl)
+    by false h = refl
+
+-- two such texts
+pub nowhere_both : (rules : Rules) (before a b : Text) → KeyNowhere rules before a → KeyNowhere rules (before ++ a) b → KeyNowhere rules before (a ++ b)
+nowhere_both rules before [] b one two = subst (λ t. KeyNowhere rules t b) (append-nil before) two
+nowhere_both rules before (c ∷ a) b one two =
+    (one.0, nowhere_both rules (before ++ (c ∷ [])) a b one.1 (subst (λ t. KeyNowhere rules t b) (sym (append_assoc before (c ∷ []) a)) two))
+
+-- No alias
+
+-- whether what is read is an alias
+abbrev pub reads_alias : Option Tree → Bool
+reads_alias None = false
+reads_alias (Some tree) = is_alias tree
+
+-- what is none is left by both tests
+pub alias_left : (read : Option Tree) → reads_alias read ≡ false → option_and_then (λ tree. if is_alias tree then Some tree else None) read ≡ None
+alias_left None h = refl
+alias_left (Some tree) h = ap (λ x. if x then Some tree else None) h
+
+pub other_kept : (read : Option Tree) → reads_alias read ≡ false → option_and_then (λ tree. if is_alias tree then None else Some tree) read ≡ read
+other_kept None h = refl
+other_kept (Some tree) h = ap (λ x. if x then None else Some tree) h
+
+-- a scalar is none
+scalar_other : (properties : Properties) (standing : Standing) (value : Option Text) → reads_alias (scalar_said properties standing value) ≡ false
+scalar_other properties standing None = refl
+scalar_other properties standing (Some text) = by (tagging_said properties.tag standing)
+  where
+    by : (tagging : Option Tagging) → reads_alias (option_map (λ tagging. scalar_tree properties.anchor tagging text) tagging) ≡ false
+    by None = refl
+    by (Some tagging) = refl
+
+-- a collection is none
+collection_other : (tag : Option (Option Text)) (make : Option Text → Tree) → ((tag : Option Text) → is_alias (make tag) ≡ false)
+    → reads_alias (option_map make tag) ≡ false
+collection_other None make h = refl
+collection_other (Some tag) make h = h tag
+
+-- a word that isn't of the kind of an alias is none
+pub kind_other : (kind : WordKind) (rules : Rules) (flow : Bool) (properties : Properties) (text : Text)
+    → (kind ≡ an_alias → ⊥) → reads_alias (word_by_kind kind rules flow None properties text) ≡ false
+kind_other an_alias rules flow properties text other = absurd (other refl)
+kind_other empty_sequence rules flow properties text other = collection_other (collection_tag_said properties.tag)
+    (λ tag. sequence_tree properties.anchor tag no_trees) (λ tag. refl)
+kind_other empty_mapping rules flow properties text other = collection_other (collection_tag_said properties.tag)
+    (λ tag. mapping_tree properties.anchor tag no_tree_pairs) (λ tag. refl)
+kind_other a_scalar rules flow properties [] other = refl
+kind_other a_scalar rules flow properties (c ∷ rest) other =
+    scalar_other properties (standing_of (style_begun (c ∷ rest)))
+    (if is_tidy (style_begun (c ∷ rest)) rules.breaks12 None (c ∷ rest) then value_read (style_begun (c ∷ rest)) rules.breaks12 flow None (c ∷ rest) else None)
+
+-- a node with an anchor or a tag is none
+pub properties_other : (rules : Rules) (flow : Bool) (properties : Properties) (text : Text) → (is_some properties.anchor || is_some properties.tag) ≡ true
+    → reads_alias (word_after rules flow None properties text) ≡ false
+properties_other rules flow properties text h = by (kind_of_word text) text
+  where
+    said : (anchor : Option Text) (tag : Option TagSaid) (name : Option Text) → (is_some anchor || is_some tag) ≡ true → reads_alias
+        (alias_said anchor tag name) ≡ false
+    said None None name h = absurd (false≢true h)
+    said None (Some tag) name h = refl
+    said (Some anchor) tag name h = refl
+
+    by : (kind : WordKind) (text : Text) → reads_alias (word_by_kind kind rules flow None properties text) ≡ false
+    by an_alias [] = refl
+    by an_alias (c ∷ name) = said properties.anchor properties.tag (name_read name) h
+    by empty_sequence text = kind_other empty_sequence rules flow properties text (λ e. cc)
+    by empty_mapping text = kind_other empty_mapping rules flow properties text (λ e. cc)
+    by a_scalar text = kind_other a_scalar rules flow properties text (λ e. cc)
+
+-- Properties alone
+
+-- what a word reads as after properties that were read
+abbrev after_read : Rules → Bool → Option PropertiesRead → Option Tree
+after_read rules flow found = option_and_then (λ read. word_after rules flow None read.properties (indented read.text).text) found
+
+-- properties of which nothing is left but spaces are no word
+nothing_after : (rules : Rules) (flow : Bool) (properties : Properties) (count : ℕ) → after_read rules flow
+    (Some (record { properties = properties; text = spaces count ++ [] })) ≡ None
+nothing_after rules flow properties count =
+    ap (λ (after : Indented). word_after rules flow None properties after.text) (content_indented count [] refl)
+
+-- the beginning of a tag, whatever it says
+tag_alone : (rules : Rules) (flow : Bool) (anchor : Option Text) (column : ℕ) (b : Text) → has_no_space b ≡ true
+    → after_read rules flow (tag_first rules.directives anchor column (0x21 ∷ b)) ≡ None
+tag_alone rules flow anchor column b h =
+    ap (λ cut. after_read rules flow (tag_of_word rules.directives anchor column cut)) cut ∙ by (tag_said rules.directives (0x21 ∷ b))
+  where
+    cut : word_cut (0x21 ∷ b) ≡ record { front = 0x21 ∷ b; rest = [] }
+    cut = ap word_cut (sym (append-nil (0x21 ∷ b))) ∙ word_whole (0x21 ∷ b) [] h refl
+
+    by : (said : Option TagSaid)
+        → after_read rules flow (option_map (λ said. record {
+          properties = record { anchor = anchor; tag = Some said };
+          text = spaces
+              (column + length (0x21 ∷ b)) ++ [];
+        }) said) ≡ None
+    by None = refl
+    by (Some said) = nothing_after rules flow (record { anchor = anchor; tag = Some said }) (column + length (0x21 ∷ b))
+
+-- the anchor, and the space after it before a tag
+abbrev anchored : Option Text → Text
+anchored None = []
+anchored (Some name) = 0x26 ∷ (name ++ (space ∷ []))
+
+-- after an anchor or not it is no word
+tag_no_word : (rules : Rules) (flow : Bool) (anchor : Option Text) (b : Text) → IsNamed anchor → has_no_space b ≡ true
+    → word_read rules flow (anchored anchor ++ (0x21 ∷ b)) ≡ None
+tag_no_word rules flow None b named h = tag_alone rules flow None 0 b h
+tag_no_word rules flow (Some name) b named h =
+    ap (λ t. word_read rules flow (0x26 ∷ t)) (append_assoc name (space ∷ []) (0x21 ∷ b))
+    ∙ ap (λ found. after_read rules flow (option_and_then (λ read. let after : Indented = indented read.text in tag_first rules.directives read.properties.anchor after.column after.text) found))
+    (with_anchor name (space ∷ 0x21 ∷ b) named refl)
+    ∙ ap (λ t. let after : Indented = indented t in after_read rules flow (tag_first rules.directives (Some name) after.column after.text))
+    (space_after (suc (length name)) (0x21 ∷ b))
+    ∙ ap (λ (after : Indented). after_read rules flow (tag_first rules.directives (Some name) after.column after.text))
+    (indented_spaces (suc (suc (length name))) 0x21 b refl)
+    ∙ tag_alone rules flow (Some name) (suc (suc (length name))) b h
+
+-- a text that begins with an anchor or a tag is no alias
+tag_other : (rules : Rules) (anchor : Option Text) (column : ℕ) (u : Text) → reads_alias
+    (after_read rules false (tag_first rules.directives anchor column (0x21 ∷ u))) ≡ false
+tag_other rules anchor column u = by (tag_said rules.directives (word_cut (0x21 ∷ u)).front)
+  where
+    by : (said : Option TagSaid)
+        → reads_alias (after_read rules false (option_map (λ said. record {
+          properties = record { anchor = anchor; tag = Some said };
+          text = spaces
+              (column + length (word_cut (0x21 ∷ u)).front) ++ (word_cut (0x21 ∷ u)).rest;
+        }) said)) ≡ false
+    by None = refl
+    by (Some said) =
+        properties_other rules false (record { anchor = anchor; tag = Some said })
+        (indented (spaces (column + length (word_cut (0x21 ∷ u)).front) ++ (word_cut (0x21 ∷ u)).rest)).text (or_some anchor)
+      where
+        or_some : (anchor : Option Text) → (is_some anchor || true) ≡ true
+        or_some None = refl
+        or_some (Some name) = refl
+
+anchor_other : (rules : Rules) (name : Text) (column : ℕ) (t : Text) → reads_alias (after_read rules false (tag_first rules.directives (Some name) column t))
+    ≡ false
+anchor_other rules name column [] = properties_other rules false (record { anchor = Some name; tag = None }) (indented (spaces column)).text refl
+anchor_other rules name column (c ∷ t) = by (c == 0x21) refl
+  where
+    by : (x : Bool) → (c == 0x21) ≡ x
+        → reads_alias (after_read rules false (if x then tag_of_word rules.directives (Some name) column (word_cut (c ∷ t))
+        else Some (record { properties = record { anchor = Some name; tag = None }; text = spaces column ++ c ∷ t }))) ≡ false
+    by true e =
+        ap (λ d. reads_alias (after_read rules false (tag_of_word rules.directives (Some name) column (word_cut (d ∷ t))))) (eqb-true c 0x21 e)
+        ∙ tag_other rules (Some name) column t
+    by false e = properties_other rules false (record { anchor = Some name; tag = None }) (indented (spaces column ++ c ∷ t)).text refl
+
+pub tag_no_alias : (rules : Rules) (u : Text) → word_of_alias rules (0x21 ∷ u) ≡ None
+tag_no_alias rules u = alias_left (word_read rules false (0x21 ∷ u)) (tag_other rules None 0 u)
+
+pub anchor_no_alias : (rules : Rules) (u : Text) → word_of_alias rules (0x26 ∷ u) ≡ None
+anchor_no_alias rules u = alias_left (word_read rules false (0x26 ∷ u)) (by (name_read (word_cut u).front))
+  where
+    by : (name : Option Text)
+        → reads_alias (after_read rules false (option_and_then (λ (read : PropertiesRead). let after : Indented = indented read.text in tag_first rules.directives read.properties.anchor after.column after.text)
+        (option_map (λ name. record {
+          properties = record { anchor = Some name; tag = None };
+          text = spaces (suc (length (word_cut u).front)) ++
+              (word_cut u).rest;
+        }) name))) ≡ false
+    by None = refl
+    by (Some name) =
+        let after : Indented = indented (spaces (suc (length (word_cut u).front)) ++ (word_cut u).rest) in anchor_other rules name after.column after.text
+
+-- No key
+
+-- a text that is no word and no alias before its last space is no key
+pub no_key_text : (rules : Rules) (text : Text) → word_read rules false text ≡ None → option_and_then (word_of_alias rules) (without_last_space text) ≡ None
+    → key_of_text rules text ≡ None
+no_key_text rules text no_word none =
+    key_by_word rules text None (ap (option_and_then (λ tree. if is_alias tree then None else Some tree)) no_word) none
+    ∙ neither (nat_le (length text) longest_key)
+  where
+    neither : (x : Bool) → ◌≡◌ {A = Option Tree} (if x then None else None) None
+    neither true = refl
+    neither false = refl
+
+-- the beginning of a tag after an anchor or not is no key
+tag_no_key : (rules : Rules) (anchor : Option Text) (b : Text) → IsNamed anchor → has_no_space b ≡ true → key_of_text rules (anchored anchor ++ (0x21 ∷ b))
+    ≡ None
+tag_no_key rules None b named h =
+    no_key_text rules (0x21 ∷ b) (tag_no_word rules false None b named h) (no_alias_before rules 0x21 b refl (tag_no_alias rules))
+tag_no_key rules (Some name) b named h =
+    no_key_text rules (anchored (Some name) ++ (0x21 ∷ b)) (tag_no_word rules false (Some name) b named h)
+    (no_alias_before rules 0x26 ((name ++ (space ∷ [])) ++ (0x21 ∷ b)) refl (anchor_no_alias rules))
+
+-- no key ends in the rest of a tag
+tag_rest_nowhere : (rules : Rules) (anchor : Option Text) (b t : Text) → IsNamed anchor → has_no_space b ≡ true → has_no_space t ≡ true
+    → KeyNowhere rules (anchored anchor ++ (0x21 ∷ b)) t
+tag_rest_nowhere rules anchor b [] named h k = tt
+tag_rest_nowhere rules anchor b (c ∷ t) named h k =
+    let parts = and_parts (not (c == space)) (has_no_space t) k in (
+      (λ e. tag_no_key rules anchor b named h),
+      subst (λ u. KeyNowhere rules u t) (sym (append_assoc (anchored anchor) (0x21 ∷ b) (c ∷ [])))
+          (tag_rest_nowhere rules anchor (b ++ (c ∷ [])) t named (longer b h parts.0) parts.1),
+    )
+  where
+    longer : (b : Text) → has_no_space b ≡ true → not (c == space) ≡ true → has_no_space (b ++ (c ∷ [])) ≡ true
+    longer [] h k = and_from (not (c == space)) true k refl
+    longer (d ∷ b) h k =
+        let parts = and_parts (not (d == space)) (has_no_space b) h in
+        and_from (not (d == space)) (has_no_space (b ++ (c ∷ []))) parts.0 (longer b parts.1 k)
+
+-- nor in the tag
+tag_nowhere : (rules : Rules) (anchor : Option Text) (tag : Text) (said : TagSaid) → IsNamed anchor → WrittenTag rules.directives tag said
+    → KeyNowhere rules (anchored anchor) tag
+tag_nowhere rules anchor tag said named written =
+    subst (KeyNowhere rules (anchored anchor)) (sym written.begins) (
+      (λ e. absurd (false≢true e)),
+      tag_rest_nowhere rules anchor [] written.rest named refl (ap has_no_space (sym written.begins) ∙ no_white_no_space tag written.no_white),
+    )
+
+-- nor in an anchor's name
+name_nowhere : (rules : Rules) (before name : Text) → list_all is_alpha name ≡ true → KeyNowhere rules before name
+name_nowhere rules before [] h = tt
+name_nowhere rules before (c ∷ name) h =
+    let parts = and_parts (is_alpha c) (list_all is_alpha name) h in
+    ((λ e. absurd (true≢false (sym parts.0 ∙ ap is_alpha (eqb-true c 0x3A e)))), name_nowhere rules (before ++ (c ∷ [])) name parts.1)
+
+-- nor in an anchor and the space after it
+anchored_nowhere : (rules : Rules) (anchor : Option Text) → IsNamed anchor → KeyNowhere rules [] (anchored anchor)
+anchored_nowhere rules None named = tt
+anchored_nowhere rules (Some name) named = (
+  (λ e. absurd (false≢true e)),
+  nowhere_both rules (0x26 ∷ []) name (space ∷ []) (name_nowhere rules (0x26 ∷ []) name (name_letters name named))
+      ((λ e. absurd (false≢true e)), tt),
+)
+
+-- no key ends in properties
+pub properties_nowhere : (rules : Rules) (anchor tag : Option Text) (said : Option TagSaid) → IsNamed anchor → IsTagged rules.directives tag said
+    → KeyNowhere rules [] (properties_text anchor tag)
+properties_nowhere rules None None said named tagged = tt
+properties_nowhere rules (Some name) None said named tagged =
+    ((λ e. absurd (false≢true e)), name_nowhere rules (0x26 ∷ []) name (name_letters name named))
+properties_nowhere rules None (Some tag) (Some said) named tagged = tag_nowhere rules None tag said named tagged
+properties_nowhere rules (Some name) (Some tag) (Some said) named tagged =
+    subst (KeyNowhere rules []) (append_assoc (0x26 ∷ name) (space ∷ []) tag)
+    (nowhere_both rules [] (anchored (Some name)) tag (anchored_nowhere rules (Some name) named) (tag_nowhere rules (Some name) tag said named tagged))
+properties_nowhere rules None (Some tag) None named tagged = absurd tagged
+properties_nowhere rules (Some name) (Some tag) None named tagged = absurd tagged
+
+-- nor in the space after them
+pub lead_nowhere : (rules : Rules) (anchor tag : Option Text) (said : Option TagSaid) → IsNamed anchor → IsTagged rules.directives tag said
+    → KeyNowhere rules [] (lead anchor tag)
+lead_nowhere rules None None said named tagged = tt
+lead_nowhere rules (Some name) None said named tagged = anchored_nowhere rules (Some name) named
+lead_nowhere rules None (Some tag) said named tagged =
+    nowhere_both rules [] tag (space ∷ []) (properties_nowhere rules None (Some tag) said named tagged) ((λ e. absurd (false≢true e)), tt)
+lead_nowhere rules (Some name) (Some tag) said named tagged =
+    nowhere_both rules [] (properties_text (Some name) (Some tag)) (space ∷ []) (properties_nowhere rules (Some name) (Some tag) said named tagged)
+    ((λ e. absurd (false≢true e)), tt)

@@ -1,0 +1,212 @@
+-- A literal or folded scalar as its own text on the lines of a block.
+use Rattle.std.proofs.Common.{◌≡◌, suc, refl, sym, ap, ◌∙◌, append_assoc, subst}
+use Rattle.std.proofs.lemmas.Bool.{and_parts, and_from, or_parts}
+use Rattle.std.proofs.lemmas.List.Folds.{list_all-append}
+use Rattle.std.specs.List.{list_all, list_any}
+use Rattle.std.specs.Prelude.{ℕ, Bool, true, false, Option, None, Some, List, [], ◌∷◌, ◌++◌, ◌==◌, ◌||◌, ◌&&◌, unwrap_or, option_and_then, if◌then◌else◌}
+use Rattle.yaml_base.specs.Characters.{Text, is_between, is_printable}
+use Rattle.yaml_base.specs.LineBreaks.{is_read_break}
+use Rattle.yaml_base.specs.Event.{ScalarStyle, literal, folded}
+use Rattle.yaml_base.specs.ReadTags.{TagSaid}
+use Rattle.yaml_base.specs.ReadBlock.{elements, digit_first, after_digit, chomping_first, after_chomping, after_break, read_lines, read_block}
+use Rattle.yaml_base.specs.TidyBodies.{has_deep_lines, is_tidy}
+use Rattle.yaml_base.specs.StreamContent.{stood_quoted}
+use Rattle.yaml_base.specs.StreamLines.{Line, extending, character_before, lines_of}
+use Rattle.yaml_base.specs.StreamScalars.{Rules, Properties, no_properties, scalar_said, a_scalar, kind_of_word, word_by_kind}
+use Rattle.yaml_base.specs.StreamNodes.{key_of_text, word_of_alias}
+use Rattle.yaml_base.proofs.StreamLineLaws.{OneLine, one_line_both}
+use Rattle.yaml_base.proofs.StreamTidyLaws.{first_text}
+use Rattle.yaml_base.proofs.StreamKeys.{scalar_no_alias}
+use Rattle.yaml_base.proofs.StreamProperties.{begins_content}
+use Rattle.yaml_base.proofs.StreamPropertyWords.{lead}
+use Rattle.yaml_base.proofs.StreamFlowWords.{Given}
+use Rattle.yaml_base.proofs.StreamNoKeys.{KeyNowhere, nowhere_alone}
+use Rattle.yaml_base.proofs.StreamOwnTexts.{OwnText}
+use Rattle.yaml_base.proofs.StreamOwnWords.{feed, deep_more, tidy_deep, lines_deeper, behind_no_key, first_passes, none_said}
+
+-- the sign of a block style, and the style
+abbrev pub block_sign : (is_literal : Bool) → ℕ
+block_sign true = 0x7C
+block_sign false = 0x3E
+
+abbrev pub block_style : (is_literal : Bool) → ScalarStyle
+block_style true = literal
+block_style false = folded
+
+-- No key
+
+-- a line has no break after a header's digit and sign
+header_alone : (breaks12 : Bool) (b : Text) → OneLine breaks12 b → after_break breaks12 (after_chomping (after_digit b)) ≡ None
+header_alone breaks12 b one = unbroken (after_chomping (after_digit b)) (chomped (after_digit b) (digits b one))
+  where
+    digits : (b : Text) → OneLine breaks12 b → OneLine breaks12 (after_digit b)
+    digits [] one = refl
+    digits (c ∷ b) one = by (is_between 49 57 c)
+      where
+        by : (x : Bool) → OneLine breaks12 (if x then b else c ∷ b)
+        by true = (or_parts (is_read_break breaks12 c) (list_any (is_read_break breaks12) b) one).1
+        by false = one
+
+    chomped : (b : Text) → OneLine breaks12 b → OneLine breaks12 (after_chomping b)
+    chomped [] one = refl
+    chomped (c ∷ b) one = by (c == 45 || c == 43)
+      where
+        by : (x : Bool) → OneLine breaks12 (if x then b else c ∷ b)
+        by true = (or_parts (is_read_break breaks12 c) (list_any (is_read_break breaks12) b) one).1
+        by false = one
+
+    unbroken : (b : Text) → OneLine breaks12 b → after_break breaks12 b ≡ None
+    unbroken [] one = refl
+    unbroken (c ∷ b) one = ap (λ x. if x then Some b else None) (or_parts (is_read_break breaks12 c) (list_any (is_read_break breaks12) b) one).0
+
+-- so one line alone is no block scalar
+no_block : (breaks12 l : Bool) (b : Text) → OneLine breaks12 b → read_block breaks12 None (block_sign l ∷ b) ≡ None
+no_block breaks12 true b one =
+    ap (option_and_then (λ body. read_lines false (chomping_first (after_digit b)) (digit_first b) None (elements breaks12 body))) (header_alone breaks12 b one)
+no_block breaks12 false b one =
+    ap (option_and_then (λ body. read_lines true (chomping_first (after_digit b)) (digit_first b) None (elements breaks12 body))) (header_alone breaks12 b one)
+
+-- a text that begins with such a sign is a scalar
+block_kind : (l : Bool) (t : Text) → kind_of_word (block_sign l ∷ t) ≡ a_scalar
+block_kind true [] = refl
+block_kind true (c ∷ []) = refl
+block_kind true (c ∷ d ∷ t) = refl
+block_kind false [] = refl
+block_kind false (c ∷ []) = refl
+block_kind false (c ∷ d ∷ t) = refl
+
+-- and no alias
+block_no_alias : (rules : Rules) (l : Bool) (u : Text) → word_of_alias rules (block_sign l ∷ u) ≡ None
+block_no_alias rules true [] =
+    scalar_no_alias no_properties stood_quoted (if is_tidy literal rules.breaks12 None (0x7C ∷ []) then read_block rules.breaks12 None (0x7C ∷ []) else None)
+block_no_alias rules true (c ∷ []) =
+    scalar_no_alias no_properties stood_quoted
+    (if is_tidy literal rules.breaks12 None (0x7C ∷ c ∷ []) then read_block rules.breaks12 None (0x7C ∷ c ∷ []) else None)
+block_no_alias rules true (c ∷ d ∷ u) =
+    scalar_no_alias no_properties stood_quoted
+    (if is_tidy literal rules.breaks12 None (0x7C ∷ c ∷ d ∷ u) then read_block rules.breaks12 None (0x7C ∷ c ∷ d ∷ u) else None)
+block_no_alias rules false [] =
+    scalar_no_alias no_properties stood_quoted (if is_tidy folded rules.breaks12 None (0x3E ∷ []) then read_block rules.breaks12 None (0x3E ∷ []) else None)
+block_no_alias rules false (c ∷ []) =
+    scalar_no_alias no_properties stood_quoted
+    (if is_tidy folded rules.breaks12 None (0x3E ∷ c ∷ []) then read_block rules.breaks12 None (0x3E ∷ c ∷ []) else None)
+block_no_alias rules false (c ∷ d ∷ u) =
+    scalar_no_alias no_properties stood_quoted
+    (if is_tidy folded rules.breaks12 None (0x3E ∷ c ∷ d ∷ u) then read_block rules.breaks12 None (0x3E ∷ c ∷ d ∷ u) else None)
+
+-- the beginning of a header is no key
+header_part : (rules : Rules) (l : Bool) (anchor tag : Option Text) (said : Option TagSaid) (b : Text) → Given rules anchor tag said → OneLine rules.breaks12 b
+    → key_of_text rules (lead anchor tag ++ (block_sign l ∷ b)) ≡ None
+header_part rules l anchor tag said b given one =
+    let properties : Properties = record { anchor = anchor; tag = said } in
+    behind_no_key rules anchor tag said (block_sign l) b given (content l)
+    (ap (λ k. word_by_kind k rules false None properties (block_sign l ∷ b)) (block_kind l b) ∙ by l)
+    (block_no_alias rules l)
+  where
+    content : (l : Bool) → begins_content (block_sign l ∷ b) ≡ true
+    content true = refl
+    content false = refl
+
+    by : (l : Bool) → word_by_kind a_scalar rules false None (record { anchor = anchor; tag = said }) (block_sign l ∷ b) ≡ None
+    by true =
+        ap (λ v. scalar_said (record { anchor = anchor; tag = said }) stood_quoted (if is_tidy literal rules.breaks12 None (0x7C ∷ b) then v else None))
+        (no_block rules.breaks12 true b one)
+        ∙ none_said (record { anchor = anchor; tag = said }) stood_quoted (is_tidy literal rules.breaks12 None (0x7C ∷ b))
+    by false =
+        ap (λ v. scalar_said (record { anchor = anchor; tag = said }) stood_quoted (if is_tidy folded rules.breaks12 None (0x3E ∷ b) then v else None))
+        (no_block rules.breaks12 false b one)
+        ∙ none_said (record { anchor = anchor; tag = said }) stood_quoted (is_tidy folded rules.breaks12 None (0x3E ∷ b))
+
+-- so no key ends in the first line
+header_nowhere : (rules : Rules) (l : Bool) (anchor tag : Option Text) (said : Option TagSaid) (b u : Text) → Given rules anchor tag said
+    → OneLine rules.breaks12 b
+    → KeyNowhere rules (lead anchor tag ++ (block_sign l ∷ b)) (first_text (lines_of rules.breaks12 u))
+header_nowhere rules l anchor tag said b [] given one = tt
+header_nowhere rules l anchor tag said b (c ∷ u) given one =
+    by (is_read_break rules.breaks12 c) refl (λ longer. header_nowhere rules l anchor tag said (b ++ (c ∷ [])) u given longer)
+  where
+    here : (f : Text) → KeyNowhere rules (lead anchor tag ++ (block_sign l ∷ (b ++ (c ∷ [])))) f
+        → KeyNowhere rules (lead anchor tag ++ (block_sign l ∷ b)) (c ∷ f)
+    here f more = (
+      λ h. header_part rules l anchor tag said b given one,
+      subst (λ t. KeyNowhere rules t f) (sym (append_assoc (lead anchor tag) (block_sign l ∷ b) (c ∷ []))) more,
+    )
+
+    extended : (lines : List Line) → KeyNowhere rules (lead anchor tag ++ (block_sign l ∷ (b ++ (c ∷ [])))) (first_text lines)
+        → KeyNowhere rules (lead anchor tag ++ (block_sign l ∷ b)) (first_text (extending c lines))
+    extended [] more = here [] more
+    extended (line ∷ rest) more = here line.text more
+
+    by : (x : Bool) → is_read_break rules.breaks12 c ≡ x
+        → (OneLine rules.breaks12 (b ++ (c ∷ [])) → KeyNowhere rules (lead anchor tag ++ (block_sign l ∷ (b ++ (c ∷ []))))
+        (first_text (lines_of rules.breaks12 u)))
+        → KeyNowhere rules (lead anchor tag ++ (block_sign l ∷ b)) (first_text (character_before x c (lines_of rules.breaks12 u)))
+    by true e more = tt
+    by false e more = extended (lines_of rules.breaks12 u) (more (one_line_both rules.breaks12 b (c ∷ []) one (ap (λ x. x || false) e)))
+
+-- Block scalars
+
+-- such a sign breaks no line
+signs_go_on : (breaks12 l : Bool) → is_read_break breaks12 (block_sign l) ≡ false
+signs_go_on true true = refl
+signs_go_on true false = refl
+signs_go_on false true = refl
+signs_go_on false false = refl
+
+-- a tidy text that reads as a block scalar
+pub own_block : (rules : Rules) (column : Option ℕ) (l : Bool) (u v : Text) → is_tidy (block_style l) rules.breaks12 column (block_sign l ∷ u) ≡ true
+    → read_block rules.breaks12 column (block_sign l ∷ u) ≡ Some v → OwnText rules column (block_sign l ∷ u) (block_style l) v
+own_block rules column true u v tidy read = record {
+  head = 0x7C;
+  tail = u;
+  is = refl;
+  content = refl;
+  goes_on = signs_go_on rules.breaks12 true;
+  no_item = refl;
+  no_key = refl;
+  keyless = λ anchor tag said given.
+      first_passes rules (lead anchor tag) (first_text (lines_of rules.breaks12 u)) 0x7C refl
+      (nowhere_alone rules (lead anchor tag ++ (0x7C ∷ [])) (first_text (lines_of rules.breaks12 u))
+      (header_nowhere rules true anchor tag said [] u given refl));
+  deeper = lines_deeper rules.breaks12 column 0x7C u (signs_go_on rules.breaks12 true) (tidy_deep literal rules.breaks12 column (0x7C ∷ u) tidy);
+  read = λ properties.
+      ap (λ x. scalar_said properties stood_quoted (if x then read_block rules.breaks12 column (0x7C ∷ u) else None)) tidy
+      ∙ ap (scalar_said properties stood_quoted) read;
+}
+own_block rules column false u v tidy read = record {
+  head = 0x3E;
+  tail = u;
+  is = refl;
+  content = refl;
+  goes_on = signs_go_on rules.breaks12 false;
+  no_item = refl;
+  no_key = refl;
+  keyless = λ anchor tag said given.
+      first_passes rules (lead anchor tag) (first_text (lines_of rules.breaks12 u)) 0x3E refl
+      (nowhere_alone rules (lead anchor tag ++ (0x3E ∷ [])) (first_text (lines_of rules.breaks12 u))
+      (header_nowhere rules false anchor tag said [] u given refl));
+  deeper = lines_deeper rules.breaks12 column 0x3E u (signs_go_on rules.breaks12 false) (tidy_deep folded rules.breaks12 column (0x3E ∷ u) tidy);
+  read = λ properties.
+      ap (λ x. scalar_said properties stood_quoted (if x then read_block rules.breaks12 column (0x3E ∷ u) else None)) tidy
+      ∙ ap (scalar_said properties stood_quoted) read;
+}
+
+-- it stays tidy with a break more
+pub block_tidy_more : (l breaks12 : Bool) (column : Option ℕ) (t : Text) → is_tidy (block_style l) breaks12 column t ≡ true
+    → is_tidy (block_style l) breaks12 column (t ++ feed) ≡ true
+block_tidy_more l breaks12 column t tidy = by l tidy
+  where
+    n : ℕ
+    n = suc (unwrap_or column 0)
+
+    deep : (x : Bool) → ((list_all is_printable t && has_deep_lines breaks12 n t) && x) ≡ true
+        → (list_all is_printable (t ++ feed) && has_deep_lines breaks12 n (t ++ feed)) ≡ true
+    deep x tidy =
+        let both =
+        and_parts (list_all is_printable t) (has_deep_lines breaks12 n t) (and_parts (list_all is_printable t && has_deep_lines breaks12 n t) x tidy).0 in
+        and_from (list_all is_printable (t ++ feed)) (has_deep_lines breaks12 n (t ++ feed))
+        (list_all-append is_printable t feed ∙ ap (λ x. x && true) both.0) (deep_more breaks12 n t both.1)
+
+    by : (l : Bool) → is_tidy (block_style l) breaks12 column t ≡ true → is_tidy (block_style l) breaks12 column (t ++ feed) ≡ true
+    by true tidy = and_from (list_all is_printable (t ++ feed) && has_deep_lines breaks12 n (t ++ feed)) true (deep true tidy) refl
+    by false tidy = and_from (list_all is_printable (t ++ feed) && has_deep_lines breaks12 n (t ++ feed)) true (deep true tidy) refl

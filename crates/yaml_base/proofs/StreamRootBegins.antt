@@ -1,0 +1,236 @@
+-- What a root that stands begins with, behind a space where one is needed: a character that no reader skips.
+use Rattle.std.proofs.Common.{◌≡◌, refl, sym, ap, ◌∙◌, append_assoc, append-nil}
+use Rattle.std.proofs.lemmas.Bool.{true≢false, false≢true, and_parts, or_parts}
+use Rattle.std.specs.Prelude.{ℕ, Bool, true, false, Option, None, Some, List, [], ◌∷◌, ◌++◌, ◌==◌, ◌&&◌, not, if◌then◌else◌}
+use Rattle.yaml_base.specs.Characters.{Text, space, tab, is_blank}
+use Rattle.yaml_base.specs.LineBreaks.{is_read_break}
+use Rattle.yaml_base.specs.Settings.{Effective}
+use Rattle.yaml_base.specs.Event.{ScalarStyle, any_style, plain, single_quoted, double_quoted, literal, folded, TagDirective}
+use Rattle.yaml_base.specs.Analysis.{Allowances, is_empty}
+use Rattle.yaml_base.specs.Style.{is_plain, style_fitting}
+use Rattle.yaml_base.specs.Plain.{runs, runs_laid}
+use Rattle.yaml_base.specs.SingleQuoted.{quotes_doubled, single_quote}
+use Rattle.yaml_base.specs.DoubleQuoted.{double_inside, quote_laid}
+use Rattle.yaml_base.specs.Meaning.{read_in_style}
+use Rattle.yaml_base.specs.ReadPlain.{is_read_white, read_plain}
+use Rattle.yaml_base.specs.TidyBodies.{has_no_space_before_break, has_clean_edges, ends_white, is_tidy_style}
+use Rattle.yaml_base.specs.StreamContent.{Tree}
+use Rattle.yaml_base.specs.Cursor.{Cursor, Laid, space_if}
+use Rattle.yaml_base.specs.Tags.{spelling, spelled}
+use Rattle.yaml_base.specs.Layout.{alias_laid, properties_laid, body_laid}
+use Rattle.yaml_base.specs.ReadTags.{TagSaid}
+use Rattle.yaml_base.specs.StreamScalars.{Rules}
+use Rattle.yaml_base.proofs.StreamProperties.{IsNamed}
+use Rattle.yaml_base.proofs.StreamPropertyWords.{lead}
+use Rattle.yaml_base.proofs.StreamStands.{tag_written, tag_meant, TagStands}
+use Rattle.yaml_base.proofs.StreamFlowWords.{Given}
+use Rattle.yaml_base.proofs.StreamBegun.{properties_whole}
+use Rattle.yaml_base.proofs.StreamFlowReads.{FlowContent}
+use Rattle.yaml_base.proofs.StreamFlowFits.{own_shows}
+use Rattle.yaml_base.proofs.StreamLeads.{lead_laid, tag_is_written}
+use Rattle.yaml_base.proofs.StreamFlowScalars.{rules_of}
+use Rattle.yaml_base.proofs.StreamScalarsFit.{styled_laid, body_cursor, separation_text}
+use Rattle.yaml_base.proofs.StreamRootsStand.{Begins}
+
+-- Characters
+
+-- the sign of an anchor and that of a tag break no line
+property_line : (breaks12 : Bool) → (is_read_break breaks12 0x26 ≡ false) × (is_read_break breaks12 0x21 ≡ false)
+property_line true = (refl, refl)
+property_line false = (refl, refl)
+
+-- what is laid out behind a space where one is needed
+spaced_begins : (breaks12 : Bool) (cursor : Cursor) (own : Laid) (head : ℕ) (tail : Text) → own.text ≡ space_if true cursor ++ (head ∷ tail)
+    → (head == space) ≡ false → is_read_break breaks12 head ≡ false → Begins breaks12 cursor own
+spaced_begins breaks12 cursor own head tail e shows goes_on = by cursor.whitespace refl
+  where
+    by : (x : Bool) → cursor.whitespace ≡ x → Begins breaks12 cursor own
+    by true h = record {
+      count = 0;
+      head = head;
+      tail = tail;
+      text = e ∙ ap (λ x. (if true && not x then space ∷ [] else []) ++ (head ∷ tail)) h;
+      margin = λ w. refl;
+      shows = shows;
+      goes_on = goes_on;
+    }
+    by false h = record {
+      count = 1;
+      head = head;
+      tail = tail;
+      text = e ∙ ap (λ x. (if true && not x then space ∷ [] else []) ++ (head ∷ tail)) h;
+      margin = λ w. absurd (true≢false (sym w ∙ h));
+      shows = shows;
+      goes_on = goes_on;
+    }
+
+-- what stands behind properties or without them
+led_begins : (rules : Rules) (cursor : Cursor) (own : Laid) (anchor tag : Option Text) (said : Option TagSaid) (c : ℕ) (t : Text) → Given rules anchor tag said
+    → (c == space) ≡ false → is_read_break rules.breaks12 c ≡ false → own.text ≡ space_if true cursor ++ (lead anchor tag ++ (c ∷ t))
+    → Begins rules.breaks12 cursor own
+led_begins rules cursor own None None said c t given shows goes_on e = spaced_begins rules.breaks12 cursor own c t e shows goes_on
+led_begins rules cursor own (Some name) None said c t given shows goes_on e =
+    spaced_begins rules.breaks12 cursor own 0x26 ((name ++ (space ∷ [])) ++ (c ∷ t)) e refl (property_line rules.breaks12).0
+led_begins rules cursor own (Some name) (Some tag) said c t given shows goes_on e =
+    spaced_begins rules.breaks12 cursor own 0x26 (((name ++ (space ∷ tag)) ++ (space ∷ [])) ++ (c ∷ t)) e refl (property_line rules.breaks12).0
+led_begins rules cursor own None (Some tag) (Some said) c t given shows goes_on e =
+    spaced_begins rules.breaks12 cursor own 0x21 ((given.tagged.rest ++ (space ∷ [])) ++ (c ∷ t))
+    (e ∙ ap (λ u. space_if true cursor ++ ((u ++ (space ∷ [])) ++ (c ∷ t))) given.tagged.begins) refl (property_line rules.breaks12).1
+led_begins rules cursor own None (Some tag) None c t given shows goes_on e = absurd given.tagged
+
+-- Properties
+
+-- properties, if there are some
+pub properties_begin : (s : Effective) (own directives : List TagDirective) (anchor tag : Option Text) (cursor : Cursor)
+    → TagStands s.portable own directives tag
+    → (anchor ≡ None → tag ≡ None → ⊥) → Begins s.breaks12 cursor (properties_laid s.portable directives anchor tag false cursor)
+properties_begin s own directives None None cursor stands some = absurd (some refl refl)
+properties_begin s own directives (Some name) None cursor stands some =
+    spaced_begins s.breaks12 cursor (properties_laid s.portable directives (Some name) None false cursor) 0x26 name
+    (properties_whole s.portable directives (Some name) None cursor 0x26 name refl) refl (property_line s.breaks12).0
+properties_begin s own directives None (Some tag) cursor stands some =
+    spaced_begins s.breaks12 cursor (properties_laid s.portable directives None (Some tag) false cursor) 0x21 stands.rest
+    (properties_whole s.portable directives None (Some tag) cursor 0x21 stands.rest stands.begins) refl (property_line s.breaks12).1
+properties_begin s own directives (Some name) (Some tag) cursor stands some =
+    let rest = name ++ (space ∷ spelled s.portable (spelling directives tag)) in
+    spaced_begins s.breaks12 cursor (properties_laid s.portable directives (Some name) (Some tag) false cursor) 0x26 rest
+    (properties_whole s.portable directives (Some name) (Some tag) cursor 0x26 rest refl) refl (property_line s.breaks12).0
+
+-- Aliases
+
+-- an alias
+pub alias_begins : (s : Effective) (name : Text) (cursor : Cursor) → Begins s.breaks12 cursor (alias_laid name false cursor)
+alias_begins s name cursor =
+    spaced_begins s.breaks12 cursor (alias_laid name false cursor) 0x2A name
+    (append-nil ((space_if true cursor ++ (0x2A ∷ [])) ++ name) ∙ append_assoc (space_if true cursor) (0x2A ∷ []) name) refl (star s.breaks12)
+  where
+    star : (breaks12 : Bool) → is_read_break breaks12 0x2A ≡ false
+    star true = refl
+    star false = refl
+
+-- Collections in flow
+
+-- a collection in flow
+pub flow_begins : (rules : Rules) (cursor : Cursor) (own : Laid) (anchor tag given_tag : Option Text) (tree : Tree)
+    → FlowContent rules cursor own anchor tag given_tag tree → Given rules anchor tag (tag_meant given_tag false) → Begins rules.breaks12 cursor own
+flow_begins rules cursor own anchor tag given_tag tree of given =
+    led_begins rules cursor own anchor tag (tag_meant given_tag false) of.bracket (of.inside ++ (of.closing ∷ [])) given (own_shows of.bracket of.content).0
+    (or_parts (is_read_break rules.breaks12 of.bracket) false of.one_line).0 of.whole
+
+-- Scalars
+
+-- a text begins with a character that no reader skips
+pub record HeadShows (breaks12 : Bool) (text : Text) : Type 0 where
+  pub head : ℕ
+  pub tail : Text
+  pub is : text ≡ head ∷ tail
+  pub shows : (head == space) ≡ false
+  pub goes_on : is_read_break breaks12 head ≡ false
+
+-- what isn't white
+shown_head : (breaks12 : Bool) (c : ℕ) (t : Text) → is_read_white breaks12 c ≡ false → HeadShows breaks12 (c ∷ t)
+shown_head breaks12 c t h =
+    let parts = or_parts (is_blank c) (is_read_break breaks12 c) h in
+    record { head = c; tail = t; is = refl; shows = (or_parts (c == space) (c == tab) parts.0).0; goes_on = parts.1 }
+
+-- quotes and the signs of block scalars
+sign_shows : (breaks12 : Bool) → (is_read_white breaks12 0x27 ≡ false) × (is_read_white breaks12 0x22 ≡ false) × (is_read_white breaks12 0x7C ≡ false)
+    × (is_read_white breaks12 0x3E ≡ false)
+sign_shows true = (refl, refl, refl, refl)
+sign_shows false = (refl, refl, refl, refl)
+
+-- a tidy plain text that reads as more than nothing
+plain_head : (breaks12 : Bool) (text value : Text) → is_empty value ≡ false → has_clean_edges breaks12 text ≡ true → read_plain breaks12 false text ≡ Some value
+    → HeadShows breaks12 text
+plain_head breaks12 [] [] some clean read = absurd (true≢false some)
+plain_head breaks12 [] (c ∷ value) some clean read = cc
+plain_head breaks12 (c ∷ text) value some clean read =
+    shown_head breaks12 c text (by (is_read_white breaks12 c) (and_parts (not (is_read_white breaks12 c)) (not (ends_white breaks12 (c ∷ text))) clean).0)
+  where
+    by : (x : Bool) → not x ≡ true → x ≡ false
+    by true h = absurd (false≢true h)
+    by false h = refl
+
+-- a body that isn't empty
+pub body_head : (s : Effective) (style : ScalarStyle) (limit : Option ℕ) (indent : ℕ) (column : Option ℕ) (value : Text) (cursor : Cursor)
+    → (is_plain style && is_empty value) ≡ false → is_tidy_style style s.breaks12 (body_laid style s limit indent value cursor).text ≡ true
+    → read_in_style style s.breaks12 false column (body_laid style s limit indent value cursor).text ≡ Some value
+    → HeadShows s.breaks12 (body_laid style s limit indent value cursor).text
+body_head s plain limit indent column value cursor some tidy read =
+    let text = (body_laid plain s limit indent value cursor).text in
+    plain_head s.breaks12 text value some (and_parts (has_no_space_before_break s.breaks12 text) (has_clean_edges s.breaks12 text) tidy).1 read
+body_head s single_quoted limit indent column value cursor some tidy read =
+    shown_head s.breaks12 0x27 ((runs_laid quotes_doubled limit indent true (runs value) (single_quote cursor).cursor).text ++ (0x27 ∷ []))
+    (sign_shows s.breaks12).0
+body_head s double_quoted limit indent column value cursor some tidy read =
+    shown_head s.breaks12 0x22 ((double_inside s.unicode limit indent None value (quote_laid cursor).cursor).text ++ (0x22 ∷ [])) (sign_shows s.breaks12).1
+body_head s any_style limit indent column value cursor some tidy read = absurd (false≢true tidy)
+body_head s literal limit indent column value cursor some tidy read = shown_head s.breaks12 0x7C _ (sign_shows s.breaks12).2
+body_head s folded limit indent column value cursor some tidy read = shown_head s.breaks12 0x3E _ (sign_shows s.breaks12).3
+
+-- what has the same text begins alike
+begins_alike : (breaks12 : Bool) (cursor : Cursor) (own other : Laid) → other.text ≡ own.text → Begins breaks12 cursor own → Begins breaks12 cursor other
+begins_alike breaks12 cursor own other e b = record {
+  count = b.count;
+  head = b.head;
+  tail = b.tail;
+  text = e ∙ b.text;
+  margin = b.margin;
+  shows = b.shows;
+  goes_on = b.goes_on;
+}
+
+-- an empty plain scalar with properties
+pub empty_begins : (s : Effective) (own directives : List TagDirective) (anchor tag : Option Text) (bare : Bool) (style : ScalarStyle) (limit : Option ℕ)
+    (indent : ℕ) (value : Text) (cursor : Cursor) → TagStands s.portable own directives tag → is_plain style ≡ true → is_empty value ≡ true → bare ≡ false
+    → (anchor ≡ None → tag ≡ None → ⊥) → Begins s.breaks12 cursor (styled_laid s directives anchor tag bare style limit indent value cursor)
+empty_begins s own directives anchor tag true plain limit indent [] cursor stands is empty h some = absurd (true≢false h)
+empty_begins s own directives anchor tag false plain limit indent [] cursor stands is empty h some =
+    let begun = properties_laid s.portable directives anchor tag false cursor in
+    begins_alike s.breaks12 cursor begun (styled_laid s directives anchor tag false plain limit indent [] cursor)
+    (append-nil (begun.text ++ []) ∙ append-nil begun.text) (properties_begin s own directives anchor tag cursor stands some)
+empty_begins s own directives anchor tag bare plain limit indent (c ∷ value) cursor stands is empty h some = absurd (false≢true empty)
+empty_begins s own directives anchor tag bare single_quoted limit indent value cursor stands is empty h some = absurd (false≢true is)
+empty_begins s own directives anchor tag bare double_quoted limit indent value cursor stands is empty h some = absurd (false≢true is)
+empty_begins s own directives anchor tag bare any_style limit indent value cursor stands is empty h some = absurd (false≢true is)
+empty_begins s own directives anchor tag bare literal limit indent value cursor stands is empty h some = absurd (false≢true is)
+empty_begins s own directives anchor tag bare folded limit indent value cursor stands is empty h some = absurd (false≢true is)
+
+-- a scalar whose body isn't empty
+pub styled_begins : (s : Effective) (own directives : List TagDirective) (anchor tag : Option Text) (bare : Bool) (style : ScalarStyle) (limit : Option ℕ)
+    (indent : ℕ) (value : Text) (cursor : Cursor) → IsNamed anchor → TagStands s.portable own directives tag → (is_plain style && is_empty value) ≡ false
+    → HeadShows s.breaks12 (body_laid style s limit indent value (body_cursor s directives anchor tag bare style value cursor)).text
+    → Begins s.breaks12 cursor (styled_laid s directives anchor tag bare style limit indent value cursor)
+styled_begins s own directives anchor tag bare style limit indent value cursor named stands some h =
+    let properties = properties_laid s.portable directives anchor tag bare cursor in
+    let text = (body_laid style s limit indent value (body_cursor s directives anchor tag bare style value cursor)).text in
+    let before = lead anchor (tag_written s.portable directives tag bare) in
+    led_begins (rules_of s own) cursor (styled_laid s directives anchor tag bare style limit indent value cursor) anchor
+    (tag_written s.portable directives tag bare) (tag_meant tag bare) h.head h.tail
+    (record { named = named; tagged = tag_is_written s.portable own directives tag bare stands }) h.shows h.goes_on
+    (ap (λ t. (properties.text ++ t) ++ text) (separation_text style value properties.cursor some)
+    ∙ ap (λ t. t ++ text) (lead_laid s.portable directives anchor tag bare cursor)
+    ∙ append_assoc (space_if true cursor) before text
+    ∙ ap (λ t. space_if true cursor ++ (before ++ t)) h.is)
+
+-- plain is chosen only where it is asked for and fits
+pub plain_asked : (allowed : Allowances) (plain_fits block_fits : Bool) (asked : ScalarStyle)
+    → is_plain (style_fitting allowed plain_fits block_fits asked) ≡ true
+    → (is_plain asked ≡ true) × (plain_fits ≡ true)
+plain_asked allowed true block_fits plain h = (refl, refl)
+plain_asked allowed false block_fits plain h = absurd (quotes allowed.single_quoted h)
+  where
+    quotes : (x : Bool) → is_plain (if x then single_quoted else double_quoted) ≡ true → ⊥
+    quotes true h = false≢true h
+    quotes false h = false≢true h
+plain_asked allowed plain_fits block_fits single_quoted h = absurd (quotes allowed.single_quoted h)
+  where
+    quotes : (x : Bool) → is_plain (if x then single_quoted else double_quoted) ≡ true → ⊥
+    quotes true h = false≢true h
+    quotes false h = false≢true h
+plain_asked allowed plain_fits true literal h = absurd (false≢true h)
+plain_asked allowed plain_fits false literal h = absurd (false≢true h)
+plain_asked allowed plain_fits true folded h = absurd (false≢true h)
+plain_asked allowed plain_fits false folded h = absurd (false≢true h)
+plain_asked allowed plain_fits block_fits any_style h = absurd (false≢true h)
+plain_asked allowed plain_fits block_fits double_quoted h = absurd (false≢true h)

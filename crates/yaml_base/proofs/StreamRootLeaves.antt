@@ -1,0 +1,169 @@
+-- A document's root that is a leaf stands, where its names, its bodies and the keys in it do.
+use Rattle.std.proofs.Common.{◌≡◌, ◌≤◌, refl, sym, ap, ◌∙◌, arith}
+use Rattle.std.proofs.lemmas.Bool.{true≢false, false≢true, and_parts, and_from}
+use Rattle.std.specs.List.{list_all}
+use Rattle.std.specs.Prelude.{Bool, true, false, Option, None, List, [], ◌||◌, ◌&&◌, not, is_some}
+use Rattle.yaml_base.specs.Characters.{Text, is_printable}
+use Rattle.yaml_base.specs.Settings.{Effective}
+use Rattle.yaml_base.specs.Event.{TagDirective, Scalar}
+use Rattle.yaml_base.specs.Analysis.{Allowances, is_empty, allowances}
+use Rattle.yaml_base.specs.Style.{Choice, is_plain, style_asked, fits_plain}
+use Rattle.yaml_base.specs.Tags.{directives_in_force}
+use Rattle.yaml_base.specs.Cursor.{Cursor}
+use Rattle.yaml_base.specs.Grammar.{Node, alias_node, scalar_node, sequence_node, mapping_node, Document}
+use Rattle.yaml_base.specs.Refusal.{scalar_tag, collection_tag}
+use Rattle.yaml_base.specs.Layout.{as_root, deeper, properties_laid, choice_of, root_place}
+use Rattle.yaml_base.specs.TidyBodies.{has_deep_lines, is_tidy_style}
+use Rattle.yaml_base.specs.StreamLaw.{is_written_as_nothing}
+use Rattle.yaml_base.proofs.StreamTexts.{node_own}
+use Rattle.yaml_base.proofs.StreamAgrees.{node_tree}
+use Rattle.yaml_base.proofs.StreamStands.{tag_written, NamesStand, BodyStands, body_from, BodiesHold}
+use Rattle.yaml_base.proofs.StreamLeads.{tag_is_written}
+use Rattle.yaml_base.proofs.StreamFlowScalars.{rules_of}
+use Rattle.yaml_base.proofs.StreamFlowKinds.{KeysFit}
+use Rattle.yaml_base.proofs.StreamFlowTakes.{and_false}
+use Rattle.yaml_base.proofs.StreamFlowReads.{sequence_reads, mapping_reads}
+use Rattle.yaml_base.proofs.StreamScalarsFit.{body_cursor}
+use Rattle.yaml_base.proofs.StreamRootsStand.{root_cursor, Begins, LeafStands, is_leaf, PropertiesStand, RootStands}
+use Rattle.yaml_base.proofs.StreamNodesFit.{Stands}
+use Rattle.yaml_base.proofs.StreamLeaves.{ScalarsFit, SimpleKeysFit, leaves_stand}
+use Rattle.yaml_base.proofs.StreamFlowFits.{flows_fit}
+use Rattle.yaml_base.proofs.StreamLeafMarks.{leaf_unmarked}
+use Rattle.yaml_base.proofs.StreamRootBegins.{properties_begin, alias_begins, flow_begins, body_head, empty_begins, styled_begins, plain_asked}
+
+-- Scalars
+
+-- a scalar that is chosen to be plain, is empty and has no properties is written as nothing
+nothing_written : (s : Effective) (content : Scalar) → is_plain (choice_of s root_place false content).style ≡ true → is_empty content.value ≡ true
+    → content.anchor ≡ None → scalar_tag s.canonical content ≡ None → is_written_as_nothing s.canonical (scalar_node content) ≡ true
+nothing_written s content is empty no_anchor no_tag =
+    and_from (is_empty content.value && not (is_some content.anchor) && not (is_some tag) && content.plain_implicit)
+    (is_plain (style_asked s.canonical content.style))
+    (and_from (is_empty content.value && not (is_some content.anchor) && not (is_some tag)) content.plain_implicit
+    (and_from (is_empty content.value && not (is_some content.anchor)) (not (is_some tag))
+    (and_from (is_empty content.value) (not (is_some content.anchor)) empty (ap (λ a. not (is_some a)) no_anchor)) (ap (λ t. not (is_some t)) no_tag)) implicit)
+    (ap (λ x. is_plain (style_asked x content.style)) (sym (or_false s.canonical)) ∙ chosen.0)
+  where
+    tag : Option Text
+    tag = scalar_tag s.canonical content
+
+    allowed : Allowances
+    allowed = allowances (record { unicode = s.unicode; breaks12 = s.breaks12 }) content.value
+
+    or_false : (x : Bool) → (x || false) ≡ x
+    or_false true = refl
+    or_false false = refl
+
+    chosen : (is_plain (style_asked (s.canonical || false) content.style) ≡ true)
+        × (fits_plain allowed (is_empty content.value) (is_some tag) content.plain_implicit false false ≡ true)
+    chosen =
+        plain_asked allowed (fits_plain allowed (is_empty content.value) (is_some tag) content.plain_implicit false false) (allowed.block && true && true)
+        (style_asked (s.canonical || false) content.style) is
+
+    implicit : content.plain_implicit ≡ true
+    implicit =
+        ap (λ t. is_some t || content.plain_implicit) (sym no_tag)
+        ∙ (and_parts (allowed.block_plain && not (is_empty content.value && false)) (is_some tag || content.plain_implicit) chosen.1).1
+
+-- a scalar of which something is written
+scalar_begins : (s : Effective) (own directives : List TagDirective) (cursor : Cursor) (content : Scalar)
+    → NamesStand s.portable own s.canonical directives (scalar_node content) → BodyStands s (body_from s directives root_place content cursor)
+    → is_written_as_nothing s.canonical (scalar_node content) ≡ false
+    → Begins s.breaks12 cursor (node_own (scalar_node content) s directives root_place cursor)
+scalar_begins s own directives cursor content names stands some = by (is_plain choice.style && is_empty content.value) refl
+  where
+    choice : Choice
+    choice = choice_of s root_place false content
+
+    tag : Option Text
+    tag = scalar_tag s.canonical content
+
+    by : (x : Bool) → (is_plain choice.style && is_empty content.value) ≡ x
+        → Begins s.breaks12 cursor (node_own (scalar_node content) s directives root_place cursor)
+    by false h =
+        let body = body_from s directives root_place content cursor in
+        styled_begins s own directives content.anchor tag choice.bare choice.style s.width (deeper s.indent None) content.value cursor names.0 names.1 h
+        (body_head s choice.style s.width (deeper s.indent None) None content.value
+        (body_cursor s directives content.anchor tag choice.bare choice.style content.value cursor) h
+        (and_parts (list_all is_printable body.text && has_deep_lines s.breaks12 1 body.text) (is_tidy_style choice.style s.breaks12 body.text) stands.tidy).1
+        stands.reads)
+    by true h =
+        let parts = and_parts (is_plain choice.style) (is_empty content.value) h in
+        empty_begins s own directives content.anchor tag choice.bare choice.style s.width (deeper s.indent None) content.value cursor names.1 parts.0 parts.1
+        (ap (λ x. not (is_some tag) && not content.quoted_implicit && not x) parts.0 ∙ and_false (not (is_some tag) && not content.quoted_implicit))
+        (λ no_anchor no_tag. true≢false (sym (nothing_written s content parts.0 parts.1 no_anchor no_tag) ∙ some))
+
+-- Roots
+
+-- a leaf begins with a character that shows
+leaf_begins : (n : Node) (s : Effective) (own directives : List TagDirective) (cursor : Cursor) → KeysFit s own directives → is_leaf s n ≡ true
+    → NamesStand s.portable own s.canonical directives n → BodiesHold (BodyStands s) n s directives root_place cursor
+    → is_written_as_nothing s.canonical n ≡ false → Begins s.breaks12 cursor (node_own n s directives root_place cursor)
+leaf_begins (alias_node name) s own directives cursor keys leaf names bodies some = alias_begins s name cursor
+leaf_begins (scalar_node content) s own directives cursor keys leaf names bodies some = scalar_begins s own directives cursor content names bodies some
+leaf_begins (sequence_node start items) s own directives cursor keys leaf names bodies some =
+    let tag = collection_tag s.canonical start in
+    flow_begins (rules_of s own) cursor (node_own (sequence_node start items) s directives root_place cursor) start.anchor
+    (tag_written s.portable directives tag false) tag (node_tree (sequence_node start items) s directives root_place)
+    (sequence_reads s own directives keys root_place cursor start items leaf names bodies)
+    (record { named = names.0; tagged = tag_is_written s.portable own directives tag false names.1 })
+leaf_begins (mapping_node start pairs) s own directives cursor keys leaf names bodies some =
+    let tag = collection_tag s.canonical start in
+    flow_begins (rules_of s own) cursor (node_own (mapping_node start pairs) s directives root_place cursor) start.anchor
+    (tag_written s.portable directives tag false) tag (node_tree (mapping_node start pairs) s directives root_place)
+    (mapping_reads s own directives keys root_place cursor start pairs leaf names bodies)
+    (record { named = names.0; tagged = tag_is_written s.portable own directives tag false names.1 })
+
+-- a document's root that is a leaf stands
+pub leaf_stands : (s : Effective) (document : Document) (on_mark : Bool)
+    → (let own = document.start.directives in let directives = directives_in_force own in
+    1 ≤ s.indent → KeysFit s own directives → NamesStand s.portable own s.canonical directives document.root
+    → BodiesHold (BodyStands s) document.root s directives root_place (root_cursor on_mark) → is_leaf s document.root ≡ true → LeafStands on_mark s document)
+leaf_stands s document on_mark deep keys names bodies leaf =
+    let own = document.start.directives in
+    let directives = directives_in_force own in
+    record {
+      begins = λ some. leaf_begins document.root s own directives (root_cursor on_mark) keys leaf names bodies some;
+      after = leaf_unmarked document.root s own directives (root_cursor on_mark) deep leaf names bodies;
+    }
+
+-- without properties nothing is laid out for them
+nothing_laid_out : (s : Effective) (directives : List TagDirective) (anchor tag : Option Text) (cursor : Cursor) → anchor ≡ None → tag ≡ None
+    → (properties_laid s.portable directives anchor tag false cursor).text ≡ []
+nothing_laid_out s directives anchor tag cursor no_anchor no_tag =
+    ap (λ a. (properties_laid s.portable directives a tag false cursor).text) no_anchor
+    ∙ ap (λ t. (properties_laid s.portable directives None t false cursor).text) no_tag
+
+-- and the properties of one that isn't begin so
+pub properties_stand : (n : Node) (s : Effective) (own directives : List TagDirective) (on_mark : Bool)
+    → NamesStand s.portable own s.canonical directives n → PropertiesStand on_mark s directives n
+properties_stand (alias_node name) s own directives on_mark names = tt
+properties_stand (scalar_node content) s own directives on_mark names = tt
+properties_stand (sequence_node start items) s own directives on_mark names = λ some.
+    properties_begin s own directives start.anchor (collection_tag s.canonical start) (root_cursor on_mark) names.1
+    (λ no_anchor no_tag. some (nothing_laid_out s directives start.anchor (collection_tag s.canonical start) (root_cursor on_mark) no_anchor no_tag))
+properties_stand (mapping_node start pairs) s own directives on_mark names = λ some.
+    properties_begin s own directives start.anchor (collection_tag s.canonical start) (root_cursor on_mark) names.1
+    (λ no_anchor no_tag. some (nothing_laid_out s directives start.anchor (collection_tag s.canonical start) (root_cursor on_mark) no_anchor no_tag))
+
+-- so a root stands where it begins, where all in it fits
+pub root_stands : (s : Effective) (document : Document) (on_mark : Bool)
+    → (let own = document.start.directives in let directives = directives_in_force own in
+    2 ≤ s.indent → ScalarsFit s own directives → SimpleKeysFit s own directives → KeysFit s own directives
+    → NamesStand s.portable own s.canonical directives document.root
+    → BodiesHold (BodyStands s) document.root s directives root_place (root_cursor on_mark) → RootStands s document on_mark)
+root_stands s document on_mark deep scalars simple_keys keys names bodies =
+    let own = document.start.directives in
+    let directives = directives_in_force own in
+    record {
+      leaves =
+          leaves_stand document.root s own directives scalars (flows_fit s own directives keys deep) simple_keys as_root None
+          (root_cursor on_mark) (λ h. refl) refl
+          (by on_mark) names bodies;
+      leaf = λ leaf. leaf_stands s document on_mark (omega arith) keys names bodies leaf;
+      block = λ block. properties_stand document.root s own directives on_mark names;
+    }
+  where
+    by : (x : Bool) → Stands None (root_cursor x)
+    by true = λ h. absurd (false≢true h)
+    by false = λ h. (refl, refl)

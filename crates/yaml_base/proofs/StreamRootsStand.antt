@@ -1,0 +1,107 @@
+-- What is asked of each document for its stream to be read back: that its root's parts are read, what its root begins with,
+-- that its lines are no marks, and that its directives are read.
+use Rattle.std.proofs.Common.{◌≡◌}
+use Rattle.std.specs.List.{list_all}
+use Rattle.std.specs.Prelude.{ℕ, Bool, true, false, Some, List, [], ◌∷◌, ◌++◌, ◌==◌, ◌||◌, ◌&&◌, not, if◌then◌else◌}
+use Rattle.yaml_base.specs.Characters.{Text, space}
+use Rattle.yaml_base.specs.LineBreaks.{is_read_break}
+use Rattle.yaml_base.specs.Settings.{Effective}
+use Rattle.yaml_base.specs.Event.{TagDirective, DocumentStart}
+use Rattle.yaml_base.specs.Tags.{directives_in_force}
+use Rattle.yaml_base.specs.Cursor.{Cursor, Laid, then_laid}
+use Rattle.yaml_base.specs.Grammar.{Node, alias_node, scalar_node, sequence_node, mapping_node, Document, Documents, no_documents, documents_and}
+use Rattle.yaml_base.specs.Layout.{has_no_nodes, has_no_pairs, is_written_in_flow, is_explicit, root_place, has_no_documents, version_laid, tag_directives_laid}
+use Rattle.yaml_base.specs.StreamLines.{lines_of, spaces}
+use Rattle.yaml_base.specs.StreamScalars.{Rules}
+use Rattle.yaml_base.specs.StreamDocuments.{heading_of, begins_with_percent}
+use Rattle.yaml_base.specs.StreamLaw.{is_written_as_nothing}
+use Rattle.yaml_base.proofs.StreamTexts.{node_own}
+use Rattle.yaml_base.proofs.StreamLineLaws.{is_closed}
+use Rattle.yaml_base.proofs.StreamTidyLaws.{lines_after_first}
+use Rattle.yaml_base.proofs.StreamSections.{AllUnmarked}
+use Rattle.yaml_base.proofs.StreamClosed.{closed, margin_cursor}
+use Rattle.yaml_base.proofs.StreamNodesFit.{Leaves, begun_laid}
+use Rattle.yaml_base.proofs.StreamRoots.{mark_cursor}
+
+-- Places
+
+-- by what a document is read
+abbrev pub rules_of : Effective → Document → Rules
+rules_of s document = record { breaks12 = s.breaks12; directives = document.start.directives }
+
+-- where a root begins: behind `---` on its line, or where a line does
+abbrev pub root_cursor : (on_mark : Bool) → Cursor
+root_cursor on_mark = if on_mark then mark_cursor else margin_cursor 0
+
+-- a root as it is laid out there
+abbrev pub root_laid : (on_mark : Bool) → Effective → Document → Laid
+root_laid on_mark s document = node_own document.root s (directives_in_force document.start.directives) root_place (root_cursor on_mark)
+
+-- Roots
+
+-- what is laid out begins, behind a space where one is needed, with a character that no reader skips
+pub record Begins (breaks12 : Bool) (cursor : Cursor) (own : Laid) : Type 0 where
+  pub count : ℕ
+  pub head : ℕ
+  pub tail : Text
+  pub text : own.text ≡ spaces count ++ (head ∷ tail)
+  pub margin : cursor.whitespace ≡ true → count ≡ 0
+  pub shows : (head == space) ≡ false
+  pub goes_on : is_read_break breaks12 head ≡ false
+
+-- a root that is an alias, a scalar or written in flow: it begins so where anything is written, and no line after its first is
+-- a mark
+pub record LeafStands (on_mark : Bool) (s : Effective) (document : Document) : Type 0 where
+  pub begins : is_written_as_nothing s.canonical document.root ≡ false → Begins s.breaks12 (root_cursor on_mark) (root_laid on_mark s document)
+  pub after : AllUnmarked (lines_after_first (lines_of s.breaks12 (closed (root_laid on_mark s document))))
+
+-- the root of a document is one of these
+abbrev pub is_leaf : Effective → Node → Bool
+is_leaf s (alias_node name) = true
+is_leaf s (scalar_node content) = true
+is_leaf s (sequence_node start items) = is_written_in_flow s root_place start (has_no_nodes items)
+is_leaf s (mapping_node start pairs) = is_written_in_flow s root_place start (has_no_pairs pairs)
+
+-- a collection in a block whose properties are written: these begin so
+abbrev pub PropertiesStand : (on_mark : Bool) → Effective → List TagDirective → Node → Type 0
+PropertiesStand on_mark s directives (sequence_node start items) =
+    ((begun_laid s directives start (root_cursor on_mark)).text ≡ [] → ⊥)
+    → Begins s.breaks12 (root_cursor on_mark) (begun_laid s directives start (root_cursor on_mark))
+PropertiesStand on_mark s directives (mapping_node start pairs) =
+    ((begun_laid s directives start (root_cursor on_mark)).text ≡ [] → ⊥)
+    → Begins s.breaks12 (root_cursor on_mark) (begun_laid s directives start (root_cursor on_mark))
+PropertiesStand on_mark s directives node = Unit {0}
+
+-- the root of a document, where it begins behind `---` or on a line of its own
+pub record RootStands (s : Effective) (document : Document) (on_mark : Bool) : Type 0 where
+  pub leaves : Leaves document.root (rules_of s document) s (directives_in_force document.start.directives) root_place (root_cursor on_mark)
+  pub leaf : is_leaf s document.root ≡ true → LeafStands on_mark s document
+  pub block : is_leaf s document.root ≡ false → PropertiesStand on_mark s (directives_in_force document.start.directives) document.root
+
+-- Directives
+
+-- the lines of a document's directives
+abbrev pub heading_text : Effective → DocumentStart → Text
+heading_text s start = (then_laid (version_laid start.version (margin_cursor 0)) (tag_directives_laid s.portable start.directives)).text
+
+-- the directives are read
+pub record HeadingStands (s : Effective) (start : DocumentStart) : Type 0 where
+  pub ends : is_closed s.breaks12 (heading_text s start) ≡ true
+  pub percents : list_all (λ line. begins_with_percent line.text) (lines_of s.breaks12 (heading_text s start)) ≡ true
+  pub reads : heading_of (lines_of s.breaks12 (heading_text s start)) ≡ Some (record { version = start.version; directives = start.directives })
+
+-- Documents
+
+-- a root begins on the line of `---`, where that is written and doesn't stand alone
+abbrev pub is_on_mark : Effective → (first : Bool) → DocumentStart → Bool
+is_on_mark s first start = is_explicit (s.canonical || s.portable) first start && not s.canonical
+
+-- a document's root, where it is laid out, and its directives
+pub record DocumentStands (s : Effective) (first : Bool) (document : Document) : Type 0 where
+  pub root : RootStands s document (is_on_mark s first document.start)
+  pub heading : HeadingStands s document.start
+
+-- each of some documents
+abbrev pub DocumentsStand : Effective → Documents → Type 0
+DocumentsStand s no_documents = Unit {0}
+DocumentsStand s (documents_and before document) = DocumentsStand s before × DocumentStands s (has_no_documents before) document

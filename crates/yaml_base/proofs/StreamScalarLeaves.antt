@@ -1,0 +1,82 @@
+-- Each scalar in a block fits where its names and its body stand.
+use Rattle.std.proofs.Common.{◌≡◌, ◌≤◌, refl}
+use Rattle.std.proofs.lemmas.Bool.{true≢false, and_parts}
+use Rattle.std.specs.Prelude.{ℕ, Bool, true, false, Option, None, Some, List, [], ◌∷◌, ◌||◌, ◌&&◌, not, is_some, if◌then◌else◌}
+use Rattle.yaml_base.specs.Characters.{Text}
+use Rattle.yaml_base.specs.Settings.{Effective}
+use Rattle.yaml_base.specs.Cursor.{Cursor}
+use Rattle.yaml_base.specs.Event.{ScalarStyle, TagDirective, any_style, plain, single_quoted, double_quoted, literal, folded}
+use Rattle.yaml_base.specs.Analysis.{Allowances, allowances, allows_block, is_empty}
+use Rattle.yaml_base.specs.Style.{is_plain, style_asked, fits_plain}
+use Rattle.yaml_base.specs.Meaning.{read_in_style}
+use Rattle.yaml_base.specs.TidyBodies.{is_tidy}
+use Rattle.yaml_base.specs.Refusal.{scalar_tag}
+use Rattle.yaml_base.specs.Grammar.{scalar_node}
+use Rattle.yaml_base.specs.Layout.{Place, deeper, is_simple_at, body_laid, choice_of}
+use Rattle.yaml_base.proofs.StreamFits.{Fits}
+use Rattle.yaml_base.proofs.StreamProperties.{IsNamed}
+use Rattle.yaml_base.proofs.StreamStands.{TagStands}
+use Rattle.yaml_base.proofs.StreamFlowWords.{scalar_in}
+use Rattle.yaml_base.proofs.StreamFlowScalars.{rules_of, bare_not_plain}
+use Rattle.yaml_base.proofs.StreamLeaves.{block_place, ScalarsFit}
+use Rattle.yaml_base.proofs.StreamBlockEnds.{is_block, block_fitting}
+use Rattle.yaml_base.proofs.StreamScalarsFit.{styled_laid, body_cursor, body_fits, styled_fits}
+use Rattle.yaml_base.proofs.StreamEmptyFits.{empty_fits}
+
+-- a scalar in a style fits where its body is tidy and reads as its value
+scalar_fits : (s : Effective) (own directives : List TagDirective) (anchor tag : Option Text) (bare : Bool) (style : ScalarStyle) (limit : Option ℕ)
+    (indent : ℕ) (value : Text)
+    (place : Place) (cursor : Cursor) → 2 ≤ s.indent → s.indent ≤ 9 → IsNamed anchor → TagStands s.portable own directives tag
+    → (bare ≡ true → is_plain style ≡ false) → (is_block style ≡ true → allows_block (record { unicode = s.unicode; breaks12 = s.breaks12 }) value ≡ true)
+    → is_tidy style s.breaks12 place.column (body_laid style s limit indent value (body_cursor s directives anchor tag bare style value cursor)).text ≡ true
+    → read_in_style style s.breaks12 false place.column
+    (body_laid style s limit indent value (body_cursor s directives anchor tag bare style value cursor)).text ≡ Some value
+    → Fits (rules_of s own) 1 (styled_laid s directives anchor tag bare style limit indent value cursor) (scalar_in anchor tag style bare value) place cursor
+scalar_fits s own directives anchor tag bare style limit indent value place cursor low high named stands meant allowed tidy read =
+    by style value bare meant allowed tidy read
+  where
+    full : (style : ScalarStyle) (value : Text) (bare : Bool) → (is_plain style && is_empty value) ≡ false → (bare ≡ true → is_plain style ≡ false)
+        → (is_block style ≡ true → allows_block (record { unicode = s.unicode; breaks12 = s.breaks12 }) value ≡ true)
+        → is_tidy style s.breaks12 place.column (body_laid style s limit indent value (body_cursor s directives anchor tag bare style value cursor)).text ≡ true
+        → read_in_style style s.breaks12 false place.column
+        (body_laid style s limit indent value (body_cursor s directives anchor tag bare style value cursor)).text ≡ Some value
+        → Fits (rules_of s own) 1 (styled_laid s directives anchor tag bare style limit indent value cursor) (scalar_in anchor tag style bare value) place
+        cursor
+    full style value bare some meant allowed tidy read =
+        styled_fits s own directives anchor tag bare style limit indent value place cursor named stands meant some
+        (body_fits s own place.column style limit indent value (body_cursor s directives anchor tag bare style value cursor) low high allowed some tidy read)
+
+    by : (style : ScalarStyle) (value : Text) (bare : Bool) → (bare ≡ true → is_plain style ≡ false)
+        → (is_block style ≡ true → allows_block (record { unicode = s.unicode; breaks12 = s.breaks12 }) value ≡ true)
+        → is_tidy style s.breaks12 place.column (body_laid style s limit indent value (body_cursor s directives anchor tag bare style value cursor)).text ≡ true
+        → read_in_style style s.breaks12 false place.column
+        (body_laid style s limit indent value (body_cursor s directives anchor tag bare style value cursor)).text ≡ Some value
+        → Fits (rules_of s own) 1 (styled_laid s directives anchor tag bare style limit indent value cursor) (scalar_in anchor tag style bare value) place
+        cursor
+    by plain [] true meant allowed tidy read = absurd (true≢false (meant refl))
+    by plain [] false meant allowed tidy read = empty_fits s own directives anchor tag limit indent place cursor named stands
+    by plain (c ∷ value) bare meant allowed tidy read = full plain (c ∷ value) bare refl meant allowed tidy read
+    by single_quoted value bare meant allowed tidy read = full single_quoted value bare refl meant allowed tidy read
+    by double_quoted value bare meant allowed tidy read = full double_quoted value bare refl meant allowed tidy read
+    by literal value bare meant allowed tidy read = full literal value bare refl meant allowed tidy read
+    by folded value bare meant allowed tidy read = full folded value bare refl meant allowed tidy read
+    by any_style value bare meant allowed tidy read = full any_style value bare refl meant allowed tidy read
+
+-- so does each scalar in a block
+pub scalars_fit : (s : Effective) (own directives : List TagDirective) → 2 ≤ s.indent → s.indent ≤ 9 → ScalarsFit s own directives
+scalars_fit s own directives low high content role column cursor complex stands names body =
+    let place = block_place role column in
+    let simple = is_simple_at place s.canonical directives (scalar_node content) in
+    let choice = choice_of s place simple content in
+    let tag = scalar_tag s.canonical content in
+    let allowed : Allowances = allowances (record { unicode = s.unicode; breaks12 = s.breaks12 }) content.value in
+    scalar_fits s own directives content.anchor tag choice.bare choice.style (if simple then None else s.width)
+    (deeper s.indent column) content.value place cursor low high
+    names.0 names.1
+    (λ h. bare_not_plain (is_some tag) content.quoted_implicit (is_plain choice.style) h)
+    (λ h.
+    (and_parts allowed.block true
+    (and_parts (allowed.block && true) (not simple)
+    (block_fitting allowed (fits_plain allowed (is_empty content.value) (is_some tag) content.plain_implicit false simple) (allowed.block && true && not simple)
+    (style_asked (s.canonical || (simple && allowed.multiline)) content.style) h)).0).0)
+    body.tidy body.reads

@@ -1,0 +1,279 @@
+-- Each simple key of the layout in a block is cut off before its `:`, where its names and its body stand.
+use Rattle.std.proofs.Common.{◌≡◌, suc, ◌≤◌, refl, sym, ap, ◌∙◌, arith, subst}
+use Rattle.std.proofs.lemmas.Bool.{true≢false, false≢true, le-leb, leb-true, and_parts}
+use Rattle.std.proofs.lemmas.List.{length-append}
+use Rattle.std.specs.List.{list_all, flat_map}
+use Rattle.std.specs.Prelude.{ℕ, Bool, true, false, Option, None, Some, List, [], ◌∷◌, ◌++◌, ◌+◌, ◌||◌, ◌&&◌, not, is_some, nat_le, length, if◌then◌else◌}
+use Rattle.yaml_base.specs.Characters.{Text, space, is_alpha}
+use Rattle.yaml_base.specs.Settings.{Effective}
+use Rattle.yaml_base.specs.Event.{ScalarStyle, any_style, plain, single_quoted, double_quoted, literal, folded, TagDirective, Scalar, Collection}
+use Rattle.yaml_base.specs.Cursor.{Cursor, Laid, nothing_laid, space_if}
+use Rattle.yaml_base.specs.Analysis.{Allowances, is_empty, allowances}
+use Rattle.yaml_base.specs.Style.{is_plain, style_asked, style_fitting, fits_plain}
+use Rattle.yaml_base.specs.Grammar.{alias_node, scalar_node, sequence_node, mapping_node, no_nodes, nodes_and, Pairs, no_pairs, pairs_and}
+use Rattle.yaml_base.specs.Refusal.{scalar_tag, collection_tag}
+use Rattle.yaml_base.specs.Meaning.{read_in_style}
+use Rattle.yaml_base.specs.TidyBodies.{is_tidy}
+use Rattle.yaml_base.specs.Layout.{as_key, byte_count, name_count, tag_count, is_short, has_no_pairs, deeper, Body, body_at, properties_laid, separation_laid, body_laid, choice_of, Place, entry_place, Role, alias_laid, asks_flow, is_written_in_flow, Brackets, square, curly, end_laid}
+use Rattle.yaml_base.specs.SingleQuoted.{quotes_doubled}
+use Rattle.yaml_base.specs.DoubleQuoted.{character_text}
+use Rattle.yaml_base.specs.StreamContent.{Tree, alias_tree, scalar_tree}
+use Rattle.yaml_base.specs.StreamScalars.{Rules}
+use Rattle.yaml_base.specs.StreamFlow.{longest_key}
+use Rattle.yaml_base.proofs.StreamAgrees.{tagging_in, node_tree}
+use Rattle.yaml_base.proofs.StreamCuts.{none_not_some}
+use Rattle.yaml_base.proofs.StreamTidyLaws.{tidy_at_root}
+use Rattle.yaml_base.proofs.StreamLineLaws.{one_line_both}
+use Rattle.yaml_base.proofs.StreamTexts.{scalar_own, collection_own, items_own, pairs_own}
+use Rattle.yaml_base.proofs.StreamClosed.{margin_cursor, spaces_line}
+use Rattle.yaml_base.proofs.StreamPairs.{KeyFits, key_place}
+use Rattle.yaml_base.proofs.StreamPlainKeys.{begins, reads_plain, tidy_begins}
+use Rattle.yaml_base.proofs.StreamAliasKeys.{alias_key}
+use Rattle.yaml_base.proofs.StreamProperties.{IsNamed, name_letters}
+use Rattle.yaml_base.proofs.StreamPropertyWords.{lead}
+use Rattle.yaml_base.proofs.StreamStands.{tag_written, tag_meant, TagStands, NamesStand, BodyStands}
+use Rattle.yaml_base.proofs.StreamLeads.{lead_laid, tag_is_written}
+use Rattle.yaml_base.proofs.StreamFlowWords.{Given, scalar_in}
+use Rattle.yaml_base.proofs.StreamFlowKinds.{empty_whole}
+use Rattle.yaml_base.proofs.StreamFlowScalars.{rules_of, is_flow_style, bare_not_plain}
+use Rattle.yaml_base.proofs.StreamKeyBodies.{key_body, body_alone}
+use Rattle.yaml_base.proofs.StreamKeysFit.{KeyText, key_style, SimpleScalar, simple_scalar, scalar_key_text, alias_key_text, empty_key_text, square_line, curly_line, simple_collection}
+use Rattle.yaml_base.proofs.StreamKeyFronts.{front_unmarked, key_fits, other_front, lead_front, plain_front}
+use Rattle.yaml_base.proofs.StreamKeyReads.{double_key_read, single_key_read, plain_key_read, square_key_read, curly_key_read}
+use Rattle.yaml_base.proofs.StreamNodesFit.{begun_laid}
+use Rattle.yaml_base.proofs.StreamLeaves.{SimpleKeysFit}
+
+-- Styles
+
+-- where plain is chosen it fits
+plain_where : (allowed : Allowances) (fits block : Bool) (asked : ScalarStyle) → is_plain (style_fitting allowed fits block asked) ≡ true → fits ≡ true
+plain_where allowed true block asked h = refl
+plain_where allowed false block asked h = absurd (false≢true (sym (by block asked) ∙ h))
+  where
+    quotes : (x : Bool) → is_plain (if x then single_quoted else double_quoted) ≡ false
+    quotes true = refl
+    quotes false = refl
+
+    by : (block : Bool) (asked : ScalarStyle) → is_plain (style_fitting allowed false block asked) ≡ false
+    by block plain = quotes allowed.single_quoted
+    by block single_quoted = quotes allowed.single_quoted
+    by true literal = refl
+    by false literal = refl
+    by true folded = refl
+    by false folded = refl
+    by block any_style = refl
+    by block double_quoted = refl
+
+-- a plain simple key isn't empty
+plain_not_empty : (s : Effective) (in_flow : Bool) (role : Role) (column : ℕ) (content : Scalar)
+    → is_plain (choice_of s (entry_place in_flow role column) true content).style ≡ true → is_empty content.value ≡ false
+plain_not_empty s in_flow role column content h =
+    let allowed = allowances (record { unicode = s.unicode; breaks12 = s.breaks12 }) content.value in
+    let tagged = is_some (scalar_tag s.canonical content) in
+    let fits = fits_plain allowed (is_empty content.value) tagged content.plain_implicit in_flow true in
+    let parts = and_parts ((if in_flow then allowed.flow_plain else allowed.block_plain) && not (is_empty content.value && (in_flow || true)))
+    (tagged || content.plain_implicit)
+    (plain_where allowed fits (allowed.block && not in_flow && not true) (style_asked (s.canonical || (true && allowed.multiline)) content.style) h) in
+    by (is_empty content.value) in_flow
+    (and_parts (if in_flow then allowed.flow_plain else allowed.block_plain) (not (is_empty content.value && (in_flow || true))) parts.0).1
+  where
+    by : (x y : Bool) → not (x && (y || true)) ≡ true → x ≡ false
+    by true true h = absurd (false≢true h)
+    by true false h = absurd (false≢true h)
+    by false y h = refl
+
+-- Scalars
+
+-- names that stand are read as they were given
+written_given : (s : Effective) (own directives : List TagDirective) (anchor tag : Option Text) (bare : Bool) → IsNamed anchor
+    → TagStands s.portable own directives tag → Given (rules_of s own) anchor (tag_written s.portable directives tag bare) (tag_meant tag bare)
+written_given s own directives anchor tag bare named stands =
+    record { named = named; tagged = tag_is_written s.portable own directives tag bare stands }
+
+-- a key's text isn't too long by itself
+key_short : {breaks12 : Bool} {text : Text} → KeyText breaks12 text → nat_le (length text) longest_key ≡ true
+key_short {breaks12} {text} of = let short = of.short in le-leb (length text) longest_key (omega arith)
+
+-- a key of a style, after its anchor and its tag
+scalar_key_fits : (s : Effective) (own : List TagDirective) (anchor tag given_tag : Option Text) (style : ScalarStyle) (bare : Bool) (column : Option ℕ)
+    (value : Text)
+    → Given (rules_of s own) anchor tag (tag_meant given_tag bare) → is_flow_style style ≡ true → (bare ≡ true → is_plain style ≡ false)
+    → (is_plain style ≡ true → is_empty value ≡ false) → is_tidy style s.breaks12 column (key_body style s.unicode value) ≡ true
+    → read_in_style style s.breaks12 false column (key_body style s.unicode value) ≡ Some value
+    → KeyText s.breaks12 (lead anchor tag ++ key_body style s.unicode value)
+    → KeyFits (rules_of s own) (lead anchor tag ++ key_body style s.unicode value) (scalar_in anchor given_tag style bare value)
+scalar_key_fits s own anchor tag given_tag plain true column value given flow h some tidy read of = absurd (true≢false (h refl))
+scalar_key_fits s own anchor tag given_tag plain false column [] given flow h some tidy read of = absurd (true≢false (some refl))
+scalar_key_fits s own anchor tag given_tag plain false column (c ∷ t) given flow h some tidy read of =
+    let rules = rules_of s own in
+    let parts = reads_plain s.breaks12 false c t (c ∷ t) read in
+    let b = begins s.breaks12 c t parts.0 (tidy_begins s.breaks12 c t (tidy_at_root plain s.breaks12 column (c ∷ t) tidy)) in
+    let key = plain_key_read rules anchor tag given_tag column c t (c ∷ t) given b tidy read (key_short of) in
+    key_fits rules (lead anchor tag ++ (c ∷ t)) (scalar_in anchor given_tag plain false (c ∷ t))
+    (lead_front rules anchor tag (tag_meant given_tag false) (c ∷ t) given (plain_front s.breaks12 c t parts.0 b)) of key.clear key.reads
+scalar_key_fits s own anchor tag given_tag single_quoted bare column value given flow h some tidy read of =
+    let rules = rules_of s own in
+    let t = quotes_doubled value ++ (39 ∷ []) in
+    let key = single_key_read rules anchor tag given_tag bare column t value given tidy read (key_short of) in
+    key_fits rules (lead anchor tag ++ (0x27 ∷ t)) (scalar_in anchor given_tag single_quoted bare value)
+    (lead_front rules anchor tag (tag_meant given_tag bare) (0x27 ∷ t) given (other_front 0x27 t refl refl)) of key.clear key.reads
+scalar_key_fits s own anchor tag given_tag double_quoted bare column value given flow h some tidy read of =
+    let rules = rules_of s own in
+    let t = flat_map (character_text s.unicode) value ++ (0x22 ∷ []) in
+    let key = double_key_read rules anchor tag given_tag bare column t value given tidy read (key_short of) in
+    key_fits rules (lead anchor tag ++ (0x22 ∷ t)) (scalar_in anchor given_tag double_quoted bare value)
+    (lead_front rules anchor tag (tag_meant given_tag bare) (0x22 ∷ t) given (other_front 0x22 t refl refl)) of key.clear key.reads
+scalar_key_fits s own anchor tag given_tag any_style bare column value given flow h some tidy read of = absurd (none_not_some read)
+scalar_key_fits s own anchor tag given_tag literal bare column value given flow h some tidy read of = absurd (false≢true flow)
+scalar_key_fits s own anchor tag given_tag folded bare column value given flow h some tidy read of = absurd (false≢true flow)
+
+-- a space stands before each body but an empty plain one, where one is needed
+separated : (style : ScalarStyle) (value : Text) (cursor : Cursor) → (is_plain style ≡ true → is_empty value ≡ false)
+    → (separation_laid style false value cursor).text ≡ space_if true cursor
+separated plain value cursor some = ap (λ x. space_if (not x) cursor) (some refl)
+separated single_quoted value cursor some = refl
+separated double_quoted value cursor some = refl
+separated any_style value cursor some = refl
+separated literal value cursor some = refl
+separated folded value cursor some = refl
+
+-- the body that is laid out for a scalar at its place, where it is a simple key or not
+abbrev body_where : Effective → List TagDirective → Place → (simple : Bool) → Scalar → Cursor → Body
+body_where s directives place simple content cursor =
+    let choice = choice_of s place simple content in
+    let properties = properties_laid s.portable directives content.anchor (scalar_tag s.canonical content) choice.bare cursor in
+    let separation = separation_laid choice.style place.in_flow content.value properties.cursor in
+    body_at place choice.style content.value
+    (body_laid choice.style s (if simple then None else s.width) (deeper s.indent place.column) content.value separation.cursor)
+
+-- the tree of such a scalar
+abbrev tree_where : Effective → Place → (simple : Bool) → Scalar → Tree
+tree_where s place simple content = scalar_tree content.anchor (tagging_in (scalar_tag s.canonical content) (choice_of s place simple content)) content.value
+
+-- a scalar that is a simple key
+scalar_key_placed : (s : Effective) (own directives : List TagDirective) (content : Scalar) (pairs : Pairs) (e : ℕ)
+    → SimpleScalar directives s.canonical content → NamesStand s.portable own s.canonical directives (scalar_node content)
+    → BodyStands s (body_where s directives (key_place pairs e) true content (margin_cursor e))
+    → KeyFits (rules_of s own) (scalar_own s directives (key_place pairs e) true content (margin_cursor e)).text (tree_where s (key_place pairs e) true content)
+scalar_key_placed s own directives content pairs e simple names body =
+    let place = key_place pairs e in
+    let cursor = margin_cursor e in
+    let tag = scalar_tag s.canonical content in
+    let choice = choice_of s place true content in
+    let written = tag_written s.portable directives tag choice.bare in
+    let properties = properties_laid s.portable directives content.anchor tag choice.bare cursor in
+    let separation = separation_laid choice.style false content.value properties.cursor in
+    let laid = (body_laid choice.style s None (deeper s.indent (Some e)) content.value separation.cursor).text in
+    let flow = key_style s false (as_key (has_no_pairs pairs)) e content in
+    let some = plain_not_empty s false (as_key (has_no_pairs pairs)) e content in
+    let alone = body_alone s choice.style (deeper s.indent (Some e)) content.value separation.cursor flow simple.whole in
+    subst (λ t. KeyFits (rules_of s own) t (tree_where s place true content))
+    (sym (ap (λ t. (properties.text ++ t) ++ laid) (separated choice.style content.value properties.cursor some)
+    ∙ ap (λ t. t ++ laid) (lead_laid s.portable directives content.anchor tag choice.bare cursor)
+    ∙ ap (λ t. lead content.anchor written ++ t) alone))
+    (scalar_key_fits s own content.anchor written tag choice.style choice.bare (Some e) content.value
+    (written_given s own directives content.anchor tag choice.bare names.0 names.1) flow
+    (bare_not_plain (is_some tag) content.quoted_implicit (is_plain choice.style)) some
+    (ap (is_tidy choice.style s.breaks12 (Some e)) (sym alone) ∙ body.tidy)
+    (ap (read_in_style choice.style s.breaks12 false (Some e)) (sym alone) ∙ body.reads)
+    (scalar_key_text s own directives content choice.style choice.bare names.0 names.1 simple))
+
+-- Aliases
+
+-- an alias, with the space after it
+alias_key_fits : (rules : Rules) (n : ℕ) (name : Text) → list_all is_alpha (n ∷ name) ≡ true → suc (length (0x2A ∷ n ∷ name)) ≤ longest_key
+    → KeyText rules.breaks12 (0x2A ∷ n ∷ name) → KeyFits rules (0x2A ∷ n ∷ (name ++ (space ∷ []))) (alias_tree (n ∷ name))
+alias_key_fits rules n name letters short of =
+    let text = 0x2A ∷ n ∷ (name ++ (space ∷ [])) in
+    let front = other_front 0x2A (n ∷ (name ++ (space ∷ []))) refl refl in
+    let both = length-append name (space ∷ []) in
+    record {
+      first = 0x2A;
+      tail = n ∷ (name ++ (space ∷ []));
+      is = refl;
+      shows = refl;
+      one_line = one_line_both rules.breaks12 (0x2A ∷ n ∷ name) (space ∷ []) of.line (spaces_line rules.breaks12 1);
+      no_dash = λ after h. refl;
+      simple = λ after h. refl;
+      unmarked = λ after h. front_unmarked text front after;
+      cut = λ after h. alias_key rules n name after letters (le-leb (length text) longest_key (omega arith)) h;
+    }
+
+-- Collections
+
+-- an empty collection is written in flow
+empty_in_flow : (s : Effective) (place : Place) (start : Collection) → is_written_in_flow s place start true ≡ true
+empty_in_flow s place start = by (place.in_flow || s.canonical || asks_flow start.style)
+  where
+    by : (x : Bool) → (x || true) ≡ true
+    by true = refl
+    by false = refl
+
+-- an empty collection that is a simple key
+empty_key_fits : (s : Effective) (own directives : List TagDirective) (start : Collection) (brackets : Brackets) (a b : ℕ) (tree : Tree) (e : ℕ)
+    (entries : Bool → ℕ → Cursor → Laid)
+    → ((in_flow : Bool) (column : ℕ) (cursor : Cursor) → entries in_flow column cursor ≡ nothing_laid cursor)
+    → brackets.opening ≡ a ∷ [] → brackets.closing ≡ b ∷ [] → (undented : Bool) (x : Bool) → x ≡ true
+    → KeyFits (rules_of s own) (lead start.anchor (tag_written s.portable directives (collection_tag s.canonical start) false) ++ (a ∷ b ∷ [])) tree
+    → KeyFits (rules_of s own)
+    (collection_own s brackets x undented true (Some e) (begun_laid s directives start (margin_cursor e)) (entries x)).text tree
+empty_key_fits s own directives start brackets a b tree e entries nothing opening closing undented x in_flow fits =
+    let tag = collection_tag s.canonical start in
+    let cursor = margin_cursor e in
+    let begun = begun_laid s directives start cursor in
+    subst (λ t. KeyFits (rules_of s own) t tree)
+    (sym (ap (λ y. (collection_own s brackets y undented true (Some e) begun (entries y)).text) in_flow
+    ∙ ap (λ (l : Laid). (begun.text ++ l.text) ++ (end_laid s brackets true true (Some e) l.cursor).text) (nothing true (deeper s.indent (Some e)) begun.cursor)
+    ∙ ap (λ t. (begun.text ++ []) ++ ((space_if true begun.cursor ++ t) ++ brackets.closing)) opening
+    ∙ ap (λ t. (begun.text ++ []) ++ ((space_if true begun.cursor ++ (a ∷ [])) ++ t)) closing
+    ∙ empty_whole begun cursor (lead start.anchor (tag_written s.portable directives tag false)) a b
+    (lead_laid s.portable directives start.anchor tag false cursor)))
+    fits
+
+-- Keys
+
+-- each simple key in a block is cut off
+pub simple_keys_fit : (s : Effective) (own directives : List TagDirective) → SimpleKeysFit s own directives
+simple_keys_fit s own directives (alias_node []) pairs e h names bodies = absurd (none_not_some names)
+simple_keys_fit s own directives (alias_node (n ∷ name)) pairs e h names bodies =
+    let short = leb-true (byte_count (n ∷ name)) 128 (and_parts (not s.canonical) (is_short (byte_count (n ∷ name))) h).1 in
+    let of = alias_key_text s.breaks12 (n ∷ name) names short in
+    subst (λ x. KeyFits (rules_of s own) (alias_laid (n ∷ name) x (margin_cursor e)).text (alias_tree (n ∷ name))) (sym h)
+    (alias_key_fits (rules_of s own) n name (name_letters (n ∷ name) names) of.short of)
+simple_keys_fit s own directives (scalar_node content) pairs e h names body =
+    let place = key_place pairs e in
+    subst (λ x. BodyStands s (body_where s directives place x content (margin_cursor e)) → KeyFits (rules_of s own)
+    (scalar_own s directives place x content (margin_cursor e)).text (tree_where s place x content))
+    (sym h)
+    (λ stands. scalar_key_placed s own directives content pairs e (simple_scalar s.canonical directives content h) names stands)
+    body
+simple_keys_fit s own directives (sequence_node start no_nodes) pairs e h names bodies =
+    let tag = collection_tag s.canonical start in
+    let written = tag_written s.portable directives tag false in
+    let tree = node_tree (sequence_node start no_nodes) s directives (key_place pairs e) in
+    let given = written_given s own directives start.anchor tag false names.0 names.1 in
+    let of = empty_key_text s own directives start 0x5B 0x5D square_line names.0 names.1
+    (simple_collection s.canonical true (name_count start.anchor + tag_count directives tag) h).1 in
+    let key = square_key_read (rules_of s own) start.anchor written tag given (key_short of) in
+    empty_key_fits s own directives start square 0x5B 0x5D tree e (λ in_flow column cursor. items_own no_nodes s directives in_flow column cursor)
+    (λ in_flow column cursor. refl) refl refl true (is_written_in_flow s (key_place pairs e) start true) (empty_in_flow s (key_place pairs e) start)
+    (key_fits (rules_of s own) (lead start.anchor written ++ (0x5B ∷ 0x5D ∷ [])) tree
+    (lead_front (rules_of s own) start.anchor written (tag_meant tag false) (0x5B ∷ 0x5D ∷ []) given
+    (other_front 0x5B (0x5D ∷ []) refl refl)) of key.clear key.reads)
+simple_keys_fit s own directives (sequence_node start (nodes_and items last)) pairs e h names bodies =
+    absurd (false≢true (simple_collection s.canonical false 0 h).0)
+simple_keys_fit s own directives (mapping_node start no_pairs) pairs e h names bodies =
+    let tag = collection_tag s.canonical start in
+    let written = tag_written s.portable directives tag false in
+    let tree = node_tree (mapping_node start no_pairs) s directives (key_place pairs e) in
+    let given = written_given s own directives start.anchor tag false names.0 names.1 in
+    let of = empty_key_text s own directives start 0x7B 0x7D curly_line names.0 names.1
+    (simple_collection s.canonical true (name_count start.anchor + tag_count directives tag) h).1 in
+    let key = curly_key_read (rules_of s own) start.anchor written tag given (key_short of) in
+    empty_key_fits s own directives start curly 0x7B 0x7D tree e (λ in_flow column cursor. pairs_own no_pairs s directives in_flow column cursor)
+    (λ in_flow column cursor. refl) refl refl false (is_written_in_flow s (key_place pairs e) start true) (empty_in_flow s (key_place pairs e) start)
+    (key_fits (rules_of s own) (lead start.anchor written ++ (0x7B ∷ 0x7D ∷ [])) tree
+    (lead_front (rules_of s own) start.anchor written (tag_meant tag false) (0x7B ∷ 0x7D ∷ []) given
+    (other_front 0x7B (0x7D ∷ []) refl refl)) of key.clear key.reads)
+simple_keys_fit s own directives (mapping_node start (pairs_and before key value)) pairs e h names bodies =
+    absurd (false≢true (simple_collection s.canonical false 0 h).0)

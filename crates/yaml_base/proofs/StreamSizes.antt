@@ -1,0 +1,300 @@
+-- A node is no deeper than its text is long, and one.
+use Rattle.std.proofs.Common.{◌≡◌, suc, ◌≤◌, refl, ap, ◌∙◌, append_assoc, arith}
+use Rattle.std.proofs.lemmas.Bool.{false≢true}
+use Rattle.std.proofs.lemmas.List.{length-append}
+use Rattle.std.specs.Prelude.{ℕ, Bool, true, false, Some, List, [], ◌++◌, ◌+◌, length, codes}
+use Rattle.yaml_base.specs.Characters.{Text}
+use Rattle.yaml_base.specs.Settings.{Effective}
+use Rattle.yaml_base.specs.Event.{TagDirective, Collection}
+use Rattle.yaml_base.specs.Cursor.{Cursor, Laid, then_laid, new_line, space_if, indicator}
+use Rattle.yaml_base.specs.Grammar.{Node, alias_node, scalar_node, sequence_node, mapping_node, Nodes, no_nodes, nodes_and, Pairs, no_pairs, pairs_and}
+use Rattle.yaml_base.specs.Layout.{Role, as_item, as_key, as_value, Place, is_in_mapping, entries_column, has_no_nodes, has_no_pairs, is_simple, flow_break, opening_or_comma, key_sign, is_written_in_flow, entry_place, place_laid, square, curly, end_laid}
+use Rattle.yaml_base.specs.StreamContent.{Tree}
+use Rattle.yaml_base.specs.StreamScalars.{Rules}
+use Rattle.yaml_base.proofs.StreamAgrees.{node_tree}
+use Rattle.yaml_base.proofs.StreamTexts.{collection_own, node_own, items_own, pairs_own}
+use Rattle.yaml_base.proofs.StreamFits.{size, items_size, pairs_size}
+use Rattle.yaml_base.proofs.StreamClosed.{sign_cursor}
+use Rattle.yaml_base.proofs.StreamItems.{item_place}
+use Rattle.yaml_base.proofs.StreamPairs.{KeyFits, key_place, value_place, colon_cursor, simple_key, signed_key, simple_value, signed_value}
+use Rattle.yaml_base.proofs.StreamNodesFit.{EitherType, LeafFits, begun_laid, BegunReads, Leaves, ItemLeaves, PairLeaves}
+
+-- the length of three texts one after another
+length_three : (a b c : Text) → length ((a ++ b) ++ c) ≡ length a + length b + length c
+length_three a b c = length-append (a ++ b) c ∙ ap (λ n. n + length c) (length-append a b)
+
+-- a text within two others is no longer
+pub length_within : (a b c : Text) → length b ≤ length ((a ++ b) ++ c)
+length_within a b c = let e = length_three a b c in omega arith
+
+-- the signs before an entry
+length_signs : (a b c : Text) → length (a ++ (b ++ c)) ≡ length a + (length b + length c)
+length_signs a b c = length-append a (b ++ c) ∙ ap (λ n. length a + n) (length-append b c)
+
+-- what holds a sign isn't empty
+sign_last : (a sign : Text) → 1 ≤ length sign → 1 ≤ length (a ++ sign)
+sign_last a sign h = let e = length-append a sign in omega arith
+
+sign_first : (sign a : Text) → 1 ≤ length sign → 1 ≤ length (sign ++ a)
+sign_first sign a h = let e = length-append sign a in omega arith
+
+opening_sign : (bracket : Text) (first : Bool) (cursor : Cursor) → 1 ≤ length bracket → 1 ≤ length (opening_or_comma bracket first cursor).text
+opening_sign bracket true cursor h = sign_last (space_if true cursor) bracket h
+opening_sign bracket false cursor h = omega arith
+
+-- before an item in flow stands a sign
+item_sign : (s : Effective) (first : Bool) (column : ℕ) (cursor : Cursor)
+    → 1 ≤ length (place_laid s (entry_place true (as_item first) column) false cursor).text
+item_sign s first column cursor =
+    let opening = opening_or_comma (codes "[") first cursor in
+    sign_first opening.text (flow_break s (Some column) opening.cursor).text (opening_sign (codes "[") first cursor (omega arith))
+
+-- before a key
+flow_key_sign : (s : Effective) (first simple : Bool) (column : ℕ) (cursor : Cursor)
+    → 1 ≤ length (place_laid s (entry_place true (as_key first) column) simple cursor).text
+flow_key_sign s first simple column cursor =
+    let opening = opening_or_comma (codes "{") first cursor in
+    let break = flow_break s (Some column) opening.cursor in
+    sign_first (opening.text ++ break.text) (key_sign simple false break.cursor).text
+    (sign_first opening.text break.text (opening_sign (codes "{") first cursor (omega arith)))
+
+-- and before a value
+flow_value_sign : (s : Effective) (simple : Bool) (column : ℕ) (cursor : Cursor)
+    → 1 ≤ length (place_laid s (entry_place true (as_value simple) column) false cursor).text
+flow_value_sign s true column cursor = omega arith
+flow_value_sign s false column cursor =
+    let break = flow_break s (Some column) cursor in
+    sign_last break.text (indicator (codes ":") true false false break.cursor).text (sign_last (space_if true break.cursor) (codes ":") (omega arith))
+
+-- a pair's size, by the lengths of its parts
+pair_length : (a k m v n : Text) → length ((a ++ (k ++ m)) ++ (v ++ n)) ≡ length a + (length k + length m) + (length v + length n)
+pair_length a k m v n = length-append (a ++ (k ++ m)) (v ++ n) ∙ ap (λ x. x + length (v ++ n)) (length_signs a k m)
+    ∙ ap (λ x. length a + (length k + length m) + x) (length-append v n)
+
+-- In flow
+
+mutual
+  flow_node : (n : Node) (s : Effective) (directives : List TagDirective) (role : Role) (column : ℕ) (cursor : Cursor)
+      → size n ≤ suc (length (node_own n s directives (entry_place true role column) cursor).text)
+  flow_node (alias_node name) s directives role column cursor = omega arith
+  flow_node (scalar_node content) s directives role column cursor = omega arith
+  flow_node (sequence_node start items) s directives role column cursor =
+      let begun = begun_laid s directives start cursor in
+      let e = entries_column true (is_in_mapping role) s.indent (Some column) begun.cursor in
+      let entries = items_own items s directives true e begun.cursor in
+      let within = length_within begun.text entries.text (end_laid s square true (has_no_nodes items) (Some column) entries.cursor).text in
+      let each = flow_items items s directives e begun.cursor in
+      omega arith
+  flow_node (mapping_node start pairs) s directives role column cursor =
+      let begun = begun_laid s directives start cursor in
+      let e = entries_column true false s.indent (Some column) begun.cursor in
+      let entries = pairs_own pairs s directives true e begun.cursor in
+      let within = length_within begun.text entries.text (end_laid s curly true (has_no_pairs pairs) (Some column) entries.cursor).text in
+      let each = flow_pairs pairs s directives e begun.cursor in
+      omega arith
+
+  pub flow_items : (items : Nodes) (s : Effective) (directives : List TagDirective) (e : ℕ) (cursor : Cursor)
+      → items_size items ≤ length (items_own items s directives true e cursor).text
+  flow_items no_nodes s directives e cursor = omega arith
+  flow_items (nodes_and items last) s directives e cursor =
+      let before = items_own items s directives true e cursor in
+      let place = entry_place true (as_item (has_no_nodes items)) e in
+      let signs = place_laid s place false before.cursor in
+      let own = node_own last s directives place signs.cursor in
+      let sum = length_signs before.text signs.text own.text in
+      let each = flow_items items s directives e cursor in
+      let one = flow_node last s directives (as_item (has_no_nodes items)) e signs.cursor in
+      let sign = item_sign s (has_no_nodes items) e before.cursor in
+      omega arith
+
+  pub flow_pairs : (pairs : Pairs) (s : Effective) (directives : List TagDirective) (e : ℕ) (cursor : Cursor)
+      → pairs_size pairs ≤ length (pairs_own pairs s directives true e cursor).text
+  flow_pairs no_pairs s directives e cursor = omega arith
+  flow_pairs (pairs_and pairs key value) s directives e cursor =
+      let simple = is_simple s.canonical directives key in
+      let before = pairs_own pairs s directives true e cursor in
+      let key_place = entry_place true (as_key (has_no_pairs pairs)) e in
+      let value_place = entry_place true (as_value simple) e in
+      let key_signs = place_laid s key_place simple before.cursor in
+      let key_own = node_own key s directives key_place key_signs.cursor in
+      let value_signs = place_laid s value_place false key_own.cursor in
+      let value_own = node_own value s directives value_place value_signs.cursor in
+      let sum = pair_length before.text key_signs.text key_own.text value_signs.text value_own.text in
+      let each = flow_pairs pairs s directives e cursor in
+      let one = flow_node key s directives (as_key (has_no_pairs pairs)) e key_signs.cursor in
+      let other = flow_node value s directives (as_value simple) e value_signs.cursor in
+      let key_sign = flow_key_sign s (has_no_pairs pairs) simple e before.cursor in
+      let value_sign = flow_value_sign s simple e key_own.cursor in
+      omega arith
+
+-- In blocks
+
+-- a simple key holds no node
+simple_size : (canonical : Bool) (directives : List TagDirective) (n : Node) → is_simple canonical directives n ≡ true → size n ≡ 1
+simple_size canonical directives (alias_node name) h = refl
+simple_size canonical directives (scalar_node content) h = refl
+simple_size canonical directives (sequence_node start no_nodes) h = refl
+simple_size true directives (sequence_node start (nodes_and items last)) h = absurd (false≢true h)
+simple_size false directives (sequence_node start (nodes_and items last)) h = absurd (false≢true h)
+simple_size canonical directives (mapping_node start no_pairs) h = refl
+simple_size true directives (mapping_node start (pairs_and pairs key value)) h = absurd (false≢true h)
+simple_size false directives (mapping_node start (pairs_and pairs key value)) h = absurd (false≢true h)
+
+-- a sign on a new line
+line_sign : (column : ℕ) (sign : Text) (cursor : Cursor) → 1 ≤ length sign
+    → 1 ≤ length (then_laid (new_line column cursor) (indicator sign true false true)).text
+line_sign column sign cursor h =
+    let line = new_line column cursor in
+    sign_last line.text (space_if true line.cursor ++ sign) (sign_last (space_if true line.cursor) sign h)
+
+-- the text of a simple key isn't empty
+key_length : (rules : Rules) (text : Text) (tree : Tree) → KeyFits rules text tree → 1 ≤ length text
+key_length rules text tree fit = let e = ap length fit.is in omega arith
+
+-- a sequence, where its items are no deeper in a block
+sequence_within : (start : Collection) (items : Nodes) (rules : Rules) (s : Effective) (directives : List TagDirective) (place : Place) (cursor : Cursor)
+    → Leaves (sequence_node start items) rules s directives place cursor
+    → ((e : ℕ) (cursor : Cursor) → ItemLeaves items rules s directives e → items_size items ≤ length (items_own items s directives false e cursor).text)
+    → suc (items_size items) ≤ suc (length (node_own (sequence_node start items) s directives place cursor).text)
+sequence_within start items rules s directives place cursor leaves each = by (is_written_in_flow s place start (has_no_nodes items)) leaves
+  where
+    begun : Laid
+    begun = begun_laid s directives start cursor
+
+    by : (x : Bool) → EitherType x (LeafFits rules s directives (sequence_node start items) place cursor)
+        (BegunReads rules s directives start cursor
+        × ItemLeaves items rules s directives (entries_column false (is_in_mapping place.role) s.indent place.column begun.cursor))
+        → suc (items_size items) ≤ suc
+        (length (collection_own s square x (is_in_mapping place.role) (has_no_nodes items) place.column begun (items_own items s directives x)).text)
+    by true leaf =
+        let e = entries_column true (is_in_mapping place.role) s.indent place.column begun.cursor in
+        let entries = items_own items s directives true e begun.cursor in
+        let within = length_within begun.text entries.text (end_laid s square true (has_no_nodes items) place.column entries.cursor).text in
+        let all = flow_items items s directives e begun.cursor in
+        omega arith
+    by false leaves =
+        let e = entries_column false (is_in_mapping place.role) s.indent place.column begun.cursor in
+        let entries = items_own items s directives false e begun.cursor in
+        let within = length_within begun.text entries.text [] in
+        let all = each e begun.cursor leaves.1 in
+        omega arith
+
+-- a mapping, where its pairs are
+mapping_within : (start : Collection) (pairs : Pairs) (rules : Rules) (s : Effective) (directives : List TagDirective) (place : Place) (cursor : Cursor)
+    → Leaves (mapping_node start pairs) rules s directives place cursor
+    → ((e : ℕ) (cursor : Cursor) → PairLeaves pairs rules s directives e → pairs_size pairs ≤ length (pairs_own pairs s directives false e cursor).text)
+    → suc (pairs_size pairs) ≤ suc (length (node_own (mapping_node start pairs) s directives place cursor).text)
+mapping_within start pairs rules s directives place cursor leaves each = by (is_written_in_flow s place start (has_no_pairs pairs)) leaves
+  where
+    begun : Laid
+    begun = begun_laid s directives start cursor
+
+    by : (x : Bool) → EitherType x (LeafFits rules s directives (mapping_node start pairs) place cursor)
+        (BegunReads rules s directives start cursor × PairLeaves pairs rules s directives (entries_column false false s.indent place.column begun.cursor))
+        → suc (pairs_size pairs) ≤ suc (length (collection_own s curly x false (has_no_pairs pairs) place.column begun (pairs_own pairs s directives x)).text)
+    by true leaf =
+        let e = entries_column true false s.indent place.column begun.cursor in
+        let entries = pairs_own pairs s directives true e begun.cursor in
+        let within = length_within begun.text entries.text (end_laid s curly true (has_no_pairs pairs) place.column entries.cursor).text in
+        let all = flow_pairs pairs s directives e begun.cursor in
+        omega arith
+    by false leaves =
+        let e = entries_column false false s.indent place.column begun.cursor in
+        let entries = pairs_own pairs s directives false e begun.cursor in
+        let within = length_within begun.text entries.text [] in
+        let all = each e begun.cursor leaves.1 in
+        omega arith
+
+-- what is laid out for a pair in a block
+abbrev pair_own : (simple : Bool) → Pairs → Node → Node → Effective → List TagDirective → ℕ → Cursor → Laid
+pair_own simple pairs key value s directives e cursor =
+    then_laid
+    (then_laid (place_laid s (key_place pairs e) simple cursor) (node_own key s directives (key_place pairs e)))
+    (λ after. then_laid (place_laid s (value_place simple e) false after) (node_own value s directives (value_place simple e)))
+
+-- behind the pairs before it
+pair_regrouped : (x : Bool) (pairs : Pairs) (key value : Node) (s : Effective) (directives : List TagDirective) (e : ℕ) (before : Laid)
+    → length (then_laid
+    (then_laid before (λ after. then_laid (place_laid s (key_place pairs e) x after) (node_own key s directives (key_place pairs e))))
+    (λ after. then_laid (place_laid s (value_place x e) false after) (node_own value s directives (value_place x e)))).text
+    ≡ length before.text + length (pair_own x pairs key value s directives e before.cursor).text
+pair_regrouped x pairs key value s directives e before =
+    let key_signs = place_laid s (key_place pairs e) x before.cursor in
+    let k = node_own key s directives (key_place pairs e) key_signs.cursor in
+    let value_signs = place_laid s (value_place x e) false k.cursor in
+    let v = node_own value s directives (value_place x e) value_signs.cursor in
+    ap length (append_assoc before.text (key_signs.text ++ k.text) (value_signs.text ++ v.text))
+    ∙ length-append before.text ((key_signs.text ++ k.text) ++ (value_signs.text ++ v.text))
+
+-- a pair, where its key and its value are no deeper than they are long
+pair_within : (x : Bool) (pairs : Pairs) (key value : Node) (rules : Rules) (s : Effective) (directives : List TagDirective) (e : ℕ) (cursor : Cursor)
+    → is_simple s.canonical directives key ≡ x
+    → EitherType x
+    (KeyFits rules (simple_key pairs key s directives e).text (node_tree key s directives (key_place pairs e))
+    × Leaves value rules s directives (value_place true e) (colon_cursor (simple_key pairs key s directives e).cursor))
+    (Leaves key rules s directives (key_place pairs e) (sign_cursor e) × Leaves value rules s directives (value_place false e) (sign_cursor e))
+    → ((y : Bool) (cursor : Cursor) → Leaves value rules s directives (value_place y e) cursor
+    → size value ≤ suc (length (node_own value s directives (value_place y e) cursor).text))
+    → (Leaves key rules s directives (key_place pairs e) (sign_cursor e)
+    → size key ≤ suc (length (node_own key s directives (key_place pairs e) (sign_cursor e)).text))
+    → size key + size value ≤ length (pair_own x pairs key value s directives e cursor).text
+pair_within true pairs key value rules s directives e cursor is leaves value_each key_each =
+    let line = new_line e cursor in
+    let k = simple_key pairs key s directives e in
+    let v = simple_value pairs key value s directives e in
+    let sum = pair_length [] (line.text ++ []) k.text (codes ":") v.text in
+    let one = simple_size s.canonical directives key is in
+    let some = key_length rules k.text (node_tree key s directives (key_place pairs e)) leaves.0 in
+    let other = value_each true (colon_cursor k.cursor) leaves.1 in
+    omega arith
+pair_within false pairs key value rules s directives e cursor is leaves value_each key_each =
+    let key_signs = then_laid (new_line e cursor) (indicator (codes "?") true false true) in
+    let k = signed_key pairs key s directives e in
+    let value_signs = then_laid (new_line e k.cursor) (indicator (codes ":") true false true) in
+    let v = signed_value value s directives e in
+    let sum = pair_length [] key_signs.text k.text value_signs.text v.text in
+    let one = key_each leaves.0 in
+    let other = value_each false (sign_cursor e) leaves.1 in
+    let key_sign = line_sign e (codes "?") cursor (omega arith) in
+    let value_sign = line_sign e (codes ":") k.cursor (omega arith) in
+    omega arith
+
+-- a node in a block, whose parts are read, and the items of a sequence and the pairs of a mapping there
+mutual
+  pub block_node : (n : Node) (rules : Rules) (s : Effective) (directives : List TagDirective) (place : Place) (cursor : Cursor)
+      → Leaves n rules s directives place cursor
+      → size n ≤ suc (length (node_own n s directives place cursor).text)
+  block_node (alias_node name) rules s directives place cursor leaves = omega arith
+  block_node (scalar_node content) rules s directives place cursor leaves = omega arith
+  block_node (sequence_node start items) rules s directives place cursor leaves =
+      sequence_within start items rules s directives place cursor leaves (λ e cursor each. block_items items rules s directives e cursor each)
+  block_node (mapping_node start pairs) rules s directives place cursor leaves =
+      mapping_within start pairs rules s directives place cursor leaves (λ e cursor each. block_pairs pairs rules s directives e cursor each)
+
+  block_items : (items : Nodes) (rules : Rules) (s : Effective) (directives : List TagDirective) (e : ℕ) (cursor : Cursor)
+      → ItemLeaves items rules s directives e
+      → items_size items ≤ length (items_own items s directives false e cursor).text
+  block_items no_nodes rules s directives e cursor leaves = omega arith
+  block_items (nodes_and items last) rules s directives e cursor leaves =
+      let before = items_own items s directives false e cursor in
+      let signs = then_laid (new_line e before.cursor) (indicator (codes "-") true false true) in
+      let own = node_own last s directives (item_place items e) (sign_cursor e) in
+      let sum = length_signs before.text signs.text own.text in
+      let each = block_items items rules s directives e cursor leaves.0 in
+      let one = block_node last rules s directives (item_place items e) (sign_cursor e) leaves.1 in
+      let sign = line_sign e (codes "-") before.cursor (omega arith) in
+      omega arith
+
+  block_pairs : (pairs : Pairs) (rules : Rules) (s : Effective) (directives : List TagDirective) (e : ℕ) (cursor : Cursor)
+      → PairLeaves pairs rules s directives e
+      → pairs_size pairs ≤ length (pairs_own pairs s directives false e cursor).text
+  block_pairs no_pairs rules s directives e cursor leaves = omega arith
+  block_pairs (pairs_and pairs key value) rules s directives e cursor leaves =
+      let x = is_simple s.canonical directives key in
+      let before = pairs_own pairs s directives false e cursor in
+      let one = pair_within x pairs key value rules s directives e before.cursor refl leaves.1
+      (λ y cursor each. block_node value rules s directives (value_place y e) cursor each)
+      (λ each. block_node key rules s directives (key_place pairs e) (sign_cursor e) each) in
+      let each = block_pairs pairs rules s directives e cursor leaves.0 in
+      let same = pair_regrouped x pairs key value s directives e before in
+      omega arith

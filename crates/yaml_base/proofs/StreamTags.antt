@@ -1,0 +1,164 @@
+-- A tag as it is written in a stream is read as the tag.
+use Rattle.std.proofs.Common.{◌≡◌, refl, sym, ap, ◌∙◌, inl, inr, arith}
+use Rattle.std.proofs.lemmas.Bool.{and_parts, and_from, or_parts, not-true, or_from}
+use Rattle.std.proofs.lemmas.Bool.Decides.{nat_tests}
+use Rattle.std.proofs.lemmas.List.Folds.{list_any-append}
+use Rattle.std.specs.List.{list_all, list_any}
+use Rattle.std.specs.Str.{all_scalars}
+use Rattle.std.specs.Prelude.{ℕ, Bool, true, false, None, List, [], ◌∷◌, ◌++◌, ◌==◌, ◌||◌, not, codes, option_map, if◌then◌else◌}
+use Rattle.yaml_base.specs.Characters.{Text, is_alpha, is_among}
+use Rattle.yaml_base.specs.Event.{TagDirective}
+use Rattle.yaml_base.specs.Percent.{character_written, percent_escaped, suffix_escaped, is_tag_character}
+use Rattle.yaml_base.specs.ReadPercent.{is_uri_character, percent_read}
+use Rattle.yaml_base.specs.ReadTags.{bare_said, name_said, CutText, cut_after_mark, is_suffix_character, verbatim_said, shorthand_said, tag_said, without_end_sign, name_joined, prefix_among, directives_assumed}
+use Rattle.yaml_base.specs.CanonicalReader.{shorthand_read, tag_read, verbatim_read}
+use Rattle.yaml_base.specs.Tags.{tag_mark, directives_fault, directives_in_force, Spelling, verbatim, spelling, spelled}
+use Rattle.yaml_base.specs.StreamLaw.{has_flow_sign}
+use Rattle.yaml_base.proofs.PercentLaws.{character_is_no_flow_sign, stands_written, escaped_stands, suffix_stands, escaped_begins, suffix_begins, written_is_no_less, alpha_is_no_less, portable_suffix_has_no_flow_sign}
+use Rattle.yaml_base.proofs.TagLaws.{end_sign_dropped, stands_no_mark, IsHandle, handle_form, cut_at_handle, in_force_found, spelling_is, written_tag_reads, written_tag_ends_no_word}
+use Rattle.yaml_base.proofs.StreamProperties.{WrittenTag}
+
+-- Characters
+
+-- what is written of a tag may stand in a URI
+pub uri_character : (c : ℕ) → stands_written c ≡ true → is_uri_character c ≡ true
+uri_character c h = grind (arith, nat_tests)
+
+pub uri_text : (text : Text) → list_all stands_written text ≡ true → list_all is_uri_character text ≡ true
+uri_text [] h = refl
+uri_text (c ∷ text) h =
+    let parts = and_parts (stands_written c) (list_all stands_written text) h in
+    and_from (is_uri_character c) (list_all is_uri_character text) (uri_character c parts.0) (uri_text text parts.1)
+
+-- a sign of flow
+abbrev is_flow_sign : ℕ → Bool
+is_flow_sign c = is_among (codes ",[]") c
+
+-- after a handle no sign of flow is written, in portable mode or where the text holds none
+pub suffix_has_no_flow_sign : (portable : Bool) (text : Text) → (portable || not (list_any is_flow_sign text)) ≡ true
+    → list_any is_flow_sign (suffix_escaped portable text) ≡ false
+suffix_has_no_flow_sign true text h = portable_suffix_has_no_flow_sign text
+suffix_has_no_flow_sign false text h = by text (not-true (list_any is_flow_sign text) h)
+  where
+    by : (text : Text) → list_any is_flow_sign text ≡ false → list_any is_flow_sign (suffix_escaped false text) ≡ false
+    by [] h = refl
+    by (c ∷ text) h =
+        let parts = or_parts (is_flow_sign c) (list_any is_flow_sign text) h in
+        list_any-append is_flow_sign (character_written (is_tag_character c) c) (suffix_escaped false text)
+        ∙ or_from (list_any is_flow_sign (character_written (is_tag_character c) c)) (list_any is_flow_sign (suffix_escaped false text))
+        (character_is_no_flow_sign (is_tag_character c) c (λ k. parts.0)) (by text parts.1)
+
+-- a text in a URI without such a sign may stand after a handle
+suffix_text : (text : Text) → list_all is_uri_character text ≡ true → list_any is_flow_sign text ≡ false → list_all is_suffix_character text ≡ true
+suffix_text [] h k = refl
+suffix_text (c ∷ text) h k =
+    let parts = and_parts (is_uri_character c) (list_all is_uri_character text) h in
+    let none = or_parts (is_flow_sign c) (list_any is_flow_sign text) k in
+    and_from (is_suffix_character c) (list_all is_suffix_character text)
+    (and_from (is_uri_character c) (not (is_flow_sign c)) parts.0 (ap not none.0)) (suffix_text text parts.1 none.1)
+
+-- what is written after a handle may stand there
+pub suffix_reads : (portable : Bool) (text : Text) → (portable || not (list_any is_flow_sign text)) ≡ true
+    → list_all is_suffix_character (suffix_escaped portable text) ≡ true
+suffix_reads portable text h =
+    suffix_text (suffix_escaped portable text) (uri_text (suffix_escaped portable text) (suffix_stands portable text)) (suffix_has_no_flow_sign portable text h)
+
+-- Tags
+
+-- where what stands in a tag may stand there, a stream's tag says what a canonical one says
+verbatim_as_read : (own : List TagDirective) (c : ℕ) (name : Text) → list_all is_uri_character (c ∷ name) ≡ true
+    → tag_said own (codes "!<" ++ ((c ∷ name) ++ codes ">")) ≡ tag_read own (codes "!<" ++ ((c ∷ name) ++ codes ">"))
+verbatim_as_read own c name h =
+    ap verbatim_said (end_sign_dropped (c ∷ name))
+    ∙ ap (λ x. if x then option_map name_said (percent_read (c ∷ name)) else None) h
+    ∙ sym (ap verbatim_read (end_sign_dropped (c ∷ name)))
+
+-- a text that begins with `!` and goes on with another character than `<`
+by_handle : (own : List TagDirective) (d : ℕ) (rest handle : Text) (c : ℕ) (suffix : Text) → (d == 0x3C) ≡ false
+    → cut_after_mark (tag_mark ∷ d ∷ rest) ≡ record { front = handle; rest = c ∷ suffix } → list_all is_suffix_character (c ∷ suffix) ≡ true
+    → tag_said own (tag_mark ∷ d ∷ rest) ≡ tag_read own (tag_mark ∷ d ∷ rest)
+by_handle own d rest handle c suffix less cut h =
+    let made : CutText = cut_after_mark (tag_mark ∷ d ∷ rest) in
+    ap (λ x. if x then verbatim_said (without_end_sign rest) else shorthand_said own made.front made.rest) less
+    ∙ ap (λ (cut : CutText). shorthand_said own cut.front cut.rest) cut
+    ∙ ap (λ x. if x then name_joined (prefix_among (own ++ directives_assumed) handle) (percent_read (c ∷ suffix)) else None) h
+    ∙ sym (ap (shorthand_read own) cut)
+    ∙ sym (ap (λ x. if x then verbatim_read (without_end_sign rest) else shorthand_read own made) less)
+
+-- a handle and what stands after it go on so
+second_sign : (handle : Text) (c : ℕ) (suffix : Text) → IsHandle handle → stands_written c ≡ true
+    → (d : ℕ) × (rest : Text) × (handle ++ (c ∷ suffix) ≡ tag_mark ∷ d ∷ rest) × ((d == 0x3C) ≡ false)
+second_sign handle c suffix (inl e) h = (c, suffix, ap (λ t. t ++ (c ∷ suffix)) e, written_is_no_less c h)
+second_sign handle c suffix (inr form) h = by form.0 form.1 form.2
+  where
+    by : (middle : Text) → handle ≡ (tag_mark ∷ middle) ++ tag_mark ∷ [] → list_all is_alpha middle ≡ true
+        → (d : ℕ) × (rest : Text) × (handle ++ (c ∷ suffix) ≡ tag_mark ∷ d ∷ rest) × ((d == 0x3C) ≡ false)
+    by [] e k = (tag_mark, c ∷ suffix, ap (λ t. t ++ (c ∷ suffix)) e, refl)
+    by (m ∷ middle) e k =
+        let first = (and_parts (is_alpha m) (list_all is_alpha middle) k).0 in
+        (m, (middle ++ tag_mark ∷ []) ++ (c ∷ suffix), ap (λ t. t ++ (c ∷ suffix)) e, alpha_is_no_less m first)
+
+-- a shorthand says what a canonical one says
+shorthand_as_read : (own : List TagDirective) (handle : Text) (c : ℕ) (suffix : Text) → IsHandle handle → list_all stands_written (c ∷ suffix) ≡ true
+    → list_all is_suffix_character (c ∷ suffix) ≡ true → tag_said own (handle ++ (c ∷ suffix)) ≡ tag_read own (handle ++ (c ∷ suffix))
+shorthand_as_read own handle c suffix form stands h =
+    let second = second_sign handle c suffix form (and_parts (stands_written c) (list_all stands_written suffix) stands).0 in
+    ap (tag_said own) second.2
+    ∙ by_handle own second.0 second.1 handle c suffix second.3
+    (ap cut_after_mark (sym second.2) ∙ cut_at_handle handle (c ∷ suffix) form (stands_no_mark (c ∷ suffix) stands)) h
+    ∙ ap (tag_read own) (sym second.2)
+
+nothing_begins : {c : ℕ} {t : Text} → ◌≡◌ {A = Text} [] (c ∷ t) → ⊥
+nothing_begins e = cc
+
+-- a spelling is read as a canonical reader reads it
+abbrev AsRead : (portable : Bool) → List TagDirective → Spelling → Type 0
+AsRead portable own s =
+    (portable || not (has_flow_sign s)) ≡ true → tag_said own (spelled portable s) ≡ tag_read own (spelled portable s)
+
+spelling_as_read : (portable : Bool) (own : List TagDirective) (d : ℕ) (tag : Text) → directives_fault own ≡ None
+    → AsRead portable own (spelling (directives_in_force own) (d ∷ tag))
+spelling_as_read portable own d tag sound =
+    spelling_is (AsRead portable own) own (directives_in_force own) (d ∷ tag) (in_force_found own sound) whole
+    (λ handle prefix c suffix f g e k. by handle (handle_form handle f) (suffix_escaped portable (c ∷ suffix)) (suffix_begins portable c suffix)
+    (suffix_stands portable (c ∷ suffix)) (suffix_reads portable (c ∷ suffix) k))
+  where
+    whole : AsRead portable own (verbatim (d ∷ tag))
+    whole k = at (percent_escaped (d ∷ tag)) (escaped_begins d tag) (uri_text (percent_escaped (d ∷ tag)) (escaped_stands (d ∷ tag)))
+      where
+        at : (name : Text) → (c : ℕ) × (more : Text) × (name ≡ c ∷ more) → list_all is_uri_character name ≡ true
+            → tag_said own (codes "!<" ++ name ++ codes ">") ≡ tag_read own (codes "!<" ++ name ++ codes ">")
+        at [] begins h = absurd (nothing_begins begins.2)
+        at (c ∷ name) begins h = verbatim_as_read own c name h
+
+    by : (handle : Text) → IsHandle handle → (suffix : Text) → (c : ℕ) × (more : Text) × (suffix ≡ c ∷ more) → list_all stands_written suffix ≡ true
+        → list_all is_suffix_character suffix ≡ true → tag_said own (handle ++ suffix) ≡ tag_read own (handle ++ suffix)
+    by handle form [] begins stands h = absurd (nothing_begins begins.2)
+    by handle form (c ∷ suffix) begins stands h = shorthand_as_read own handle c suffix form stands h
+
+-- a written tag begins with `!`
+begins_mark : (portable : Bool) (own : List TagDirective) (tag : Text) → directives_fault own ≡ None
+    → (rest : Text) × (spelled portable (spelling (directives_in_force own) tag) ≡ tag_mark ∷ rest)
+begins_mark portable own tag sound =
+    spelling_is (λ s. (rest : Text) × (spelled portable s ≡ tag_mark ∷ rest)) own (directives_in_force own) tag (in_force_found own sound)
+    (0x3C ∷ (percent_escaped tag ++ codes ">"), refl)
+    (λ handle prefix c suffix f g e. by handle (handle_form handle f) (suffix_escaped portable (c ∷ suffix)))
+  where
+    by : (handle : Text) → IsHandle handle → (suffix : Text) → (rest : Text) × (handle ++ suffix ≡ tag_mark ∷ rest)
+    by handle (inl e) suffix = (suffix, ap (λ t. t ++ suffix) e)
+    by handle (inr form) suffix = ((form.0 ++ tag_mark ∷ []) ++ suffix, ap (λ t. t ++ suffix) form.1)
+
+-- a tag of at least one character that is written is read as the tag, in portable mode or where no sign of flow stands after its handle
+pub written_tag : (portable : Bool) (own : List TagDirective) (c : ℕ) (tag : Text) → directives_fault own ≡ None → all_scalars (c ∷ tag) ≡ true
+    → (portable || not (has_flow_sign (spelling (directives_in_force own) (c ∷ tag)))) ≡ true
+    → WrittenTag own (spelled portable (spelling (directives_in_force own) (c ∷ tag))) (name_said (c ∷ tag))
+written_tag portable own c tag sound scalars allowed = record {
+  rest = (begins_mark portable own (c ∷ tag) sound).0;
+  begins = (begins_mark portable own (c ∷ tag) sound).1;
+  no_white = written_tag_ends_no_word portable own (c ∷ tag) sound;
+  says = spelling_as_read portable own c tag sound allowed ∙ written_tag_reads portable own (c ∷ tag) sound scalars;
+}
+
+-- so is the bare tag
+pub bare_tag : (own : List TagDirective) → WrittenTag own (codes "!") bare_said
+bare_tag own = record { rest = []; begins = refl; no_white = refl; says = refl }
