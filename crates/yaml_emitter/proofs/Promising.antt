@@ -15,6 +15,8 @@ use Rattle.yaml_base.specs.Steps.{progress}
 use Rattle.yaml_base.specs.Output.{encoding_asked, settings_for, text_written, hands_out_last}
 use Rattle.yaml_base.specs.CanonicalReader.{canonical_content}
 use Rattle.yaml_base.specs.Meaning.{has_scalar_texts}
+use Rattle.yaml_base.specs.StreamContent.{agrees}
+use Rattle.yaml_base.specs.StreamReader.{stream_trees}
 use Rattle.yaml_base.specs.Seen.{seen_event}
 use Rattle.yaml_base.specs.declared.events.yaml_event_t.{yaml_event_t}
 use Rattle.std.specs.List.{list_all}
@@ -31,6 +33,7 @@ use Rattle.yaml_emitter.specs.Promises.{bytes_of_some, HasAllBytes, ends_stream,
 use Rattle.yaml_emitter.proofs.StandingPromises.{take-length, stands_well, promises_text, promises_held, promises_refusal, promises_output, promises_within, promises_full, promises_end, all_written, whole_text}
 use Rattle.yaml_emitter.proofs.Meaning.{meaning_is_kept}
 use Rattle.yaml_emitter.proofs.CanonicalOutput.{output_reads}
+use Rattle.yaml_emitter.proofs.StreamOutput.{output_reads_back}
 use Rattle.yaml_emitter.proofs.SeenTexts.{seen_scalars, texts_more, values_of_texts}
 
 -- All that is handed out is the bytes of the pieces.
@@ -95,6 +98,9 @@ promises_whole given all state h none accepted =
       tidy = bodies_are_tidy given (encoding_asked all) all accepted;
       raw = subst (HoldsRaw (settings_for given all)) (sym whole.text) (texts_hold_raw given (encoding_asked all) all accepted);
       reads = λ canonical uncut. ap (canonical_content given.breaks12) output ∙ output_reads given all (record { canonical = canonical; accepted = accepted; scalars = h.texts; uncut = uncut });
+      reads_back = λ portable uncut.
+          ap (λ (bytes : List ℕ). agrees given.canonical all (stream_trees given.breaks12 bytes)) output
+          ∙ output_reads_back given all (record { accepted = accepted; scalars = h.texts; portable = portable; uncut = uncut });
     }
 
 dropped_by : (error : Option yaml_error_t) (given : Settings) (all : List Event) (state : State) → StandsBy given all error state → IsSome error → state.held ≡ []
