@@ -2,8 +2,8 @@ pub mod AnchorLemmas
 pub mod ChildLemmas
 pub mod Emissions
 pub mod EventLemmas
-pub mod GraphLemmas
 pub mod GraphTreeLemmas
+pub mod GraphLemmas
 pub mod NameLemmas
 pub mod StandingLemmas
 pub mod TagLemmas

@@ -2,12 +2,16 @@
 -- node's kind, or in canonical mode; a node that is read without a tag has that of its kind, as libyaml's loader gives it.
 use Rattle.std.specs.Prelude.{◌≡◌, Bool, true, false, None, Some, List, [], ◌∷◌, ℕ, ⊤, unwrap_or}
 use Rattle.yaml_base.specs.Characters.{Text}
+use Rattle.yaml_base.specs.Settings.{Settings}
 use Rattle.yaml_base.specs.Event.{Event}
 use Rattle.yaml_base.specs.Meetings.{Graph, string_tag, sequence_tag, mapping_tag}
 use Rattle.yaml_base.specs.Unfolding.{scalar_kind, sequence_kind, mapping_kind, Shape, alias_shape, node_shape, Shapes, no_shapes, shapes_and, Unfolds}
 use Rattle.yaml_base.specs.Dumped.{AreDumped}
 use Rattle.yaml_base.specs.StreamContent.{Tagging, with_tag, without_tag, Tree, alias_tree, scalar_tree, sequence_tree, mapping_tree, Trees, no_trees, trees_and, TreePairs, no_tree_pairs, tree_pairs_and, DocumentTree, agrees}
+use Rattle.yaml_base.specs.StreamLaw.{is_portable}
 use Rattle.yaml_base.specs.StreamReader.{stream_trees}
+use Rattle.yaml_emitter.specs.State.{State}
+use Rattle.yaml_emitter.specs.Uncut.{IsUncut}
 
 -- the tag of a scalar that was read: without one, that of texts
 abbrev pub scalar_tag_read : Tagging → Text
@@ -51,6 +55,13 @@ pub record GraphsReadBack (breaks12 : Bool) (graphs : List Graph) (bytes : List 
   pub documents : List DocumentTree
   pub read : stream_trees breaks12 bytes ≡ Some documents
   pub unfolds : TreesUnfold graphs documents
+
+-- what the reader of whole streams finds in the output of these events unfolds the graphs of which they are dumps, where no
+-- limit cuts it: in portable mode whatever they are, else where no document is lost and no tag has a sign of flow
+abbrev pub ReadsTrees : Settings → List Event → State → Type 0
+ReadsTrees given events after =
+    (graphs : List Graph) → is_portable given.portable given.canonical events ≡ true → IsUncut given events → AreDumped graphs events
+    → GraphsReadBack given.breaks12 graphs after.page.output
 
 -- documents that agree with the events of dumped graphs unfold the graphs
 abbrev pub DumpedTreesUnfold : Type 0
