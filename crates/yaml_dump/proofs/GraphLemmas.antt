@@ -78,9 +78,9 @@ read_back given graphs events bytes (Some documents) dumped is agree =
 -- graphs that were dumped whole in any mode are read back
 pub trees_read : (given : Settings) (before : List Event) (state : State) → Promised given (before ++ stream_end ∷ []) state → state.error ≡ None
     → ReadsTrees given (before ++ stream_end ∷ []) state
-trees_read given before state promised none graphs portable uncut dumped =
+trees_read given before state promised none graphs portable dumped =
     read_back given graphs (before ++ stream_end ∷ []) state.page.output (stream_trees given.breaks12 state.page.output) dumped refl
-    ((written_whole given before graphs state promised none dumped).reads_back portable uncut)
+    ((written_whole given before graphs state promised none dumped).reads_back portable)
 
 -- a document without nodes closes a stream that isn't closed
 closing_whole : (old after : State) (closed : Bool) (done : Unit {0}) → closed ≡ old.closed

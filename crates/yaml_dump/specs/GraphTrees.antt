@@ -11,7 +11,6 @@ use Rattle.yaml_base.specs.StreamContent.{Tagging, with_tag, without_tag, Tree, 
 use Rattle.yaml_base.specs.StreamLaw.{is_portable}
 use Rattle.yaml_base.specs.StreamReader.{stream_trees}
 use Rattle.yaml_emitter.specs.State.{State}
-use Rattle.yaml_emitter.specs.Uncut.{IsUncut}
 
 -- the tag of a scalar that was read: without one, that of texts
 abbrev pub scalar_tag_read : Tagging → Text
@@ -56,11 +55,11 @@ pub record GraphsReadBack (breaks12 : Bool) (graphs : List Graph) (bytes : List 
   pub read : stream_trees breaks12 bytes ≡ Some documents
   pub unfolds : TreesUnfold graphs documents
 
--- what the reader of whole streams finds in the output of these events unfolds the graphs of which they are dumps, where no
--- limit cuts it: in portable mode whatever they are, else where no document is lost and no tag has a sign of flow
+-- what the reader of whole streams finds in the output of these events unfolds the graphs of which they are dumps: in portable
+-- mode whatever they are, else where no document is lost and no tag has a sign of flow
 abbrev pub ReadsTrees : Settings → List Event → State → Type 0
 ReadsTrees given events after =
-    (graphs : List Graph) → is_portable given.portable given.canonical events ≡ true → IsUncut given events → AreDumped graphs events
+    (graphs : List Graph) → is_portable given.portable given.canonical events ≡ true → AreDumped graphs events
     → GraphsReadBack given.breaks12 graphs after.page.output
 
 -- documents that agree with the events of dumped graphs unfold the graphs

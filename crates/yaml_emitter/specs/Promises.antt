@@ -133,16 +133,17 @@ bytes_so_far given all =
 abbrev pub HasAllBytes : Settings → List Event → State → Type 0
 HasAllBytes given all state = state.page.output ≡ bytes_so_far given all
 
--- an accepted list is written whole, and means what it says: each scalar reads as its value, uncut canonical bytes read as
--- the content, and in every mode uncut bytes read as documents that agree with the list, in portable mode whatever it is, else
+-- an accepted list is written whole, uncut, and means what it says: each scalar reads as its value, canonical bytes read as
+-- the content, and in every mode the bytes read as documents that agree with the list, in portable mode whatever it is, else
 -- where no document is lost and no tag has a sign of flow; what stands raw in the text is printable, and no U+2028 or U+2029
 -- with the line breaks of YAML 1.2; each scalar's text is tidy
 pub record IsWritten (given : Settings) (all : List Event) (state : State) : Type 0 where
   pub text : state.page.text ≡ text_written (settings_for given all) (list_layout (settings_for given all) all)
   pub output : state.page.output ≡ output_of given all
+  pub uncut : IsUncut given all
   pub means : All (BodyMeans (settings_for given all)) (bodies_of (list_layout (settings_for given all) all))
   pub reads : given.canonical ≡ true → IsUncut given all → canonical_content given.breaks12 state.page.output ≡ content_of all
-  pub reads_back : is_portable given.portable given.canonical all ≡ true → IsUncut given all
+  pub reads_back : is_portable given.portable given.canonical all ≡ true
       → agrees given.canonical all (stream_trees given.breaks12 state.page.output) ≡ true
   pub raw : HoldsRaw (settings_for given all) state.page.text
   pub tidy : All (IsTidy (settings_for given all)) (bodies_of (list_layout (settings_for given all) all))
