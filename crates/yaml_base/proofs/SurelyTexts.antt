@@ -230,7 +230,8 @@ text_by_11 text word h =
       (
         timestamp_begins text (whole_begins text h),
         (
-          scientific_begins _ exponent_11 (slice_split is_exponent_mark number) (mantissa_11_begins negative mantissa (split_begins begins_number is_exponent_mark number h)),
+          scientific_begins _ exponent_11 (slice_split is_exponent_mark number)
+              (mantissa_11_begins negative mantissa (split_begins begins_number is_exponent_mark number h)),
           (
             based_11_begins negative 0x62 2 number digit,
             (
@@ -244,7 +245,8 @@ text_by_11 text word h =
                     (
                       fine_sixties_begin negative (slice_split is_point number) (split_begins is_decimal is_point number digit),
                       (
-                        more_points_11_begins (slice_split is_exponent_mark number) (more_points_begin mantissa (split_begins begins_number is_exponent_mark number h)),
+                        more_points_11_begins (slice_split is_exponent_mark number)
+                            (more_points_begin mantissa (split_begins begins_number is_exponent_mark number h)),
                         (off _ _ (and_left (first_is is_point number) _ (point_begins number h)), tt),
                       ),
                     ),

@@ -1,7 +1,8 @@
 -- A document's events unfold its graph, and so does what is read back of them.
-use Rattle.std.proofs.Common.{◌≡◌, refl, sym, ap, ◌∙◌, subst, Bool, true, false, None, List, [], ◌∷◌, ◌++◌, length, drop, map}
+use Rattle.std.proofs.Common.{◌≡◌, refl, sym, ap, ◌∙◌, subst, ℕ, Bool, true, false, Option, None, Some, List, [], ◌∷◌, ◌++◌, length, drop, map}
 use Rattle.std.specs.Prelude.{Result, Ok, Err, IfOk, OnOk, Vec, if◌then◌else◌}
 use Rattle.std.proofs.Math.Seq.{drop-length}
+use Rattle.std.proofs.lemmas.Bool.{false≢true}
 use Rattle.yaml_base.specs.Settings.{Settings}
 use Rattle.yaml_base.specs.Event.{Event, stream_end}
 use Rattle.yaml_base.specs.Ready.{written}
@@ -13,13 +14,17 @@ use Rattle.yaml_base.specs.declared.errors.yaml_error_t.{yaml_error_t}
 use Rattle.yaml_base.specs.declared.events.yaml_event_t.{yaml_event_t}
 use Rattle.yaml_base.proofs.QueueLaws.{stream_written}
 use Rattle.yaml_base.proofs.DocumentsUnfold.{document_unfolds}
+use Rattle.yaml_base.specs.StreamContent.{DocumentTree, agrees}
+use Rattle.yaml_base.specs.StreamReader.{stream_trees}
 use Rattle.yaml_base.proofs.ContentsUnfold.{dumped_stream}
 use Rattle.yaml_dump.specs.Dumps.{EmitsAll, EmitsEach, ReadsGraphs, opening, closing}
 use Rattle.yaml_dump.specs.Events.{walk_events}
+use Rattle.yaml_dump.specs.GraphTrees.{GraphsReadBack, ReadsTrees}
+use Rattle.yaml_dump.proofs.GraphTreeLemmas.{dumped_trees_unfold}
 use Rattle.yaml_emitter.specs.State.{State}
 use Rattle.yaml_emitter.specs.StandsAfter.{StandsAfter}
 use Rattle.yaml_emitter.specs.Uncut.{IsUncut}
-use Rattle.yaml_emitter.specs.Promises.{ends_stream, HasRoom, Promised}
+use Rattle.yaml_emitter.specs.Promises.{ends_stream, HasRoom, IsWritten, Promised}
 
 -- the events of a document's walk
 pub walk_unfolds : {A E : Type 0} (graph : Graph) (answer : Result (Vec (yaml_event_t A) A) E) (walk : List Step) → IsDocument graph → walk ≡ steps graph
@@ -40,29 +45,70 @@ ends_last [] = refl
 ends_last (event ∷ []) = ends_later event stream_end []
 ends_last (event ∷ next ∷ rest) = ends_later event next (rest ++ stream_end ∷ []) ∙ ends_last (next ∷ rest)
 
--- graphs that were dumped whole in canonical mode are read back
-pub graphs_read : (given : Settings) (before : List Event) (graphs : List Graph) (state : State) → Promised given (before ++ stream_end ∷ []) state
-    → state.error ≡ None → given.canonical ≡ true
-    → IsUncut given (before ++ stream_end ∷ []) → AreDumped graphs (before ++ stream_end ∷ []) → GraphsRead given.breaks12 graphs state.page.output
-graphs_read given before graphs state promised none canonical uncut dumped =
+-- what was dumped and closed without an error is written whole
+written_whole : (given : Settings) (before : List Event) (graphs : List Graph) (state : State) → Promised given (before ++ stream_end ∷ []) state
+    → state.error ≡ None → AreDumped graphs (before ++ stream_end ∷ []) → IsWritten given (before ++ stream_end ∷ []) state
+written_whole given before graphs state promised none dumped =
     let all = before ++ stream_end ∷ [] in
     let read = dumped_stream graphs all dumped in
     let whole : written all ≡ length all = subst (λ (events : List Event). written events ≡ length events) read.is (stream_written read.stream) in
     let held : state.held ≡ [] = (promised.held none).held ∙ ap (λ count. drop count all) whole ∙ drop-length all in
     let accepted = (promised.ends (ends_last before) (subst HasRoom (sym none) tt)).1 (none, held) in
+    promised.whole none accepted
+
+-- graphs that were dumped whole in canonical mode are read back
+pub graphs_read : (given : Settings) (before : List Event) (graphs : List Graph) (state : State) → Promised given (before ++ stream_end ∷ []) state
+    → state.error ≡ None → given.canonical ≡ true
+    → IsUncut given (before ++ stream_end ∷ []) → AreDumped graphs (before ++ stream_end ∷ []) → GraphsRead given.breaks12 graphs state.page.output
+graphs_read given before graphs state promised none canonical uncut dumped =
+    let read = dumped_stream graphs (before ++ stream_end ∷ []) dumped in
     record {
       contents = read.contents;
-      read = (promised.whole none accepted).reads canonical uncut ∙ read.content;
+      read = (written_whole given before graphs state promised none dumped).reads canonical uncut ∙ read.content;
       unfolds = read.unfolds;
     }
 
--- a document without nodes closes a stream that isn't closed, so the graphs that were dumped before are read back
+-- what was read of dumped graphs
+read_back : (given : Settings) (graphs : List Graph) (events : List Event) (bytes : List ℕ) (read : Option (List DocumentTree))
+    → AreDumped graphs events → stream_trees given.breaks12 bytes ≡ read → agrees given.canonical events read ≡ true
+    → GraphsReadBack given.breaks12 graphs bytes
+read_back given graphs events bytes None dumped is agree = absurd (false≢true agree)
+read_back given graphs events bytes (Some documents) dumped is agree =
+    record { documents = documents; read = is; unfolds = dumped_trees_unfold given.canonical graphs events documents dumped agree }
+
+-- graphs that were dumped whole in any mode are read back
+pub trees_read : (given : Settings) (before : List Event) (state : State) → Promised given (before ++ stream_end ∷ []) state → state.error ≡ None
+    → ReadsTrees given (before ++ stream_end ∷ []) state
+trees_read given before state promised none graphs portable dumped =
+    read_back given graphs (before ++ stream_end ∷ []) state.page.output (stream_trees given.breaks12 state.page.output) dumped refl
+    ((written_whole given before graphs state promised none dumped).reads_back portable)
+
+-- a document without nodes closes a stream that isn't closed
+closing_whole : (old after : State) (closed : Bool) (done : Unit {0}) → closed ≡ old.closed
+    → ((given : Settings) (all : List Event) → StandsAfter given all old
+    → EmitsEach given (all ++ opening old.opened) (closing closed) (Ok done) after)
+    → old.closed ≡ false → (given : Settings) (all : List Event) → StandsAfter given all old
+    → EmitsAll given (all ++ opening old.opened) (stream_end ∷ []) after
+closing_whole old after closed done same emits unclosed given all stands =
+    subst (λ (b : Bool). EmitsAll given (all ++ opening old.opened) (closing b) after) (same ∙ unclosed) (emits given all stands)
+
+-- so the graphs that were dumped before are read back
 pub closing_reads : (old after : State) (closed empty : Bool) (answer : Result (Unit {0}) yaml_error_t) → closed ≡ old.closed
     → ((given : Settings) (all : List Event) → StandsAfter given all old → EmitsEach given (all ++ opening old.opened) (closing closed) answer after)
     → OnOk answer (empty ≡ true → old.closed ≡ false → (given : Settings) (all : List Event) → StandsAfter given all old
     → ReadsGraphs given ((all ++ opening old.opened) ++ stream_end ∷ []) after)
 closing_reads old after closed empty (Ok done) same emits = λ is unclosed given all stands graphs canonical uncut dumped.
-    let whole : EmitsAll given (all ++ opening old.opened) (stream_end ∷ []) after =
-    subst (λ (b : Bool). EmitsAll given (all ++ opening old.opened) (closing b) after) (same ∙ unclosed) (emits given all stands) in
+    let whole = closing_whole old after closed done same emits unclosed given all stands in
     graphs_read given (all ++ opening old.opened) graphs after whole.promised whole.no_error canonical uncut dumped
 closing_reads old after closed empty (Err error) same emits = tt
+
+-- and so in any mode
+pub closing_trees : (old after : State) (closed empty : Bool) (answer : Result (Unit {0}) yaml_error_t) → closed ≡ old.closed
+    → ((given : Settings) (all : List Event) → StandsAfter given all old
+    → EmitsEach given (all ++ opening old.opened) (closing closed) answer after)
+    → OnOk answer (empty ≡ true → old.closed ≡ false → (given : Settings) (all : List Event) → StandsAfter given all old
+    → ReadsTrees given ((all ++ opening old.opened) ++ stream_end ∷ []) after)
+closing_trees old after closed empty (Ok done) same emits = λ is unclosed given all stands.
+    let whole = closing_whole old after closed done same emits unclosed given all stands in
+    trees_read given (all ++ opening old.opened) after whole.promised whole.no_error
+closing_trees old after closed empty (Err error) same emits = tt

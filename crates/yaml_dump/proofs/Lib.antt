@@ -2,6 +2,7 @@ pub mod AnchorLemmas
 pub mod ChildLemmas
 pub mod Emissions
 pub mod EventLemmas
+pub mod GraphTreeLemmas
 pub mod GraphLemmas
 pub mod NameLemmas
 pub mod StandingLemmas

@@ -1,6 +1,7 @@
 pub mod Anchors
 pub mod Dumps
 pub mod Events
+pub mod GraphTrees
 pub mod Named
 pub mod Standing
 pub mod Steps

@@ -10,6 +10,7 @@ ghost use Rattle.yaml_base.specs.Unfolding.{EventsUnfold};
 ghost use Rattle.yaml_pen.specs.Page.{told};
 ghost use Rattle.yaml_pen.specs.Wrote.{Grows};
 ghost use Rattle.yaml_dump.specs.Dumps.{Dumps, EmitsEach, IsBegun, ReadsGraphs, closing, opening};
+ghost use Rattle.yaml_dump.specs.GraphTrees.{ReadsTrees};
 ghost use Rattle.yaml_emitter.specs.StandsAfter.{StandsAfter};
 
 use crate::emitting::emit_each;
@@ -121,6 +122,8 @@ pub fn yaml_emitter_dump<A: Allocator + Copy>(
         → EventsUnfold (graph_of document) (document_event_list (graph_of document))) }
     ensures graphs { OnOk result ((length (graph_of document).nodes == 0) ≡ true → emitter.old.closed ≡ false → (given : Settings) (all : List Event)
         → StandsAfter given all emitter.old → ReadsGraphs given ((all ++ opening emitter.old.opened) ++ stream_end ∷ []) emitter.new) }
+    ensures trees { OnOk result ((length (graph_of document).nodes == 0) ≡ true → emitter.old.closed ≡ false → (given : Settings) (all : List Event)
+        → StandsAfter given all emitter.old → ReadsTrees given ((all ++ opening emitter.old.opened) ++ stream_end ∷ []) emitter.new) }
     ensures opened { OnOk result (emitter.new.opened ≡ true) }
     ensures unclosed { OnErr result (emitter.new.closed ≡ emitter.old.closed) }
     ensures closed { OnOk result (emitter.new.closed ≡ (emitter.old.closed || length (graph_of document).nodes == 0)) }

@@ -7,6 +7,7 @@ ghost use Rattle.yaml_base.specs.Meetings.{Graph};
 ghost use Rattle.yaml_base.specs.Settings.{Settings};
 ghost use Rattle.yaml_pen.specs.Page.{told};
 ghost use Rattle.yaml_pen.specs.Wrote.{Grows};
+ghost use Rattle.yaml_dump.specs.GraphTrees.{ReadsTrees};
 ghost use Rattle.yaml_emitter.specs.Promises.{Promised};
 ghost use Rattle.yaml_emitter.specs.StandsAfter.{StandsAfter};
 ghost use Rattle.yaml_emitter.specs.State.{KeepsSet};
@@ -45,7 +46,9 @@ pub fn yaml_emitter_open<A: Allocator + Copy>(
 /// Closes a stream that was opened: emits its end. Where it is closed already nothing is done, and no memory is needed.
 ///
 /// Where documents were dumped in canonical mode, and no limit cuts the output, the canonical reader finds in it contents
-/// that unfold their graphs, document by document, with each document's version and directives.
+/// that unfold their graphs, document by document, with each document's version and directives. So does the reader of whole
+/// streams in every mode, where a node without a tag has that of its kind; with portable mode off two kinds of streams are
+/// excepted (`streams_read_back` of `yaml_emitter`).
 ///
 /// # Errors
 /// Those of `yaml_emitter_emit`; the stream is then not closed.
@@ -65,6 +68,8 @@ pub fn yaml_emitter_close<A: Allocator + Copy>(
     ensures graphs { emitter.old.closed ≡ false
         → OnOk result ((given : Settings) (all : List Event) (graphs : List Graph) → StandsAfter given all emitter.old → given.canonical ≡ true
         → IsUncut given (all ++ stream_end ∷ []) → AreDumped graphs (all ++ stream_end ∷ []) → GraphsRead given.breaks12 graphs emitter.new.page.output) }
+    ensures trees { emitter.old.closed ≡ false
+        → OnOk result ((given : Settings) (all : List Event) → StandsAfter given all emitter.old → ReadsTrees given (all ++ stream_end ∷ []) emitter.new) }
 {
     if emitter.is_closed() || !emitter.is_opened() {
         return Ok(());

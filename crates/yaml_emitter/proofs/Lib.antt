@@ -47,8 +47,9 @@ pub mod DocumentsDone
 pub mod Emitting
 pub mod StandingSet
 pub mod SeenTexts
+pub mod StreamsReadBack
+pub mod StreamOutput
 pub mod Promising
 pub mod KeepsSet
 pub mod Growing
 pub mod StandingMarked
-pub mod StreamsReadBack

@@ -1,5 +1,5 @@
 -- All that an emitter promises where it stands.
-use Rattle.std.proofs.Common.{◌≡◌, refl, sym, ap, ◌∙◌, subst}
+use Rattle.std.proofs.Common.{◌≡◌, ◌≤◌, refl, sym, ap, ◌∙◌, subst}
 use Rattle.std.specs.Prelude.{ℕ, zero, suc, Bool, true, Option, None, Some, IsSome, Result, Ok, Err, OnOk, List, [], ◌∷◌, ◌++◌, length, take}
 use Rattle.std.proofs.lemmas.List.{length-take-le}
 use Rattle.yaml_base.specs.Characters.{Text}
@@ -10,11 +10,13 @@ use Rattle.yaml_base.specs.Grammar.{documents_events}
 use Rattle.yaml_base.specs.Refusal.{IsAccepted}
 use Rattle.yaml_base.specs.Ready.{written}
 use Rattle.yaml_base.specs.Layout.{Piece}
-use Rattle.yaml_base.specs.Pieces.{pieces}
+use Rattle.yaml_base.specs.Pieces.{list_layout, pieces}
 use Rattle.yaml_base.specs.Steps.{progress}
 use Rattle.yaml_base.specs.Output.{encoding_asked, settings_for, text_written, hands_out_last}
 use Rattle.yaml_base.specs.CanonicalReader.{canonical_content}
 use Rattle.yaml_base.specs.Meaning.{has_scalar_texts}
+use Rattle.yaml_base.specs.StreamContent.{agrees}
+use Rattle.yaml_base.specs.StreamReader.{stream_trees}
 use Rattle.yaml_base.specs.Seen.{seen_event}
 use Rattle.yaml_base.specs.declared.events.yaml_event_t.{yaml_event_t}
 use Rattle.std.specs.List.{list_all}
@@ -23,6 +25,7 @@ use Rattle.yaml_base.proofs.QueueLaws.{written_within}
 use Rattle.yaml_pen.specs.Page.{Page, encoded, told}
 use Rattle.yaml_pen.proofs.Writing.{none_from_told}
 use Rattle.yaml_emitter.specs.State.{State}
+use Rattle.yaml_emitter.specs.Uncut.{IsUncut}
 use Rattle.yaml_emitter.specs.StandsAfter.{HoldsPieces, StandsWell, StandsBy, StandsSo, StandsAfter}
 use Rattle.yaml_base.specs.WrittenTexts.{HoldsRaw}
 use Rattle.yaml_emitter.proofs.RawTexts.{texts_hold_raw}
@@ -33,6 +36,7 @@ use Rattle.yaml_emitter.proofs.StandingFull.{take-length, promises_full}
 use Rattle.yaml_emitter.proofs.StandingEnds.{promises_end, all_written, whole_text}
 use Rattle.yaml_emitter.proofs.Meaning.{meaning_is_kept}
 use Rattle.yaml_emitter.proofs.CanonicalOutput.{output_reads}
+use Rattle.yaml_emitter.proofs.StreamOutput.{output_reads_back}
 use Rattle.yaml_emitter.proofs.SeenTexts.{seen_scalars, texts_more, values_of_texts}
 
 -- All that is handed out is the bytes of the pieces.
@@ -85,13 +89,27 @@ accepted_hands : (canonical : Bool) (all : List Event) → IsAccepted canonical 
 accepted_hands canonical all accepted = ap hands_out_last (sym accepted.is_stream)
     ∙ last_hands (stream_start accepted.stream.encoding ∷ documents_events accepted.stream.documents)
 
+-- All bytes are the encoded text, where an event was written.
+all_bytes : (front rest : List Event) (event : Event) (s : Effective) (laid : List Piece) (text : Text) (page : Page) → front ≡ event ∷ rest
+    → HoldsPieces s front laid page → page.text ≡ text → page.output ≡ encoded page → page.output ≡ encode (Some s.encoding) text
+all_bytes [] rest event s laid text page is h same all = cc
+all_bytes (first ∷ front) rest event s laid text page is h same all =
+    all ∙ ap (λ e. encode e page.text) h.0.encoding ∙ ap (encode (Some s.encoding)) same
+
 promises_whole : (given : Settings) (all : List Event) (state : State) → StandsAfter given all state → state.error ≡ None → IsAccepted given.canonical all
     → IsWritten given all state
 promises_whole given all state h none accepted =
     let whole = whole_text given all state h.so accepted none in
     let well : StandsWell given all state = stands_well given all state h.so none in
     let begins : take (written all) all ≡ all = ap (λ n. take n all) (all_written given.canonical all accepted) ∙ take-length all in
-    let output = whole.output (well.taken.handed_out (ap hands_out_last begins ∙ accepted_hands given.canonical all accepted)) in
+    let s = settings_for given all in
+    let handed = well.taken.handed_out (ap hands_out_last begins ∙ accepted_hands given.canonical all accepted) in
+    let output = whole.output handed in
+    let bytes =
+    all_bytes (take (written all) all) (documents_events accepted.stream.documents ++ stream_end ∷ []) (stream_start accepted.stream.encoding) s
+    (progress s all).pieces (text_written s (list_layout s all)) state.page (begins ∙ sym accepted.is_stream) well.taken.page whole.text handed
+    in
+    let uncut : IsUncut given all = subst (λ (bytes : List ℕ). length bytes ≤ given.limit) bytes (promises_within given all state h.so) in
     record {
       text = whole.text;
       output = output;
@@ -100,6 +118,10 @@ promises_whole given all state h none accepted =
       raw = subst (HoldsRaw (settings_for given all)) (sym whole.text) (texts_hold_raw given (encoding_asked all) all accepted);
       reads = λ canonical uncut. ap (canonical_content given.breaks12) output
           ∙ output_reads given all (record { canonical = canonical; accepted = accepted; scalars = h.texts; uncut = uncut });
+      uncut = uncut;
+      reads_back = λ portable.
+          ap (λ (bytes : List ℕ). agrees given.canonical all (stream_trees given.breaks12 bytes)) output
+          ∙ output_reads_back given all (record { accepted = accepted; scalars = h.texts; portable = portable; uncut = uncut });
     }
 
 dropped_by : (error : Option yaml_error_t) (given : Settings) (all : List Event) (state : State) → StandsBy given all error state → IsSome error

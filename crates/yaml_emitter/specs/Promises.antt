@@ -12,6 +12,9 @@ use Rattle.yaml_base.specs.NodeLayout.{bodies_of}
 use Rattle.yaml_base.specs.Pieces.{list_layout, pieces}
 use Rattle.yaml_base.specs.Output.{settings_for, text_written, bytes_written, output_of, hands_out_last}
 use Rattle.yaml_base.specs.Meaning.{BodyMeans}
+use Rattle.yaml_base.specs.StreamContent.{agrees}
+use Rattle.yaml_base.specs.StreamLaw.{is_portable}
+use Rattle.yaml_base.specs.StreamReader.{stream_trees}
 use Rattle.yaml_base.specs.Content.{content_of}
 use Rattle.yaml_base.specs.CanonicalReader.{canonical_content}
 use Rattle.yaml_base.specs.TidyBodies.{IsTidy}
@@ -130,14 +133,18 @@ bytes_so_far given all =
 abbrev pub HasAllBytes : Settings → List Event → State → Type 0
 HasAllBytes given all state = state.page.output ≡ bytes_so_far given all
 
--- an accepted list is written whole, and means what it says: each scalar reads as its value, and uncut canonical bytes
--- read as the content; what stands raw in the text is printable, and no U+2028 or U+2029 with the line breaks of YAML 1.2; each
--- scalar's text is tidy
+-- an accepted list is written whole, uncut, and means what it says: each scalar reads as its value, canonical bytes read as
+-- the content, and in every mode the bytes read as documents that agree with the list, in portable mode whatever it is, else
+-- where no document is lost and no tag has a sign of flow; what stands raw in the text is printable, and no U+2028 or U+2029
+-- with the line breaks of YAML 1.2; each scalar's text is tidy
 pub record IsWritten (given : Settings) (all : List Event) (state : State) : Type 0 where
   pub text : state.page.text ≡ text_written (settings_for given all) (list_layout (settings_for given all) all)
   pub output : state.page.output ≡ output_of given all
+  pub uncut : IsUncut given all
   pub means : All (BodyMeans (settings_for given all)) (bodies_of (list_layout (settings_for given all) all))
   pub reads : given.canonical ≡ true → IsUncut given all → canonical_content given.breaks12 state.page.output ≡ content_of all
+  pub reads_back : is_portable given.portable given.canonical all ≡ true
+      → agrees given.canonical all (stream_trees given.breaks12 state.page.output) ≡ true
   pub raw : HoldsRaw (settings_for given all) state.page.text
   pub tidy : All (IsTidy (settings_for given all)) (bodies_of (list_layout (settings_for given all) all))
 

@@ -1,5 +1,5 @@
--- What the output of an accepted list in canonical mode tells, where no limit cuts it.
-use Rattle.std.specs.Prelude.{◌≡◌, ◌≤◌, true, List, length}
+-- What the output of an accepted list tells, in canonical mode and in every mode, where no limit cuts it.
+use Rattle.std.specs.Prelude.{◌≡◌, ◌≤◌, Bool, true, Some, List, length}
 use Rattle.std.specs.List.{list_all}
 use Rattle.yaml_base.specs.Settings.{Settings}
 use Rattle.yaml_base.specs.Event.{Event}
@@ -9,6 +9,9 @@ use Rattle.yaml_base.specs.Output.{settings_for, bytes_written, output_of}
 use Rattle.yaml_base.specs.Content.{content_of}
 use Rattle.yaml_base.specs.CanonicalReader.{canonical_content}
 use Rattle.yaml_base.specs.Meaning.{has_scalar_texts}
+use Rattle.yaml_base.specs.StreamContent.{DocumentTree, agrees}
+use Rattle.yaml_base.specs.StreamLaw.{is_portable}
+use Rattle.yaml_base.specs.StreamReader.{stream_trees}
 
 -- the limit is at least the length of all bytes
 abbrev pub IsUncut : Settings → List Event → Type 0
@@ -31,3 +34,30 @@ abbrev pub OutputTells : Settings → (first second : List Event) → Type 0
 OutputTells given first second =
     IsWhole given first → IsWhole given second → output_of given first ≡ output_of given second
     → content_of first ≡ content_of second
+
+-- a list that is written whole, in any mode, as all readers of YAML read it
+pub record IsReadable (given : Settings) (events : List Event) : Type 0 where
+  pub accepted : IsAccepted given.canonical events
+  pub scalars : list_all has_scalar_texts events ≡ true
+  pub portable : is_portable given.portable given.canonical events ≡ true
+  pub uncut : IsUncut given events
+
+-- its output reads as documents that agree with it
+abbrev pub OutputReadsBack : Settings → List Event → Type 0
+OutputReadsBack given events =
+    IsReadable given events → agrees given.canonical events (stream_trees given.breaks12 (output_of given events)) ≡ true
+
+-- two lists have the same content, as far as it is written: some documents agree with both. They are as many, each with the
+-- same version and directives, and node for node of the same kind, with the same anchor or alias, written tag, value and
+-- entries; a scalar whose tag isn't written stands, plain, quoted or after the bare tag, as the flags of both allow. Not
+-- kept are styles, marks of documents, and tags that flags leave out
+pub record HaveSameContent (canonical : Bool) (first second : List Event) : Type 0 where
+  pub documents : List DocumentTree
+  pub first_agrees : agrees canonical first (Some documents) ≡ true
+  pub second_agrees : agrees canonical second (Some documents) ≡ true
+
+-- under equal settings equal outputs come only from lists of the same content
+abbrev pub OutputTellsContent : Settings → (first second : List Event) → Type 0
+OutputTellsContent given first second =
+    IsReadable given first → IsReadable given second → output_of given first ≡ output_of given second
+    → HaveSameContent given.canonical first second

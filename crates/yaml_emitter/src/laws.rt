@@ -3,11 +3,12 @@ ghost use Rattle.std.specs.Prelude.{List};
 ghost use Rattle.yaml_base.specs.Event.{Event};
 ghost use Rattle.yaml_base.specs.Meaning.{CanonicalBytesRead, MeaningIsKept};
 ghost use Rattle.yaml_base.specs.Settings.{Settings};
+ghost use Rattle.yaml_base.specs.StreamLaw.{StreamReadsBack};
 ghost use Rattle.yaml_base.specs.WrittenTexts.{BodiesAreTidy, StreamsAgree, TextsHoldRaw};
 ghost use Rattle.yaml_emitter.specs.Promises.{Promised};
 ghost use Rattle.yaml_emitter.specs.StandsAfter.{StandsAfter};
 ghost use Rattle.yaml_emitter.specs.State.{State};
-ghost use Rattle.yaml_emitter.specs.Uncut.{OutputReads, OutputTells};
+ghost use Rattle.yaml_emitter.specs.Uncut.{OutputReads, OutputReadsBack, OutputTells, OutputTellsContent};
 
 /// Every scalar in the layout of an accepted list reads back: its text, read by the rules of its style where it
 /// stands, is exactly its value, and each nonempty line of it after the first begins with at least two spaces.
@@ -45,6 +46,22 @@ pub fn canonical_bytes_read()
 pub fn canonical_output_reads()
     ensures reads { (given : Settings) (events : List Event) → OutputReads given events }
     ensures tells { (given : Settings) (first second : List Event) → OutputTells given first second }
+{}
+
+/// In every mode the bytes of a well-formed event stream, where no limit cuts them, read back: a reader of YAML that shares
+/// no word with the writers finds in them documents that agree with the events, in version, directives, and node for node in
+/// kind, anchor, alias, written tag, value and entries. Where portable mode is off, two kinds of streams are excepted, which
+/// readers of YAML don't read alike: one whose first document is written as nothing at all, an empty plain root without
+/// `---`; and one in which a sign of flow (`,` `[` `]`) stands after a tag's handle, where readers end the tag.
+pub fn streams_read_back()
+    ensures { StreamReadsBack }
+{}
+
+/// The output of a well-formed event stream in every mode, where no limit cuts it, reads back, the same two kinds of
+/// streams excepted: so under equal settings equal outputs come only from streams of the same content.
+pub fn output_tells_content()
+    ensures reads { (given : Settings) (events : List Event) → OutputReadsBack given events }
+    ensures tells { (given : Settings) (first second : List Event) → OutputTellsContent given first second }
 {}
 
 /// What stands after the events that it was given keeps every promise of them.

@@ -8,7 +8,7 @@ use Rattle.yaml_base.proofs.DocumentsUnfold.{document_unfolds}
 use Rattle.yaml_pen.proofs.Composing.{grows_then}
 use Rattle.yaml_pen.proofs.Writing.{none_from_told}
 use Rattle.yaml_dump.specs.Dumps.{closing, opening}
-use Rattle.yaml_dump.proofs.GraphLemmas.{closing_reads}
+use Rattle.yaml_dump.proofs.GraphLemmas.{closing_reads, closing_trees}
 use Rattle.yaml_dump.proofs.Emissions.{begun_then, on_ok, on_err, closed_by, exit_dumps, dumps_closing, dumps_events}
 use Rattle.yaml_dump.proofs.dumps.yaml_emitter_dump.Goals as goal
 
@@ -92,6 +92,18 @@ returns-then-is_empty-clause-graphs g c =
 
 pub returns-clause-graphs : goal.returns-clause-graphs
 returns-clause-graphs g c =
+    on_ok c.emit_each.result (λ none. absurd (false≢true (sym (sym c.is_empty.ensures ∙ c.if-is_empty.false) ∙ none)))
+
+pub returns-then-is_empty-clause-trees : goal.returns-then-is_empty-clause-trees
+returns-then-is_empty-clause-trees g c =
+    closing_trees c.args.emitter.now c.close_if_needed.new.emitter c.open_if_needed.new.emitter.closed
+    (length (graph_of c.args.document).nodes == 0) c.close_if_needed.result c.open_if_needed.ensures.closed
+    (λ given all stands.
+    let begun = c.in_ok-open_if_needed.ensures.emits given all stands in
+    c.close_if_needed.ensures.emits given (all ++ opening c.args.emitter.now.opened) begun.stands)
+
+pub returns-clause-trees : goal.returns-clause-trees
+returns-clause-trees g c =
     on_ok c.emit_each.result (λ none. absurd (false≢true (sym (sym c.is_empty.ensures ∙ c.if-is_empty.false) ∙ none)))
 
 pub returns-then-is_empty-clause-begun : goal.returns-then-is_empty-clause-begun
