@@ -18,7 +18,7 @@ returns-clause-graphs g c running given all graphs stands canonical uncut dumped
 pub returns-clause-trees : goal.returns-clause-trees
 returns-clause-trees g c running given all stands =
     trees_read given all _ (c.mark_closed.ensures.promised given _ (c.in_ok-yaml_emitter_emit.ensures.stands given all stands))
-    (ap (λ (state : State). state.error) c.mark_closed.ensures.set
+    (ap (λ (s : State). s.error) c.mark_closed.ensures.set
     ∙ none_from_told c.yaml_emitter_emit.new.emitter.error c.in_ok-yaml_emitter_emit.ensures.answered)
 
 pub returns-clause-grows : goal.returns-clause-grows
