@@ -1,8 +1,8 @@
--- The stream of one letter is accepted and fits, so that nothing but memory can give out.
+-- Where a known stream is accepted and fits, nothing but memory can give out; the stream of one letter does.
 use Rattle.std.proofs.Common.{◌≡◌, refl, sym, ap, ◌∙◌, arith, subst, append_assoc, append-nil}
 use Rattle.std.proofs.lemmas.List.{take-append-drop}
 use Rattle.std.proofs.lemmas.List.Sums.{sum_by-append}
-use Rattle.std.specs.Prelude.{ℕ, ◌+◌, ◌-◌, ◌≤◌, Bool, true, false, cond, ◌&&◌, Option, None, Some, List, [], ◌∷◌, ◌++◌, length, count_by, is_none, codes, Result, Ok, Err, IfErr, IsErr, IsErrAnd, take, drop}
+use Rattle.std.specs.Prelude.{ℕ, ◌+◌, ◌-◌, ◌<◌, ◌≤◌, Bool, true, false, cond, ◌&&◌, Option, None, Some, List, [], ◌∷◌, ◌++◌, length, count_by, is_none, codes, Result, Ok, Err, IfErr, IsErr, IsErrAnd, take, drop}
 use Rattle.std.specs.Char.{encode_utf8}
 use Rattle.yaml_base.specs.Errors.{refusal_number}
 use Rattle.yaml_base.specs.Characters.{Text}
@@ -45,19 +45,72 @@ no_refusal before (first ∷ front) event later none =
     ∙ no_refusal (before ++ first ∷ []) front event later
     (and_right (is_none (refusal true before first)) (unrefused (before ++ first ∷ []) (front ++ event ∷ later)) none)
 
-none_refused : unrefused [] letter_events ≡ true
-none_refused = refl
+-- a whole stream of whose events none is refused, and whose bytes stay below the limit
+pub record Fits (events : List Event) : Type 0 where
+  pub none_refused : unrefused [] events ≡ true
+  pub accepted : IsAccepted true events
+  pub room : length (output_of letter_settings events) < 100
 
 -- no event that begins the stream is refused
-never_refused : (all rest : List Event) (error : yaml_error_t) (state : State) → all ++ rest ≡ letter_events → RefusedAt letter_settings all error state → ⊥
-never_refused all rest error state begins refused =
-    let whole : refused.front ++ refused.event ∷ (refused.later ++ rest) ≡ letter_events =
-    sym (append_assoc refused.front (refused.event ∷ refused.later) rest) ∙ ap (λ events. events ++ rest) refused.parts ∙ begins in
-    let none = no_refusal [] refused.front refused.event (refused.later ++ rest) (ap (unrefused []) whole ∙ none_refused) in
+never_refused : (events all rest : List Event) (error : yaml_error_t) (state : State) → Fits events → all ++ rest ≡ events
+    → RefusedAt letter_settings all error state → ⊥
+never_refused events all rest error state fits begins refused =
+    let whole : refused.front ++ refused.event ∷ (refused.later ++ rest) ≡ events =
+    sym (append_assoc refused.front (refused.event ∷ refused.later) rest) ∙ ap (λ given. given ++ rest) refused.parts ∙ begins in
+    let none = no_refusal [] refused.front refused.event (refused.later ++ rest) (ap (unrefused []) whole ∙ fits.none_refused) in
     some_none (refusal_number error) (sym refused.refusal ∙ none)
   where
     some_none : (n : ℕ) → Some n ≡ None → ⊥
     some_none n h = cc
+
+-- the stream's bytes don't pass the limit
+never_full : (events all rest : List Event) (state : State) → Fits events → all ++ rest ≡ events → FillsLimit letter_settings all state → ⊥
+never_full events all rest state fits begins filled =
+    let output = filled.output rest (subst (IsAccepted true) (sym begins) fits.accepted) in
+    not_so (length (output_of letter_settings events)) fits.room
+    (sym filled.full ∙ ap length output ∙ ap (λ given. length (output_of letter_settings given)) begins)
+  where
+    not_so : (n : ℕ) → n < 100 → 100 ≡ n → ⊥
+    not_so n less is = omega (arith, less, is)
+
+-- where an emitter stands after a front of the stream, its error is want of memory
+pub only_memory : (events all rest : List Event) (state : State) (error : yaml_error_t) → Fits events → all ++ rest ≡ events
+    → Promised letter_settings all state → state.error ≡ Some error → error ≡ Memory
+only_memory events all rest state WriteError fits begins promised is = absurd (never_full events all rest state fits begins (promised.full is))
+only_memory events all rest state Memory fits begins promised is = refl
+only_memory events all rest state error fits begins promised is =
+    absurd (never_refused events all rest error state fits begins (promised.refused error is tt))
+
+failed : (error : yaml_error_t) (state : State) → Err error ≡ told state.error → state.error ≡ Some error
+failed error state is = by state.error is
+  where
+    by : (given : Option yaml_error_t) → Err error ≡ told given → given ≡ Some error
+    by None is = cc
+    by (Some other) is = cc
+
+-- what a call answers after a front of the stream
+pub front_memory : (events all rest : List Event) (state : State) (answer : Result (Unit {0}) yaml_error_t) → Fits events
+    → all ++ rest ≡ events → Promised letter_settings all state → answer ≡ told state.error → IfErr answer (λ error. error ≡ Memory)
+front_memory events all rest state (Ok _) fits begins promised is = tt
+front_memory events all rest state (Err error) fits begins promised is = only_memory events all rest state error fits begins promised (failed error state is)
+
+-- what is passed on
+pub exit_memory : (error : yaml_error_t) (answer : Result (Unit {0}) yaml_error_t) → error ≡ Memory → IsErr answer × IsErrAnd answer (λ given. given ≡ error)
+    → IfErr answer (λ given. given ≡ Memory)
+exit_memory error (Ok _) memory is = tt
+exit_memory error (Err given) memory is = is.1 ∙ memory
+
+-- no list has more collections open than it begins
+pub open_at_most : (events front rest : List Event) → front ++ rest ≡ events → open_count front ≤ count_by begins_collection events
+open_at_most events front rest is =
+    let total : count_by begins_collection front + count_by begins_collection rest ≡ count_by begins_collection events =
+    sym (sum_by-append (λ x. cond (begins_collection x) 1 0) front rest) ∙ ap (count_by begins_collection) is in
+    bounded (count_by begins_collection front) (count_by ends_collection front) (count_by begins_collection rest) (count_by begins_collection events) total
+  where
+    bounded : (starts ends others all : ℕ) → starts + others ≡ all → starts - ends ≤ all
+    bounded starts ends others all h = omega (arith, h)
+
+-- ---- the stream of one letter
 
 abbrev letter_stream : Stream
 letter_stream =
@@ -72,57 +125,32 @@ letter_stream =
           });
     }
 
-shallow : (front rest : List Event) → front ++ rest ≡ letter_events → open_count front ≤ most_open
-shallow front rest is =
-    let none : count_by begins_collection front + count_by begins_collection rest ≡ 0 =
-    sym (sum_by-append (λ x. cond (begins_collection x) 1 0) front rest) ∙ ap (count_by begins_collection) is in
-    bounded most_open (count_by begins_collection front) (count_by ends_collection front) (count_by begins_collection rest) none
-  where
-    bounded : (most starts ends others : ℕ) → starts + others ≡ 0 → starts - ends ≤ most
-    bounded most starts ends others h = omega (arith, h)
-
-accepted : IsAccepted true letter_events
-accepted = record { stream = letter_stream; is_stream = refl; sound = refl; shallow = shallow }
+-- a bound of none is below any other
+none_open : (most count : ℕ) → count ≤ 0 → count ≤ most
+none_open most count h = omega (arith, h)
 
 row : length (output_of letter_settings letter_events) ≡ 8
 unfolding encode_utf8
 row = refl
 
--- the stream's bytes don't pass the limit
-never_full : (all rest : List Event) (state : State) → all ++ rest ≡ letter_events → FillsLimit letter_settings all state → ⊥
-never_full all rest state begins filled =
-    let output = filled.output rest (subst (IsAccepted true) (sym begins) accepted) in
-    not_so (sym filled.full ∙ ap length output ∙ ap (λ events. length (output_of letter_settings events)) begins ∙ row)
-  where
-    not_so : ◌≡◌ {A = ℕ} 100 8 → ⊥
-    not_so h = cc
-
--- where an emitter stands after a front of the stream, its error is want of memory
-only_memory : (all rest : List Event) (state : State) (error : yaml_error_t) → all ++ rest ≡ letter_events → Promised letter_settings all state
-    → state.error ≡ Some error → error ≡ Memory
-only_memory all rest state WriteError begins promised is = absurd (never_full all rest state begins (promised.full is))
-only_memory all rest state Memory begins promised is = refl
-only_memory all rest state error begins promised is = absurd (never_refused all rest error state begins (promised.refused error is tt))
-
-failed : (error : yaml_error_t) (state : State) → Err error ≡ told state.error → state.error ≡ Some error
-failed error state is = by state.error is
-  where
-    by : (given : Option yaml_error_t) → Err error ≡ told given → given ≡ Some error
-    by None is = cc
-    by (Some other) is = cc
+letter_fits : Fits letter_events
+letter_fits =
+    record {
+      none_refused = refl;
+      accepted =
+          record {
+            stream = letter_stream;
+            is_stream = refl;
+            sound = refl;
+            shallow = λ front rest is. none_open most_open (open_count front) (open_at_most letter_events front rest is);
+          };
+      room = omega (arith, row);
+    }
 
 -- what a call answers that has given so many of the events
 pub call_memory : (count : ℕ) (directives : List TagDirective) (value : Text) (state : State) (answer : Result (Unit {0}) yaml_error_t) → directives ≡ []
     → value ≡ codes "a"
     → Promised letter_settings (take count (events_of directives value)) state → answer ≡ told state.error → IfErr answer (λ error. error ≡ Memory)
-call_memory count directives value state (Ok _) none letter promised is = tt
-call_memory count directives value state (Err error) none letter promised is =
-    only_memory (take count (events_of directives value)) (drop count (events_of directives value)) state error
-    (take-append-drop count (events_of directives value) ∙ ap (λ given. events_of given value) none ∙ ap (events_of []) letter)
-    promised (failed error state is)
-
--- what is passed on
-pub exit_memory : (error : yaml_error_t) (answer : Result (Unit {0}) yaml_error_t) → error ≡ Memory → IsErr answer × IsErrAnd answer (λ given. given ≡ error)
-    → IfErr answer (λ given. given ≡ Memory)
-exit_memory error (Ok _) memory is = tt
-exit_memory error (Err given) memory is = is.1 ∙ memory
+call_memory count directives value state answer none letter promised is =
+    front_memory letter_events (take count (events_of directives value)) (drop count (events_of directives value)) state answer letter_fits
+    (take-append-drop count (events_of directives value) ∙ ap (λ given. events_of given value) none ∙ ap (events_of []) letter) promised is

@@ -19,10 +19,11 @@ use yaml_emitter::yaml_emitter_t;
 /// The canonical bytes of a mapping whose one key is the string `k`, and whose value is the mapping itself.
 ///
 /// # Errors
-/// Those of a dump and of the stream's end.
+/// `Memory` where an allocation fails; no other error occurs.
 pub fn cycle_written<A: Allocator + Copy>(alloc: A) -> Result<Vec<u8, A>, yaml_error_t>
     ensures bytes { IfOk result (λ bytes. bytes.items ≡ codes "---\n&id001 !!map {\n  ? !!str \"k\"\n  : *id001,\n}\n") }
     ensures graph { IfOk result (λ bytes. GraphsRead false (cycle_graph ∷ []) bytes.items) }
+    ensures memory { IfErr result (λ error. error ≡ yaml_error_t.Memory) }
 {
     let document = cycle(alloc)?;
     let mut emitter = canonical_emitter(alloc)?;
@@ -44,6 +45,7 @@ fn dump_cycle<A: Allocator + Copy>(
     requires graph { graph_of document ≡ cycle_graph }
     ensures bytes { OnOk result (emitter.new.page.output ≡ cycle_bytes) }
     ensures graph { OnOk result (GraphsRead false (cycle_graph ∷ []) emitter.new.page.output) }
+    ensures memory { IfErr result (λ error. error ≡ yaml_error_t.Memory) }
 {
     yaml_emitter_dump(alloc, emitter, document)?;
     yaml_emitter_close(emitter)
@@ -52,6 +54,7 @@ fn dump_cycle<A: Allocator + Copy>(
 /// The document: its mapping is node 1, and the key is node 2.
 fn cycle<A: Allocator + Copy>(alloc: A) -> Result<yaml_document_t<A>, yaml_error_t>
     ensures graph { IfOk result (λ document. graph_of document ≡ cycle_graph) }
+    ensures memory { IfErr result (λ error. error ≡ yaml_error_t.Memory) }
 {
     let nodes = cycle_nodes(alloc).map_err(|_| yaml_error_t::Memory)?;
     match yaml_document_t::from_nodes(None, Vec::new(alloc), nodes, true, true) {

@@ -1,5 +1,6 @@
 //! A caller of typed values: it compares values by their canonical bytes, as a store that hashes them does.
-ghost use Rattle.std.specs.Prelude.{◌≡◌, ◌⊎◌, Decides, IfOk, IfErr};
+ghost use Rattle.std.specs.Prelude.{◌≡◌, ◌⊎◌, ◌<◌, Decides, Err, IfOk, IfErr};
+ghost use Rattle.yaml_base.specs.TypedValues.{most_nested, nesting};
 ghost use Rattle.yaml_value.specs.SeenValues.{seen_value};
 
 use std::alloc::Allocator;
@@ -17,6 +18,7 @@ pub fn same_bytes<A: Allocator + Copy>(
     second: &Value<A>,
 ) -> Result<bool, yaml_error_t>
     ensures same { IfOk result (λ same. Decides same (seen_value first.now ≡ seen_value second.now)) }
+    ensures too_deep { result ≡ Err yaml_error_t.TooDeep → (most_nested < nesting (seen_value first.now)) ⊎ (most_nested < nesting (seen_value second.now)) }
     ensures failed { IfErr result (λ error. (error ≡ yaml_error_t.TooDeep) ⊎ (error ≡ yaml_error_t.Memory)) }
 {
     let first = write_canonical(alloc, first)?;

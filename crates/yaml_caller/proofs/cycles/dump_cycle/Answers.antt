@@ -3,6 +3,8 @@ use Rattle.yaml_base.specs.Documents.{graph_of}
 use Rattle.yaml_caller.specs.Letter.{letter_settings}
 use Rattle.yaml_caller.specs.Cycle.{cycle_bytes, cycle_graph}
 use Rattle.yaml_caller.proofs.Written.{stream_bytes}
+use Rattle.yaml_caller.proofs.OnlyMemory.{front_memory, exit_memory}
+use Rattle.yaml_caller.proofs.CycleFits.{cycle_fits, dump_memory}
 use Rattle.yaml_caller.proofs.Dumped.{dumped_cycle, cycle_events, none_waits, cycle_row, uncut, one_dumped, after_dump, still_open, then_ok}
 use Rattle.yaml_caller.proofs.cycles.dump_cycle.Goals as goal
 
@@ -27,3 +29,24 @@ returns-clause-graph g c =
     (c.in_ok-yaml_emitter_dump.ensures.dumps c.requires.no_error) in
     then_ok c.yaml_emitter_close.result (c.yaml_emitter_close.ensures.graphs unclosed)
     (λ reads. reads letter_settings dumped_cycle (cycle_graph ∷ []) stands refl uncut one_dumped)
+
+pub returns-in_err-yaml_emitter_dump-clause-memory : goal.returns-in_err-yaml_emitter_dump-clause-memory
+returns-in_err-yaml_emitter_dump-clause-memory g c =
+    let old = c.args.emitter.now in
+    exit_memory c.in_err-yaml_emitter_dump.field-0.0 c.from_residual.result
+    (dump_memory (graph_of c.args.document) old c.yaml_emitter_dump.new.emitter c.in_err-yaml_emitter_dump.field-0.0
+    c.requires.unopened c.requires.graph c.requires.stands
+    (c.in_err-yaml_emitter_dump.ensures.dumps c.requires.no_error))
+    c.from_residual.ensures
+
+pub returns-clause-memory : goal.returns-clause-memory
+returns-clause-memory g c =
+    let old = c.args.emitter.now in
+    let after = c.yaml_emitter_dump.new.emitter in
+    let graph = graph_of c.args.document in
+    let unclosed = still_open graph old.closed after.closed c.requires.graph c.requires.unclosed c.in_ok-yaml_emitter_dump.ensures.closed in
+    let stands =
+    after_dump graph old after _ c.requires.unopened c.requires.graph c.requires.stands (c.in_ok-yaml_emitter_dump.ensures.dumps c.requires.no_error)
+    in
+    front_memory cycle_events cycle_events [] c.yaml_emitter_close.new.emitter c.yaml_emitter_close.result cycle_fits refl
+    (c.yaml_emitter_close.ensures.promised unclosed letter_settings dumped_cycle stands) (c.yaml_emitter_close.ensures.answered unclosed)
