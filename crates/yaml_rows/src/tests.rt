@@ -1,8 +1,14 @@
-//! Each crate's rows: types, pens, marks, scalars; examples of calls, emitters call by call, whole runs of scripts.
+//! Each crate's rows: types, pens, marks, scalars; examples of calls, emitters call by call, whole runs of scripts; scripts and
+//! the program's options, errors in a caller, typed values, proved callers.
+mod callers;
 mod calling;
 mod emitters;
+mod errors;
 mod marks;
+mod options;
 mod pens;
 mod runs;
 mod scalars;
+mod scripts;
 mod types;
+mod values;
