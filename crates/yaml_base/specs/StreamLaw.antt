@@ -1,4 +1,4 @@
--- Every stream reads back, in every mode: the law, as it is to be proved.
+-- Every stream reads back, in every mode: the law.
 use Rattle.std.specs.Prelude.{◌≡◌, Bool, true, false, Option, None, Some, List, [], ◌∷◌, ◌||◌, ◌&&◌, not, codes, is_some, option_map, unwrap_or}
 use Rattle.std.specs.List.{list_all, list_any}
 use Rattle.yaml_base.specs.Characters.{Text, is_among}
