@@ -2,3 +2,4 @@ pub mod Written
 pub mod OnlyMemory
 pub mod SameBytes
 pub mod Dumped
+pub mod PairReads
