@@ -3,3 +3,4 @@ pub mod OnlyMemory
 pub mod SameBytes
 pub mod Dumped
 pub mod CycleFits
+pub mod PairReads

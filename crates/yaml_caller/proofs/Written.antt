@@ -3,28 +3,34 @@ use Rattle.std.proofs.Common.{◌≡◌, refl, sym, ◌∙◌, subst}
 use Rattle.std.specs.Prelude.{ℕ, true, None, Some, List, [], ◌∷◌, codes, Result, Ok, Err, OnOk}
 use Rattle.std.specs.Char.{encode_utf8}
 use Rattle.yaml_base.specs.Characters.{Text}
+use Rattle.yaml_base.specs.Settings.{Settings}
 use Rattle.yaml_base.specs.Event.{TagDirective, Event, any_style, stream_start, stream_end, document_start, document_end, scalar}
 use Rattle.yaml_base.specs.Ready.{held_back}
 use Rattle.yaml_base.specs.Output.{output_of}
 use Rattle.yaml_base.specs.declared.errors.yaml_error_t.{yaml_error_t}
 use Rattle.yaml_pen.specs.Page.{told}
 use Rattle.yaml_emitter.specs.State.{State}
-use Rattle.yaml_emitter.specs.Promises.{Promised, HasRoom, ends_stream}
+use Rattle.yaml_emitter.specs.Promises.{Promised, HasRoom, IsWritten, ends_stream}
 use Rattle.yaml_caller.specs.Letter.{letter_settings, letter_events}
 
-told_none : (state : State) → Ok tt ≡ told state.error → state.error ≡ None
+pub told_none : (state : State) → Ok tt ≡ told state.error → state.error ≡ None
 told_none state is = by state.error is
   where
     by : (error : _) → Ok tt ≡ told error → error ≡ None
     by None is = refl
     by (Some error) is = cc
 
-written : (events : List Event) (bytes : List ℕ) (state : State) → ends_stream events ≡ true → held_back events ≡ [] → output_of letter_settings events ≡ bytes
-    → Promised letter_settings events state → state.error ≡ None → state.page.output ≡ bytes
-written events bytes state ended ready row promised none =
+-- a finished stream with no event queued and no error is written whole
+pub whole : (given : Settings) (events : List Event) (state : State) → ends_stream events ≡ true → held_back events ≡ [] → Promised given events state
+    → state.error ≡ None → IsWritten given events state
+whole given events state ended ready promised none =
     let room : HasRoom state.error = subst HasRoom (sym none) tt in
     let accepted = (promised.ends ended room).1 (none, (promised.held none).held ∙ ready) in
-    (promised.whole none accepted).output ∙ row
+    promised.whole none accepted
+
+written : (events : List Event) (bytes : List ℕ) (state : State) → ends_stream events ≡ true → held_back events ≡ [] → output_of letter_settings events ≡ bytes
+    → Promised letter_settings events state → state.error ≡ None → state.page.output ≡ bytes
+written events bytes state ended ready row promised none = (whole letter_settings events state ended ready promised none).output ∙ row
 
 -- a whole stream's bytes, where nothing failed
 pub stream_bytes : (events : List Event) (bytes : List ℕ) (answer : Result (Unit {0}) yaml_error_t) (state : State) → ends_stream events ≡ true

@@ -2,6 +2,7 @@
 #![tactic(auto)]
 
 mod cycles;
+mod pairs;
 mod values;
 
 ghost use Rattle.std.specs.Prelude.{◌≡◌, IfOk, IfErr, OnOk, true, false, None, Some, [], codes};
@@ -10,6 +11,7 @@ ghost use Rattle.yaml_emitter.specs.StandsAfter.{StandsAfter};
 ghost use Rattle.yaml_caller.specs.Letter.{letter_settings};
 
 pub use cycles::cycle_written;
+pub use pairs::pair_written;
 use std::alloc::Allocator;
 pub use values::same_bytes;
 use yaml_base::{

@@ -1,6 +1,6 @@
 //! The proved callers, called.
 use std::test::Fail;
-use yaml_caller::{cycle_written, letter_written, same_bytes};
+use yaml_caller::{cycle_written, letter_written, pair_written, same_bytes};
 use yaml_value::Value;
 
 #[test]
@@ -15,6 +15,16 @@ fn a_mapping_that_holds_itself_is_written(rt: HostRuntime) -> Result<(), Fail> {
     let bytes = cycle_written(rt.alloc())?;
     let expected = "---\n&id001 !!map {\n  ? !!str \"k\"\n  : *id001,\n}\n";
     assert_eq!(rt; bytes.as_slice(), expected.as_bytes());
+    Ok(())
+}
+
+#[test]
+fn a_pair_is_written(rt: HostRuntime) -> Result<(), Fail> {
+    let alloc = rt.alloc();
+    let key = String::from_str(alloc, "a")?;
+    let value = String::from_str(alloc, "b # c")?;
+    let bytes = pair_written(alloc, key, value)?;
+    assert_eq!(rt; bytes.as_slice(), b"---\na: 'b # c'\n".as_slice());
     Ok(())
 }
 

@@ -1,0 +1,36 @@
+-- What the promises of an emitter come to for a mapping of one text to another.
+use Rattle.std.proofs.Common.{◌≡◌, refl, ap, ◌∙◌, subst}
+use Rattle.std.specs.Prelude.{true, false, List, [], Result, Ok, Err, OnOk, IfOk, Vec, ℕ}
+use Rattle.yaml_base.specs.Characters.{Text}
+use Rattle.yaml_base.specs.Event.{TagDirective, Event}
+use Rattle.yaml_base.specs.StreamContent.{agrees}
+use Rattle.yaml_base.specs.StreamReader.{stream_trees}
+use Rattle.yaml_base.specs.declared.errors.yaml_error_t.{yaml_error_t}
+use Rattle.yaml_pen.specs.Page.{told}
+use Rattle.yaml_emitter.specs.State.{State}
+use Rattle.yaml_emitter.specs.Promises.{Promised}
+use Rattle.yaml_caller.specs.Pair.{pair_with, pair_events, portable_settings, text_scalar}
+use Rattle.yaml_caller.proofs.Written.{told_none, whole}
+
+-- the events by what they are equal to
+pub pair_promised : (directives : List TagDirective) (first second : Event) (key value : Text) (state : State) → directives ≡ []
+    → first ≡ text_scalar key → second ≡ text_scalar value → Promised portable_settings (pair_with directives first second) state
+    → Promised portable_settings (pair_events key value) state
+pair_promised directives first second key value state none one other promised =
+    subst (λ (event : Event). Promised portable_settings (pair_with [] (text_scalar key) event) state) other
+    (subst (λ (event : Event). Promised portable_settings (pair_with [] event second) state) one
+    (subst (λ (directives : List TagDirective). Promised portable_settings (pair_with directives first second) state) none promised))
+
+-- the output reads back, where nothing failed
+pub pair_reads : (key value : Text) (answer : Result (Unit {0}) yaml_error_t) (state : State) → Promised portable_settings (pair_events key value) state
+    → answer ≡ told state.error → OnOk answer (agrees false (pair_events key value) (stream_trees false state.page.output) ≡ true)
+pair_reads key value (Ok _) state promised is =
+    (whole portable_settings (pair_events key value) state refl refl promised (told_none state is)).reads_back refl
+pair_reads key value (Err error) state promised is = tt
+
+-- and so does a copy
+pub copy_agrees : {A E : Type 0} (key value : Text) (answer : Result (Vec ℕ A) E) (bytes : List ℕ) → IfOk answer (λ copy. copy.items ≡ bytes)
+    → agrees false (pair_events key value) (stream_trees false bytes) ≡ true
+    → IfOk answer (λ copy. agrees false (pair_events key value) (stream_trees false copy.items) ≡ true)
+copy_agrees key value (Ok copy) bytes same agree = ap (λ (bytes : List ℕ). agrees false (pair_events key value) (stream_trees false bytes)) same ∙ agree
+copy_agrees key value (Err error) bytes same agree = tt

@@ -1,0 +1,16 @@
+use Rattle.std.proofs.Common.{◌≡◌, true, false, sym, subst, List, ℕ}
+use Rattle.yaml_base.specs.Seen.{seen_text}
+use Rattle.yaml_base.specs.StreamContent.{agrees}
+use Rattle.yaml_base.specs.StreamReader.{stream_trees}
+use Rattle.yaml_caller.specs.Pair.{pair_events}
+use Rattle.yaml_caller.proofs.PairReads.{copy_agrees}
+use Rattle.yaml_caller.proofs.pairs.pair_written.Goals as goal
+
+pub returns : goal.returns
+returns g c =
+    let events = pair_events (seen_text c.args.key) (seen_text c.args.value) in
+    record {
+      reads =
+          copy_agrees (seen_text c.args.key) (seen_text c.args.value) c.copied.result _ c.copied.ensures.bytes
+          (subst (λ (bytes : List ℕ). agrees false events (stream_trees false bytes) ≡ true) (sym c.output.ensures.value) c.in_ok-emit_pair.ensures.reads);
+    }

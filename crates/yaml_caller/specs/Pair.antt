@@ -1,0 +1,32 @@
+-- A mapping of one text to another: what it is written by, and its events.
+use Rattle.std.specs.Prelude.{true, None, List, [], ◌∷◌}
+use Rattle.yaml_base.specs.Characters.{Text}
+use Rattle.yaml_base.specs.Settings.{Settings}
+use Rattle.yaml_base.specs.Event.{TagDirective, Event, any_style, block, stream_start, stream_end, document_start, document_end, scalar, mapping_start, mapping_end}
+use Rattle.yaml_emitter.specs.Given.{nothing_given}
+
+-- portable, 1,000,000 bytes
+abbrev pub portable_settings : Settings
+portable_settings = record nothing_given { limit = 1000000; portable = true }
+
+-- a text without a tag, in the style that fits
+abbrev pub text_scalar : Text → Event
+text_scalar value =
+    scalar (record { anchor = None; tag = None; value = value; plain_implicit = true; quoted_implicit = true; style = any_style })
+
+-- the events by the document's directives and the two scalars
+abbrev pub pair_with : List TagDirective → (key value : Event) → List Event
+pair_with directives key value =
+    stream_start None
+    ∷ document_start (record { version = None; directives = directives; implicit = true })
+    ∷ mapping_start (record { anchor = None; tag = None; implicit = true; style = block })
+    ∷ key
+    ∷ value
+    ∷ mapping_end
+    ∷ document_end true
+    ∷ stream_end
+    ∷ []
+
+-- one document, a block mapping of a key to a value, all marks implicit
+abbrev pub pair_events : (key value : Text) → List Event
+pair_events key value = pair_with [] (text_scalar key) (text_scalar value)

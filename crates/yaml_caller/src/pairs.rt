@@ -1,0 +1,102 @@
+//! A caller in portable mode: it writes a mapping of one text to another, and proves that both are read of the bytes.
+ghost use Rattle.std.specs.Prelude.{◌≡◌, IfOk, OnOk, true, false, []};
+ghost use Rattle.yaml_base.specs.Seen.{seen_event, seen_text};
+ghost use Rattle.yaml_base.specs.StreamContent.{agrees};
+ghost use Rattle.yaml_base.specs.StreamReader.{stream_trees};
+ghost use Rattle.yaml_emitter.specs.StandsAfter.{StandsAfter};
+ghost use Rattle.yaml_caller.specs.Pair.{pair_events, portable_settings, text_scalar};
+
+use super::copied;
+use std::alloc::Allocator;
+use yaml_base::{
+    YAML_ANY_ENCODING, YAML_ANY_SCALAR_STYLE, YAML_BLOCK_MAPPING_STYLE, YAML_DOCUMENT_END_EVENT,
+    YAML_DOCUMENT_START_EVENT, YAML_MAPPING_END_EVENT, YAML_MAPPING_START_EVENT, YAML_SCALAR_EVENT,
+    YAML_STREAM_END_EVENT, YAML_STREAM_START_EVENT, yaml_error_t, yaml_event_t,
+};
+use yaml_emitter::{
+    yaml_emitter_emit, yaml_emitter_initialize, yaml_emitter_set_output_string,
+    yaml_emitter_set_portable, yaml_emitter_t,
+};
+
+/// The bytes of a stream of one document, a block mapping of the key to the value, whatever these texts are: what the
+/// reader of whole streams finds in them agrees with the events.
+///
+/// # Errors
+/// Those of the emitter: `WriteError` where there would be more than 1,000,000 bytes, and `Memory`.
+pub fn pair_written<A: Allocator + Copy>(
+    alloc: A,
+    key: String<A>,
+    value: String<A>,
+) -> Result<Vec<u8, A>, yaml_error_t>
+    ensures reads { IfOk result (λ bytes. agrees false (pair_events (seen_text key) (seen_text value)) (stream_trees false bytes.items) ≡ true) }
+{
+    let mut emitter = portable_emitter(alloc)?;
+    emit_pair(alloc, &mut emitter, key, value)?;
+    copied(alloc, emitter.output())
+}
+
+/// An emitter in portable mode.
+fn portable_emitter<A: Allocator + Copy>(alloc: A) -> Result<yaml_emitter_t<A>, yaml_error_t>
+    ensures stands { IfOk result (λ emitter. StandsAfter portable_settings [] emitter) }
+    ensures output { IfOk result (λ emitter. emitter.has_output ≡ true) }
+{
+    let mut emitter = yaml_emitter_initialize(alloc)?;
+    yaml_emitter_set_output_string(&mut emitter, 1_000_000);
+    yaml_emitter_set_portable(&mut emitter, true);
+    Ok(emitter)
+}
+
+/// Emits the stream's eight events.
+fn emit_pair<A: Allocator + Copy>(
+    alloc: A,
+    emitter: &mut yaml_emitter_t<A>,
+    key: String<A>,
+    value: String<A>,
+) -> Result<(), yaml_error_t>
+    requires stands { StandsAfter portable_settings [] emitter.old }
+    requires output { emitter.old.has_output ≡ true }
+    ensures reads { OnOk result (agrees false (pair_events (seen_text key) (seen_text value)) (stream_trees false emitter.new.page.output) ≡ true) }
+{
+    yaml_emitter_emit(
+        emitter,
+        YAML_STREAM_START_EVENT {
+            encoding: YAML_ANY_ENCODING,
+        },
+    )?;
+    yaml_emitter_emit(
+        emitter,
+        YAML_DOCUMENT_START_EVENT {
+            version_directive: None,
+            tag_directives: Vec::new(alloc),
+            implicit: true,
+        },
+    )?;
+    yaml_emitter_emit(
+        emitter,
+        YAML_MAPPING_START_EVENT {
+            anchor: None,
+            tag: None,
+            implicit: true,
+            style: YAML_BLOCK_MAPPING_STYLE,
+        },
+    )?;
+    yaml_emitter_emit(emitter, text_event(key))?;
+    yaml_emitter_emit(emitter, text_event(value))?;
+    yaml_emitter_emit(emitter, YAML_MAPPING_END_EVENT)?;
+    yaml_emitter_emit(emitter, YAML_DOCUMENT_END_EVENT { implicit: true })?;
+    yaml_emitter_emit(emitter, YAML_STREAM_END_EVENT)
+}
+
+/// A text without a tag, in the style that fits.
+fn text_event<A: Allocator>(value: String<A>) -> yaml_event_t<A>
+    ensures { seen_event result ≡ text_scalar (seen_text value) }
+{
+    YAML_SCALAR_EVENT {
+        anchor: None,
+        tag: None,
+        value,
+        plain_implicit: true,
+        quoted_implicit: true,
+        style: YAML_ANY_SCALAR_STYLE,
+    }
+}
