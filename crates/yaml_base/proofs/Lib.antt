@@ -95,3 +95,4 @@ pub mod StreamFlowReads
 pub mod StreamFlowLines
 mod RowsSchema
 pub mod SurelyTexts
+pub mod SchemaWords
