@@ -96,3 +96,4 @@ pub mod StreamFlowLines
 mod RowsSchema
 pub mod SurelyTexts
 pub mod SchemaWords
+mod RowsJsonNumbers

@@ -62,3 +62,4 @@ pub mod Resolved
 pub mod SchemaCore
 pub mod SchemaOf11
 pub mod SurelyText
+pub mod JsonNumbers
