@@ -30,3 +30,4 @@ pub mod stream_nodes
 pub mod stream_documents
 pub mod CallerLaws
 pub mod SurelyTexts
+pub mod SchemaWords

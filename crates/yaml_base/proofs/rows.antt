@@ -27,3 +27,4 @@ pub mod RowsStreamLaw
 pub mod RowsPortable
 mod RowsWrittenTexts
 mod RowsSchema
+mod RowsJsonNumbers

@@ -63,3 +63,4 @@ pub mod Resolved
 pub mod SchemaCore
 pub mod SchemaOf11
 pub mod SurelyText
+pub mod JsonNumbers

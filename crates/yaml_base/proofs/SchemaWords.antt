@@ -1,0 +1,32 @@
+-- Words of a schema, looked up in its table.
+use Rattle.std.proofs.Common.{◌≡◌, refl, sym, ap, ◌∙◌}
+use Rattle.std.proofs.lemmas.Bool.{true≢false, and_parts}
+use Rattle.std.proofs.lemmas.Slice.Eq.{bytes_eq-Decides}
+use Rattle.std.specs.List.{list_all}
+use Rattle.std.specs.Prelude.{Bool, true, false, None, Some, List, [], ◌∷◌, ◌++◌, ◌||◌, is_some, if◌then◌else◌}
+use Rattle.yaml_base.specs.Characters.{Text}
+use Rattle.yaml_base.specs.Script.{named, is_word}
+
+-- a text that differs from all words of a table in some test is none of them
+pub named_unlike : {A : Type 0} (test : Text → Bool) (table : List (Text × A)) (text : Text)
+    → list_all (λ entry. test entry.0) table ≡ true → test text ≡ false → named table text ≡ None
+named_unlike test [] text all other = refl
+named_unlike {A} test (entry ∷ table) text all other = by (is_word text entry.0) refl (named_unlike test table text both.1 other)
+  where
+    both : (test entry.0 ≡ true) × (list_all (λ e. test e.0) table ≡ true)
+    both = and_parts (test entry.0) (list_all (λ e. test e.0) table) all
+
+    by : (x : Bool) → is_word text entry.0 ≡ x → named table text ≡ None → (if x then Some entry.1 else named table text) ≡ None
+    by true e ih = absurd (true≢false (sym both.0 ∙ ap test (sym ((bytes_eq-Decides text entry.0).0 e)) ∙ other))
+    by false e ih = ih
+
+-- a word of two tables is one of either
+pub named_either : {A : Type 0} (front rest : List (Text × A)) (text : Text)
+    → is_some (named (front ++ rest) text) ≡ (is_some (named front text) || is_some (named rest text))
+named_either [] rest text = refl
+named_either {A} (entry ∷ front) rest text = by (is_word text entry.0) (named_either front rest text)
+  where
+    by : (x : Bool) → is_some (named (front ++ rest) text) ≡ (is_some (named front text) || is_some (named rest text))
+        → is_some (if x then Some entry.1 else named (front ++ rest) text) ≡ (is_some (if x then Some entry.1 else named front text) || is_some (named rest text))
+    by true ih = refl
+    by false ih = ih

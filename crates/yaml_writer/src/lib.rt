@@ -1,0 +1,9 @@
+//! Values, written as YAML: which texts may stand plain.
+#![tactic(auto)]
+
+mod laws;
+mod texts;
+mod words;
+
+pub use laws::surely_text_is_text;
+pub use texts::is_surely_text;
