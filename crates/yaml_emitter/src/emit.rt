@@ -22,6 +22,7 @@ use yaml_base::{yaml_error_t, yaml_event_t};
 ///
 /// Answers the first error that there was, in this call or before; the event is taken in each case, and after an
 /// error nothing waits and nothing more is written.
+#[inline(never)]
 pub fn yaml_emitter_emit<A: Allocator + Copy>(
     emitter: &mut yaml_emitter_t<A>,
     event: yaml_event_t<A>,

@@ -20,7 +20,7 @@ pub(crate) enum ByteOrder {
 }
 
 /// The bytes of a character; an encoding of ANY is taken for UTF-8.
-#[inline]
+#[inline(always)]
 pub(crate) fn encoded_character(encoding: yaml_encoding_t, character: char) -> CharacterBytes
     ensures { (e : Encoding) → seen_encoding encoding ≡ Some e → result.items ≡ character_bytes e character }
 {
@@ -46,7 +46,7 @@ pub(crate) fn encoded_break(encoding: yaml_encoding_t, line_break: yaml_break_t)
     }
 }
 
-#[inline]
+#[inline(always)]
 fn utf8_bytes(character: char) -> CharacterBytes
     ensures { result.items ≡ encode_utf8 character }
 {

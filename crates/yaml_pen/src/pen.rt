@@ -185,7 +185,7 @@ impl<A: Allocator> Pen<A> {
         ensures written { Wrote (text_laid (character ∷ [])) self.old self.new result }
         ensures stays { IsSome self.old.error → self.new ≡ self.old }
     {
-        self.write_character(character as char)
+        self.write_ascii(&[character])
     }
 
     /// Writes characters none of which is a break.
@@ -422,6 +422,7 @@ impl<A: Allocator> Pen<A> {
     }
 
     // In UTF-8, pieces of whole characters that fit the buffer.
+    #[inline(always)]
     fn write_pieces(&mut self, text: &str) -> Result<(), yaml_error_t>
         requires ready { IsReady self.old }
         requires unmarked { has_mark self.old.encoding ≡ false }
@@ -439,7 +440,6 @@ impl<A: Allocator> Pen<A> {
         self.write_piece(rest)
     }
 
-    #[inline]
     fn write_piece(&mut self, text: &str) -> Result<(), yaml_error_t>
         requires ready { IsReady self.old }
         requires unmarked { has_mark self.old.encoding ≡ false }

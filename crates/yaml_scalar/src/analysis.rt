@@ -249,6 +249,7 @@ fn is_ordinary(c: char) -> bool
 }
 
 /// What was read, and the next character, seen with what follows it.
+#[inline(always)]
 fn with_next(barred: barred_t, c: char, rest: &str, charset: charset_t) -> barred_t
     ensures { seen_barred result ≡ either (seen_barred barred) (barred_by (seen_charset charset) c (chars rest.now)) }
 {
@@ -276,6 +277,7 @@ fn loud_classes(charset: charset_t) -> u8
 }
 
 /// What was read, and a space, if this is one, before the rest.
+#[inline(always)]
 fn with_space(barred: barred_t, last: char, rest: &str, charset: charset_t) -> barred_t
     ensures { seen_barred result ≡ either (seen_barred barred) (barred_by_space (seen_charset charset) last (chars rest.now)) }
 {
@@ -288,6 +290,7 @@ fn with_space(barred: barred_t, last: char, rest: &str, charset: charset_t) -> b
 
 /// What was read, and the next characters that bar nothing, unless the last of them is a space; and what
 /// follows them.
+#[inline(always)]
 fn past_quiet(barred: barred_t, text: &str, charset: charset_t) -> (barred_t, &str)
     ensures same { either (seen_barred barred) (barred_in (seen_charset charset) (chars text.now))
         ≡ either (seen_barred result.0) (barred_in (seen_charset charset) (chars result.1.now)) }

@@ -41,6 +41,7 @@ static CLASSES: [u8; 256] = [
 ];
 
 /// The length of the longest prefix of a text none of whose bytes is of these classes.
+#[inline(always)]
 pub(crate) fn free_length(text: &str, classes: u8) -> usize
     ensures { IsFreeRun classes text.now result }
 {
@@ -53,6 +54,7 @@ pub(crate) fn free_length(text: &str, classes: u8) -> usize
 }
 
 /// The last character of a text, or the one before it where it is empty.
+#[inline(always)]
 pub(crate) fn last_of(before: char, text: &str) -> char
     ensures { result ≡ last_from before (chars text.now) }
 {

@@ -50,6 +50,7 @@ pub(crate) fn write_alias<A: Allocator>(
 }
 
 /// Writes what stands before a node, its anchor and its tag.
+#[inline(always)]
 pub(crate) fn write_lead<A: Allocator>(
     pen: &mut Pen<A>,
     site: &Site,

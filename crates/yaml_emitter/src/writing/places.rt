@@ -23,6 +23,7 @@ use yaml_base::yaml_error_t;
 use yaml_pen::Pen;
 
 /// Writes what stands before a node at its place.
+#[inline(always)]
 pub(crate) fn write_place<A: Allocator>(pen: &mut Pen<A>, site: &Site) -> Result<(), yaml_error_t>
     requires { IsReady pen.old }
     ensures { Wrote (place_laid (seen_effective site.now.settings.now) (seen_place site.now.place) site.now.simple) pen.old pen.new result }

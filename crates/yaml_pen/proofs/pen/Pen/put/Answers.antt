@@ -1,0 +1,6 @@
+use Rattle.std.proofs.Common.{zero, suc, arith}
+use Rattle.yaml_pen.proofs.pen.Pen.put.Goals as goal
+
+pub write_ascii-requires-clause-ascii : goal.write_ascii-requires-clause-ascii
+write_ascii-requires-clause-ascii g c zero = c.requires.ascii
+write_ascii-requires-clause-ascii g c (suc i) = omega arith
