@@ -27,6 +27,7 @@ named_either [] rest text = refl
 named_either {A} (entry ∷ front) rest text = by (is_word text entry.0) (named_either front rest text)
   where
     by : (x : Bool) → is_some (named (front ++ rest) text) ≡ (is_some (named front text) || is_some (named rest text))
-        → is_some (if x then Some entry.1 else named (front ++ rest) text) ≡ (is_some (if x then Some entry.1 else named front text) || is_some (named rest text))
+        → is_some (if x then Some entry.1 else named (front ++ rest) text)
+        ≡ (is_some (if x then Some entry.1 else named front text) || is_some (named rest text))
     by true ih = refl
     by false ih = ih

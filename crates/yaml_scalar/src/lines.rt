@@ -144,7 +144,8 @@ fn write_line_break<A: Allocator>(
 ) -> Result<(), yaml_error_t>
     requires ready { IsReady pen.old }
     requires a_break { class.is_break character ≡ true }
-    ensures { Wrote (text_laid ((if doubled then class.line_feed ∷ [] else []) ++ (character ∷ (if goes_on then [] else layout.indentation indent)))) pen.old pen.new result }
+    ensures { Wrote (text_laid ((if doubled then class.line_feed ∷ [] else []) ++ (character ∷ (if goes_on then [] else layout.indentation indent)))) pen.old
+        pen.new result }
 {
     write_extra_break(pen, doubled)?;
     pen.write_break(character)?;
@@ -187,7 +188,9 @@ fn is_doubled_break(character: char, before: CharacterKind) -> bool
 
 // A run that is one space, neither first nor last, past the width.
 fn is_fold<A: Allocator>(pen: &Pen<A>, lines: Lines, before: CharacterKind, rest: &str) -> bool
-    ensures { result ≡ cursor.is_past_width (limit_where lines.allow_breaks lines.width) pen.now.cursor && not (layout.is_same_kind (steps.seen_kind before) layout.spaces || (analysis.is_empty (chars rest.now) || steps.begins_kind layout.spaces (chars rest.now))) }
+    ensures { result ≡ cursor.is_past_width (limit_where lines.allow_breaks lines.width) pen.now.cursor
+        && not (layout.is_same_kind (steps.seen_kind before) layout.spaces
+        || (analysis.is_empty (chars rest.now) || steps.begins_kind layout.spaces (chars rest.now))) }
 {
     may_fold_here(pen, lines.allow_breaks, lines.width)
         && !is_same_kind(before, CharacterKind::Space)
@@ -203,7 +206,8 @@ fn write_step<A: Allocator>(
     rest: &str,
 ) -> Result<(), yaml_error_t>
     requires { IsReady pen.old }
-    ensures { Wrote (steps.step_laid (steps.written_as lines.quoted) (limit_where lines.allow_breaks lines.width) lines.indent (steps.seen_kind before) character (chars rest.now)) pen.old pen.new result }
+    ensures { Wrote (steps.step_laid (steps.written_as lines.quoted) (limit_where lines.allow_breaks lines.width) lines.indent
+        (steps.seen_kind before) character (chars rest.now)) pen.old pen.new result }
 {
     match kind_of(character) {
         CharacterKind::Space => {
@@ -234,7 +238,8 @@ pub(crate) fn write_lines<A: Allocator>(
     lines: Lines,
 ) -> Result<(), yaml_error_t>
     requires { IsReady pen.old }
-    ensures { Wrote (layout.runs_laid (steps.written_as lines.quoted) (limit_where lines.allow_breaks lines.width) lines.indent true (layout.runs (chars value.now))) pen.old pen.new result }
+    ensures { Wrote (layout.runs_laid (steps.written_as lines.quoted) (limit_where lines.allow_breaks lines.width) lines.indent true
+        (layout.runs (chars value.now))) pen.old pen.new result }
 {
     let first = run_after(pen, ' ', value, lines);
     let (front, rest) = value.split_at(first.length);
@@ -251,7 +256,8 @@ fn write_from<A: Allocator>(
     lines: Lines,
 ) -> Result<(), yaml_error_t>
     requires { IsReady pen.old }
-    ensures { Wrote (steps.steps_laid (steps.written_as lines.quoted) (limit_where lines.allow_breaks lines.width) lines.indent (steps.seen_kind start) (chars value.now)) pen.old pen.new result }
+    ensures { Wrote (steps.steps_laid (steps.written_as lines.quoted) (limit_where lines.allow_breaks lines.width) lines.indent (steps.seen_kind start)
+        (chars value.now)) pen.old pen.new result }
 {
     let mut before = start;
     let mut characters = value.chars();

@@ -32,7 +32,8 @@ pub fn write_plain_scalar<A: Allocator>(
     requires ready { IsReady pen.old }
     requires indented { pos 2 ≤ℤ indent }
     ensures written { Wrote (plain_laid flow (limit_where allow_breaks width) (natural indent) (chars value.now)) pen.old pen.new result }
-    ensures reads { (charset : Charset) → allows_plain charset flow (chars value.now) ≡ true → IfOk result (λ _. ReadsBack (read_plain charset.breaks12 flow) (chars value.now) pen.old.text pen.new.text) }
+    ensures reads { (charset : Charset) → allows_plain charset flow (chars value.now) ≡ true
+        → IfOk result (λ _. ReadsBack (read_plain charset.breaks12 flow) (chars value.now) pen.old.text pen.new.text) }
 {
     write_laid(
         pen,

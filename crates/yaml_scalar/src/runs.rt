@@ -62,7 +62,8 @@ fn run_within(before: char, text: &str, classes: u8, room: usize) -> Run
 
 /// The run of a line that a space ends, or one of at most so many bytes, if any, that may hold spaces.
 pub(crate) fn line_run_within(before: char, text: &str, quote: bool, room: usize) -> Run
-    ensures { (limit : Option ℕ) (cursor : Cursor) → (0 < room → HasRoom limit cursor.column room) → IsLineRun limit quote cursor before text.now result.length result.last }
+    ensures { (limit : Option ℕ) (cursor : Cursor) → (0 < room → HasRoom limit cursor.column room)
+        → IsLineRun limit quote cursor before text.now result.length result.last }
 {
     if room == 0 {
         let ends = RunEnds { space: true, quote };

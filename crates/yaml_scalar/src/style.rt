@@ -33,7 +33,8 @@ pub fn select_scalar_style(
 ) -> Result<(yaml_scalar_style_t, bool), yaml_error_t>
     ensures { MatchResult result
         (λ given. (spec.lacks_tag_and_flags tag_written plain_implicit quoted_implicit ≡ false)
-        × (seen_choice given ≡ spec.chosen (seen_data allowed.now) (seen_scalar_style style) empty tag_written plain_implicit quoted_implicit flow simple_key canonical))
+        × (seen_choice given ≡ spec.chosen (seen_data allowed.now)
+        (seen_scalar_style style) empty tag_written plain_implicit quoted_implicit flow simple_key canonical))
         (λ error. (spec.lacks_tag_and_flags tag_written plain_implicit quoted_implicit ≡ true)
         × (error ≡ yaml_error_t.NoTagNorImplicit)) }
 {

@@ -39,7 +39,8 @@ an_integer = record { grammar = refl; written = refl; spelled = refl; by_11 = re
 a_negative_integer : Row (number_of true (codes "120") None None) (codes "-120") (codes "-120") (meant_integer (negsuc 119))
 a_negative_integer = record { grammar = refl; written = refl; spelled = refl; by_11 = refl; by_core = refl; value = refl }
 
-past_64_bits : Row (number_of false (codes "18446744073709551616") None None) (codes "18446744073709551616") (codes "18446744073709551616") (meant_integer (pos 18446744073709551616))
+past_64_bits : Row (number_of false (codes "18446744073709551616") None None) (codes "18446744073709551616") (codes "18446744073709551616")
+    (meant_integer (pos 18446744073709551616))
 past_64_bits = record { grammar = refl; written = refl; spelled = refl; by_11 = refl; by_core = refl; value = refl }
 
 a_power : Row (number_of false (codes "1") None (exponent_of false None (codes "5"))) (codes "1e5") (codes "1.0e+5") (decimal (pos 10) (pos 4))
@@ -54,10 +55,12 @@ a_fraction = record { grammar = refl; written = refl; spelled = refl; by_11 = re
 a_negative_fraction : Row (number_of true (codes "0") (Some (codes "25")) None) (codes "-0.25") (codes "-0.25") (decimal (negsuc 24) (negsuc 1))
 a_negative_fraction = record { grammar = refl; written = refl; spelled = refl; by_11 = refl; by_core = refl; value = refl }
 
-both : Row (number_of true (codes "1") (Some (codes "25")) (exponent_of false None (codes "10"))) (codes "-1.25e10") (codes "-1.25e+10") (decimal (negsuc 124) (pos 8))
+both : Row (number_of true (codes "1") (Some (codes "25")) (exponent_of false None (codes "10"))) (codes "-1.25e10") (codes "-1.25e+10")
+    (decimal (negsuc 124) (pos 8))
 both = record { grammar = refl; written = refl; spelled = refl; by_11 = refl; by_core = refl; value = refl }
 
-a_plus : Row (number_of false (codes "12") (Some (codes "5")) (exponent_of true (Some false) (codes "07"))) (codes "12.5E+07") (codes "12.5e+07") (decimal (pos 125) (pos 6))
+a_plus : Row (number_of false (codes "12") (Some (codes "5")) (exponent_of true (Some false) (codes "07"))) (codes "12.5E+07") (codes "12.5e+07")
+    (decimal (pos 125) (pos 6))
 a_plus = record { grammar = refl; written = refl; spelled = refl; by_11 = refl; by_core = refl; value = refl }
 
 beyond_floats : Row (number_of false (codes "1") None (exponent_of false None (codes "400"))) (codes "1e400") (codes "1.0e+400") (decimal (pos 10) (pos 399))
