@@ -97,3 +97,4 @@ mod RowsSchema
 pub mod SurelyTexts
 pub mod SchemaWords
 mod RowsJsonNumbers
+pub mod JsonSpelling
