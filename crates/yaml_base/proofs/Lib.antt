@@ -31,3 +31,4 @@ pub mod stream_documents
 pub mod CallerLaws
 pub mod SurelyTexts
 pub mod SchemaWords
+pub mod JsonSpelling

@@ -1,0 +1,76 @@
+-- What a number of JSON is spelled as is the same number.
+use Rattle.std.proofs.Common.{◌≡◌, refl, sym, ap, ◌∙◌, append-nil, arith}
+use Rattle.std.proofs.lemmas.Bool.Decides.{Decides-int_eq}
+use Rattle.std.proofs.lemmas.Int.{ints}
+use Rattle.std.proofs.lemmas.Int.Digits.{digits_value_push}
+use Rattle.std.specs.Ordering.{int_eq}
+use Rattle.std.specs.Str.Parse.{digits_value}
+use Rattle.std.specs.Prelude.{ℕ, ℤ, pos, neg_ℤ, negsuc, Bool, true, false, Option, None, Some, [], ◌++◌, ◌+◌, ◌*◌, ◌^◌, ◌+ℤ◌, ◌-ℤ◌, ◌*ℤ◌, ◌&&◌, not, codes, if◌then◌else◌}
+use Rattle.yaml_base.specs.Characters.{Text}
+use Rattle.yaml_base.specs.Script.{is_word}
+use Rattle.yaml_base.specs.Resolved.{Decimal, meant_integer, meant_decimal, signed}
+use Rattle.yaml_base.specs.JsonNumbers.{JsonNumber, JsonExponent, above, is_same_number, means_number, exponent_value, value_with, json_value, number_meant}
+
+same_integer : (a b : ℤ) → a ≡ b → int_eq a b ≡ true
+same_integer a b h = (Decides-int_eq a b).1 h
+
+-- a decimal is the same number as itself
+pub itself_same : (number : Decimal) → is_same_number number number ≡ true
+itself_same number = same_integer side side refl
+  where
+    side : ℤ
+    side = number.digits *ℤ pos (10 ^ above number.exponent number.exponent)
+
+one_above : (e : ℤ) → (neg_ℤ (pos 0) +ℤ e) -ℤ (neg_ℤ (pos 1) +ℤ e) ≡ pos 1
+one_above e = omega (arith, ints)
+
+one_below : (e : ℤ) → (neg_ℤ (pos 1) +ℤ e) -ℤ (neg_ℤ (pos 0) +ℤ e) ≡ negsuc 0
+one_below e = omega (arith, ints)
+
+tenfold : (negative : Bool) (n : ℕ) → signed negative (n * 10 + 0) *ℤ pos 1 ≡ signed negative n *ℤ pos 10
+tenfold true n = omega (arith, ints)
+tenfold false n = omega (arith, ints)
+
+-- the natural number that lies above 0
+abbrev rise : ℤ → ℕ
+rise gap = elim gap as (λ _. ℕ) [
+  | pos n ↦ n
+  | negsuc n ↦ 0
+]
+
+-- a number with `.0` added
+zero_added : (negative : Bool) (whole : Text) (e : ℤ)
+    → is_same_number (record { digits = signed negative (digits_value 10 (whole ++ codes "0")); exponent = neg_ℤ (pos 1) +ℤ e })
+    (record { digits = signed negative (digits_value 10 (whole ++ [])); exponent = neg_ℤ (pos 0) +ℤ e }) ≡ true
+zero_added negative whole e =
+    same_integer
+    (signed negative (digits_value 10 (whole ++ codes "0")) *ℤ pos (10 ^ above (neg_ℤ (pos 1) +ℤ e) (neg_ℤ (pos 0) +ℤ e)))
+    (signed negative (digits_value 10 (whole ++ [])) *ℤ pos (10 ^ above (neg_ℤ (pos 0) +ℤ e) (neg_ℤ (pos 1) +ℤ e)))
+    (ap (λ z. signed negative (digits_value 10 (whole ++ codes "0")) *ℤ pos (10 ^ rise z)) (one_below e)
+    ∙ ap (λ n. signed negative n *ℤ pos 1) (digits_value_push 10 whole 48)
+    ∙ tenfold negative (digits_value 10 whole)
+    ∙ ap (λ t. signed negative (digits_value 10 t) *ℤ pos 10) (sym (append-nil whole))
+    ∙ sym (ap (λ z. signed negative (digits_value 10 (whole ++ [])) *ℤ pos (10 ^ rise z)) (one_above e)))
+
+-- what a number's spelling means is the number, by its parts
+keeps : (negative : Bool) (whole : Text) (fraction : Option Text) (exponent : Option JsonExponent)
+    → means_number (json_value (record { negative = negative; whole = whole; fraction = fraction; exponent = exponent }))
+    (number_meant (record { negative = negative; whole = whole; fraction = fraction; exponent = exponent })) ≡ true
+keeps negative whole (Some fraction) exponent =
+    itself_same (value_with (record { negative = negative; whole = whole; fraction = Some fraction; exponent = exponent }) fraction)
+keeps negative whole None (Some exponent) = zero_added negative whole (exponent_value (Some exponent))
+keeps negative whole None None = by (negative && is_word whole (codes "0"))
+  where
+    number : JsonNumber
+    number = record { negative = negative; whole = whole; fraction = None; exponent = None }
+
+    by : (x : Bool) → means_number (json_value number)
+        (if not x then meant_integer (signed negative (digits_value 10 whole)) else meant_decimal (value_with number (codes "0"))) ≡ true
+    by true = zero_added negative whole (pos 0)
+    by false =
+        same_integer (signed negative (digits_value 10 whole) *ℤ pos 1) (signed negative (digits_value 10 (whole ++ [])) *ℤ pos 1)
+        (ap (λ t. signed negative (digits_value 10 t) *ℤ pos 1) (sym (append-nil whole)))
+
+-- what a number's spelling means is the number
+pub spelling_keeps_value : (number : JsonNumber) → means_number (json_value number) (number_meant number) ≡ true
+spelling_keeps_value number = keeps number.negative number.whole number.fraction number.exponent
