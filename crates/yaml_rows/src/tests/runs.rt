@@ -1,4 +1,5 @@
-//! Scripts, with what a run of each writes and tells. The expected values were worked out by hand.
+//! Scripts, with what a run of each writes and tells. The expected values were worked out by hand. Each run is made
+//! again with each of its growths refused in turn.
 mod bad_lines;
 mod canonical;
 mod collections;
@@ -14,10 +15,11 @@ mod refusals;
 mod scalars;
 mod settings;
 
+use growths::answered;
 use std::alloc::{AllocError, Global};
 use std::process::Abort;
 use std::test::Fail;
-use yaml_tool::{run, status, write_line};
+use yaml_tool::{status, write_line};
 
 /// What a run wrote and told.
 #[derive(Drop)]
@@ -27,10 +29,8 @@ struct Told {
     line: Vec<u8>,
 }
 
-fn ran(alloc: Global, script: &[u8]) -> Result<Told, Fail> {
-    let mut left = script;
-    let mut output: Vec<u8> = Vec::new(alloc);
-    let answer = run(alloc, &mut left, &mut output);
+fn ran(rt: &impl Abort, alloc: Global, script: &[u8]) -> Result<Told, Fail> {
+    let (answer, output) = answered(rt, alloc, script)?;
     let mut line: Vec<u8> = Vec::new(alloc);
     write_line(&answer, &mut line)?;
     Ok(Told {
@@ -42,7 +42,7 @@ fn ran(alloc: Global, script: &[u8]) -> Result<Told, Fail> {
 
 // Nothing is refused, and this is written.
 fn check_text(rt: &impl Abort, alloc: Global, script: &str, text: &[u8]) -> Result<(), Fail> {
-    let ran = ran(alloc, script.as_bytes())?;
+    let ran = ran(rt, alloc, script.as_bytes())?;
     assert_eq!(rt; ran.output.as_slice(), text, "{script:?}");
     assert_eq!(rt; ran.line.as_slice(), b"".as_slice(), "{script:?}");
     assert_eq!(rt; ran.status, 0, "{script:?}");
@@ -118,6 +118,7 @@ fn whole_streams_are_written(rt: HostRuntime) -> Result<(), Fail> {
 fn utf_16_begins_with_a_mark(rt: HostRuntime) -> Result<(), Fail> {
     let alloc = rt.alloc();
     let big = ran(
+        &rt,
         alloc,
         canonical_stream(alloc, "", "utf16be", "\"a\"")?.as_bytes(),
     )?;
@@ -127,6 +128,7 @@ fn utf_16_begins_with_a_mark(rt: HostRuntime) -> Result<(), Fail> {
     );
     assert_eq!(rt; big.status, 0);
     let little = ran(
+        &rt,
         alloc,
         canonical_stream(alloc, "unicode on\n", "utf16le", "\"\u{1F600}\"")?.as_bytes(),
     )?;
@@ -135,7 +137,7 @@ fn utf_16_begins_with_a_mark(rt: HostRuntime) -> Result<(), Fail> {
         b"\xFF\xFE-\0-\0-\0\n\0\"\0\x3D\xD8\0\xDE\"\0\n\0".as_slice()
     );
     assert_eq!(rt; little.status, 0);
-    let nothing = ran(alloc, b"+STR utf16be\n-STR")?;
+    let nothing = ran(&rt, alloc, b"+STR utf16be\n-STR")?;
     assert_eq!(rt; nothing.output.as_slice(), b"\xFE\xFF".as_slice());
     assert_eq!(rt; nothing.status, 0);
     Ok(())
@@ -175,7 +177,7 @@ fn refusals_are_told_with_their_line(rt: HostRuntime) -> Result<(), Fail> {
             "yamlemit: line 5: expected DOCUMENT-START or STREAM-END\n",
         ),
     ] {
-        let ran = ran(alloc, script.as_bytes())?;
+        let ran = ran(&rt, alloc, script.as_bytes())?;
         assert_eq!(rt; ran.output.as_slice(), output, "{script:?}");
         assert_eq!(rt; ran.line.as_slice(), line.as_bytes(), "{script:?}");
         assert_eq!(rt; ran.status, 1, "{script:?}");

@@ -37,7 +37,7 @@ fn nothing_is_written_after_a_bad_line(rt: HostRuntime) -> Result<(), Fail> {
         ),
         ("-STR\n-STR\n+FOO", "yamlemit: line 3: cannot be read\n"),
     ] {
-        let ran = ran(alloc, script.as_bytes())?;
+        let ran = ran(&rt, alloc, script.as_bytes())?;
         assert_eq!(rt; ran.line.as_slice(), line.as_bytes(), "{script:?}");
         assert!(rt; ran.output.is_empty(), "{script:?}");
         assert_eq!(rt; ran.status, 2, "{script:?}");

@@ -25,7 +25,7 @@ fn each_front_of_a_script_is_told(rt: HostRuntime) -> Result<(), Fail> {
         number = number.saturating_add(1);
         for within in 0..line.len().saturating_add(1) {
             let front = script.get(..within.saturating_add(start)).unwrap_or(b"");
-            let ran = ran(alloc, front)?;
+            let ran = ran(&rt, alloc, front)?;
             let (status, wanted) = if within == 0 {
                 (0, before)
             } else if within == line.len() {

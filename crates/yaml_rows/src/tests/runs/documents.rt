@@ -71,7 +71,7 @@ fn check_bytes(
         format!(in alloc; "{settings}encoding {encoding}\n+STR any\n{documents}-STR\n")?,
         format!(in alloc; "{settings}+STR {encoding}\n{documents}-STR\n")?,
     ] {
-        let ran = ran(alloc, script.as_bytes())?;
+        let ran = ran(rt, alloc, script.as_bytes())?;
         assert_eq!(rt; ran.output.as_slice(), expected, "{script:?}");
         assert_eq!(rt; ran.status, 0, "{script:?}");
     }

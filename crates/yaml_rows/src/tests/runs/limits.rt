@@ -1,10 +1,11 @@
 //! Outputs with a limit, and outputs longer than the buffer.
+use super::growths::answered;
 use super::{check_text, ran};
 use std::alloc::Global;
 use std::process::Abort;
 use std::test::Fail;
 use yaml_base::yaml_error_t;
-use yaml_tool::{run, run_answer_t};
+use yaml_tool::run_answer_t;
 
 // Under each limit: the output is the text up to it, and the first end of a document or stream whose text passes it
 // answers. `ends` are the lines of these ends, each with the length of the text up to it.
@@ -22,9 +23,7 @@ fn check_limits(
             Some((line, _)) => run_answer_t::Refused(*line, yaml_error_t::WriteError),
             None => run_answer_t::Done,
         };
-        let mut left = script.as_bytes();
-        let mut output: Vec<u8> = Vec::new(alloc);
-        let answer = run(alloc, &mut left, &mut output);
+        let (answer, output) = answered(rt, alloc, script.as_bytes())?;
         assert_eq!(rt; answer, expected, "{encoding}, {limit}");
         assert_eq!(rt;
             output.as_slice(),
@@ -128,7 +127,7 @@ fn a_long_text_in_units_of_two_bytes_is_cut(rt: HostRuntime) -> Result<(), Fail>
     )?;
     check_text(&rt, alloc, script.as_str(), text.as_slice())?;
     let limited = format!(in alloc; "limit 32771\n{script}")?;
-    let cut = ran(alloc, limited.as_bytes())?;
+    let cut = ran(&rt, alloc, limited.as_bytes())?;
     assert!(rt;
         cut.line.as_slice() == b"yamlemit: line 5: write error\n".as_slice()
             || cut.line.as_slice() == b"yamlemit: line 6: write error\n".as_slice()

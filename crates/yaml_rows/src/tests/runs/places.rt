@@ -1,9 +1,10 @@
 //! Each kind of event at each place: where it stands, and how it is refused where it doesn't.
+use super::growths::answered;
 use std::alloc::Global;
 use std::process::Abort;
 use std::test::Fail;
 use yaml_base::yaml_error_t;
-use yaml_tool::{run, run_answer_t};
+use yaml_tool::run_answer_t;
 
 /// The ten kinds of events, each with as many scalars as must follow before it is written.
 const KINDS: [&str; 10] = [
@@ -40,9 +41,8 @@ fn check_place(
         } else {
             run_answer_t::Refused(lines, error)
         };
-        let mut left = script.as_bytes();
-        let mut output: Vec<u8> = Vec::new(alloc);
-        assert_eq!(rt; run(alloc, &mut left, &mut output), expected, "{script:?}");
+        let (answer, _) = answered(rt, alloc, script.as_bytes())?;
+        assert_eq!(rt; answer, expected, "{script:?}");
     }
     Ok(())
 }

@@ -1,19 +1,18 @@
 //! Events that are refused: with which error, and by which call.
+use super::growths::answered;
 use super::{Rows, check_streams};
 use std::alloc::Global;
 use std::process::Abort;
 use std::test::Fail;
 use yaml_base::yaml_error_t;
-use yaml_tool::{run, run_answer_t};
+use yaml_tool::run_answer_t;
 
 /// A script, and the line of the call that is refused, with its error.
 type Refusals<'a> = &'a [(&'a str, u64, yaml_error_t)];
 
 fn check_refusals(rt: &impl Abort, alloc: Global, rows: Refusals) -> Result<(), Fail> {
     for (script, line, error) in rows {
-        let mut left = script.as_bytes();
-        let mut output: Vec<u8> = Vec::new(alloc);
-        let answer = run(alloc, &mut left, &mut output);
+        let (answer, output) = answered(rt, alloc, script.as_bytes())?;
         assert_eq!(rt; answer, run_answer_t::Refused(*line, *error), "{script:?}");
         assert!(rt; output.is_empty(), "{script:?}");
     }
