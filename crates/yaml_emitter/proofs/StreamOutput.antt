@@ -1,5 +1,5 @@
 -- The output of an accepted list in any mode, where no limit cuts it, reads as documents that agree with it.
-use Rattle.std.proofs.Common.{◌≡◌, refl, sym, ap, ◌∙◌, subst}
+use Rattle.std.proofs.Common.{◌≡◌, ap, ◌∙◌}
 use Rattle.std.proofs.lemmas.Bool.{false≢true}
 use Rattle.std.proofs.lemmas.List.{take_all}
 use Rattle.std.specs.Prelude.{ℕ, Bool, true, Option, None, Some, List}
