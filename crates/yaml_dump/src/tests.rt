@@ -6,7 +6,7 @@ mod memory;
 mod streams;
 mod walks;
 
-use std::alloc::{AllocError, Global};
+use std::alloc::{AllocError, Allocator};
 use std::process::Abort;
 use yaml_base::{
     YAML_ANY_SCALAR_STYLE, YAML_BLOCK_MAPPING_STYLE, YAML_BLOCK_SEQUENCE_STYLE, yaml_document_t,
@@ -14,7 +14,11 @@ use yaml_base::{
 };
 
 /// A scalar of any style with this tag.
-fn scalar(alloc: Global, tag: &str, value: &str) -> Result<yaml_node_t<Global>, AllocError> {
+fn scalar<A: Allocator + Copy>(
+    alloc: A,
+    tag: &str,
+    value: &str,
+) -> Result<yaml_node_t<A>, AllocError> {
     Ok(yaml_node_t {
         tag: String::from_str(alloc, tag)?,
         contents: yaml_node_data_t::Scalar {
@@ -25,12 +29,12 @@ fn scalar(alloc: Global, tag: &str, value: &str) -> Result<yaml_node_t<Global>, 
 }
 
 /// A string.
-fn text(alloc: Global, value: &str) -> Result<yaml_node_t<Global>, AllocError> {
+fn text<A: Allocator + Copy>(alloc: A, value: &str) -> Result<yaml_node_t<A>, AllocError> {
     scalar(alloc, "tag:yaml.org,2002:str", value)
 }
 
 /// A block sequence of the nodes with these numbers.
-fn sequence(alloc: Global, items: &[i32]) -> Result<yaml_node_t<Global>, AllocError> {
+fn sequence<A: Allocator + Copy>(alloc: A, items: &[i32]) -> Result<yaml_node_t<A>, AllocError> {
     Ok(yaml_node_t {
         tag: String::from_str(alloc, "tag:yaml.org,2002:seq")?,
         contents: yaml_node_data_t::Sequence {
@@ -41,7 +45,11 @@ fn sequence(alloc: Global, items: &[i32]) -> Result<yaml_node_t<Global>, AllocEr
 }
 
 /// A block mapping of one pair.
-fn mapping(alloc: Global, key: i32, value: i32) -> Result<yaml_node_t<Global>, AllocError> {
+fn mapping<A: Allocator + Copy>(
+    alloc: A,
+    key: i32,
+    value: i32,
+) -> Result<yaml_node_t<A>, AllocError> {
     Ok(yaml_node_t {
         tag: String::from_str(alloc, "tag:yaml.org,2002:map")?,
         contents: yaml_node_data_t::Mapping {
@@ -51,12 +59,45 @@ fn mapping(alloc: Global, key: i32, value: i32) -> Result<yaml_node_t<Global>, A
     })
 }
 
+/// A node as tables write it.
+#[derive(Clone, Copy)]
+enum Given<'a> {
+    /// A string.
+    Text(&'a str),
+    /// A scalar's tag and value.
+    Tagged(&'a str, &'a str),
+    /// A block sequence of these nodes.
+    Sequence(&'a [i32]),
+    /// A block mapping of one key and its value.
+    Mapping(i32, i32),
+}
+
+fn node<A: Allocator + Copy>(alloc: A, given: Given) -> Result<yaml_node_t<A>, AllocError> {
+    match given {
+        Given::Text(value) => text(alloc, value),
+        Given::Tagged(tag, value) => scalar(alloc, tag, value),
+        Given::Sequence(items) => sequence(alloc, items),
+        Given::Mapping(key, value) => mapping(alloc, key, value),
+    }
+}
+
+fn nodes<A: Allocator + Copy>(
+    alloc: A,
+    given: &[Given],
+) -> Result<Vec<yaml_node_t<A>, A>, AllocError> {
+    let mut nodes = Vec::new(alloc);
+    for each in given {
+        nodes.push(node(alloc, *each)?)?;
+    }
+    Ok(nodes)
+}
+
 /// A document of these nodes, without marks and directives.
-fn document(
+fn document<A: Allocator + Copy>(
     rt: &impl Abort,
-    alloc: Global,
-    nodes: Vec<yaml_node_t<Global>>,
-) -> yaml_document_t<Global> {
+    alloc: A,
+    nodes: Vec<yaml_node_t<A>, A>,
+) -> yaml_document_t<A> {
     assert!(rt; nodes.len() <= 2_000_000);
     match yaml_document_t::from_nodes(None, Vec::new(alloc), nodes, true, true) {
         Ok(document) => document,

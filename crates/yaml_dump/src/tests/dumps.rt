@@ -1,5 +1,7 @@
 //! Documents dumped: texts worked out by hand, and dumps in wrong moments.
-use super::{document, mapping, scalar, sequence, text};
+use super::Given::{Mapping, Sequence, Tagged, Text};
+use super::memory::{Row, check_rows};
+use super::{document, scalar, sequence, text};
 use crate::{document_events, yaml_emitter_close, yaml_emitter_dump, yaml_emitter_open};
 use std::alloc::{AllocError, Global};
 use std::process::Abort;
@@ -9,9 +11,8 @@ use yaml_base::{
     yaml_document_t, yaml_error_t, yaml_event_t, yaml_node_t,
 };
 use yaml_emitter::{
-    yaml_emitter_emit, yaml_emitter_initialize, yaml_emitter_set_canonical,
-    yaml_emitter_set_encoding, yaml_emitter_set_output_string, yaml_emitter_set_width,
-    yaml_emitter_t,
+    yaml_emitter_emit, yaml_emitter_initialize, yaml_emitter_set_encoding,
+    yaml_emitter_set_output_string, yaml_emitter_set_width, yaml_emitter_t,
 };
 
 fn begun(alloc: Global) -> Result<yaml_emitter_t<Global>, yaml_error_t> {
@@ -44,62 +45,32 @@ fn emit(
     yaml_emitter_emit(emitter, event)
 }
 
-// A dump of these nodes and a close give this text.
-fn check_text(
-    rt: &impl Abort,
-    alloc: Global,
-    nodes: Vec<yaml_node_t<Global>>,
-    expected: &str,
-) -> Result<(), Fail> {
-    let mut emitter = begun(alloc)?;
-    let answer = dump(rt, alloc, &mut emitter, document(rt, alloc, nodes));
-    assert_eq!(rt; answer, Ok(()));
-    assert_eq!(rt; emitter.held(), 0);
-    assert_eq!(rt; close(rt, &mut emitter), Ok(()));
-    assert!(rt; emitter.is_closed());
-    assert_eq!(rt; emitter.output(), expected.as_bytes());
-    Ok(())
-}
-
 /// A sequence that holds one string twice.
 fn shared_string(alloc: Global) -> Result<Vec<yaml_node_t<Global>>, AllocError> {
     Ok(vec![in alloc; sequence(alloc, &[2, 2])?, text(alloc, "a")?]?)
 }
 
 #[test]
-fn a_shared_node_is_written_once(rt: HostRuntime) -> Result<(), Fail> {
-    let alloc = rt.alloc();
-    check_text(&rt, alloc, shared_string(alloc)?, "- &id001 a\n- *id001\n")
+fn nodes_are_written_once(rt: HostRuntime) -> Result<(), Fail> {
+    let rows: &[Row] = &[
+        (&[Text("a")], "a\n"),
+        (&[Sequence(&[2, 2]), Text("a")], "- &id001 a\n- *id001\n"),
+        // Anchors are numbered by second meetings.
+        (
+            &[Sequence(&[2, 2]), Sequence(&[3, 3]), Text("a")],
+            "- &id002\n  - &id001 a\n  - *id001\n- *id002\n",
+        ),
+        // A mapping may hold itself.
+        (&[Mapping(2, 1), Text("k")], "&id001\nk: *id001\n"),
+        // Another tag than that of strings is written.
+        (&[Tagged("tag:yaml.org,2002:int", "5")], "!!int 5\n"),
+    ];
+    check_rows(&rt, rt.alloc(), false, rows)
 }
 
 #[test]
-fn anchors_are_numbered_by_second_meetings(rt: HostRuntime) -> Result<(), Fail> {
+fn an_empty_tag_is_refused(rt: HostRuntime) -> Result<(), Fail> {
     let alloc = rt.alloc();
-    let nodes = vec![in alloc;
-        sequence(alloc, &[2, 2])?,
-        sequence(alloc, &[3, 3])?,
-        text(alloc, "a")?,
-    ]?;
-    check_text(
-        &rt,
-        alloc,
-        nodes,
-        "- &id002\n  - &id001 a\n  - *id001\n- *id002\n",
-    )
-}
-
-#[test]
-fn a_mapping_may_hold_itself(rt: HostRuntime) -> Result<(), Fail> {
-    let alloc = rt.alloc();
-    let nodes = vec![in alloc; mapping(alloc, 2, 1)?, text(alloc, "k")?]?;
-    check_text(&rt, alloc, nodes, "&id001\nk: *id001\n")
-}
-
-#[test]
-fn another_tag_than_that_of_strings_is_written(rt: HostRuntime) -> Result<(), Fail> {
-    let alloc = rt.alloc();
-    let nodes = vec![in alloc; scalar(alloc, "tag:yaml.org,2002:int", "5")?]?;
-    check_text(&rt, alloc, nodes, "!!int 5\n")?;
     let mut emitter = begun(alloc)?;
     let untagged = document(&rt, alloc, vec![in alloc; scalar(alloc, "", "5")?]?);
     let answer = dump(&rt, alloc, &mut emitter, untagged);
@@ -138,50 +109,20 @@ fn a_document_may_be_dumped_twice(rt: HostRuntime) -> Result<(), Fail> {
     Ok(())
 }
 
-/// A canonical dump of these nodes and a close give this text.
-fn check_canonical_text(
-    rt: &impl Abort,
-    alloc: Global,
-    nodes: Vec<yaml_node_t<Global>>,
-    expected: &str,
-) -> Result<(), Fail> {
-    let mut emitter = yaml_emitter_initialize(alloc)?;
-    yaml_emitter_set_output_string(&mut emitter, usize::MAX);
-    yaml_emitter_set_canonical(&mut emitter, true);
-    yaml_emitter_set_width(&mut emitter, -1);
-    let answer = dump(rt, alloc, &mut emitter, document(rt, alloc, nodes));
-    assert_eq!(rt; answer, Ok(()));
-    assert_eq!(rt; close(rt, &mut emitter), Ok(()));
-    assert_eq!(rt; emitter.output(), expected.as_bytes());
-    Ok(())
-}
-
 #[test]
 fn canonical_text_has_every_tag_and_anchor(rt: HostRuntime) -> Result<(), Fail> {
-    let alloc = rt.alloc();
-    let nodes = vec![in alloc; mapping(alloc, 2, 1)?, text(alloc, "k")?]?;
-    let expected = "---\n&id001 !!map {\n  ? !!str \"k\"\n  : *id001,\n}\n";
-    check_canonical_text(&rt, alloc, nodes, expected)
-}
-
-// The inner sequence is node 2 in the one document and node 3 in the other.
-#[test]
-fn the_numbers_of_nodes_do_not_show(rt: HostRuntime) -> Result<(), Fail> {
-    let alloc = rt.alloc();
-    let expected =
+    let nested =
         "---\n!!seq [\n  &id002 !!seq [\n    &id001 !!str \"a\",\n    *id001,\n  ],\n  *id002,\n]\n";
-    let nodes = vec![in alloc;
-        sequence(alloc, &[2, 2])?,
-        sequence(alloc, &[3, 3])?,
-        text(alloc, "a")?,
-    ]?;
-    check_canonical_text(&rt, alloc, nodes, expected)?;
-    let exchanged = vec![in alloc;
-        sequence(alloc, &[3, 3])?,
-        text(alloc, "a")?,
-        sequence(alloc, &[2, 2])?,
-    ]?;
-    check_canonical_text(&rt, alloc, exchanged, expected)
+    let rows: &[Row] = &[
+        (
+            &[Mapping(2, 1), Text("k")],
+            "---\n&id001 !!map {\n  ? !!str \"k\"\n  : *id001,\n}\n",
+        ),
+        // The inner sequence is node 2 in the one document and node 3 in the other: the numbers of nodes don't show.
+        (&[Sequence(&[2, 2]), Sequence(&[3, 3]), Text("a")], nested),
+        (&[Sequence(&[3, 3]), Text("a"), Sequence(&[2, 2])], nested),
+    ];
+    check_rows(&rt, rt.alloc(), true, rows)
 }
 
 #[test]
