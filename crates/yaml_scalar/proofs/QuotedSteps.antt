@@ -1,6 +1,5 @@
 -- A double-quoted scalar is written quote, inside, quote; and what that means.
 use Rattle.std.proofs.Common.{◌≡◌, refl, IfOk, Ok, Err}
-use Rattle.std.specs.Str.{chars}
 use Rattle.std.specs.Prelude.{ℕ, ◌≤◌, Bool, true, false, Option, None, Result, [], ◌∷◌}
 use Rattle.std.specs.Str.{all_scalars}
 use Rattle.yaml_base.specs.Characters.{Text}

@@ -1,4 +1,4 @@
-use Rattle.std.proofs.Common.{◌==◌, ◌||◌, ◌++◌, sym, ap, inr, inl, refl, length, map, ◌∙◌}
+use Rattle.std.proofs.Common.{◌==◌, ◌||◌, ◌++◌, sym, ap, inr, length, map, ◌∙◌}
 use Rattle.std.proofs.Math.Bool.{or-false}
 use Rattle.std.proofs.lemmas.Bool.{false≢true}
 use Rattle.yaml_base.specs.Documents.{graph_of}
