@@ -66,6 +66,7 @@ pub use yaml_emitter::canonical_output_reads;
 pub use yaml_emitter::documents_unfold;
 pub use yaml_emitter::encodings_agree;
 pub use yaml_emitter::escaped_text_reads;
+pub use yaml_emitter::holds_break;
 pub use yaml_emitter::is_alpha;
 pub use yaml_emitter::is_ascii;
 pub use yaml_emitter::is_blank;

@@ -124,6 +124,7 @@ pub use yaml_mark::written_tag_reads;
 pub use yaml_mark::written_tag_stays_one_word;
 pub use yaml_pen::Pen;
 pub use yaml_scalar::analyze_scalar;
+pub use yaml_scalar::holds_break;
 pub use yaml_scalar::scalar_data_t;
 pub use yaml_scalar::select_scalar_style;
 pub use yaml_scalar::write_block_scalar_hints;
