@@ -32,3 +32,4 @@ pub mod CallerLaws
 pub mod SurelyTexts
 pub mod SchemaWords
 pub mod JsonSpelling
+pub mod NumberCuts

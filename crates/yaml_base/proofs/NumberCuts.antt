@@ -1,0 +1,202 @@
+-- A number's spelling, cut where the schemas cut it: past its sign, at its point, at its exponent.
+use Rattle.std.proofs.Common.{◌≡◌, refl, sym, ap, ◌∙◌, append_assoc, append-nil, arith}
+use Rattle.std.proofs.lemmas.Bool.{true≢false, false≢true, and_parts, and_from, and_left, and_right, or_from, or_left, not_from_false, eqb-true, ne_eqb}
+use Rattle.std.proofs.lemmas.List.Elements.{All-append, All-cons}
+use Rattle.std.proofs.lemmas.List.Splits.{slice_split_at, slice_split_none, slice_split-cons_yes}
+use Rattle.std.proofs.lemmas.List.Sums.{AllPass-from_list_all, take_while-cons}
+use Rattle.std.specs.List.{All, list_all, slice_split, take_while}
+use Rattle.std.specs.Prelude.{ℕ, suc, Bool, true, false, Option, None, Some, List, [], ◌∷◌, ◌++◌, ◌==◌, ◌||◌, ◌&&◌, not, length, codes, ⊤, if◌then◌else◌}
+use Rattle.yaml_base.specs.Characters.{Text}
+use Rattle.yaml_base.specs.Script.{named, is_word}
+use Rattle.yaml_base.specs.Resolved.{Resolved, meant_timestamp, words_of_core, words_of_11, is_point, is_exponent_mark, is_sign, is_decimal, first_is, past_sign, is_negative, are_digits}
+use Rattle.yaml_base.specs.SchemaOf11.{is_underscore, ungrouped, are_grouped, is_hyphen, past, in_date, is_date, is_time_after_date, timestamp_11}
+use Rattle.yaml_base.specs.JsonNumbers.{JsonExponent, minus, exponent_negative, exponent_spelled}
+use Rattle.yaml_base.proofs.SchemaWords.{named_unlike}
+
+-- Digits
+
+-- a digit isn't a character that is none
+pub digit_unlike : (c n : ℕ) → is_decimal n ≡ false → is_decimal c ≡ true → (c == n) ≡ false
+digit_unlike c n other digit = by (c == n) refl
+  where
+    by : (x : Bool) → (c == n) ≡ x → x ≡ false
+    by true e = absurd (false≢true (sym other ∙ ap is_decimal (sym (eqb-true c n e)) ∙ digit))
+    by false e = refl
+
+digit_no_point : (c : ℕ) → is_decimal c ≡ true → is_point c ≡ false
+digit_no_point c digit = digit_unlike c 0x2E refl digit
+
+digit_no_mark : (c : ℕ) → is_decimal c ≡ true → is_exponent_mark c ≡ false
+digit_no_mark c digit = or_from (c == 0x65) (c == 0x45) (digit_unlike c 0x65 refl digit) (digit_unlike c 0x45 refl digit)
+
+digit_no_sign : (c : ℕ) → is_decimal c ≡ true → is_sign c ≡ false
+digit_no_sign c digit = or_from (c == 0x2B) (c == 0x2D) (digit_unlike c 0x2B refl digit) (digit_unlike c 0x2D refl digit)
+
+digit_no_hyphen : (c : ℕ) → is_decimal c ≡ true → is_hyphen c ≡ false
+digit_no_hyphen c digit = digit_unlike c 0x2D refl digit
+
+-- one digit or more
+pub some_digits : (c : ℕ) (digits : Text) → list_all is_decimal (c ∷ digits) ≡ true → are_digits 10 (c ∷ digits) ≡ true
+some_digits c digits h =
+    and_from (not (length (c ∷ digits) == 0)) (list_all is_decimal (c ∷ digits)) (not_from_false _ (ne_eqb (suc (length digits)) 0 (λ e. omega arith))) h
+
+-- digits are grouped, and have no underscore
+pub digits_grouped : (digits : Text) → list_all is_decimal digits ≡ true → are_grouped 10 digits ≡ true
+digits_grouped [] h = refl
+digits_grouped (c ∷ digits) h = and_from (is_decimal c || is_underscore c) (are_grouped 10 digits) (or_left (is_decimal c) _ both.0) (digits_grouped digits both.1)
+  where
+    both : (is_decimal c ≡ true) × (list_all is_decimal digits ≡ true)
+    both = and_parts (is_decimal c) (list_all is_decimal digits) h
+
+pub digits_ungrouped : (digits : Text) → list_all is_decimal digits ≡ true → ungrouped digits ≡ digits
+digits_ungrouped [] h = refl
+digits_ungrouped (c ∷ digits) h =
+    ap (λ x. if not x then c ∷ ungrouped digits else ungrouped digits) (digit_unlike c 0x5F refl both.0)
+    ∙ ap (λ text. c ∷ text) (digits_ungrouped digits both.1)
+  where
+    both : (is_decimal c ≡ true) × (list_all is_decimal digits ≡ true)
+    both = and_parts (is_decimal c) (list_all is_decimal digits) h
+
+-- Cuts
+
+-- a sign that is no digit stands in no digits
+free : (sign : ℕ → Bool) → ((c : ℕ) → is_decimal c ≡ true → sign c ≡ false) → (digits : Text) → list_all is_decimal digits ≡ true
+    → All (λ c. sign c ≡ false) digits
+free sign other digits h k d within = other _ (AllPass-from_list_all is_decimal digits h k d within)
+
+-- digits aren't cut
+pub uncut : (sign : ℕ → Bool) → ((c : ℕ) → is_decimal c ≡ true → sign c ≡ false) → (digits : Text) → list_all is_decimal digits ≡ true
+    → slice_split sign digits ≡ digits ∷ []
+uncut sign other digits h = slice_split_none sign digits (free sign other digits h)
+
+pub no_point : (digits : Text) → list_all is_decimal digits ≡ true → slice_split is_point digits ≡ digits ∷ []
+no_point digits h = uncut is_point digit_no_point digits h
+
+pub no_exponent : (digits : Text) → list_all is_decimal digits ≡ true → slice_split is_exponent_mark digits ≡ digits ∷ []
+no_exponent digits h = uncut is_exponent_mark digit_no_mark digits h
+
+-- digits with a point among them are cut there
+pub at_point : (whole fraction : Text) → list_all is_decimal whole ≡ true → list_all is_decimal fraction ≡ true
+    → slice_split is_point (whole ++ (codes "." ++ fraction)) ≡ whole ∷ fraction ∷ []
+at_point whole fraction h g =
+    slice_split_at is_point whole 0x2E fraction (free is_point digit_no_point whole h) refl
+    ∙ ap (λ parts. whole ∷ parts) (no_point fraction g)
+
+-- the mantissa of a spelling
+abbrev pub mantissa_of : (whole fraction : Text) → Text
+mantissa_of whole fraction = whole ++ (codes "." ++ fraction)
+
+-- what stands after the `e`
+abbrev pub exponent_parts : Option JsonExponent → List Text
+exponent_parts None = []
+exponent_parts (Some exponent) = ((if exponent_negative exponent then codes "-" else codes "+") ++ exponent.digits) ∷ []
+
+-- digits stand after the `e`, where there is one
+abbrev pub HasDigits : Option JsonExponent → Type 0
+HasDigits None = ⊤
+HasDigits (Some exponent) = are_digits 10 exponent.digits ≡ true
+
+no_mark_in_mantissa : (whole fraction : Text) → list_all is_decimal whole ≡ true → list_all is_decimal fraction ≡ true
+    → All (λ c. is_exponent_mark c ≡ false) (mantissa_of whole fraction)
+no_mark_in_mantissa whole fraction h g =
+    All-append (λ c. is_exponent_mark c ≡ false) whole (codes "." ++ fraction) (free is_exponent_mark digit_no_mark whole h)
+    (All-cons (λ c. is_exponent_mark c ≡ false) 0x2E fraction refl (free is_exponent_mark digit_no_mark fraction g))
+
+-- a spelling with a point is cut at its `e`
+pub at_exponent : (whole fraction : Text) (exponent : Option JsonExponent) → list_all is_decimal whole ≡ true → list_all is_decimal fraction ≡ true
+    → HasDigits exponent
+    → slice_split is_exponent_mark (mantissa_of whole fraction ++ exponent_spelled exponent) ≡ mantissa_of whole fraction ∷ exponent_parts exponent
+at_exponent whole fraction None h g e =
+    ap (slice_split is_exponent_mark) (append-nil (mantissa_of whole fraction))
+    ∙ slice_split_none is_exponent_mark (mantissa_of whole fraction) (no_mark_in_mantissa whole fraction h g)
+at_exponent whole fraction (Some exponent) h g e = by (exponent_negative exponent)
+  where
+    digits : list_all is_decimal exponent.digits ≡ true
+    digits = (and_parts (not (length exponent.digits == 0)) (list_all is_decimal exponent.digits) e).1
+
+    signed_uncut : (sign : ℕ) → is_exponent_mark sign ≡ false → slice_split is_exponent_mark (sign ∷ exponent.digits) ≡ (sign ∷ exponent.digits) ∷ []
+    signed_uncut sign other =
+        slice_split_none is_exponent_mark (sign ∷ exponent.digits)
+        (All-cons (λ c. is_exponent_mark c ≡ false) sign exponent.digits other (free is_exponent_mark digit_no_mark exponent.digits digits))
+
+    front : (sign : ℕ) → is_exponent_mark sign ≡ false
+        → slice_split is_exponent_mark (mantissa_of whole fraction ++ 0x65 ∷ sign ∷ exponent.digits)
+        ≡ mantissa_of whole fraction ∷ (sign ∷ exponent.digits) ∷ []
+    front sign other =
+        slice_split_at is_exponent_mark (mantissa_of whole fraction) 0x65 (sign ∷ exponent.digits) (no_mark_in_mantissa whole fraction h g) refl
+        ∙ ap (λ parts. mantissa_of whole fraction ∷ parts) (signed_uncut sign other)
+
+    by : (x : Bool) → slice_split is_exponent_mark (mantissa_of whole fraction ++ (codes "e" ++ (if x then codes "-" else codes "+") ++ exponent.digits))
+        ≡ mantissa_of whole fraction ∷ ((if x then codes "-" else codes "+") ++ exponent.digits) ∷ []
+    by true = front 0x2D refl
+    by false = front 0x2B refl
+
+-- Signs
+
+-- a number past its sign
+pub past_minus : (negative : Bool) (c : ℕ) (rest : Text) → is_decimal c ≡ true → past_sign (minus negative ++ (c ∷ rest)) ≡ c ∷ rest
+past_minus true c rest h = refl
+past_minus false c rest h = ap (λ x. if x then rest else c ∷ rest) (digit_no_sign c h)
+
+-- and its sign
+pub minus_read : (negative : Bool) (c : ℕ) (rest : Text) → is_decimal c ≡ true → is_negative (minus negative ++ (c ∷ rest)) ≡ negative
+minus_read true c rest h = refl
+minus_read false c rest h = digit_no_hyphen c h
+
+-- Words and dates
+
+-- a digit stands first, past a sign
+abbrev begins_otherwise : Text → Bool
+begins_otherwise text = not (first_is is_decimal (past_sign text))
+
+-- a number is no word of a schema
+pub no_word : (table : List (Text × Resolved)) (negative : Bool) (c : ℕ) (rest : Text) → list_all (λ entry. begins_otherwise entry.0) table ≡ true
+    → is_decimal c ≡ true → named table (minus negative ++ (c ∷ rest)) ≡ None
+no_word table negative c rest all h =
+    named_unlike begins_otherwise table (minus negative ++ (c ∷ rest)) all
+    (ap (λ text. not (first_is is_decimal text)) (past_minus negative c rest h) ∙ ap not h)
+
+pub no_word_of_core : (negative : Bool) (c : ℕ) (rest : Text) → is_decimal c ≡ true → named words_of_core (minus negative ++ (c ∷ rest)) ≡ None
+no_word_of_core negative c rest h = no_word words_of_core negative c rest refl h
+
+pub no_word_of_11 : (negative : Bool) (c : ℕ) (rest : Text) → is_decimal c ≡ true → named words_of_11 (minus negative ++ (c ∷ rest)) ≡ None
+no_word_of_11 negative c rest h = no_word words_of_11 negative c rest refl h
+
+-- digits and what can't stand in a date: these digits are its front
+date_front : (digits rest : Text) → list_all is_decimal digits ≡ true → first_is in_date rest ≡ false → take_while in_date (digits ++ rest) ≡ digits
+date_front [] [] h g = refl
+date_front [] (c ∷ rest) h g = take_while-cons in_date c rest ∙ ap (λ x. if x then c ∷ take_while in_date rest else []) g
+date_front (c ∷ digits) rest h g =
+    take_while-cons in_date c (digits ++ rest)
+    ∙ ap (λ x. if x then c ∷ take_while in_date (digits ++ rest) else []) (or_left (is_decimal c) (is_hyphen c) both.0)
+    ∙ ap (λ text. c ∷ text) (date_front digits rest both.1 g)
+  where
+    both : (is_decimal c ≡ true) × (list_all is_decimal digits ≡ true)
+    both = and_parts (is_decimal c) (list_all is_decimal digits) h
+
+-- a cut of two parts or fewer is no date
+abbrev Short : List Text → Type 0
+Short parts = (least : ℕ) → is_date least parts ≡ false
+
+short_front : (negative : Bool) (digits rest : Text) → list_all is_decimal digits ≡ true → first_is in_date rest ≡ false
+    → Short (slice_split is_hyphen (take_while in_date (minus negative ++ (digits ++ rest))))
+short_front true digits rest h g least =
+    ap (λ text. is_date least (slice_split is_hyphen text)) (take_while-cons in_date 0x2D (digits ++ rest) ∙ ap (λ text. 0x2D ∷ text) (date_front digits rest h g))
+    ∙ ap (is_date least) (slice_split-cons_yes is_hyphen 0x2D digits refl ∙ ap (λ parts. [] ∷ parts) (uncut is_hyphen digit_no_hyphen digits h))
+short_front false digits rest h g least =
+    ap (λ text. is_date least (slice_split is_hyphen text)) (date_front digits rest h g)
+    ∙ ap (is_date least) (uncut is_hyphen digit_no_hyphen digits h)
+
+-- a number is no timestamp
+pub no_timestamp : (negative : Bool) (digits rest : Text) → list_all is_decimal digits ≡ true → first_is in_date rest ≡ false
+    → timestamp_11 (minus negative ++ (digits ++ rest)) ≡ None
+no_timestamp negative digits rest h g = ap (λ x. if x then Some meant_timestamp else None) neither
+  where
+    text : Text
+    text = minus negative ++ (digits ++ rest)
+
+    date : List Text
+    date = slice_split is_hyphen (take_while in_date text)
+
+    neither : ((is_date 2 date && length (past in_date text) == 0) || (is_date 1 date && is_time_after_date (past in_date text))) ≡ false
+    neither = or_from _ _ (and_left (is_date 2 date) _ (short_front negative digits rest h g 2)) (and_left (is_date 1 date) _ (short_front negative digits rest h g 1))
