@@ -33,3 +33,4 @@ pub mod SurelyTexts
 pub mod SchemaWords
 pub mod JsonSpelling
 pub mod NumberCuts
+pub mod NumbersRead

@@ -1,0 +1,99 @@
+-- Both schemas read the spelling of a number of JSON as that number.
+use Rattle.std.proofs.Common.{◌≡◌, refl, sym, ap, ◌∙◌, subst, append_assoc, append-nil}
+use Rattle.std.proofs.lemmas.Bool.{true≢false, and_parts, and_from, and_left, and_right, or_left, or_right, not-true, not_from_false}
+use Rattle.std.proofs.lemmas.List.Folds.{list_all-append}
+use Rattle.std.proofs.lemmas.Slice.Eq.{bytes_eq-Decides}
+use Rattle.std.specs.List.{list_all, slice_split}
+use Rattle.std.specs.Str.Parse.{digits_value}
+use Rattle.std.specs.Prelude.{ℕ, ℤ, pos, neg_ℤ, Bool, true, false, Option, None, Some, List, [], ◌∷◌, ◌++◌, ◌==◌, ◌||◌, ◌&&◌, ◌+ℤ◌, not, length, codes, if◌then◌else◌}
+use Rattle.yaml_base.specs.Characters.{Text}
+use Rattle.yaml_base.specs.Script.{named, is_word}
+use Rattle.yaml_base.specs.Resolved.{Decimal, Resolved, meant_integer, meant_decimal, first_reading, words_of_core, words_of_11, is_point, is_exponent_mark, is_sign, is_decimal, first_is, past_sign, is_negative, signed, are_digits, pointed, exponent_read, scaled, scientific}
+use Rattle.yaml_base.specs.SchemaCore.{core_integer, core_based, core_mantissa, core_decimal, resolved_by_core}
+use Rattle.yaml_base.specs.SchemaOf11.{ungrouped, are_grouped, is_leading, begins_grouped, based_11, octal_11, decimal_11, sixties_11, fine_sixties_11, is_colon, mantissa_11, exponent_11, float_11, more_points_11, points_11, timestamp_11, numbers_11, resolved_by_11}
+use Rattle.yaml_base.specs.JsonNumbers.{JsonNumber, JsonExponent, NumbersAreRead, minus, is_whole, is_json_number, is_json_integer, exponent_negative, exponent_value, exponent_spelled, value_with, fraction_or, json_value, yaml_number, number_meant, means_number}
+use Rattle.yaml_base.proofs.JsonSpelling.{spelling_keeps_value}
+use Rattle.yaml_base.proofs.NumberCuts.{digit_unlike, some_digits, digits_grouped, digits_ungrouped, no_point, no_exponent, at_point, mantissa_of, exponent_parts, HasDigits, at_exponent, past_minus, minus_read, no_word_of_core, no_word_of_11, no_timestamp}
+
+-- Readings, one after another
+
+passed : (reading : Option Resolved) (rest : List (Option Resolved)) → reading ≡ None → first_reading (reading ∷ rest) ≡ first_reading rest
+passed reading rest h = ap (λ r. first_reading (r ∷ rest)) h
+
+found : (reading : Option Resolved) (rest : List (Option Resolved)) (meant : Resolved) → reading ≡ Some meant → first_reading (reading ∷ rest) ≡ meant
+found reading rest meant h = ap (λ r. first_reading (r ∷ rest)) h
+
+given : {A : Type 0} (test : Bool) (reading : A) → test ≡ true → (if test then Some reading else None) ≡ Some reading
+given test reading h = ap (λ x. if x then Some reading else None) h
+
+withheld : {A : Type 0} (test : Bool) (reading : A) → test ≡ false → (if test then Some reading else None) ≡ None
+withheld test reading h = ap (λ x. if x then Some reading else None) h
+
+-- Digits before and after a point
+
+-- the decimal that they write
+abbrev decimal_of : (negative : Bool) → (whole fraction : Text) → Decimal
+decimal_of negative whole fraction = record {
+  digits = signed negative (digits_value 10 (whole ++ fraction));
+  exponent = neg_ℤ (pos (length fraction));
+}
+
+pointed_read : (negative : Bool) (c : ℕ) (whole fraction : Text) → list_all is_decimal (c ∷ whole) ≡ true → list_all is_decimal fraction ≡ true
+    → pointed negative (c ∷ whole) fraction ≡ Some (decimal_of negative (c ∷ whole) fraction)
+pointed_read negative c whole fraction h g =
+    given (are_digits 10 ((c ∷ whole) ++ fraction)) (decimal_of negative (c ∷ whole) fraction)
+    (some_digits c (whole ++ fraction)
+    (list_all-append is_decimal (c ∷ whole) fraction ∙ and_from (list_all is_decimal (c ∷ whole)) (list_all is_decimal fraction) h g))
+
+-- An exponent
+
+-- the sign before an exponent's digits
+abbrev exponent_sign : Bool → Text
+exponent_sign negative = if negative then codes "-" else codes "+"
+
+exponent_read_signed : (negative : Bool) (digits : Text) → are_digits 10 digits ≡ true
+    → exponent_read (exponent_sign negative ++ digits) ≡ Some (signed negative (digits_value 10 digits))
+exponent_read_signed true digits h = given (are_digits 10 digits) (signed true (digits_value 10 digits)) h
+exponent_read_signed false digits h = given (are_digits 10 digits) (signed false (digits_value 10 digits)) h
+
+exponent_11_signed : (negative : Bool) (digits : Text) → are_digits 10 digits ≡ true
+    → exponent_11 (exponent_sign negative ++ digits) ≡ Some (signed negative (digits_value 10 digits))
+exponent_11_signed true digits h = exponent_read_signed true digits h
+exponent_11_signed false digits h = exponent_read_signed false digits h
+
+-- a mantissa and an exponent that are read give the decimal that both write
+scientific_read : (mantissa : Text → Option Decimal) (read : Text → Option ℤ) (text : Text) (decimal : Decimal) (exponent : Option JsonExponent)
+    → ((negative : Bool) (digits : Text) → are_digits 10 digits ≡ true → read (exponent_sign negative ++ digits) ≡ Some (signed negative (digits_value 10 digits)))
+    → mantissa text ≡ Some decimal → HasDigits exponent
+    → scientific mantissa read (text ∷ exponent_parts exponent)
+    ≡ Some (meant_decimal (record { digits = decimal.digits; exponent = decimal.exponent +ℤ exponent_value exponent }))
+scientific_read mantissa read text decimal None reads h e = ap (λ d. scaled d (Some (pos 0))) h
+scientific_read mantissa read text decimal (Some exponent) reads h e =
+    ap (λ d. scaled d (read (exponent_sign (exponent_negative exponent) ++ exponent.digits))) h
+    ∙ ap (scaled (Some decimal)) (reads (exponent_negative exponent) exponent.digits e)
+
+-- The core schema
+
+core_integer_read : (negative : Bool) (c : ℕ) (digits : Text) → list_all is_decimal (c ∷ digits) ≡ true
+    → core_integer (minus negative ++ (c ∷ digits)) ≡ Some (meant_integer (signed negative (digits_value 10 (c ∷ digits))))
+core_integer_read negative c digits h =
+    ap (λ text. if are_digits 10 text then Some (meant_integer (signed (is_negative (minus negative ++ (c ∷ digits))) (digits_value 10 text))) else None)
+    (past_minus negative c digits digit)
+    ∙ ap (λ x. if are_digits 10 (c ∷ digits) then Some (meant_integer (signed x (digits_value 10 (c ∷ digits)))) else None) (minus_read negative c digits digit)
+    ∙ given (are_digits 10 (c ∷ digits)) (meant_integer (signed negative (digits_value 10 (c ∷ digits)))) (some_digits c digits h)
+  where
+    digit : is_decimal c ≡ true
+    digit = (and_parts (is_decimal c) (list_all is_decimal digits) h).0
+
+-- an integer by the core schema
+integer_by_core : (negative : Bool) (c : ℕ) (digits : Text) → list_all is_decimal (c ∷ digits) ≡ true
+    → resolved_by_core (minus negative ++ (c ∷ digits)) ≡ meant_integer (signed negative (digits_value 10 (c ∷ digits)))
+integer_by_core negative c digits h =
+    passed (named words_of_core text) (core_integer text ∷ rest) (no_word_of_core negative c digits (and_parts (is_decimal c) (list_all is_decimal digits) h).0)
+    ∙ found (core_integer text) rest _ (core_integer_read negative c digits h)
+  where
+    text : Text
+    text = minus negative ++ (c ∷ digits)
+
+    rest : List (Option Resolved)
+    rest = core_based 0x6F 8 text ∷ core_based 0x78 16 text ∷ core_decimal text ∷ []
