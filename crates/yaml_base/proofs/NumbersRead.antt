@@ -97,3 +97,95 @@ integer_by_core negative c digits h =
 
     rest : List (Option Resolved)
     rest = core_based 0x6F 8 text ∷ core_based 0x78 16 text ∷ core_decimal text ∷ []
+
+-- what follows the whole part of a number that is no integer
+abbrev after_whole : (fraction : Text) → Option JsonExponent → Text
+after_whole fraction exponent = codes "." ++ fraction ++ exponent_spelled exponent
+
+-- such a number is more than digits
+not_digits : (c : ℕ) (whole fraction : Text) (exponent : Option JsonExponent) → are_digits 10 ((c ∷ whole) ++ after_whole fraction exponent) ≡ false
+not_digits c whole fraction exponent =
+    and_right (not (length ((c ∷ whole) ++ after_whole fraction exponent) == 0)) (list_all is_decimal ((c ∷ whole) ++ after_whole fraction exponent))
+    (list_all-append is_decimal (c ∷ whole) (after_whole fraction exponent) ∙ and_right (list_all is_decimal (c ∷ whole)) false refl)
+
+core_integer_none : (negative : Bool) (c : ℕ) (rest : Text) → is_decimal c ≡ true → are_digits 10 (c ∷ rest) ≡ false
+    → core_integer (minus negative ++ (c ∷ rest)) ≡ None
+core_integer_none negative c rest digit h =
+    withheld (are_digits 10 (past_sign text)) (meant_integer (signed (is_negative text) (digits_value 10 (past_sign text))))
+    (ap (are_digits 10) (past_minus negative c rest digit) ∙ h)
+  where
+    text : Text
+    text = minus negative ++ (c ∷ rest)
+
+-- no letter begins what follows a digit
+no_letter : (letter : ℕ) (digits rest : Text) → is_decimal letter ≡ false → list_all is_decimal digits ≡ true → first_is (λ c. c == letter) rest ≡ false
+    → first_is (λ c. c == letter) (digits ++ rest) ≡ false
+no_letter letter [] rest other h g = g
+no_letter letter (c ∷ digits) rest other h g = digit_unlike c letter other (and_parts (is_decimal c) (list_all is_decimal digits) h).0
+
+core_based_none : (letter base : ℕ) (negative : Bool) (c : ℕ) (rest : Text) → first_is (λ d. d == letter) rest ≡ false
+    → core_based letter base (minus negative ++ (c ∷ rest)) ≡ None
+core_based_none letter base true c rest h = refl
+core_based_none letter base false c [] h = refl
+core_based_none letter base false c (d ∷ rest) h =
+    withheld (c == 0x30 && d == letter && are_digits base rest) (meant_integer (pos (digits_value base rest)))
+    (and_left (c == 0x30 && d == letter) (are_digits base rest) (and_right (c == 0x30) (d == letter) h))
+
+-- a number that is no integer, cut at its exponent
+cut_read : (c : ℕ) (whole fraction : Text) (exponent : Option JsonExponent) → list_all is_decimal (c ∷ whole) ≡ true → list_all is_decimal fraction ≡ true
+    → HasDigits exponent
+    → slice_split is_exponent_mark ((c ∷ whole) ++ after_whole fraction exponent) ≡ mantissa_of (c ∷ whole) fraction ∷ exponent_parts exponent
+cut_read c whole fraction exponent h g e =
+    ap (slice_split is_exponent_mark) (sym (append_assoc (c ∷ whole) (codes "." ++ fraction) (exponent_spelled exponent)))
+    ∙ at_exponent (c ∷ whole) fraction exponent h g e
+
+-- what such a number means
+abbrev scientific_of : (negative : Bool) → (whole fraction : Text) → Option JsonExponent → Resolved
+scientific_of negative whole fraction exponent = meant_decimal (record {
+  digits = signed negative (digits_value 10 (whole ++ fraction));
+  exponent = neg_ℤ (pos (length fraction)) +ℤ exponent_value exponent;
+})
+
+core_decimal_read : (negative : Bool) (c : ℕ) (whole fraction : Text) (exponent : Option JsonExponent) → list_all is_decimal (c ∷ whole) ≡ true
+    → list_all is_decimal fraction ≡ true → HasDigits exponent
+    → core_decimal (minus negative ++ ((c ∷ whole) ++ after_whole fraction exponent)) ≡ Some (scientific_of negative (c ∷ whole) fraction exponent)
+core_decimal_read negative c whole fraction exponent h g e =
+    ap (λ x. scientific (λ m. core_mantissa x (slice_split is_point m)) exponent_read (slice_split is_exponent_mark (past_sign text)))
+    (minus_read negative c (whole ++ after_whole fraction exponent) digit)
+    ∙ ap (λ t. scientific mantissa exponent_read (slice_split is_exponent_mark t)) (past_minus negative c (whole ++ after_whole fraction exponent) digit)
+    ∙ ap (scientific mantissa exponent_read) (cut_read c whole fraction exponent h g e)
+    ∙ scientific_read mantissa exponent_read (mantissa_of (c ∷ whole) fraction) (decimal_of negative (c ∷ whole) fraction) exponent exponent_read_signed
+    (ap (core_mantissa negative) (at_point (c ∷ whole) fraction h g) ∙ pointed_read negative c whole fraction h g) e
+  where
+    text : Text
+    text = minus negative ++ ((c ∷ whole) ++ after_whole fraction exponent)
+
+    digit : is_decimal c ≡ true
+    digit = (and_parts (is_decimal c) (list_all is_decimal whole) h).0
+
+    mantissa : Text → Option Decimal
+    mantissa m = core_mantissa negative (slice_split is_point m)
+
+-- a number that is no integer, by the core schema
+decimal_by_core : (negative : Bool) (c : ℕ) (whole fraction : Text) (exponent : Option JsonExponent) → list_all is_decimal (c ∷ whole) ≡ true
+    → list_all is_decimal fraction ≡ true → HasDigits exponent
+    → resolved_by_core (minus negative ++ ((c ∷ whole) ++ after_whole fraction exponent)) ≡ scientific_of negative (c ∷ whole) fraction exponent
+decimal_by_core negative c whole fraction exponent h g e =
+    passed (named words_of_core text) (core_integer text ∷ core_based 0x6F 8 text ∷ core_based 0x78 16 text ∷ core_decimal text ∷ [])
+    (no_word_of_core negative c rest both.0)
+    ∙ passed (core_integer text) (core_based 0x6F 8 text ∷ core_based 0x78 16 text ∷ core_decimal text ∷ [])
+    (core_integer_none negative c rest both.0 (not_digits c whole fraction exponent))
+    ∙ passed (core_based 0x6F 8 text) (core_based 0x78 16 text ∷ core_decimal text ∷ [])
+    (core_based_none 0x6F 8 negative c rest (no_letter 0x6F whole (after_whole fraction exponent) refl both.1 refl))
+    ∙ passed (core_based 0x78 16 text) (core_decimal text ∷ [])
+    (core_based_none 0x78 16 negative c rest (no_letter 0x78 whole (after_whole fraction exponent) refl both.1 refl))
+    ∙ found (core_decimal text) [] (scientific_of negative (c ∷ whole) fraction exponent) (core_decimal_read negative c whole fraction exponent h g e)
+  where
+    rest : Text
+    rest = whole ++ after_whole fraction exponent
+
+    text : Text
+    text = minus negative ++ (c ∷ rest)
+
+    both : (is_decimal c ≡ true) × (list_all is_decimal whole ≡ true)
+    both = and_parts (is_decimal c) (list_all is_decimal whole) h
