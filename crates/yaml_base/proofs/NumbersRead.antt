@@ -10,7 +10,7 @@ use Rattle.yaml_base.specs.Characters.{Text}
 use Rattle.yaml_base.specs.Script.{named, is_word}
 use Rattle.yaml_base.specs.Resolved.{Decimal, Resolved, meant_integer, meant_decimal, first_reading, words_of_core, words_of_11, is_point, is_exponent_mark, is_sign, is_decimal, first_is, past_sign, is_negative, signed, are_digits, pointed, exponent_read, scaled, scientific}
 use Rattle.yaml_base.specs.SchemaCore.{core_integer, core_based, core_mantissa, core_decimal, resolved_by_core}
-use Rattle.yaml_base.specs.SchemaOf11.{ungrouped, are_grouped, is_leading, begins_grouped, based_11, octal_11, decimal_11, sixties_11, fine_sixties_11, is_colon, mantissa_11, exponent_11, float_11, more_points_11, points_11, timestamp_11, numbers_11, resolved_by_11}
+use Rattle.yaml_base.specs.SchemaOf11.{ungrouped, are_grouped, integer_of, in_date, is_leading, begins_grouped, based_11, octal_11, decimal_11, sixties_11, fine_sixties_11, is_colon, mantissa_11, exponent_11, float_11, more_points_11, points_11, timestamp_11, numbers_11, resolved_by_11}
 use Rattle.yaml_base.specs.JsonNumbers.{JsonNumber, JsonExponent, NumbersAreRead, minus, is_whole, is_json_number, is_json_integer, exponent_negative, exponent_value, exponent_spelled, value_with, fraction_or, json_value, yaml_number, number_meant, means_number}
 use Rattle.yaml_base.proofs.JsonSpelling.{spelling_keeps_value}
 use Rattle.yaml_base.proofs.NumberCuts.{digit_unlike, some_digits, digits_grouped, digits_ungrouped, no_point, no_exponent, at_point, mantissa_of, exponent_parts, HasDigits, at_exponent, past_minus, minus_read, no_word_of_core, no_word_of_11, no_timestamp}
@@ -189,3 +189,153 @@ decimal_by_core negative c whole fraction exponent h g e =
 
     both : (is_decimal c ≡ true) × (list_all is_decimal whole ≡ true)
     both = and_parts (is_decimal c) (list_all is_decimal whole) h
+
+-- The type repository of YAML 1.1
+
+-- an integer has no point
+float_11_none : (negative : Bool) (c : ℕ) (digits : Text) → list_all is_decimal (c ∷ digits) ≡ true → float_11 negative (c ∷ digits) ≡ None
+float_11_none negative c digits h =
+    ap (scientific (λ m. mantissa_11 negative (slice_split is_point m)) exponent_11) (no_exponent (c ∷ digits) h)
+    ∙ ap (λ parts. scaled (mantissa_11 negative parts) (Some (pos 0))) (no_point (c ∷ digits) h)
+
+based_11_none : (negative : Bool) (letter base : ℕ) (c : ℕ) (rest : Text) → first_is (λ d. d == letter) rest ≡ false
+    → based_11 negative letter base (c ∷ rest) ≡ None
+based_11_none negative letter base c [] h = refl
+based_11_none negative letter base c (d ∷ []) h = refl
+based_11_none negative letter base c (d ∷ first ∷ rest) h =
+    ap (λ x. if x then Some (integer_of negative base (ungrouped (first ∷ rest))) else None)
+    (and_left (c == 0x30 && d == letter) (are_grouped base (first ∷ rest)) (and_right (c == 0x30) (d == letter) h))
+
+-- digits of which the first isn't 0 are no octal number
+octal_11_none : (negative : Bool) (c : ℕ) (digits : Text) → (c == 0x30) ≡ false → octal_11 negative (c ∷ digits) ≡ None
+octal_11_none negative c [] h = refl
+octal_11_none negative c (d ∷ digits) h =
+    ap (λ x. if x then Some (meant_integer (signed negative (digits_value 8 (ungrouped (d ∷ digits))))) else None)
+    (and_left (c == 0x30) (are_grouped 8 (d ∷ digits)) h)
+
+-- a whole part: `0`, or its first digit isn't 0
+data Whole (c : ℕ) (digits : Text) : Type 0 where
+  zero_alone : (c ∷ digits) ≡ codes "0" → Whole c digits
+  leading : (c == 0x30) ≡ false → Whole c digits
+
+whole_11 : (c : ℕ) (digits : Text) → is_whole (c ∷ digits) ≡ true → Whole c digits
+whole_11 c digits h = by (is_word (c ∷ digits) (codes "0")) refl (and_parts (are_digits 10 (c ∷ digits)) _ h).1
+  where
+    by : (x : Bool) → is_word (c ∷ digits) (codes "0") ≡ x → (x || not (c == 0x30)) ≡ true → Whole c digits
+    by true e g = zero_alone ((bytes_eq-Decides (c ∷ digits) (codes "0")).0 e)
+    by false e g = leading (not-true (c == 0x30) g)
+
+whole_no_octal : (negative : Bool) (c : ℕ) (digits : Text) → Whole c digits → octal_11 negative (c ∷ digits) ≡ None
+whole_no_octal negative c digits (zero_alone e) = ap (octal_11 negative) e
+whole_no_octal negative c digits (leading e) = octal_11_none negative c digits e
+
+decimal_11_read : (negative : Bool) (c : ℕ) (digits : Text) → list_all is_decimal (c ∷ digits) ≡ true → Whole c digits
+    → decimal_11 negative (c ∷ digits) ≡ Some (meant_integer (signed negative (digits_value 10 (c ∷ digits))))
+decimal_11_read negative c digits h whole =
+    ap (λ text. if is_word (c ∷ digits) (codes "0") || begins_grouped is_leading (c ∷ digits) then Some (meant_integer (signed negative (digits_value 10 text))) else None)
+    (digits_ungrouped (c ∷ digits) h)
+    ∙ given (is_word (c ∷ digits) (codes "0") || begins_grouped is_leading (c ∷ digits)) (meant_integer (signed negative (digits_value 10 (c ∷ digits))))
+    (by whole)
+  where
+    by : Whole c digits → (is_word (c ∷ digits) (codes "0") || begins_grouped is_leading (c ∷ digits)) ≡ true
+    by (zero_alone e) = or_left (is_word (c ∷ digits) (codes "0")) _ ((bytes_eq-Decides (c ∷ digits) (codes "0")).1 e)
+    by (leading e) =
+        or_right (is_word (c ∷ digits) (codes "0")) _
+        (and_from (is_leading c) (are_grouped 10 (c ∷ digits))
+        (and_from (is_decimal c) (not (c == 0x30)) (and_parts (is_decimal c) (list_all is_decimal digits) h).0 (not_from_false (c == 0x30) e))
+        (digits_grouped (c ∷ digits) h))
+
+integer_without_sign : (negative : Bool) (c : ℕ) (digits : Text) → list_all is_decimal (c ∷ digits) ≡ true → Whole c digits
+    → first_reading (numbers_11 negative (c ∷ digits)) ≡ meant_integer (signed negative (digits_value 10 (c ∷ digits)))
+integer_without_sign negative c digits h whole =
+    passed (float_11 negative text) (based_11 negative 0x62 2 text ∷ based_11 negative 0x78 16 text ∷ octal_11 negative text ∷ decimal_11 negative text ∷ rest)
+    (float_11_none negative c digits h)
+    ∙ passed (based_11 negative 0x62 2 text) (based_11 negative 0x78 16 text ∷ octal_11 negative text ∷ decimal_11 negative text ∷ rest)
+    (based_11_none negative 0x62 2 c digits (letter_none 0x62 refl refl))
+    ∙ passed (based_11 negative 0x78 16 text) (octal_11 negative text ∷ decimal_11 negative text ∷ rest)
+    (based_11_none negative 0x78 16 c digits (letter_none 0x78 refl refl))
+    ∙ passed (octal_11 negative text) (decimal_11 negative text ∷ rest) (whole_no_octal negative c digits whole)
+    ∙ found (decimal_11 negative text) rest (meant_integer (signed negative (digits_value 10 text))) (decimal_11_read negative c digits h whole)
+  where
+    text : Text
+    text = c ∷ digits
+
+    rest : List (Option Resolved)
+    rest =
+        sixties_11 negative (slice_split is_colon text)
+        ∷ fine_sixties_11 negative (slice_split is_point text)
+        ∷ more_points_11 (slice_split is_exponent_mark text)
+        ∷ points_11 text
+        ∷ []
+
+    letter_none : (letter : ℕ) → is_decimal letter ≡ false → first_is (λ d. d == letter) [] ≡ false → first_is (λ d. d == letter) digits ≡ false
+    letter_none letter other none =
+        ap (first_is (λ d. d == letter)) (sym (append-nil digits))
+        ∙ no_letter letter digits [] other (and_parts (is_decimal c) (list_all is_decimal digits) h).1 none
+
+-- a number's reading by 1.1 is that of what follows its sign
+past_sign_11 : (negative : Bool) (c : ℕ) (whole rest : Text) (meant : Resolved) → list_all is_decimal (c ∷ whole) ≡ true → first_is in_date rest ≡ false
+    → first_reading (numbers_11 negative ((c ∷ whole) ++ rest)) ≡ meant → resolved_by_11 (minus negative ++ ((c ∷ whole) ++ rest)) ≡ meant
+past_sign_11 negative c whole rest meant h g reads =
+    passed (named words_of_11 text) (timestamp_11 text ∷ numbers_11 (is_negative text) (past_sign text)) (no_word_of_11 negative c (whole ++ rest) digit)
+    ∙ passed (timestamp_11 text) (numbers_11 (is_negative text) (past_sign text)) (no_timestamp negative (c ∷ whole) rest h g)
+    ∙ ap (λ t. first_reading (numbers_11 (is_negative text) t)) (past_minus negative c (whole ++ rest) digit)
+    ∙ ap (λ x. first_reading (numbers_11 x ((c ∷ whole) ++ rest))) (minus_read negative c (whole ++ rest) digit)
+    ∙ reads
+  where
+    text : Text
+    text = minus negative ++ ((c ∷ whole) ++ rest)
+
+    digit : is_decimal c ≡ true
+    digit = (and_parts (is_decimal c) (list_all is_decimal whole) h).0
+
+-- an integer by 1.1
+integer_by_11 : (negative : Bool) (c : ℕ) (digits : Text) → list_all is_decimal (c ∷ digits) ≡ true → Whole c digits
+    → resolved_by_11 (minus negative ++ (c ∷ digits)) ≡ meant_integer (signed negative (digits_value 10 (c ∷ digits)))
+integer_by_11 negative c digits h whole =
+    ap (λ t. resolved_by_11 (minus negative ++ t)) (sym (append-nil (c ∷ digits)))
+    ∙ past_sign_11 negative c digits [] (meant_integer (signed negative (digits_value 10 (c ∷ digits)))) h refl
+    (ap (λ t. first_reading (numbers_11 negative t)) (append-nil (c ∷ digits)) ∙ integer_without_sign negative c digits h whole)
+
+mantissa_11_read : (negative : Bool) (c : ℕ) (whole fraction : Text) → list_all is_decimal (c ∷ whole) ≡ true → list_all is_decimal fraction ≡ true
+    → mantissa_11 negative ((c ∷ whole) ∷ fraction ∷ []) ≡ Some (decimal_of negative (c ∷ whole) fraction)
+mantissa_11_read negative c whole fraction h g =
+    ap (λ x. if x then pointed negative (ungrouped (c ∷ whole)) (ungrouped fraction) else None)
+    (and_from (begins_grouped is_decimal (c ∷ whole)) (are_grouped 10 fraction)
+    (and_from (is_decimal c) (are_grouped 10 (c ∷ whole)) (and_parts (is_decimal c) (list_all is_decimal whole) h).0 (digits_grouped (c ∷ whole) h))
+    (digits_grouped fraction g))
+    ∙ ap (λ t. pointed negative t (ungrouped fraction)) (digits_ungrouped (c ∷ whole) h)
+    ∙ ap (pointed negative (c ∷ whole)) (digits_ungrouped fraction g)
+    ∙ pointed_read negative c whole fraction h g
+
+float_11_read : (negative : Bool) (c : ℕ) (whole fraction : Text) (exponent : Option JsonExponent) → list_all is_decimal (c ∷ whole) ≡ true
+    → list_all is_decimal fraction ≡ true → HasDigits exponent
+    → float_11 negative ((c ∷ whole) ++ after_whole fraction exponent) ≡ Some (scientific_of negative (c ∷ whole) fraction exponent)
+float_11_read negative c whole fraction exponent h g e =
+    ap (scientific mantissa exponent_11) (cut_read c whole fraction exponent h g e)
+    ∙ scientific_read mantissa exponent_11 (mantissa_of (c ∷ whole) fraction) (decimal_of negative (c ∷ whole) fraction) exponent exponent_11_signed
+    (ap (mantissa_11 negative) (at_point (c ∷ whole) fraction h g) ∙ mantissa_11_read negative c whole fraction h g) e
+  where
+    mantissa : Text → Option Decimal
+    mantissa m = mantissa_11 negative (slice_split is_point m)
+
+-- a number that is no integer, by 1.1
+decimal_by_11 : (negative : Bool) (c : ℕ) (whole fraction : Text) (exponent : Option JsonExponent) → list_all is_decimal (c ∷ whole) ≡ true
+    → list_all is_decimal fraction ≡ true → HasDigits exponent
+    → resolved_by_11 (minus negative ++ ((c ∷ whole) ++ after_whole fraction exponent)) ≡ scientific_of negative (c ∷ whole) fraction exponent
+decimal_by_11 negative c whole fraction exponent h g e =
+    past_sign_11 negative c whole (after_whole fraction exponent) (scientific_of negative (c ∷ whole) fraction exponent) h refl
+    (found (float_11 negative text)
+    (based_11 negative 0x62 2 text
+    ∷ based_11 negative 0x78 16 text
+    ∷ octal_11 negative text
+    ∷ decimal_11 negative text
+    ∷ sixties_11 negative (slice_split is_colon text)
+    ∷ fine_sixties_11 negative (slice_split is_point text)
+    ∷ more_points_11 (slice_split is_exponent_mark text)
+    ∷ points_11 text
+    ∷ [])
+    (scientific_of negative (c ∷ whole) fraction exponent) (float_11_read negative c whole fraction exponent h g e))
+  where
+    text : Text
+    text = (c ∷ whole) ++ after_whole fraction exponent
