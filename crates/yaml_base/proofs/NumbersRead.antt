@@ -339,3 +339,78 @@ decimal_by_11 negative c whole fraction exponent h g e =
   where
     text : Text
     text = (c ∷ whole) ++ after_whole fraction exponent
+
+-- Both
+
+-- a text's readings by the two schemas
+abbrev ReadAs : Text → Resolved → Type 0
+ReadAs text meant = (resolved_by_11 text ≡ meant) × (resolved_by_core text ≡ meant)
+
+parts_read : (negative : Bool) (whole fraction : Text) (exponent : Option JsonExponent) → is_whole whole ≡ true → list_all is_decimal fraction ≡ true
+    → HasDigits exponent → (integer : Bool)
+    → ReadAs (minus negative ++ (whole ++ (if integer then [] else after_whole fraction exponent)))
+    (if integer then meant_integer (signed negative (digits_value 10 whole)) else scientific_of negative whole fraction exponent)
+parts_read negative [] fraction exponent h g e integer = absurd (true≢false (sym h))
+parts_read negative (c ∷ whole) fraction exponent h g e integer = by integer
+  where
+    digits : list_all is_decimal (c ∷ whole) ≡ true
+    digits =
+        (and_parts (not (length (c ∷ whole) == 0)) (list_all is_decimal (c ∷ whole))
+        (and_parts (are_digits 10 (c ∷ whole)) (is_word (c ∷ whole) (codes "0") || not (c == 0x30)) h).0).1
+
+    by : (x : Bool) → ReadAs (minus negative ++ ((c ∷ whole) ++ (if x then [] else after_whole fraction exponent)))
+        (if x then meant_integer (signed negative (digits_value 10 (c ∷ whole))) else scientific_of negative (c ∷ whole) fraction exponent)
+    by true =
+        (
+          ap (λ t. resolved_by_11 (minus negative ++ t)) (append-nil (c ∷ whole)) ∙ integer_by_11 negative c whole digits (whole_11 c whole h),
+          ap (λ t. resolved_by_core (minus negative ++ t)) (append-nil (c ∷ whole)) ∙ integer_by_core negative c whole digits,
+        )
+    by false = (decimal_by_11 negative c whole fraction exponent digits g e, decimal_by_core negative c whole fraction exponent digits g e)
+
+-- the digits after the point of a spelling
+fraction_digits : (fraction : Option Text) → elim fraction as (λ _. Bool) [ None ↦ true | Some digits ↦ are_digits 10 digits ] ≡ true
+    → list_all is_decimal (elim fraction as (λ _. Text) [ None ↦ codes "0" | Some digits ↦ digits ]) ≡ true
+fraction_digits None h = refl
+fraction_digits (Some digits) h = (and_parts (not (length digits == 0)) (list_all is_decimal digits) h).1
+
+exponent_digits : (exponent : Option JsonExponent) → elim exponent as (λ _. Bool) [ None ↦ true | Some e ↦ are_digits 10 e.digits ] ≡ true → HasDigits exponent
+exponent_digits None h = tt
+exponent_digits (Some exponent) h = h
+
+-- the spelling of a number means by both schemas what it is to mean
+pub spelling_read : (number : JsonNumber) → is_json_number number ≡ true → ReadAs (yaml_number number) (number_meant number)
+spelling_read number h = (ap resolved_by_11 regrouped ∙ read.0, ap resolved_by_core regrouped ∙ read.1)
+  where
+    whole_fraction : Bool
+    whole_fraction = is_whole number.whole && elim number.fraction as (λ _. Bool) [ None ↦ true | Some digits ↦ are_digits 10 digits ]
+
+    well_exponent : Bool
+    well_exponent = elim number.exponent as (λ _. Bool) [ None ↦ true | Some exponent ↦ are_digits 10 exponent.digits ]
+
+    outer : (whole_fraction ≡ true) × (well_exponent ≡ true)
+    outer = and_parts whole_fraction well_exponent h
+
+    inner : (is_whole number.whole ≡ true) × (elim number.fraction as (λ _. Bool) [ None ↦ true | Some digits ↦ are_digits 10 digits ] ≡ true)
+    inner = and_parts (is_whole number.whole) _ outer.0
+
+    rest : Text
+    rest = if is_json_integer number then [] else after_whole (fraction_or (codes "0") number) number.exponent
+
+    regrouped : yaml_number number ≡ minus number.negative ++ (number.whole ++ rest)
+    regrouped = append_assoc (minus number.negative) number.whole rest
+
+    read : ReadAs (minus number.negative ++ (number.whole ++ rest)) (number_meant number)
+    read =
+        parts_read number.negative number.whole (fraction_or (codes "0") number) number.exponent inner.0 (fraction_digits number.fraction inner.1)
+        (exponent_digits number.exponent outer.1) (is_json_integer number)
+
+-- so every number of JSON, so spelled, is that number by both
+pub numbers_are_read : NumbersAreRead
+numbers_are_read number h =
+    (
+      ap (means_number (json_value number)) read.0 ∙ spelling_keeps_value number,
+      ap (means_number (json_value number)) read.1 ∙ spelling_keeps_value number,
+    )
+  where
+    read : ReadAs (yaml_number number) (number_meant number)
+    read = spelling_read number h

@@ -133,7 +133,7 @@ means_number number (meant_integer integer) = is_same_number (record { digits = 
 means_number number (meant_decimal decimal) = is_same_number decimal number
 means_number number _ = false
 
--- every number of JSON, so spelled, is that number by both schemas (computed on rows; not proved yet)
+-- every number of JSON, so spelled, is that number by both schemas
 abbrev pub NumbersAreRead : Type 0
 NumbersAreRead =
     (number : JsonNumber) → is_json_number number ≡ true
