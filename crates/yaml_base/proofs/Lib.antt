@@ -33,4 +33,5 @@ pub mod SurelyTexts
 pub mod SchemaWords
 pub mod JsonSpelling
 pub mod NumberCuts
+pub mod NumbersByCore
 pub mod NumbersRead

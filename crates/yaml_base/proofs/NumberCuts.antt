@@ -1,13 +1,13 @@
 -- A number's spelling, cut where the schemas cut it: past its sign, at its point, at its exponent.
-use Rattle.std.proofs.Common.{◌≡◌, refl, sym, ap, ◌∙◌, append_assoc, append-nil, arith}
-use Rattle.std.proofs.lemmas.Bool.{true≢false, false≢true, and_parts, and_from, and_left, and_right, or_from, or_left, not_from_false, eqb-true, ne_eqb}
+use Rattle.std.proofs.Common.{◌≡◌, refl, sym, ap, ◌∙◌, append-nil, arith}
+use Rattle.std.proofs.lemmas.Bool.{false≢true, and_parts, and_from, and_left, or_from, or_left, not_from_false, eqb-true, ne_eqb}
 use Rattle.std.proofs.lemmas.List.Elements.{All-append, All-cons}
 use Rattle.std.proofs.lemmas.List.Splits.{slice_split_at, slice_split_none, slice_split-cons_yes}
 use Rattle.std.proofs.lemmas.List.Sums.{AllPass-from_list_all, take_while-cons}
 use Rattle.std.specs.List.{All, list_all, slice_split, take_while}
 use Rattle.std.specs.Prelude.{ℕ, suc, Bool, true, false, Option, None, Some, List, [], ◌∷◌, ◌++◌, ◌==◌, ◌||◌, ◌&&◌, not, length, codes, ⊤, if◌then◌else◌}
 use Rattle.yaml_base.specs.Characters.{Text}
-use Rattle.yaml_base.specs.Script.{named, is_word}
+use Rattle.yaml_base.specs.Script.{named}
 use Rattle.yaml_base.specs.Resolved.{Resolved, meant_timestamp, words_of_core, words_of_11, is_point, is_exponent_mark, is_sign, is_decimal, first_is, past_sign, is_negative, are_digits}
 use Rattle.yaml_base.specs.SchemaOf11.{is_underscore, ungrouped, are_grouped, is_hyphen, past, in_date, is_date, is_time_after_date, timestamp_11}
 use Rattle.yaml_base.specs.JsonNumbers.{JsonExponent, minus, exponent_negative, exponent_spelled}

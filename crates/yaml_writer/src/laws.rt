@@ -1,7 +1,13 @@
-//! A law of the definitions, the contract of a function that does nothing.
+//! Laws of the definitions, each the contract of a function that does nothing.
+ghost use Rattle.yaml_base.specs.JsonNumbers.{NumbersAreRead};
 ghost use Rattle.yaml_base.specs.SurelyText.{SurelyTextIsText};
 
 /// A text that is surely one means a text by the type repository of YAML 1.1 and by the core schema of YAML 1.2.
 pub fn surely_text_is_text()
     ensures { SurelyTextIsText }
+{}
+
+/// The spelling that a writer gives a number of JSON means exactly that number by both.
+pub fn numbers_are_read()
+    ensures { NumbersAreRead }
 {}

@@ -5,5 +5,5 @@ mod laws;
 mod texts;
 mod words;
 
-pub use laws::surely_text_is_text;
+pub use laws::{numbers_are_read, surely_text_is_text};
 pub use texts::is_surely_text;

@@ -1,0 +1,183 @@
+-- The core schema reads the spelling of a number of JSON as that number.
+use Rattle.std.proofs.Common.{◌≡◌, refl, sym, ap, ◌∙◌, append_assoc}
+use Rattle.std.proofs.lemmas.Bool.{and_parts, and_from, and_left, and_right}
+use Rattle.std.proofs.lemmas.List.Folds.{list_all-append}
+use Rattle.std.specs.List.{list_all, slice_split}
+use Rattle.std.specs.Str.Parse.{digits_value}
+use Rattle.std.specs.Prelude.{ℕ, ℤ, pos, neg_ℤ, Bool, true, false, Option, None, Some, List, [], ◌∷◌, ◌++◌, ◌==◌, ◌&&◌, ◌+ℤ◌, not, length, codes, if◌then◌else◌}
+use Rattle.yaml_base.specs.Characters.{Text}
+use Rattle.yaml_base.specs.Script.{named}
+use Rattle.yaml_base.specs.Resolved.{Decimal, Resolved, meant_integer, meant_decimal, first_reading, words_of_core, is_point, is_exponent_mark, is_decimal, first_is, past_sign, is_negative, signed, are_digits, pointed, exponent_read, scaled, scientific}
+use Rattle.yaml_base.specs.SchemaCore.{core_integer, core_based, core_mantissa, core_decimal, resolved_by_core}
+use Rattle.yaml_base.specs.JsonNumbers.{JsonExponent, minus, exponent_negative, exponent_value, exponent_spelled}
+use Rattle.yaml_base.proofs.NumberCuts.{digit_unlike, some_digits, at_point, mantissa_of, exponent_parts, HasDigits, at_exponent, past_minus, minus_read, no_word_of_core}
+
+-- Readings, one after another
+
+pub passed : (reading : Option Resolved) (rest : List (Option Resolved)) → reading ≡ None → first_reading (reading ∷ rest) ≡ first_reading rest
+passed reading rest h = ap (λ r. first_reading (r ∷ rest)) h
+
+pub found : (reading : Option Resolved) (rest : List (Option Resolved)) (meant : Resolved) → reading ≡ Some meant → first_reading (reading ∷ rest) ≡ meant
+found reading rest meant h = ap (λ r. first_reading (r ∷ rest)) h
+
+pub given : {A : Type 0} (test : Bool) (reading : A) → test ≡ true → (if test then Some reading else None) ≡ Some reading
+given test reading h = ap (λ x. if x then Some reading else None) h
+
+withheld : {A : Type 0} (test : Bool) (reading : A) → test ≡ false → (if test then Some reading else None) ≡ None
+withheld test reading h = ap (λ x. if x then Some reading else None) h
+
+-- Digits before and after a point
+
+-- the decimal that they write
+abbrev pub decimal_of : (negative : Bool) → (whole fraction : Text) → Decimal
+decimal_of negative whole fraction = record {
+  digits = signed negative (digits_value 10 (whole ++ fraction));
+  exponent = neg_ℤ (pos (length fraction));
+}
+
+pub pointed_read : (negative : Bool) (c : ℕ) (whole fraction : Text) → list_all is_decimal (c ∷ whole) ≡ true → list_all is_decimal fraction ≡ true
+    → pointed negative (c ∷ whole) fraction ≡ Some (decimal_of negative (c ∷ whole) fraction)
+pointed_read negative c whole fraction h g =
+    given (are_digits 10 ((c ∷ whole) ++ fraction)) (decimal_of negative (c ∷ whole) fraction)
+    (some_digits c (whole ++ fraction)
+    (list_all-append is_decimal (c ∷ whole) fraction ∙ and_from (list_all is_decimal (c ∷ whole)) (list_all is_decimal fraction) h g))
+
+-- An exponent
+
+-- the sign before an exponent's digits
+abbrev pub exponent_sign : Bool → Text
+exponent_sign negative = if negative then codes "-" else codes "+"
+
+pub exponent_read_signed : (negative : Bool) (digits : Text) → are_digits 10 digits ≡ true
+    → exponent_read (exponent_sign negative ++ digits) ≡ Some (signed negative (digits_value 10 digits))
+exponent_read_signed true digits h = given (are_digits 10 digits) (signed true (digits_value 10 digits)) h
+exponent_read_signed false digits h = given (are_digits 10 digits) (signed false (digits_value 10 digits)) h
+
+-- a mantissa and an exponent that are read give the decimal that both write
+pub scientific_read : (mantissa : Text → Option Decimal) (read : Text → Option ℤ) (text : Text) (decimal : Decimal) (exponent : Option JsonExponent)
+    → ((negative : Bool) (digits : Text) → are_digits 10 digits ≡ true → read (exponent_sign negative ++ digits) ≡ Some (signed negative (digits_value 10 digits)))
+    → mantissa text ≡ Some decimal → HasDigits exponent
+    → scientific mantissa read (text ∷ exponent_parts exponent)
+    ≡ Some (meant_decimal (record { digits = decimal.digits; exponent = decimal.exponent +ℤ exponent_value exponent }))
+scientific_read mantissa read text decimal None reads h e = ap (λ d. scaled d (Some (pos 0))) h
+scientific_read mantissa read text decimal (Some exponent) reads h e =
+    ap (λ d. scaled d (read (exponent_sign (exponent_negative exponent) ++ exponent.digits))) h
+    ∙ ap (scaled (Some decimal)) (reads (exponent_negative exponent) exponent.digits e)
+
+-- The core schema
+
+core_integer_read : (negative : Bool) (c : ℕ) (digits : Text) → list_all is_decimal (c ∷ digits) ≡ true
+    → core_integer (minus negative ++ (c ∷ digits)) ≡ Some (meant_integer (signed negative (digits_value 10 (c ∷ digits))))
+core_integer_read negative c digits h =
+    ap (λ text. if are_digits 10 text then Some (meant_integer (signed (is_negative (minus negative ++ (c ∷ digits))) (digits_value 10 text))) else None)
+    (past_minus negative c digits digit)
+    ∙ ap (λ x. if are_digits 10 (c ∷ digits) then Some (meant_integer (signed x (digits_value 10 (c ∷ digits)))) else None) (minus_read negative c digits digit)
+    ∙ given (are_digits 10 (c ∷ digits)) (meant_integer (signed negative (digits_value 10 (c ∷ digits)))) (some_digits c digits h)
+  where
+    digit : is_decimal c ≡ true
+    digit = (and_parts (is_decimal c) (list_all is_decimal digits) h).0
+
+-- an integer by the core schema
+pub integer_by_core : (negative : Bool) (c : ℕ) (digits : Text) → list_all is_decimal (c ∷ digits) ≡ true
+    → resolved_by_core (minus negative ++ (c ∷ digits)) ≡ meant_integer (signed negative (digits_value 10 (c ∷ digits)))
+integer_by_core negative c digits h =
+    passed (named words_of_core text) (core_integer text ∷ rest) (no_word_of_core negative c digits (and_parts (is_decimal c) (list_all is_decimal digits) h).0)
+    ∙ found (core_integer text) rest _ (core_integer_read negative c digits h)
+  where
+    text : Text
+    text = minus negative ++ (c ∷ digits)
+
+    rest : List (Option Resolved)
+    rest = core_based 0x6F 8 text ∷ core_based 0x78 16 text ∷ core_decimal text ∷ []
+
+-- what follows the whole part of a number that is no integer
+abbrev pub after_whole : (fraction : Text) → Option JsonExponent → Text
+after_whole fraction exponent = codes "." ++ fraction ++ exponent_spelled exponent
+
+-- such a number is more than digits
+not_digits : (c : ℕ) (whole fraction : Text) (exponent : Option JsonExponent) → are_digits 10 ((c ∷ whole) ++ after_whole fraction exponent) ≡ false
+not_digits c whole fraction exponent =
+    and_right (not (length ((c ∷ whole) ++ after_whole fraction exponent) == 0)) (list_all is_decimal ((c ∷ whole) ++ after_whole fraction exponent))
+    (list_all-append is_decimal (c ∷ whole) (after_whole fraction exponent) ∙ and_right (list_all is_decimal (c ∷ whole)) false refl)
+
+core_integer_none : (negative : Bool) (c : ℕ) (rest : Text) → is_decimal c ≡ true → are_digits 10 (c ∷ rest) ≡ false
+    → core_integer (minus negative ++ (c ∷ rest)) ≡ None
+core_integer_none negative c rest digit h =
+    withheld (are_digits 10 (past_sign text)) (meant_integer (signed (is_negative text) (digits_value 10 (past_sign text))))
+    (ap (are_digits 10) (past_minus negative c rest digit) ∙ h)
+  where
+    text : Text
+    text = minus negative ++ (c ∷ rest)
+
+-- no letter begins what follows a digit
+pub no_letter : (letter : ℕ) (digits rest : Text) → is_decimal letter ≡ false → list_all is_decimal digits ≡ true → first_is (λ c. c == letter) rest ≡ false
+    → first_is (λ c. c == letter) (digits ++ rest) ≡ false
+no_letter letter [] rest other h g = g
+no_letter letter (c ∷ digits) rest other h g = digit_unlike c letter other (and_parts (is_decimal c) (list_all is_decimal digits) h).0
+
+core_based_none : (letter base : ℕ) (negative : Bool) (c : ℕ) (rest : Text) → first_is (λ d. d == letter) rest ≡ false
+    → core_based letter base (minus negative ++ (c ∷ rest)) ≡ None
+core_based_none letter base true c rest h = refl
+core_based_none letter base false c [] h = refl
+core_based_none letter base false c (d ∷ rest) h =
+    withheld (c == 0x30 && d == letter && are_digits base rest) (meant_integer (pos (digits_value base rest)))
+    (and_left (c == 0x30 && d == letter) (are_digits base rest) (and_right (c == 0x30) (d == letter) h))
+
+-- a number that is no integer, cut at its exponent
+pub cut_read : (c : ℕ) (whole fraction : Text) (exponent : Option JsonExponent) → list_all is_decimal (c ∷ whole) ≡ true → list_all is_decimal fraction ≡ true
+    → HasDigits exponent
+    → slice_split is_exponent_mark ((c ∷ whole) ++ after_whole fraction exponent) ≡ mantissa_of (c ∷ whole) fraction ∷ exponent_parts exponent
+cut_read c whole fraction exponent h g e =
+    ap (slice_split is_exponent_mark) (sym (append_assoc (c ∷ whole) (codes "." ++ fraction) (exponent_spelled exponent)))
+    ∙ at_exponent (c ∷ whole) fraction exponent h g e
+
+-- what such a number means
+abbrev pub scientific_of : (negative : Bool) → (whole fraction : Text) → Option JsonExponent → Resolved
+scientific_of negative whole fraction exponent = meant_decimal (record {
+  digits = signed negative (digits_value 10 (whole ++ fraction));
+  exponent = neg_ℤ (pos (length fraction)) +ℤ exponent_value exponent;
+})
+
+core_decimal_read : (negative : Bool) (c : ℕ) (whole fraction : Text) (exponent : Option JsonExponent) → list_all is_decimal (c ∷ whole) ≡ true
+    → list_all is_decimal fraction ≡ true → HasDigits exponent
+    → core_decimal (minus negative ++ ((c ∷ whole) ++ after_whole fraction exponent)) ≡ Some (scientific_of negative (c ∷ whole) fraction exponent)
+core_decimal_read negative c whole fraction exponent h g e =
+    ap (λ x. scientific (λ m. core_mantissa x (slice_split is_point m)) exponent_read (slice_split is_exponent_mark (past_sign text)))
+    (minus_read negative c (whole ++ after_whole fraction exponent) digit)
+    ∙ ap (λ t. scientific mantissa exponent_read (slice_split is_exponent_mark t)) (past_minus negative c (whole ++ after_whole fraction exponent) digit)
+    ∙ ap (scientific mantissa exponent_read) (cut_read c whole fraction exponent h g e)
+    ∙ scientific_read mantissa exponent_read (mantissa_of (c ∷ whole) fraction) (decimal_of negative (c ∷ whole) fraction) exponent exponent_read_signed
+    (ap (core_mantissa negative) (at_point (c ∷ whole) fraction h g) ∙ pointed_read negative c whole fraction h g) e
+  where
+    text : Text
+    text = minus negative ++ ((c ∷ whole) ++ after_whole fraction exponent)
+
+    digit : is_decimal c ≡ true
+    digit = (and_parts (is_decimal c) (list_all is_decimal whole) h).0
+
+    mantissa : Text → Option Decimal
+    mantissa m = core_mantissa negative (slice_split is_point m)
+
+-- a number that is no integer, by the core schema
+pub decimal_by_core : (negative : Bool) (c : ℕ) (whole fraction : Text) (exponent : Option JsonExponent) → list_all is_decimal (c ∷ whole) ≡ true
+    → list_all is_decimal fraction ≡ true → HasDigits exponent
+    → resolved_by_core (minus negative ++ ((c ∷ whole) ++ after_whole fraction exponent)) ≡ scientific_of negative (c ∷ whole) fraction exponent
+decimal_by_core negative c whole fraction exponent h g e =
+    passed (named words_of_core text) (core_integer text ∷ core_based 0x6F 8 text ∷ core_based 0x78 16 text ∷ core_decimal text ∷ [])
+    (no_word_of_core negative c rest both.0)
+    ∙ passed (core_integer text) (core_based 0x6F 8 text ∷ core_based 0x78 16 text ∷ core_decimal text ∷ [])
+    (core_integer_none negative c rest both.0 (not_digits c whole fraction exponent))
+    ∙ passed (core_based 0x6F 8 text) (core_based 0x78 16 text ∷ core_decimal text ∷ [])
+    (core_based_none 0x6F 8 negative c rest (no_letter 0x6F whole (after_whole fraction exponent) refl both.1 refl))
+    ∙ passed (core_based 0x78 16 text) (core_decimal text ∷ [])
+    (core_based_none 0x78 16 negative c rest (no_letter 0x78 whole (after_whole fraction exponent) refl both.1 refl))
+    ∙ found (core_decimal text) [] (scientific_of negative (c ∷ whole) fraction exponent) (core_decimal_read negative c whole fraction exponent h g e)
+  where
+    rest : Text
+    rest = whole ++ after_whole fraction exponent
+
+    text : Text
+    text = minus negative ++ (c ∷ rest)
+
+    both : (is_decimal c ≡ true) × (list_all is_decimal whole ≡ true)
+    both = and_parts (is_decimal c) (list_all is_decimal whole) h
