@@ -139,3 +139,191 @@ parts_join text =
 
     fraction : Option Text
     fraction = (fraction_cut (exponent_cut unsigned).0).1
+
+-- The parts of a number's text are the number's
+
+lacks_both : (sign : ℕ) (text rest : Text) → lacks sign text ≡ true → lacks sign rest ≡ true → lacks sign (text ++ rest) ≡ true
+lacks_both sign text rest h g = list_all-append (λ c. not (c == sign)) text rest ∙ and_from (lacks sign text) (lacks sign rest) h g
+
+digits_lack : (sign : ℕ) (digits : Text) → is_decimal sign ≡ false → list_all is_decimal digits ≡ true → lacks sign digits ≡ true
+digits_lack sign [] other h = refl
+digits_lack sign (c ∷ digits) other h =
+    and_from (not (c == sign)) (lacks sign digits) (not_from_false (c == sign) (digit_unlike c sign other both.0)) (digits_lack sign digits other both.1)
+  where
+    both : (is_decimal c ≡ true) × (list_all is_decimal digits ≡ true)
+    both = and_parts (is_decimal c) (list_all is_decimal digits) h
+
+-- digits stand after a point, where there is one
+abbrev AreDigits : Option Text → Type 0
+AreDigits None = ⊤
+AreDigits (Some digits) = list_all is_decimal digits ≡ true
+
+fraction_lacks : (sign : ℕ) (fraction : Option Text) → is_decimal sign ≡ false → (0x2E == sign) ≡ false → AreDigits fraction
+    → lacks sign (fraction_text fraction) ≡ true
+fraction_lacks sign None other point h = refl
+fraction_lacks sign (Some digits) other point h =
+    and_from (not (0x2E == sign)) (lacks sign digits) (not_from_false (0x2E == sign) point) (digits_lack sign digits other h)
+
+fraction_cut_at : (whole : Text) (fraction : Option Text) → list_all is_decimal whole ≡ true → fraction_cut (whole ++ fraction_text fraction) ≡ (whole, fraction)
+fraction_cut_at whole None h =
+    ap fraction_cut (append-nil whole) ∙ ap (λ o. around_point o whole) (cut_none 0x2E whole (digits_lack 0x2E whole refl h))
+fraction_cut_at whole (Some digits) h =
+    ap (λ o. around_point o (whole ++ (codes "." ++ digits))) (cut_found 0x2E whole digits (digits_lack 0x2E whole refl h))
+
+-- the sign before an exponent's digits
+abbrev sign_text : Option Bool → Text
+sign_text sign = elim sign as (λ _. Text) [
+  | None ↦ []
+  | Some negative ↦ if negative then codes "-" else codes "+"
+]
+
+sign_lacks : (sign : Option Bool) → lacks 0x65 (sign_text sign) ≡ true
+sign_lacks None = refl
+sign_lacks (Some true) = refl
+sign_lacks (Some false) = refl
+
+-- an exponent is found in its text
+exponent_found : (capital : Bool) (sign : Option Bool) (digits : Text) → are_digits 10 digits ≡ true
+    → exponent_in capital (sign_text sign ++ digits) ≡ record { capital = capital; sign = sign; digits = digits }
+exponent_found capital (Some true) digits h = refl
+exponent_found capital (Some false) digits h = refl
+exponent_found capital None [] h = absurd (true≢false (sym h))
+exponent_found capital None (c ∷ digits) h =
+    ap (λ s. made s (past_sign (c ∷ digits))) unsigned ∙ ap (made None) (ap (λ x. if x then digits else c ∷ digits) (or_from (c == 0x2B) (c == 0x2D) no_plus no_minus))
+  where
+    made : Option Bool → Text → JsonExponent
+    made sign text = record { capital = capital; sign = sign; digits = text }
+
+    digit : is_decimal c ≡ true
+    digit = (and_parts (is_decimal c) (list_all is_decimal digits) (and_parts (not (length (c ∷ digits) == 0)) (list_all is_decimal (c ∷ digits)) h).1).0
+
+    no_plus : (c == 0x2B) ≡ false
+    no_plus = digit_unlike c 0x2B refl digit
+
+    no_minus : (c == 0x2D) ≡ false
+    no_minus = digit_unlike c 0x2D refl digit
+
+    unsigned : sign_of (c ∷ digits) ≡ None
+    unsigned =
+        ap (λ x. if x then Some true else (if c == 0x2B then Some false else None)) no_minus ∙ ap (λ x. if x then Some false else None) no_plus
+
+exponent_cut_at : (mantissa : Text) (exponent : Option JsonExponent) → lacks 0x65 mantissa ≡ true → lacks 0x45 mantissa ≡ true → HasDigits exponent
+    → exponent_cut (mantissa ++ exponent_text exponent) ≡ (mantissa, exponent)
+exponent_cut_at mantissa None h g e =
+    ap exponent_cut (append-nil mantissa)
+    ∙ ap (λ o. around false o (around true (cut_at 0x45 mantissa) (mantissa, None))) (cut_none 0x65 mantissa h)
+    ∙ ap (λ o. around true o (mantissa, None)) (cut_none 0x45 mantissa g)
+exponent_cut_at mantissa (Some exponent) h g e = by exponent.capital
+  where
+    after : Text
+    after = sign_text exponent.sign ++ exponent.digits
+
+    after_lacks : lacks 0x65 after ≡ true
+    after_lacks =
+        lacks_both 0x65 (sign_text exponent.sign) exponent.digits (sign_lacks exponent.sign)
+        (digits_lack 0x65 exponent.digits refl (and_parts (not (length exponent.digits == 0)) (list_all is_decimal exponent.digits) e).1)
+
+    by : (a : Bool)
+        → exponent_cut (mantissa ++ exponent_text (Some (record { capital = a; sign = exponent.sign; digits = exponent.digits })))
+        ≡ (mantissa, Some (record { capital = a; sign = exponent.sign; digits = exponent.digits }))
+    by false =
+        ap (λ o. around false o (around true (cut_at 0x45 (mantissa ++ (0x65 ∷ after))) (mantissa ++ (0x65 ∷ after), None))) (cut_found 0x65 mantissa after h)
+        ∙ ap (λ found. (mantissa, Some found)) (exponent_found false exponent.sign exponent.digits e)
+    by true =
+        ap (λ o. around false o (around true (cut_at 0x45 (mantissa ++ (0x45 ∷ after))) (mantissa ++ (0x45 ∷ after), None)))
+        (cut_none 0x65 (mantissa ++ (0x45 ∷ after)) (lacks_both 0x65 mantissa (0x45 ∷ after) h after_lacks))
+        ∙ ap (λ o. around true o (mantissa ++ (0x45 ∷ after), None)) (cut_found 0x45 mantissa after g)
+        ∙ ap (λ found. (mantissa, Some found)) (exponent_found true exponent.sign exponent.digits e)
+
+-- the number of a sign, a mantissa and an exponent
+abbrev assembled : Bool → Text × Option JsonExponent → JsonNumber
+assembled negative parts = record {
+  negative = negative;
+  whole = (fraction_cut parts.0).0;
+  fraction = (fraction_cut parts.0).1;
+  exponent = parts.1;
+}
+
+past_minus_at : (negative : Bool) (c : ℕ) (rest : Text) → is_decimal c ≡ true → past_minus (minus negative ++ (c ∷ rest)) ≡ c ∷ rest
+past_minus_at true c rest h = refl
+past_minus_at false c rest h = ap (λ x. if x then rest else c ∷ rest) (digit_unlike c 0x2D refl h)
+
+cut_of : (negative : Bool) (c : ℕ) (whole : Text) (fraction : Option Text) (exponent : Option JsonExponent) → list_all is_decimal (c ∷ whole) ≡ true
+    → AreDigits fraction → HasDigits exponent
+    → number_in (minus negative ++ (((c ∷ whole) ++ fraction_text fraction) ++ exponent_text exponent))
+    ≡ record { negative = negative; whole = c ∷ whole; fraction = fraction; exponent = exponent }
+cut_of negative c whole fraction exponent h g e =
+    ap (λ x. assembled x (exponent_cut (past_minus (minus negative ++ unsigned)))) (minus_read negative c rest digit)
+    ∙ ap (λ t. assembled negative (exponent_cut t)) (past_minus_at negative c rest digit)
+    ∙ ap (assembled negative) (exponent_cut_at mantissa exponent (mantissa_lacks 0x65 refl refl) (mantissa_lacks 0x45 refl refl) e)
+    ∙ ap (λ p. made p.0 p.1) (fraction_cut_at (c ∷ whole) fraction h)
+  where
+    mantissa : Text
+    mantissa = (c ∷ whole) ++ fraction_text fraction
+
+    unsigned : Text
+    unsigned = mantissa ++ exponent_text exponent
+
+    rest : Text
+    rest = (whole ++ fraction_text fraction) ++ exponent_text exponent
+
+    made : Text → Option Text → JsonNumber
+    made w f = record { negative = negative; whole = w; fraction = f; exponent = exponent }
+
+    digit : is_decimal c ≡ true
+    digit = (and_parts (is_decimal c) (list_all is_decimal whole) h).0
+
+    mantissa_lacks : (sign : ℕ) → is_decimal sign ≡ false → (0x2E == sign) ≡ false → lacks sign mantissa ≡ true
+    mantissa_lacks sign other point =
+        lacks_both sign (c ∷ whole) (fraction_text fraction) (digits_lack sign (c ∷ whole) other h) (fraction_lacks sign fraction other point g)
+
+fraction_digits : (fraction : Option Text) → elim fraction as (λ _. Bool) [ None ↦ true | Some digits ↦ are_digits 10 digits ] ≡ true → AreDigits fraction
+fraction_digits None h = tt
+fraction_digits (Some digits) h = (and_parts (not (length digits == 0)) (list_all is_decimal digits) h).1
+
+exponent_digits : (exponent : Option JsonExponent) → elim exponent as (λ _. Bool) [ None ↦ true | Some e ↦ are_digits 10 e.digits ] ≡ true → HasDigits exponent
+exponent_digits None h = tt
+exponent_digits (Some exponent) h = h
+
+cut_of_parts : (negative : Bool) (whole : Text) (fraction : Option Text) (exponent : Option JsonExponent) → is_whole whole ≡ true → AreDigits fraction
+    → HasDigits exponent
+    → number_in (minus negative ++ ((whole ++ fraction_text fraction) ++ exponent_text exponent))
+    ≡ record { negative = negative; whole = whole; fraction = fraction; exponent = exponent }
+cut_of_parts negative [] fraction exponent h g e = absurd (true≢false (sym h))
+cut_of_parts negative (c ∷ whole) fraction exponent h g e =
+    cut_of negative c whole fraction exponent
+    (and_parts (not (length (c ∷ whole) == 0)) (list_all is_decimal (c ∷ whole))
+    (and_parts (are_digits 10 (c ∷ whole)) (is_word (c ∷ whole) (codes "0") || not (c == 0x30)) h).0).1
+    g e
+
+-- the number in the text of a number is that number
+pub number_found : (number : JsonNumber) → is_json_number number ≡ true → number_in (json_text number) ≡ number
+number_found number h =
+    ap number_in
+    (ap (λ t. t ++ exponent_text number.exponent) (append_assoc (minus number.negative) number.whole (fraction_text number.fraction))
+    ∙ append_assoc (minus number.negative) (number.whole ++ fraction_text number.fraction) (exponent_text number.exponent))
+    ∙ cut_of_parts number.negative number.whole number.fraction number.exponent inner.0 (fraction_digits number.fraction inner.1)
+    (exponent_digits number.exponent outer.1)
+  where
+    fraction_valid : Bool
+    fraction_valid = elim number.fraction as (λ _. Bool) [ None ↦ true | Some digits ↦ are_digits 10 digits ]
+
+    exponent_valid : Bool
+    exponent_valid = elim number.exponent as (λ _. Bool) [ None ↦ true | Some exponent ↦ are_digits 10 exponent.digits ]
+
+    outer : ((is_whole number.whole && fraction_valid) ≡ true) × (exponent_valid ≡ true)
+    outer = and_parts (is_whole number.whole && fraction_valid) exponent_valid h
+
+    inner : (is_whole number.whole ≡ true) × (fraction_valid ≡ true)
+    inner = and_parts (is_whole number.whole) fraction_valid outer.0
+
+-- Both ways
+
+-- where the number in a text is valid, the text is that number
+pub text_is_number : (text : Text) → is_json_number (number_in text) ≡ true → IsNumber text (number_in text)
+text_is_number text h = record { valid = h; text_is = sym (parts_join text) }
+
+-- where it isn't, the text is no number
+pub text_is_none : (text : Text) → is_json_number (number_in text) ≡ false → (number : JsonNumber) → IsNumber text number → ⊥
+text_is_none text h number is =
+    true≢false (sym is.valid ∙ ap is_json_number (sym (number_found number is.valid) ∙ ap number_in (sym is.text_is)) ∙ h)
