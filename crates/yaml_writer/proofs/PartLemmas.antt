@@ -1,5 +1,5 @@
 -- A number of JSON has one text, and its text one number: how the parts that are cut out of a text come together.
-use Rattle.std.proofs.Common.{◌≡◌, refl, sym, ap, ◌∙◌, append_assoc, append-nil, arith}
+use Rattle.std.proofs.Common.{◌≡◌, ◌≢◌, Bor, MatchOption, refl, sym, ap, ◌∙◌, append_assoc, append-nil, arith}
 use Rattle.std.proofs.lemmas.Bool.{true≢false, and_parts, and_from, or_from, not-true, not_from_false, eqb-true, ne_eqb, eq-eqb}
 use Rattle.std.proofs.lemmas.List.Folds.{list_all-append}
 use Rattle.std.specs.List.{list_all}
@@ -9,7 +9,7 @@ use Rattle.yaml_base.specs.Script.{is_word}
 use Rattle.yaml_base.specs.Resolved.{is_decimal, first_is, is_negative, past_sign, are_digits}
 use Rattle.yaml_base.specs.JsonNumbers.{JsonNumber, JsonExponent, minus, is_whole, is_json_number, exponent_text, json_text}
 use Rattle.yaml_base.proofs.NumberCuts.{HasDigits, digit_unlike, minus_read}
-use Rattle.yaml_writer.specs.NumberParts.{cut_at, past_minus, sign_of, exponent_in, around, exponent_cut, around_point, fraction_cut, number_in, IsNumber}
+use Rattle.yaml_writer.specs.NumberParts.{cut_at, past_minus, sign_of, exponent_in, around, exponent_cut, around_point, fraction_cut, number_in, IsNumber, IsNoNumber}
 
 -- Cuts
 
@@ -319,11 +319,39 @@ number_found number h =
 
 -- Both ways
 
--- where the number in a text is valid, the text is that number
-pub text_is_number : (text : Text) → is_json_number (number_in text) ≡ true → IsNumber text (number_in text)
-text_is_number text h = record { valid = h; text_is = sym (parts_join text) }
+-- where the number that is cut out of a text is valid, the text is that number
+pub text_is_number : (text : Text) (number : JsonNumber) → number ≡ number_in text → is_json_number number ≡ true → IsNumber text number
+text_is_number text number e h = record { valid = h; text_is = sym (ap json_text e ∙ parts_join text) }
 
 -- where it isn't, the text is no number
-pub text_is_none : (text : Text) → is_json_number (number_in text) ≡ false → (number : JsonNumber) → IsNumber text number → ⊥
-text_is_none text h number is =
-    true≢false (sym is.valid ∙ ap is_json_number (sym (number_found number is.valid) ∙ ap number_in (sym is.text_is)) ∙ h)
+pub text_is_none : (text : Text) (number : JsonNumber) → number ≡ number_in text → is_json_number number ≡ false → IsNoNumber text
+text_is_none text number e h other is =
+    true≢false (sym is.valid ∙ ap is_json_number (sym (number_found other is.valid) ∙ ap number_in (sym is.text_is) ∙ sym e) ∙ h)
+
+-- Code that cuts
+
+-- what `split_once` gives
+pub cut_once : (sign : ℕ) (text : Text) (r : Option (Bor (List ℕ) × Bor (List ℕ)))
+    → MatchOption r ((i : ℕ) → i < length text → get_or text i 0 ≢ sign)
+    (λ x. (text ≡ x.0.now ++ (sign ∷ x.1.now)) × ((i : ℕ) → i < length x.0.now → get_or x.0.now i 0 ≢ sign))
+    → MatchOption r (cut_at sign text ≡ None) (λ x. cut_at sign text ≡ Some (x.0.now, x.1.now))
+cut_once sign text None h = cut_none sign text (lacks_each sign text h)
+cut_once sign text (Some x) h = ap (cut_at sign) h.0 ∙ cut_found sign x.0.now x.1.now (lacks_each sign x.0.now h.1)
+
+-- a text that doesn't begin with a sign
+first_unlike : (sign c : ℕ) (rest : Text) → ((more : Text) → (c ∷ rest) ≢ sign ∷ more) → (c == sign) ≡ false
+first_unlike sign c rest h = ne_eqb c sign (λ e. h rest (ap (λ d. d ∷ rest) e))
+
+pub no_minus : (text : Text) → ((rest : Text) → text ≢ 0x2D ∷ rest) → (is_negative text ≡ false) × (past_minus text ≡ text)
+no_minus [] h = (refl, refl)
+no_minus (c ∷ rest) h = (first_unlike 0x2D c rest h, ap (λ x. if x then rest else c ∷ rest) (first_unlike 0x2D c rest h))
+
+pub no_sign : (text : Text) → ((rest : Text) → text ≢ 0x2D ∷ rest) → ((rest : Text) → text ≢ 0x2B ∷ rest)
+    → (sign_of text ≡ None) × (past_sign text ≡ text)
+no_sign [] h g = (refl, refl)
+no_sign (c ∷ rest) h g =
+    (
+      ap (λ x. if x then Some true else (if c == 0x2B then Some false else None)) (first_unlike 0x2D c rest h)
+          ∙ ap (λ x. if x then Some false else None) (first_unlike 0x2B c rest g),
+      ap (λ x. if x then rest else c ∷ rest) (or_from (c == 0x2B) (c == 0x2D) (first_unlike 0x2B c rest g) (first_unlike 0x2D c rest h)),
+    )

@@ -1,7 +1,7 @@
 -- How a text is cut into the parts of a number of JSON, and what its spelling says of it.
 use Rattle.std.specs.Prelude.{◌≡◌, ℕ, Bool, true, false, Option, None, Some, [], ◌∷◌, ◌==◌, option_map, if◌then◌else◌}
 use Rattle.yaml_base.specs.Characters.{Text}
-use Rattle.yaml_base.specs.Resolved.{is_negative, past_sign}
+use Rattle.yaml_base.specs.Resolved.{is_negative, past_sign, are_digits}
 use Rattle.yaml_base.specs.JsonNumbers.{JsonNumber, JsonExponent, is_json_number, json_text}
 
 -- what stands before and after the first of a sign
@@ -52,3 +52,17 @@ number_in text =
 pub record IsNumber (text : Text) (number : JsonNumber) : Type 0 where
   pub valid : is_json_number number ≡ true
   pub text_is : text ≡ json_text number
+
+-- a text is none
+abbrev pub IsNoNumber : Text → Type 0
+IsNoNumber text = (number : JsonNumber) → IsNumber text number → ⊥
+
+-- digits after the point, or nothing
+abbrev pub is_fraction : Option Text → Bool
+is_fraction None = true
+is_fraction (Some digits) = are_digits 10 digits
+
+-- an exponent that has digits, or none
+abbrev pub is_exponent : Option JsonExponent → Bool
+is_exponent None = true
+is_exponent (Some exponent) = are_digits 10 exponent.digits

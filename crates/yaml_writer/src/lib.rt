@@ -2,6 +2,7 @@
 #![tactic(auto)]
 
 mod laws;
+mod numbers;
 mod texts;
 mod words;
 

@@ -1,0 +1,31 @@
+-- What contracts see of a number of JSON: its parts.
+use Rattle.std.specs.Prelude.{Bool, true, false, Option, option_map}
+use Rattle.yaml_base.specs.JsonNumbers.{JsonNumber, JsonExponent}
+use Rattle.yaml_writer.specs.declared.numbers.Sign.{Sign}
+use Rattle.yaml_writer.specs.declared.numbers.Sign.TheVariants.{Plus, Minus}
+use Rattle.yaml_writer.specs.declared.numbers.Exponent.{Exponent}
+use Rattle.yaml_writer.specs.declared.numbers.Number.{Number}
+
+-- a sign, true being `-`
+abbrev pub is_minus : Sign → Bool
+is_minus Plus = false
+is_minus Minus = true
+
+-- an exponent
+abbrev pub seen_exponent : Exponent → JsonExponent
+seen_exponent exponent =
+    record {
+      capital = exponent.capital;
+      sign = option_map is_minus exponent.sign;
+      digits = exponent.digits.now;
+    }
+
+-- a number
+abbrev pub seen_number : Number → JsonNumber
+seen_number number =
+    record {
+      negative = number.negative;
+      whole = number.whole.now;
+      fraction = option_map (λ fraction. fraction.now) number.fraction;
+      exponent = option_map seen_exponent number.exponent;
+    }

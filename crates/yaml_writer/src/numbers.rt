@@ -1,0 +1,194 @@
+//! Numbers of JSON (RFC 8259, section 6), taken apart.
+ghost use Rattle.std.specs.Prelude.{◌≡◌, ◌<◌, ◌==◌, Some, None, MatchOption, option_map};
+ghost use Rattle.std.specs.List.{list_all};
+ghost use Rattle.yaml_base.specs.JsonNumbers as json;
+ghost use Rattle.yaml_base.specs.Resolved as schema;
+ghost use Rattle.yaml_writer.specs.NumberParts as parts;
+ghost use Rattle.yaml_writer.specs.SeenNumbers.{is_minus, seen_exponent, seen_number};
+
+/// The sign of an exponent.
+#[derive(Clone, Copy)]
+pub enum Sign {
+    Plus,
+    Minus,
+}
+
+/// An exponent, by what stands in it.
+#[derive(Clone, Copy)]
+pub struct Exponent<'a> {
+    /// Whether its letter is `E`, not `e`.
+    pub capital: bool,
+    pub sign: Option<Sign>,
+    pub digits: &'a str,
+}
+
+/// A number, by what stands in it.
+#[derive(Clone, Copy)]
+pub struct Number<'a> {
+    /// Whether it begins with `-`.
+    pub negative: bool,
+    pub whole: &'a str,
+    /// The digits after its point.
+    pub fraction: Option<&'a str>,
+    pub exponent: Option<Exponent<'a>>,
+}
+
+fn cut_at(sign: char, text: &str) -> Option<(&str, &str)>
+    requires { sign < 128 }
+    ensures { MatchOption result (parts.cut_at sign text.now ≡ None) (λ cut. parts.cut_at sign text.now ≡ Some (cut.0.now, cut.1.now)) }
+{
+    text.split_once(sign)
+}
+
+fn sign_cut(text: &str) -> (Option<Sign>, &str)
+    ensures sign { option_map is_minus result.0 ≡ parts.sign_of text.now }
+    ensures digits { result.1.now ≡ schema.past_sign text.now }
+{
+    match text.strip_prefix('-') {
+        Some(digits) => (Some(Sign::Minus), digits),
+        None => match text.strip_prefix('+') {
+            Some(digits) => (Some(Sign::Plus), digits),
+            None => (None, text),
+        },
+    }
+}
+
+/// An exponent, by what follows its letter.
+fn exponent_in(capital: bool, text: &str) -> Exponent<'_>
+    ensures { seen_exponent result ≡ parts.exponent_in capital text.now }
+{
+    let (sign, digits) = sign_cut(text);
+    Exponent {
+        capital,
+        sign,
+        digits,
+    }
+}
+
+/// The mantissa and the exponent of a number without its sign.
+fn exponent_cut(text: &str) -> (&str, Option<Exponent<'_>>)
+    ensures { (result.0.now, option_map seen_exponent result.1) ≡ parts.exponent_cut text.now }
+{
+    match cut_at('e', text) {
+        Some((mantissa, exponent)) => (mantissa, Some(exponent_in(false, exponent))),
+        None => match cut_at('E', text) {
+            Some((mantissa, exponent)) => (mantissa, Some(exponent_in(true, exponent))),
+            None => (text, None),
+        },
+    }
+}
+
+/// The digits before and after the point of a mantissa.
+fn fraction_cut(text: &str) -> (&str, Option<&str>)
+    ensures { (result.0.now, option_map (λ fraction. fraction.now) result.1) ≡ parts.fraction_cut text.now }
+{
+    match cut_at('.', text) {
+        Some((whole, fraction)) => (whole, Some(fraction)),
+        None => (text, None),
+    }
+}
+
+fn minus_cut(text: &str) -> (bool, &str)
+    ensures negative { result.0 ≡ schema.is_negative text.now }
+    ensures rest { result.1.now ≡ parts.past_minus text.now }
+{
+    match text.strip_prefix('-') {
+        Some(rest) => (true, rest),
+        None => (false, text),
+    }
+}
+
+/// The parts of a text, which need not be a number.
+fn parts_of(text: &str) -> Number<'_>
+    ensures { seen_number result ≡ parts.number_in text.now }
+{
+    let (negative, unsigned) = minus_cut(text);
+    let (mantissa, exponent) = exponent_cut(unsigned);
+    let (whole, fraction) = fraction_cut(mantissa);
+    Number {
+        negative,
+        whole,
+        fraction,
+        exponent,
+    }
+}
+
+fn is_decimal(byte: u8) -> bool
+    ensures { result ≡ schema.is_decimal byte }
+{
+    char::from(byte).is_digit(10)
+}
+
+fn is_all_decimal(text: &str) -> bool
+    ensures { result ≡ list_all schema.is_decimal text.now }
+{
+    text.as_bytes().iter().all(|byte| is_decimal(*byte))
+}
+
+/// Whether a text is decimal digits, one or more.
+fn is_digits(text: &str) -> bool
+    ensures { result ≡ schema.are_digits 10 text.now }
+{
+    !text.is_empty() && is_all_decimal(text)
+}
+
+fn begins_with_zero(text: &str) -> bool
+    ensures { result ≡ schema.first_is (λ c. c == 0x30) text.now }
+{
+    match text.as_bytes().first() {
+        None => false,
+        Some(first) => *first == b'0',
+    }
+}
+
+/// Whether a text is `0`, or digits of which the first isn't 0.
+fn is_whole(text: &str) -> bool
+    ensures { result ≡ json.is_whole text.now }
+{
+    is_digits(text) && (text == "0" || !begins_with_zero(text))
+}
+
+fn is_fraction(fraction: Option<&str>) -> bool
+    ensures { result ≡ parts.is_fraction (option_map (λ digits. digits.now) fraction.entry) }
+{
+    match fraction {
+        None => true,
+        Some(digits) => is_digits(digits),
+    }
+}
+
+fn is_exponent(exponent: Option<Exponent<'_>>) -> bool
+    ensures { result ≡ parts.is_exponent (option_map seen_exponent exponent.entry) }
+{
+    match exponent {
+        None => true,
+        Some(exponent) => is_digits(exponent.digits),
+    }
+}
+
+impl Number<'_> {
+    /// Whether digits stand wherever they have to.
+    fn is_valid(&self) -> bool
+        ensures { result ≡ json.is_json_number (seen_number self.now) }
+    {
+        if !is_whole(self.whole) {
+            return false;
+        }
+        if !is_fraction(self.fraction) {
+            return false;
+        }
+        is_exponent(self.exponent)
+    }
+}
+
+/// The number that a text is.
+pub fn number_of(text: &str) -> Option<Number<'_>>
+    ensures { MatchOption result (parts.IsNoNumber text.now) (λ number. parts.IsNumber text.now (seen_number number)) }
+{
+    let number = parts_of(text);
+    if number.is_valid() {
+        Some(number)
+    } else {
+        None
+    }
+}
