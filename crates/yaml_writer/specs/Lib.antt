@@ -1,3 +1,4 @@
 pub mod Words
 pub mod NumberParts
 pub mod SeenNumbers
+pub mod Spellings

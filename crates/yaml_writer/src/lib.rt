@@ -3,6 +3,7 @@
 
 mod laws;
 mod numbers;
+mod spelling;
 mod texts;
 mod words;
 

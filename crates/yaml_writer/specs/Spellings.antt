@@ -1,0 +1,38 @@
+-- The spelling of a number of JSON, for callers.
+use Rattle.std.specs.Prelude.{◌≡◌, List, Bool, true, false, Option, None, Some, ◌&&◌, ◌||◌, not, is_some, ℕ, [], ◌++◌, codes, if◌then◌else◌}
+use Rattle.std.specs.String.{string_bytes}
+use Rattle.yaml_base.specs.Characters.{Text}
+use Rattle.yaml_base.specs.JsonNumbers.{JsonNumber, JsonExponent, is_json_integer, fraction_or, exponent_spelled, yaml_number}
+use Rattle.yaml_writer.specs.NumberParts.{IsNumber}
+use Rattle.yaml_writer.specs.declared.spelling.Spelling.{Spelling}
+use Rattle.yaml_writer.specs.declared.spelling.Spelling.TheVariants.{Unchanged, Changed}
+
+-- a text is a number of JSON, and this its spelling
+pub record Spells (text spelling : Text) : Type 0 where
+  pub number : JsonNumber
+  pub is_number : IsNumber text number
+  pub spelled : spelling ≡ yaml_number number
+
+-- an exponent stands as it is spelled: with `e` and a sign
+abbrev pub is_spelled_exponent : Option JsonExponent → Bool
+is_spelled_exponent None = true
+is_spelled_exponent (Some exponent) = not exponent.capital && is_some exponent.sign
+
+-- a number stands as it is spelled: an integer, or one with a point and such an exponent
+abbrev pub is_spelled : JsonNumber → Bool
+is_spelled number = is_json_integer number || (is_some number.fraction && is_spelled_exponent number.exponent)
+
+-- the bytes of a spelling
+abbrev pub spelling_bytes : {A : Type 0} → Spelling A → List ℕ
+spelling_bytes (Unchanged text) = text.now
+spelling_bytes (Changed text) = string_bytes text
+
+-- what stands before an exponent's digits
+abbrev pub exponent_lead : Option Bool → Text
+exponent_lead None = codes "e" ++ codes "+"
+exponent_lead (Some negative) = codes "e" ++ (if negative then codes "-" else codes "+")
+
+-- what follows a number's whole part
+abbrev pub after_whole : JsonNumber → Text
+after_whole number =
+    if is_json_integer number then [] else codes "." ++ fraction_or (codes "0") number ++ exponent_spelled number.exponent
