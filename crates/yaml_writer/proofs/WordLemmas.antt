@@ -45,10 +45,10 @@ named_without {A} test (entry ∷ table) text other = by (is_word text entry.0) 
 -- Bytes and characters
 
 -- bytes of ASCII
-abbrev is_ascii_text : Text → Bool
+abbrev pub is_ascii_text : Text → Bool
 is_ascii_text bytes = list_all (λ b. nat_lt b 128) bytes
 
-ascii_of : (bytes : List ℕ) → is_ascii_text bytes ≡ true → IsAscii bytes
+pub ascii_of : (bytes : List ℕ) → is_ascii_text bytes ≡ true → IsAscii bytes
 ascii_of [] h i = omega arith
 ascii_of (b ∷ bytes) h zero = ltb-true b 128 (and_parts (nat_lt b 128) (is_ascii_text bytes) h).0
 ascii_of (b ∷ bytes) h (suc i) = ascii_of bytes (and_parts (nat_lt b 128) (is_ascii_text bytes) h).1 i

@@ -1,4 +1,4 @@
-//! Values, written as YAML: which texts may stand plain.
+//! Values, written as YAML: which texts may stand plain, how numbers are spelled.
 #![tactic(auto)]
 
 mod laws;
@@ -8,4 +8,5 @@ mod texts;
 mod words;
 
 pub use laws::{numbers_are_read, surely_text_is_text};
+pub use spelling::{number_spelling, Spelling};
 pub use texts::is_surely_text;

@@ -134,3 +134,29 @@ impl Number<'_> {
         self.fraction.is_some() && is_spelled_exponent(self.exponent)
     }
 }
+
+/// The spelling of a number of JSON (RFC 8259, section 6) which the type repository of YAML 1.1 and the core schema of
+/// YAML 1.2 read as exactly that number: a float has a point and a sign in its exponent. Returns `None` where the text
+/// is no number of JSON. Memory is needed only where the spelling isn't the text.
+///
+/// # Errors
+///
+/// `AllocError` if an allocation fails.
+pub fn number_spelling<'a, A: Allocator>(
+    alloc: A,
+    text: &'a str,
+) -> Result<Option<Spelling<'a, A>>, AllocError>
+    ensures { IfOk result (λ found. MatchOption found (IsNoNumber (chars text.now))
+        (λ spelling. spellings.Spells (chars text.now) (chars (spellings.spelling_bytes spelling)))) }
+{
+    match number_of(text) {
+        None => Ok(None),
+        Some(number) => {
+            if number.is_spelled() {
+                return Ok(Some(Spelling::Unchanged(text)));
+            }
+            let spelled = number.spelled(alloc)?;
+            Ok(Some(Spelling::Changed(spelled)))
+        }
+    }
+}
