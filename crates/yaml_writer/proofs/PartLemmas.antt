@@ -3,10 +3,10 @@ use Rattle.std.proofs.Common.{◌≡◌, ◌≢◌, Bor, MatchOption, refl, sym,
 use Rattle.std.proofs.lemmas.Bool.{true≢false, and_parts, and_from, or_from, not-true, not_from_false, eqb-true, ne_eqb, eq-eqb}
 use Rattle.std.proofs.lemmas.List.Folds.{list_all-append}
 use Rattle.std.specs.List.{list_all}
-use Rattle.std.specs.Prelude.{ℕ, zero, suc, Bool, true, false, Option, None, Some, List, [], ◌∷◌, ◌++◌, ◌<◌, ◌==◌, ◌||◌, ◌&&◌, not, length, get_or, codes, option_map, ⊤, if◌then◌else◌}
+use Rattle.std.specs.Prelude.{ℕ, suc, Bool, true, false, Option, None, Some, List, [], ◌∷◌, ◌++◌, ◌<◌, ◌==◌, ◌||◌, ◌&&◌, not, length, get_or, codes, option_map, ⊤, if◌then◌else◌}
 use Rattle.yaml_base.specs.Characters.{Text}
 use Rattle.yaml_base.specs.Script.{is_word}
-use Rattle.yaml_base.specs.Resolved.{is_decimal, first_is, is_negative, past_sign, are_digits}
+use Rattle.yaml_base.specs.Resolved.{is_decimal, is_negative, past_sign, are_digits}
 use Rattle.yaml_base.specs.JsonNumbers.{JsonNumber, JsonExponent, minus, is_whole, is_json_number, exponent_text, json_text}
 use Rattle.yaml_base.proofs.NumberCuts.{HasDigits, digit_unlike, minus_read}
 use Rattle.yaml_writer.specs.NumberParts.{cut_at, past_minus, sign_of, exponent_in, around, exponent_cut, around_point, fraction_cut, number_in, IsNumber, IsNoNumber}
@@ -349,9 +349,8 @@ no_minus (c ∷ rest) h = (first_unlike 0x2D c rest h, ap (λ x. if x then rest 
 pub no_sign : (text : Text) → ((rest : Text) → text ≢ 0x2D ∷ rest) → ((rest : Text) → text ≢ 0x2B ∷ rest)
     → (sign_of text ≡ None) × (past_sign text ≡ text)
 no_sign [] h g = (refl, refl)
-no_sign (c ∷ rest) h g =
-    (
-      ap (λ x. if x then Some true else (if c == 0x2B then Some false else None)) (first_unlike 0x2D c rest h)
-          ∙ ap (λ x. if x then Some false else None) (first_unlike 0x2B c rest g),
-      ap (λ x. if x then rest else c ∷ rest) (or_from (c == 0x2B) (c == 0x2D) (first_unlike 0x2B c rest g) (first_unlike 0x2D c rest h)),
-    )
+no_sign (c ∷ rest) h g = (
+  ap (λ x. if x then Some true else (if c == 0x2B then Some false else None)) (first_unlike 0x2D c rest h)
+      ∙ ap (λ x. if x then Some false else None) (first_unlike 0x2B c rest g),
+  ap (λ x. if x then rest else c ∷ rest) (or_from (c == 0x2B) (c == 0x2D) (first_unlike 0x2B c rest g) (first_unlike 0x2D c rest h)),
+)

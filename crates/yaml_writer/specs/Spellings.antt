@@ -1,5 +1,5 @@
 -- The spelling of a number of JSON, for callers.
-use Rattle.std.specs.Prelude.{◌≡◌, List, Bool, true, false, Option, None, Some, ◌&&◌, ◌||◌, not, is_some, ℕ, [], ◌++◌, codes, if◌then◌else◌}
+use Rattle.std.specs.Prelude.{◌≡◌, List, Bool, true, Option, None, Some, ◌&&◌, ◌||◌, not, is_some, ℕ, [], ◌++◌, codes, if◌then◌else◌}
 use Rattle.std.specs.String.{string_bytes}
 use Rattle.yaml_base.specs.Characters.{Text}
 use Rattle.yaml_base.specs.JsonNumbers.{JsonNumber, JsonExponent, is_json_integer, fraction_or, exponent_spelled, yaml_number}

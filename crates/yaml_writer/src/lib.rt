@@ -8,5 +8,5 @@ mod texts;
 mod words;
 
 pub use laws::{numbers_are_read, surely_text_is_text};
-pub use spelling::{number_spelling, Spelling};
+pub use spelling::{Spelling, number_spelling};
 pub use texts::is_surely_text;

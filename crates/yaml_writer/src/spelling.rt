@@ -5,7 +5,7 @@ ghost use Rattle.yaml_writer.specs.NumberParts.{IsNoNumber};
 ghost use Rattle.yaml_writer.specs.SeenNumbers.{is_minus, seen_exponent, seen_number};
 ghost use Rattle.yaml_writer.specs.Spellings as spellings;
 
-use crate::numbers::{number_of, Exponent, Number, Sign};
+use crate::numbers::{Exponent, Number, Sign, number_of};
 use std::alloc::{AllocError, Allocator};
 
 /// The spelling of a number.
@@ -30,11 +30,7 @@ impl<A: Allocator> Spelling<'_, A> {
 fn minus(negative: bool) -> &'static str
     ensures { result.now ≡ json.minus negative }
 {
-    if negative {
-        "-"
-    } else {
-        ""
-    }
+    if negative { "-" } else { "" }
 }
 
 /// What stands before the digits of an exponent.
