@@ -7,7 +7,7 @@ use Rattle.yaml_base.specs.Seen.{seen_text, seen_version, seen_directive}
 use Rattle.yaml_base.specs.declared.directives.yaml_version_directive_t.{yaml_version_directive_t}
 use Rattle.yaml_base.specs.declared.directives.yaml_tag_directive_t.{yaml_tag_directive_t}
 use Rattle.yaml_base.specs.Script.{Field, bare, stream_start_of, alone, document_start_of, document_end_of, alias_of, scalar_of, collection_of}
-use Rattle.yaml_tool.specs.Fields.{field_of}
+use Rattle.yaml_tool.specs.Fields.{field_of, no_text, led_by}
 use Rattle.yaml_tool.specs.declared.events.CollectionFields.{CollectionFields}
 use Rattle.yaml_tool.specs.declared.words.EventName.{EventName}
 use Rattle.yaml_tool.specs.declared.words.EventName.TheVariants as name
@@ -51,3 +51,8 @@ seen_versions choice = option_map (λ version. option_map seen_version version) 
 -- directives, where they were read
 abbrev pub seen_directives : {A : Type 0} → Option (Vec (yaml_tag_directive_t A) A) → Option (List TagDirective)
 seen_directives choice = option_map (λ all. map seen_directive all.items) choice
+
+-- the fields of a scalar of style `any` with both flags, without anchor and tag, before others
+abbrev pub usual_lead : Option (List Field) → Option (List Field)
+usual_lead fields =
+    led_by (bare (codes "any")) (led_by (bare (codes "1")) (led_by (bare (codes "1")) (led_by no_text (led_by no_text fields))))

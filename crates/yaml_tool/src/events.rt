@@ -1,16 +1,16 @@
 //! The events of a script's lines.
-ghost use Rattle.std.specs.Prelude.{◌≡◌, None, Some, option_map, option_and_then, MatchOption, IfOk};
+ghost use Rattle.std.specs.Prelude.{◌≡◌, None, Some, option_map, option_and_then, MatchOption, IfOk, IfSome};
 ghost use Rattle.std.specs.Str.{chars};
 ghost use Rattle.yaml_base.specs.Script as notation;
 ghost use Rattle.yaml_base.specs.Seen.{seen_event, seen_text, seen_scalar_style, seen_sequence_style, seen_mapping_style};
 ghost use Rattle.yaml_base.specs.Event.{sequence_start, mapping_start};
-ghost use Rattle.yaml_tool.specs.Events.{event_by, four_fields, seen_versions, seen_directives};
-ghost use Rattle.yaml_tool.specs.Fields.{fields_after};
+ghost use Rattle.yaml_tool.specs.Events.{event_by, four_fields, seen_versions, seen_directives, usual_lead};
+ghost use Rattle.yaml_tool.specs.Fields.{fields_after, text_begun};
 
 use crate::directives::{directives_of, version_or_none};
-use crate::fields::{choice_after, is_end, last_text, last_word, word_after};
+use crate::fields::{choice_after, is_end, last_text, last_word, whole_text, word_after};
 use crate::words::{
-    EventName, encoding_named, flag_named, mapping_style_named, scalar_style_named,
+    EventName, encoding_named, flag_named, mapping_style_named, past_front, scalar_style_named,
     sequence_style_named,
 };
 use std::alloc::{AllocError, Allocator};
@@ -50,6 +50,7 @@ fn document_start_with<A: Allocator>(
 }
 
 /// `+DOC`: whether it is implicit, a version, directives.
+#[inline(never)]
 fn document_start_of<A: Allocator + Copy>(
     alloc: A,
     rest: &str,
@@ -75,6 +76,7 @@ fn document_end_of<A: Allocator>(rest: &str) -> Option<yaml_event_t<A>>
 }
 
 /// `=ALI`: a name.
+#[inline(never)]
 fn alias_of<A: Allocator>(alloc: A, rest: &str) -> Result<Option<yaml_event_t<A>>, AllocError>
     ensures { IfOk result (λ event. option_map seen_event event ≡ option_and_then notation.alias_of (fields_after (chars rest.now))) }
 {
@@ -109,9 +111,49 @@ fn scalar_with<A: Allocator>(
     })
 }
 
-/// `=VAL`: a style, the plain and the quoted flag, an anchor, a tag, a value.
+/// What follows the opening mark of the value, where a scalar's style is `any`, both flags are set, and it has no anchor and no tag.
+#[inline(always)]
+fn past_usual_lead(rest: &str) -> Option<&str>
+    ensures { IfSome result (λ behind. fields_after (chars rest.now) ≡ usual_lead (text_begun (chars behind.now))) }
+{
+    past_front(rest, " any 1 1 - - \"")
+}
+
+/// A scalar of which a line says no more than its value.
+#[inline(always)]
+fn usual_scalar<A: Allocator>(alloc: A, behind: &str) -> Result<Option<yaml_event_t<A>>, AllocError>
+    ensures { IfOk result (λ event. option_map seen_event event ≡ option_and_then notation.scalar_of (usual_lead (text_begun (chars behind.now)))) }
+{
+    match whole_text(alloc, behind)? {
+        Some(value) => Ok(Some(yaml_event_t::YAML_SCALAR_EVENT {
+            style: yaml_scalar_style_t::YAML_ANY_SCALAR_STYLE,
+            plain_implicit: true,
+            quoted_implicit: true,
+            anchor: None,
+            tag: None,
+            value,
+        })),
+        None => Ok(None),
+    }
+}
+
+/// `=VAL`: a style, the plain and the quoted flag, an anchor, a tag, a value. Most scalars are usual ones.
 #[inline(always)]
 fn scalar_of<A: Allocator + Copy>(
+    alloc: A,
+    rest: &str,
+) -> Result<Option<yaml_event_t<A>>, AllocError>
+    ensures { IfOk result (λ event. option_map seen_event event ≡ option_and_then notation.scalar_of (fields_after (chars rest.now))) }
+{
+    match past_usual_lead(rest) {
+        Some(behind) => usual_scalar(alloc, behind),
+        None => any_scalar_of(alloc, rest),
+    }
+}
+
+/// Any scalar, field by field.
+#[inline(never)]
+fn any_scalar_of<A: Allocator + Copy>(
     alloc: A,
     rest: &str,
 ) -> Result<Option<yaml_event_t<A>>, AllocError>
@@ -206,6 +248,7 @@ fn sequence_with<A: Allocator>(
 }
 
 /// `+SEQ`: a style, whether it is implicit, an anchor, a tag.
+#[inline(never)]
 fn sequence_start_of<A: Allocator + Copy>(
     alloc: A,
     rest: &str,
@@ -244,6 +287,7 @@ fn mapping_with<A: Allocator>(
 }
 
 /// `+MAP`: likewise.
+#[inline(never)]
 fn mapping_start_of<A: Allocator + Copy>(
     alloc: A,
     rest: &str,
