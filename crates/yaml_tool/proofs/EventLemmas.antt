@@ -1,16 +1,12 @@
 -- A line's fields, read one after another, are those that the notation asks for.
-use Rattle.std.proofs.Common.{◌≡◌, ℕ, Bor, ◌++◌, append_assoc, Bool, codes, Option, None, Some, option_map, option_and_then, List, [], ◌∷◌, map, refl, sym, ap, ◌∙◌}
+use Rattle.std.proofs.Common.{◌≡◌, ◌++◌, append_assoc, Bool, Option, None, Some, option_map, option_and_then, List, [], ◌∷◌, map, refl, sym, ap, ◌∙◌}
 use Rattle.std.proofs.lemmas.List.{map-append}
-use Rattle.std.specs.Option.{IfSome}
-use Rattle.std.specs.Str.{chars}
 use Rattle.yaml_base.specs.Characters.{Text}
 use Rattle.yaml_base.specs.Event.{Event, TagDirective, ScalarStyle}
-use Rattle.yaml_base.specs.Script.{Field, bare, quoted, named, flags, scalar_styles, text_or_none, scalar_of, scalar_with, directives_of, field_and}
+use Rattle.yaml_base.specs.Script.{Field, bare, quoted, named, flags, scalar_styles, text_or_none, scalar_of, scalar_with, directives_of}
 use Rattle.yaml_base.specs.declared.directives.yaml_tag_directive_t.{yaml_tag_directive_t}
 use Rattle.yaml_base.specs.Seen.{seen_directive}
-use Rattle.yaml_tool.specs.Cuts.{Follows}
-use Rattle.yaml_tool.specs.Fields.{led_by, field_of, no_text, the_text, fields_after, text_begun}
-use Rattle.yaml_tool.specs.Events.{usual_lead}
+use Rattle.yaml_tool.specs.Fields.{led_by, field_of, the_text}
 
 -- the field that stands for a choice is read as it
 choice_read : (choice : Option Text) → text_or_none (field_of choice) ≡ Some choice
@@ -46,21 +42,6 @@ scalar_joined style plain quoted' value anchor tag f0 f1 f2 f3 f4 f5 result a b 
     ∙ sym (scalar_parts style plain quoted' value anchor tag f5 e5)
     ∙ sym (ap (option_and_then scalar_of)
     (e0 ∙ ap (led_by (bare style)) (e1 ∙ ap (led_by (bare plain)) (e2 ∙ ap (led_by (bare quoted')) (e3 ∙ ap (led_by (field_of anchor)) e4)))))
-
--- behind the usual lead a text begins
-usual_fields : (text behind : Text) → text ≡ codes " any 1 1 - - \"" ++ behind → fields_after text ≡ usual_lead (text_begun behind)
-usual_fields text behind is = ap fields_after is ∙ led (text_begun behind)
-  where
-    led : (fields : Option (List Field))
-        → field_and (Some (bare (codes "any"))) (field_and (Some (bare (codes "1"))) (field_and (Some (bare (codes "1"))) (field_and (Some no_text) (field_and (Some no_text) fields))))
-        ≡ usual_lead fields
-    led None = refl
-    led (Some others) = refl
-
-pub usual_behind : (text : List ℕ) (end : Option (Bor (List ℕ))) → IfSome end (λ rest. Follows (codes " any 1 1 - - \"") text rest.now)
-    → IfSome end (λ behind. fields_after (chars text) ≡ usual_lead (text_begun (chars behind.now)))
-usual_behind text None follows = tt
-usual_behind text (Some behind) follows = usual_fields (chars text) (chars behind.now) follows.all
 
 -- ---- directives
 

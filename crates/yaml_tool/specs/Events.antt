@@ -1,13 +1,13 @@
 -- What contracts see of the fields of events.
-use Rattle.std.specs.Prelude.{Option, option_map, option_and_then, List, [], ◌∷◌, map, Vec, codes}
+use Rattle.std.specs.Prelude.{true, Option, None, option_map, option_and_then, List, [], ◌∷◌, map, Vec, codes}
 use Rattle.std.specs.Str.{chars}
 use Rattle.yaml_base.specs.Characters.{Text}
-use Rattle.yaml_base.specs.Event.{Event, Version, TagDirective, stream_end, sequence_start, sequence_end, mapping_start, mapping_end}
+use Rattle.yaml_base.specs.Event.{Event, Version, TagDirective, scalar, any_style, stream_end, sequence_start, sequence_end, mapping_start, mapping_end}
 use Rattle.yaml_base.specs.Seen.{seen_text, seen_version, seen_directive}
 use Rattle.yaml_base.specs.declared.directives.yaml_version_directive_t.{yaml_version_directive_t}
 use Rattle.yaml_base.specs.declared.directives.yaml_tag_directive_t.{yaml_tag_directive_t}
 use Rattle.yaml_base.specs.Script.{Field, bare, stream_start_of, alone, document_start_of, document_end_of, alias_of, scalar_of, collection_of}
-use Rattle.yaml_tool.specs.Fields.{field_of, no_text, led_by}
+use Rattle.yaml_tool.specs.Fields.{field_of}
 use Rattle.yaml_tool.specs.declared.events.CollectionFields.{CollectionFields}
 use Rattle.yaml_tool.specs.declared.words.EventName.{EventName}
 use Rattle.yaml_tool.specs.declared.words.EventName.TheVariants as name
@@ -52,7 +52,7 @@ seen_versions choice = option_map (λ version. option_map seen_version version) 
 abbrev pub seen_directives : {A : Type 0} → Option (Vec (yaml_tag_directive_t A) A) → Option (List TagDirective)
 seen_directives choice = option_map (λ all. map seen_directive all.items) choice
 
--- the fields of a scalar of style `any` with both flags, without anchor and tag, before others
-abbrev pub usual_lead : Option (List Field) → Option (List Field)
-usual_lead fields =
-    led_by (bare (codes "any")) (led_by (bare (codes "1")) (led_by (bare (codes "1")) (led_by no_text (led_by no_text fields))))
+-- a scalar of which no more than its value is said
+abbrev pub usual_event : Text → Event
+usual_event value =
+    scalar (record { anchor = None; tag = None; value = value; plain_implicit = true; quoted_implicit = true; style = any_style })

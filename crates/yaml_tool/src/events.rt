@@ -1,16 +1,16 @@
 //! The events of a script's lines.
-ghost use Rattle.std.specs.Prelude.{◌≡◌, None, Some, option_map, option_and_then, MatchOption, IfOk, IfSome};
+ghost use Rattle.std.specs.Prelude.{◌≡◌, None, Some, option_map, option_and_then, MatchOption, IfOk};
 ghost use Rattle.std.specs.Str.{chars};
 ghost use Rattle.yaml_base.specs.Script as notation;
 ghost use Rattle.yaml_base.specs.Seen.{seen_event, seen_text, seen_scalar_style, seen_sequence_style, seen_mapping_style};
 ghost use Rattle.yaml_base.specs.Event.{sequence_start, mapping_start};
-ghost use Rattle.yaml_tool.specs.Events.{event_by, four_fields, seen_versions, seen_directives, usual_lead};
-ghost use Rattle.yaml_tool.specs.Fields.{fields_after, text_begun};
+ghost use Rattle.yaml_tool.specs.Events.{event_by, four_fields, seen_versions, seen_directives, usual_event};
+ghost use Rattle.yaml_tool.specs.Fields.{fields_after};
 
 use crate::directives::{directives_of, version_or_none};
-use crate::fields::{choice_after, is_end, last_text, last_word, whole_text, word_after};
+use crate::fields::{choice_after, is_end, last_text, last_word, word_after};
 use crate::words::{
-    EventName, encoding_named, flag_named, mapping_style_named, past_front, scalar_style_named,
+    EventName, encoding_named, flag_named, mapping_style_named, scalar_style_named,
     sequence_style_named,
 };
 use std::alloc::{AllocError, Allocator};
@@ -111,49 +111,24 @@ fn scalar_with<A: Allocator>(
     })
 }
 
-/// What follows the opening mark of the value, where a scalar's style is `any`, both flags are set, and it has no anchor and no tag.
+/// A scalar of which no more than its value is said.
 #[inline(always)]
-fn past_usual_lead(rest: &str) -> Option<&str>
-    ensures { IfSome result (λ behind. fields_after (chars rest.now) ≡ usual_lead (text_begun (chars behind.now))) }
+pub fn usual_scalar<A: Allocator>(value: String<A>) -> yaml_event_t<A>
+    ensures { seen_event result ≡ usual_event (seen_text value) }
 {
-    past_front(rest, " any 1 1 - - \"")
-}
-
-/// A scalar of which a line says no more than its value.
-#[inline(always)]
-fn usual_scalar<A: Allocator>(alloc: A, behind: &str) -> Result<Option<yaml_event_t<A>>, AllocError>
-    ensures { IfOk result (λ event. option_map seen_event event ≡ option_and_then notation.scalar_of (usual_lead (text_begun (chars behind.now)))) }
-{
-    match whole_text(alloc, behind)? {
-        Some(value) => Ok(Some(yaml_event_t::YAML_SCALAR_EVENT {
-            style: yaml_scalar_style_t::YAML_ANY_SCALAR_STYLE,
-            plain_implicit: true,
-            quoted_implicit: true,
-            anchor: None,
-            tag: None,
-            value,
-        })),
-        None => Ok(None),
+    yaml_event_t::YAML_SCALAR_EVENT {
+        style: yaml_scalar_style_t::YAML_ANY_SCALAR_STYLE,
+        plain_implicit: true,
+        quoted_implicit: true,
+        anchor: None,
+        tag: None,
+        value,
     }
 }
 
-/// `=VAL`: a style, the plain and the quoted flag, an anchor, a tag, a value. Most scalars are usual ones.
-#[inline(always)]
-fn scalar_of<A: Allocator + Copy>(
-    alloc: A,
-    rest: &str,
-) -> Result<Option<yaml_event_t<A>>, AllocError>
-    ensures { IfOk result (λ event. option_map seen_event event ≡ option_and_then notation.scalar_of (fields_after (chars rest.now))) }
-{
-    match past_usual_lead(rest) {
-        Some(behind) => usual_scalar(alloc, behind),
-        None => any_scalar_of(alloc, rest),
-    }
-}
-
-/// Any scalar, field by field.
+/// `=VAL`: a style, the plain and the quoted flag, an anchor, a tag, a value.
 #[inline(never)]
-fn any_scalar_of<A: Allocator + Copy>(
+fn scalar_of<A: Allocator + Copy>(
     alloc: A,
     rest: &str,
 ) -> Result<Option<yaml_event_t<A>>, AllocError>

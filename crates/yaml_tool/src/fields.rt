@@ -204,8 +204,8 @@ pub fn whole_text<A: Allocator>(alloc: A, behind: &str) -> Result<Option<String<
 pub fn last_text<A: Allocator>(alloc: A, rest: &str) -> Result<Option<String<A>>, AllocError>
     ensures { IfOk result (λ text. option_map seen_text text ≡ option_and_then the_text (fields_after (chars rest.now))) }
 {
-    match text_after(alloc, rest)? {
-        Some((text, rest)) => Ok(if is_end(rest) { Some(text) } else { None }),
+    match past_mark(rest) {
+        Some(behind) => whole_text(alloc, behind),
         None => Ok(None),
     }
 }

@@ -4,7 +4,7 @@ use Rattle.std.specs.Str.{chars}
 use Rattle.yaml_base.specs.Seen.{seen_text, seen_event, seen_scalar_style}
 use Rattle.yaml_tool.specs.Fields.{fields_after}
 use Rattle.yaml_tool.proofs.EventLemmas.{scalar_joined}
-use Rattle.yaml_tool.proofs.events.any_scalar_of.Goals as goal
+use Rattle.yaml_tool.proofs.events.scalar_of.Goals as goal
 
 pub returns : goal.returns
 returns g c =
