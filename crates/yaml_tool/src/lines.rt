@@ -1,7 +1,9 @@
 //! The lines of a script.
-ghost use Rattle.std.specs.Prelude.{◌≡◌, option_map, option_and_then, IfOk, IfSome};
+ghost use Rattle.std.specs.Prelude.{◌≡◌, Some, option_map, option_and_then, IfOk, IfSome};
 ghost use Rattle.std.specs.Str.{chars};
 ghost use Rattle.yaml_base.specs.Script as notation;
+ghost use Rattle.yaml_base.specs.Script.{gives};
+ghost use Rattle.yaml_base.specs.Seen.{seen_event};
 ghost use Rattle.yaml_tool.specs.Fields.{fields_after};
 ghost use Rattle.yaml_tool.specs.Settings.{seen_setting};
 ghost use Rattle.yaml_tool.specs.Lines.{seen_line, usual_line};
@@ -10,7 +12,7 @@ use crate::characters::{cut_once, first_character};
 use crate::events::event_of;
 use crate::fields::{first_word, last_word};
 use crate::settings::{Setting, setting_of};
-use crate::words::{event_named, past_front};
+use crate::words::{event_named, is_word, past_front};
 use std::alloc::{AllocError, Allocator};
 use yaml_base::yaml_event_t;
 
@@ -57,6 +59,20 @@ pub fn usual_value(line: &str) -> Option<&str>
     ensures { IfSome result (λ behind. notation.line_read (chars line.now) ≡ usual_line (chars behind.now)) }
 {
     past_front(line, "=VAL any 1 1 - - \"")
+}
+
+/// The end of a collection, where a line is its name.
+#[inline(always)]
+pub fn end_named<A: Allocator>(line: &str) -> Option<yaml_event_t<A>>
+    ensures { IfSome result (λ event. notation.line_read (chars line.now) ≡ Some (gives (seen_event event))) }
+{
+    if is_word(line, "-MAP") {
+        Some(yaml_event_t::YAML_MAPPING_END_EVENT)
+    } else if is_word(line, "-SEQ") {
+        Some(yaml_event_t::YAML_SEQUENCE_END_EVENT)
+    } else {
+        None
+    }
 }
 
 /// What a line says; none where it is bad.
