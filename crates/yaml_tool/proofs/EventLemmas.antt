@@ -1,12 +1,12 @@
 -- A line's fields, read one after another, are those that the notation asks for.
-use Rattle.std.proofs.Common.{◌≡◌, ◌++◌, append_assoc, Bool, Option, None, Some, option_map, option_and_then, List, [], ◌∷◌, map, refl, sym, ap, ◌∙◌}
+use Rattle.std.proofs.Common.{◌≡◌, ◌++◌, append_assoc, codes, Bool, Option, None, Some, option_map, option_and_then, List, [], ◌∷◌, map, refl, sym, ap, ◌∙◌}
 use Rattle.std.proofs.lemmas.List.{map-append}
 use Rattle.yaml_base.specs.Characters.{Text}
 use Rattle.yaml_base.specs.Event.{Event, TagDirective, ScalarStyle}
 use Rattle.yaml_base.specs.Script.{Field, bare, quoted, named, flags, scalar_styles, text_or_none, scalar_of, scalar_with, directives_of}
 use Rattle.yaml_base.specs.declared.directives.yaml_tag_directive_t.{yaml_tag_directive_t}
 use Rattle.yaml_base.specs.Seen.{seen_directive}
-use Rattle.yaml_tool.specs.Fields.{led_by, field_of, the_text}
+use Rattle.yaml_tool.specs.Fields.{led_by, field_of, no_text, the_text, fields_after}
 
 -- the field that stands for a choice is read as it
 choice_read : (choice : Option Text) → text_or_none (field_of choice) ≡ Some choice
@@ -42,6 +42,11 @@ scalar_joined style plain quoted' value anchor tag f0 f1 f2 f3 f4 f5 result a b 
     ∙ sym (scalar_parts style plain quoted' value anchor tag f5 e5)
     ∙ sym (ap (option_and_then scalar_of)
     (e0 ∙ ap (led_by (bare style)) (e1 ∙ ap (led_by (bare plain)) (e2 ∙ ap (led_by (bare quoted')) (e3 ∙ ap (led_by (field_of anchor)) e4)))))
+
+-- a collection of which no more than its style is said
+pub usual_collection : (style text : Text) (fields : Option (List Field)) → fields ≡ led_by (bare style) (fields_after text) → text ≡ codes " 1 - -"
+    → fields ≡ Some (bare style ∷ bare (codes "1") ∷ no_text ∷ no_text ∷ [])
+usual_collection style text fields led is = led ∙ ap (λ (t : Text). led_by (bare style) (fields_after t)) is
 
 -- ---- directives
 

@@ -1,12 +1,14 @@
 -- What lines say, by their first field and by their bytes.
-use Rattle.std.proofs.Common.{◌≡◌, ℕ, Bool, true, false, Option, None, Some, option_map, option_and_then, List, [], ◌∷◌, refl, ap, sym, ◌∙◌, if◌then◌else◌}
-use Rattle.std.specs.Option.{option_or}
+use Rattle.std.proofs.Common.{◌≡◌, ℕ, Bor, Bool, true, false, codes, Option, None, Some, option_map, option_and_then, List, [], ◌∷◌, refl, ap, sym, ◌∙◌, if◌then◌else◌}
+use Rattle.std.specs.Option.{option_or, IfSome}
 use Rattle.std.specs.Str.{chars, IsUtf8, is_utf8}
 use Rattle.std.proofs.lemmas.Str.{is_utf8-from_IsUtf8, IsUtf8-from_is_utf8}
 use Rattle.yaml_base.specs.Event.{Event}
-use Rattle.yaml_base.specs.Script.{Setting, Field, bare, quoted, sets, gives, setting_of, setting_line, event_of, line_of, line_read, line_understood}
-use Rattle.yaml_tool.specs.Events.{event_word, event_by}
-use Rattle.yaml_tool.specs.Fields.{led_by}
+use Rattle.yaml_base.specs.Script.{Setting, Field, bare, quoted, field_and, sets, gives, setting_of, setting_line, event_of, line_of, line_read, line_understood}
+use Rattle.yaml_tool.specs.Cuts.{Follows}
+use Rattle.yaml_tool.specs.Events.{event_word, event_by, usual_event}
+use Rattle.yaml_tool.specs.Fields.{led_by, the_text, text_begun}
+use Rattle.yaml_tool.specs.Lines.{usual_line}
 use Rattle.yaml_tool.specs.declared.words.EventName.{EventName}
 use Rattle.yaml_tool.specs.declared.words.EventName.TheVariants as name
 use Rattle.yaml_base.specs.Characters.{Text}
@@ -96,3 +98,21 @@ no_utf8 bytes false told is_not = refl
 pub bytes_said_nothing : (bytes : List ℕ) → ¬ (IsUtf8 bytes) → line_understood bytes ≡ None
 bytes_said_nothing bytes is_not = ap (λ (b : Bool). if b then line_read (chars bytes) else None)
     (no_utf8 bytes (is_utf8 bytes) (IsUtf8-from_is_utf8 bytes) is_not)
+
+-- ---- a usual scalar's line
+
+usual_fields : (fields : Option (List Field))
+    → option_and_then line_of (field_and (Some (bare (codes "=VAL"))) (field_and (Some (bare (codes "any"))) (field_and (Some (bare (codes "1")))
+    (field_and (Some (bare (codes "1"))) (field_and (Some (bare (codes "-"))) (field_and (Some (bare (codes "-"))) fields))))))
+    ≡ option_map (λ value. gives (usual_event value)) (option_and_then the_text fields)
+usual_fields None = refl
+usual_fields (Some []) = refl
+usual_fields (Some (bare word ∷ rest)) = refl
+usual_fields (Some (quoted text ∷ [])) = refl
+usual_fields (Some (quoted text ∷ other ∷ rest)) = refl
+
+-- it says a scalar whose value is all that follows
+pub usual_said : (line : List ℕ) (end : Option (Bor (List ℕ))) → IfSome end (λ rest. Follows (codes "=VAL any 1 1 - - \"") line rest.now)
+    → IfSome end (λ behind. line_read (chars line) ≡ usual_line (chars behind.now))
+usual_said line None follows = tt
+usual_said line (Some behind) follows = ap line_read follows.all ∙ usual_fields (text_begun (chars behind.now))

@@ -29,3 +29,8 @@ pub record SkipsTo (first second : ℕ) (text end : List ℕ) : Type 0 where
   pub ends : EndsIn text end
   pub is_end : IsUtf8 end
   pub free : IsFree first (chars (front_of text end)) × IsFree second (chars (front_of text end))
+
+-- the text is these characters, then those of the rest
+pub record Follows (front text rest : List ℕ) : Type 0 where
+  pub is_rest : IsUtf8 rest
+  pub all : chars text ≡ front ++ chars rest

@@ -1,8 +1,8 @@
 -- What contracts see of the fields of events.
-use Rattle.std.specs.Prelude.{Option, option_map, option_and_then, List, [], ◌∷◌, map, Vec, codes}
+use Rattle.std.specs.Prelude.{true, Option, None, option_map, option_and_then, List, [], ◌∷◌, map, Vec, codes}
 use Rattle.std.specs.Str.{chars}
 use Rattle.yaml_base.specs.Characters.{Text}
-use Rattle.yaml_base.specs.Event.{Event, Version, TagDirective, stream_end, sequence_start, sequence_end, mapping_start, mapping_end}
+use Rattle.yaml_base.specs.Event.{Event, Version, TagDirective, scalar, any_style, stream_end, sequence_start, sequence_end, mapping_start, mapping_end}
 use Rattle.yaml_base.specs.Seen.{seen_text, seen_version, seen_directive}
 use Rattle.yaml_base.specs.declared.directives.yaml_version_directive_t.{yaml_version_directive_t}
 use Rattle.yaml_base.specs.declared.directives.yaml_tag_directive_t.{yaml_tag_directive_t}
@@ -51,3 +51,8 @@ seen_versions choice = option_map (λ version. option_map seen_version version) 
 -- directives, where they were read
 abbrev pub seen_directives : {A : Type 0} → Option (Vec (yaml_tag_directive_t A) A) → Option (List TagDirective)
 seen_directives choice = option_map (λ all. map seen_directive all.items) choice
+
+-- a scalar of which no more than its value is said
+abbrev pub usual_event : Text → Event
+usual_event value =
+    scalar (record { anchor = None; tag = None; value = value; plain_implicit = true; quoted_implicit = true; style = any_style })

@@ -1,7 +1,11 @@
 -- What contracts see of lines.
+use Rattle.std.specs.Prelude.{Option, option_map, option_and_then}
+use Rattle.yaml_base.specs.Characters.{Text}
 use Rattle.yaml_base.specs.Seen.{seen_event}
 use Rattle.yaml_base.specs.Script as notation
 use Rattle.yaml_base.specs.Script.{says_nothing, sets, gives}
+use Rattle.yaml_tool.specs.Events.{usual_event}
+use Rattle.yaml_tool.specs.Fields.{the_text, text_begun}
 use Rattle.yaml_tool.specs.Settings.{seen_setting}
 use Rattle.yaml_tool.specs.declared.lines.Line.{Line}
 use Rattle.yaml_tool.specs.declared.lines.Line.TheVariants.{Nothing, Sets, Gives}
@@ -11,3 +15,7 @@ abbrev pub seen_line : {A : Type 0} → Line A → notation.Line
 seen_line Nothing = says_nothing
 seen_line (Sets setting) = sets (seen_setting setting)
 seen_line (Gives event) = gives (seen_event event)
+
+-- a usual scalar's line, without all before its value's opening mark
+abbrev pub usual_line : Text → Option notation.Line
+usual_line behind = option_map (λ value. gives (usual_event value)) (option_and_then the_text (text_begun behind))

@@ -20,8 +20,12 @@ abbrev pub seen_progress : {A : Type 0} → Progress A → notation.Sofar
 seen_progress progress = record { settings = map seen_setting progress.settings.items; events = map seen_numbered progress.events.items }
 
 -- what the lines so far and one more say, where that is good
+abbrev pub after_said : ℕ → notation.Sofar → Option notation.Line → Option notation.Sofar
+after_said number before line = option_and_then (notation.with_line number before) line
+
+-- the same of the line's bytes
 abbrev pub after_line : ℕ → notation.Sofar → List ℕ → Option notation.Sofar
-after_line number before line = option_and_then (notation.with_line number before) (notation.line_understood line)
+after_line number before line = after_said number before (notation.line_understood line)
 
 -- the first line ends at the first LF, or is all
 abbrev pub CutsLine : List ℕ → List ℕ → Option (Bor (List ℕ)) → Type 0

@@ -1,17 +1,17 @@
 //! The events of a script's lines.
-ghost use Rattle.std.specs.Prelude.{◌≡◌, None, Some, option_map, option_and_then, MatchOption, IfOk};
+ghost use Rattle.std.specs.Prelude.{◌≡◌, true, None, Some, option_map, option_and_then, MatchOption, IfOk};
 ghost use Rattle.std.specs.Str.{chars};
 ghost use Rattle.yaml_base.specs.Script as notation;
 ghost use Rattle.yaml_base.specs.Seen.{seen_event, seen_text, seen_scalar_style, seen_sequence_style, seen_mapping_style};
 ghost use Rattle.yaml_base.specs.Event.{sequence_start, mapping_start};
-ghost use Rattle.yaml_tool.specs.Events.{event_by, four_fields, seen_versions, seen_directives};
-ghost use Rattle.yaml_tool.specs.Fields.{fields_after};
+ghost use Rattle.yaml_tool.specs.Events.{event_by, four_fields, seen_versions, seen_directives, usual_event};
+ghost use Rattle.yaml_tool.specs.Fields.{fields_after, text_begun, the_text};
 
 use crate::directives::{directives_of, version_or_none};
-use crate::fields::{choice_after, is_end, last_text, last_word, word_after};
+use crate::fields::{choice_after, is_end, last_text, last_word, whole_text, word_after};
 use crate::words::{
-    EventName, encoding_named, flag_named, mapping_style_named, scalar_style_named,
-    sequence_style_named,
+    EventName, encoding_named, flag_named, is_word, mapping_style_named, past_front,
+    scalar_style_named, sequence_style_named,
 };
 use std::alloc::{AllocError, Allocator};
 use yaml_base::{
@@ -50,6 +50,7 @@ fn document_start_with<A: Allocator>(
 }
 
 /// `+DOC`: whether it is implicit, a version, directives.
+#[inline(never)]
 fn document_start_of<A: Allocator + Copy>(
     alloc: A,
     rest: &str,
@@ -75,6 +76,7 @@ fn document_end_of<A: Allocator>(rest: &str) -> Option<yaml_event_t<A>>
 }
 
 /// `=ALI`: a name.
+#[inline(never)]
 fn alias_of<A: Allocator>(alloc: A, rest: &str) -> Result<Option<yaml_event_t<A>>, AllocError>
     ensures { IfOk result (λ event. option_map seen_event event ≡ option_and_then notation.alias_of (fields_after (chars rest.now))) }
 {
@@ -109,8 +111,40 @@ fn scalar_with<A: Allocator>(
     })
 }
 
-/// `=VAL`: a style, the plain and the quoted flag, an anchor, a tag, a value.
+/// A scalar of which no more than its value is said.
 #[inline(always)]
+pub fn usual_scalar<A: Allocator>(value: String<A>) -> yaml_event_t<A>
+    ensures { seen_event result ≡ usual_event (seen_text value) }
+{
+    yaml_event_t::YAML_SCALAR_EVENT {
+        style: yaml_scalar_style_t::YAML_ANY_SCALAR_STYLE,
+        plain_implicit: true,
+        quoted_implicit: true,
+        anchor: None,
+        tag: None,
+        value,
+    }
+}
+
+/// A scalar of which no more than its style and its value is said; the value's opening mark stands before the text.
+#[inline(always)]
+fn styled_scalar<A: Allocator>(
+    alloc: A,
+    style: Option<yaml_scalar_style_t>,
+    behind: &str,
+) -> Result<Option<yaml_event_t<A>>, AllocError>
+    ensures { IfOk result (λ event. option_map seen_event event
+        ≡ option_and_then (notation.scalar_with (option_map seen_scalar_style style) (Some true) (Some true) (Some None) (Some None))
+        (option_and_then the_text (text_begun (chars behind.now)))) }
+{
+    match whole_text(alloc, behind)? {
+        Some(value) => Ok(scalar_with(style, Some(true), Some(true), None, None, value)),
+        None => Ok(None),
+    }
+}
+
+/// `=VAL`: a style, the plain and the quoted flag, an anchor, a tag, a value.
+#[inline(never)]
 fn scalar_of<A: Allocator + Copy>(
     alloc: A,
     rest: &str,
@@ -120,6 +154,9 @@ fn scalar_of<A: Allocator + Copy>(
     let Some((style, rest)) = word_after(rest) else {
         return Ok(None);
     };
+    if let Some(behind) = past_front(rest, " 1 1 - - \"") {
+        return styled_scalar(alloc, scalar_style_named(style), behind);
+    }
     let Some((plain_implicit, rest)) = word_after(rest) else {
         return Ok(None);
     };
@@ -154,7 +191,7 @@ struct CollectionFields<'a, A: Allocator> {
     tag: Option<String<A>>,
 }
 
-/// Two words and two texts, each of which may be `-`.
+/// Two words and two texts, each of which may be `-`. Most collections are implicit and have neither anchor nor tag.
 fn collection_fields<A: Allocator + Copy>(
     alloc: A,
     rest: &str,
@@ -166,6 +203,14 @@ fn collection_fields<A: Allocator + Copy>(
     let Some((style, rest)) = word_after(rest) else {
         return Ok(None);
     };
+    if is_word(rest, " 1 - -") {
+        return Ok(Some(CollectionFields {
+            style,
+            implicit: "1",
+            anchor: None,
+            tag: None,
+        }));
+    }
     let Some((implicit, rest)) = word_after(rest) else {
         return Ok(None);
     };
@@ -206,6 +251,7 @@ fn sequence_with<A: Allocator>(
 }
 
 /// `+SEQ`: a style, whether it is implicit, an anchor, a tag.
+#[inline(never)]
 fn sequence_start_of<A: Allocator + Copy>(
     alloc: A,
     rest: &str,
@@ -244,6 +290,7 @@ fn mapping_with<A: Allocator>(
 }
 
 /// `+MAP`: likewise.
+#[inline(never)]
 fn mapping_start_of<A: Allocator + Copy>(
     alloc: A,
     rest: &str,

@@ -190,12 +190,22 @@ pub fn text_after<A: Allocator>(
     }
 }
 
+/// What the text after an opening mark stands for, where nothing follows it.
+pub fn whole_text<A: Allocator>(alloc: A, behind: &str) -> Result<Option<String<A>>, AllocError>
+    ensures { IfOk result (λ text. option_map seen_text text ≡ option_and_then the_text (text_begun (chars behind.now))) }
+{
+    match begun_text(alloc, behind)? {
+        Some((text, rest)) => Ok(if is_end(rest) { Some(text) } else { None }),
+        None => Ok(None),
+    }
+}
+
 /// The next field, where it is a text and the line's last.
 pub fn last_text<A: Allocator>(alloc: A, rest: &str) -> Result<Option<String<A>>, AllocError>
     ensures { IfOk result (λ text. option_map seen_text text ≡ option_and_then the_text (fields_after (chars rest.now))) }
 {
-    match text_after(alloc, rest)? {
-        Some((text, rest)) => Ok(if is_end(rest) { Some(text) } else { None }),
+    match past_mark(rest) {
+        Some(behind) => whole_text(alloc, behind),
         None => Ok(None),
     }
 }

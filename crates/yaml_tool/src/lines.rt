@@ -1,18 +1,19 @@
 //! The lines of a script.
-ghost use Rattle.std.specs.Prelude.{◌≡◌, option_map, option_and_then, IfOk};
+ghost use Rattle.std.specs.Prelude.{◌≡◌, Some, option_map, option_and_then, IfOk, IfSome};
 ghost use Rattle.std.specs.Str.{chars};
 ghost use Rattle.yaml_base.specs.Script as notation;
+ghost use Rattle.yaml_base.specs.Script.{gives};
+ghost use Rattle.yaml_base.specs.Seen.{seen_event};
 ghost use Rattle.yaml_tool.specs.Fields.{fields_after};
 ghost use Rattle.yaml_tool.specs.Settings.{seen_setting};
-ghost use Rattle.yaml_tool.specs.Lines.{seen_line};
+ghost use Rattle.yaml_tool.specs.Lines.{seen_line, usual_line};
 
 use crate::characters::{cut_once, first_character};
 use crate::events::event_of;
 use crate::fields::{first_word, last_word};
 use crate::settings::{Setting, setting_of};
-use crate::words::event_named;
+use crate::words::{event_named, is_word, past_front};
 use std::alloc::{AllocError, Allocator};
-use std::str;
 use yaml_base::yaml_event_t;
 
 /// What a line says.
@@ -52,8 +53,30 @@ fn line_of<A: Allocator + Copy>(alloc: A, line: &str) -> Result<Option<Line<A>>,
     }
 }
 
+/// What follows the opening mark of the value, where a scalar's style is `any`, both flags are set, and it has no anchor and no tag.
+#[inline(always)]
+pub fn usual_value(line: &str) -> Option<&str>
+    ensures { IfSome result (λ behind. notation.line_read (chars line.now) ≡ usual_line (chars behind.now)) }
+{
+    past_front(line, "=VAL any 1 1 - - \"")
+}
+
+/// The end of a collection, where a line is its name.
+#[inline(always)]
+pub fn end_named<A: Allocator>(line: &str) -> Option<yaml_event_t<A>>
+    ensures { IfSome result (λ event. notation.line_read (chars line.now) ≡ Some (gives (seen_event event))) }
+{
+    if is_word(line, "-MAP") {
+        Some(yaml_event_t::YAML_MAPPING_END_EVENT)
+    } else if is_word(line, "-SEQ") {
+        Some(yaml_event_t::YAML_SEQUENCE_END_EVENT)
+    } else {
+        None
+    }
+}
+
 /// What a line says; none where it is bad.
-fn line_read<A: Allocator + Copy>(alloc: A, line: &str) -> Result<Option<Line<A>>, AllocError>
+pub fn line_read<A: Allocator + Copy>(alloc: A, line: &str) -> Result<Option<Line<A>>, AllocError>
     ensures { IfOk result (λ read. option_map seen_line read ≡ notation.line_read (chars line.now)) }
 {
     let Some((first, rest)) = first_character(line) else {
@@ -65,18 +88,5 @@ fn line_read<A: Allocator + Copy>(alloc: A, line: &str) -> Result<Option<Line<A>
     match cut_once('\r', rest) {
         None => Ok(Some(Line::Nothing)),
         Some(_) => Ok(None),
-    }
-}
-
-/// What a line's bytes say: they have to be UTF-8.
-pub fn line_understood<A: Allocator + Copy>(
-    alloc: A,
-    bytes: &[u8],
-) -> Result<Option<Line<A>>, AllocError>
-    ensures { IfOk result (λ line. option_map seen_line line ≡ notation.line_understood bytes.now) }
-{
-    match str::from_utf8(bytes) {
-        Ok(text) => line_read(alloc, text),
-        Err(_) => Ok(None),
     }
 }

@@ -1,14 +1,18 @@
 //! Whole scripts.
 ghost use Rattle.std.specs.Prelude.{◌≡◌, map, Some, None, IfOk, IfErr, if◌then◌else◌};
+ghost use Rattle.std.specs.Str.{chars};
 ghost use Rattle.yaml_base.specs.Script as notation;
 ghost use Rattle.yaml_tool.specs.Settings.{seen_setting, seen_settings};
-ghost use Rattle.yaml_tool.specs.Lines.{seen_line};
-ghost use Rattle.yaml_tool.specs.Scripts.{seen_progress, seen_numbered, after_line, CutsLine, IsFaultOf};
+ghost use Rattle.yaml_tool.specs.Lines.{seen_line, usual_line};
+ghost use Rattle.yaml_tool.specs.Scripts.{seen_progress, seen_numbered, after_line, after_said, CutsLine, IsFaultOf};
 
-use crate::lines::{Line, line_understood};
+use crate::events::usual_scalar;
+use crate::fields::whole_text;
+use crate::lines::{Line, end_named, line_read, usual_value};
 use crate::settings::{Setting, Settings, is_set, settings_of};
 use memchr::memchr;
 use std::alloc::{AllocError, Allocator};
+use std::str;
 use yaml_base::yaml_event_t;
 
 /// An event and the number of its line.
@@ -55,7 +59,20 @@ impl<A: Allocator> Progress<A> {
         self.events.is_empty() && !is_set(setting, self.settings.as_slice())
     }
 
+    /// Takes a usual scalar's line, whose value's opening mark stands before this text; answers whether it is good.
+    #[inline(always)]
+    fn take_usual(&mut self, alloc: A, number: u64, behind: &str) -> Result<bool, AllocError>
+        ensures { IfOk result (λ taken. after_said number (seen_progress self.old) (usual_line (chars behind.now))
+            ≡ (if taken then Some (seen_progress self.new) else None)) }
+    {
+        match whole_text(alloc, behind)? {
+            Some(value) => self.take_line(number, Line::Gives(usual_scalar(value))),
+            None => Ok(false),
+        }
+    }
+
     /// Takes a line, and answers whether it may stand there.
+    #[inline(always)]
     fn take_line(&mut self, number: u64, line: Line<A>) -> Result<bool, AllocError>
         ensures { IfOk result (λ taken. notation.with_line number (seen_progress self.old) (seen_line line)
             ≡ (if taken then Some (seen_progress self.new) else None)) }
@@ -125,7 +142,8 @@ pub fn read_script<A: Allocator + Copy>(alloc: A, bytes: &[u8]) -> Result<Script
     }
 }
 
-/// Understands a line and takes it; answers whether it is good.
+/// Understands a line and takes it; answers whether it is good. Its bytes have to be UTF-8.
+#[inline(always)]
 fn line_taken<A: Allocator + Copy>(
     alloc: A,
     progress: &mut Progress<A>,
@@ -134,7 +152,44 @@ fn line_taken<A: Allocator + Copy>(
 ) -> Result<bool, AllocError>
     ensures { IfOk result (λ taken. after_line number (seen_progress progress.old) line.now ≡ (if taken then Some (seen_progress progress.new) else None)) }
 {
-    match line_understood(alloc, line)? {
+    match str::from_utf8(line) {
+        Ok(text) => text_taken(alloc, progress, number, text),
+        Err(_) => Ok(false),
+    }
+}
+
+/// Takes a line's text. Most lines are those of usual scalars, and of the ends of collections.
+#[inline(always)]
+fn text_taken<A: Allocator + Copy>(
+    alloc: A,
+    progress: &mut Progress<A>,
+    number: u64,
+    line: &str,
+) -> Result<bool, AllocError>
+    ensures { IfOk result (λ taken. after_said number (seen_progress progress.old) (notation.line_read (chars line.now))
+        ≡ (if taken then Some (seen_progress progress.new) else None)) }
+{
+    match usual_value(line) {
+        Some(behind) => progress.take_usual(alloc, number, behind),
+        None => match end_named(line) {
+            Some(event) => progress.take_line(number, Line::Gives(event)),
+            None => any_text_taken(alloc, progress, number, line),
+        },
+    }
+}
+
+/// Takes any line's text.
+#[inline(never)]
+fn any_text_taken<A: Allocator + Copy>(
+    alloc: A,
+    progress: &mut Progress<A>,
+    number: u64,
+    line: &str,
+) -> Result<bool, AllocError>
+    ensures { IfOk result (λ taken. after_said number (seen_progress progress.old) (notation.line_read (chars line.now))
+        ≡ (if taken then Some (seen_progress progress.new) else None)) }
+{
+    match line_read(alloc, line)? {
         Some(line) => progress.take_line(number, line),
         None => Ok(false),
     }

@@ -1,9 +1,10 @@
 //! The words of a script's lines, and what they mean.
-ghost use Rattle.std.specs.Prelude.{◌≡◌, None, List, MatchOption, option_map, nat_lt, IsTrue};
+ghost use Rattle.std.specs.Prelude.{◌≡◌, None, List, MatchOption, IfSome, option_map, nat_lt, IsTrue};
 ghost use Rattle.std.specs.List.{list_all};
 ghost use Rattle.std.specs.Str.{bytes_eq, chars};
 ghost use Rattle.yaml_base.specs.Script as notation;
 ghost use Rattle.yaml_base.specs.Seen.{seen_encoding, seen_break, seen_scalar_style, seen_sequence_style, seen_mapping_style};
+ghost use Rattle.yaml_tool.specs.Cuts.{Follows};
 ghost use Rattle.yaml_tool.specs.Events.{event_word};
 
 use yaml_base::{
@@ -38,6 +39,22 @@ fn is_same(word: &[u8], name: &[u8]) -> bool
             ([], []) => return true,
             ([_, ..], []) | ([], [_, ..]) => return false,
         }
+    }
+}
+
+/// What follows a front, which is ASCII, in a text that begins with it.
+#[inline(always)]
+pub fn past_front<'a>(text: &'a str, front: &'static str) -> Option<&'a str>
+    requires { IsTrue (list_all (λ byte. nat_lt byte 128) front.now) }
+    ensures { IfSome result (λ rest. Follows front.now text.now rest.now) }
+{
+    if text.len() < front.len() {
+        return None;
+    }
+    if is_same(&text.as_bytes()[..front.len()], front.as_bytes()) {
+        Some(&text[front.len()..])
+    } else {
+        None
     }
 }
 

@@ -14,8 +14,8 @@ returns g c =
     (fields_after (chars c.args.rest.now)) (fields_after (chars c.in-Some.rest.now)) (fields_after (chars c.in-Some-word_after.rest.now))
     (fields_after (chars c.in-Some-word_after-2.rest.now))
     (fields_after (chars c.in-Some-2.rest.now)) (fields_after (chars c.in-Some-3.rest.now))
-    (option_map seen_event c.scalar_with.result) (option_map seen_scalar_style c.scalar_style_named.result) c.flag_named.result c.flag_named-2.result
+    (option_map seen_event c.scalar_with.result) (option_map seen_scalar_style c.scalar_style_named-2.result) c.flag_named.result c.flag_named-2.result
     c.in-Some.ensures c.in-Some-word_after.ensures c.in-Some-word_after-2.ensures
     (MatchOption-at_some _ _ _ c.in-Some-2.is c.in_ok-anchor.ensures) (MatchOption-at_some _ _ _ c.in-Some-3.is c.in_ok-tag.ensures)
     (sym (ap (option_map seen_text) c.in-Some-4.is) ∙ c.in_ok-value.ensures)
-    c.scalar_style_named.ensures c.flag_named.ensures c.flag_named-2.ensures c.scalar_with.ensures
+    c.scalar_style_named-2.ensures c.flag_named.ensures c.flag_named-2.ensures c.scalar_with.ensures
