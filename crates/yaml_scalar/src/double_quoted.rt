@@ -84,7 +84,7 @@ fn write_quoted<A: Allocator>(
 fn needs_escape(c: char, unicode: bool) -> bool
     ensures { result ≡ spec.needs_escape unicode c }
 {
-    !is_printable(c) || (!unicode && !is_ascii(c)) || is_break(c) || c == '"' || c == '\\'
+    (!unicode && !is_ascii(c)) || !is_printable(c) || is_break(c) || c == '"' || c == '\\'
 }
 
 /// A character as its escape.

@@ -17,6 +17,8 @@ pub(crate) enum Escape {
     Eight([u8; 10]),
 }
 
+static HEX_DIGITS: [u8; 16] = *b"0123456789ABCDEF";
+
 /// A backslash, and a letter where there is one for the character, else its number.
 #[inline]
 pub(crate) fn escape_of(c: char) -> Escape
@@ -97,9 +99,5 @@ fn hex_digit(digit: u32) -> u8
     requires { digit ≤ 15 }
     ensures { result ≡ hex_digit digit }
 {
-    if digit < 10 {
-        b'0' + digit as u8
-    } else {
-        b'A' + (digit - 10) as u8
-    }
+    HEX_DIGITS[digit as usize]
 }
