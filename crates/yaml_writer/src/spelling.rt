@@ -133,7 +133,7 @@ impl Number<'_> {
 
 /// The spelling of a number of JSON (RFC 8259, section 6) which the type repository of YAML 1.1 and the core schema of
 /// YAML 1.2 read as exactly that number: a float has a point and a sign in its exponent. Returns `None` where the text
-/// is no number of JSON. Memory is needed only where the spelling isn't the text.
+/// is no number of JSON. Memory is needed only where the spelling is another text.
 ///
 /// # Errors
 ///

@@ -1,7 +1,9 @@
-use Rattle.std.proofs.Common.{string_bytes, true≢false, sym, ◌∙◌}
-use Rattle.yaml_base.specs.JsonNumbers.{JsonNumber}
+use Rattle.std.proofs.Common.{◌≡◌, chars, string_bytes, true≢false, sym, ◌∙◌}
+use Rattle.yaml_base.specs.JsonNumbers.{JsonNumber, json_text, yaml_number}
+use Rattle.yaml_writer.specs.NumberParts.{IsNumber}
 use Rattle.yaml_writer.specs.SeenNumbers.{seen_number}
 use Rattle.yaml_writer.proofs.SpellingLemmas.{none_by_chars, number_by_chars, spells_by_chars, same_spelling}
+use Rattle.yaml_writer.proofs.UnchangedSpellings.{stands_as_spelled}
 use Rattle.yaml_writer.proofs.spelling.number_spelling.Goals as goal
 
 -- src/spelling.rt:156:17
@@ -23,7 +25,13 @@ returns-in_ok-spelled-in-Some-clause-spelled g c =
 -- src/spelling.rt:155:27
 pub returns-in_err-spelled-in-Some-clause-spare : goal.returns-in_err-spelled-in-Some-clause-spare
 returns-in_err-spelled-in-Some-clause-spare g c spare =
-    absurd (true≢false (sym (spare number (number_by_chars c.args.text.now number c.in-Some.ensures)) ∙ sym c.is_spelled.ensures ∙ c.if-is_spelled.false))
+    absurd (true≢false (sym (stands_as_spelled number same) ∙ sym c.is_spelled.ensures ∙ c.if-is_spelled.false))
   where
     number : JsonNumber
     number = seen_number c.in-Some.number
+
+    is : IsNumber (chars c.args.text.now) number
+    is = number_by_chars c.args.text.now number c.in-Some.ensures
+
+    same : yaml_number number ≡ json_text number
+    same = sym (spare number is) ∙ is.text_is
