@@ -1,10 +1,10 @@
 -- A number's text is its spelling only where it stands as it is spelled.
-use Rattle.std.proofs.Common.{◌≡◌, refl, sym, ap, ◌∙◌, append_assoc, length-append, arith, ℕ, suc, ◌+◌, Bool, true, false, not, ◌&&◌, ◌||◌, Option, None, Some, List, [], ◌∷◌, ◌++◌, length, codes, ◌⊎◌, inl, inr, ⊎_elim, if◌then◌else◌}
+use Rattle.std.proofs.Common.{◌≡◌, refl, ap, ◌∙◌, append_assoc, length-append, arith, ℕ, ◌+◌, Bool, true, false, not, ◌&&◌, ◌||◌, Option, None, Some, [], ◌∷◌, ◌++◌, length, codes, ◌⊎◌, inl, inr, ⊎_elim, if◌then◌else◌}
 use Rattle.std.proofs.lemmas.Bool.{true≢false}
 use Rattle.std.proofs.lemmas.List.{append_cancel_left}
 use Rattle.yaml_base.specs.Characters.{Text}
 use Rattle.yaml_base.specs.Script.{is_word}
-use Rattle.yaml_base.specs.JsonNumbers.{JsonNumber, JsonExponent, minus, exponent_text, exponent_spelled, json_text, yaml_number}
+use Rattle.yaml_base.specs.JsonNumbers.{JsonNumber, JsonExponent, minus, json_text, yaml_number}
 use Rattle.yaml_writer.specs.Spellings.{is_spelled}
 
 -- what is put together otherwise, but to the same, has the same length

@@ -38,7 +38,8 @@ fn numbers_are_spelled(rt: HostRuntime) -> Result<(), Fail> {
 #[test]
 fn other_texts_are_no_numbers(rt: HostRuntime) -> Result<(), Fail> {
     for text in [
-        "", "-", "+1", "01", "1.", ".5", "1e", "1e+", "1_0", "0x1", "1.2.3", "1e5e6", " 1", "1 ", "é",
+        "", "-", "+1", "01", "1.", ".5", "1e", "1e+", "1_0", "0x1", "1.2.3", "1e5e6", " 1", "1 ",
+        "é",
     ] {
         spelled(&rt, rt.alloc(), text, None)?;
     }
