@@ -136,7 +136,7 @@ spelling_ascii number h =
 
 -- By bytes and by characters
 
-number_by_chars : (bytes : List ℕ) (number : JsonNumber) → IsNumber bytes number → IsNumber (chars bytes) number
+pub number_by_chars : (bytes : List ℕ) (number : JsonNumber) → IsNumber bytes number → IsNumber (chars bytes) number
 number_by_chars bytes number is = record {
   valid = is.valid;
   text_is = ap chars is.text_is ∙ chars-IsAscii (json_text number) (ascii_of (json_text number) (text_ascii number is.valid));

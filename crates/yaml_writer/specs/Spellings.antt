@@ -22,6 +22,10 @@ is_spelled_exponent (Some exponent) = not exponent.capital && is_some exponent.s
 abbrev pub is_spelled : JsonNumber → Bool
 is_spelled number = is_json_integer number || (is_some number.fraction && is_spelled_exponent number.exponent)
 
+-- a text that is no number, or its own spelling
+abbrev pub NeedsNoMemory : Text → Type 0
+NeedsNoMemory text = (number : JsonNumber) → IsNumber text number → text ≡ yaml_number number
+
 -- the bytes of a spelling
 abbrev pub spelling_bytes : {A : Type 0} → Spelling A → List ℕ
 spelling_bytes (Unchanged text) = text.now

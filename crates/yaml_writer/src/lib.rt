@@ -4,6 +4,8 @@
 mod laws;
 mod numbers;
 mod spelling;
+#[cfg(test)]
+mod tests;
 mod texts;
 mod words;
 

@@ -1,5 +1,5 @@
 //! Numbers of JSON, spelled so that both schemas of YAML read the same number.
-ghost use Rattle.std.specs.Prelude.{◌≡◌, ◌++◌, [], codes, IfOk, MatchOption, chars, string_bytes, option_map, if◌then◌else◌};
+ghost use Rattle.std.specs.Prelude.{◌≡◌, ◌++◌, [], codes, IfOk, IsOk, MatchOption, chars, string_bytes, option_map, if◌then◌else◌};
 ghost use Rattle.yaml_base.specs.JsonNumbers as json;
 ghost use Rattle.yaml_writer.specs.NumberParts.{IsNoNumber};
 ghost use Rattle.yaml_writer.specs.SeenNumbers.{is_minus, seen_exponent, seen_number};
@@ -133,7 +133,7 @@ impl Number<'_> {
 
 /// The spelling of a number of JSON (RFC 8259, section 6) which the type repository of YAML 1.1 and the core schema of
 /// YAML 1.2 read as exactly that number: a float has a point and a sign in its exponent. Returns `None` where the text
-/// is no number of JSON. Memory is needed only where the spelling isn't the text.
+/// is no number of JSON. Memory is needed only where the spelling is another text.
 ///
 /// # Errors
 ///
@@ -142,8 +142,9 @@ pub fn number_spelling<'a, A: Allocator>(
     alloc: A,
     text: &'a str,
 ) -> Result<Option<Spelling<'a, A>>, AllocError>
-    ensures { IfOk result (λ found. MatchOption found (IsNoNumber (chars text.now))
+    ensures spelled { IfOk result (λ found. MatchOption found (IsNoNumber (chars text.now))
         (λ spelling. spellings.Spells (chars text.now) (chars (spellings.spelling_bytes spelling)))) }
+    ensures spare { spellings.NeedsNoMemory (chars text.now) → IsOk result }
 {
     match number_of(text) {
         None => Ok(None),

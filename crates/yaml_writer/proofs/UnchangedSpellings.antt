@@ -1,0 +1,75 @@
+-- A number's text is its spelling only where it stands as it is spelled.
+use Rattle.std.proofs.Common.{◌≡◌, refl, ap, ◌∙◌, append_assoc, length-append, arith, ℕ, ◌+◌, Bool, true, false, not, ◌&&◌, ◌||◌, Option, None, Some, [], ◌∷◌, ◌++◌, length, codes, ◌⊎◌, inl, inr, ⊎_elim, if◌then◌else◌}
+use Rattle.std.proofs.lemmas.Bool.{true≢false}
+use Rattle.std.proofs.lemmas.List.{append_cancel_left}
+use Rattle.yaml_base.specs.Characters.{Text}
+use Rattle.yaml_base.specs.Script.{is_word}
+use Rattle.yaml_base.specs.JsonNumbers.{JsonNumber, JsonExponent, minus, json_text, yaml_number}
+use Rattle.yaml_writer.specs.Spellings.{is_spelled}
+
+-- what is put together otherwise, but to the same, has the same length
+same_length : (front point after less rest : Text) → front ++ (point ++ after) ≡ front ++ less ++ rest
+    → length point + length after ≡ length less + length rest
+same_length front point after less rest e =
+    omega (arith, ap length e, length-append front (point ++ after), length-append point after, length-append (front ++ less) rest, length-append front less)
+
+abbrev first_of : Text → ℕ
+first_of [] = 0
+first_of (c ∷ rest) = c
+
+apart : (negative : Bool) (whole : Text) (fraction : Option Text) (exponent : Option JsonExponent)
+    → yaml_number (record { negative = negative; whole = whole; fraction = fraction; exponent = exponent })
+    ≡ json_text (record { negative = negative; whole = whole; fraction = fraction; exponent = exponent })
+    → is_spelled (record { negative = negative; whole = whole; fraction = fraction; exponent = exponent }) ≡ true
+apart negative whole (Some fraction) None e = refl
+apart negative whole (Some fraction) (Some exponent) e = by exponent.capital exponent.sign e
+  where
+    made : Bool → Option Bool → JsonNumber
+    made a s = record { negative = negative; whole = whole; fraction = Some fraction; exponent = Some (record { capital = a; sign = s; digits = exponent.digits }) }
+
+    unsigned : (letter : ℕ) → (minus negative ++ whole) ++ ((codes "." ++ fraction) ++ (0x65 ∷ 0x2B ∷ exponent.digits))
+        ≡ (minus negative ++ whole) ++ (codes "." ++ fraction) ++ (letter ∷ exponent.digits) → true ≡ false
+    unsigned letter g =
+        absurd (omega (arith, same_length (minus negative ++ whole) (codes "." ++ fraction) (0x65 ∷ 0x2B ∷ exponent.digits) (codes "." ++ fraction) (letter ∷ exponent.digits) g))
+
+    letters : (sign : ℕ) → (minus negative ++ whole) ++ ((codes "." ++ fraction) ++ (0x65 ∷ sign ∷ exponent.digits))
+        ≡ (minus negative ++ whole) ++ (codes "." ++ fraction) ++ (0x45 ∷ sign ∷ exponent.digits) → ◌≡◌ {A = ℕ} 0x65 0x45
+    letters sign g =
+        ap first_of (append_cancel_left ((minus negative ++ whole) ++ (codes "." ++ fraction)) (0x65 ∷ sign ∷ exponent.digits) (0x45 ∷ sign ∷ exponent.digits)
+        (append_assoc (minus negative ++ whole) (codes "." ++ fraction) (0x65 ∷ sign ∷ exponent.digits) ∙ g))
+
+    by : (a : Bool) (s : Option Bool) → yaml_number (made a s) ≡ json_text (made a s) → is_spelled (made a s) ≡ true
+    by false (Some s) g = refl
+    by false None g = absurd (true≢false (unsigned 0x65 g))
+    by true None g = absurd (true≢false (unsigned 0x45 g))
+    by true (Some true) g = absurd (omega (arith, letters 0x2D g))
+    by true (Some false) g = absurd (omega (arith, letters 0x2B g))
+apart negative whole None (Some exponent) e = by exponent.capital exponent.sign e
+  where
+    made : Bool → Option Bool → JsonNumber
+    made a s = record { negative = negative; whole = whole; fraction = None; exponent = Some (record { capital = a; sign = s; digits = exponent.digits }) }
+
+    longer : (sign : ℕ) (after : Text) → length after + 0 ≡ length exponent.digits + 1 ⊎ length after ≡ length exponent.digits + 2
+        → (minus negative ++ whole) ++ ((codes "." ++ codes "0") ++ (0x65 ∷ sign ∷ exponent.digits))
+        ≡ (minus negative ++ whole) ++ [] ++ after → true ≡ false
+    longer sign after few g =
+        let same = same_length (minus negative ++ whole) (codes "." ++ codes "0") (0x65 ∷ sign ∷ exponent.digits) [] after g in
+        ⊎_elim (λ n. absurd (omega (arith, same, n))) (λ n. absurd (omega (arith, same, n))) few
+
+    by : (a : Bool) (s : Option Bool) → yaml_number (made a s) ≡ json_text (made a s) → is_spelled (made a s) ≡ true
+    by true None g = absurd (true≢false (longer 0x2B (0x45 ∷ exponent.digits) (inl (omega arith)) g))
+    by false None g = absurd (true≢false (longer 0x2B (0x65 ∷ exponent.digits) (inl (omega arith)) g))
+    by true (Some true) g = absurd (true≢false (longer 0x2D (0x45 ∷ 0x2D ∷ exponent.digits) (inr (omega arith)) g))
+    by true (Some false) g = absurd (true≢false (longer 0x2B (0x45 ∷ 0x2B ∷ exponent.digits) (inr (omega arith)) g))
+    by false (Some true) g = absurd (true≢false (longer 0x2D (0x65 ∷ 0x2D ∷ exponent.digits) (inr (omega arith)) g))
+    by false (Some false) g = absurd (true≢false (longer 0x2B (0x65 ∷ 0x2B ∷ exponent.digits) (inr (omega arith)) g))
+apart negative whole None None e = by (negative && is_word whole (codes "0")) e
+  where
+    by : (x : Bool) → (minus negative ++ whole ++ (if not x then [] else codes "." ++ codes "0" ++ [])) ≡ minus negative ++ whole ++ [] ++ []
+        → (not x || false) ≡ true
+    by false g = refl
+    by true g = absurd (omega (arith, same_length (minus negative ++ whole) (codes "." ++ codes "0") [] [] [] g))
+
+-- a number whose text is its spelling stands as it is spelled
+pub stands_as_spelled : (number : JsonNumber) → yaml_number number ≡ json_text number → is_spelled number ≡ true
+stands_as_spelled number e = apart number.negative number.whole number.fraction number.exponent e

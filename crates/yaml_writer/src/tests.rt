@@ -1,0 +1,56 @@
+//! Numbers of JSON with their spellings, and texts that are none.
+use crate::{Spelling, number_spelling};
+use std::alloc::{AllocError, Global};
+use std::process::Abort;
+use std::test::Fail;
+
+fn spelled(
+    rt: &impl Abort,
+    alloc: Global,
+    text: &str,
+    wanted: Option<&str>,
+) -> Result<(), AllocError> {
+    let found = number_spelling(alloc, text)?;
+    assert_eq!(rt; found.as_ref().map(|spelling| spelling.as_str()), wanted);
+    Ok(())
+}
+
+#[test]
+fn numbers_are_spelled(rt: HostRuntime) -> Result<(), Fail> {
+    for (text, wanted) in [
+        ("0", "0"),
+        ("-0", "-0.0"),
+        ("-120", "-120"),
+        ("18446744073709551616", "18446744073709551616"),
+        ("1.50", "1.50"),
+        ("1e5", "1.0e+5"),
+        ("1E-5", "1.0e-5"),
+        ("12.5E+07", "12.5e+07"),
+        ("-1.25e10", "-1.25e+10"),
+        ("1.5e-3", "1.5e-3"),
+        ("-0e0", "-0.0e+0"),
+    ] {
+        spelled(&rt, rt.alloc(), text, Some(wanted))?;
+    }
+    Ok(())
+}
+
+#[test]
+fn other_texts_are_no_numbers(rt: HostRuntime) -> Result<(), Fail> {
+    for text in [
+        "", "-", "+1", "01", "1.", ".5", "1e", "1e+", "1_0", "0x1", "1.2.3", "1e5e6", " 1", "1 ",
+        "é",
+    ] {
+        spelled(&rt, rt.alloc(), text, None)?;
+    }
+    Ok(())
+}
+
+#[test]
+fn what_is_spelled_so_stays(rt: HostRuntime) -> Result<(), Fail> {
+    let integer = number_spelling(rt.alloc(), "12")?;
+    assert!(rt; matches!(integer, Some(Spelling::Unchanged("12"))));
+    let power = number_spelling(rt.alloc(), "1e5")?;
+    assert!(rt; matches!(power, Some(Spelling::Changed(_))));
+    Ok(())
+}
