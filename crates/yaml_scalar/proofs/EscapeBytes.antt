@@ -7,10 +7,7 @@ use Rattle.std.specs.Prelude.{ℕ, zero, suc, Bool, true, false, not, Option, No
 use Rattle.std.specs.Str.{IsAscii}
 use Rattle.yaml_base.specs.Characters.{Text, hex_digit, hex_digits, is_break}
 use Rattle.yaml_base.specs.DoubleQuoted.{ShortEscape, escape_after_backslash, escape_text, letter_among, short_escapes}
-
--- of ASCII, and no break
-abbrev pub is_plain : ℕ → Bool
-is_plain b = nat_lt b 128 && not (is_break b)
+use Rattle.yaml_scalar.specs.EscapeBytes.{is_plain}
 
 pub plain-unbroken : (text : Text) → list_all is_plain text ≡ true → list_any is_break text ≡ false
 plain-unbroken [] h = refl

@@ -33,6 +33,7 @@ pub mod RunsWritten
 pub mod StaysInLine
 pub mod BlockStays
 pub mod InsideSteps
+pub mod GatheredTexts
 pub mod QuotedSteps
 pub mod LastCharacters
 pub mod NextEven

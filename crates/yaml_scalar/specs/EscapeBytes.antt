@@ -1,5 +1,6 @@
 -- The bytes of an escape.
-use Rattle.std.specs.Prelude.{ℕ, List}
+use Rattle.std.specs.Prelude.{ℕ, Bool, List, ◌&&◌, not, nat_lt}
+use Rattle.yaml_base.specs.Characters.{is_break}
 use Rattle.yaml_scalar.specs.declared.escapes.Escape.{Escape}
 use Rattle.yaml_scalar.specs.declared.escapes.Escape.TheVariants.{Letter, Two, Four, Eight}
 
@@ -9,3 +10,7 @@ escape_bytes (Letter bytes) = bytes
 escape_bytes (Two bytes) = bytes
 escape_bytes (Four bytes) = bytes
 escape_bytes (Eight bytes) = bytes
+
+-- of ASCII, and no break
+abbrev pub is_plain : ℕ → Bool
+is_plain b = nat_lt b 128 && not (is_break b)

@@ -8,3 +8,4 @@ pub mod BlockSteps
 pub mod WholeRuns
 pub mod ByteClasses
 pub mod EscapeBytes
+pub mod Gathered

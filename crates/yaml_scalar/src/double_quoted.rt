@@ -1,5 +1,6 @@
 //! Scalars between double quotes.
 ghost use Rattle.std.specs.Prelude.{◌≡◌, pos, ◌≤ℤ◌, ◌≤◌, ◌<◌, ◌==◌, ◌||◌, ◌&&◌, ◌∷◌, [], true, false, not, Option, None, Some, Bool, IfOk};
+ghost use Rattle.std.specs.List.{list_all};
 ghost use Rattle.std.specs.Str.{chars};
 ghost use Rattle.yaml_base.specs.Characters.{is_space};
 ghost use Rattle.yaml_base.specs.Cursor.{is_past_width, text_laid};
@@ -8,16 +9,18 @@ ghost use Rattle.yaml_base.specs.ReadDouble.{read_double};
 ghost use Rattle.yaml_pen.specs.Page.{IsReady, natural};
 ghost use Rattle.yaml_pen.specs.Wrote.{Wrote};
 ghost use Rattle.yaml_scalar.specs.ByteClasses.{Tells};
+ghost use Rattle.yaml_scalar.specs.EscapeBytes.{is_plain};
 ghost use Rattle.yaml_scalar.specs.ReadsBack.{ReadsBack};
 ghost use Rattle.yaml_scalar.specs.WholeRuns.{IsRun, stays, stays_where};
 ghost use Rattle.yaml_scalar.specs.Width.{limit_where};
 
 use crate::classes::{BREAK, ESCAPED, SPACE, UNPRINTABLE, WIDE};
-use crate::escapes::{Escape, escape_of};
+use crate::escapes::{Escape, escape_of, needs_escape};
+use crate::gathered::{GatheredBytes, gather};
 use crate::runs::{Run, run_up_to};
 use crate::steps::{go_on, has_limit, may_fold_here};
 use std::alloc::Allocator;
-use yaml_base::{is_ascii, is_break, is_printable, is_space, yaml_error_t};
+use yaml_base::{is_space, yaml_error_t};
 use yaml_pen::Pen;
 
 /// How a double-quoted scalar is laid out.
@@ -78,13 +81,6 @@ fn write_quoted<A: Allocator>(
     pen.put_indicator(b'"', true, false, false)?;
     write_inside(pen, value, quoting)?;
     pen.put_indicator(b'"', false, false, false)
-}
-
-/// Unprintable, past ASCII where that isn't kept, a break, the quote or the backslash.
-fn needs_escape(c: char, unicode: bool) -> bool
-    ensures { result ≡ spec.needs_escape unicode c }
-{
-    (!unicode && !is_ascii(c)) || !is_printable(c) || is_break(c) || c == '"' || c == '\\'
 }
 
 /// A character as its escape.
@@ -228,7 +224,17 @@ fn run_after(before: char, text: &str, quoting: quoting_t) -> Run
     run_where(before, text, quoting.unicode, folds)
 }
 
-/// What stands between the quotes: a character, and the run that follows it, in turn.
+/// The texts of characters that were gathered.
+#[inline(always)]
+fn write_gathered<A: Allocator>(pen: &mut Pen<A>, bytes: &GatheredBytes) -> Result<(), yaml_error_t>
+    requires ready { IsReady pen.old }
+    requires plain { list_all is_plain bytes.now.items ≡ true }
+    ensures { Wrote (text_laid bytes.now.items) pen.old pen.new result }
+{
+    pen.write_ascii(bytes.as_slice())
+}
+
+/// What stands between the quotes: a character, the run that follows it, and what is gathered, in turn.
 fn write_inside<A: Allocator>(
     pen: &mut Pen<A>,
     value: &str,
@@ -247,8 +253,11 @@ fn write_inside<A: Allocator>(
         let run = run_after(c, rest, quoting);
         let (front, after) = rest.split_at(run.length);
         pen.write_run(front)?;
-        before = Some(run.last);
-        chars = after.chars();
+        let mut bytes = GatheredBytes::new();
+        let (last, left) = gather(&mut bytes, run.last, after, quoting.unicode);
+        write_gathered(pen, &bytes)?;
+        before = Some(last);
+        chars = left.chars();
     }
     go_on(pen)
 }

@@ -4,6 +4,8 @@ ghost use Rattle.yaml_base.specs.Characters.{hex_digit};
 ghost use Rattle.yaml_base.specs.DoubleQuoted as spec;
 ghost use Rattle.yaml_scalar.specs.EscapeBytes.{escape_bytes};
 
+use yaml_base::{is_ascii, is_break, is_printable};
+
 /// An escape, by how many characters it has, all of ASCII.
 #[derive(Clone, Copy)]
 pub(crate) enum Escape {
@@ -19,8 +21,16 @@ pub(crate) enum Escape {
 
 static HEX_DIGITS: [u8; 16] = *b"0123456789ABCDEF";
 
-/// A backslash, and a letter where there is one for the character, else its number.
+/// Unprintable, past ASCII where that isn't kept, a break, the quote or the backslash.
 #[inline]
+pub(crate) fn needs_escape(c: char, unicode: bool) -> bool
+    ensures { result ≡ spec.needs_escape unicode c }
+{
+    (!unicode && !is_ascii(c)) || !is_printable(c) || is_break(c) || c == '"' || c == '\\'
+}
+
+/// A backslash, and a letter where there is one for the character, else its number.
+#[inline(always)]
 pub(crate) fn escape_of(c: char) -> Escape
     ensures { escape_bytes result ≡ spec.escape_text c }
 {

@@ -8,6 +8,7 @@ mod classes;
 mod double_quoted;
 mod escapes;
 mod folded;
+mod gathered;
 mod lines;
 mod literal;
 mod plain;

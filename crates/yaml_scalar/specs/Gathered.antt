@@ -1,0 +1,32 @@
+-- Characters between double quotes whose texts are written at once.
+use Rattle.std.specs.Prelude.{◌≡◌, ℕ, Bool, true, List, [], ◌∷◌, ◌++◌, ◌||◌, ◌&&◌, not}
+use Rattle.std.specs.List.{list_all}
+use Rattle.yaml_base.specs.Characters.{Text, is_ascii, is_space}
+use Rattle.yaml_base.specs.DoubleQuoted.{character_text, needs_escape}
+use Rattle.yaml_scalar.specs.WholeRuns.{last_from}
+
+-- so many bytes are gathered at most
+abbrev pub most_bytes : ℕ
+most_bytes = 128
+
+-- the bytes of the longest escape
+abbrev pub longest_escape : ℕ
+longest_escape = 10
+
+-- a character whose text is of ASCII, and which is no space
+abbrev pub is_gathered : (unicode : Bool) → ℕ → Bool
+is_gathered unicode c = not (is_space c) && (is_ascii c || needs_escape unicode c)
+
+-- the texts of characters, one after another
+abbrev pub characters_text : (unicode : Bool) → Text → Text
+characters_text unicode [] = []
+characters_text unicode (c ∷ rest) = character_text unicode c ++ characters_text unicode rest
+
+-- bytes are the texts of a text's first characters, all of which are gathered; the last of them, from the one
+-- before the text on; and what follows
+pub record AreGathered (unicode : Bool) (before : ℕ) (text : Text) (bytes : List ℕ) (last : ℕ) (rest : Text) : Type 0 where
+  pub front : Text
+  pub parts : text ≡ front ++ rest
+  pub bytes_are : bytes ≡ characters_text unicode front
+  pub all : list_all (is_gathered unicode) front ≡ true
+  pub last_is : last ≡ last_from before front
