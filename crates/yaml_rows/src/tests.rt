@@ -2,11 +2,13 @@
 //! the program's options, errors in a caller, typed values, proved callers.
 mod callers;
 mod calling;
+mod dumps;
 mod emitters;
 mod errors;
 mod marks;
 mod options;
 mod pens;
+mod refusing;
 mod runs;
 mod scalars;
 mod scripts;

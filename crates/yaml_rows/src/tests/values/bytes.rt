@@ -1,21 +1,14 @@
 //! Values whose canonical form was written out by hand.
+use super::memory::writes;
 use super::{mixed, text};
-use std::alloc::Global;
-use std::process::Abort;
+use crate::tests::refusing::Refusing;
 use std::test::Fail;
-use yaml_value::{Value, equal_bytes_equal_values, write_canonical};
-
-/// Writes a value and compares it with the document that should come out.
-fn writes(rt: &impl Abort, alloc: Global, value: Value<Global>, expected: &str) {
-    match write_canonical(alloc, &value) {
-        Ok(bytes) => assert_eq!(rt; bytes.as_slice(), expected.as_bytes()),
-        Err(error) => panic!(rt; "{error:?} at {expected:?}"),
-    }
-}
+use yaml_value::{Value, equal_bytes_equal_values};
 
 #[test]
 fn scalars_are_written_with_their_tags(rt: HostRuntime) -> Result<(), Fail> {
-    let alloc = rt.alloc();
+    let heap = Refusing::new(rt.alloc());
+    let alloc = &heap;
     writes(&rt, alloc, Value::Null, "---\n!!null \"null\"\n");
     writes(&rt, alloc, Value::Bool(true), "---\n!!bool \"true\"\n");
     writes(&rt, alloc, Value::Bool(false), "---\n!!bool \"false\"\n");
@@ -41,7 +34,8 @@ fn scalars_are_written_with_their_tags(rt: HostRuntime) -> Result<(), Fail> {
 
 #[test]
 fn collections_are_written_with_their_tags(rt: HostRuntime) -> Result<(), Fail> {
-    let alloc = rt.alloc();
+    let heap = Refusing::new(rt.alloc());
+    let alloc = &heap;
     writes(&rt, alloc, Value::List(Vec::new(alloc)), "---\n!!seq []\n");
     writes(&rt, alloc, Value::Map(Vec::new(alloc)), "---\n!!map {}\n");
     let mut items = Vec::new(alloc);

@@ -2,7 +2,6 @@
 use super::Given::{Mapping, Sequence, Tagged, Text};
 use super::memory::{Row, check_rows};
 use super::{document, scalar, sequence, text};
-use crate::{document_events, yaml_emitter_close, yaml_emitter_dump, yaml_emitter_open};
 use std::alloc::{AllocError, Global};
 use std::process::Abort;
 use std::test::Fail;
@@ -10,6 +9,7 @@ use yaml_base::{
     YAML_ANY_ENCODING, YAML_STREAM_END_EVENT, YAML_STREAM_START_EVENT, YAML_UTF16BE_ENCODING,
     yaml_document_t, yaml_error_t, yaml_event_t, yaml_node_t,
 };
+use yaml_dump::{document_events, yaml_emitter_close, yaml_emitter_dump, yaml_emitter_open};
 use yaml_emitter::{
     yaml_emitter_emit, yaml_emitter_initialize, yaml_emitter_set_encoding,
     yaml_emitter_set_output_string, yaml_emitter_set_width, yaml_emitter_t,

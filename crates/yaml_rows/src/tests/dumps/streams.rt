@@ -1,10 +1,9 @@
 //! Streams opened and closed as a whole, without documents.
-
-use crate::{yaml_emitter_close, yaml_emitter_open};
 use std::alloc::Global;
 use std::process::Abort;
 use std::test::Fail;
 use yaml_base::{YAML_ANY_ENCODING, YAML_UTF16BE_ENCODING, yaml_encoding_t, yaml_error_t};
+use yaml_dump::{yaml_emitter_close, yaml_emitter_open};
 use yaml_emitter::{
     yaml_emitter_initialize, yaml_emitter_set_encoding, yaml_emitter_set_output_string,
     yaml_emitter_t,
