@@ -1,6 +1,7 @@
 //! An allocator that refuses one growth.
-use std::alloc::{AllocError, Allocator};
+use std::alloc::{AllocError, Allocator, Global};
 use std::cell::Cell;
+use std::test::Fail;
 
 /// Passes each call on to another allocator, but for one growth, which it refuses.
 pub(super) struct Refusing<A: Allocator> {
@@ -56,4 +57,17 @@ unsafe impl<A: Allocator> Allocator for Refusing<A> {
     unsafe fn deallocate(&self, ptr: *mut u8, size: usize, align: usize) {
         self.inner.deallocate(ptr, size, align);
     }
+}
+
+#[test]
+fn one_growth_is_refused(rt: HostRuntime) -> Result<(), Fail> {
+    let heap = Refusing::new(rt.alloc());
+    heap.refuse(2);
+    let mut bytes: Vec<u8, &Refusing<Global>> = Vec::with_capacity(&heap, 1)?;
+    assert_eq!(rt; heap.left(), 1);
+    assert!(rt; bytes.reserve(100).is_err());
+    assert_eq!(rt; heap.left(), 0);
+    bytes.reserve(100)?;
+    assert_eq!(rt; heap.left(), 0);
+    Ok(())
 }

@@ -55,34 +55,54 @@ fn dump_and_close<'a>(
     yaml_emitter_close(emitter)
 }
 
-// A dump and a close of which one growth is refused; answers whether there is that growth.
-fn is_told(
+/// An emitter that dumps into memory.
+fn begun<'a>(
+    heap: &'a Refusing<Global>,
+    canonical: bool,
+) -> Result<yaml_emitter_t<&'a Refusing<Global>>, yaml_error_t> {
+    let mut emitter = yaml_emitter_initialize(heap)?;
+    yaml_emitter_set_output_string(&mut emitter, usize::MAX);
+    yaml_emitter_set_canonical(&mut emitter, canonical);
+    Ok(emitter)
+}
+
+// A growth was refused: the error is kept, or the emitter is as before, so that the same dump gives the text.
+fn check_after<'a>(
     rt: &impl Abort,
-    alloc: Global,
+    heap: &'a Refusing<Global>,
+    emitter: &mut yaml_emitter_t<&'a Refusing<Global>>,
+    row: Row,
+) -> Result<(), Fail> {
+    let (given, text) = row;
+    if emitter.error().is_some() {
+        check_kept(rt, emitter, text);
+        return Ok(());
+    }
+    let again = document(rt, heap, nodes(heap, given)?);
+    check_whole(rt, heap, emitter, again, text);
+    Ok(())
+}
+
+// A dump and a close of which one growth is refused; answers whether there is that growth.
+fn is_told<'a>(
+    rt: &impl Abort,
+    heap: &'a Refusing<Global>,
     canonical: bool,
     row: Row,
     number: usize,
 ) -> Result<bool, Fail> {
-    let (given, text) = row;
-    let heap = Refusing::new(alloc);
-    let mut emitter = yaml_emitter_initialize(&heap)?;
-    yaml_emitter_set_output_string(&mut emitter, usize::MAX);
-    yaml_emitter_set_canonical(&mut emitter, canonical);
-    let first = document(rt, &heap, nodes(&heap, given)?);
-    let second = document(rt, &heap, nodes(&heap, given)?);
+    heap.refuse(0);
+    let mut emitter = begun(heap, canonical)?;
+    let first = document(rt, heap, nodes(heap, row.0)?);
     heap.refuse(number);
-    let answer = dump_and_close(rt, &heap, &mut emitter, first);
+    let answer = dump_and_close(rt, heap, &mut emitter, first);
     if heap.left() != 0 {
         assert_eq!(rt; answer, Ok(()));
-        assert_eq!(rt; emitter.output(), text.as_bytes());
+        assert_eq!(rt; emitter.output(), row.1.as_bytes());
         return Ok(false);
     }
     assert_eq!(rt; answer, Err(yaml_error_t::Memory));
-    if emitter.error().is_some() {
-        check_kept(rt, &mut emitter, text);
-    } else {
-        check_whole(rt, &heap, &mut emitter, second, text);
-    }
+    check_after(rt, heap, &mut emitter, row)?;
     Ok(true)
 }
 
@@ -93,9 +113,10 @@ pub(super) fn check_rows(
     canonical: bool,
     rows: &[Row],
 ) -> Result<(), Fail> {
+    let heap = Refusing::new(alloc);
     for row in rows {
         for number in 1..usize::MAX {
-            if !is_told(rt, alloc, canonical, *row, number)? {
+            if !is_told(rt, &heap, canonical, *row, number)? {
                 break;
             }
         }

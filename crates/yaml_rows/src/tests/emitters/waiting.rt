@@ -1,4 +1,5 @@
 //! Which events wait, and what is handed out meanwhile.
+use super::memory::check_growths;
 use super::streams::Given::{
     Alias, Anchored, AnchoredSequence, BlockMapping, BlockSequence, Directed, Document,
     DocumentEnd, FlowMapping, FlowSequence, Literal, MappingEnd, SequenceEnd, Stream, StreamEnd,
@@ -45,7 +46,18 @@ fn check_flush_after_each(rt: &impl Abort, alloc: Global, turns: Turns) -> Resul
     for count in 0..=turns.len() {
         check_flush_after(rt, alloc, turns, count)?;
     }
-    Ok(())
+    check_turns(rt, alloc, turns)
+}
+
+// Each growth is refused in turn.
+fn check_turns(rt: &impl Abort, alloc: Global, turns: Turns) -> Result<(), Fail> {
+    let mut events = Vec::new(alloc);
+    let mut text = String::new(alloc);
+    for (given, ready, _) in turns {
+        events.push(*given)?;
+        text.push_str(ready)?;
+    }
+    check_growths(rt, alloc, events.as_slice(), text.as_str().as_bytes())
 }
 
 #[test]

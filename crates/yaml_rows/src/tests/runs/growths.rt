@@ -27,14 +27,13 @@ fn check_refused(
 }
 
 /// Runs a script again and again with the first growth refused, the second, and so on, until a run meets no refusal.
-/// Answers how many growths there are.
-fn refused_in_turn(
+fn refuse_in_turn(
     rt: &impl Abort,
     alloc: Global,
     script: &[u8],
     answer: run_answer_t,
     whole: &[u8],
-) -> usize {
+) {
     let heap = Refusing::new(alloc);
     for number in 1..usize::MAX {
         let mut left = script;
@@ -44,11 +43,11 @@ fn refused_in_turn(
         if heap.left() != 0 {
             assert_eq!(rt; told, answer);
             assert_eq!(rt; output.as_slice(), whole);
-            return number - 1;
+            assert!(rt; number > 1);
+            return;
         }
         check_refused(rt, told, output.as_slice(), answer, whole);
     }
-    0
 }
 
 /// How a run of a script ends, and what it writes, also where its growths are refused.
@@ -60,6 +59,6 @@ pub(super) fn answered(
     let mut left = script;
     let mut output: Vec<u8> = Vec::new(alloc);
     let answer = run(alloc, &mut left, &mut output);
-    refused_in_turn(rt, alloc, script, answer, output.as_slice());
+    refuse_in_turn(rt, alloc, script, answer, output.as_slice());
     Ok((answer, output))
 }
