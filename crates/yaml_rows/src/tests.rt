@@ -1,11 +1,12 @@
 //! Each crate's rows: types, pens, marks, scalars; examples of calls, emitters call by call, whole runs of scripts; scripts and
-//! the program's options, errors in a caller, typed values, proved callers.
+//! the program's options, errors in a caller, typed values, numbers of JSON, proved callers.
 mod callers;
 mod calling;
 mod dumps;
 mod emitters;
 mod errors;
 mod marks;
+mod numbers;
 mod options;
 mod pens;
 mod refusing;

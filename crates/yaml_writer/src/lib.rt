@@ -4,8 +4,6 @@
 mod laws;
 mod numbers;
 mod spelling;
-#[cfg(test)]
-mod tests;
 mod texts;
 mod words;
 

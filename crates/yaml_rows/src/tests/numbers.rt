@@ -1,8 +1,8 @@
 //! Numbers of JSON with their spellings, and texts that are none.
-use crate::{Spelling, number_spelling};
 use std::alloc::{AllocError, Global};
 use std::process::Abort;
 use std::test::Fail;
+use yaml_writer::{Spelling, number_spelling};
 
 fn spelled(
     rt: &impl Abort,
