@@ -1,1 +1,3 @@
 pub mod WordLemmas
+pub mod Finishing
+pub mod Digits

@@ -1,1 +1,4 @@
 pub mod Words
+pub mod Given
+pub mod Writing
+pub mod Inside
