@@ -8,8 +8,9 @@ use Rattle.yaml_base.specs.Settings.{Settings}
 use Rattle.yaml_base.specs.declared.errors.yaml_error_t.{yaml_error_t}
 use Rattle.yaml_base.specs.declared.errors.yaml_error_t.TheVariants.{Memory}
 use Rattle.yaml_emitter.specs.State.{State}
+use Rattle.yaml_emitter.specs.StandsAfter.{StandsAfter}
 use Rattle.yaml_emitter.specs.Promises.{Promised, HasRoom, IsRefusal, ends_stream}
-use Rattle.yaml_writer.specs.Writing.{IsStream, Finishes, IsUnfinished, closing}
+use Rattle.yaml_writer.specs.Writing.{IsStream, Finishes, IsUnfinished, closing, plain_start}
 
 -- more events before the last are passed over
 ends_later : (event next : Event) (rest : List Event) → ends_stream (event ∷ next ∷ rest) ≡ ends_stream (next ∷ rest)
@@ -68,3 +69,10 @@ some_waits count held some is none = let empty = ap length none in omega (arith,
 
 pub none_waits : (count : ℕ) (held : List Event) → count ≤ 0 → count ≡ length held → held ≡ []
 none_waits count held none is = nil_from_length held (omega (arith, none, is))
+
+-- a document was ended and the next begun, one event after the other
+pub next_stands : (given : Settings) (all : List Event) (start : Event) (state : State) → start ≡ plain_start
+    → StandsAfter given ((all ++ document_end true ∷ []) ++ start ∷ []) state → StandsAfter given (all ++ document_end true ∷ plain_start ∷ []) state
+next_stands given all start state is stands =
+    subst (λ (events : List Event). StandsAfter given events state)
+    (ap (λ event. (all ++ document_end true ∷ []) ++ event ∷ []) is ∙ append_assoc all (document_end true ∷ []) (plain_start ∷ [])) stands

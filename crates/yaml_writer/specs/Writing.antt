@@ -103,6 +103,17 @@ abbrev pub Adds : State → Event → State → Type 0
 Adds before event after =
     (given : Settings) (all : List Event) → StandsAfter given all before → StandsAfter given (all ++ event ∷ []) after
 
+-- wherever the emitter stood, it stands after these events more
+abbrev pub AddsAll : State → List Event → State → Type 0
+AddsAll before events after =
+    (given : Settings) (all : List Event) → StandsAfter given all before → StandsAfter given (all ++ events) after
+
+-- these events were given to the emitter, whose error is told; nothing else changes
+pub record Passed (before : WriterState) (events : List Event) (answer : Result (Unit {0}) yaml_error_t) (after : WriterState) : Type 0 where
+  pub adds : AddsAll before.emitter events after.emitter
+  pub answered : answer ≡ told after.emitter.error
+  pub rest : after ≡ record before { emitter = after.emitter }
+
 -- the event was given to the emitter, which has this error; the next node has no properties yet
 pub record Gave (before : WriterState) (event : Event) (error : Option yaml_error_t) (after : WriterState) : Type 0 where
   pub adds : Adds before.emitter event after.emitter

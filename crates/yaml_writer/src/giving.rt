@@ -1,17 +1,17 @@
 //! Events given to an emitter.
-ghost use Rattle.std.specs.Prelude.{◌≡◌, IfOk, IfErr, OnOk, [], ◌++◌, true, List, is_none, option_map};
-ghost use Rattle.yaml_base.specs.Event.{Event, mapping_start, scalar, sequence_start};
+ghost use Rattle.std.specs.Prelude.{◌≡◌, IfOk, IfErr, OnOk, [], ◌∷◌, ◌++◌, true, List, is_none, option_map};
+ghost use Rattle.yaml_base.specs.Event.{Event, alias, document_end, mapping_start, scalar, sequence_start};
 ghost use Rattle.yaml_base.specs.Seen.{seen_event, seen_mapping_style, seen_scalar_style, seen_sequence_style, seen_text};
 ghost use Rattle.yaml_base.specs.Settings.{Settings};
 ghost use Rattle.yaml_emitter.specs.StandsAfter.{StandsAfter};
 ghost use Rattle.yaml_pen.specs.Page.{told};
-ghost use Rattle.yaml_writer.specs.Writing.{Adds, Finishes, IsUnfinished, end_event, opening, plain_start as document_begins};
+ghost use Rattle.yaml_writer.specs.Writing.{Adds, AddsAll, Finishes, IsUnfinished, end_event, opening, plain_start as document_begins};
 
 use crate::kinds::CollectionKind;
 use std::alloc::Allocator;
 use yaml_base::{
-    YAML_ANY_ENCODING, YAML_DOCUMENT_END_EVENT, YAML_DOCUMENT_START_EVENT, YAML_MAPPING_END_EVENT,
-    YAML_MAPPING_START_EVENT, YAML_SCALAR_EVENT, YAML_SEQUENCE_END_EVENT,
+    YAML_ALIAS_EVENT, YAML_ANY_ENCODING, YAML_DOCUMENT_END_EVENT, YAML_DOCUMENT_START_EVENT,
+    YAML_MAPPING_END_EVENT, YAML_MAPPING_START_EVENT, YAML_SCALAR_EVENT, YAML_SEQUENCE_END_EVENT,
     YAML_SEQUENCE_START_EVENT, YAML_STREAM_END_EVENT, YAML_STREAM_START_EVENT, yaml_error_t,
     yaml_event_t, yaml_mapping_style_t, yaml_scalar_style_t, yaml_sequence_style_t,
 };
@@ -53,8 +53,14 @@ pub(crate) fn give_scalar<A: Allocator + Copy>(
 ) -> Result<(), yaml_error_t>
     requires output { emitter.old.has_output ≡ true }
     ensures adds { Adds emitter.old
-        (scalar (record { anchor = option_map seen_text anchor; tag = option_map seen_text tag; value = seen_text value;
-          plain_implicit = is_none tag; quoted_implicit = is_none tag; style = seen_scalar_style style }))
+        (scalar (record {
+          anchor = option_map seen_text anchor;
+          tag = option_map seen_text tag;
+          value = seen_text value;
+          plain_implicit = is_none tag;
+          quoted_implicit = is_none tag;
+          style = seen_scalar_style style;
+        }))
         emitter.new }
     ensures answered { result ≡ told emitter.new.error }
     ensures output { emitter.new.has_output ≡ true }
@@ -140,6 +146,33 @@ pub(crate) fn give_end<A: Allocator + Copy>(
         CollectionKind::Sequence => YAML_SEQUENCE_END_EVENT,
     };
     yaml_emitter_emit(emitter, event)
+}
+
+/// Gives an alias.
+pub(crate) fn give_alias<A: Allocator + Copy>(
+    emitter: &mut yaml_emitter_t<A>,
+    anchor: String<A>,
+) -> Result<(), yaml_error_t>
+    requires output { emitter.old.has_output ≡ true }
+    ensures adds { AddsAll emitter.old (alias (seen_text anchor) ∷ []) emitter.new }
+    ensures answered { result ≡ told emitter.new.error }
+    ensures output { emitter.new.has_output ≡ true }
+{
+    yaml_emitter_emit(emitter, YAML_ALIAS_EVENT { anchor })
+}
+
+/// Gives the end of a document and the start of the next. The error of the first is the second's.
+pub(crate) fn give_next<A: Allocator + Copy>(
+    alloc: A,
+    emitter: &mut yaml_emitter_t<A>,
+) -> Result<(), yaml_error_t>
+    requires output { emitter.old.has_output ≡ true }
+    ensures adds { AddsAll emitter.old (document_end true ∷ document_begins ∷ []) emitter.new }
+    ensures answered { result ≡ told emitter.new.error }
+    ensures output { emitter.new.has_output ≡ true }
+{
+    let _ = yaml_emitter_emit(emitter, YAML_DOCUMENT_END_EVENT { implicit: true });
+    yaml_emitter_emit(emitter, plain_start(alloc))
 }
 
 /// Ends the document and the stream.

@@ -1,5 +1,5 @@
 //! Scalars of a writer.
-ghost use Rattle.std.specs.Prelude.{◌≡◌, IfOk, IfErr, OnOk, chars, option_map, None, Some};
+ghost use Rattle.std.specs.Prelude.{◌≡◌, IfOk, IfErr, OnOk, chars, option_map, None, Some, pos};
 ghost use Rattle.std.specs.Fmt.{signed_decimal};
 ghost use Rattle.yaml_base.specs.Seen.{seen_scalar_style, seen_text};
 ghost use Rattle.yaml_base.specs.TypedValues.{bool_text};
@@ -15,7 +15,7 @@ use yaml_base::{
 use yaml_emitter::holds_break;
 
 /// A text of its own.
-fn text_of<A: Allocator>(alloc: A, text: &str) -> Result<String<A>, yaml_error_t>
+pub(crate) fn text_of<A: Allocator>(alloc: A, text: &str) -> Result<String<A>, yaml_error_t>
     ensures text { IfOk result (λ copy. seen_text copy ≡ chars text.now) }
     ensures memory { IfErr result (λ error. error ≡ yaml_error_t.Memory) }
 {
@@ -23,7 +23,11 @@ fn text_of<A: Allocator>(alloc: A, text: &str) -> Result<String<A>, yaml_error_t
 }
 
 /// The tag that a scalar of this type has in canonical form.
-fn tag_of<A: Allocator>(alloc: A, canonical: bool, tag: &str) -> Result<Option<String<A>>, yaml_error_t>
+fn tag_of<A: Allocator>(
+    alloc: A,
+    canonical: bool,
+    tag: &str,
+) -> Result<Option<String<A>>, yaml_error_t>
     ensures tag { IfOk result (λ copy. option_map seen_text copy ≡ tag_or None canonical (chars tag.now)) }
     ensures memory { IfErr result (λ error. error ≡ yaml_error_t.Memory) }
 {
@@ -44,6 +48,14 @@ fn word_of(value: bool) -> &'static str
 /// The decimal digits of an integer, after its sign.
 fn digits_of<A: Allocator>(alloc: A, value: i64) -> Result<String<A>, AllocError>
     ensures { IfOk result (λ digits. seen_text digits ≡ signed_decimal value) }
+{
+    let digits = format!(in alloc; "{value}")?;
+    Ok(digits)
+}
+
+/// The decimal digits of a number.
+fn digits_of_unsigned<A: Allocator>(alloc: A, value: u64) -> Result<String<A>, AllocError>
+    ensures { IfOk result (λ digits. seen_text digits ≡ signed_decimal (pos value)) }
 {
     let digits = format!(in alloc; "{value}")?;
     Ok(digits)
@@ -94,6 +106,20 @@ impl<A: Allocator + Copy> Writer<A> {
         ensures failed { IfErr result (λ error. Failed self.old (int_event self.old value) error self.new) }
     {
         match digits_of(self.alloc, value) {
+            Ok(digits) => self.word("tag:yaml.org,2002:int", digits.as_str()),
+            Err(_) => Err(yaml_error_t::Memory),
+        }
+    }
+
+    /// Writes a number that isn't negative in decimal digits.
+    ///
+    /// # Errors
+    /// Those of the emitter, and `Memory`.
+    pub fn unsigned(&mut self, value: u64) -> Result<(), yaml_error_t>
+        ensures given { OnOk result (Gave self.old (int_event self.old (pos value)) None self.new) }
+        ensures failed { IfErr result (λ error. Failed self.old (int_event self.old (pos value)) error self.new) }
+    {
+        match digits_of_unsigned(self.alloc, value) {
             Ok(digits) => self.word("tag:yaml.org,2002:int", digits.as_str()),
             Err(_) => Err(yaml_error_t::Memory),
         }
