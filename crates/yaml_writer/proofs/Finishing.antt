@@ -1,7 +1,7 @@
 -- What it comes to that a document and its stream are ended.
 use Rattle.std.proofs.Common.{◌≡◌, refl, sym, ap, ◌∙◌, arith, subst, append_assoc}
 use Rattle.std.proofs.lemmas.List.{nil_from_length}
-use Rattle.std.specs.Prelude.{ℕ, ◌<◌, ◌≤◌, true, None, Some, Option, List, [], ◌∷◌, ◌++◌, length, Result, Ok, Err, Vec, IfOk, IfErr}
+use Rattle.std.specs.Prelude.{ℕ, ◌<◌, ◌≤◌, true, None, Some, List, [], ◌∷◌, ◌++◌, length, Result, Ok, Err, Vec, IfOk, IfErr}
 use Rattle.yaml_base.specs.Event.{Event, stream_end, document_end}
 use Rattle.yaml_base.specs.Refusal.{IsAccepted}
 use Rattle.yaml_base.specs.Settings.{Settings}

@@ -1,3 +1,4 @@
 pub mod WordLemmas
 pub mod Finishing
 pub mod Digits
+pub mod PlainLemmas

@@ -1,5 +1,5 @@
 -- What the calls of a writer give to its emitter.
-use Rattle.std.specs.Prelude.{◌≡◌, ◌⊎◌, ℕ, ℤ, Bool, true, false, Option, None, Some, Result, Err, List, [], ◌∷◌, ◌++◌, codes, is_none, if◌then◌else◌}
+use Rattle.std.specs.Prelude.{◌≡◌, ◌⊎◌, ℕ, ℤ, Bool, true, Option, None, Some, Result, Err, List, [], ◌∷◌, ◌++◌, codes, is_none, if◌then◌else◌}
 use Rattle.std.specs.Fmt.{signed_decimal}
 use Rattle.std.specs.List.{list_any}
 use Rattle.yaml_base.specs.Characters.{Text, is_break}

@@ -1,7 +1,13 @@
-//! A law of the definitions, the contract of a function that does nothing.
+//! Laws of the definitions, each the contract of a function that does nothing.
 ghost use Rattle.yaml_base.specs.SurelyText.{SurelyTextIsText};
+ghost use Rattle.yaml_writer.specs.PlainTexts.{PlainTextsAreTexts};
 
 /// A text that is surely one means a text by the type repository of YAML 1.1 and by the core schema of YAML 1.2.
 pub fn surely_text_is_text()
     ensures { SurelyTextIsText }
+{}
+
+/// A text in the style that a writer gives it is written plain only where both schemas read it as a text.
+pub fn plain_texts_are_texts()
+    ensures { PlainTextsAreTexts }
 {}

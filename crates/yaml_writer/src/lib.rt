@@ -13,7 +13,7 @@ mod words;
 mod writer;
 
 pub use kinds::CollectionKind;
-pub use laws::surely_text_is_text;
+pub use laws::{plain_texts_are_texts, surely_text_is_text};
 pub use settings::Settings;
 pub use texts::is_surely_text;
 pub use writer::Writer;

@@ -3,7 +3,6 @@ use Rattle.yaml_base.specs.Seen.{seen_break, seen_encoding}
 use Rattle.yaml_base.specs.Settings.{Settings}
 use Rattle.yaml_emitter.specs.State.{State}
 use Rattle.yaml_emitter.specs.StandsAfter.{StandsAfter}
-use Rattle.yaml_writer.specs.Given.{seen_settings}
 use Rattle.yaml_writer.proofs.settings.emitter_of.Goals as goal
 
 abbrev given : State → Settings
