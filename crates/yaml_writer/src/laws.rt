@@ -1,6 +1,7 @@
 //! Laws of the definitions, each the contract of a function that does nothing.
 ghost use Rattle.yaml_base.specs.JsonNumbers.{NumbersAreRead};
 ghost use Rattle.yaml_base.specs.SurelyText.{SurelyTextIsText};
+ghost use Rattle.yaml_writer.specs.PlainTexts.{PlainTextsAreTexts};
 
 /// A text that is surely one means a text by the type repository of YAML 1.1 and by the core schema of YAML 1.2.
 pub fn surely_text_is_text()
@@ -10,4 +11,9 @@ pub fn surely_text_is_text()
 /// The spelling that a writer gives a number of JSON means exactly that number by both.
 pub fn numbers_are_read()
     ensures { NumbersAreRead }
+{}
+
+/// A text in the style that a writer gives it is written plain only where both schemas read it as a text.
+pub fn plain_texts_are_texts()
+    ensures { PlainTextsAreTexts }
 {}

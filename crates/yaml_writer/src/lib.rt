@@ -1,12 +1,29 @@
-//! Values, written as YAML: which texts may stand plain, how numbers are spelled.
+//! Values, written as YAML, each by one call; which texts may stand plain, and how numbers are spelled.
 #![tactic(auto)]
 
+mod collections;
+mod giving;
+mod kinds;
 mod laws;
 mod numbers;
+mod properties;
+mod scalars;
+mod settings;
 mod spelling;
 mod texts;
 mod words;
+mod writer;
 
-pub use laws::{numbers_are_read, surely_text_is_text};
+pub use kinds::CollectionKind;
+pub use laws::{numbers_are_read, plain_texts_are_texts, surely_text_is_text};
+pub use settings::Settings;
 pub use spelling::{Spelling, number_spelling};
 pub use texts::is_surely_text;
+pub use writer::Writer;
+pub use yaml_base::{
+    YAML_ANY_BREAK, YAML_ANY_ENCODING, YAML_ANY_MAPPING_STYLE, YAML_ANY_SEQUENCE_STYLE,
+    YAML_BLOCK_MAPPING_STYLE, YAML_BLOCK_SEQUENCE_STYLE, YAML_CR_BREAK, YAML_CRLN_BREAK,
+    YAML_FLOW_MAPPING_STYLE, YAML_FLOW_SEQUENCE_STYLE, YAML_LN_BREAK, YAML_UTF8_ENCODING,
+    YAML_UTF16BE_ENCODING, YAML_UTF16LE_ENCODING, yaml_break_t, yaml_encoding_t, yaml_error_t,
+    yaml_mapping_style_t, yaml_sequence_style_t,
+};

@@ -1,0 +1,10 @@
+use Rattle.std.proofs.Common.{[], ◌∷◌, ◌++◌, true}
+use Rattle.yaml_base.specs.Event.{document_end}
+use Rattle.yaml_base.specs.Seen.{seen_event}
+use Rattle.yaml_writer.proofs.Finishing.{next_stands}
+use Rattle.yaml_writer.proofs.giving.give_next.Goals as goal
+
+pub returns-clause-adds : goal.returns-clause-adds
+returns-clause-adds g c given all stands =
+    next_stands given all (seen_event c.plain_start.result) c.yaml_emitter_emit-2.new.emitter c.plain_start.ensures
+    (c.yaml_emitter_emit-2.ensures.stands given (all ++ document_end true ∷ []) (c.yaml_emitter_emit.ensures.stands given all stands))

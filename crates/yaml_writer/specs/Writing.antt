@@ -1,0 +1,158 @@
+-- What the calls of a writer give to its emitter.
+use Rattle.std.specs.Prelude.{◌≡◌, ◌⊎◌, ℕ, ℤ, Bool, true, Option, None, Some, Result, Err, List, [], ◌∷◌, ◌++◌, codes, is_none, if◌then◌else◌}
+use Rattle.std.specs.Fmt.{signed_decimal}
+use Rattle.std.specs.List.{list_any}
+use Rattle.yaml_base.specs.Characters.{Text, is_break}
+use Rattle.yaml_base.specs.Event.{Collection, CollectionStyle, Event, ScalarStyle, any_style, plain, single_quoted, literal, stream_start, stream_end, document_start, document_end, scalar, sequence_start, sequence_end, mapping_start, mapping_end}
+use Rattle.yaml_base.specs.Refusal.{IsAccepted}
+use Rattle.yaml_base.specs.Settings.{Settings}
+use Rattle.yaml_base.specs.SurelyText.{is_surely_text}
+use Rattle.yaml_base.specs.TypedValues.{null_tag, bool_tag, int_tag, bool_text}
+use Rattle.yaml_base.specs.declared.errors.yaml_error_t.{yaml_error_t}
+use Rattle.yaml_base.specs.declared.errors.yaml_error_t.TheVariants.{ExpectedDocumentEnd, Memory}
+use Rattle.yaml_pen.specs.Page.{told}
+use Rattle.yaml_emitter.specs.State.{State}
+use Rattle.yaml_emitter.specs.StandsAfter.{StandsAfter}
+use Rattle.yaml_emitter.specs.Promises.{IsWritten, IsRefusal}
+use Rattle.yaml_writer.specs.declared.kinds.CollectionKind.{CollectionKind}
+use Rattle.yaml_writer.specs.declared.kinds.CollectionKind.TheVariants.{Mapping, Sequence}
+
+-- the emitter; whether it writes canonical form; the collections that are open, the innermost last; the anchor and the tag
+-- of the next node
+pub record WriterState : Type 0 where
+  pub emitter : State
+  pub canonical : Bool
+  pub levels : List CollectionKind
+  pub anchor : Option Text
+  pub tag : Option Text
+
+-- ---- the events
+
+-- the start of a document without directives
+abbrev pub plain_start : Event
+plain_start = document_start (record { version = None; directives = []; implicit = true })
+
+-- what a new writer has given
+abbrev pub opening : List Event
+opening = stream_start None ∷ plain_start ∷ []
+
+-- what ends a stream within a document
+abbrev pub closing : List Event
+closing = document_end true ∷ stream_end ∷ []
+
+-- a tag that was given, else this one in canonical form, where each scalar stands in quotes
+abbrev pub tag_or : Option Text → Bool → Text → Option Text
+tag_or (Some tag) canonical own = Some tag
+tag_or None canonical own = if canonical then Some own else None
+
+-- a scalar with the anchor of the next node; a tag is written where there is one
+abbrev pub scalar_event : WriterState → Option Text → Text → ScalarStyle → Event
+scalar_event writer tag value style =
+    scalar
+    (record { anchor = writer.anchor; tag = tag; value = value; plain_implicit = is_none tag; quoted_implicit = is_none tag; style = style })
+
+-- a word that stands plain, with its type's tag in canonical form
+abbrev pub word_event : WriterState → Text → Text → Event
+word_event writer own word = scalar_event writer (tag_or writer.tag writer.canonical own) word plain
+
+-- nothing
+abbrev pub null_event : WriterState → Event
+null_event writer = word_event writer null_tag (codes "null")
+
+-- a boolean
+abbrev pub bool_event : WriterState → Bool → Event
+bool_event writer value = word_event writer bool_tag (bool_text value)
+
+-- an integer, in decimal digits
+abbrev pub int_event : WriterState → ℤ → Event
+int_event writer value = word_event writer int_tag (signed_decimal value)
+
+-- a text of several lines stands literally, where it may; any other stands plain only where it is surely read as a text
+abbrev pub text_style : Text → ScalarStyle
+text_style text = if list_any is_break text then literal else (if is_surely_text text then any_style else single_quoted)
+
+-- a text
+abbrev pub text_event : WriterState → Text → Event
+text_event writer text = scalar_event writer writer.tag text (text_style text)
+
+-- the start of a collection with the properties of the next node; its tag is written where there is one
+abbrev pub collection_of : WriterState → CollectionStyle → Collection
+collection_of writer style = record { anchor = writer.anchor; tag = writer.tag; implicit = is_none writer.tag; style = style }
+
+-- a mapping begins
+abbrev pub mapping_event : WriterState → CollectionStyle → Event
+mapping_event writer style = mapping_start (collection_of writer style)
+
+-- a sequence begins
+abbrev pub sequence_event : WriterState → CollectionStyle → Event
+sequence_event writer style = sequence_start (collection_of writer style)
+
+-- a collection ends
+abbrev pub end_event : CollectionKind → Event
+end_event Mapping = mapping_end
+end_event Sequence = sequence_end
+
+-- one more collection is open
+abbrev pub entered : WriterState → CollectionKind → WriterState
+entered writer kind = record writer { levels = writer.levels ++ kind ∷ [] }
+
+-- ---- the calls
+
+-- wherever the emitter stood, it stands after one more event
+abbrev pub Adds : State → Event → State → Type 0
+Adds before event after =
+    (given : Settings) (all : List Event) → StandsAfter given all before → StandsAfter given (all ++ event ∷ []) after
+
+-- wherever the emitter stood, it stands after these events more
+abbrev pub AddsAll : State → List Event → State → Type 0
+AddsAll before events after =
+    (given : Settings) (all : List Event) → StandsAfter given all before → StandsAfter given (all ++ events) after
+
+-- these events were given to the emitter, whose error is told; nothing else changes
+pub record Passed (before : WriterState) (events : List Event) (answer : Result (Unit {0}) yaml_error_t) (after : WriterState) : Type 0 where
+  pub adds : AddsAll before.emitter events after.emitter
+  pub answered : answer ≡ told after.emitter.error
+  pub rest : after ≡ record before { emitter = after.emitter }
+
+-- the event was given to the emitter, which has this error; the next node has no properties yet
+pub record Gave (before : WriterState) (event : Event) (error : Option yaml_error_t) (after : WriterState) : Type 0 where
+  pub adds : Adds before.emitter event after.emitter
+  pub error_is : after.emitter.error ≡ error
+  pub canonical : after.canonical ≡ before.canonical
+  pub levels : after.levels ≡ before.levels
+  pub no_anchor : after.anchor ≡ None
+  pub no_tag : after.tag ≡ None
+
+-- the emitter failed, or there was no memory for the event, and nothing changed
+abbrev pub Failed : WriterState → Event → yaml_error_t → WriterState → Type 0
+Failed before event error after = Gave before event (Some error) after ⊎ ((error ≡ Memory) × (after ≡ before))
+
+-- the innermost collection was ended; the properties of the next node stay
+pub record Ended (before : WriterState) (answer : Result (Unit {0}) yaml_error_t) (after : WriterState) : Type 0 where
+  pub outer : List CollectionKind
+  pub kind : CollectionKind
+  pub levels : before.levels ≡ outer ++ kind ∷ []
+  pub adds : Adds before.emitter (end_event kind) after.emitter
+  pub answered : answer ≡ told after.emitter.error
+  pub rest : after ≡ record before { emitter = after.emitter; levels = outer }
+
+-- the innermost collection was ended, or none was open, and nothing changed
+abbrev pub EndsInnermost : WriterState → Result (Unit {0}) yaml_error_t → WriterState → Type 0
+EndsInnermost before answer after =
+    ((before.levels ≡ []) × (answer ≡ Err ExpectedDocumentEnd) × (after ≡ before)) ⊎ Ended before answer after
+
+-- bytes that are the output of a stream
+pub record IsStream (given : Settings) (all : List Event) (bytes : List ℕ) : Type 0 where
+  pub accepted : IsAccepted given.canonical all
+  pub state : State
+  pub written : IsWritten given all state
+  pub output : bytes ≡ state.page.output
+
+-- wherever the emitter stood, the bytes are the output of its events and the stream's end
+abbrev pub Finishes : State → List ℕ → Type 0
+Finishes emitter bytes = (given : Settings) (all : List Event) → StandsAfter given all emitter → IsStream given (all ++ closing) bytes
+
+-- an error other than those of memory and the limit comes only where the events are no stream
+abbrev pub IsUnfinished : State → yaml_error_t → Type 0
+IsUnfinished emitter error =
+    IsRefusal error → (given : Settings) (all : List Event) → StandsAfter given all emitter → IsAccepted given.canonical (all ++ closing) → ⊥

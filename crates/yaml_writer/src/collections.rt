@@ -1,0 +1,88 @@
+//! Collections and documents of a writer.
+ghost use Rattle.std.specs.Prelude.{◌≡◌, ◌⊎◌, IfErr, OnOk, None, Some};
+ghost use Rattle.yaml_base.specs.Seen.{seen_mapping_style, seen_sequence_style};
+ghost use Rattle.yaml_writer.specs.Writing.{EndsInnermost, Failed, Gave, entered, mapping_event, sequence_event};
+ghost use Rattle.yaml_writer.specs.declared.kinds.CollectionKind.TheVariants.{Mapping, Sequence};
+
+use crate::giving::{give_end, give_mapping, give_sequence};
+use crate::kinds::CollectionKind;
+use crate::writer::Writer;
+use std::alloc::Allocator;
+use yaml_base::{yaml_error_t, yaml_mapping_style_t, yaml_sequence_style_t};
+
+impl<A: Allocator + Copy> Writer<A> {
+    /// Begins a mapping: keys and values follow in turn, and then `end`.
+    ///
+    /// # Errors
+    /// Those of the emitter, and `Memory`.
+    pub fn begin_mapping(&mut self, style: yaml_mapping_style_t) -> Result<(), yaml_error_t>
+        ensures given { OnOk result (Gave (entered self.old Mapping) (mapping_event self.old (seen_mapping_style style)) None self.new) }
+        ensures failed { IfErr result (λ error. Gave (entered self.old Mapping) (mapping_event self.old (seen_mapping_style style)) (Some error) self.new
+            ⊎ ((error ≡ yaml_error_t.Memory) × (self.new ≡ self.old))) }
+    {
+        if let Err(error) = self.enter(CollectionKind::Mapping) {
+            return Err(error);
+        }
+        self.mapping(style)
+    }
+
+    /// Begins a sequence: items follow, and then `end`.
+    ///
+    /// # Errors
+    /// Those of the emitter, and `Memory`.
+    pub fn begin_sequence(&mut self, style: yaml_sequence_style_t) -> Result<(), yaml_error_t>
+        ensures given { OnOk result (Gave (entered self.old Sequence) (sequence_event self.old (seen_sequence_style style)) None self.new) }
+        ensures failed { IfErr result (λ error. Gave (entered self.old Sequence) (sequence_event self.old (seen_sequence_style style)) (Some error) self.new
+            ⊎ ((error ≡ yaml_error_t.Memory) × (self.new ≡ self.old))) }
+    {
+        if let Err(error) = self.enter(CollectionKind::Sequence) {
+            return Err(error);
+        }
+        self.sequence(style)
+    }
+
+    /// Ends the innermost collection that is open.
+    ///
+    /// # Errors
+    /// `ExpectedDocumentEnd` where no collection is open; nothing changes then. `ExpectedNode` where a key of a mapping has no
+    /// value, and the other errors of the emitter.
+    pub fn end(&mut self) -> Result<(), yaml_error_t>
+        ensures { EndsInnermost self.old result self.new }
+    {
+        match self.levels.pop() {
+            None => Err(yaml_error_t::ExpectedDocumentEnd),
+            Some(kind) => give_end(&mut self.emitter, kind),
+        }
+    }
+
+    /// One more collection is open.
+    fn enter(&mut self, kind: CollectionKind) -> Result<(), yaml_error_t>
+        ensures entered { OnOk result (self.new ≡ entered self.old kind) }
+        ensures full { IfErr result (λ error. (error ≡ yaml_error_t.Memory) × (self.new ≡ self.old)) }
+    {
+        if self.levels.push(kind).is_err() {
+            return Err(yaml_error_t::Memory);
+        }
+        Ok(())
+    }
+
+    /// Gives the start of a mapping to the emitter, with the properties of the next node.
+    fn mapping(&mut self, style: yaml_mapping_style_t) -> Result<(), yaml_error_t>
+        ensures given { OnOk result (Gave self.old (mapping_event self.old (seen_mapping_style style)) None self.new) }
+        ensures failed { IfErr result (λ error. Gave self.old (mapping_event self.old (seen_mapping_style style)) (Some error) self.new) }
+    {
+        let anchor = self.anchor.take();
+        let tag = self.tag.take();
+        give_mapping(&mut self.emitter, anchor, tag, style)
+    }
+
+    /// Gives the start of a sequence to the emitter, with the properties of the next node.
+    fn sequence(&mut self, style: yaml_sequence_style_t) -> Result<(), yaml_error_t>
+        ensures given { OnOk result (Gave self.old (sequence_event self.old (seen_sequence_style style)) None self.new) }
+        ensures failed { IfErr result (λ error. Gave self.old (sequence_event self.old (seen_sequence_style style)) (Some error) self.new) }
+    {
+        let anchor = self.anchor.take();
+        let tag = self.tag.take();
+        give_sequence(&mut self.emitter, anchor, tag, style)
+    }
+}

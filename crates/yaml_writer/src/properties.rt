@@ -1,0 +1,69 @@
+//! Properties of nodes, aliases, and further documents of a writer.
+ghost use Rattle.std.specs.Prelude.{◌≡◌, ◌⊎◌, IfErr, OnOk, Err, Some, [], ◌∷◌, true, chars};
+ghost use Rattle.yaml_base.specs.Event as event;
+ghost use Rattle.yaml_writer.specs.Writing.{Passed, plain_start};
+
+use crate::giving::{give_alias, give_next};
+use crate::scalars::text_of;
+use crate::writer::Writer;
+use std::alloc::Allocator;
+use yaml_base::yaml_error_t;
+
+impl<A: Allocator + Copy> Writer<A> {
+    /// Names the next node that isn't an alias, so that aliases may stand for it.
+    ///
+    /// # Errors
+    /// `Memory`; nothing changes then. A name that can't be written is refused with its node.
+    pub fn anchored(&mut self, name: &str) -> Result<(), yaml_error_t>
+        ensures named { OnOk result (self.new ≡ record self.old { anchor = Some (chars name.now) }) }
+        ensures memory { IfErr result (λ error. (error ≡ yaml_error_t.Memory) × (self.new ≡ self.old)) }
+    {
+        match text_of(self.alloc, name) {
+            Ok(name) => {
+                self.anchor = Some(name);
+                Ok(())
+            }
+            Err(error) => Err(error),
+        }
+    }
+
+    /// Gives the next node that isn't an alias a tag, which is written.
+    ///
+    /// # Errors
+    /// `Memory`; nothing changes then. A tag that can't be written is refused with its node.
+    pub fn tagged(&mut self, tag: &str) -> Result<(), yaml_error_t>
+        ensures tagged { OnOk result (self.new ≡ record self.old { tag = Some (chars tag.now) }) }
+        ensures memory { IfErr result (λ error. (error ≡ yaml_error_t.Memory) × (self.new ≡ self.old)) }
+    {
+        match text_of(self.alloc, tag) {
+            Ok(tag) => {
+                self.tag = Some(tag);
+                Ok(())
+            }
+            Err(error) => Err(error),
+        }
+    }
+
+    /// Writes an alias, which stands for the node of this name. The properties of the next node stay.
+    ///
+    /// # Errors
+    /// Those of the emitter, and `Memory`.
+    pub fn alias(&mut self, name: &str) -> Result<(), yaml_error_t>
+        ensures { ((result ≡ Err yaml_error_t.Memory) × (self.new ≡ self.old)) ⊎ Passed self.old (event.alias (chars name.now) ∷ []) result self.new }
+    {
+        match text_of(self.alloc, name) {
+            Ok(name) => give_alias(&mut self.emitter, name),
+            Err(error) => Err(error),
+        }
+    }
+
+    /// Ends the document, and begins another.
+    ///
+    /// # Errors
+    /// `ExpectedNode` where the document has no root or a collection is open; the other errors of the emitter.
+    pub fn next_document(&mut self) -> Result<(), yaml_error_t>
+        ensures { Passed self.old (event.document_end true ∷ plain_start ∷ []) result self.new }
+    {
+        give_next(self.alloc, &mut self.emitter)
+    }
+}

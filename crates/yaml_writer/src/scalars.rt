@@ -1,0 +1,151 @@
+//! Scalars of a writer.
+ghost use Rattle.std.specs.Prelude.{◌≡◌, IfOk, IfErr, OnOk, chars, option_map, None, Some, pos};
+ghost use Rattle.std.specs.Fmt.{signed_decimal};
+ghost use Rattle.yaml_base.specs.Seen.{seen_scalar_style, seen_text};
+ghost use Rattle.yaml_base.specs.TypedValues.{bool_text};
+ghost use Rattle.yaml_writer.specs.Writing.{Failed, Gave, bool_event, int_event, null_event, tag_or, text_event, text_style, word_event};
+
+use crate::texts::is_surely_text;
+use crate::writer::Writer;
+use std::alloc::{AllocError, Allocator};
+use yaml_base::{
+    YAML_ANY_SCALAR_STYLE, YAML_LITERAL_SCALAR_STYLE, YAML_PLAIN_SCALAR_STYLE,
+    YAML_SINGLE_QUOTED_SCALAR_STYLE, yaml_error_t, yaml_scalar_style_t,
+};
+use yaml_emitter::holds_break;
+
+/// A text of its own.
+pub(crate) fn text_of<A: Allocator>(alloc: A, text: &str) -> Result<String<A>, yaml_error_t>
+    ensures text { IfOk result (λ copy. seen_text copy ≡ chars text.now) }
+    ensures memory { IfErr result (λ error. error ≡ yaml_error_t.Memory) }
+{
+    String::from_str(alloc, text).map_err(|_| yaml_error_t::Memory)
+}
+
+/// The tag that a scalar of this type has in canonical form.
+fn tag_of<A: Allocator>(
+    alloc: A,
+    canonical: bool,
+    tag: &str,
+) -> Result<Option<String<A>>, yaml_error_t>
+    ensures tag { IfOk result (λ copy. option_map seen_text copy ≡ tag_or None canonical (chars tag.now)) }
+    ensures memory { IfErr result (λ error. error ≡ yaml_error_t.Memory) }
+{
+    if canonical {
+        Ok(Some(text_of(alloc, tag)?))
+    } else {
+        Ok(None)
+    }
+}
+
+/// `true` or `false`.
+fn word_of(value: bool) -> &'static str
+    ensures { chars result.now ≡ bool_text value }
+{
+    if value { "true" } else { "false" }
+}
+
+/// The decimal digits of an integer, after its sign.
+fn digits_of<A: Allocator>(alloc: A, value: i64) -> Result<String<A>, AllocError>
+    ensures { IfOk result (λ digits. seen_text digits ≡ signed_decimal value) }
+{
+    let digits = format!(in alloc; "{value}")?;
+    Ok(digits)
+}
+
+/// The decimal digits of a number.
+fn digits_of_unsigned<A: Allocator>(alloc: A, value: u64) -> Result<String<A>, AllocError>
+    ensures { IfOk result (λ digits. seen_text digits ≡ signed_decimal (pos value)) }
+{
+    let digits = format!(in alloc; "{value}")?;
+    Ok(digits)
+}
+
+/// How a text is to stand.
+fn style_of(text: &str) -> yaml_scalar_style_t
+    ensures { seen_scalar_style result ≡ text_style (chars text.now) }
+{
+    if holds_break(text) {
+        YAML_LITERAL_SCALAR_STYLE
+    } else if is_surely_text(text) {
+        YAML_ANY_SCALAR_STYLE
+    } else {
+        YAML_SINGLE_QUOTED_SCALAR_STYLE
+    }
+}
+
+impl<A: Allocator + Copy> Writer<A> {
+    /// Writes `null`.
+    ///
+    /// # Errors
+    /// Those of the emitter, and `Memory`.
+    pub fn null(&mut self) -> Result<(), yaml_error_t>
+        ensures given { OnOk result (Gave self.old (null_event self.old) None self.new) }
+        ensures failed { IfErr result (λ error. Failed self.old (null_event self.old) error self.new) }
+    {
+        self.word("tag:yaml.org,2002:null", "null")
+    }
+
+    /// Writes `true` or `false`.
+    ///
+    /// # Errors
+    /// Those of the emitter, and `Memory`.
+    pub fn bool(&mut self, value: bool) -> Result<(), yaml_error_t>
+        ensures given { OnOk result (Gave self.old (bool_event self.old value) None self.new) }
+        ensures failed { IfErr result (λ error. Failed self.old (bool_event self.old value) error self.new) }
+    {
+        self.word("tag:yaml.org,2002:bool", word_of(value))
+    }
+
+    /// Writes an integer in decimal digits.
+    ///
+    /// # Errors
+    /// Those of the emitter, and `Memory`.
+    pub fn int(&mut self, value: i64) -> Result<(), yaml_error_t>
+        ensures given { OnOk result (Gave self.old (int_event self.old value) None self.new) }
+        ensures failed { IfErr result (λ error. Failed self.old (int_event self.old value) error self.new) }
+    {
+        match digits_of(self.alloc, value) {
+            Ok(digits) => self.word("tag:yaml.org,2002:int", digits.as_str()),
+            Err(_) => Err(yaml_error_t::Memory),
+        }
+    }
+
+    /// Writes a number that isn't negative in decimal digits.
+    ///
+    /// # Errors
+    /// Those of the emitter, and `Memory`.
+    pub fn unsigned(&mut self, value: u64) -> Result<(), yaml_error_t>
+        ensures given { OnOk result (Gave self.old (int_event self.old (pos value)) None self.new) }
+        ensures failed { IfErr result (λ error. Failed self.old (int_event self.old (pos value)) error self.new) }
+    {
+        match digits_of_unsigned(self.alloc, value) {
+            Ok(digits) => self.word("tag:yaml.org,2002:int", digits.as_str()),
+            Err(_) => Err(yaml_error_t::Memory),
+        }
+    }
+
+    /// Writes a text, which no reader takes for another value: where it holds a line break, it stands literally, else plain
+    /// or in quotes.
+    ///
+    /// # Errors
+    /// Those of the emitter, and `Memory`.
+    pub fn text(&mut self, value: &str) -> Result<(), yaml_error_t>
+        ensures given { OnOk result (Gave self.old (text_event self.old (chars value.now)) None self.new) }
+        ensures failed { IfErr result (λ error. Failed self.old (text_event self.old (chars value.now)) error self.new) }
+    {
+        let style = style_of(value);
+        let value = text_of(self.alloc, value)?;
+        self.scalar(None, value, style)
+    }
+
+    /// Writes a word of a type of YAML, plain.
+    fn word(&mut self, tag: &str, word: &str) -> Result<(), yaml_error_t>
+        ensures given { OnOk result (Gave self.old (word_event self.old (chars tag.now) (chars word.now)) None self.new) }
+        ensures failed { IfErr result (λ error. Failed self.old (word_event self.old (chars tag.now) (chars word.now)) error self.new) }
+    {
+        let own = tag_of(self.alloc, self.canonical, tag)?;
+        let value = text_of(self.alloc, word)?;
+        self.scalar(own, value, YAML_PLAIN_SCALAR_STYLE)
+    }
+}

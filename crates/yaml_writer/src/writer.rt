@@ -1,0 +1,93 @@
+//! The writer: what it holds, and how it begins.
+ghost use Rattle.std.specs.Prelude.{◌≡◌, IfOk, IfErr, OnOk, [], None, Some, option_map};
+ghost use Rattle.yaml_base.specs.Seen.{seen_scalar_style, seen_text};
+ghost use Rattle.std.specs.Option.{option_or};
+ghost use Rattle.yaml_emitter.specs.StandsAfter.{StandsAfter};
+ghost use Rattle.yaml_writer.specs.Given.{seen_settings};
+ghost use Rattle.yaml_writer.specs.Writing.{Finishes, Gave, IsUnfinished, opening, scalar_event};
+
+use crate::giving::{begin, finished, give_scalar};
+use crate::kinds::CollectionKind;
+use crate::settings::{Settings, emitter_of};
+use std::alloc::Allocator;
+use std::marker::Model;
+use yaml_base::{yaml_error_t, yaml_scalar_style_t};
+use yaml_emitter::yaml_emitter_t;
+
+/// Writes values, one call each, into a vector of bytes.
+#[derive(Drop)]
+pub struct Writer<A: Allocator> {
+    pub(crate) alloc: A,
+    pub(crate) emitter: yaml_emitter_t<A>,
+    pub(crate) canonical: bool,
+    /// The innermost last.
+    pub(crate) levels: Vec<CollectionKind, A>,
+    pub(crate) anchor: Option<String<A>>,
+    pub(crate) tag: Option<String<A>>,
+}
+
+impl<A: Allocator> Model for Writer<A> {
+    ghost use Rattle.yaml_writer.specs.Writing.{WriterState};
+    ghost use Rattle.yaml_writer.specs.Inside.{state_of, IsWriter};
+
+    ghost Value = { WriterState };
+
+    ghost view = { state_of };
+
+    ghost invariant = { IsWriter };
+}
+
+impl<A: Allocator + Copy> Writer<A> {
+    /// A writer at the start of its first document.
+    ///
+    /// # Errors
+    /// `Memory` where an allocation of the writer fails. An error of its emitter comes with the next call.
+    pub fn new(alloc: A, settings: Settings) -> Result<Self, yaml_error_t>
+        ensures stands { IfOk result (λ writer. StandsAfter (seen_settings settings) opening writer.emitter) }
+        ensures canonical { IfOk result (λ writer. writer.canonical ≡ settings.canonical) }
+        ensures levels { IfOk result (λ writer. writer.levels ≡ []) }
+        ensures bare { IfOk result (λ writer. (writer.anchor ≡ None) × (writer.tag ≡ None)) }
+        ensures memory { IfErr result (λ error. error ≡ yaml_error_t.Memory) }
+    {
+        let mut emitter = emitter_of(alloc, &settings)?;
+        begin(alloc, &mut emitter);
+        Ok(Writer {
+            alloc,
+            emitter,
+            canonical: settings.canonical,
+            levels: Vec::new(alloc),
+            anchor: None,
+            tag: None,
+        })
+    }
+
+    /// Gives a scalar to the emitter, with the properties of the next node, and this tag where none was given.
+    pub(crate) fn scalar(
+        &mut self,
+        own: Option<String<A>>,
+        value: String<A>,
+        style: yaml_scalar_style_t,
+    ) -> Result<(), yaml_error_t>
+        ensures given { OnOk result (Gave self.old (scalar_event self.old (option_or self.old.tag (option_map seen_text own)) (seen_text value)
+            (seen_scalar_style style)) None self.new) }
+        ensures failed { IfErr result (λ error. Gave self.old (scalar_event self.old (option_or self.old.tag (option_map seen_text own)) (seen_text value)
+            (seen_scalar_style style)) (Some error) self.new) }
+    {
+        let anchor = self.anchor.take();
+        let tag = self.tag.take().or(own);
+        give_scalar(&mut self.emitter, anchor, tag, value, style)
+    }
+
+    /// The bytes of the stream: ends the document and the stream. A stream of more documents than one comes by
+    /// `next_document`.
+    ///
+    /// # Errors
+    /// The first error of the emitter, as `ExpectedNode` where a document has no root, or a collection is still open.
+    /// `WriteError` where the bytes pass the limit. `Memory` where an allocation fails.
+    pub fn finish(mut self) -> Result<Vec<u8, A>, yaml_error_t>
+        ensures finishes { IfOk result (λ bytes. Finishes self.emitter bytes.items) }
+        ensures unfinished { IfErr result (λ error. IsUnfinished self.emitter error) }
+    {
+        finished(self.alloc, &mut self.emitter)
+    }
+}
