@@ -8,6 +8,8 @@ mod laws;
 mod properties;
 mod scalars;
 mod settings;
+#[cfg(test)]
+mod tests;
 mod texts;
 mod words;
 mod writer;
