@@ -1,5 +1,6 @@
 //! Each crate's rows: types, pens, marks, scalars; examples of calls, emitters call by call, whole runs of scripts; scripts and
-//! the program's options, errors in a caller, typed values, numbers of JSON, proved callers.
+//! the program's options, errors in a caller, typed values, a writer of values, numbers of
+//! JSON, proved callers.
 mod callers;
 mod calling;
 mod dumps;
@@ -15,3 +16,4 @@ mod scalars;
 mod scripts;
 mod types;
 mod values;
+mod writers;

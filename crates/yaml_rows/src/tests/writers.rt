@@ -1,0 +1,150 @@
+//! Values written, against bytes written by hand.
+use std::alloc::Global;
+use std::test::Fail;
+use yaml_writer::{
+    Settings, Writer, YAML_BLOCK_MAPPING_STYLE, YAML_BLOCK_SEQUENCE_STYLE,
+    YAML_FLOW_SEQUENCE_STYLE, yaml_error_t,
+};
+
+/// A writer in portable mode.
+fn writer(alloc: Global) -> Result<Writer<Global>, yaml_error_t> {
+    Writer::new(alloc, Settings::default())
+}
+
+/// A block sequence of these texts.
+fn texts(alloc: Global, items: &[&str]) -> Result<Vec<u8, Global>, yaml_error_t> {
+    let mut writer = writer(alloc)?;
+    writer.begin_sequence(YAML_BLOCK_SEQUENCE_STYLE)?;
+    for item in items {
+        writer.text(*item)?;
+    }
+    writer.end()?;
+    writer.finish()
+}
+
+#[test]
+fn words_of_a_schema_stand_in_quotes(rt: HostRuntime) -> Result<(), Fail> {
+    let words = ["no", "NO", "n", "off", "~", "", "=", "<<", "null", "True"];
+    let expected =
+        "---\n- 'no'\n- 'NO'\n- 'n'\n- 'off'\n- '~'\n- ''\n- '='\n- '<<'\n- 'null'\n- 'True'\n";
+    assert_eq!(rt; texts(rt.alloc(), &words)?.as_slice(), expected.as_bytes());
+    Ok(())
+}
+
+#[test]
+fn what_begins_as_a_number_stands_in_quotes(rt: HostRuntime) -> Result<(), Fail> {
+    let numbers = [
+        "1:30",
+        "0o10",
+        "010",
+        "1_000",
+        ".5",
+        "1e5",
+        "2001-12-14",
+        "0x1F",
+        "+1",
+        "-.inf",
+    ];
+    let expected =
+        "---\n- '1:30'\n- '0o10'\n- '010'\n- '1_000'\n- '.5'\n- '1e5'\n- '2001-12-14'\n- '0x1F'\n- '+1'\n- '-.inf'\n";
+    assert_eq!(rt;
+        texts(rt.alloc(), &numbers)?.as_slice(),
+        expected.as_bytes()
+    );
+    Ok(())
+}
+
+#[test]
+fn other_texts_stand_plain_quoted_or_literally(rt: HostRuntime) -> Result<(), Fail> {
+    let others = ["none", "null ", "a b", "# c", "a\nb\n", "1\n2"];
+    let expected = "---\n- none\n- 'null '\n- a b\n- '# c'\n- |\n  a\n  b\n- |-\n  1\n  2\n";
+    assert_eq!(rt; texts(rt.alloc(), &others)?.as_slice(), expected.as_bytes());
+    Ok(())
+}
+
+#[test]
+fn values_of_each_kind_are_written(rt: HostRuntime) -> Result<(), Fail> {
+    let mut writer = writer(rt.alloc())?;
+    writer.begin_mapping(YAML_BLOCK_MAPPING_STYLE)?;
+    writer.text("true")?;
+    writer.bool(true)?;
+    writer.text("numbers")?;
+    writer.begin_sequence(YAML_FLOW_SEQUENCE_STYLE)?;
+    writer.int(i64::MIN)?;
+    writer.unsigned(u64::MAX)?;
+    writer.end()?;
+    writer.bool(false)?;
+    writer.null()?;
+    writer.end()?;
+    let expected =
+        "---\n'true': true\nnumbers: [-9223372036854775808, 18446744073709551615]\nfalse: null\n";
+    assert_eq!(rt; writer.finish()?.as_slice(), expected.as_bytes());
+    Ok(())
+}
+
+#[test]
+fn nodes_have_properties(rt: HostRuntime) -> Result<(), Fail> {
+    let mut writer = writer(rt.alloc())?;
+    writer.begin_sequence(YAML_BLOCK_SEQUENCE_STYLE)?;
+    writer.anchored("a")?;
+    writer.tagged("tag:yaml.org,2002:str")?;
+    writer.int(5)?;
+    writer.alias("a")?;
+    writer.end()?;
+    assert_eq!(rt;
+        writer.finish()?.as_slice(),
+        b"---\n- &a !!str 5\n- *a\n".as_slice()
+    );
+    Ok(())
+}
+
+#[test]
+fn documents_follow_one_another(rt: HostRuntime) -> Result<(), Fail> {
+    let mut writer = writer(rt.alloc())?;
+    writer.begin_sequence(YAML_BLOCK_SEQUENCE_STYLE)?;
+    writer.text("a")?;
+    writer.end()?;
+    writer.next_document()?;
+    writer.begin_sequence(YAML_BLOCK_SEQUENCE_STYLE)?;
+    writer.text("b")?;
+    writer.end()?;
+    assert_eq!(rt;
+        writer.finish()?.as_slice(),
+        b"---\n- a\n---\n- b\n".as_slice()
+    );
+    Ok(())
+}
+
+#[test]
+fn canonical_values_have_tags(rt: HostRuntime) -> Result<(), Fail> {
+    let settings = Settings {
+        canonical: true,
+        ..Settings::default()
+    };
+    let mut writer = Writer::new(rt.alloc(), settings)?;
+    writer.begin_sequence(YAML_BLOCK_SEQUENCE_STYLE)?;
+    writer.null()?;
+    writer.text("no")?;
+    writer.end()?;
+    assert_eq!(rt;
+        writer.finish()?.as_slice(),
+        b"---\n[\n  !!null \"null\",\n  \"no\",\n]\n".as_slice()
+    );
+    Ok(())
+}
+
+#[test]
+fn what_is_no_stream_is_refused(rt: HostRuntime) -> Result<(), Fail> {
+    let mut open = writer(rt.alloc())?;
+    open.begin_mapping(YAML_BLOCK_MAPPING_STYLE)?;
+    assert_eq!(rt; open.finish().err(), Some(yaml_error_t::ExpectedNode));
+    let mut keyed = writer(rt.alloc())?;
+    keyed.begin_mapping(YAML_BLOCK_MAPPING_STYLE)?;
+    keyed.text("a")?;
+    let _ = keyed.end();
+    assert_eq!(rt; keyed.finish().err(), Some(yaml_error_t::ExpectedNode));
+    let mut none = writer(rt.alloc())?;
+    assert_eq!(rt; none.end(), Err(yaml_error_t::ExpectedDocumentEnd));
+    assert_eq!(rt; none.finish().err(), Some(yaml_error_t::ExpectedNode));
+    Ok(())
+}
