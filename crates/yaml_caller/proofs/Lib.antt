@@ -4,3 +4,4 @@ pub mod SameBytes
 pub mod Dumped
 pub mod CycleFits
 pub mod PairReads
+pub mod Listing

@@ -2,6 +2,7 @@
 #![tactic(auto)]
 
 mod cycles;
+mod listed;
 mod pairs;
 mod values;
 
@@ -11,6 +12,7 @@ ghost use Rattle.yaml_emitter.specs.StandsAfter.{StandsAfter};
 ghost use Rattle.yaml_caller.specs.Letter.{letter_settings};
 
 pub use cycles::cycle_written;
+pub use listed::list_written;
 pub use pairs::pair_written;
 use std::alloc::Allocator;
 pub use values::same_bytes;

@@ -1,12 +1,19 @@
 //! The proved callers, called.
 use std::test::Fail;
-use yaml_caller::{cycle_written, letter_written, pair_written, same_bytes};
+use yaml_caller::{cycle_written, letter_written, list_written, pair_written, same_bytes};
 use yaml_value::Value;
 
 #[test]
 fn a_letter_is_written(rt: HostRuntime) -> Result<(), Fail> {
     let bytes = letter_written(rt.alloc())?;
     assert_eq!(rt; bytes.as_slice(), b"---\n\"a\"\n".as_slice());
+    Ok(())
+}
+
+#[test]
+fn a_list_is_written(rt: HostRuntime) -> Result<(), Fail> {
+    let bytes = list_written(rt.alloc())?;
+    assert_eq!(rt; bytes.as_slice(), b"---\n- 'no'\n- null\n".as_slice());
     Ok(())
 }
 

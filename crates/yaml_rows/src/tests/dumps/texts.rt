@@ -157,13 +157,19 @@ fn a_dump_that_fails_to_close_leaves_the_stream_open(rt: HostRuntime) -> Result<
     Ok(())
 }
 
+/// An emitter whose stream was closed after a document.
+fn closed(rt: &impl Abort, alloc: Global) -> Result<yaml_emitter_t<Global>, Fail> {
+    let mut emitter = begun(alloc)?;
+    let first = document(rt, alloc, shared_string(alloc)?);
+    assert_eq!(rt; dump(rt, alloc, &mut emitter, first), Ok(()));
+    assert_eq!(rt; close(rt, &mut emitter), Ok(()));
+    Ok(emitter)
+}
+
 #[test]
 fn a_closed_stream_takes_no_document(rt: HostRuntime) -> Result<(), Fail> {
     let alloc = rt.alloc();
-    let mut emitter = begun(alloc)?;
-    let first = document(&rt, alloc, shared_string(alloc)?);
-    assert_eq!(rt; dump(&rt, alloc, &mut emitter, first), Ok(()));
-    assert_eq!(rt; close(&rt, &mut emitter), Ok(()));
+    let mut emitter = closed(&rt, alloc)?;
     let empty = document(&rt, alloc, Vec::new(alloc));
     assert_eq!(rt; dump(&rt, alloc, &mut emitter, empty), Ok(()));
     let second = document(&rt, alloc, shared_string(alloc)?);
@@ -218,34 +224,37 @@ fn shared_nodes_in_each_other_are_written_once(rt: HostRuntime) -> Result<(), Fa
     Ok(())
 }
 
-#[test]
-fn anchors_past_999_have_four_digits(rt: HostRuntime) -> Result<(), Fail> {
-    let alloc = rt.alloc();
-    let mut items = Vec::new(alloc);
+/// The numbers from 2 to 1,001, and again.
+fn numbers_twice(alloc: Global) -> Result<Vec<i32>, AllocError> {
+    let mut numbers = Vec::new(alloc);
     for _ in 0..2 {
         for number in 2..=1_001 {
-            items.push(number)?;
+            numbers.push(number)?;
         }
     }
-    let mut nodes = vec![in alloc; sequence(alloc, items.as_slice())?]?;
+    Ok(numbers)
+}
+
+/// A sequence that holds each of a thousand texts twice.
+fn thousand_shared(alloc: Global) -> Result<Vec<yaml_node_t<Global>>, AllocError> {
+    let mut nodes = vec![in alloc; sequence(alloc, numbers_twice(alloc)?.as_slice())?]?;
     for _ in 0..1_000 {
         nodes.push(text(alloc, "x")?)?;
     }
+    Ok(nodes)
+}
+
+#[test]
+fn anchors_past_999_have_four_digits(rt: HostRuntime) -> Result<(), Fail> {
+    let alloc = rt.alloc();
     let mut emitter = begun(alloc)?;
+    let nodes = thousand_shared(alloc)?;
     let answer = dump(&rt, alloc, &mut emitter, document(&rt, alloc, nodes));
     assert_eq!(rt; answer, Ok(()));
     let output = str::from_utf8(emitter.output())?;
-    let mut lines = 0usize;
-    for line in output.lines() {
-        lines = lines.saturating_add(1);
-        if lines == 1_000 {
-            assert_eq!(rt; line, "- &id1000 x");
-        }
-        if lines == 2_000 {
-            assert_eq!(rt; line, "- *id1000");
-        }
-    }
-    assert_eq!(rt; lines, 2_000);
+    assert_eq!(rt; output.lines().nth(999), Some("- &id1000 x"));
+    assert_eq!(rt; output.lines().nth(1_999), Some("- *id1000"));
+    assert_eq!(rt; output.lines().count(), 2_000);
     Ok(())
 }
 

@@ -11,9 +11,39 @@ use std::alloc::Global;
 use std::process::Abort;
 use std::test::Fail;
 use yaml_base::{YAML_UTF8_ENCODING, YAML_UTF16LE_ENCODING, yaml_error_t};
+use yaml_emitter::yaml_emitter_t;
 
 /// An event, the text that its call makes ready, and how many events wait after it.
 type Turns<'a> = &'a [(Given<'a>, &'a str, usize)];
+
+// What was handed out, and how many events wait.
+fn check_output(rt: &impl Abort, emitter: &yaml_emitter_t<Global>, text: &str, held: usize) {
+    assert_eq!(rt; emitter.output(), text.as_bytes());
+    assert_eq!(rt; emitter.held(), held, "{text:?}");
+}
+
+/// Emits the events of turns, and appends the texts that they make ready.
+fn take_turns(
+    rt: &impl Abort,
+    alloc: Global,
+    emitter: &mut yaml_emitter_t<Global>,
+    turns: Turns,
+    text: &mut String,
+) -> Result<(), Fail> {
+    for (given, ready, _) in turns {
+        assert_eq!(rt; give(rt, emitter, event(alloc, given)?), Ok(()));
+        text.push_str(ready)?;
+    }
+    Ok(())
+}
+
+/// How many events wait after these turns.
+fn waiting_after(turns: Turns) -> usize {
+    match turns.last() {
+        Some((_, _, held)) => *held,
+        None => 0,
+    }
+}
 
 // Events up to one, a flush, and the rest.
 fn check_flush_after(
@@ -22,23 +52,15 @@ fn check_flush_after(
     turns: Turns,
     count: usize,
 ) -> Result<(), Fail> {
-    let mut emitter = begun(alloc, &UNSET)?;
+    assert!(rt; count <= turns.len());
+    let (first, rest) = turns.split_at(count);
     let mut text = String::new(alloc);
-    let mut waiting = 0;
-    for (given, ready, held) in turns.iter().take(count) {
-        assert_eq!(rt; give(rt, &mut emitter, event(alloc, given)?), Ok(()));
-        text.push_str(ready)?;
-        waiting = *held;
-    }
+    let mut emitter = begun(alloc, &UNSET)?;
+    take_turns(rt, alloc, &mut emitter, first, &mut text)?;
     assert_eq!(rt; flush_if_known(rt, &mut emitter), Ok(()), "{count}");
-    assert_eq!(rt; emitter.output(), text.as_str().as_bytes(), "{count}");
-    assert_eq!(rt; emitter.held(), waiting, "{count}");
-    for (given, ready, _) in turns.iter().skip(count) {
-        assert_eq!(rt; give(rt, &mut emitter, event(alloc, given)?), Ok(()));
-        text.push_str(ready)?;
-    }
-    assert_eq!(rt; emitter.output(), text.as_str().as_bytes(), "{count}");
-    assert_eq!(rt; emitter.held(), 0);
+    check_output(rt, &emitter, text.as_str(), waiting_after(first));
+    take_turns(rt, alloc, &mut emitter, rest, &mut text)?;
+    check_output(rt, &emitter, text.as_str(), 0);
     Ok(())
 }
 
@@ -121,12 +143,10 @@ fn a_flow_sequence_waits_for_two_events(rt: HostRuntime) -> Result<(), Fail> {
     let events = [Stream, Document, outer, FlowSequence, Text("x")];
     assert_eq!(rt; emit_all(&rt, alloc, &mut emitter, &events)?, None);
     assert_eq!(rt; flush_if_known(&rt, &mut emitter), Ok(()));
-    assert_eq!(rt; emitter.output(), b"&a".as_slice());
-    assert_eq!(rt; emitter.held(), 2);
+    check_output(&rt, &emitter, "&a", 2);
     let rest = [SequenceEnd, SequenceEnd, DocumentEnd, StreamEnd];
     assert_eq!(rt; emit_all(&rt, alloc, &mut emitter, &rest)?, None);
-    assert_eq!(rt; emitter.output(), b"&a [[x]]\n".as_slice());
-    assert_eq!(rt; emitter.held(), 0);
+    check_output(&rt, &emitter, "&a [[x]]\n", 0);
     Ok(())
 }
 
