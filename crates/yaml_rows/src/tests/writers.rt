@@ -62,22 +62,32 @@ fn other_texts_stand_plain_quoted_or_literally(rt: HostRuntime) -> Result<(), Fa
     Ok(())
 }
 
+/// The largest and the smallest integers, on one line.
+fn give_bounds(writer: &mut Writer<Global>) -> Result<(), yaml_error_t> {
+    writer.begin_sequence(YAML_FLOW_SEQUENCE_STYLE)?;
+    writer.int(i64::MIN)?;
+    writer.unsigned(u64::MAX)?;
+    writer.end()
+}
+
+/// A text and a boolean, then a boolean and null, as keys with their values.
+fn give_words(writer: &mut Writer<Global>) -> Result<(), yaml_error_t> {
+    writer.text("true")?;
+    writer.bool(true)?;
+    writer.bool(false)?;
+    writer.null()
+}
+
 #[test]
 fn values_of_each_kind_are_written(rt: HostRuntime) -> Result<(), Fail> {
     let mut writer = writer(rt.alloc())?;
     writer.begin_mapping(YAML_BLOCK_MAPPING_STYLE)?;
-    writer.text("true")?;
-    writer.bool(true)?;
+    give_words(&mut writer)?;
     writer.text("numbers")?;
-    writer.begin_sequence(YAML_FLOW_SEQUENCE_STYLE)?;
-    writer.int(i64::MIN)?;
-    writer.unsigned(u64::MAX)?;
-    writer.end()?;
-    writer.bool(false)?;
-    writer.null()?;
+    give_bounds(&mut writer)?;
     writer.end()?;
     let expected =
-        "---\n'true': true\nnumbers: [-9223372036854775808, 18446744073709551615]\nfalse: null\n";
+        "---\n'true': true\nfalse: null\nnumbers: [-9223372036854775808, 18446744073709551615]\n";
     assert_eq!(rt; writer.finish()?.as_slice(), expected.as_bytes());
     Ok(())
 }
