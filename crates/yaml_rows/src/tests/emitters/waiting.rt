@@ -10,7 +10,7 @@ use super::{Setting, UNSET, begun, check_failed, emit_all, flush_if_known, give}
 use std::alloc::Global;
 use std::process::Abort;
 use std::test::Fail;
-use yaml_base::{YAML_UTF8_ENCODING, YAML_UTF16LE_ENCODING, yaml_error_t};
+use yaml_base::{YAML_UTF8_ENCODING, YAML_UTF16LE_ENCODING, yaml_encoding_t, yaml_error_t};
 use yaml_emitter::yaml_emitter_t;
 
 /// An event, the text that its call makes ready, and how many events wait after it.
@@ -162,30 +162,29 @@ fn a_canonical_item_is_handed_out_without_its_comma(rt: HostRuntime) -> Result<(
     let events = [Stream, Document, BlockSequence, Text("a"), Text("b")];
     assert_eq!(rt; emit_all(&rt, alloc, &mut emitter, &events)?, None);
     assert_eq!(rt; flush_if_known(&rt, &mut emitter), Ok(()));
-    assert_eq!(rt; emitter.output(), b"---\n[\n  \"a\",\n  \"b\"".as_slice());
-    assert_eq!(rt; emitter.held(), 0);
+    check_output(&rt, &emitter, "---\n[\n  \"a\",\n  \"b\"", 0);
     Ok(())
 }
 
 // What was written before a refused event can no longer be handed out.
+fn check_wrong_place(rt: &impl Abort, alloc: Global, flushed: bool) -> Result<(), Fail> {
+    let events = [Stream, Document, FlowSequence, Text("a"), Text("b")];
+    let mut emitter = begun(alloc, &UNSET)?;
+    assert_eq!(rt; emit_all(rt, alloc, &mut emitter, &events)?, None);
+    if flushed {
+        assert_eq!(rt; flush_if_known(rt, &mut emitter), Ok(()));
+    }
+    let answer = give(rt, &mut emitter, event(alloc, &DocumentEnd)?);
+    assert_eq!(rt; answer, Err(yaml_error_t::ExpectedNode));
+    check_failed(rt, &mut emitter, yaml_error_t::ExpectedNode);
+    check_output(rt, &emitter, if flushed { "[a, b" } else { "" }, 0);
+    Ok(())
+}
+
 #[test]
 fn an_event_in_a_wrong_place_ends_the_output(rt: HostRuntime) -> Result<(), Fail> {
-    let alloc = rt.alloc();
-    let error = yaml_error_t::ExpectedNode;
-    let events = [Stream, Document, FlowSequence, Text("a"), Text("b")];
-    for flushed in [true, false] {
-        let mut emitter = begun(alloc, &UNSET)?;
-        assert_eq!(rt; emit_all(&rt, alloc, &mut emitter, &events)?, None);
-        if flushed {
-            assert_eq!(rt; flush_if_known(&rt, &mut emitter), Ok(()));
-        }
-        let answer = give(&rt, &mut emitter, event(alloc, &DocumentEnd)?);
-        assert_eq!(rt; answer, Err(error));
-        check_failed(&rt, &mut emitter, error);
-        let text: &[u8] = if flushed { b"[a, b" } else { b"" };
-        assert_eq!(rt; emitter.output(), text);
-    }
-    Ok(())
+    check_wrong_place(&rt, rt.alloc(), true)?;
+    check_wrong_place(&rt, rt.alloc(), false)
 }
 
 #[test]
@@ -203,28 +202,38 @@ fn a_flush_past_the_limit_is_refused(rt: HostRuntime) -> Result<(), Fail> {
     Ok(())
 }
 
+// A stream that waits for its start has handed out nothing.
+fn check_unstarted(rt: &impl Abort, emitter: &mut yaml_emitter_t<Global>) {
+    assert!(rt; emitter.encoding_known());
+    assert!(rt; !emitter.is_started());
+    assert_eq!(rt; flush_if_known(rt, emitter), Ok(()));
+    assert_eq!(rt; emitter.output(), b"".as_slice());
+    assert!(rt; !emitter.is_started());
+}
+
+// A flush before a stream without documents, whose output is this.
+fn check_early_flush(
+    rt: &impl Abort,
+    alloc: Global,
+    encoding: yaml_encoding_t,
+    output: &[u8],
+) -> Result<(), Fail> {
+    let setting = Setting { encoding, ..UNSET };
+    let mut emitter = begun(alloc, &setting)?;
+    check_unstarted(rt, &mut emitter);
+    assert_eq!(rt;
+        emit_all(rt, alloc, &mut emitter, &[Stream, StreamEnd])?,
+        None
+    );
+    assert!(rt; emitter.is_started());
+    assert_eq!(rt; emitter.output(), output);
+    Ok(())
+}
+
 // An encoding that was set is known before the stream begins; there is nothing to hand out.
 #[test]
 fn a_flush_before_the_stream_hands_out_nothing(rt: HostRuntime) -> Result<(), Fail> {
     let alloc = rt.alloc();
-    for encoding in [YAML_UTF8_ENCODING, YAML_UTF16LE_ENCODING] {
-        let setting = Setting { encoding, ..UNSET };
-        let mut emitter = begun(alloc, &setting)?;
-        assert!(rt; emitter.encoding_known());
-        assert!(rt; !emitter.is_started());
-        assert_eq!(rt; flush_if_known(&rt, &mut emitter), Ok(()));
-        assert_eq!(rt; emitter.output(), b"".as_slice());
-        assert!(rt; !emitter.is_started());
-        assert_eq!(rt;
-            emit_all(&rt, alloc, &mut emitter, &[Stream, StreamEnd])?,
-            None
-        );
-        assert!(rt; emitter.is_started());
-        let mark: &[u8] = match encoding {
-            YAML_UTF8_ENCODING => b"",
-            _ => b"\xFF\xFE",
-        };
-        assert_eq!(rt; emitter.output(), mark);
-    }
-    Ok(())
+    check_early_flush(&rt, alloc, YAML_UTF8_ENCODING, b"")?;
+    check_early_flush(&rt, alloc, YAML_UTF16LE_ENCODING, b"\xFF\xFE")
 }
