@@ -170,8 +170,8 @@ pub overflowed : (given : Settings) (all : List Event) (state : State) → Stand
 overflowed given all state stands promised is =
     stopped_by given all state encoding passes
     (λ accepted uncut.
-        let more = more_bytes (settings_for given all) state.page (list_layout (settings_for given all) all) encoding (stopped_text given all state stopped accepted) in
-        omega (arith, passes, uncut, more))
+    let more = more_bytes (settings_for given all) state.page (list_layout (settings_for given all) all) encoding (stopped_text given all state stopped accepted) in
+    omega (arith, passes, uncut, more))
     (subst (λ (error : Option yaml_error_t). OutputBegins given all error state) is promised.output)
   where
     stopped : StandsStopped given all WriteError state

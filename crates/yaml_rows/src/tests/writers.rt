@@ -195,7 +195,10 @@ fn a_number_takes_the_properties_of_the_next_node(rt: HostRuntime) -> Result<(),
     writer.anchored("a")?;
     writer.tagged("tag:yaml.org,2002:float")?;
     give_number(&mut writer, "5")?;
-    assert_eq!(rt; writer.finish()?.as_slice(), b"--- &a !!float 5\n".as_slice());
+    assert_eq!(rt;
+        writer.finish()?.as_slice(),
+        b"--- &a !!float 5\n".as_slice()
+    );
     Ok(())
 }
 

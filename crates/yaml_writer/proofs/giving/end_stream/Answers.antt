@@ -12,11 +12,12 @@ returns-in-Err-clause-unfinished g c =
     let after = c.yaml_emitter_emit-2.new.emitter in
     failed_unfinished before after c.in-Err.error
     (λ error is.
-        error_kept between after error c.yaml_emitter_emit-2.ensures.kept (error_kept before between error c.yaml_emitter_emit.ensures.kept is))
+    error_kept between after error c.yaml_emitter_emit-2.ensures.kept (error_kept before between error c.yaml_emitter_emit.ensures.kept is))
     (λ given all stands.
-        let ended = c.yaml_emitter_emit.ensures.stands given all stands in
-        (closed_stands given all after (c.yaml_emitter_emit-2.ensures.stands given (all ++ document_end true ∷ []) ended),
-        closed given all after (c.yaml_emitter_emit-2.ensures.promised given (all ++ document_end true ∷ []) ended)))
+    let ended = c.yaml_emitter_emit.ensures.stands given all stands in (
+      closed_stands given all after (c.yaml_emitter_emit-2.ensures.stands given (all ++ document_end true ∷ []) ended),
+      closed given all after (c.yaml_emitter_emit-2.ensures.promised given (all ++ document_end true ∷ []) ended),
+    ))
     (some_from_told after.error c.in-Err.error c.in-Err.ensures.answered)
 
 pub returns-then-held-gt0-clause-unfinished : goal.returns-then-held-gt0-clause-unfinished
@@ -26,10 +27,10 @@ returns-then-held-gt0-clause-unfinished g c =
     let after = c.yaml_emitter_emit-2.new.emitter in
     waiting_unfinished before after
     (λ error is.
-        error_kept between after error c.yaml_emitter_emit-2.ensures.kept (error_kept before between error c.yaml_emitter_emit.ensures.kept is))
+    error_kept between after error c.yaml_emitter_emit-2.ensures.kept (error_kept before between error c.yaml_emitter_emit.ensures.kept is))
     (λ given all stands.
-        closed given all after
-        (c.yaml_emitter_emit-2.ensures.promised given (all ++ document_end true ∷ []) (c.yaml_emitter_emit.ensures.stands given all stands)))
+    closed given all after
+    (c.yaml_emitter_emit-2.ensures.promised given (all ++ document_end true ∷ []) (c.yaml_emitter_emit.ensures.stands given all stands)))
     (none_from_told after.error c.in_default.ensures.answered)
     (some_waits c.held.result after.held c.if-held-gt0.true c.held.ensures)
 
@@ -49,5 +50,5 @@ returns-clause-clean g c =
     let after = c.yaml_emitter_emit-2.new.emitter in
     none_before before.error after.error
     (λ error is.
-        error_kept between after error c.yaml_emitter_emit-2.ensures.kept (error_kept before between error c.yaml_emitter_emit.ensures.kept is))
+    error_kept between after error c.yaml_emitter_emit-2.ensures.kept (error_kept before between error c.yaml_emitter_emit.ensures.kept is))
     (none_from_told after.error c.in_default.ensures.answered)
