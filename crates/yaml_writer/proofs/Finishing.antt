@@ -1,16 +1,18 @@
 -- What it comes to that a document and its stream are ended.
-use Rattle.std.proofs.Common.{◌≡◌, refl, sym, ap, ◌∙◌, arith, subst, append_assoc}
+use Rattle.std.proofs.Common.{◌≡◌, refl, sym, ap, ◌∙◌, arith, subst, append_assoc, inl, inr}
 use Rattle.std.proofs.lemmas.List.{nil_from_length}
-use Rattle.std.specs.Prelude.{ℕ, ◌<◌, ◌≤◌, true, None, Some, List, [], ◌∷◌, ◌++◌, length, Result, Ok, Err, Vec, IfOk, IfErr}
+use Rattle.std.specs.Prelude.{ℕ, ◌<◌, ◌≤◌, true, Option, None, Some, IsSome, is_some, unwrap_or, List, [], ◌∷◌, ◌++◌, length, Result, Ok, Err, Vec, IfOk, IfErr}
 use Rattle.yaml_base.specs.Event.{Event, stream_end, document_end}
 use Rattle.yaml_base.specs.Refusal.{IsAccepted}
 use Rattle.yaml_base.specs.Settings.{Settings}
 use Rattle.yaml_base.specs.declared.errors.yaml_error_t.{yaml_error_t}
-use Rattle.yaml_base.specs.declared.errors.yaml_error_t.TheVariants.{Memory}
+use Rattle.yaml_base.specs.declared.errors.yaml_error_t.TheVariants.{ExpectedNode, WriteError, Memory}
 use Rattle.yaml_emitter.specs.State.{State}
 use Rattle.yaml_emitter.specs.StandsAfter.{StandsAfter}
-use Rattle.yaml_emitter.specs.Promises.{Promised, HasRoom, IsRefusal, ends_stream}
-use Rattle.yaml_writer.specs.Writing.{IsStream, Finishes, IsUnfinished, closing, plain_start}
+use Rattle.yaml_emitter.specs.Promises.{Promised, RefusedAt, HasRoom, IsRefusal, ends_stream}
+use Rattle.yaml_writer.specs.Unfinished.{IsUnfinished, RefusesOne}
+use Rattle.yaml_writer.specs.Writing.{IsStream, Finishes, closing, plain_start}
+use Rattle.yaml_writer.proofs.Overflow.{overflowed}
 
 -- more events before the last are passed over
 ends_later : (event next : Event) (rest : List Event) → ends_stream (event ∷ next ∷ rest) ≡ ends_stream (next ∷ rest)
@@ -28,6 +30,11 @@ pub closed : (given : Settings) (all : List Event) (state : State) → Promised 
     → Promised given (all ++ closing) state
 closed given all state = subst (λ (events : List Event). Promised given events state) (append_assoc all (document_end true ∷ []) (stream_end ∷ []))
 
+pub closed_stands : (given : Settings) (all : List Event) (state : State) → StandsAfter given ((all ++ document_end true ∷ []) ++ stream_end ∷ []) state
+    → StandsAfter given (all ++ closing) state
+closed_stands given all state =
+    subst (λ (events : List Event). StandsAfter given events state) (append_assoc all (document_end true ∷ []) (stream_end ∷ []))
+
 -- without an error and an event that waits, the output is that of a stream
 pub stream_finished : (given : Settings) (all : List Event) (state : State) → Promised given (all ++ closing) state → state.error ≡ None → state.held ≡ []
     → IsStream given (all ++ closing) state.page.output
@@ -37,19 +44,87 @@ stream_finished given all state promised none held =
     record { accepted = accepted; state = state; written = promised.whole none accepted; output = refl }
 
 -- where an event was refused, the events are no stream
-pub refused_unfinished : (given : Settings) (all : List Event) (error : yaml_error_t) (state : State) → Promised given (all ++ closing) state
+refused_unaccepted : (given : Settings) (all : List Event) (error : yaml_error_t) (state : State) → Promised given (all ++ closing) state
     → state.error ≡ Some error → IsRefusal error → IsAccepted given.canonical (all ++ closing) → ⊥
-refused_unfinished given all error state promised some refusal accepted =
+refused_unaccepted given all error state promised some refusal accepted =
     apart (sym ((promised.ends (ends_last all) (subst HasRoom (sym some) refusal)).0 accepted).0 ∙ some)
   where
     apart : None ≡ Some error → ⊥
     apart is = cc
 
 -- nor where an event waits
-pub waiting_unfinished : (given : Settings) (all : List Event) (state : State) → Promised given (all ++ closing) state → state.error ≡ None
+waiting_unaccepted : (given : Settings) (all : List Event) (state : State) → Promised given (all ++ closing) state → state.error ≡ None
     → (state.held ≡ [] → ⊥) → IsAccepted given.canonical (all ++ closing) → ⊥
-waiting_unfinished given all state promised none some accepted =
+waiting_unaccepted given all state promised none some accepted =
     some ((promised.ends (ends_last all) (subst HasRoom (sym none) tt)).0 accepted).1
+
+-- the event that was refused
+refuses_one : (given : Settings) (all : List Event) (error : yaml_error_t) (state : State) → RefusedAt given all error state
+    → RefusesOne given.canonical all error
+refuses_one given all error state at = record {
+  front = at.front;
+  event = at.event;
+  later = at.later;
+  parts = at.parts;
+  begins = at.begins;
+  refusal = at.refusal;
+}
+
+-- Errors that were there before
+
+-- an error stays when an event is given
+pub error_kept : (before after : State) (error : yaml_error_t) → (IsSome before.error → after ≡ record before { started = true })
+    → before.error ≡ Some error → after.error ≡ Some error
+error_kept before after error kept is = ap (λ (s : State). s.error) (kept (ap is_some is)) ∙ is
+
+pub same_error : (a b : yaml_error_t) → Some a ≡ Some b → a ≡ b
+same_error a b is = ap (λ o. unwrap_or o a) is
+
+pub none_before : (before after : Option yaml_error_t) → ((error : yaml_error_t) → before ≡ Some error → after ≡ Some error) → after ≡ None → before ≡ None
+none_before None after stays none = refl
+none_before (Some error) after stays none = absurd (apart (sym none ∙ stays error refl))
+  where
+    apart : None ≡ Some error → ⊥
+    apart is = cc
+
+-- All
+
+-- what an error of the emitter comes to, once document and stream were ended
+pub failed_unfinished : (before after : State) (error : yaml_error_t) → ((earlier : yaml_error_t) → before.error ≡ Some earlier → after.error ≡ Some earlier)
+    → ((given : Settings) (all : List Event) → StandsAfter given all before
+    → StandsAfter given (all ++ closing) after × Promised given (all ++ closing) after)
+    → after.error ≡ Some error → IsUnfinished before error
+failed_unfinished before after error stays ends is = record {
+  first = λ earlier was. same_error error earlier (sym is ∙ stays earlier was);
+  full = λ full given all stands.
+      let ended = ends given all stands in
+      overflowed given (all ++ closing) after ended.0 ended.1 (is ∙ ap (λ (e : yaml_error_t). Some e) full);
+  refused = λ refusal given all stands.
+      let ended = ends given all stands in
+      record {
+        unaccepted = refused_unaccepted given all error after ended.1 is refusal;
+        named = inl (refuses_one given (all ++ closing) error after (ended.1.refused error is refusal));
+      };
+}
+
+-- what it comes to that an event waits
+pub waiting_unfinished : (before after : State) → ((earlier : yaml_error_t) → before.error ≡ Some earlier → after.error ≡ Some earlier)
+    → ((given : Settings) (all : List Event) → StandsAfter given all before → Promised given (all ++ closing) after)
+    → after.error ≡ None → (after.held ≡ [] → ⊥) → IsUnfinished before ExpectedNode
+waiting_unfinished before after stays ends none some = record {
+  first = λ earlier was. absurd (apart earlier (sym none ∙ stays earlier was));
+  full = λ is. absurd (other is);
+  refused = λ refusal given all stands. record {
+    unaccepted = waiting_unaccepted given all after (ends given all stands) none some;
+    named = inr refl;
+  };
+}
+  where
+    apart : (earlier : yaml_error_t) → None ≡ Some earlier → ⊥
+    apart earlier is = cc
+
+    other : ExpectedNode ≡ WriteError → ⊥
+    other is = cc
 
 -- a copy of the output
 pub copy_finishes : {A E : Type 0} (answer : Result (Vec ℕ A) E) (emitter : State) (output : List ℕ) → Finishes emitter output
@@ -57,11 +132,24 @@ pub copy_finishes : {A E : Type 0} (answer : Result (Vec ℕ A) E) (emitter : St
 copy_finishes (Ok copy) emitter output finishes same = subst (Finishes emitter) (sym same) finishes
 copy_finishes (Err error) emitter output finishes same = tt
 
--- an error of memory tells of no event
-pub memory_unfinished : {T : Type 0} (answer : Result T yaml_error_t) (emitter : State) → IfErr answer (λ error. error ≡ Memory)
+-- where nothing failed before, an error of memory tells of no event
+memory_alone : (emitter : State) → emitter.error ≡ None → IsUnfinished emitter Memory
+memory_alone emitter none = record {
+  first = λ earlier was. absurd (apart earlier (sym none ∙ was));
+  full = λ is. absurd (other is);
+  refused = λ refusal. absurd refusal;
+}
+  where
+    apart : (earlier : yaml_error_t) → None ≡ Some earlier → ⊥
+    apart earlier is = cc
+
+    other : Memory ≡ WriteError → ⊥
+    other is = cc
+
+pub memory_unfinished : {T : Type 0} (answer : Result T yaml_error_t) (emitter : State) → emitter.error ≡ None → IfErr answer (λ error. error ≡ Memory)
     → IfErr answer (λ error. IsUnfinished emitter error)
-memory_unfinished (Ok value) emitter memory = tt
-memory_unfinished (Err error) emitter memory = λ refusal. absurd (subst IsRefusal memory refusal)
+memory_unfinished (Ok value) emitter none memory = tt
+memory_unfinished (Err error) emitter none memory = subst (IsUnfinished emitter) (sym memory) (memory_alone emitter none)
 
 -- what the number of events that wait says
 pub some_waits : (count : ℕ) (held : List Event) → 0 < count → count ≡ length held → held ≡ [] → ⊥

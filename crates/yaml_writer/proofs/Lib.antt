@@ -1,7 +1,10 @@
 pub mod WordLemmas
+pub mod ValidNumbers
 pub mod PartLemmas
 pub mod SpellingLemmas
 pub mod UnchangedSpellings
+pub mod Overflow
 pub mod Finishing
 pub mod Digits
 pub mod PlainLemmas
+pub mod PlainNumbers

@@ -8,8 +8,9 @@ use Rattle.yaml_base.specs.Characters.{Text}
 use Rattle.yaml_base.specs.Script.{is_word}
 use Rattle.yaml_base.specs.Resolved.{is_decimal, is_negative, past_sign, are_digits}
 use Rattle.yaml_base.specs.JsonNumbers.{JsonNumber, JsonExponent, minus, is_whole, is_json_number, exponent_text, json_text}
-use Rattle.yaml_base.proofs.NumberCuts.{HasDigits, digit_unlike, minus_read}
-use Rattle.yaml_writer.specs.NumberParts.{cut_at, past_minus, sign_of, exponent_in, around, exponent_cut, around_point, fraction_cut, number_in, IsNumber, IsNoNumber}
+use Rattle.yaml_base.proofs.NumberCuts.{digit_unlike, minus_read}
+use Rattle.yaml_writer.specs.NumberParts.{cut_at, past_minus, sign_of, exponent_in, around, exponent_cut, around_point, fraction_cut, number_in, IsNumber, IsNoNumber, is_fraction, is_exponent}
+use Rattle.yaml_writer.proofs.ValidNumbers.{Valid, valid_parts}
 
 -- Cuts
 
@@ -153,16 +154,12 @@ digits_lack sign (c ∷ digits) other h =
     both : (is_decimal c ≡ true) × (list_all is_decimal digits ≡ true)
     both = and_parts (is_decimal c) (list_all is_decimal digits) h
 
--- digits stand after a point, where there is one
-abbrev AreDigits : Option Text → Type 0
-AreDigits None = ⊤
-AreDigits (Some digits) = list_all is_decimal digits ≡ true
-
-fraction_lacks : (sign : ℕ) (fraction : Option Text) → is_decimal sign ≡ false → (0x2E == sign) ≡ false → AreDigits fraction
+fraction_lacks : (sign : ℕ) (fraction : Option Text) → is_decimal sign ≡ false → (0x2E == sign) ≡ false → is_fraction fraction ≡ true
     → lacks sign (fraction_text fraction) ≡ true
 fraction_lacks sign None other point h = refl
 fraction_lacks sign (Some digits) other point h =
-    and_from (not (0x2E == sign)) (lacks sign digits) (not_from_false (0x2E == sign) point) (digits_lack sign digits other h)
+    and_from (not (0x2E == sign)) (lacks sign digits) (not_from_false (0x2E == sign) point)
+    (digits_lack sign digits other (and_parts (not (length digits == 0)) (list_all is_decimal digits) h).1)
 
 fraction_cut_at : (whole : Text) (fraction : Option Text) → list_all is_decimal whole ≡ true → fraction_cut (whole ++ fraction_text fraction) ≡ (whole, fraction)
 fraction_cut_at whole None h =
@@ -207,7 +204,7 @@ exponent_found capital None (c ∷ digits) h =
     unsigned =
         ap (λ x. if x then Some true else (if c == 0x2B then Some false else None)) no_minus ∙ ap (λ x. if x then Some false else None) no_plus
 
-exponent_cut_at : (mantissa : Text) (exponent : Option JsonExponent) → lacks 0x65 mantissa ≡ true → lacks 0x45 mantissa ≡ true → HasDigits exponent
+exponent_cut_at : (mantissa : Text) (exponent : Option JsonExponent) → lacks 0x65 mantissa ≡ true → lacks 0x45 mantissa ≡ true → is_exponent exponent ≡ true
     → exponent_cut (mantissa ++ exponent_text exponent) ≡ (mantissa, exponent)
 exponent_cut_at mantissa None h g e =
     ap exponent_cut (append-nil mantissa)
@@ -249,7 +246,7 @@ past_minus_at true c rest h = refl
 past_minus_at false c rest h = ap (λ x. if x then rest else c ∷ rest) (digit_unlike c 0x2D refl h)
 
 cut_of : (negative : Bool) (c : ℕ) (whole : Text) (fraction : Option Text) (exponent : Option JsonExponent) → list_all is_decimal (c ∷ whole) ≡ true
-    → AreDigits fraction → HasDigits exponent
+    → is_fraction fraction ≡ true → is_exponent exponent ≡ true
     → number_in (minus negative ++ (((c ∷ whole) ++ fraction_text fraction) ++ exponent_text exponent))
     ≡ record { negative = negative; whole = c ∷ whole; fraction = fraction; exponent = exponent }
 cut_of negative c whole fraction exponent h g e =
@@ -277,16 +274,8 @@ cut_of negative c whole fraction exponent h g e =
     mantissa_lacks sign other point =
         lacks_both sign (c ∷ whole) (fraction_text fraction) (digits_lack sign (c ∷ whole) other h) (fraction_lacks sign fraction other point g)
 
-fraction_digits : (fraction : Option Text) → elim fraction as (λ _. Bool) [ None ↦ true | Some digits ↦ are_digits 10 digits ] ≡ true → AreDigits fraction
-fraction_digits None h = tt
-fraction_digits (Some digits) h = (and_parts (not (length digits == 0)) (list_all is_decimal digits) h).1
-
-exponent_digits : (exponent : Option JsonExponent) → elim exponent as (λ _. Bool) [ None ↦ true | Some e ↦ are_digits 10 e.digits ] ≡ true → HasDigits exponent
-exponent_digits None h = tt
-exponent_digits (Some exponent) h = h
-
-cut_of_parts : (negative : Bool) (whole : Text) (fraction : Option Text) (exponent : Option JsonExponent) → is_whole whole ≡ true → AreDigits fraction
-    → HasDigits exponent
+cut_of_parts : (negative : Bool) (whole : Text) (fraction : Option Text) (exponent : Option JsonExponent) → is_whole whole ≡ true → is_fraction fraction ≡ true
+    → is_exponent exponent ≡ true
     → number_in (minus negative ++ ((whole ++ fraction_text fraction) ++ exponent_text exponent))
     ≡ record { negative = negative; whole = whole; fraction = fraction; exponent = exponent }
 cut_of_parts negative [] fraction exponent h g e = absurd (true≢false (sym h))
@@ -302,20 +291,10 @@ number_found number h =
     ap number_in
     (ap (λ t. t ++ exponent_text number.exponent) (append_assoc (minus number.negative) number.whole (fraction_text number.fraction))
     ∙ append_assoc (minus number.negative) (number.whole ++ fraction_text number.fraction) (exponent_text number.exponent))
-    ∙ cut_of_parts number.negative number.whole number.fraction number.exponent inner.0 (fraction_digits number.fraction inner.1)
-    (exponent_digits number.exponent outer.1)
+    ∙ cut_of_parts number.negative number.whole number.fraction number.exponent valid.whole valid.fraction valid.exponent
   where
-    fraction_valid : Bool
-    fraction_valid = elim number.fraction as (λ _. Bool) [ None ↦ true | Some digits ↦ are_digits 10 digits ]
-
-    exponent_valid : Bool
-    exponent_valid = elim number.exponent as (λ _. Bool) [ None ↦ true | Some exponent ↦ are_digits 10 exponent.digits ]
-
-    outer : ((is_whole number.whole && fraction_valid) ≡ true) × (exponent_valid ≡ true)
-    outer = and_parts (is_whole number.whole && fraction_valid) exponent_valid h
-
-    inner : (is_whole number.whole ≡ true) × (fraction_valid ≡ true)
-    inner = and_parts (is_whole number.whole) fraction_valid outer.0
+    valid : Valid number
+    valid = valid_parts number h
 
 -- Both ways
 

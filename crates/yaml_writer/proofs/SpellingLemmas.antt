@@ -1,4 +1,5 @@
--- A number's text and its spelling are ASCII, so by bytes and by characters they are the same; and when both are the same.
+-- Which characters stand in a number's text and in its spelling: ASCII, so by bytes and by characters they are the same; and
+-- when both are the same.
 use Rattle.std.proofs.Common.{◌≡◌, refl, sym, ap, ◌∙◌, append_assoc, append-nil, arith}
 use Rattle.std.proofs.lemmas.Bool.{true≢false, and_parts, and_from, lt-ltb, ltb-true}
 use Rattle.std.proofs.lemmas.List.Folds.{list_all-append}
@@ -10,129 +11,138 @@ use Rattle.std.specs.Str.{chars, IsUtf8, encode_utf8_all}
 use Rattle.std.specs.Prelude.{ℕ, Bool, true, false, Option, None, Some, List, [], ◌∷◌, ◌++◌, ◌==◌, ◌||◌, ◌&&◌, not, nat_lt, length, codes, is_some, if◌then◌else◌}
 use Rattle.yaml_base.specs.Characters.{Text}
 use Rattle.yaml_base.specs.Script.{is_word}
-use Rattle.yaml_base.specs.Resolved.{is_decimal, are_digits}
+use Rattle.yaml_base.specs.Resolved.{is_decimal, first_is, are_digits}
 use Rattle.yaml_base.specs.JsonNumbers.{JsonNumber, JsonExponent, minus, is_whole, is_json_number, is_json_integer, exponent_text, exponent_negative, exponent_spelled, fraction_or, json_text, yaml_number}
 use Rattle.yaml_writer.specs.NumberParts.{IsNumber, IsNoNumber, is_fraction, is_exponent}
-use Rattle.yaml_writer.specs.Spellings.{Spells, is_spelled, is_spelled_exponent}
+use Rattle.yaml_writer.specs.Spellings.{is_spelled, is_spelled_exponent}
+use Rattle.yaml_writer.proofs.ValidNumbers.{Valid, valid_parts}
 use Rattle.yaml_writer.proofs.WordLemmas.{is_ascii_text, ascii_of}
+
+-- Characters
+
+-- a test that digits and the signs of numbers pass
+pub record PassesNumbers (test : ℕ → Bool) : Type 0 where
+  pub digit : (c : ℕ) → is_decimal c ≡ true → test c ≡ true
+  pub minus_sign : test 0x2D ≡ true
+  pub plus_sign : test 0x2B ≡ true
+  pub point : test 0x2E ≡ true
+  pub small : test 0x65 ≡ true
+  pub capital : test 0x45 ≡ true
+
+-- the whole part of a number is digits
+pub whole_digits : (number : JsonNumber) → is_json_number number ≡ true → are_digits 10 number.whole ≡ true
+whole_digits number h =
+    (and_parts (are_digits 10 number.whole) (is_word number.whole (codes "0") || not (first_is (λ c. c == 0x30) number.whole)) (valid_parts number h).whole).0
+
+module _ (test : ℕ → Bool) (passes : PassesNumbers test) where
+  one_passes : (c : ℕ) (rest : Text) → test c ≡ true → list_all test rest ≡ true → list_all test (c ∷ rest) ≡ true
+  one_passes c rest h g = and_from (test c) (list_all test rest) h g
+
+  both_pass : (text rest : Text) → list_all test text ≡ true → list_all test rest ≡ true → list_all test (text ++ rest) ≡ true
+  both_pass text rest h g = list_all-append test text rest ∙ and_from (list_all test text) (list_all test rest) h g
+
+  digits_pass : (digits : Text) → list_all is_decimal digits ≡ true → list_all test digits ≡ true
+  digits_pass [] h = refl
+  digits_pass (c ∷ digits) h = one_passes c digits (passes.digit c both.0) (digits_pass digits both.1)
+    where
+      both : (is_decimal c ≡ true) × (list_all is_decimal digits ≡ true)
+      both = and_parts (is_decimal c) (list_all is_decimal digits) h
+
+  some_pass : (digits : Text) → are_digits 10 digits ≡ true → list_all test digits ≡ true
+  some_pass digits h = digits_pass digits (and_parts (not (length digits == 0)) (list_all is_decimal digits) h).1
+
+  minus_passes : (negative : Bool) → list_all test (minus negative) ≡ true
+  minus_passes true = one_passes 0x2D [] passes.minus_sign refl
+  minus_passes false = refl
+
+  fraction_passes : (fraction : Option Text) → is_fraction fraction ≡ true
+      → list_all test (elim fraction as (λ _. Text) [ None ↦ [] | Some digits ↦ codes "." ++ digits ]) ≡ true
+  fraction_passes None h = refl
+  fraction_passes (Some digits) h = one_passes 0x2E digits passes.point (some_pass digits h)
+
+  fraction_or_passes : (fraction : Option Text) → is_fraction fraction ≡ true
+      → list_all test (elim fraction as (λ _. Text) [ None ↦ codes "0" | Some digits ↦ digits ]) ≡ true
+  fraction_or_passes None h = one_passes 0x30 [] (passes.digit 0x30 refl) refl
+  fraction_or_passes (Some digits) h = some_pass digits h
+
+  exponent_passes : (exponent : Option JsonExponent) → is_exponent exponent ≡ true → list_all test (exponent_text exponent) ≡ true
+  exponent_passes None h = refl
+  exponent_passes (Some exponent) h = by exponent.capital exponent.sign
+    where
+      digits : Text
+      digits = exponent.digits
+
+      signed : (sign : ℕ) → test sign ≡ true → list_all test (sign ∷ digits) ≡ true
+      signed sign g = one_passes sign digits g (some_pass digits h)
+
+      by : (a : Bool) (s : Option Bool) → list_all test (exponent_text (Some (record { capital = a; sign = s; digits = digits }))) ≡ true
+      by true None = signed 0x45 passes.capital
+      by true (Some true) = one_passes 0x45 (0x2D ∷ digits) passes.capital (signed 0x2D passes.minus_sign)
+      by true (Some false) = one_passes 0x45 (0x2B ∷ digits) passes.capital (signed 0x2B passes.plus_sign)
+      by false None = signed 0x65 passes.small
+      by false (Some true) = one_passes 0x65 (0x2D ∷ digits) passes.small (signed 0x2D passes.minus_sign)
+      by false (Some false) = one_passes 0x65 (0x2B ∷ digits) passes.small (signed 0x2B passes.plus_sign)
+
+  spelled_passes : (exponent : Option JsonExponent) → is_exponent exponent ≡ true → list_all test (exponent_spelled exponent) ≡ true
+  spelled_passes None h = refl
+  spelled_passes (Some exponent) h = by (exponent_negative exponent)
+    where
+      signed : (sign : ℕ) → test sign ≡ true → list_all test (0x65 ∷ sign ∷ exponent.digits) ≡ true
+      signed sign g =
+          one_passes 0x65 (sign ∷ exponent.digits) passes.small (one_passes sign exponent.digits g (some_pass exponent.digits h))
+
+      by : (x : Bool) → list_all test (codes "e" ++ (if x then codes "-" else codes "+") ++ exponent.digits) ≡ true
+      by true = signed 0x2D passes.minus_sign
+      by false = signed 0x2B passes.plus_sign
+
+  -- a number's text
+  pub text_passes : (number : JsonNumber) → is_json_number number ≡ true → list_all test (json_text number) ≡ true
+  text_passes number h =
+      both_pass (minus number.negative ++ number.whole ++ fraction) (exponent_text number.exponent)
+      (both_pass (minus number.negative ++ number.whole) fraction
+      (both_pass (minus number.negative) number.whole (minus_passes number.negative) (some_pass number.whole (whole_digits number h)))
+      (fraction_passes number.fraction valid.fraction))
+      (exponent_passes number.exponent valid.exponent)
+    where
+      valid : Valid number
+      valid = valid_parts number h
+
+      fraction : Text
+      fraction = elim number.fraction as (λ _. Text) [ None ↦ [] | Some digits ↦ codes "." ++ digits ]
+
+  -- and its spelling
+  pub spelling_passes : (number : JsonNumber) → is_json_number number ≡ true → list_all test (yaml_number number) ≡ true
+  spelling_passes number h =
+      both_pass (minus number.negative ++ number.whole) (if is_json_integer number then [] else after)
+      (both_pass (minus number.negative) number.whole (minus_passes number.negative) (some_pass number.whole (whole_digits number h)))
+      (by (is_json_integer number))
+    where
+      valid : Valid number
+      valid = valid_parts number h
+
+      after : Text
+      after = codes "." ++ fraction_or (codes "0") number ++ exponent_spelled number.exponent
+
+      by : (x : Bool) → list_all test (if x then [] else after) ≡ true
+      by true = refl
+      by false =
+          both_pass (codes "." ++ fraction_or (codes "0") number) (exponent_spelled number.exponent)
+          (one_passes 0x2E (fraction_or (codes "0") number) passes.point (fraction_or_passes number.fraction valid.fraction))
+          (spelled_passes number.exponent valid.exponent)
 
 -- ASCII
 
 digit_ascii : (c : ℕ) → is_decimal c ≡ true → nat_lt c 128 ≡ true
 digit_ascii c h = let within = digit_from_value c (ltb-true (digit_value c) 10 h) in lt-ltb c 128 (omega (arith, within))
 
-digits_ascii : (digits : Text) → list_all is_decimal digits ≡ true → is_ascii_text digits ≡ true
-digits_ascii [] h = refl
-digits_ascii (c ∷ digits) h = and_from (nat_lt c 128) (is_ascii_text digits) (digit_ascii c both.0) (digits_ascii digits both.1)
-  where
-    both : (is_decimal c ≡ true) × (list_all is_decimal digits ≡ true)
-    both = and_parts (is_decimal c) (list_all is_decimal digits) h
-
-some_ascii : (digits : Text) → are_digits 10 digits ≡ true → is_ascii_text digits ≡ true
-some_ascii digits h = digits_ascii digits (and_parts (not (length digits == 0)) (list_all is_decimal digits) h).1
-
-both_ascii : (text rest : Text) → is_ascii_text text ≡ true → is_ascii_text rest ≡ true → is_ascii_text (text ++ rest) ≡ true
-both_ascii text rest h g = list_all-append (λ b. nat_lt b 128) text rest ∙ and_from (is_ascii_text text) (is_ascii_text rest) h g
-
-minus_ascii : (negative : Bool) → is_ascii_text (minus negative) ≡ true
-minus_ascii true = refl
-minus_ascii false = refl
-
-fraction_ascii : (fraction : Option Text) → is_fraction fraction ≡ true
-    → is_ascii_text (elim fraction as (λ _. Text) [ None ↦ [] | Some digits ↦ codes "." ++ digits ]) ≡ true
-fraction_ascii None h = refl
-fraction_ascii (Some digits) h = some_ascii digits h
-
-fraction_or_ascii : (fraction : Option Text) → is_fraction fraction ≡ true
-    → is_ascii_text (elim fraction as (λ _. Text) [ None ↦ codes "0" | Some digits ↦ digits ]) ≡ true
-fraction_or_ascii None h = refl
-fraction_or_ascii (Some digits) h = some_ascii digits h
-
-exponent_ascii : (exponent : Option JsonExponent) → is_exponent exponent ≡ true → is_ascii_text (exponent_text exponent) ≡ true
-exponent_ascii None h = refl
-exponent_ascii (Some exponent) h = by exponent.capital exponent.sign
-  where
-    by : (a : Bool) (s : Option Bool) → is_ascii_text (exponent_text (Some (record { capital = a; sign = s; digits = exponent.digits }))) ≡ true
-    by true None = some_ascii exponent.digits h
-    by true (Some true) = some_ascii exponent.digits h
-    by true (Some false) = some_ascii exponent.digits h
-    by false None = some_ascii exponent.digits h
-    by false (Some true) = some_ascii exponent.digits h
-    by false (Some false) = some_ascii exponent.digits h
-
-spelled_exponent_ascii : (exponent : Option JsonExponent) → is_exponent exponent ≡ true → is_ascii_text (exponent_spelled exponent) ≡ true
-spelled_exponent_ascii None h = refl
-spelled_exponent_ascii (Some exponent) h = by (exponent_negative exponent)
-  where
-    by : (x : Bool) → is_ascii_text (codes "e" ++ (if x then codes "-" else codes "+") ++ exponent.digits) ≡ true
-    by true = some_ascii exponent.digits h
-    by false = some_ascii exponent.digits h
-
--- the tests of which a number's is made
-record Valid (number : JsonNumber) : Type 0 where
-  whole : are_digits 10 number.whole ≡ true
-  fraction : is_fraction number.fraction ≡ true
-  exponent : is_exponent number.exponent ≡ true
-
-valid_parts : (number : JsonNumber) → is_json_number number ≡ true → Valid number
-valid_parts number h = record {
-  whole = (and_parts (are_digits 10 number.whole) _ inner.0).0;
-  fraction = by_fraction number.fraction inner.1;
-  exponent = by_exponent number.exponent outer.1;
-}
-  where
-    fraction_valid : Bool
-    fraction_valid = elim number.fraction as (λ _. Bool) [ None ↦ true | Some digits ↦ are_digits 10 digits ]
-
-    exponent_valid : Bool
-    exponent_valid = elim number.exponent as (λ _. Bool) [ None ↦ true | Some exponent ↦ are_digits 10 exponent.digits ]
-
-    outer : ((is_whole number.whole && fraction_valid) ≡ true) × (exponent_valid ≡ true)
-    outer = and_parts (is_whole number.whole && fraction_valid) exponent_valid h
-
-    inner : (is_whole number.whole ≡ true) × (fraction_valid ≡ true)
-    inner = and_parts (is_whole number.whole) fraction_valid outer.0
-
-    by_fraction : (o : Option Text) → elim o as (λ _. Bool) [ None ↦ true | Some digits ↦ are_digits 10 digits ] ≡ true → is_fraction o ≡ true
-    by_fraction None g = refl
-    by_fraction (Some digits) g = g
-
-    by_exponent : (o : Option JsonExponent) → elim o as (λ _. Bool) [ None ↦ true | Some exponent ↦ are_digits 10 exponent.digits ] ≡ true
-        → is_exponent o ≡ true
-    by_exponent None g = refl
-    by_exponent (Some exponent) g = g
+ascii_passes : PassesNumbers (λ b. nat_lt b 128)
+ascii_passes = record { digit = digit_ascii; minus_sign = refl; plus_sign = refl; point = refl; small = refl; capital = refl }
 
 text_ascii : (number : JsonNumber) → is_json_number number ≡ true → is_ascii_text (json_text number) ≡ true
-text_ascii number h =
-    both_ascii (minus number.negative ++ number.whole ++ fraction) (exponent_text number.exponent)
-    (both_ascii (minus number.negative ++ number.whole) fraction
-    (both_ascii (minus number.negative) number.whole (minus_ascii number.negative) (some_ascii number.whole valid.whole))
-    (fraction_ascii number.fraction valid.fraction))
-    (exponent_ascii number.exponent valid.exponent)
-  where
-    valid : Valid number
-    valid = valid_parts number h
-
-    fraction : Text
-    fraction = elim number.fraction as (λ _. Text) [ None ↦ [] | Some digits ↦ codes "." ++ digits ]
+text_ascii number h = text_passes (λ b. nat_lt b 128) ascii_passes number h
 
 spelling_ascii : (number : JsonNumber) → is_json_number number ≡ true → is_ascii_text (yaml_number number) ≡ true
-spelling_ascii number h =
-    both_ascii (minus number.negative ++ number.whole) (if is_json_integer number then [] else after)
-    (both_ascii (minus number.negative) number.whole (minus_ascii number.negative) (some_ascii number.whole valid.whole))
-    (by (is_json_integer number))
-  where
-    valid : Valid number
-    valid = valid_parts number h
-
-    after : Text
-    after = codes "." ++ fraction_or (codes "0") number ++ exponent_spelled number.exponent
-
-    by : (x : Bool) → is_ascii_text (if x then [] else after) ≡ true
-    by true = refl
-    by false =
-        both_ascii (codes "." ++ fraction_or (codes "0") number) (exponent_spelled number.exponent) (fraction_or_ascii number.fraction valid.fraction)
-        (spelled_exponent_ascii number.exponent valid.exponent)
+spelling_ascii number h = spelling_passes (λ b. nat_lt b 128) ascii_passes number h
 
 -- By bytes and by characters
 
@@ -155,12 +165,8 @@ pub none_by_chars : (bytes : List ℕ) → IsUtf8 bytes → IsNoNumber bytes →
 none_by_chars bytes utf8 none number is = none number (number_by_bytes bytes number utf8 is)
 
 -- the bytes of a number's spelling are its characters
-pub spells_by_chars : (bytes spelling : List ℕ) (number : JsonNumber) → IsNumber bytes number → spelling ≡ yaml_number number → Spells (chars bytes) (chars spelling)
-spells_by_chars bytes spelling number is e = record {
-  number = number;
-  is_number = number_by_chars bytes number is;
-  spelled = ap chars e ∙ chars-IsAscii (yaml_number number) (ascii_of (yaml_number number) (spelling_ascii number is.valid));
-}
+pub spelling_chars : (bytes : List ℕ) (number : JsonNumber) → is_json_number number ≡ true → bytes ≡ yaml_number number → chars bytes ≡ yaml_number number
+spelling_chars bytes number valid e = ap chars e ∙ chars-IsAscii (yaml_number number) (ascii_of (yaml_number number) (spelling_ascii number valid))
 
 -- Unchanged spellings
 

@@ -4,5 +4,7 @@ pub mod SeenNumbers
 pub mod Spellings
 pub mod Given
 pub mod Writing
+pub mod Unfinished
 pub mod Inside
 pub mod PlainTexts
+pub mod ReadNumbers

@@ -4,7 +4,7 @@ use Rattle.yaml_base.specs.JsonNumbers.{JsonNumber, JsonExponent}
 use Rattle.yaml_writer.specs.declared.numbers.Sign.{Sign}
 use Rattle.yaml_writer.specs.declared.numbers.Sign.TheVariants.{Plus, Minus}
 use Rattle.yaml_writer.specs.declared.numbers.Exponent.{Exponent}
-use Rattle.yaml_writer.specs.declared.numbers.Number.{Number}
+use Rattle.yaml_writer.specs.declared.numbers.Parts.{Parts}
 
 -- a sign, true being `-`
 abbrev pub is_minus : Sign → Bool
@@ -20,12 +20,12 @@ seen_exponent exponent =
       digits = exponent.digits.now;
     }
 
--- a number
-abbrev pub seen_number : Number → JsonNumber
-seen_number number =
+-- the number of some parts
+abbrev pub seen_parts : Parts → JsonNumber
+seen_parts parts =
     record {
-      negative = number.negative;
-      whole = number.whole.now;
-      fraction = option_map (λ fraction. fraction.now) number.fraction;
-      exponent = option_map seen_exponent number.exponent;
+      negative = parts.negative;
+      whole = parts.whole.now;
+      fraction = option_map (λ fraction. fraction.now) parts.fraction;
+      exponent = option_map seen_exponent parts.exponent;
     }

@@ -4,6 +4,7 @@ use Rattle.std.specs.Fmt.{signed_decimal}
 use Rattle.std.specs.List.{list_any}
 use Rattle.yaml_base.specs.Characters.{Text, is_break}
 use Rattle.yaml_base.specs.Event.{Collection, CollectionStyle, Event, ScalarStyle, any_style, plain, single_quoted, literal, stream_start, stream_end, document_start, document_end, scalar, sequence_start, sequence_end, mapping_start, mapping_end}
+use Rattle.yaml_base.specs.JsonNumbers.{JsonNumber, is_json_integer, yaml_number}
 use Rattle.yaml_base.specs.Refusal.{IsAccepted}
 use Rattle.yaml_base.specs.Settings.{Settings}
 use Rattle.yaml_base.specs.SurelyText.{is_surely_text}
@@ -13,7 +14,7 @@ use Rattle.yaml_base.specs.declared.errors.yaml_error_t.TheVariants.{ExpectedDoc
 use Rattle.yaml_pen.specs.Page.{told}
 use Rattle.yaml_emitter.specs.State.{State}
 use Rattle.yaml_emitter.specs.StandsAfter.{StandsAfter}
-use Rattle.yaml_emitter.specs.Promises.{IsWritten, IsRefusal}
+use Rattle.yaml_emitter.specs.Promises.{IsWritten}
 use Rattle.yaml_writer.specs.declared.kinds.CollectionKind.{CollectionKind}
 use Rattle.yaml_writer.specs.declared.kinds.CollectionKind.TheVariants.{Mapping, Sequence}
 
@@ -66,6 +67,18 @@ bool_event writer value = word_event writer bool_tag (bool_text value)
 -- an integer, in decimal digits
 abbrev pub int_event : WriterState → ℤ → Event
 int_event writer value = word_event writer int_tag (signed_decimal value)
+
+-- the tag of numbers with a point
+abbrev pub float_tag : Text
+float_tag = codes "tag:yaml.org,2002:float"
+
+-- the tag of a number as it is spelled: an integer has neither a point nor an exponent
+abbrev pub number_tag : JsonNumber → Text
+number_tag number = if is_json_integer number then int_tag else float_tag
+
+-- a number of JSON, spelled for YAML
+abbrev pub number_event : WriterState → JsonNumber → Event
+number_event writer number = word_event writer (number_tag number) (yaml_number number)
 
 -- a text of several lines stands literally, where it may; any other stands plain only where it is surely read as a text
 abbrev pub text_style : Text → ScalarStyle
@@ -151,8 +164,3 @@ pub record IsStream (given : Settings) (all : List Event) (bytes : List ℕ) : T
 -- wherever the emitter stood, the bytes are the output of its events and the stream's end
 abbrev pub Finishes : State → List ℕ → Type 0
 Finishes emitter bytes = (given : Settings) (all : List Event) → StandsAfter given all emitter → IsStream given (all ++ closing) bytes
-
--- an error other than those of memory and the limit comes only where the events are no stream
-abbrev pub IsUnfinished : State → yaml_error_t → Type 0
-IsUnfinished emitter error =
-    IsRefusal error → (given : Settings) (all : List Event) → StandsAfter given all emitter → IsAccepted given.canonical (all ++ closing) → ⊥

@@ -1,11 +1,12 @@
 //! Events given to an emitter.
-ghost use Rattle.std.specs.Prelude.{◌≡◌, IfOk, IfErr, OnOk, [], ◌∷◌, ◌++◌, true, List, is_none, option_map};
+ghost use Rattle.std.specs.Prelude.{◌≡◌, IfOk, IfErr, OnOk, [], ◌∷◌, ◌++◌, true, None, List, is_none, option_map};
 ghost use Rattle.yaml_base.specs.Event.{Event, alias, document_end, mapping_start, scalar, sequence_start};
 ghost use Rattle.yaml_base.specs.Seen.{seen_event, seen_mapping_style, seen_scalar_style, seen_sequence_style, seen_text};
 ghost use Rattle.yaml_base.specs.Settings.{Settings};
 ghost use Rattle.yaml_emitter.specs.StandsAfter.{StandsAfter};
 ghost use Rattle.yaml_pen.specs.Page.{told};
-ghost use Rattle.yaml_writer.specs.Writing.{Adds, AddsAll, Finishes, IsUnfinished, end_event, opening, plain_start as document_begins};
+ghost use Rattle.yaml_writer.specs.Unfinished.{IsUnfinished};
+ghost use Rattle.yaml_writer.specs.Writing.{Adds, AddsAll, Finishes, end_event, opening, plain_start as document_begins};
 
 use crate::kinds::CollectionKind;
 use std::alloc::Allocator;
@@ -175,9 +176,10 @@ pub(crate) fn give_next<A: Allocator + Copy>(
     yaml_emitter_emit(emitter, plain_start(alloc))
 }
 
-/// Ends the document and the stream.
+/// Ends the document and the stream. An error that was there before stays.
 fn end_stream<A: Allocator + Copy>(emitter: &mut yaml_emitter_t<A>) -> Result<(), yaml_error_t>
     requires output { emitter.old.has_output ≡ true }
+    ensures clean { OnOk result (emitter.old.error ≡ None) }
     ensures finishes { OnOk result (Finishes emitter.old emitter.new.page.output) }
     ensures unfinished { IfErr result (λ error. IsUnfinished emitter.old error) }
 {

@@ -2,6 +2,7 @@
 ghost use Rattle.yaml_base.specs.JsonNumbers.{NumbersAreRead};
 ghost use Rattle.yaml_base.specs.SurelyText.{SurelyTextIsText};
 ghost use Rattle.yaml_writer.specs.PlainTexts.{PlainTextsAreTexts};
+ghost use Rattle.yaml_writer.specs.ReadNumbers.{WrittenNumbersAreRead};
 
 /// A text that is surely one means a text by the type repository of YAML 1.1 and by the core schema of YAML 1.2.
 pub fn surely_text_is_text()
@@ -16,4 +17,10 @@ pub fn numbers_are_read()
 /// A text in the style that a writer gives it is written plain only where both schemas read it as a text.
 pub fn plain_texts_are_texts()
     ensures { PlainTextsAreTexts }
+{}
+
+/// A number that a writer is given is written plain outside canonical form, in a text which both schemas read as exactly that
+/// number.
+pub fn written_numbers_are_read()
+    ensures { WrittenNumbersAreRead }
 {}

@@ -15,7 +15,10 @@ mod words;
 mod writer;
 
 pub use kinds::CollectionKind;
-pub use laws::{numbers_are_read, plain_texts_are_texts, surely_text_is_text};
+pub use laws::{
+    numbers_are_read, plain_texts_are_texts, surely_text_is_text, written_numbers_are_read,
+};
+pub use numbers::{Number, number_of};
 pub use settings::Settings;
 pub use spelling::{Spelling, number_spelling};
 pub use texts::is_surely_text;

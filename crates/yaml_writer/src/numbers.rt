@@ -1,10 +1,12 @@
 //! Numbers of JSON (RFC 8259, section 6), taken apart.
-ghost use Rattle.std.specs.Prelude.{◌≡◌, ◌<◌, ◌==◌, Some, None, MatchOption, option_map};
+ghost use Rattle.std.specs.Prelude.{◌≡◌, ◌<◌, ◌==◌, Some, None, MatchOption, chars, option_map};
 ghost use Rattle.std.specs.List.{list_all};
 ghost use Rattle.yaml_base.specs.JsonNumbers as json;
 ghost use Rattle.yaml_base.specs.Resolved as schema;
 ghost use Rattle.yaml_writer.specs.NumberParts as parts;
-ghost use Rattle.yaml_writer.specs.SeenNumbers.{is_minus, seen_exponent, seen_number};
+ghost use Rattle.yaml_writer.specs.SeenNumbers.{is_minus, seen_exponent, seen_parts};
+
+use std::marker::Model;
 
 /// The sign of an exponent.
 #[derive(Clone, Copy)]
@@ -22,9 +24,9 @@ pub struct Exponent<'a> {
     pub digits: &'a str,
 }
 
-/// A number, by what stands in it.
+/// The parts of a text, which is a number where digits stand in each.
 #[derive(Clone, Copy)]
-pub struct Number<'a> {
+pub struct Parts<'a> {
     /// Whether it begins with `-`.
     pub negative: bool,
     pub whole: &'a str,
@@ -99,13 +101,13 @@ fn minus_cut(text: &str) -> (bool, &str)
 }
 
 /// The parts of a text, which need not be a number.
-fn parts_of(text: &str) -> Number<'_>
-    ensures { seen_number result ≡ parts.number_in text.now }
+fn parts_of(text: &str) -> Parts<'_>
+    ensures { seen_parts result ≡ parts.number_in text.now }
 {
     let (negative, unsigned) = minus_cut(text);
     let (mantissa, exponent) = exponent_cut(unsigned);
     let (whole, fraction) = fraction_cut(mantissa);
-    Number {
+    Parts {
         negative,
         whole,
         fraction,
@@ -166,10 +168,10 @@ fn is_exponent(exponent: Option<Exponent<'_>>) -> bool
     }
 }
 
-impl Number<'_> {
+impl Parts<'_> {
     /// Whether digits stand wherever they have to.
     fn is_valid(&self) -> bool
-        ensures { result ≡ json.is_json_number (seen_number self.now) }
+        ensures { result ≡ json.is_json_number (seen_parts self.now) }
     {
         if !is_whole(self.whole) {
             return false;
@@ -181,13 +183,42 @@ impl Number<'_> {
     }
 }
 
-/// The number that a text is.
+/// A number of JSON (RFC 8259, section 6).
+#[derive(Drop)]
+pub struct Number<'a> {
+    pub(crate) text: &'a str,
+    pub(crate) parts: Parts<'a>,
+}
+
+impl<'a> Model for Number<'a> {
+    ghost use Rattle.yaml_base.specs.JsonNumbers.{JsonNumber};
+    ghost use Rattle.yaml_writer.specs.NumberParts.{IsNumber};
+    ghost use Rattle.yaml_writer.specs.SeenNumbers.{seen_parts};
+
+    ghost Value = { JsonNumber };
+
+    ghost view = { λ number. seen_parts number.parts };
+
+    ghost invariant = { λ number. IsNumber number.text.now (seen_parts number.parts) };
+}
+
+impl<'a> Number<'a> {
+    /// The text that it was made from.
+    pub fn as_str(&self) -> &'a str
+        ensures { parts.IsNumber result.now self.now }
+    {
+        self.text
+    }
+}
+
+/// The number that a text is; `None` where the text is no number of JSON. Needs no memory.
 pub fn number_of(text: &str) -> Option<Number<'_>>
-    ensures { MatchOption result (parts.IsNoNumber text.now) (λ number. parts.IsNumber text.now (seen_number number)) }
+    ensures characters { MatchOption result (parts.IsNoNumber (chars text.now)) (λ number. parts.IsNumber (chars text.now) number) }
+    ensures bytes { MatchOption result (parts.IsNoNumber text.now) (λ number. parts.IsNumber text.now number) }
 {
-    let number = parts_of(text);
-    if number.is_valid() {
-        Some(number)
+    let parts = parts_of(text);
+    if parts.is_valid() {
+        Some(Number { text, parts })
     } else {
         None
     }

@@ -3,8 +3,9 @@ ghost use Rattle.std.specs.Prelude.{◌≡◌, IfOk, IfErr, OnOk, chars, option_
 ghost use Rattle.std.specs.Fmt.{signed_decimal};
 ghost use Rattle.yaml_base.specs.Seen.{seen_scalar_style, seen_text};
 ghost use Rattle.yaml_base.specs.TypedValues.{bool_text};
-ghost use Rattle.yaml_writer.specs.Writing.{Failed, Gave, bool_event, int_event, null_event, tag_or, text_event, text_style, word_event};
+ghost use Rattle.yaml_writer.specs.Writing.{Failed, Gave, bool_event, int_event, null_event, number_event, number_tag, tag_or, text_event, text_style, word_event};
 
+use crate::numbers::Number;
 use crate::texts::is_surely_text;
 use crate::writer::Writer;
 use std::alloc::{AllocError, Allocator};
@@ -59,6 +60,17 @@ fn digits_of_unsigned<A: Allocator>(alloc: A, value: u64) -> Result<String<A>, A
 {
     let digits = format!(in alloc; "{value}")?;
     Ok(digits)
+}
+
+/// The tag of a number's type.
+fn tag_of_number(number: &Number<'_>) -> &'static str
+    ensures { chars result.now ≡ number_tag number.now }
+{
+    if number.is_integer() {
+        "tag:yaml.org,2002:int"
+    } else {
+        "tag:yaml.org,2002:float"
+    }
 }
 
 /// How a text is to stand.
@@ -121,6 +133,21 @@ impl<A: Allocator + Copy> Writer<A> {
     {
         match digits_of_unsigned(self.alloc, value) {
             Ok(digits) => self.word("tag:yaml.org,2002:int", digits.as_str()),
+            Err(_) => Err(yaml_error_t::Memory),
+        }
+    }
+
+    /// Writes a number of JSON, in the spelling that both schemas read as exactly that number: an integer as it stands, any
+    /// other with a point and with a sign in its exponent.
+    ///
+    /// # Errors
+    /// Those of the emitter, and `Memory`.
+    pub fn number(&mut self, number: &Number<'_>) -> Result<(), yaml_error_t>
+        ensures given { OnOk result (Gave self.old (number_event self.old number.now) None self.new) }
+        ensures failed { IfErr result (λ error. Failed self.old (number_event self.old number.now) error self.new) }
+    {
+        match number.spelling(self.alloc) {
+            Ok(spelling) => self.word(tag_of_number(number), spelling.as_str()),
             Err(_) => Err(yaml_error_t::Memory),
         }
     }

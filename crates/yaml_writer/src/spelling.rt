@@ -2,10 +2,10 @@
 ghost use Rattle.std.specs.Prelude.{◌≡◌, ◌++◌, [], codes, IfOk, IsOk, MatchOption, chars, string_bytes, option_map, if◌then◌else◌};
 ghost use Rattle.yaml_base.specs.JsonNumbers as json;
 ghost use Rattle.yaml_writer.specs.NumberParts.{IsNoNumber};
-ghost use Rattle.yaml_writer.specs.SeenNumbers.{is_minus, seen_exponent, seen_number};
+ghost use Rattle.yaml_writer.specs.SeenNumbers.{is_minus, seen_exponent, seen_parts};
 ghost use Rattle.yaml_writer.specs.Spellings as spellings;
 
-use crate::numbers::{Exponent, Number, Sign, number_of};
+use crate::numbers::{Exponent, Number, Parts, Sign, number_of};
 use std::alloc::{AllocError, Allocator};
 
 /// The spelling of a number.
@@ -67,10 +67,10 @@ fn is_spelled_exponent(exponent: Option<Exponent<'_>>) -> bool
     }
 }
 
-impl Number<'_> {
+impl Parts<'_> {
     /// Whether it is an integer other than `-0`.
     fn is_integer(&self) -> bool
-        ensures { result ≡ json.is_json_integer (seen_number self.now) }
+        ensures { result ≡ json.is_json_integer (seen_parts self.now) }
     {
         if self.fraction.is_some() {
             return false;
@@ -82,7 +82,7 @@ impl Number<'_> {
     }
 
     fn fraction_or_zero(&self) -> &str
-        ensures { result.now ≡ json.fraction_or (codes "0") (seen_number self.now) }
+        ensures { result.now ≡ json.fraction_or (codes "0") (seen_parts self.now) }
     {
         match self.fraction {
             None => "0",
@@ -93,7 +93,7 @@ impl Number<'_> {
     /// Appends its fraction and its exponent.
     fn push_fraction<A: Allocator>(&self, text: &mut String<A>) -> Result<(), AllocError>
         ensures { IfOk result (λ _. string_bytes text.new ≡ string_bytes text.old
-            ++ (codes "." ++ json.fraction_or (codes "0") (seen_number self.now) ++ json.exponent_spelled (seen_number self.now).exponent)) }
+            ++ (codes "." ++ json.fraction_or (codes "0") (seen_parts self.now) ++ json.exponent_spelled (seen_parts self.now).exponent)) }
     {
         text.push_str(".")?;
         text.push_str(self.fraction_or_zero())?;
@@ -102,7 +102,7 @@ impl Number<'_> {
 
     /// Appends what follows its whole part.
     fn push_rest<A: Allocator>(&self, text: &mut String<A>) -> Result<(), AllocError>
-        ensures { IfOk result (λ _. string_bytes text.new ≡ string_bytes text.old ++ spellings.after_whole (seen_number self.now)) }
+        ensures { IfOk result (λ _. string_bytes text.new ≡ string_bytes text.old ++ spellings.after_whole (seen_parts self.now)) }
     {
         if self.is_integer() {
             return Ok(());
@@ -111,7 +111,7 @@ impl Number<'_> {
     }
 
     fn spelled<A: Allocator>(&self, alloc: A) -> Result<String<A>, AllocError>
-        ensures { IfOk result (λ text. string_bytes text ≡ json.yaml_number (seen_number self.now)) }
+        ensures { IfOk result (λ text. string_bytes text ≡ json.yaml_number (seen_parts self.now)) }
     {
         let mut text = String::new(alloc);
         text.push_str(minus(self.negative))?;
@@ -122,7 +122,7 @@ impl Number<'_> {
 
     /// Whether its text is its spelling.
     fn is_spelled(&self) -> bool
-        ensures { result ≡ spellings.is_spelled (seen_number self.now) }
+        ensures { result ≡ spellings.is_spelled (seen_parts self.now) }
     {
         if self.is_integer() {
             return true;
@@ -131,13 +131,35 @@ impl Number<'_> {
     }
 }
 
-/// The spelling of a number of JSON (RFC 8259, section 6) which the type repository of YAML 1.1 and the core schema of
-/// YAML 1.2 read as exactly that number: a float has a point and a sign in its exponent. Returns `None` where the text
-/// is no number of JSON. Memory is needed only where the spelling is another text.
+impl<'a> Number<'a> {
+    /// Whether it is an integer other than `-0`: it has neither a point nor an exponent.
+    pub fn is_integer(&self) -> bool
+        ensures { result ≡ json.is_json_integer self.now }
+    {
+        self.parts.is_integer()
+    }
+
+    /// Its spelling, which the type repository of YAML 1.1 and the core schema of YAML 1.2 read as exactly this number: a
+    /// float has a point and a sign in its exponent. Memory is needed only where the spelling is another text.
+    ///
+    /// # Errors
+    /// `AllocError` if an allocation fails.
+    pub fn spelling<A: Allocator>(&self, alloc: A) -> Result<Spelling<'a, A>, AllocError>
+        ensures spelled { IfOk result (λ spelling. chars (spellings.spelling_bytes spelling) ≡ json.yaml_number self.now) }
+        ensures spare { json.json_text self.now ≡ json.yaml_number self.now → IsOk result }
+    {
+        if self.parts.is_spelled() {
+            return Ok(Spelling::Unchanged(self.text));
+        }
+        let spelled = self.parts.spelled(alloc)?;
+        Ok(Spelling::Changed(spelled))
+    }
+}
+
+/// The spelling of the number of JSON that a text is; `None` where the text is no number of JSON.
 ///
 /// # Errors
-///
-/// `AllocError` if an allocation fails.
+/// `AllocError` if an allocation fails. A text that is its own spelling needs no memory.
 pub fn number_spelling<'a, A: Allocator>(
     alloc: A,
     text: &'a str,
@@ -149,11 +171,8 @@ pub fn number_spelling<'a, A: Allocator>(
     match number_of(text) {
         None => Ok(None),
         Some(number) => {
-            if number.is_spelled() {
-                return Ok(Some(Spelling::Unchanged(text)));
-            }
-            let spelled = number.spelled(alloc)?;
-            Ok(Some(Spelling::Changed(spelled)))
+            let spelling = number.spelling(alloc)?;
+            Ok(Some(spelling))
         }
     }
 }

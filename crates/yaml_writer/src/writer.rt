@@ -4,7 +4,8 @@ ghost use Rattle.yaml_base.specs.Seen.{seen_scalar_style, seen_text};
 ghost use Rattle.std.specs.Option.{option_or};
 ghost use Rattle.yaml_emitter.specs.StandsAfter.{StandsAfter};
 ghost use Rattle.yaml_writer.specs.Given.{seen_settings};
-ghost use Rattle.yaml_writer.specs.Writing.{Finishes, Gave, IsUnfinished, opening, scalar_event};
+ghost use Rattle.yaml_writer.specs.Unfinished.{IsUnfinished};
+ghost use Rattle.yaml_writer.specs.Writing.{Finishes, Gave, opening, scalar_event};
 
 use crate::giving::{begin, finished, give_scalar};
 use crate::kinds::CollectionKind;

@@ -2,7 +2,7 @@
 use std::alloc::{AllocError, Global};
 use std::process::Abort;
 use std::test::Fail;
-use yaml_writer::{Spelling, number_spelling};
+use yaml_writer::{Spelling, number_of, number_spelling};
 
 fn spelled(
     rt: &impl Abort,
@@ -52,5 +52,24 @@ fn what_is_spelled_so_stays(rt: HostRuntime) -> Result<(), Fail> {
     assert!(rt; matches!(integer, Some(Spelling::Unchanged("12"))));
     let power = number_spelling(rt.alloc(), "1e5")?;
     assert!(rt; matches!(power, Some(Spelling::Changed(_))));
+    Ok(())
+}
+
+/// Whether a number keeps its text, and is an integer as told.
+fn is_so(text: &str, integer: bool) -> bool {
+    match number_of(text) {
+        None => false,
+        Some(number) => number.as_str() == text && number.is_integer() == integer,
+    }
+}
+
+#[test]
+fn numbers_keep_their_texts(rt: HostRuntime) -> Result<(), Fail> {
+    assert!(rt; is_so("-120", true));
+    assert!(rt; is_so("0", true));
+    assert!(rt; is_so("-0", false));
+    assert!(rt; is_so("1E5", false));
+    assert!(rt; is_so("2.50", false));
+    assert!(rt; number_of("01").is_none());
     Ok(())
 }

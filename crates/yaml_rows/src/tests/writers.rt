@@ -3,7 +3,7 @@ use std::alloc::Global;
 use std::test::Fail;
 use yaml_writer::{
     Settings, Writer, YAML_BLOCK_MAPPING_STYLE, YAML_BLOCK_SEQUENCE_STYLE,
-    YAML_FLOW_SEQUENCE_STYLE, yaml_error_t,
+    YAML_FLOW_SEQUENCE_STYLE, number_of, yaml_error_t,
 };
 
 /// A writer in portable mode.
@@ -67,6 +67,27 @@ fn give_bounds(writer: &mut Writer<Global>) -> Result<(), yaml_error_t> {
     writer.begin_sequence(YAML_FLOW_SEQUENCE_STYLE)?;
     writer.int(i64::MIN)?;
     writer.unsigned(u64::MAX)?;
+    writer.end()
+}
+
+/// The number of JSON that a text is; nothing where it is none.
+fn give_number(writer: &mut Writer<Global>, text: &str) -> Result<(), yaml_error_t> {
+    match number_of(text) {
+        Some(number) => writer.number(&number),
+        None => Ok(()),
+    }
+}
+
+/// A block sequence of numbers of JSON.
+fn give_numbers(writer: &mut Writer<Global>) -> Result<(), yaml_error_t> {
+    writer.begin_sequence(YAML_BLOCK_SEQUENCE_STYLE)?;
+    give_number(writer, "0")?;
+    give_number(writer, "-0")?;
+    give_number(writer, "1e400")?;
+    give_number(writer, "1E5")?;
+    give_number(writer, "0.5")?;
+    give_number(writer, "-1.5e-7")?;
+    give_number(writer, "12345678901234567890123")?;
     writer.end()
 }
 
@@ -140,6 +161,70 @@ fn canonical_values_have_tags(rt: HostRuntime) -> Result<(), Fail> {
         writer.finish()?.as_slice(),
         b"---\n[\n  !!null \"null\",\n  \"no\",\n]\n".as_slice()
     );
+    Ok(())
+}
+
+#[test]
+fn numbers_of_json_stand_plain(rt: HostRuntime) -> Result<(), Fail> {
+    let mut writer = writer(rt.alloc())?;
+    give_numbers(&mut writer)?;
+    let expected =
+        "---\n- 0\n- -0.0\n- 1.0e+400\n- 1.0e+5\n- 0.5\n- -1.5e-7\n- 12345678901234567890123\n";
+    assert_eq!(rt; writer.finish()?.as_slice(), expected.as_bytes());
+    Ok(())
+}
+
+#[test]
+fn canonical_numbers_have_the_tag_of_their_spelling(rt: HostRuntime) -> Result<(), Fail> {
+    let settings = Settings {
+        canonical: true,
+        ..Settings::default()
+    };
+    let mut writer = Writer::new(rt.alloc(), settings)?;
+    give_numbers(&mut writer)?;
+    let expected =
+        "---\n[\n  !!int \"0\",\n  !!float \"-0.0\",\n  !!float \"1.0e+400\",\n  !!float \"1.0e+5\",\n  \
+         !!float \"0.5\",\n  !!float \"-1.5e-7\",\n  !!int \"12345678901234567890123\",\n]\n";
+    assert_eq!(rt; writer.finish()?.as_slice(), expected.as_bytes());
+    Ok(())
+}
+
+#[test]
+fn a_number_takes_the_properties_of_the_next_node(rt: HostRuntime) -> Result<(), Fail> {
+    let mut writer = writer(rt.alloc())?;
+    writer.anchored("a")?;
+    writer.tagged("tag:yaml.org,2002:float")?;
+    give_number(&mut writer, "5")?;
+    assert_eq!(rt; writer.finish()?.as_slice(), b"--- &a !!float 5\n".as_slice());
+    Ok(())
+}
+
+/// A sequence of one letter, of 8 bytes with the start of its document.
+fn give_letter(writer: &mut Writer<Global>) -> Result<(), yaml_error_t> {
+    writer.begin_sequence(YAML_BLOCK_SEQUENCE_STYLE)?;
+    writer.text("a")?;
+    writer.end()
+}
+
+/// A writer whose output has at most so many bytes.
+fn limited(alloc: Global, limit: usize) -> Result<Writer<Global>, yaml_error_t> {
+    Writer::new(
+        alloc,
+        Settings {
+            limit,
+            ..Settings::default()
+        },
+    )
+}
+
+#[test]
+fn the_limit_gives_out_where_the_bytes_pass_it(rt: HostRuntime) -> Result<(), Fail> {
+    let mut enough = limited(rt.alloc(), 8)?;
+    give_letter(&mut enough)?;
+    assert_eq!(rt; enough.finish()?.as_slice(), b"---\n- a\n".as_slice());
+    let mut less = limited(rt.alloc(), 7)?;
+    give_letter(&mut less)?;
+    assert_eq!(rt; less.finish().err(), Some(yaml_error_t::WriteError));
     Ok(())
 }
 

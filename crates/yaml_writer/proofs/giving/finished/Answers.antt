@@ -8,4 +8,4 @@ returns-clause-finishes g c =
     (subst (λ (bytes : List ℕ). IfOk c.copied.result (λ copy. copy.items ≡ bytes)) c.output.ensures.value c.copied.ensures.bytes)
 
 pub returns-clause-unfinished : goal.returns-clause-unfinished
-returns-clause-unfinished g c = memory_unfinished c.copied.result c.args.emitter.now c.copied.ensures.memory
+returns-clause-unfinished g c = memory_unfinished c.copied.result c.args.emitter.now c.in_default.ensures.clean c.copied.ensures.memory

@@ -1,12 +1,30 @@
 use Rattle.std.proofs.Common.{sym, ◌∙◌}
-use Rattle.yaml_writer.specs.SeenNumbers.{seen_number}
+use Rattle.yaml_base.specs.JsonNumbers.{JsonNumber}
+use Rattle.yaml_writer.specs.NumberParts.{IsNumber, IsNoNumber}
+use Rattle.yaml_writer.specs.SeenNumbers.{seen_parts}
 use Rattle.yaml_writer.proofs.PartLemmas.{text_is_number, text_is_none}
+use Rattle.yaml_writer.proofs.SpellingLemmas.{none_by_chars, number_by_chars}
 use Rattle.yaml_writer.proofs.numbers.number_of.Goals as goal
 
-pub returns-then-is_valid : goal.returns-then-is_valid
-returns-then-is_valid c =
-    text_is_number c.args.text.now (seen_number c.parts_of-number.result) c.parts_of-number.ensures (sym c.is_valid.ensures ∙ c.if-is_valid.true)
+pub invariant_of-result : goal.invariant_of-result
+invariant_of-result c =
+    text_is_number c.args.text.now (seen_parts c.parts_of-parts.result) c.parts_of-parts.ensures (sym c.is_valid.ensures ∙ c.if-is_valid.true)
 
-pub returns-else-is_valid : goal.returns-else-is_valid
-returns-else-is_valid c =
-    text_is_none c.args.text.now (seen_number c.parts_of-number.result) c.parts_of-number.ensures (sym c.is_valid.ensures ∙ c.if-is_valid.false)
+pub returns-then-is_valid-clause-bytes : goal.returns-then-is_valid-clause-bytes
+returns-then-is_valid-clause-bytes c =
+    text_is_number c.args.text.now (seen_parts c.parts_of-parts.result) c.parts_of-parts.ensures (sym c.is_valid.ensures ∙ c.if-is_valid.true)
+
+pub returns-then-is_valid-clause-characters : goal.returns-then-is_valid-clause-characters
+returns-then-is_valid-clause-characters c =
+    let number : JsonNumber = seen_parts c.parts_of-parts.result in
+    number_by_chars c.args.text.now number
+    (text_is_number c.args.text.now number c.parts_of-parts.ensures (sym c.is_valid.ensures ∙ c.if-is_valid.true))
+
+pub returns-else-is_valid-clause-bytes : goal.returns-else-is_valid-clause-bytes
+returns-else-is_valid-clause-bytes c =
+    text_is_none c.args.text.now (seen_parts c.parts_of-parts.result) c.parts_of-parts.ensures (sym c.is_valid.ensures ∙ c.if-is_valid.false)
+
+pub returns-else-is_valid-clause-characters : goal.returns-else-is_valid-clause-characters
+returns-else-is_valid-clause-characters c =
+    none_by_chars c.args.text.now c.utf8.text
+    (text_is_none c.args.text.now (seen_parts c.parts_of-parts.result) c.parts_of-parts.ensures (sym c.is_valid.ensures ∙ c.if-is_valid.false))

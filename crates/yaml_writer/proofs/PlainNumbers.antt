@@ -1,0 +1,205 @@
+-- Numbers are written plain, and read as themselves.
+use Rattle.std.proofs.Common.{◌≡◌, refl, sym, ap, ◌∙◌, arith}
+use Rattle.std.proofs.lemmas.Bool.{true≢false, and_parts, and_from, and_left, and_right, or_parts, or_from, not-true, not_from_false, ltb-true, agree_below, agree_below_at}
+use Rattle.std.proofs.lemmas.Str.Parse.{digit_from_value}
+use Rattle.std.specs.Char.{digit_value}
+use Rattle.std.specs.List.{list_all, list_any}
+use Rattle.std.specs.Prelude.{ℕ, Bool, true, false, [], ◌∷◌, ◌++◌, ◌==◌, ◌||◌, ◌&&◌, ◌<◌, not, length, codes, if◌then◌else◌}
+use Rattle.yaml_base.proofs.NumberCuts.{digit_unlike}
+use Rattle.yaml_base.proofs.NumbersRead.{numbers_are_read}
+use Rattle.yaml_base.specs.Analysis.{Allowances, Charset, allowances, allows_plain, bars_plain, begins_like_mark, begins_unlike_plain, begins_with, ends_word, is_empty, is_gap, is_indicator, is_special, somewhere}
+use Rattle.yaml_base.specs.Characters.{Text, is_among, is_ascii, is_break, is_printable, is_space, line_separator, paragraph_separator}
+use Rattle.yaml_base.specs.Event.{plain}
+use Rattle.yaml_base.specs.JsonNumbers.{JsonNumber, minus, is_json_number, is_json_integer, fraction_or, exponent_spelled, json_value, means_number, yaml_number}
+use Rattle.yaml_base.specs.Resolved.{is_decimal, are_digits}
+use Rattle.yaml_base.specs.SchemaCore.{resolved_by_core}
+use Rattle.yaml_base.specs.SchemaOf11.{resolved_by_11}
+use Rattle.yaml_base.specs.Style.{fits_plain, style_asked, style_fitting, style_quoted, chosen}
+use Rattle.yaml_writer.specs.ReadNumbers.{WrittenNumbersAreRead}
+use Rattle.yaml_writer.proofs.SpellingLemmas.{PassesNumbers, spelling_passes, whole_digits}
+
+-- Characters
+
+-- the narrowest set of characters
+abbrev narrowest : Charset
+narrowest = record { unicode = false; breaks12 = true }
+
+-- a character that may stand anywhere in plain text, whatever follows it
+abbrev is_harmless : ℕ → Bool
+is_harmless c = not (is_special narrowest c || is_break c || is_space c || c == 58 || is_gap c || is_among (codes ",?:[]{}") c)
+
+-- one that begins no mark and is no sign
+abbrev begins_plain : ℕ → Bool
+begins_plain c = not (is_space c || (c == 45 || c == 46) || is_indicator c || is_among (codes "?:-") c)
+
+-- what ten digits pass, each does
+digits_pass : (test : ℕ → Bool) → agree_below (λ c. not (is_decimal c) || test c) (λ _. true) 58 ≡ true → (c : ℕ) → is_decimal c ≡ true → test c ≡ true
+digits_pass test all c digit =
+    let within = digit_from_value c (ltb-true (digit_value c) 10 digit) in
+    sym (ap (λ x. not x || test c) digit) ∙ agree_below_at (λ c. not (is_decimal c) || test c) (λ _. true) 58 c all (omega (arith, within))
+
+digit_harmless : (c : ℕ) → is_decimal c ≡ true → is_harmless c ≡ true
+digit_harmless c digit = digits_pass is_harmless refl c digit
+
+harmless_passes : PassesNumbers is_harmless
+harmless_passes = record { digit = digit_harmless; minus_sign = refl; plus_sign = refl; point = refl; small = refl; capital = refl }
+
+-- what such a character isn't
+record Harmless (c : ℕ) : Type 0 where
+  special : is_special narrowest c ≡ false
+  breaks : is_break c ≡ false
+  space : is_space c ≡ false
+  colon : (c == 58) ≡ false
+  gap : is_gap c ≡ false
+  sign : is_among (codes ",?:[]{}") c ≡ false
+
+no_harm : (c : ℕ) → is_harmless c ≡ true → Harmless c
+no_harm c h =
+    let signs = or_parts (is_special narrowest c || is_break c || is_space c || c == 58 || is_gap c) (is_among (codes ",?:[]{}") c) (not-true _ h) in
+    let gaps = or_parts (is_special narrowest c || is_break c || is_space c || c == 58) (is_gap c) signs.0 in
+    let colons = or_parts (is_special narrowest c || is_break c || is_space c) (c == 58) gaps.0 in
+    let spaces = or_parts (is_special narrowest c || is_break c) (is_space c) colons.0 in
+    let breaks = or_parts (is_special narrowest c) (is_break c) spaces.0 in
+    record { special = breaks.0; breaks = breaks.1; space = spaces.1; colon = colons.1; gap = gaps.1; sign = signs.1 }
+
+-- what is special in no set of characters
+never_special : (charset : Charset) (c : ℕ) → is_special narrowest c ≡ false → is_special charset c ≡ false
+never_special charset c h =
+    or_from (not (is_printable c) || (not charset.unicode && not (is_ascii c))) (charset.breaks12 && (c == line_separator || c == paragraph_separator))
+    (or_from (not (is_printable c)) (not charset.unicode && not (is_ascii c)) first.0 (and_right (not charset.unicode) (not (is_ascii c)) first.1))
+    (and_right charset.breaks12 (c == line_separator || c == paragraph_separator) both.1)
+  where
+    both : ((not (is_printable c) || not (is_ascii c)) ≡ false) × ((c == line_separator || c == paragraph_separator) ≡ false)
+    both = or_parts (not (is_printable c) || not (is_ascii c)) (c == line_separator || c == paragraph_separator) h
+
+    first : (not (is_printable c) ≡ false) × (not (is_ascii c) ≡ false)
+    first = or_parts (not (is_printable c)) (not (is_ascii c)) both.0
+
+-- Texts
+
+unbarred : (charset : Charset) (flow : Bool) (c : ℕ) (rest : Text) → Harmless c → bars_plain charset flow c rest ≡ false
+unbarred charset flow c rest h =
+    or_from _ _
+    (or_from _ _
+    (or_from _ _ (or_from _ _ (never_special charset c h.special) h.breaks) (and_left (is_space c) (is_empty rest) h.space))
+    (or_from _ _ (and_left (c == 58) (ends_word rest) h.colon) (and_left (is_gap c) (begins_with (λ d. d == 35) rest) h.gap)))
+    (and_right flow (is_among (codes ",?:[]{}") c) h.sign)
+
+nowhere_barred : (charset : Charset) (flow : Bool) (text : Text) → list_all is_harmless text ≡ true → somewhere (bars_plain charset flow) text ≡ false
+nowhere_barred charset flow [] h = refl
+nowhere_barred charset flow (c ∷ rest) h =
+    or_from (bars_plain charset flow c rest) (somewhere (bars_plain charset flow) rest) (unbarred charset flow c rest (no_harm c both.0))
+    (nowhere_barred charset flow rest both.1)
+  where
+    both : (is_harmless c ≡ true) × (list_all is_harmless rest ≡ true)
+    both = and_parts (is_harmless c) (list_all is_harmless rest) h
+
+unbroken : (text : Text) → list_all is_harmless text ≡ true → list_any is_break text ≡ false
+unbroken [] h = refl
+unbroken (c ∷ rest) h = or_from (is_break c) (list_any is_break rest) (no_harm c both.0).breaks (unbroken rest both.1)
+  where
+    both : (is_harmless c ≡ true) × (list_all is_harmless rest ≡ true)
+    both = and_parts (is_harmless c) (list_all is_harmless rest) h
+
+-- Beginnings
+
+no_mark : (c : ℕ) (rest : Text) → (c == 45 || c == 46) ≡ false → begins_like_mark (c ∷ rest) ≡ false
+no_mark c [] h = refl
+no_mark c (d ∷ []) h = refl
+no_mark c (d ∷ e ∷ rest) h = and_left ((c == 45 || c == 46) && d == c) (e == c) (and_left (c == 45 || c == 46) (d == c) h)
+
+no_mark_after : (c : ℕ) (rest : Text) → (c == 45) ≡ false → begins_like_mark (0x2D ∷ c ∷ rest) ≡ false
+no_mark_after c [] h = refl
+no_mark_after c (d ∷ rest) h = and_left (c == 45) (d == 45) h
+
+begins_as_plain : (negative : Bool) (c : ℕ) (rest : Text) → is_decimal c ≡ true → begins_unlike_plain (minus negative ++ (c ∷ rest)) ≡ false
+begins_as_plain true c rest digit =
+    or_from (begins_like_mark (0x2D ∷ c ∷ rest) || false) (is_gap c)
+    (or_from (begins_like_mark (0x2D ∷ c ∷ rest)) false (no_mark_after c rest (digit_unlike c 45 refl digit)) refl) (no_harm c (digit_harmless c digit)).gap
+begins_as_plain false c rest digit =
+    or_from (is_space c || begins_like_mark (c ∷ rest) || is_indicator c) (is_among (codes "?:-") c && ends_word rest)
+    (or_from (is_space c || begins_like_mark (c ∷ rest)) (is_indicator c)
+    (or_from (is_space c) (begins_like_mark (c ∷ rest)) marks.0 (no_mark c rest marks.1)) indicators.1)
+    (and_left (is_among (codes "?:-") c) (ends_word rest) alone.1)
+  where
+    alone : ((is_space c || (c == 45 || c == 46) || is_indicator c) ≡ false) × (is_among (codes "?:-") c ≡ false)
+    alone =
+        or_parts (is_space c || (c == 45 || c == 46) || is_indicator c) (is_among (codes "?:-") c) (not-true _ (digits_pass begins_plain refl c digit))
+
+    indicators : ((is_space c || (c == 45 || c == 46)) ≡ false) × (is_indicator c ≡ false)
+    indicators = or_parts (is_space c || (c == 45 || c == 46)) (is_indicator c) alone.0
+
+    marks : (is_space c ≡ false) × ((c == 45 || c == 46) ≡ false)
+    marks = or_parts (is_space c) (c == 45 || c == 46) indicators.0
+
+-- what begins with digits, past a minus, isn't empty and begins as plain text may
+begins_digits : (negative : Bool) (whole rest : Text) → are_digits 10 whole ≡ true
+    → (is_empty (minus negative ++ whole ++ rest) ≡ false) × (begins_unlike_plain (minus negative ++ whole ++ rest) ≡ false)
+begins_digits negative [] rest h = absurd (true≢false (sym h))
+begins_digits negative (c ∷ whole) rest h = by negative
+  where
+    digit : is_decimal c ≡ true
+    digit =
+        (and_parts (is_decimal c) (list_all is_decimal whole) (and_parts (not (length (c ∷ whole) == 0)) (list_all is_decimal (c ∷ whole)) h).1).0
+
+    by : (x : Bool) → (is_empty (minus x ++ (c ∷ whole) ++ rest) ≡ false) × (begins_unlike_plain (minus x ++ (c ∷ whole) ++ rest) ≡ false)
+    by true = (refl, begins_as_plain true c (whole ++ rest) digit)
+    by false = (refl, begins_as_plain false c (whole ++ rest) digit)
+
+-- All
+
+module _ (text : Text) (harmless : list_all is_harmless text ≡ true) (filled : is_empty text ≡ false) (begins : begins_unlike_plain text ≡ false) where
+  allows : (charset : Charset) (flow : Bool) → allows_plain charset flow text ≡ true
+  allows charset flow =
+      and_from (not (is_empty text && flow)) (not (begins_unlike_plain text || somewhere (bars_plain charset flow) text))
+      (not_from_false (is_empty text && flow) (and_left (is_empty text) flow filled))
+      (not_from_false (begins_unlike_plain text || somewhere (bars_plain charset flow) text)
+      (or_from (begins_unlike_plain text) (somewhere (bars_plain charset flow) text) begins (nowhere_barred charset flow text harmless)))
+
+  fits : (charset : Charset) (tag_written plain_implicit flow simple_key : Bool) → (tag_written || plain_implicit) ≡ true
+      → fits_plain (allowances charset text) (is_empty text) tag_written plain_implicit flow simple_key ≡ true
+  fits charset tag_written plain_implicit flow simple_key told =
+      and_from (allowed flow && not (is_empty text && (flow || simple_key))) (tag_written || plain_implicit)
+      (and_from (allowed flow) (not (is_empty text && (flow || simple_key))) (by flow)
+      (not_from_false (is_empty text && (flow || simple_key)) (and_left (is_empty text) (flow || simple_key) filled)))
+      told
+    where
+      allowed : Bool → Bool
+      allowed x = if x then allows_plain charset true text else allows_plain charset false text
+
+      by : (x : Bool) → allowed x ≡ true
+      by true = allows charset true
+      by false = allows charset false
+
+  stands_plain : (charset : Charset) (tag_written plain_implicit quoted_implicit flow simple_key : Bool) → (tag_written || plain_implicit) ≡ true
+      → (chosen (allowances charset text) plain (is_empty text) tag_written plain_implicit quoted_implicit flow simple_key false).style ≡ plain
+  stands_plain charset tag_written plain_implicit quoted_implicit flow simple_key told =
+      ap (λ double. style_fitting allowed fit block (style_asked double plain)) (and_right simple_key (list_any is_break text) (unbroken text harmless))
+      ∙ ap (λ x. if x then plain else style_quoted allowed) (fits charset tag_written plain_implicit flow simple_key told)
+    where
+      allowed : Allowances
+      allowed = allowances charset text
+
+      fit : Bool
+      fit = fits_plain allowed (is_empty text) tag_written plain_implicit flow simple_key
+
+      block : Bool
+      block = allowed.block && not flow && not simple_key
+
+-- a number is written plain, and both schemas read it
+pub written_numbers : WrittenNumbersAreRead
+written_numbers number charset tag_written plain_implicit quoted_implicit flow simple_key valid told =
+    (stands_plain (yaml_number number) harmless first.0 first.1 charset tag_written plain_implicit quoted_implicit flow simple_key told, read.0, read.1)
+  where
+    harmless : list_all is_harmless (yaml_number number) ≡ true
+    harmless = spelling_passes is_harmless harmless_passes number valid
+
+    first : (is_empty (yaml_number number) ≡ false) × (begins_unlike_plain (yaml_number number) ≡ false)
+    first =
+        begins_digits number.negative number.whole
+        (if is_json_integer number then [] else codes "." ++ fraction_or (codes "0") number ++ exponent_spelled number.exponent)
+        (whole_digits number valid)
+
+    read : (means_number (json_value number) (resolved_by_11 (yaml_number number)) ≡ true)
+        × (means_number (json_value number) (resolved_by_core (yaml_number number)) ≡ true)
+    read = numbers_are_read number valid

@@ -1,0 +1,38 @@
+-- The parts of a number of JSON, each as it must be.
+use Rattle.std.proofs.Common.{◌≡◌, refl}
+use Rattle.std.proofs.lemmas.Bool.{and_parts}
+use Rattle.std.specs.Prelude.{Bool, true, Option, None, Some, ◌&&◌}
+use Rattle.yaml_base.specs.Characters.{Text}
+use Rattle.yaml_base.specs.JsonNumbers.{JsonNumber, JsonExponent, is_whole, is_json_number}
+use Rattle.yaml_base.specs.Resolved.{are_digits}
+use Rattle.yaml_writer.specs.NumberParts.{is_fraction, is_exponent}
+
+-- the tests of which a number's is made
+pub record Valid (number : JsonNumber) : Type 0 where
+  pub whole : is_whole number.whole ≡ true
+  pub fraction : is_fraction number.fraction ≡ true
+  pub exponent : is_exponent number.exponent ≡ true
+
+pub valid_parts : (number : JsonNumber) → is_json_number number ≡ true → Valid number
+valid_parts number h = record { whole = inner.0; fraction = by_fraction number.fraction inner.1; exponent = by_exponent number.exponent outer.1 }
+  where
+    fraction_valid : Bool
+    fraction_valid = elim number.fraction as (λ _. Bool) [ None ↦ true | Some digits ↦ are_digits 10 digits ]
+
+    exponent_valid : Bool
+    exponent_valid = elim number.exponent as (λ _. Bool) [ None ↦ true | Some exponent ↦ are_digits 10 exponent.digits ]
+
+    outer : ((is_whole number.whole && fraction_valid) ≡ true) × (exponent_valid ≡ true)
+    outer = and_parts (is_whole number.whole && fraction_valid) exponent_valid h
+
+    inner : (is_whole number.whole ≡ true) × (fraction_valid ≡ true)
+    inner = and_parts (is_whole number.whole) fraction_valid outer.0
+
+    by_fraction : (o : Option Text) → elim o as (λ _. Bool) [ None ↦ true | Some digits ↦ are_digits 10 digits ] ≡ true → is_fraction o ≡ true
+    by_fraction None g = refl
+    by_fraction (Some digits) g = g
+
+    by_exponent : (o : Option JsonExponent) → elim o as (λ _. Bool) [ None ↦ true | Some exponent ↦ are_digits 10 exponent.digits ] ≡ true
+        → is_exponent o ≡ true
+    by_exponent None g = refl
+    by_exponent (Some exponent) g = g

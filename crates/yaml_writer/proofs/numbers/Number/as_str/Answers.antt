@@ -1,0 +1,7 @@
+use Rattle.std.proofs.Common.{subst}
+use Rattle.yaml_base.specs.JsonNumbers.{JsonNumber}
+use Rattle.yaml_writer.specs.NumberParts.{IsNumber}
+use Rattle.yaml_writer.proofs.numbers.Number.as_str.Goals as goal
+
+pub returns : goal.returns
+returns c = subst (λ (number : JsonNumber). IsNumber c.self.inside.text.now number) c.self.view_is c.self.invariant

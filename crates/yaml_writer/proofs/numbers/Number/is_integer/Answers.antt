@@ -1,0 +1,6 @@
+use Rattle.std.proofs.Common.{ap, ◌∙◌}
+use Rattle.yaml_base.specs.JsonNumbers.{is_json_integer}
+use Rattle.yaml_writer.proofs.numbers.Number.is_integer.Goals as goal
+
+pub returns : goal.returns
+returns c = c.is_integer.ensures ∙ ap is_json_integer c.self.view_is

@@ -1,0 +1,19 @@
+-- How the numbers of a writer are read.
+use Rattle.std.specs.Prelude.{◌≡◌, Bool, true, false, ◌||◌}
+use Rattle.yaml_base.specs.Analysis.{Charset, allowances, is_empty}
+use Rattle.yaml_base.specs.Event.{plain}
+use Rattle.yaml_base.specs.JsonNumbers.{JsonNumber, is_json_number, json_value, means_number, yaml_number}
+use Rattle.yaml_base.specs.SchemaCore.{resolved_by_core}
+use Rattle.yaml_base.specs.SchemaOf11.{resolved_by_11}
+use Rattle.yaml_base.specs.Style.{chosen}
+
+-- wherever a number of JSON stands outside canonical form, and whichever characters may stand as themselves: with a tag that is
+-- written or the flag for plain text it is written plain, and its text is exactly that number by both schemas
+abbrev pub WrittenNumbersAreRead : Type 0
+WrittenNumbersAreRead =
+    (number : JsonNumber) (charset : Charset) (tag_written plain_implicit quoted_implicit flow simple_key : Bool)
+    → is_json_number number ≡ true → (tag_written || plain_implicit) ≡ true
+    → let text = yaml_number number in
+    ((chosen (allowances charset text) plain (is_empty text) tag_written plain_implicit quoted_implicit flow simple_key false).style ≡ plain)
+    × (means_number (json_value number) (resolved_by_11 text) ≡ true)
+    × (means_number (json_value number) (resolved_by_core text) ≡ true)

@@ -1,0 +1,50 @@
+-- Why a stream couldn't be finished.
+use Rattle.std.specs.Prelude.{◌≡◌, ◌⊎◌, ◌<◌, Bool, Some, List, ◌∷◌, ◌++◌, length, take}
+use Rattle.yaml_base.specs.Errors.{refusal_number}
+use Rattle.yaml_base.specs.Event.{Event}
+use Rattle.yaml_base.specs.Output.{settings_for, bytes_written}
+use Rattle.yaml_base.specs.Pieces.{list_layout}
+use Rattle.yaml_base.specs.Refusal.{IsAccepted, BeginsAccepted, refusal}
+use Rattle.yaml_base.specs.Settings.{Settings}
+use Rattle.yaml_base.specs.declared.errors.yaml_error_t.{yaml_error_t}
+use Rattle.yaml_base.specs.declared.errors.yaml_error_t.TheVariants.{ExpectedNode, WriteError}
+use Rattle.yaml_emitter.specs.Promises.{IsRefusal}
+use Rattle.yaml_emitter.specs.StandsAfter.{StandsAfter}
+use Rattle.yaml_emitter.specs.State.{State}
+use Rattle.yaml_emitter.specs.Uncut.{IsUncut}
+use Rattle.yaml_writer.specs.Writing.{closing}
+
+-- one of some events is refused with this error; those before it begin a stream
+pub record RefusesOne (canonical : Bool) (all : List Event) (error : yaml_error_t) : Type 0 where
+  pub front : List Event
+  pub event : Event
+  pub later : List Event
+  pub parts : front ++ event ∷ later ≡ all
+  pub begins : BeginsAccepted canonical front
+  pub refusal : refusal canonical front event ≡ Some (refusal_number error)
+
+-- the events are no stream: one of them is refused with this error, or a start still waits for a node
+pub record IsNoStream (canonical : Bool) (all : List Event) (error : yaml_error_t) : Type 0 where
+  pub unaccepted : IsAccepted canonical all → ⊥
+  pub named : RefusesOne canonical all error ⊎ (error ≡ ExpectedNode)
+
+-- the bytes of the events pass the limit: already those of the first of them, in a stream that begins so; and where all are a
+-- stream, its bytes do
+pub record PassesLimit (given : Settings) (all : List Event) : Type 0 where
+  pub front : List Event
+  pub later : List Event
+  pub parts : front ++ later ≡ all
+  pub more : List Event
+  pub accepted : IsAccepted given.canonical (front ++ more)
+  pub passed :
+      let s = settings_for given all in
+      given.limit < length (bytes_written s (take (length front) (list_layout s (front ++ more))))
+  pub whole : IsAccepted given.canonical all → IsUncut given all → ⊥
+
+-- the stream of an emitter couldn't be finished with this error: its first error stays; the limit gave out only where the bytes
+-- pass it; an error of events comes only where they are no stream
+pub record IsUnfinished (emitter : State) (error : yaml_error_t) : Type 0 where
+  pub first : (earlier : yaml_error_t) → emitter.error ≡ Some earlier → error ≡ earlier
+  pub full : error ≡ WriteError → (given : Settings) (all : List Event) → StandsAfter given all emitter → PassesLimit given (all ++ closing)
+  pub refused : IsRefusal error → (given : Settings) (all : List Event) → StandsAfter given all emitter
+      → IsNoStream given.canonical (all ++ closing) error
