@@ -162,8 +162,8 @@ module _ (schema : Schema) (s : Effective) (place : Place) (simple : Bool) where
       by false h = refl
 
   text_by : (text : Text) → TextsOf schema → (canonical : Bool) → scalar_meant schema (tagging_by (text_content text) canonical) text ≡ meant_text
-  text_by text texts true = as_it_stands text (style_by (text_content text) true).style (texts text _ (is_empty text) false true true place.in_flow simple true)
-  text_by text texts false = as_it_stands text (style_by (text_content text) false).style (texts text _ (is_empty text) false true true place.in_flow simple false)
+  text_by text texts true = as_it_stands text (style_by (text_content text) true).style (texts text (allowances (record { unicode = s.unicode; breaks12 = s.breaks12 }) text) (is_empty text) false true true place.in_flow simple true)
+  text_by text texts false = as_it_stands text (style_by (text_content text) false).style (texts text (allowances (record { unicode = s.unicode; breaks12 = s.breaks12 }) text) (is_empty text) false true true place.in_flow simple false)
 
   pub text_means : (text : Text) → TextsOf schema
       → scalar_meant schema (tagging_in (scalar_tag s.canonical (text_content text)) (choice_of s place simple (text_content text))) text ≡ meant_text
@@ -251,7 +251,7 @@ module _ (schema : Schema) (reads : ReadsScalars schema) (s : Effective) (direct
         let node = json_node json s.canonical in_flow in
         let key_place = entry_place flow (as_key (has_no_pairs before)) 0 in
         let place = entry_place flow (as_value (is_simple s.canonical directives named)) 0 in
-        let pair = (node_tree named s directives key_place, node_tree node s directives place) in
+        let pair : Tree × Tree = (node_tree named s directives key_place, node_tree node s directives place) in
         let after = members_mean members numbers.1 (pairs_and before named node) flow in (
           pair ∷ after.0,
           after.1 ∙ append_assoc (pairs_in_order (pairs_tree before s directives flow)) (pair ∷ []) after.0,

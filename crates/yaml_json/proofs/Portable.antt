@@ -58,8 +58,8 @@ value_written (boolean false) canonical in_flow numbers = refl
 value_written (number text) canonical in_flow numbers =
     number_written (number_content canonical (number_in text)) canonical (number_filled (number_in text) (number_is text numbers).valid)
 value_written (string text) canonical in_flow numbers = text_written (chars text) canonical
-value_written (array items) canonical in_flow numbers = refl
-value_written (object members) canonical in_flow numbers = refl
+value_written (array _) canonical in_flow numbers = refl
+value_written (object _) canonical in_flow numbers = refl
 
 -- No tag has a sign of flow
 

@@ -1,7 +1,9 @@
 -- JSON texts, one after another.
-use Rattle.std.proofs.Common.{◌≡◌, refl, sym, ap, ◌∙◌, subst, append_assoc, append-nil}
+use Rattle.std.proofs.Common.{◌≡◌, ◌<◌, ◌⊎◌, inl, inr, refl, sym, ap, ◌∙◌, subst, append_assoc, append-nil}
+use Rattle.std.proofs.lemmas.Bool.{eqb-true, false≢true}
+use Rattle.std.proofs.lemmas.List.{nil_from_length}
 use Rattle.std.proofs.lemmas.List.Concat.{flat_map-append}
-use Rattle.std.specs.Prelude.{ℕ, Bool, true, Result, Some, List, [], ◌∷◌, ◌++◌, flat_map}
+use Rattle.std.specs.Prelude.{ℕ, Bool, true, false, Result, Some, List, [], ◌∷◌, ◌++◌, ◌==◌, flat_map, length}
 use Rattle.json.specs.Json.{Json, value}
 use Rattle.json.specs.Lex.{tokens}
 use Rattle.yaml_base.specs.Event.{Event, document_end}
@@ -109,3 +111,15 @@ module _ (depth : ℕ) (in_flow : Bool) (text : List ℕ) (was : WriterState) (r
             (ends_with was.canonical in_flow so_far.parts (first, one.json))
             (wrote_then was now given (started was.canonical in_flow so_far.parts) (json_events was.canonical in_flow one.json) so_far.wrote events_given);
       }
+
+-- What follows the first text
+
+-- nothing, where it has no length
+pub no_more : (more : List ℕ) (empty : Bool) → empty ≡ (length more == 0) → empty ≡ true → more ≡ []
+no_more more empty is h = nil_from_length more (eqb-true (length more) 0 (sym is ∙ h))
+
+-- else less than before
+pub some_more : (more rest : List ℕ) (empty : Bool) → (more ≡ []) ⊎ (length more < length rest) → empty ≡ (length more == 0) → empty ≡ false
+    → length more < length rest
+some_more more rest empty (inl none) is h = absurd (false≢true (sym h ∙ is ∙ ap (λ (t : List ℕ). length t == 0) none))
+some_more more rest empty (inr less) is h = less

@@ -8,6 +8,7 @@ use Rattle.yaml_base.specs.Event.{Event, document_end, scalar}
 use Rattle.yaml_base.specs.Settings.{Settings}
 use Rattle.yaml_writer.specs.Writing.{AddsAll, EndsInnermost, IsStream, WriterState, closing, opening, plain_start}
 use Rattle.yaml_json.specs.JsonEvents.{json_events, items_events, members_events, text_content}
+use Rattle.yaml_json.specs.Means.{ReadsAsJson}
 
 -- the next node has no anchor and no tag
 abbrev pub IsBare : WriterState → Type 0
@@ -82,8 +83,9 @@ pub record WroteTexts (depth : ℕ) (in_flow : Bool) (text : List ℕ) (was now 
   pub each : AreJson depth parts
   pub wrote : Wrote was (parts_events was.canonical in_flow parts) now
 
--- the text is JSON nested at most so deep, and the bytes are the stream of its one document
+-- the text is JSON nested at most so deep, the bytes are the stream of its one document, and both schemas read them as its value
 pub record IsYamlOf (given : Settings) (in_flow : Bool) (depth : ℕ) (text bytes : List ℕ) : Type 0 where
   pub json : Json
   pub read : value depth (tokens text) ≡ Some (json, [])
   pub stream : IsStream given (opening ++ json_events given.canonical in_flow json ++ closing) bytes
+  pub reads : ReadsAsJson given.breaks12 bytes json
