@@ -7,4 +7,4 @@ returns-in-Ok-finish-clause-stream g c =
     let settings = c.args.settings in
     let first = c.in-Ok in
     yaml_of (seen_settings settings.writer) settings.flow settings.depth c.args.text.now c.in-Ok-finish.bytes.items first.writer c.write_json.new.writer
-    first.ensures.stands first.ensures.canonical c.in_default.ensures.written c.in-Ok-finish.ensures.finishes
+    first.ensures.stands first.ensures.canonical c.in_default-write_json.ensures.written c.in-Ok-finish.ensures.finishes

@@ -56,7 +56,7 @@ pub write_value-returns-in-Number-clause-refused : goal.write_value-returns-in-N
 write_value-returns-in-Number-clause-refused g t c refused =
     let good : json.IsNumber c.in-Number.text.now =
     subst (λ k. IsPrintable (token_of k)) c.in-Number.is (c.in-Some.ensures.printable (λ bad. number_apart c.in-Number.text c.in-Some.token c.in-Number.is bad)) in
-    absurd (c.write_number.ensures.refused refused (number_in c.in-Number.text.now) (number_is c.in-Number.text.now good))
+    absurd {A = value c.args.depth c.args.reader.now ≡ None} (c.write_number.ensures.refused refused (number_in c.in-Number.text.now) (number_is c.in-Number.text.now good))
 
 pub write_value-returns-in-EndObject-clause-refused : goal.write_value-returns-in-EndObject-clause-refused
 write_value-returns-in-EndObject-clause-refused g t c refused =
