@@ -1,0 +1,252 @@
+//! The program: what its arguments ask for is done with files and the standard streams.
+ghost use Rattle.std.specs.Prelude.{◌≤◌, OnOk};
+ghost use Rattle.yaml_json.specs.Wrote.{IsBare};
+
+use crate::arguments::{Conversion, Task, task_of};
+use std::alloc::Global;
+use std::io::{ErrorKind, Read, Write};
+use std::rt::Runtime;
+use std::{fs, io, str};
+use thiserror::Error;
+use yaml_json::{JsonError, JsonSettings, Writer, write_json_texts, yaml_error_t};
+
+const USAGE: &str = "usage: json2yaml [-o FILE] [--indent N] [--width N] [--canonical] [--flow] [--no-portable] [--help] [--version] [FILE..]";
+
+/// Why nothing was written.
+#[derive(Clone, Copy, Debug, Drop, Error)]
+enum Fault {
+    #[error("{0}")]
+    Refused(JsonError),
+    #[error("not UTF-8")]
+    NotText,
+    #[error("cannot read")]
+    ReadFailed,
+    #[error("cannot write")]
+    WriteFailed,
+    #[error("out of memory")]
+    NoMemory,
+}
+
+/// The program's status: 1 where a text isn't written as YAML, 3 where reading, writing or memory failed.
+fn status_of(fault: &Fault) -> u8
+    ensures { result ≤ 3 }
+{
+    match fault {
+        Fault::Refused(_) | Fault::NotText => 1,
+        Fault::ReadFailed | Fault::WriteFailed | Fault::NoMemory => 3,
+    }
+}
+
+/// What an error of the writer is for the program.
+fn fault_of(error: JsonError) -> Fault {
+    match error {
+        JsonError::Emitter(yaml_error_t::Memory) => Fault::NoMemory,
+        error => Fault::Refused(error),
+    }
+}
+
+/// All that a reader has.
+fn bytes_of<R: Read>(alloc: Global, reader: &mut R) -> Result<Vec<u8>, Fault> {
+    let mut bytes = Vec::new(alloc);
+    match reader.read_to_end(&mut bytes) {
+        Ok(_) => Ok(bytes),
+        Err(error) => {
+            if error.kind() == ErrorKind::OutOfMemory {
+                Err(Fault::NoMemory)
+            } else {
+                Err(Fault::ReadFailed)
+            }
+        }
+    }
+}
+
+/// The bytes of a file, or of standard input.
+fn bytes_in<R: Runtime + AllocGlobal>(rt: &R, name: Option<&str>) -> Result<Vec<u8>, Fault> {
+    match name {
+        None => bytes_of(rt.alloc(), &mut rt.reader()),
+        Some(name) => match fs::open(rt, name) {
+            Ok(mut file) => bytes_of(rt.alloc(), &mut file),
+            Err(_) => Err(Fault::ReadFailed),
+        },
+    }
+}
+
+/// Gives a writer the JSON texts of these bytes, a document each.
+fn give_bytes(
+    alloc: Global,
+    writer: &mut Writer<Global>,
+    bytes: &[u8],
+    settings: &JsonSettings,
+) -> Result<(), Fault>
+    requires { IsBare writer.old }
+    ensures { OnOk result (IsBare writer.new) }
+{
+    let Ok(text) = str::from_utf8(bytes) else {
+        return Err(Fault::NotText);
+    };
+    match write_json_texts(alloc, writer, text, settings.flow, settings.depth) {
+        Ok(()) => Ok(()),
+        Err(error) => Err(fault_of(error)),
+    }
+}
+
+/// Gives a writer the JSON texts of a file, or of standard input.
+fn give_file<R: Runtime + AllocGlobal>(
+    rt: &R,
+    writer: &mut Writer<Global>,
+    name: Option<&str>,
+    settings: &JsonSettings,
+) -> Result<(), Fault>
+    requires { IsBare writer.old }
+    ensures { OnOk result (IsBare writer.new) }
+{
+    let bytes = match bytes_in(rt, name) {
+        Ok(bytes) => bytes,
+        Err(fault) => return Err(fault),
+    };
+    give_bytes(rt.alloc(), writer, bytes.as_slice(), settings)
+}
+
+/// Begins the next document of a writer.
+fn begin_next(writer: &mut Writer<Global>) -> Result<(), Fault>
+    requires { IsBare writer.old }
+    ensures { IsBare writer.new }
+{
+    match writer.next_document() {
+        Ok(()) => Ok(()),
+        Err(error) => Err(fault_of(JsonError::Emitter(error))),
+    }
+}
+
+/// Gives a writer the JSON texts of some files, a document each. Returns the file at which it failed, and why.
+fn give_files<'a, R: Runtime + AllocGlobal>(
+    rt: &R,
+    writer: &mut Writer<Global>,
+    names: &[&'a str],
+    settings: &JsonSettings,
+) -> Result<(), (Option<&'a str>, Fault)>
+    requires { IsBare writer.old }
+{
+    let mut first = true;
+    for name in names {
+        if !first {
+            if let Err(fault) = begin_next(writer) {
+                return Err((Some(*name), fault));
+            }
+        }
+        first = false;
+        if let Err(fault) = give_file(rt, writer, Some(*name), settings) {
+            return Err((Some(*name), fault));
+        }
+    }
+    Ok(())
+}
+
+/// Gives a writer all that is to be converted.
+fn give_all<'a, R: Runtime + AllocGlobal>(
+    rt: &R,
+    writer: &mut Writer<Global>,
+    conversion: &Conversion<'a>,
+) -> Result<(), (Option<&'a str>, Fault)>
+    requires { IsBare writer.old }
+{
+    if !conversion.files.is_empty() {
+        return give_files(rt, writer, conversion.files.as_slice(), &conversion.settings);
+    }
+    match give_file(rt, writer, None, &conversion.settings) {
+        Ok(()) => Ok(()),
+        Err(fault) => Err((None, fault)),
+    }
+}
+
+/// The YAML of all that is to be converted.
+fn converted<'a, R: Runtime + AllocGlobal>(
+    rt: &R,
+    conversion: &Conversion<'a>,
+) -> Result<Vec<u8>, (Option<&'a str>, Fault)> {
+    let mut writer = match Writer::new(rt.alloc(), conversion.settings.writer) {
+        Ok(writer) => writer,
+        Err(error) => return Err((None, fault_of(JsonError::Emitter(error)))),
+    };
+    if let Err(failure) = give_all(rt, &mut writer, conversion) {
+        return Err(failure);
+    }
+    match writer.finish() {
+        Ok(bytes) => Ok(bytes),
+        Err(error) => Err((None, fault_of(JsonError::Emitter(error)))),
+    }
+}
+
+/// Writes the bytes to a file, or to standard output.
+fn write_bytes<R: Runtime + AllocGlobal>(rt: &R, bytes: &[u8], name: Option<&str>) -> io::Result<()> {
+    match name {
+        None => io::writer(rt).write_all(bytes),
+        Some(name) => {
+            let mut file = fs::create(rt, name)?;
+            file.write_all(bytes)
+        }
+    }
+}
+
+/// Says in a line what went wrong, with the name of the file that can't be read or written, or whose text is refused.
+fn write_fault<W: Write>(fault: &Fault, name: Option<&str>, faults: &mut W) -> io::Result<()> {
+    match (fault, name) {
+        (Fault::ReadFailed | Fault::WriteFailed, Some(name)) => {
+            writeln!(faults, "json2yaml: {fault} {name}")
+        }
+        (Fault::Refused(_) | Fault::NotText, Some(name)) => {
+            writeln!(faults, "json2yaml: {name}: {fault}")
+        }
+        _ => writeln!(faults, "json2yaml: {fault}"),
+    }
+}
+
+/// Converts, says what went wrong, and returns the status.
+fn convert<R: Runtime + AllocGlobal, W: Write>(
+    rt: &R,
+    conversion: &Conversion<'_>,
+    faults: &mut W,
+) -> u8
+    ensures { result ≤ 3 }
+{
+    let (name, fault) = match converted(rt, conversion) {
+        Ok(bytes) => match write_bytes(rt, bytes.as_slice(), conversion.output) {
+            Ok(()) => return 0,
+            Err(_) => (conversion.output, Fault::WriteFailed),
+        },
+        Err(failure) => failure,
+    };
+    let _told = write_fault(&fault, name, faults);
+    status_of(&fault)
+}
+
+/// Says how the program is used.
+fn write_usage<R: Runtime>(rt: &R) -> io::Result<()> {
+    println!(rt; "{USAGE}")?;
+    println!(rt;
+        "Writes the JSON texts of the FILEs, or of standard input, as YAML to the FILE of -o, or to standard output."
+    )
+}
+
+/// Does what the arguments ask for, says on `faults` what went wrong, and returns the program's status.
+pub fn serve<R: Runtime + AllocGlobal, W: Write>(rt: &R, arguments: &[String], faults: &mut W) -> u8
+    ensures { result ≤ 3 }
+{
+    let told = match task_of(rt.alloc(), arguments) {
+        Ok(Task::Convert(conversion)) => return convert(rt, &conversion, faults),
+        Ok(Task::Help) => write_usage(rt),
+        Ok(Task::Version) => println!(rt; "json2yaml 0.2.11"),
+        Ok(Task::Misuse) => {
+            let _told = writeln!(faults, "{USAGE}");
+            return 2;
+        }
+        Err(_) => {
+            let _told = write_fault(&Fault::NoMemory, None, faults);
+            return 3;
+        }
+    };
+    match told {
+        Ok(()) => 0,
+        Err(_) => 3,
+    }
+}

@@ -1,0 +1,10 @@
+pub mod WroteLemmas
+pub mod Loops
+pub mod ByToken
+pub mod NumberBridge
+pub mod Trees
+pub mod Meanings
+pub mod Portable
+pub mod JsonReads
+pub mod TextsInTurn
+pub mod YamlOf

@@ -1,0 +1,259 @@
+-- What the tree of a JSON value means, wherever each scalar stands.
+use Rattle.std.proofs.Common.{◌≡◌, refl, sym, ap, ◌∙◌, subst, append_assoc, append-nil}
+use Rattle.std.proofs.lemmas.Bool.{and_parts, false≢true, true≢false}
+use Rattle.std.proofs.lemmas.Slice.Eq.{bytes_eq-Decides}
+use Rattle.std.specs.Prelude.{ℕ, Bool, true, false, Option, None, Some, List, [], ◌∷◌, ◌++◌, ◌&&◌, bytes_eq, codes, is_some, if◌then◌else◌}
+use Rattle.std.specs.Str.{chars}
+use Rattle.std.specs.Str.Parse.{digits_value}
+use Rattle.json.specs.Json.{Json, null, boolean, number, string, array, object, Items, no_items, item, Members, no_members, member}
+use Rattle.json.specs.Tree.{HasNumbers, ItemsHaveNumbers, MembersHaveNumbers}
+use Rattle.yaml_base.specs.Analysis.{Allowances, allowances, is_empty}
+use Rattle.yaml_base.specs.Characters.{Text}
+use Rattle.yaml_base.specs.Event.{Scalar, ScalarStyle, any_style, plain, single_quoted, double_quoted, literal, folded, TagDirective}
+use Rattle.yaml_base.specs.Grammar.{Node, scalar_node, Nodes, no_nodes, nodes_and, Pairs, no_pairs, pairs_and}
+use Rattle.yaml_base.specs.JsonNumbers.{JsonNumber, fraction_or, is_json_integer, is_json_number, json_value, means_number, number_meant, value_with, yaml_number}
+use Rattle.yaml_base.specs.Layout.{as_item, as_key, as_value, Place, has_no_nodes, has_no_pairs, is_simple, is_simple_at, is_written_in_flow, entry_place}
+use Rattle.yaml_base.specs.NodeLayout.{choice_of}
+use Rattle.yaml_base.specs.Refusal.{collection_tag, scalar_tag}
+use Rattle.yaml_base.specs.Resolved.{Resolved, meant_null, meant_boolean, meant_integer, meant_decimal, meant_text, meant_by_nobody, signed}
+use Rattle.yaml_base.specs.SchemaCore.{resolved_by_core}
+use Rattle.yaml_base.specs.SchemaOf11.{resolved_by_11}
+use Rattle.yaml_base.specs.Settings.{Effective}
+use Rattle.yaml_base.specs.StreamContent.{Standing, stood_plain, stood_quoted, Tagging, with_tag, without_tag, Tree, sequence_tree, mapping_tree}
+use Rattle.yaml_base.specs.Style.{Choice, chosen, is_plain}
+use Rattle.yaml_base.specs.TypedValues.{null_tag, bool_tag, int_tag, bool_text}
+use Rattle.yaml_base.proofs.JsonSpelling.{spelling_keeps_value}
+use Rattle.yaml_base.proofs.NumbersRead.{spelling_read}
+use Rattle.yaml_base.proofs.stream_nodes.StreamAgrees.{standing_in, tagging_in, node_tree, nodes_tree, pairs_tree}
+use Rattle.yaml_writer.proofs.PlainLemmas.{plain_texts}
+use Rattle.yaml_writer.proofs.PlainNumbers.{written_numbers}
+use Rattle.yaml_writer.specs.NumberParts.{IsNumber, number_in}
+use Rattle.yaml_writer.specs.Writing.{float_tag, number_tag, text_style}
+use Rattle.yaml_json.specs.JsonEvents.{bool_content, collection_in, null_content, number_content, text_content, word_content}
+use Rattle.yaml_json.specs.Means.{Schema, tag_of, scalar_meant, in_order, pairs_in_order, MeansNumber, MeansText, Means, ItemsMean, MembersMean}
+use Rattle.yaml_json.proofs.NumberBridge.{number_is}
+use Rattle.yaml_json.proofs.Trees.{json_node, items_nodes, members_pairs}
+
+-- Schemas
+
+-- a text in the style that a writer gives it is written plain only where the schema takes it for a text
+abbrev TextsOf : Schema → Type 0
+TextsOf schema =
+    (text : Text) (allowed : Allowances) (empty tag_written plain_implicit quoted_implicit flow simple_key canonical : Bool)
+    → (chosen allowed (text_style text) empty tag_written plain_implicit quoted_implicit flow simple_key canonical).style ≡ plain
+    → schema text ≡ meant_text
+
+-- what both schemas read of the scalars of JSON
+pub record ReadsScalars (schema : Schema) : Type 0 where
+  pub nothing : schema (codes "null") ≡ meant_null
+  pub flags : (flag : Bool) → schema (bool_text flag) ≡ meant_boolean flag
+  pub numbers : (parts : JsonNumber) → is_json_number parts ≡ true → schema (yaml_number parts) ≡ number_meant parts
+  pub texts : TextsOf schema
+
+flags_by_11 : (flag : Bool) → resolved_by_11 (bool_text flag) ≡ meant_boolean flag
+flags_by_11 true = refl
+flags_by_11 false = refl
+
+flags_by_core : (flag : Bool) → resolved_by_core (bool_text flag) ≡ meant_boolean flag
+flags_by_core true = refl
+flags_by_core false = refl
+
+pub reads_by_11 : ReadsScalars resolved_by_11
+reads_by_11 =
+    record {
+      nothing = refl;
+      flags = flags_by_11;
+      numbers = λ parts valid. (spelling_read parts valid).0;
+      texts = λ text allowed empty tag_written plain_implicit quoted_implicit flow simple_key canonical is.
+          (plain_texts text allowed empty tag_written plain_implicit quoted_implicit flow simple_key canonical is).0;
+    }
+
+pub reads_by_core : ReadsScalars resolved_by_core
+reads_by_core =
+    record {
+      nothing = refl;
+      flags = flags_by_core;
+      numbers = λ parts valid. (spelling_read parts valid).1;
+      texts = λ text allowed empty tag_written plain_implicit quoted_implicit flow simple_key canonical is.
+          (plain_texts text allowed empty tag_written plain_implicit quoted_implicit flow simple_key canonical is).1;
+    }
+
+-- Words
+
+-- a test that holds of both
+abbrev both : (Bool → Bool) → Bool
+both test = test true && test false
+
+pick : (test : Bool → Bool) → both test ≡ true → (x : Bool) → test x ≡ true
+pick test h true = (and_parts (test true) (test false) h).0
+pick test h false = (and_parts (test true) (test false) h).1
+
+-- a word is written plain, whichever characters may stand as themselves, in flow or in a block, as a key or not
+abbrev stands_plain : Text → (unicode breaks12 flow simple : Bool) → Bool
+stands_plain word unicode breaks12 flow simple =
+    is_plain (chosen (allowances (record { unicode = unicode; breaks12 = breaks12 }) word) plain (is_empty word) false true true flow simple false).style
+
+abbrev IsPlainWord : Text → Type 0
+IsPlainWord word = (unicode breaks12 flow simple : Bool) → stands_plain word unicode breaks12 flow simple ≡ true
+
+plain_word : (word : Text)
+    → both (λ unicode. both (λ breaks12. both (λ flow. both (λ simple. stands_plain word unicode breaks12 flow simple)))) ≡ true → IsPlainWord word
+plain_word word h unicode breaks12 flow simple =
+    pick (λ s. stands_plain word unicode breaks12 flow s)
+    (pick (λ f. both (λ s. stands_plain word unicode breaks12 f s))
+    (pick (λ b. both (λ f. both (λ s. stands_plain word unicode b f s)))
+    (pick (λ u. both (λ b. both (λ f. both (λ s. stands_plain word u b f s)))) h unicode) breaks12) flow) simple
+
+plain_flags : (flag : Bool) → IsPlainWord (bool_text flag)
+plain_flags true = plain_word (codes "true") refl
+plain_flags false = plain_word (codes "false") refl
+
+plain_numbers : (parts : JsonNumber) → is_json_number parts ≡ true → IsPlainWord (yaml_number parts)
+plain_numbers parts valid unicode breaks12 flow simple =
+    ap is_plain (written_numbers parts (record { unicode = unicode; breaks12 = breaks12 }) false true true flow simple valid refl).0
+
+-- Scalars
+
+module _ (schema : Schema) (s : Effective) (place : Place) (simple : Bool) where
+  -- the style of a scalar, and how it is tagged, by whether the form is canonical
+  abbrev style_by : Scalar → Bool → Choice
+  style_by content canonical =
+      chosen (allowances (record { unicode = s.unicode; breaks12 = s.breaks12 }) content.value) content.style (is_empty content.value)
+      (is_some (scalar_tag canonical content)) content.plain_implicit content.quoted_implicit place.in_flow simple canonical
+
+  abbrev tagging_by : Scalar → Bool → Tagging
+  tagging_by content canonical = tagging_in (scalar_tag canonical content) (style_by content canonical)
+
+  -- with its reading's tag a scalar means what the schema says
+  with_own_tag : (own word : Text) (meant : Resolved) → schema word ≡ meant → own ≡ tag_of meant → scalar_meant schema (with_tag own) word ≡ meant
+  with_own_tag own word meant reads is =
+      ap (λ (found : Resolved). if bytes_eq own (tag_of found) then found else meant_by_nobody) reads
+      ∙ ap (λ (same : Bool). if same then meant else meant_by_nobody) ((bytes_eq-Decides own (tag_of meant)).1 is)
+
+  word_by : (own word : Text) (meant : Resolved) → schema word ≡ meant → own ≡ tag_of meant → IsPlainWord word → (canonical : Bool)
+      → scalar_meant schema (tagging_by (word_content canonical own word) canonical) word ≡ meant
+  word_by own word meant reads is plain_there true = with_own_tag own word meant reads is
+  word_by own word meant reads is plain_there false =
+      ap (λ (x : Bool). scalar_meant schema (without_tag (standing_by x)) word) (plain_there s.unicode s.breaks12 place.in_flow simple) ∙ reads
+    where
+      standing_by : Bool → Standing
+      standing_by x = if x then stood_plain else stood_quoted
+
+  pub word_means : (own word : Text) (meant : Resolved) → schema word ≡ meant → own ≡ tag_of meant → IsPlainWord word
+      → scalar_meant schema (tagging_in (scalar_tag s.canonical (word_content s.canonical own word)) (choice_of s place simple (word_content s.canonical own word)))
+      word ≡ meant
+  word_means own word meant reads is plain_there = word_by own word meant reads is plain_there s.canonical
+
+  -- plain or not
+  plain_style : (style : ScalarStyle) → is_plain style ≡ true → style ≡ plain
+  plain_style plain h = refl
+  plain_style any_style h = absurd (false≢true h)
+  plain_style single_quoted h = absurd (false≢true h)
+  plain_style double_quoted h = absurd (false≢true h)
+  plain_style literal h = absurd (false≢true h)
+  plain_style folded h = absurd (false≢true h)
+
+  as_it_stands : (text : Text) (style : ScalarStyle) → (style ≡ plain → schema text ≡ meant_text)
+      → scalar_meant schema (without_tag (standing_in style false)) text ≡ meant_text
+  as_it_stands text style reads = by (is_plain style) refl
+    where
+      by : (x : Bool) → is_plain style ≡ x → scalar_meant schema (without_tag (if x then stood_plain else stood_quoted)) text ≡ meant_text
+      by true h = reads (plain_style style h)
+      by false h = refl
+
+  text_by : (text : Text) → TextsOf schema → (canonical : Bool) → scalar_meant schema (tagging_by (text_content text) canonical) text ≡ meant_text
+  text_by text texts true = as_it_stands text (style_by (text_content text) true).style (texts text (allowances (record { unicode = s.unicode; breaks12 = s.breaks12 }) text) (is_empty text) false true true place.in_flow simple true)
+  text_by text texts false = as_it_stands text (style_by (text_content text) false).style (texts text (allowances (record { unicode = s.unicode; breaks12 = s.breaks12 }) text) (is_empty text) false true true place.in_flow simple false)
+
+  pub text_means : (text : Text) → TextsOf schema
+      → scalar_meant schema (tagging_in (scalar_tag s.canonical (text_content text)) (choice_of s place simple (text_content text))) text ≡ meant_text
+  text_means text texts = text_by text texts s.canonical
+
+-- Values
+
+-- a number's tag is that of its reading
+number_tagged : (parts : JsonNumber) → number_tag parts ≡ tag_of (number_meant parts)
+number_tagged parts = by (is_json_integer parts)
+  where
+    by : (x : Bool) → (if x then int_tag else float_tag)
+        ≡ tag_of (if x then meant_integer (signed parts.negative (digits_value 10 parts.whole)) else meant_decimal (value_with parts (fraction_or (codes "0") parts)))
+    by true = refl
+    by false = refl
+
+-- a collection has no tag in any form
+untagged : (canonical in_flow : Bool) → collection_tag canonical (collection_in in_flow) ≡ None
+untagged true in_flow = refl
+untagged false in_flow = refl
+
+module _ (schema : Schema) (reads : ReadsScalars schema) (s : Effective) (directives : List TagDirective) (in_flow : Bool) where
+  -- whether a scalar stands as a simple key
+  abbrev simple_at : Place → Scalar → Bool
+  simple_at place content = is_simple_at place s.canonical directives (scalar_node content)
+
+  -- trees that mean some items stand after others
+  abbrev ItemsAfter : Items → Nodes → (flow : Bool) → Type 0
+  ItemsAfter items before flow =
+      (trees : List Tree)
+      × (in_order (nodes_tree (items_nodes items s.canonical in_flow before) s directives flow) ≡ in_order (nodes_tree before s directives flow) ++ trees)
+      × ItemsMean schema items trees
+
+  abbrev MembersAfter : Members → Pairs → (flow : Bool) → Type 0
+  MembersAfter members before flow =
+      (trees : List (Tree × Tree))
+      × (pairs_in_order (pairs_tree (members_pairs members s.canonical in_flow before) s directives flow) ≡ pairs_in_order (pairs_tree before s directives flow) ++ trees)
+      × MembersMean schema members trees
+
+  mutual
+    pub node_means : (json : Json) → HasNumbers json → (place : Place) → Means schema json (node_tree (json_node json s.canonical in_flow) s directives place)
+    node_means null numbers place = word_means schema s place (simple_at place (null_content s.canonical)) null_tag (codes "null") meant_null reads.nothing refl (plain_word (codes "null") refl)
+    node_means (boolean flag) numbers place =
+        word_means schema s place (simple_at place (bool_content s.canonical flag)) bool_tag (bool_text flag) (meant_boolean flag) (reads.flags flag) refl (plain_flags flag)
+    node_means (number text) numbers place =
+        let is = number_is text numbers in
+        let parts = number_in text in
+        record {
+          parts = parts;
+          is_number = is;
+          means =
+              ap (means_number (json_value parts))
+              (word_means schema s place (simple_at place (number_content s.canonical parts)) (number_tag parts) (yaml_number parts) (number_meant parts) (reads.numbers parts is.valid) (number_tagged parts)
+              (plain_numbers parts is.valid))
+              ∙ spelling_keeps_value parts;
+        }
+    node_means (string text) numbers place = (text_means schema s place (simple_at place (text_content (chars text))) (chars text) reads.texts, refl)
+    node_means (array items) numbers place =
+        let flow = is_written_in_flow s place (collection_in in_flow) (has_no_nodes (items_nodes items s.canonical in_flow no_nodes)) in
+        let after = items_mean items numbers no_nodes flow in
+        subst (λ (tag : Option Text). Means schema (array items) (sequence_tree None tag (nodes_tree (items_nodes items s.canonical in_flow no_nodes) s directives flow)))
+        (sym (untagged s.canonical in_flow)) (subst (ItemsMean schema items) (sym after.1) after.2)
+    node_means (object members) numbers place =
+        let flow = is_written_in_flow s place (collection_in in_flow) (has_no_pairs (members_pairs members s.canonical in_flow no_pairs)) in
+        let after = members_mean members numbers no_pairs flow in
+        subst (λ (tag : Option Text). Means schema (object members) (mapping_tree None tag (pairs_tree (members_pairs members s.canonical in_flow no_pairs) s directives flow)))
+        (sym (untagged s.canonical in_flow)) (subst (MembersMean schema members) (sym after.1) after.2)
+
+    items_mean : (items : Items) → ItemsHaveNumbers items → (before : Nodes) (flow : Bool) → ItemsAfter items before flow
+    items_mean no_items numbers before flow = ([], sym (append-nil (in_order (nodes_tree before s directives flow))), tt)
+    items_mean (item json items) numbers before flow =
+        let node = json_node json s.canonical in_flow in
+        let place = entry_place flow (as_item (has_no_nodes before)) 0 in
+        let tree = node_tree node s directives place in
+        let after = items_mean items numbers.1 (nodes_and before node) flow in (
+          tree ∷ after.0,
+          after.1 ∙ append_assoc (in_order (nodes_tree before s directives flow)) (tree ∷ []) after.0,
+          (node_means json numbers.0 place, after.2),
+        )
+
+    members_mean : (members : Members) → MembersHaveNumbers members → (before : Pairs) (flow : Bool) → MembersAfter members before flow
+    members_mean no_members numbers before flow = ([], sym (append-nil (pairs_in_order (pairs_tree before s directives flow))), tt)
+    members_mean (member key json members) numbers before flow =
+        let named = scalar_node (text_content (chars key)) in
+        let node = json_node json s.canonical in_flow in
+        let key_place = entry_place flow (as_key (has_no_pairs before)) 0 in
+        let place = entry_place flow (as_value (is_simple s.canonical directives named)) 0 in
+        let pair : Tree × Tree = (node_tree named s directives key_place, node_tree node s directives place) in
+        let after = members_mean members numbers.1 (pairs_and before named node) flow in (
+          pair ∷ after.0,
+          after.1 ∙ append_assoc (pairs_in_order (pairs_tree before s directives flow)) (pair ∷ []) after.0,
+          ((text_means schema s key_place (simple_at key_place (text_content (chars key))) (chars key) reads.texts, refl), node_means json numbers.0 place, after.2),
+        )

@@ -1,0 +1,143 @@
+-- The events of a JSON value are written alike in every mode.
+use Rattle.std.proofs.Common.{◌≡◌, refl, sym, ap, ◌∙◌}
+use Rattle.std.proofs.lemmas.Bool.{and_from, and_parts, and_right, false≢true, not_from_false, or_from}
+use Rattle.std.specs.List.{list_any}
+use Rattle.std.specs.Prelude.{ℕ, Bool, true, false, Option, None, Some, List, [], ◌∷◌, ◌++◌, ◌||◌, ◌&&◌, codes, is_some, not, option_map, unwrap_or, if◌then◌else◌}
+use Rattle.std.specs.Str.{chars}
+use Rattle.json.specs.Json.{Json, null, boolean, number, string, array, object, Items, no_items, item, Members, no_members, member}
+use Rattle.json.specs.Tree.{HasNumbers}
+use Rattle.yaml_base.specs.Analysis.{is_empty}
+use Rattle.yaml_base.specs.Characters.{Text}
+use Rattle.yaml_base.specs.Event.{Scalar}
+use Rattle.yaml_base.specs.Grammar.{Document, Node, scalar_node, Nodes, no_nodes, nodes_and, Pairs, no_pairs, pairs_and, Stream, tree_of}
+use Rattle.yaml_base.specs.JsonNumbers.{JsonNumber, exponent_spelled, fraction_or, is_json_integer, is_json_number, minus, yaml_number}
+use Rattle.yaml_base.specs.Layout.{is_explicit}
+use Rattle.yaml_base.specs.Refusal.{scalar_tag, collection_tag}
+use Rattle.yaml_base.specs.Resolved.{are_digits}
+use Rattle.yaml_base.specs.StreamContent.{documents_in_order}
+use Rattle.yaml_base.specs.StreamLaw.{are_portable, document_has_flow_sign, is_lost, is_portable, is_written_as_nothing, node_has_flow_sign, nodes_have_flow_sign, pairs_have_flow_sign, tag_has_flow_sign}
+use Rattle.yaml_base.specs.Style.{is_plain, style_asked}
+use Rattle.yaml_base.specs.Tags.{directives_in_force}
+use Rattle.yaml_base.specs.TypedValues.{null_tag, bool_tag, int_tag, bool_text}
+use Rattle.yaml_base.proofs.Trees.{tree_of-stream_events}
+use Rattle.yaml_writer.proofs.SpellingLemmas.{whole_digits}
+use Rattle.yaml_writer.specs.NumberParts.{number_in}
+use Rattle.yaml_writer.specs.Writing.{float_tag, number_tag}
+use Rattle.yaml_json.specs.JsonEvents.{collection_in, number_content, text_content, word_content}
+use Rattle.yaml_json.proofs.NumberBridge.{number_is}
+use Rattle.yaml_json.proofs.Trees.{all_events, items_nodes, json_document, json_node, json_stream, members_pairs, stream_flat}
+
+-- Nothing is lost
+
+text_written : (text : Text) (canonical : Bool) → is_written_as_nothing canonical (scalar_node (text_content text)) ≡ false
+text_written [] true = refl
+text_written [] false = refl
+text_written (c ∷ text) canonical = refl
+
+digits_filled : (negative : Bool) (whole rest : Text) → are_digits 10 whole ≡ true → is_empty (minus negative ++ whole ++ rest) ≡ false
+digits_filled negative [] rest h = absurd (false≢true h)
+digits_filled true (c ∷ whole) rest h = refl
+digits_filled false (c ∷ whole) rest h = refl
+
+number_filled : (parts : JsonNumber) → is_json_number parts ≡ true → is_empty (yaml_number parts) ≡ false
+number_filled parts valid =
+    digits_filled parts.negative parts.whole
+    (if is_json_integer parts then [] else codes "." ++ fraction_or (codes "0") parts ++ exponent_spelled parts.exponent)
+    (whole_digits parts valid)
+
+number_written : (content : Scalar) (canonical : Bool) → is_empty content.value ≡ false → is_written_as_nothing canonical (scalar_node content) ≡ false
+number_written content canonical filled =
+    ap (λ (empty : Bool). empty && not (is_some content.anchor) && not (is_some (scalar_tag canonical content)) && content.plain_implicit
+    && is_plain (style_asked canonical content.style)) filled
+
+-- a value's root is written as something
+value_written : (json : Json) (canonical in_flow : Bool) → HasNumbers json → is_written_as_nothing canonical (json_node json canonical in_flow) ≡ false
+value_written null canonical in_flow numbers = refl
+value_written (boolean true) canonical in_flow numbers = refl
+value_written (boolean false) canonical in_flow numbers = refl
+value_written (number text) canonical in_flow numbers =
+    number_written (number_content canonical (number_in text)) canonical (number_filled (number_in text) (number_is text numbers).valid)
+value_written (string text) canonical in_flow numbers = text_written (chars text) canonical
+value_written (array _) canonical in_flow numbers = refl
+value_written (object _) canonical in_flow numbers = refl
+
+-- No tag has a sign of flow
+
+-- a tag that is written in canonical form alone
+word_unsigned : (tag : Text) → tag_has_flow_sign (directives_in_force []) (Some tag) ≡ false → (canonical : Bool) (word : Text)
+    → node_has_flow_sign canonical (directives_in_force []) (scalar_node (word_content canonical tag word)) ≡ false
+word_unsigned tag h true word = h
+word_unsigned tag h false word = refl
+
+text_unsigned : (text : Text) (canonical : Bool) → node_has_flow_sign canonical (directives_in_force []) (scalar_node (text_content text)) ≡ false
+text_unsigned text true = refl
+text_unsigned text false = refl
+
+number_unsigned : (x : Bool) → tag_has_flow_sign (directives_in_force []) (Some (if x then int_tag else float_tag)) ≡ false
+number_unsigned true = refl
+number_unsigned false = refl
+
+collection_unsigned : (canonical in_flow : Bool) → tag_has_flow_sign (directives_in_force []) (collection_tag canonical (collection_in in_flow)) ≡ false
+collection_unsigned true in_flow = refl
+collection_unsigned false in_flow = refl
+
+no_more : (x y : Bool) → y ≡ false → (x || y) ≡ x
+no_more true y h = refl
+no_more false y h = h
+
+mutual
+  value_unsigned : (json : Json) (canonical in_flow : Bool) → node_has_flow_sign canonical (directives_in_force []) (json_node json canonical in_flow) ≡ false
+  value_unsigned null canonical in_flow = word_unsigned null_tag refl canonical (codes "null")
+  value_unsigned (boolean flag) canonical in_flow = word_unsigned bool_tag refl canonical (bool_text flag)
+  value_unsigned (number text) canonical in_flow =
+      word_unsigned (number_tag (number_in text)) (number_unsigned (is_json_integer (number_in text))) canonical (yaml_number (number_in text))
+  value_unsigned (string text) canonical in_flow = text_unsigned (chars text) canonical
+  value_unsigned (array items) canonical in_flow =
+      or_from (tag_has_flow_sign (directives_in_force []) (collection_tag canonical (collection_in in_flow)))
+      (nodes_have_flow_sign canonical (directives_in_force []) (items_nodes items canonical in_flow no_nodes)) (collection_unsigned canonical in_flow)
+      (items_unsigned items canonical in_flow no_nodes)
+  value_unsigned (object members) canonical in_flow =
+      or_from (tag_has_flow_sign (directives_in_force []) (collection_tag canonical (collection_in in_flow)))
+      (pairs_have_flow_sign canonical (directives_in_force []) (members_pairs members canonical in_flow no_pairs)) (collection_unsigned canonical in_flow)
+      (members_unsigned members canonical in_flow no_pairs)
+
+  items_unsigned : (items : Items) (canonical in_flow : Bool) (before : Nodes)
+      → nodes_have_flow_sign canonical (directives_in_force []) (items_nodes items canonical in_flow before)
+      ≡ nodes_have_flow_sign canonical (directives_in_force []) before
+  items_unsigned no_items canonical in_flow before = refl
+  items_unsigned (item json items) canonical in_flow before =
+      items_unsigned items canonical in_flow (nodes_and before (json_node json canonical in_flow))
+      ∙ no_more (nodes_have_flow_sign canonical (directives_in_force []) before)
+      (node_has_flow_sign canonical (directives_in_force []) (json_node json canonical in_flow)) (value_unsigned json canonical in_flow)
+
+  members_unsigned : (members : Members) (canonical in_flow : Bool) (before : Pairs)
+      → pairs_have_flow_sign canonical (directives_in_force []) (members_pairs members canonical in_flow before)
+      ≡ pairs_have_flow_sign canonical (directives_in_force []) before
+  members_unsigned no_members canonical in_flow before = refl
+  members_unsigned (member key json members) canonical in_flow before =
+      let named = scalar_node (text_content (chars key)) in
+      members_unsigned members canonical in_flow (pairs_and before named (json_node json canonical in_flow))
+      ∙ no_more (pairs_have_flow_sign canonical (directives_in_force []) before || node_has_flow_sign canonical (directives_in_force []) named)
+      (node_has_flow_sign canonical (directives_in_force []) (json_node json canonical in_flow)) (value_unsigned json canonical in_flow)
+      ∙ no_more (pairs_have_flow_sign canonical (directives_in_force []) before) (node_has_flow_sign canonical (directives_in_force []) named)
+      (text_unsigned (chars key) canonical)
+
+-- All
+
+-- in portable mode or not
+pub portable_events : (portable canonical in_flow : Bool) (json : Json) → HasNumbers json
+    → is_portable portable canonical (all_events json canonical in_flow) ≡ true
+portable_events true canonical in_flow json numbers = refl
+portable_events false canonical in_flow json numbers =
+    ap (λ (tree : Option Stream). unwrap_or (option_map (λ stream. are_portable canonical (documents_in_order stream.documents)) tree) false) found
+    ∙ and_from (not (is_lost canonical (document ∷ []))) (not (list_any (document_has_flow_sign canonical) (document ∷ [])))
+    (not_from_false (is_lost canonical (document ∷ []))
+    (and_right (not (is_explicit canonical true document.start)) (is_written_as_nothing canonical document.root) (value_written json canonical in_flow numbers)))
+    (not_from_false (list_any (document_has_flow_sign canonical) (document ∷ []))
+    (or_from (document_has_flow_sign canonical document) false (value_unsigned json canonical in_flow) refl))
+  where
+    document : Document
+    document = json_document json canonical in_flow
+
+    found : tree_of (all_events json canonical in_flow) ≡ Some (json_stream json canonical in_flow)
+    found = ap tree_of (sym (stream_flat json canonical in_flow)) ∙ tree_of-stream_events (json_stream json canonical in_flow)

@@ -1,0 +1,125 @@
+-- JSON texts, one after another.
+use Rattle.std.proofs.Common.{◌≡◌, ◌<◌, ◌⊎◌, inl, inr, refl, sym, ap, ◌∙◌, subst, append_assoc, append-nil}
+use Rattle.std.proofs.lemmas.Bool.{eqb-true, false≢true}
+use Rattle.std.proofs.lemmas.List.{nil_from_length}
+use Rattle.std.proofs.lemmas.List.Concat.{flat_map-append}
+use Rattle.std.specs.Prelude.{ℕ, Bool, true, false, Result, Some, List, [], ◌∷◌, ◌++◌, ◌==◌, flat_map, length}
+use Rattle.json.specs.Json.{Json, value}
+use Rattle.json.specs.Lex.{tokens}
+use Rattle.yaml_base.specs.Event.{Event, document_end}
+use Rattle.yaml_base.specs.declared.errors.yaml_error_t.{yaml_error_t}
+use Rattle.yaml_writer.specs.Writing.{Passed, WriterState, plain_start}
+use Rattle.yaml_json.specs.JsonEvents.{json_events}
+use Rattle.yaml_json.specs.Wrote.{AreJson, IsBare, Wrote, WroteText, WroteTexts, parts_events}
+use Rattle.yaml_json.proofs.WroteLemmas.{wrote_nothing, wrote_same, wrote_then}
+
+-- what separates two documents
+abbrev between : List Event
+between = document_end true ∷ plain_start ∷ []
+
+-- the events of some texts, after each of which a document begins
+abbrev started : (canonical in_flow : Bool) → List (List ℕ × Json) → List Event
+started canonical in_flow parts = flat_map (λ part. json_events canonical in_flow part.1 ++ between) parts
+
+-- and then those of one more, the last
+ends_with : (canonical in_flow : Bool) (parts : List (List ℕ × Json)) (last : List ℕ × Json)
+    → started canonical in_flow parts ++ json_events canonical in_flow last.1 ≡ parts_events canonical in_flow (parts ++ last ∷ [])
+ends_with canonical in_flow [] last = refl
+ends_with canonical in_flow (part ∷ []) last =
+    ap (λ (events : List Event). events ++ json_events canonical in_flow last.1) (append-nil (json_events canonical in_flow part.1 ++ between))
+    ∙ append_assoc (json_events canonical in_flow part.1) between (json_events canonical in_flow last.1)
+ends_with canonical in_flow (part ∷ next ∷ rest) last =
+    append_assoc (json_events canonical in_flow part.1 ++ between) (started canonical in_flow (next ∷ rest)) (json_events canonical in_flow last.1)
+    ∙ append_assoc (json_events canonical in_flow part.1) between (started canonical in_flow (next ∷ rest) ++ json_events canonical in_flow last.1)
+    ∙ ap (λ (events : List Event). json_events canonical in_flow part.1 ++ (between ++ events)) (ends_with canonical in_flow (next ∷ rest) last)
+
+-- one text more
+one_more : (depth : ℕ) (parts : List (List ℕ × Json)) (last : List ℕ × Json) → AreJson depth parts → value depth (tokens last.0) ≡ Some (last.1, [])
+    → AreJson depth (parts ++ last ∷ [])
+one_more depth [] last each is = (is, tt)
+one_more depth (part ∷ parts) last each is = (each.0, one_more depth parts last each.1 is)
+
+joined_more : (parts : List (List ℕ × Json)) (last : List ℕ × Json) (rest : List ℕ)
+    → flat_map (λ part. part.0) (parts ++ last ∷ []) ++ rest ≡ flat_map (λ part. part.0) parts ++ (last.0 ++ rest)
+joined_more parts last rest =
+    ap (λ (text : List ℕ). text ++ rest) (flat_map-append (λ (part : List ℕ × Json). part.0) parts (last ∷ []))
+    ∙ append_assoc (flat_map (λ part. part.0) parts) (last.0 ++ []) rest
+    ∙ ap (λ (text : List ℕ). flat_map (λ part. part.0) parts ++ (text ++ rest)) (append-nil last.0)
+
+-- some texts were given, and a document was begun after each
+pub record TextsSoFar (depth : ℕ) (in_flow : Bool) (text : List ℕ) (was : WriterState) (rest : List ℕ) (now : WriterState) : Type 0 where
+  pub parts : List (List ℕ × Json)
+  pub joined : flat_map (λ part. part.0) parts ++ rest ≡ text
+  pub each : AreJson depth parts
+  pub wrote : Wrote was (started was.canonical in_flow parts) now
+
+pub texts_begin : (depth : ℕ) (in_flow : Bool) (text : List ℕ) (was : WriterState) → IsBare was → TextsSoFar depth in_flow text was text was
+texts_begin depth in_flow text was bare = record { parts = []; joined = refl; each = tt; wrote = wrote_nothing was bare }
+
+-- the next document is begun
+next_begun : (before after : WriterState) (answer : Result (Unit {0}) yaml_error_t) → IsBare before → Passed before between answer after
+    → Wrote before between after
+next_begun before after answer bare passed =
+    record {
+      adds = passed.adds;
+      canonical = ap (λ (w : WriterState). w.canonical) passed.rest;
+      levels = ap (λ (w : WriterState). w.levels) passed.rest;
+      bare = (ap (λ (w : WriterState). w.anchor) passed.rest ∙ bare.0, ap (λ (w : WriterState). w.tag) passed.rest ∙ bare.1);
+    }
+
+module _ (depth : ℕ) (in_flow : Bool) (text : List ℕ) (was : WriterState) (rest first more : List ℕ) (now given : WriterState)
+    (cut : first ++ more ≡ rest) (so_far : TextsSoFar depth in_flow text was rest now) (one : WroteText depth in_flow first now given) where
+  -- the next text's events, as the first writer would give them
+  events_given : Wrote now (json_events was.canonical in_flow one.json) given
+  events_given = subst (λ (canonical : Bool). Wrote now (json_events canonical in_flow one.json) given) so_far.wrote.canonical one.wrote
+
+  joined_now : (after : List ℕ) → after ≡ more → flat_map (λ part. part.0) (so_far.parts ++ (first, one.json) ∷ []) ++ after ≡ text
+  joined_now after is =
+      joined_more so_far.parts (first, one.json) after
+      ∙ ap (λ (t : List ℕ). flat_map (λ part. part.0) so_far.parts ++ (first ++ t)) is
+      ∙ ap (λ (t : List ℕ). flat_map (λ part. part.0) so_far.parts ++ t) cut ∙ so_far.joined
+
+  pub texts_go_on : (answer : Result (Unit {0}) yaml_error_t) (after : WriterState) → Passed given between answer after
+      → TextsSoFar depth in_flow text was more after
+  texts_go_on answer after passed =
+      let next = next_begun given after answer one.wrote.bare passed in
+      let events = json_events was.canonical in_flow one.json in
+      record {
+        parts = so_far.parts ++ (first, one.json) ∷ [];
+        joined = joined_now more refl;
+        each = one_more depth so_far.parts (first, one.json) so_far.each one.read;
+        wrote = wrote_same was after (started was.canonical in_flow so_far.parts ++ (events ++ between))
+            (started was.canonical in_flow (so_far.parts ++ (first, one.json) ∷ [])) started_more
+            (wrote_then was now after (started was.canonical in_flow so_far.parts) (events ++ between) so_far.wrote
+            (wrote_then now given after events between events_given next));
+      }
+    where
+      started_more : started was.canonical in_flow so_far.parts ++ (json_events was.canonical in_flow one.json ++ between)
+          ≡ started was.canonical in_flow (so_far.parts ++ (first, one.json) ∷ [])
+      started_more =
+          ap (λ (events : List Event). started was.canonical in_flow so_far.parts ++ events) (sym (append-nil (json_events was.canonical in_flow one.json ++ between)))
+          ∙ sym (flat_map-append (λ (part : List ℕ × Json). json_events was.canonical in_flow part.1 ++ between) so_far.parts ((first, one.json) ∷ []))
+
+  pub texts_done : more ≡ [] → WroteTexts depth in_flow text was given
+  texts_done none =
+      record {
+        parts = so_far.parts ++ (first, one.json) ∷ [];
+        joined = sym (append-nil (flat_map (λ part. part.0) (so_far.parts ++ (first, one.json) ∷ []))) ∙ joined_now [] (sym none);
+        each = one_more depth so_far.parts (first, one.json) so_far.each one.read;
+        wrote = wrote_same was given (started was.canonical in_flow so_far.parts ++ json_events was.canonical in_flow one.json)
+            (parts_events was.canonical in_flow (so_far.parts ++ (first, one.json) ∷ []))
+            (ends_with was.canonical in_flow so_far.parts (first, one.json))
+            (wrote_then was now given (started was.canonical in_flow so_far.parts) (json_events was.canonical in_flow one.json) so_far.wrote events_given);
+      }
+
+-- What follows the first text
+
+-- nothing, where it has no length
+pub no_more : (more : List ℕ) (empty : Bool) → empty ≡ (length more == 0) → empty ≡ true → more ≡ []
+no_more more empty is h = nil_from_length more (eqb-true (length more) 0 (sym is ∙ h))
+
+-- else less than before
+pub some_more : (more rest : List ℕ) (empty : Bool) → (more ≡ []) ⊎ (length more < length rest) → empty ≡ (length more == 0) → empty ≡ false
+    → length more < length rest
+some_more more rest empty (inl none) is h = absurd (false≢true (sym h ∙ is ∙ ap (λ (t : List ℕ). length t == 0) none))
+some_more more rest empty (inr less) is h = less

@@ -1,0 +1,90 @@
+-- The tree of a JSON value's events.
+use Rattle.std.proofs.Common.{◌≡◌, refl, sym, ap, ◌∙◌, append_assoc, append-nil}
+use Rattle.std.specs.Prelude.{Bool, true, None, List, [], ◌∷◌, ◌++◌}
+use Rattle.std.specs.Str.{chars}
+use Rattle.json.specs.Json.{Json, null, boolean, number, string, array, object, Items, no_items, item, Members, no_members, member}
+use Rattle.yaml_base.specs.Event.{Event, document_end, document_start, scalar, sequence_start, sequence_end, mapping_start, mapping_end, stream_end, stream_start}
+use Rattle.yaml_base.specs.Grammar.{Node, scalar_node, sequence_node, mapping_node, Nodes, no_nodes, nodes_and, Pairs, no_pairs, pairs_and, Document, no_documents, documents_and, Stream, node_events, nodes_events, pairs_events, stream_events}
+use Rattle.yaml_base.proofs.Trees.{one_tree}
+use Rattle.yaml_base.specs.Refusal.{IsAccepted}
+use Rattle.yaml_writer.specs.NumberParts.{number_in}
+use Rattle.yaml_writer.specs.Writing.{closing, opening, plain_start}
+use Rattle.yaml_json.specs.JsonEvents.{bool_content, collection_in, items_events, json_events, members_events, null_content, number_content, text_content}
+
+-- a value as a node; items and members after others
+abbrev mutual
+  pub json_node : Json → (canonical in_flow : Bool) → Node
+  json_node null canonical in_flow = scalar_node (null_content canonical)
+  json_node (boolean flag) canonical in_flow = scalar_node (bool_content canonical flag)
+  json_node (number text) canonical in_flow = scalar_node (number_content canonical (number_in text))
+  json_node (string text) canonical in_flow = scalar_node (text_content (chars text))
+  json_node (array items) canonical in_flow = sequence_node (collection_in in_flow) (items_nodes items canonical in_flow no_nodes)
+  json_node (object members) canonical in_flow = mapping_node (collection_in in_flow) (members_pairs members canonical in_flow no_pairs)
+
+  pub items_nodes : Items → (canonical in_flow : Bool) → Nodes → Nodes
+  items_nodes no_items canonical in_flow before = before
+  items_nodes (item json items) canonical in_flow before = items_nodes items canonical in_flow (nodes_and before (json_node json canonical in_flow))
+
+  pub members_pairs : Members → (canonical in_flow : Bool) → Pairs → Pairs
+  members_pairs no_members canonical in_flow before = before
+  members_pairs (member key json members) canonical in_flow before =
+      members_pairs members canonical in_flow (pairs_and before (scalar_node (text_content (chars key))) (json_node json canonical in_flow))
+
+-- their events are those of the value
+mutual
+  pub node_flat : (json : Json) (canonical in_flow : Bool) → node_events (json_node json canonical in_flow) ≡ json_events canonical in_flow json
+  node_flat null canonical in_flow = refl
+  node_flat (boolean flag) canonical in_flow = refl
+  node_flat (number text) canonical in_flow = refl
+  node_flat (string text) canonical in_flow = refl
+  node_flat (array items) canonical in_flow =
+      ap (λ (events : List Event). sequence_start (collection_in in_flow) ∷ (events ++ sequence_end ∷ [])) (items_flat items canonical in_flow no_nodes)
+  node_flat (object members) canonical in_flow =
+      ap (λ (events : List Event). mapping_start (collection_in in_flow) ∷ (events ++ mapping_end ∷ [])) (members_flat members canonical in_flow no_pairs)
+
+  items_flat : (items : Items) (canonical in_flow : Bool) (before : Nodes)
+      → nodes_events (items_nodes items canonical in_flow before) ≡ nodes_events before ++ items_events canonical in_flow items
+  items_flat no_items canonical in_flow before = sym (append-nil (nodes_events before))
+  items_flat (item json items) canonical in_flow before =
+      items_flat items canonical in_flow (nodes_and before (json_node json canonical in_flow))
+      ∙ append_assoc (nodes_events before) (node_events (json_node json canonical in_flow)) (items_events canonical in_flow items)
+      ∙ ap (λ (events : List Event). nodes_events before ++ (events ++ items_events canonical in_flow items)) (node_flat json canonical in_flow)
+
+  members_flat : (members : Members) (canonical in_flow : Bool) (before : Pairs)
+      → pairs_events (members_pairs members canonical in_flow before) ≡ pairs_events before ++ members_events canonical in_flow members
+  members_flat no_members canonical in_flow before = sym (append-nil (pairs_events before))
+  members_flat (member key json members) canonical in_flow before =
+      let named = scalar_node (text_content (chars key)) in
+      let node = json_node json canonical in_flow in
+      members_flat members canonical in_flow (pairs_and before named node)
+      ∙ append_assoc (pairs_events before) (node_events named ++ node_events node) (members_events canonical in_flow members)
+      ∙ ap (λ (events : List Event). pairs_events before ++ (scalar (text_content (chars key)) ∷ (events ++ members_events canonical in_flow members)))
+      (node_flat json canonical in_flow)
+
+-- one document of a value
+abbrev pub json_document : Json → (canonical in_flow : Bool) → Document
+json_document json canonical in_flow =
+    record {
+      start = record { version = None; directives = []; implicit = true };
+      root = json_node json canonical in_flow;
+      end_implicit = true;
+    }
+
+abbrev pub json_stream : Json → (canonical in_flow : Bool) → Stream
+json_stream json canonical in_flow = record { encoding = None; documents = documents_and no_documents (json_document json canonical in_flow) }
+
+-- the events of a stream of a value
+abbrev pub all_events : Json → (canonical in_flow : Bool) → List Event
+all_events json canonical in_flow = opening ++ json_events canonical in_flow json ++ closing
+
+pub stream_flat : (json : Json) (canonical in_flow : Bool) → stream_events (json_stream json canonical in_flow) ≡ all_events json canonical in_flow
+stream_flat json canonical in_flow =
+    ap (λ (events : List Event). stream_start None ∷ plain_start ∷ events)
+    (append_assoc (node_events (json_node json canonical in_flow)) (document_end true ∷ []) (stream_end ∷ [])
+    ∙ ap (λ (events : List Event). events ++ closing) (node_flat json canonical in_flow))
+
+-- so an accepted list of these events is that stream
+pub stream_is : (json : Json) (canonical in_flow : Bool) (accepted : IsAccepted canonical (all_events json canonical in_flow))
+    → accepted.stream ≡ json_stream json canonical in_flow
+stream_is json canonical in_flow accepted =
+    one_tree accepted.stream (json_stream json canonical in_flow) (accepted.is_stream ∙ sym (stream_flat json canonical in_flow))

@@ -1,0 +1,146 @@
+-- What a writer was given, call by call.
+use Rattle.std.proofs.Common.{◌≡◌, refl, sym, ap, ap₂, ◌∙◌, subst, append_assoc, append-nil, inl, inr}
+use Rattle.std.specs.Prelude.{ℕ, Bool, true, false, Option, None, Some, List, [], ◌∷◌, ◌++◌, OnOk, Result, Ok, Err, codes, is_none, if◌then◌else◌}
+use Rattle.yaml_base.specs.Characters.{Text}
+use Rattle.yaml_base.specs.Event.{CollectionStyle, Event, ScalarStyle, plain, scalar, sequence_start, mapping_start}
+use Rattle.yaml_base.specs.JsonNumbers.{JsonNumber, yaml_number}
+use Rattle.yaml_base.specs.Settings.{Settings}
+use Rattle.yaml_emitter.specs.State.{State}
+use Rattle.yaml_emitter.specs.StandsAfter.{StandsAfter}
+use Rattle.yaml_writer.proofs.PartLemmas.{number_found}
+use Rattle.yaml_writer.specs.NumberParts.{IsNumber, number_in}
+use Rattle.yaml_writer.specs.Writing.{WriterState, AddsAll, Ended, EndsInnermost, Gave, collection_of, end_event, entered, mapping_event, number_event, number_tag, sequence_event, tag_or, text_event, text_style, word_event}
+use Rattle.yaml_writer.specs.declared.kinds.CollectionKind.{CollectionKind}
+use Rattle.yaml_json.specs.JsonEvents.{collection_in, number_content, style_of, text_content, word_content}
+use Rattle.yaml_json.specs.Wrote.{Ends, IsBare, Wrote, WroteEvent}
+
+-- what follows where a call succeeds
+pub on_ok : {A E P Q : Type 0} (answer : Result A E) → (P → Q) → OnOk answer P → OnOk answer Q
+on_ok (Ok value) follows held = follows held
+on_ok (Err error) follows held = tt
+
+-- Events
+
+-- nothing was given
+pub wrote_nothing : (writer : WriterState) → IsBare writer → Wrote writer [] writer
+wrote_nothing writer bare =
+    record {
+      adds = λ given all stands. subst (λ (events : List Event). StandsAfter given events writer.emitter) (sym (append-nil all)) stands;
+      canonical = refl;
+      levels = refl;
+      bare = bare;
+    }
+
+-- some events, and then others
+pub adds_then : (before between after : State) (first second : List Event) → AddsAll before first between → AddsAll between second after
+    → AddsAll before (first ++ second) after
+adds_then before between after first second one other = λ given all stands.
+    subst (λ (events : List Event). StandsAfter given events after) (append_assoc all first second) (other given (all ++ first) (one given all stands))
+
+pub wrote_then : (before between after : WriterState) (first second : List Event) → Wrote before first between → Wrote between second after
+    → Wrote before (first ++ second) after
+wrote_then before between after first second one other =
+    record {
+      adds = adds_then before.emitter between.emitter after.emitter first second one.adds other.adds;
+      canonical = other.canonical ∙ one.canonical;
+      levels = other.levels ∙ one.levels;
+      bare = other.bare;
+    }
+
+-- the events are these
+pub wrote_same : (before after : WriterState) (events same : List Event) → events ≡ same → Wrote before events after → Wrote before same after
+wrote_same before after events same is = subst (λ (e : List Event). Wrote before e after) is
+
+-- a call that gave one event
+pub wrote_event : (before after : WriterState) (event same : Event) → event ≡ same → Gave before event None after → WroteEvent before same after
+wrote_event before after event same is gave =
+    record {
+      adds = λ given all stands. subst (λ (e : Event). StandsAfter given (all ++ e ∷ []) after.emitter) is (gave.adds given all stands);
+      canonical = gave.canonical;
+      levels = gave.levels;
+      bare = (gave.no_anchor, gave.no_tag);
+    }
+
+-- The events of calls where the next node has neither anchor nor tag
+
+abbrev scalar_by : Text → ScalarStyle → Option Text → Option Text → Event
+scalar_by value style anchor tag =
+    scalar (record { anchor = anchor; tag = tag; value = value; plain_implicit = is_none tag; quoted_implicit = is_none tag; style = style })
+
+pub word_is : (writer : WriterState) (own word : Text) → IsBare writer → word_event writer own word ≡ scalar (word_content writer.canonical own word)
+word_is writer own word bare =
+    ap₂ (scalar_by word plain) bare.0 (ap (λ (tag : Option Text). tag_or tag writer.canonical own) bare.1)
+
+pub text_is : (writer : WriterState) (text : Text) → IsBare writer → text_event writer text ≡ scalar (text_content text)
+text_is writer text bare = ap₂ (scalar_by text (text_style text)) bare.0 bare.1
+
+-- a number, by the parts of its text
+pub number_event_is : (writer : WriterState) (text : List ℕ) (parts : JsonNumber) → IsNumber text parts → IsBare writer
+    → number_event writer parts ≡ scalar (number_content writer.canonical (number_in text))
+number_event_is writer text parts is bare =
+    word_is writer (number_tag parts) (yaml_number parts) bare
+    ∙ ap (λ (found : JsonNumber). scalar (number_content writer.canonical found)) (sym (ap number_in is.text_is ∙ number_found parts is.valid))
+
+pub sequence_is : (writer : WriterState) (in_flow : Bool) (style : CollectionStyle) → style ≡ style_of in_flow → IsBare writer
+    → sequence_event writer style ≡ sequence_start (collection_in in_flow)
+sequence_is writer in_flow style is bare =
+    ap (sequence_event writer) is
+    ∙ ap₂ (λ (anchor tag : Option Text). sequence_start (record { anchor = anchor; tag = tag; implicit = is_none tag; style = style_of in_flow })) bare.0 bare.1
+
+pub mapping_is : (writer : WriterState) (in_flow : Bool) (style : CollectionStyle) → style ≡ style_of in_flow → IsBare writer
+    → mapping_event writer style ≡ mapping_start (collection_in in_flow)
+mapping_is writer in_flow style is bare =
+    ap (mapping_event writer) is
+    ∙ ap₂ (λ (anchor tag : Option Text). mapping_start (record { anchor = anchor; tag = tag; implicit = is_none tag; style = style_of in_flow })) bare.0 bare.1
+
+-- Collections
+
+-- what is open past the innermost, and the innermost
+none_more : (outer : List CollectionKind) (kind : CollectionKind) → outer ++ kind ∷ [] ≡ [] → ⊥
+none_more [] kind is = cc
+none_more (first ∷ outer) kind is = cc
+
+abbrev first_of : CollectionKind → List CollectionKind → CollectionKind
+first_of none [] = none
+first_of none (kind ∷ kinds) = kind
+
+abbrev rest_of : List CollectionKind → List CollectionKind
+rest_of [] = []
+rest_of (kind ∷ kinds) = kinds
+
+same_last : (outer others : List CollectionKind) (kind other : CollectionKind) → outer ++ kind ∷ [] ≡ others ++ other ∷ [] → (outer ≡ others) × (kind ≡ other)
+same_last [] [] kind other is = (refl, ap (first_of kind) is)
+same_last [] (next ∷ others) kind other is = absurd (none_more others other (sym (ap rest_of is)))
+same_last (first ∷ outer) [] kind other is = absurd (none_more outer kind (ap rest_of is))
+same_last (first ∷ outer) (next ∷ others) kind other is =
+    let more = same_last outer others kind other (ap rest_of is) in
+    (ap₂ (λ (k : CollectionKind) (ks : List CollectionKind). k ∷ ks) (ap (first_of kind) is) more.0, more.1)
+
+-- a collection that was begun is the innermost, and its end is of its kind
+pub ended : (outer : List CollectionKind) (kind : CollectionKind) (before after : WriterState) → before.levels ≡ outer ++ kind ∷ [] → IsBare before
+    → Ends before after → (AddsAll before.emitter (end_event kind ∷ []) after.emitter) × (after.canonical ≡ before.canonical) × (after.levels ≡ outer) × IsBare after
+ended outer kind before after levels bare (inl none) = absurd (none_more outer kind (sym levels ∙ none.0))
+ended outer kind before after levels bare (inr end) =
+    let same = same_last end.outer outer end.kind kind (sym end.levels ∙ levels) in (
+      λ given all stands.
+      subst (λ (k : CollectionKind). StandsAfter given (all ++ end_event k ∷ []) after.emitter) same.1 (end.adds given all stands),
+      ap (λ (w : WriterState). w.canonical) end.rest,
+      ap (λ (w : WriterState). w.levels) end.rest ∙ same.0,
+      (ap (λ (w : WriterState). w.anchor) end.rest ∙ bare.0, ap (λ (w : WriterState). w.tag) end.rest ∙ bare.1),
+    )
+
+-- a collection is begun, filled and ended
+pub wrote_collection : (before begun filled after : WriterState) (kind : CollectionKind) (event start : Event) (inner : List Event) → event ≡ start
+    → Gave (entered before kind) event None begun → Wrote begun inner filled → Ends filled after
+    → Wrote before (start ∷ (inner ++ end_event kind ∷ [])) after
+wrote_collection before begun filled after kind event start inner is gave fills ends =
+    let end = ended before.levels kind filled after (fills.levels ∙ gave.levels) fills.bare ends in
+    let starts : AddsAll before.emitter (start ∷ []) begun.emitter =
+    λ given all stands. subst (λ (e : Event). StandsAfter given (all ++ e ∷ []) begun.emitter) is (gave.adds given all stands) in
+    record {
+      adds = adds_then before.emitter filled.emitter after.emitter (start ∷ inner) (end_event kind ∷ [])
+          (adds_then before.emitter begun.emitter filled.emitter (start ∷ []) inner starts fills.adds) end.0;
+      canonical = end.1 ∙ fills.canonical ∙ gave.canonical;
+      levels = end.2;
+      bare = end.3;
+    }

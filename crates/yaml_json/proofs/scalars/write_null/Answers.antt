@@ -1,0 +1,13 @@
+use Rattle.std.specs.Prelude.{codes}
+use Rattle.yaml_base.specs.Event.{scalar}
+use Rattle.yaml_base.specs.TypedValues.{null_tag}
+use Rattle.yaml_writer.specs.Writing.{null_event}
+use Rattle.yaml_json.proofs.WroteLemmas.{word_is, wrote_event}
+use Rattle.yaml_json.specs.JsonEvents.{null_content}
+use Rattle.yaml_json.proofs.scalars.write_null.Goals as goal
+
+pub returns-in-Ok-clause-written : goal.returns-in-Ok-clause-written
+returns-in-Ok-clause-written g c =
+    let writer = c.args.writer.now in
+    wrote_event writer c.null.new.self (null_event writer) (scalar (null_content writer.canonical)) (word_is writer null_tag (codes "null") c.requires)
+    c.in-Ok.ensures.given

@@ -1,0 +1,11 @@
+use Rattle.std.proofs.Common.{length}
+use denote.Shadow.{shadow}
+use denote.Text.{Utf8}
+use Rattle.yaml_json.proofs.TextsInTurn.{TextsSoFar}
+use Rattle.yaml_json.proofs.several.write_json_texts.Given as goal
+
+abbrev pub invariant-texts : goal.invariant-texts
+invariant-texts g l = shadow (Utf8 l.rest) × TextsSoFar l.depth l.in_flow l.text l.initial.writer l.rest l.writer
+
+abbrev pub decreases-texts : goal.decreases-texts
+decreases-texts g l = length l.rest

@@ -1,0 +1,4 @@
+pub mod JsonEvents
+pub mod Means
+pub mod Wrote
+pub mod Refused

@@ -1,0 +1,87 @@
+-- What a tree that was read means by a schema, and when that is a value of JSON. This names no writer and no event.
+use Rattle.std.specs.Prelude.{◌≡◌, ℕ, Bool, true, false, Option, None, Some, List, [], ◌∷◌, ◌++◌, bytes_eq, codes, if◌then◌else◌}
+use Rattle.std.specs.Str.{chars}
+use Rattle.json.specs.Json.{Json, null, boolean, number, string, array, object, Items, no_items, item, Members, no_members, member}
+use Rattle.yaml_base.specs.Characters.{Text}
+use Rattle.yaml_base.specs.JsonNumbers.{JsonNumber, json_value, means_number}
+use Rattle.yaml_base.specs.Resolved.{Resolved, meant_null, meant_boolean, meant_integer, meant_decimal, meant_infinity, meant_nan, meant_timestamp, meant_merge, meant_value, meant_text, meant_by_nobody}
+use Rattle.yaml_base.specs.SchemaCore.{resolved_by_core}
+use Rattle.yaml_base.specs.SchemaOf11.{resolved_by_11}
+use Rattle.yaml_base.specs.StreamContent.{stood_plain, Tagging, with_tag, without_tag, Tree, scalar_tree, sequence_tree, mapping_tree, Trees, no_trees, trees_and, TreePairs, no_tree_pairs, tree_pairs_and, DocumentTree}
+use Rattle.yaml_base.specs.StreamReader.{stream_trees}
+use Rattle.yaml_writer.specs.NumberParts.{IsNumber}
+
+-- what a schema takes plain scalars without a tag for
+abbrev pub Schema : Type 0
+Schema = Text → Resolved
+
+-- the tag of a reading
+abbrev pub tag_of : Resolved → Text
+tag_of meant_null = codes "tag:yaml.org,2002:null"
+tag_of (meant_boolean flag) = codes "tag:yaml.org,2002:bool"
+tag_of (meant_integer integer) = codes "tag:yaml.org,2002:int"
+tag_of (meant_decimal decimal) = codes "tag:yaml.org,2002:float"
+tag_of (meant_infinity negative) = codes "tag:yaml.org,2002:float"
+tag_of meant_nan = codes "tag:yaml.org,2002:float"
+tag_of meant_timestamp = codes "tag:yaml.org,2002:timestamp"
+tag_of meant_merge = codes "tag:yaml.org,2002:merge"
+tag_of meant_value = codes "tag:yaml.org,2002:value"
+tag_of meant_text = codes "tag:yaml.org,2002:str"
+tag_of meant_by_nobody = []
+
+-- what a scalar means: plain, what the schema says; in quotes, a text; with a tag, what the schema says, where it has that tag
+abbrev pub scalar_meant : Schema → Tagging → Text → Resolved
+scalar_meant schema (without_tag stood_plain) value = schema value
+scalar_meant schema (without_tag _) value = meant_text
+scalar_meant schema (with_tag tag) value = if bytes_eq tag (tag_of (schema value)) then schema value else meant_by_nobody
+
+-- trees and pairs of trees, in order
+abbrev pub in_order : Trees → List Tree
+in_order no_trees = []
+in_order (trees_and trees tree) = in_order trees ++ tree ∷ []
+
+abbrev pub pairs_in_order : TreePairs → List (Tree × Tree)
+pairs_in_order no_tree_pairs = []
+pairs_in_order (tree_pairs_and pairs key value) = pairs_in_order pairs ++ (key, value) ∷ []
+
+-- a scalar means this number
+pub record MeansNumber (text : List ℕ) (meant : Resolved) : Type 0 where
+  pub parts : JsonNumber
+  pub is_number : IsNumber text parts
+  pub means : means_number (json_value parts) meant ≡ true
+
+-- a tree means this text
+abbrev pub MeansText : Schema → List ℕ → Tree → Type 0
+MeansText schema text (scalar_tree anchor tagging value) = (scalar_meant schema tagging value ≡ meant_text) × (value ≡ chars text)
+MeansText schema text _ = ⊥
+
+-- a tree means this value: nothing, this boolean, exactly this number, this text; an array's items and an object's keys and
+-- values, all of them in order
+abbrev mutual
+  pub Means : Schema → Json → Tree → Type 0
+  Means schema null (scalar_tree anchor tagging value) = scalar_meant schema tagging value ≡ meant_null
+  Means schema (boolean flag) (scalar_tree anchor tagging value) = scalar_meant schema tagging value ≡ meant_boolean flag
+  Means schema (number text) (scalar_tree anchor tagging value) = MeansNumber text (scalar_meant schema tagging value)
+  Means schema (string text) tree = MeansText schema text tree
+  Means schema (array items) (sequence_tree anchor None trees) = ItemsMean schema items (in_order trees)
+  Means schema (object members) (mapping_tree anchor None pairs) = MembersMean schema members (pairs_in_order pairs)
+  Means schema _ _ = ⊥
+
+  pub ItemsMean : Schema → Items → List Tree → Type 0
+  ItemsMean schema no_items [] = Unit {0}
+  ItemsMean schema (item json items) (tree ∷ trees) = Means schema json tree × ItemsMean schema items trees
+  ItemsMean schema _ _ = ⊥
+
+  pub MembersMean : Schema → Members → List (Tree × Tree) → Type 0
+  MembersMean schema no_members [] = Unit {0}
+  MembersMean schema (member key json members) (pair ∷ pairs) =
+      MeansText schema key pair.0 × Means schema json pair.1 × MembersMean schema members pairs
+  MembersMean schema _ _ = ⊥
+
+-- what a reader of whole streams finds in some bytes: one document without directives, whose root means this value by the type
+-- repository of YAML 1.1 and by the core schema of YAML 1.2
+pub record ReadsAsJson (breaks12 : Bool) (bytes : List ℕ) (json : Json) : Type 0 where
+  pub root : Tree
+  pub read : stream_trees breaks12 bytes ≡ Some (record { version = None; directives = []; root = root } ∷ [])
+  pub by_11 : Means resolved_by_11 json root
+  pub by_core : Means resolved_by_core json root

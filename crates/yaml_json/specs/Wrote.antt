@@ -1,0 +1,91 @@
+-- What a value of JSON comes to for the writer that it is given to, and what is left of the reader's tokens.
+use Rattle.std.specs.Prelude.{◌≡◌, ℕ, Bool, None, Some, Result, Ok, List, [], ◌∷◌, ◌++◌, flat_map, length, true}
+use Rattle.std.specs.Str.{chars}
+use Rattle.json.specs.Token.{Token}
+use Rattle.json.specs.Lex.{tokens}
+use Rattle.json.specs.Json.{Json, Items, Members, items, members, value}
+use Rattle.yaml_base.specs.Event.{Event, document_end, scalar}
+use Rattle.yaml_base.specs.Settings.{Settings}
+use Rattle.yaml_writer.specs.Writing.{AddsAll, EndsInnermost, IsStream, WriterState, closing, opening, plain_start}
+use Rattle.yaml_json.specs.JsonEvents.{json_events, items_events, members_events, text_content}
+use Rattle.yaml_json.specs.Means.{ReadsAsJson}
+
+-- the next node has no anchor and no tag
+abbrev pub IsBare : WriterState → Type 0
+IsBare writer = (writer.anchor ≡ None) × (writer.tag ≡ None)
+
+-- these events were given, wherever the writer's emitter stood; the next node has no anchor and no tag
+pub record Wrote (before : WriterState) (events : List Event) (after : WriterState) : Type 0 where
+  pub adds : AddsAll before.emitter events after.emitter
+  pub canonical : after.canonical ≡ before.canonical
+  pub levels : after.levels ≡ before.levels
+  pub bare : IsBare after
+
+-- one event was given
+abbrev pub WroteEvent : WriterState → Event → WriterState → Type 0
+WroteEvent before event after = Wrote before (event ∷ []) after
+
+-- the innermost collection was ended
+abbrev pub Ends : WriterState → WriterState → Type 0
+Ends before after = EndsInnermost before (Ok tt) after
+
+-- the first of these tokens are a value nested at most so deep; its events were given
+pub record WroteValue (depth : ℕ) (in_flow : Bool) (before : List Token) (was : WriterState) (after : List Token) (now : WriterState) : Type 0 where
+  pub json : Json
+  pub read : value depth before ≡ Some (json, after)
+  pub wrote : Wrote was (json_events was.canonical in_flow json) now
+
+-- the first of these tokens are the items of an array, to its end; their events were given
+pub record WroteItems (depth : ℕ) (in_flow : Bool) (before : List Token) (was : WriterState) (after : List Token) (now : WriterState) : Type 0 where
+  pub json : Items
+  pub read : items (value depth) (length before) before ≡ Some (json, after)
+  pub wrote : Wrote was (items_events was.canonical in_flow json) now
+
+-- the first of these tokens are the members of an object, to its end; their events were given
+pub record WroteMembers (depth : ℕ) (in_flow : Bool) (before : List Token) (was : WriterState) (after : List Token) (now : WriterState) : Type 0 where
+  pub json : Members
+  pub read : members (value depth) (length before) before ≡ Some (json, after)
+  pub wrote : Wrote was (members_events was.canonical in_flow json) now
+
+-- the first of these tokens are the value of this key; the events of key and value were given
+pub record WroteMember (depth : ℕ) (in_flow : Bool) (key : List ℕ) (before : List Token) (was : WriterState) (after : List Token) (now : WriterState)
+    : Type 0 where
+  pub json : Json
+  pub read : value depth before ≡ Some (json, after)
+  pub wrote : Wrote was (scalar (text_content (chars key)) ∷ json_events was.canonical in_flow json) now
+
+-- the tokens are a value nested at most so deep, and nothing after it; its events were given
+pub record WroteDocument (depth : ℕ) (in_flow : Bool) (before : List Token) (was : WriterState) (now : WriterState) : Type 0 where
+  pub json : Json
+  pub read : value depth before ≡ Some (json, [])
+  pub wrote : Wrote was (json_events was.canonical in_flow json) now
+
+-- the text is JSON nested at most so deep; its events were given
+abbrev pub WroteText : (depth : ℕ) → (in_flow : Bool) → (text : List ℕ) → WriterState → WriterState → Type 0
+WroteText depth in_flow text was now = WroteDocument depth in_flow (tokens text) was now
+
+-- each of some texts is JSON nested at most so deep, with its value
+abbrev pub AreJson : (depth : ℕ) → List (List ℕ × Json) → Type 0
+AreJson depth [] = Unit {0}
+AreJson depth (part ∷ parts) = (value depth (tokens part.0) ≡ Some (part.1, [])) × AreJson depth parts
+
+-- the events of their values, a document each, within the start of the first document and the end of the last
+abbrev pub parts_events : (canonical in_flow : Bool) → List (List ℕ × Json) → List Event
+parts_events canonical in_flow [] = []
+parts_events canonical in_flow (part ∷ []) = json_events canonical in_flow part.1
+parts_events canonical in_flow (part ∷ next ∷ rest) =
+    json_events canonical in_flow part.1 ++ document_end true ∷ plain_start ∷ parts_events canonical in_flow (next ∷ rest)
+
+-- the text is one JSON text after another; their events were given, a document each
+pub record WroteTexts (depth : ℕ) (in_flow : Bool) (text : List ℕ) (was now : WriterState) : Type 0 where
+  pub parts : List (List ℕ × Json)
+  pub joined : flat_map (λ part. part.0) parts ≡ text
+  pub each : AreJson depth parts
+  pub wrote : Wrote was (parts_events was.canonical in_flow parts) now
+
+-- the text is JSON nested at most so deep, the bytes are the stream of its one document, and both schemas read them as its value
+pub record IsYamlOf (given : Settings) (in_flow : Bool) (depth : ℕ) (text bytes : List ℕ) : Type 0 where
+  pub json : Json
+  pub read : value depth (tokens text) ≡ Some (json, [])
+  pub stream : IsStream given (opening ++ json_events given.canonical in_flow json ++ closing) bytes
+  pub reads : ReadsAsJson given.breaks12 bytes json

@@ -1,0 +1,18 @@
+//! Why a text isn't written as YAML.
+use thiserror::Error;
+use yaml_writer::yaml_error_t;
+
+/// Why a text isn't written as YAML.
+#[derive(Clone, Copy, Debug, Drop, Error, PartialEq, Eq)]
+pub enum JsonError {
+    /// The text is no JSON. The first token that can't stand where it stands begins here; where the text ends too early, this
+    /// is its end. Lines end with LF, and both numbers count from 1, columns in characters.
+    #[error("line {line}, column {column}: not JSON")]
+    NotJson { line: usize, column: usize },
+    /// Arrays and objects nest deeper than was allowed.
+    #[error("arrays and objects nest too deep")]
+    TooDeep,
+    /// The bytes pass the limit (`WriteError`), or an allocation failed (`Memory`).
+    #[error("{0}")]
+    Emitter(yaml_error_t),
+}

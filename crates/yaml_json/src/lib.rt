@@ -1,0 +1,20 @@
+//! JSON texts (RFC 8259), written as YAML that both schemas of YAML read as the same values.
+#![tactic(auto)]
+
+mod error;
+mod places;
+mod scalars;
+mod settings;
+mod several;
+mod texts;
+mod values;
+
+pub use error::JsonError;
+pub use settings::JsonSettings;
+pub use several::write_json_texts;
+pub use texts::{write_json, yaml_from_json};
+pub use yaml_writer::{
+    Settings, Writer, YAML_ANY_BREAK, YAML_ANY_ENCODING, YAML_CR_BREAK, YAML_CRLN_BREAK,
+    YAML_LN_BREAK, YAML_UTF8_ENCODING, YAML_UTF16BE_ENCODING, YAML_UTF16LE_ENCODING, yaml_break_t,
+    yaml_encoding_t, yaml_error_t,
+};

@@ -1,0 +1,105 @@
+//! Scalars of JSON, given to a writer.
+ghost use Rattle.std.specs.Prelude.{◌≡◌, OnOk, chars};
+ghost use Rattle.yaml_base.specs.Event.{scalar};
+ghost use Rattle.yaml_base.specs.Seen.{seen_mapping_style, seen_sequence_style};
+ghost use Rattle.yaml_writer.specs.NumberParts.{IsNoNumber, number_in};
+ghost use Rattle.yaml_json.specs.JsonEvents.{bool_content, null_content, number_content, style_of, text_content};
+ghost use Rattle.yaml_json.specs.Refused.{RefusesText};
+ghost use Rattle.yaml_json.specs.Wrote.{Ends, IsBare, WroteEvent};
+
+use crate::values::Stop;
+use std::alloc::Allocator;
+use yaml_writer::{
+    Writer, YAML_BLOCK_MAPPING_STYLE, YAML_BLOCK_SEQUENCE_STYLE, YAML_FLOW_MAPPING_STYLE,
+    YAML_FLOW_SEQUENCE_STYLE, number_of, yaml_mapping_style_t, yaml_sequence_style_t,
+};
+
+pub(crate) fn sequence_style(in_flow: bool) -> yaml_sequence_style_t
+    ensures { seen_sequence_style result ≡ style_of in_flow }
+{
+    if in_flow {
+        YAML_FLOW_SEQUENCE_STYLE
+    } else {
+        YAML_BLOCK_SEQUENCE_STYLE
+    }
+}
+
+pub(crate) fn mapping_style(in_flow: bool) -> yaml_mapping_style_t
+    ensures { seen_mapping_style result ≡ style_of in_flow }
+{
+    if in_flow {
+        YAML_FLOW_MAPPING_STYLE
+    } else {
+        YAML_BLOCK_MAPPING_STYLE
+    }
+}
+
+pub(crate) fn write_null<A: Allocator + Copy>(writer: &mut Writer<A>) -> Result<(), Stop>
+    requires { IsBare writer.old }
+    ensures written { OnOk result (WroteEvent writer.old (scalar (null_content writer.old.canonical)) writer.new) }
+    ensures failed { RefusesText result → ⊥ }
+{
+    match writer.null() {
+        Ok(()) => Ok(()),
+        Err(error) => Err(Stop::Failed(error)),
+    }
+}
+
+pub(crate) fn write_bool<A: Allocator + Copy>(
+    writer: &mut Writer<A>,
+    flag: bool,
+) -> Result<(), Stop>
+    requires { IsBare writer.old }
+    ensures written { OnOk result (WroteEvent writer.old (scalar (bool_content writer.old.canonical flag)) writer.new) }
+    ensures failed { RefusesText result → ⊥ }
+{
+    match writer.bool(flag) {
+        Ok(()) => Ok(()),
+        Err(error) => Err(Stop::Failed(error)),
+    }
+}
+
+pub(crate) fn write_text<A: Allocator + Copy>(
+    writer: &mut Writer<A>,
+    text: &str,
+) -> Result<(), Stop>
+    requires { IsBare writer.old }
+    ensures written { OnOk result (WroteEvent writer.old (scalar (text_content (chars text.now))) writer.new) }
+    ensures failed { RefusesText result → ⊥ }
+{
+    match writer.text(text) {
+        Ok(()) => Ok(()),
+        Err(error) => Err(Stop::Failed(error)),
+    }
+}
+
+/// A number, by its text at this offset.
+pub(crate) fn write_number<A: Allocator + Copy>(
+    writer: &mut Writer<A>,
+    text: &str,
+    offset: usize,
+) -> Result<(), Stop>
+    requires { IsBare writer.old }
+    ensures written { OnOk result (WroteEvent writer.old (scalar (number_content writer.old.canonical (number_in text.now))) writer.new) }
+    ensures refused { RefusesText result → IsNoNumber text.now }
+{
+    let Some(number) = number_of(text) else {
+        return Err(Stop::NotJson(offset));
+    };
+    match writer.number(&number) {
+        Ok(()) => Ok(()),
+        Err(error) => Err(Stop::Failed(error)),
+    }
+}
+
+/// Ends the innermost collection.
+pub(crate) fn end<A: Allocator + Copy>(writer: &mut Writer<A>) -> Result<(), Stop>
+    requires { IsBare writer.old }
+    ensures ended { OnOk result (Ends writer.old writer.new) }
+    ensures failed { RefusesText result → ⊥ }
+{
+    match writer.end() {
+        Ok(()) => Ok(()),
+        Err(error) => Err(Stop::Failed(error)),
+    }
+}
