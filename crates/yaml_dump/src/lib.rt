@@ -8,8 +8,6 @@ mod events;
 mod laws;
 mod steps;
 mod streams;
-#[cfg(test)]
-mod tests;
 mod walk;
 
 pub use dumps::document_events;

@@ -1,4 +1,5 @@
 //! Documents dumped, as tests write them.
+mod events;
 mod memory;
 mod streams;
 mod texts;
@@ -7,8 +8,10 @@ use std::alloc::{AllocError, Allocator};
 use std::process::Abort;
 use yaml_base::{
     YAML_ANY_SCALAR_STYLE, YAML_BLOCK_MAPPING_STYLE, YAML_BLOCK_SEQUENCE_STYLE, yaml_document_t,
-    yaml_node_data_t, yaml_node_pair_t, yaml_node_t,
+    yaml_error_t, yaml_node_data_t, yaml_node_pair_t, yaml_node_t,
 };
+use yaml_dump::{yaml_emitter_close, yaml_emitter_dump};
+use yaml_emitter::yaml_emitter_t;
 
 /// A scalar of any style with this tag.
 fn scalar<A: Allocator + Copy>(
@@ -41,16 +44,15 @@ fn sequence<A: Allocator + Copy>(alloc: A, items: &[i32]) -> Result<yaml_node_t<
     })
 }
 
-/// A block mapping of one pair.
+/// A block mapping of these pairs.
 fn mapping<A: Allocator + Copy>(
     alloc: A,
-    key: i32,
-    value: i32,
+    pairs: &[yaml_node_pair_t],
 ) -> Result<yaml_node_t<A>, AllocError> {
     Ok(yaml_node_t {
         tag: String::from_str(alloc, "tag:yaml.org,2002:map")?,
         contents: yaml_node_data_t::Mapping {
-            pairs: vec![in alloc; yaml_node_pair_t { key, value }]?,
+            pairs: Vec::from_slice(alloc, pairs)?,
             style: YAML_BLOCK_MAPPING_STYLE,
         },
     })
@@ -65,8 +67,8 @@ enum Given<'a> {
     Tagged(&'a str, &'a str),
     /// A block sequence of these nodes.
     Sequence(&'a [i32]),
-    /// A block mapping of one key and its value.
-    Mapping(i32, i32),
+    /// A block mapping of keys and values.
+    Mapping(&'a [yaml_node_pair_t]),
 }
 
 fn node<A: Allocator + Copy>(alloc: A, given: Given) -> Result<yaml_node_t<A>, AllocError> {
@@ -74,7 +76,7 @@ fn node<A: Allocator + Copy>(alloc: A, given: Given) -> Result<yaml_node_t<A>, A
         Given::Text(value) => text(alloc, value),
         Given::Tagged(tag, value) => scalar(alloc, tag, value),
         Given::Sequence(items) => sequence(alloc, items),
-        Given::Mapping(key, value) => mapping(alloc, key, value),
+        Given::Mapping(pairs) => mapping(alloc, pairs),
     }
 }
 
@@ -100,4 +102,24 @@ fn document<A: Allocator + Copy>(
         Ok(document) => document,
         Err(_) => panic!(rt; "each number names a node"),
     }
+}
+
+/// Dumps a document: an output is set.
+fn dump<A: Allocator + Copy>(
+    rt: &impl Abort,
+    alloc: A,
+    emitter: &mut yaml_emitter_t<A>,
+    document: yaml_document_t<A>,
+) -> Result<(), yaml_error_t> {
+    assert!(rt; emitter.has_output());
+    yaml_emitter_dump(alloc, emitter, document)
+}
+
+/// Closes a stream that is opened.
+fn close<A: Allocator + Copy>(
+    rt: &impl Abort,
+    emitter: &mut yaml_emitter_t<A>,
+) -> Result<(), yaml_error_t> {
+    assert!(rt; emitter.is_opened());
+    yaml_emitter_close(emitter)
 }

@@ -1,6 +1,4 @@
 //! Emitters from outside, call by call: what waits, what is handed out meanwhile, growths that are refused.
-ghost use Rattle.std.specs.Prelude.{◌≡◌, false};
-
 mod depth;
 mod memory;
 mod streams;
@@ -71,31 +69,48 @@ fn flush_if_known<A: Allocator + Copy>(
     Ok(())
 }
 
-/// Emits all events. From the first refusal on, each call answers the same and nothing more is handed out.
+/// Emits all events, none of which is refused.
 fn emit_all<A: Allocator + Copy>(
     rt: &impl Abort,
     alloc: A,
     emitter: &mut yaml_emitter_t<A>,
     events: &[Given],
-) -> Result<Option<(usize, yaml_error_t)>, Fail> {
-    let mut refused: Option<(usize, yaml_error_t)> = None;
-    let mut length = 0;
-    for (number, given) in events.iter().enumerate() {
-        let answer = give(rt, emitter, event(alloc, given)?);
-        match refused {
-            Some((_, first)) => {
-                assert_eq!(rt; answer, Err(first));
-                assert_eq!(rt; emitter.output().len(), length);
-            }
-            None => {
-                if let Err(error) = answer {
-                    refused = Some((number, error));
-                    length = emitter.output().len();
-                }
-            }
-        }
+) -> Result<(), Fail> {
+    for given in events {
+        assert_eq!(rt; give(rt, emitter, event(alloc, given)?), Ok(()));
     }
-    Ok(refused)
+    Ok(())
+}
+
+// The error is kept, and nothing waits.
+fn check_kept<A: Allocator>(rt: &impl Abort, emitter: &yaml_emitter_t<A>, error: yaml_error_t) {
+    assert_eq!(rt; emitter.error(), Some(error));
+    assert_eq!(rt; emitter.held(), 0);
+}
+
+// An event that is refused by this error hands out nothing.
+fn check_refused<A: Allocator + Copy>(
+    rt: &impl Abort,
+    emitter: &mut yaml_emitter_t<A>,
+    next: yaml_event_t<A>,
+    error: yaml_error_t,
+) {
+    let length = emitter.output().len();
+    assert_eq!(rt; give(rt, emitter, next), Err(error));
+    assert_eq!(rt; emitter.output().len(), length);
+}
+
+// So does a flush.
+fn check_flush_refused<A: Allocator + Copy>(
+    rt: &impl Abort,
+    emitter: &mut yaml_emitter_t<A>,
+    error: yaml_error_t,
+) {
+    if emitter.encoding_known() {
+        let length = emitter.output().len();
+        assert_eq!(rt; flush_if_known(rt, emitter), Err(error));
+        assert_eq!(rt; emitter.output().len(), length);
+    }
 }
 
 /// After an error each call answers it; nothing waits, and nothing more is handed out.
@@ -104,15 +119,8 @@ fn check_failed<A: Allocator + Copy>(
     emitter: &mut yaml_emitter_t<A>,
     error: yaml_error_t,
 ) {
-    assert_eq!(rt; emitter.error(), Some(error));
-    assert_eq!(rt; emitter.held(), 0);
-    let length = emitter.output().len();
-    let answer = give(rt, emitter, YAML_STREAM_END_EVENT);
-    assert_eq!(rt; answer, Err(error));
-    if emitter.encoding_known() {
-        assert_eq!(rt; flush_if_known(rt, emitter), Err(error));
-    }
-    assert_eq!(rt; emitter.error(), Some(error));
-    assert_eq!(rt; emitter.held(), 0);
-    assert_eq!(rt; emitter.output().len(), length);
+    check_kept(rt, emitter, error);
+    check_refused(rt, emitter, YAML_STREAM_END_EVENT, error);
+    check_flush_refused(rt, emitter, error);
+    check_kept(rt, emitter, error);
 }

@@ -1,4 +1,5 @@
-use std::alloc::{AllocError, Allocator};
+use std::alloc::{AllocError, Allocator, Global};
+use std::process::Abort;
 use std::test::Fail;
 use yaml_base::*;
 
@@ -45,18 +46,36 @@ fn document_start<A: Allocator + Copy>(
     })
 }
 
+/// The same scalar twice over, but for these values and styles.
+fn are_scalars_equal(
+    alloc: Global,
+    first: (&str, yaml_scalar_style_t),
+    second: (&str, yaml_scalar_style_t),
+) -> Result<bool, AllocError> {
+    let one = scalar(alloc, first.0, first.1)?;
+    let other = scalar(alloc, second.0, second.1)?;
+    Ok(one == other)
+}
+
+/// The same start of a document twice over, but for these minor versions.
+fn are_starts_equal(alloc: Global, first: i32, second: i32) -> Result<bool, AllocError> {
+    let one = document_start(alloc, first)?;
+    let other = document_start(alloc, second)?;
+    Ok(one == other)
+}
+
 #[test]
 fn events_are_compared_by_what_they_hold(rt: HostRuntime) -> Result<(), Fail> {
     let alloc = rt.alloc();
-    let plain = scalar(alloc, "a", YAML_PLAIN_SCALAR_STYLE)?;
-    assert!(rt; plain == scalar(alloc, "a", YAML_PLAIN_SCALAR_STYLE)?);
-    assert!(rt; plain != scalar(alloc, "b", YAML_PLAIN_SCALAR_STYLE)?);
-    assert!(rt; plain != scalar(alloc, "a", YAML_ANY_SCALAR_STYLE)?);
-    assert!(rt; document_start(alloc, 1)? == document_start(alloc, 1)?);
-    assert!(rt; document_start(alloc, 1)? != document_start(alloc, 2)?);
-    let default: yaml_event_t<_> = Default::default();
+    let plain = ("a", YAML_PLAIN_SCALAR_STYLE);
+    assert!(rt; are_scalars_equal(alloc, plain, plain)?);
+    assert!(rt; !are_scalars_equal(alloc, plain, ("b", YAML_PLAIN_SCALAR_STYLE))?);
+    assert!(rt; !are_scalars_equal(alloc, plain, ("a", YAML_ANY_SCALAR_STYLE))?);
+    assert!(rt; are_starts_equal(alloc, 1, 1)?);
+    assert!(rt; !are_starts_equal(alloc, 1, 2)?);
+    let default: yaml_event_t<Global> = Default::default();
     assert!(rt; default == YAML_STREAM_END_EVENT);
-    assert!(rt; default != plain);
+    assert!(rt; default != scalar(alloc, "a", YAML_PLAIN_SCALAR_STYLE)?);
     Ok(())
 }
 
@@ -131,10 +150,23 @@ fn nodes_are_compared_and_printed_by_what_they_hold(rt: HostRuntime) -> Result<(
     Ok(())
 }
 
+/// An error, its kind and its words.
+type Refusal<'a> = (yaml_error_t, yaml_error_type_t, &'a str);
+
+fn check_words(rt: &impl Abort, alloc: Global, rows: &[Refusal]) -> Result<(), Fail> {
+    for (error, kind, words) in rows {
+        assert_eq!(rt; error.kind(), *kind);
+        let printed = format!(in alloc; "{error}")?;
+        assert_eq!(rt; printed.as_str(), *words);
+    }
+    Ok(())
+}
+
 #[test]
 fn refusals_have_their_words(rt: HostRuntime) -> Result<(), Fail> {
-    let alloc = rt.alloc();
-    for (error, kind, words) in [
+    assert_eq!(rt; yaml_error_t::Memory.problem(), "");
+    assert_eq!(rt; yaml_error_t::WriteError.problem(), "write error");
+    let rows: &[Refusal] = &[
         (
             yaml_error_t::ExpectedNode,
             YAML_EMITTER_ERROR,
@@ -152,19 +184,24 @@ fn refusals_have_their_words(rt: HostRuntime) -> Result<(), Fail> {
         ),
         (yaml_error_t::WriteError, YAML_WRITER_ERROR, "write error"),
         (yaml_error_t::Memory, YAML_MEMORY_ERROR, "out of memory"),
-    ] {
-        assert_eq!(rt; error.kind(), kind);
-        let printed = format!(in alloc; "{error}")?;
-        assert_eq!(rt; printed.as_str(), words);
+    ];
+    check_words(&rt, rt.alloc(), rows)
+}
+
+/// A character, and whether it is of the alphabet of names, printable, and a break.
+type Classes = (char, bool, bool, bool);
+
+fn check_classes(rt: &impl Abort, rows: &[Classes]) {
+    for (character, alpha, printable, breaks) in rows {
+        assert_eq!(rt; is_alpha(*character), *alpha);
+        assert_eq!(rt; is_printable(*character), *printable);
+        assert_eq!(rt; is_break(*character), *breaks);
     }
-    assert_eq!(rt; yaml_error_t::Memory.problem(), "");
-    assert_eq!(rt; yaml_error_t::WriteError.problem(), "write error");
-    Ok(())
 }
 
 #[test]
 fn classes_have_their_members(rt: HostRuntime) {
-    for (character, alpha, printable, breaks) in [
+    let rows: &[Classes] = &[
         ('a', true, true, false),
         ('-', true, true, false),
         ('\t', false, false, false),
@@ -177,11 +214,8 @@ fn classes_have_their_members(rt: HostRuntime) {
         ('\u{FEFF}', false, false, false),
         ('\u{FFFE}', false, false, false),
         ('\u{1F600}', false, true, false),
-    ] {
-        assert_eq!(rt; is_alpha(character), alpha);
-        assert_eq!(rt; is_printable(character), printable);
-        assert_eq!(rt; is_break(character), breaks);
-    }
+    ];
+    check_classes(&rt, rows);
     assert!(rt; is_ascii('\u{7F}') && !is_ascii('\u{80}'));
     assert!(rt; is_space(' ') && !is_space('\t'));
     assert!(rt; is_blank('\t') && !is_blank('\u{A0}'));

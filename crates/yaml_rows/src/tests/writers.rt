@@ -1,5 +1,6 @@
 //! Values written, against bytes written by hand.
 use std::alloc::Global;
+use std::process::Abort;
 use std::test::Fail;
 use yaml_writer::{
     Settings, Writer, YAML_BLOCK_MAPPING_STYLE, YAML_BLOCK_SEQUENCE_STYLE,
@@ -12,13 +13,18 @@ fn writer(alloc: Global) -> Result<Writer<Global>, yaml_error_t> {
 }
 
 /// A block sequence of these texts.
-fn texts(alloc: Global, items: &[&str]) -> Result<Vec<u8, Global>, yaml_error_t> {
-    let mut writer = writer(alloc)?;
+fn give_texts(writer: &mut Writer<Global>, items: &[&str]) -> Result<(), yaml_error_t> {
     writer.begin_sequence(YAML_BLOCK_SEQUENCE_STYLE)?;
     for item in items {
         writer.text(*item)?;
     }
-    writer.end()?;
+    writer.end()
+}
+
+/// A document of these texts.
+fn texts(alloc: Global, items: &[&str]) -> Result<Vec<u8, Global>, yaml_error_t> {
+    let mut writer = writer(alloc)?;
+    give_texts(&mut writer, items)?;
     writer.finish()
 }
 
@@ -99,29 +105,39 @@ fn give_words(writer: &mut Writer<Global>) -> Result<(), yaml_error_t> {
     writer.null()
 }
 
+/// A mapping of words, and of a text to integers.
+fn give_mapping(writer: &mut Writer<Global>) -> Result<(), yaml_error_t> {
+    writer.begin_mapping(YAML_BLOCK_MAPPING_STYLE)?;
+    give_words(writer)?;
+    writer.text("numbers")?;
+    give_bounds(writer)?;
+    writer.end()
+}
+
 #[test]
 fn values_of_each_kind_are_written(rt: HostRuntime) -> Result<(), Fail> {
     let mut writer = writer(rt.alloc())?;
-    writer.begin_mapping(YAML_BLOCK_MAPPING_STYLE)?;
-    give_words(&mut writer)?;
-    writer.text("numbers")?;
-    give_bounds(&mut writer)?;
-    writer.end()?;
+    give_mapping(&mut writer)?;
     let expected =
         "---\n'true': true\nfalse: null\nnumbers: [-9223372036854775808, 18446744073709551615]\n";
     assert_eq!(rt; writer.finish()?.as_slice(), expected.as_bytes());
     Ok(())
 }
 
-#[test]
-fn nodes_have_properties(rt: HostRuntime) -> Result<(), Fail> {
-    let mut writer = writer(rt.alloc())?;
+/// An integer with an anchor and a tag, and its alias.
+fn give_properties(writer: &mut Writer<Global>) -> Result<(), yaml_error_t> {
     writer.begin_sequence(YAML_BLOCK_SEQUENCE_STYLE)?;
     writer.anchored("a")?;
     writer.tagged("tag:yaml.org,2002:str")?;
     writer.int(5)?;
     writer.alias("a")?;
-    writer.end()?;
+    writer.end()
+}
+
+#[test]
+fn nodes_have_properties(rt: HostRuntime) -> Result<(), Fail> {
+    let mut writer = writer(rt.alloc())?;
+    give_properties(&mut writer)?;
     assert_eq!(rt;
         writer.finish()?.as_slice(),
         b"---\n- &a !!str 5\n- *a\n".as_slice()
@@ -132,18 +148,22 @@ fn nodes_have_properties(rt: HostRuntime) -> Result<(), Fail> {
 #[test]
 fn documents_follow_one_another(rt: HostRuntime) -> Result<(), Fail> {
     let mut writer = writer(rt.alloc())?;
-    writer.begin_sequence(YAML_BLOCK_SEQUENCE_STYLE)?;
-    writer.text("a")?;
-    writer.end()?;
+    give_texts(&mut writer, &["a"])?;
     writer.next_document()?;
-    writer.begin_sequence(YAML_BLOCK_SEQUENCE_STYLE)?;
-    writer.text("b")?;
-    writer.end()?;
+    give_texts(&mut writer, &["b"])?;
     assert_eq!(rt;
         writer.finish()?.as_slice(),
         b"---\n- a\n---\n- b\n".as_slice()
     );
     Ok(())
+}
+
+/// Null, and a text that looks like another value.
+fn give_null_and_text(writer: &mut Writer<Global>) -> Result<(), yaml_error_t> {
+    writer.begin_sequence(YAML_BLOCK_SEQUENCE_STYLE)?;
+    writer.null()?;
+    writer.text("no")?;
+    writer.end()
 }
 
 #[test]
@@ -153,10 +173,7 @@ fn canonical_values_have_tags(rt: HostRuntime) -> Result<(), Fail> {
         ..Settings::default()
     };
     let mut writer = Writer::new(rt.alloc(), settings)?;
-    writer.begin_sequence(YAML_BLOCK_SEQUENCE_STYLE)?;
-    writer.null()?;
-    writer.text("no")?;
-    writer.end()?;
+    give_null_and_text(&mut writer)?;
     assert_eq!(rt;
         writer.finish()?.as_slice(),
         b"---\n[\n  !!null \"null\",\n  \"no\",\n]\n".as_slice()
@@ -231,18 +248,33 @@ fn the_limit_gives_out_where_the_bytes_pass_it(rt: HostRuntime) -> Result<(), Fa
     Ok(())
 }
 
-#[test]
-fn what_is_no_stream_is_refused(rt: HostRuntime) -> Result<(), Fail> {
-    let mut open = writer(rt.alloc())?;
+// What was given ends within a document's root, or before it.
+fn check_unfinished(rt: &impl Abort, writer: Writer<Global>) {
+    assert_eq!(rt; writer.finish().err(), Some(yaml_error_t::ExpectedNode));
+}
+
+fn check_open_mapping(rt: &impl Abort, alloc: Global) -> Result<(), Fail> {
+    let mut open = writer(alloc)?;
     open.begin_mapping(YAML_BLOCK_MAPPING_STYLE)?;
-    assert_eq!(rt; open.finish().err(), Some(yaml_error_t::ExpectedNode));
-    let mut keyed = writer(rt.alloc())?;
+    check_unfinished(rt, open);
+    Ok(())
+}
+
+fn check_key_alone(rt: &impl Abort, alloc: Global) -> Result<(), Fail> {
+    let mut keyed = writer(alloc)?;
     keyed.begin_mapping(YAML_BLOCK_MAPPING_STYLE)?;
     keyed.text("a")?;
     let _ = keyed.end();
-    assert_eq!(rt; keyed.finish().err(), Some(yaml_error_t::ExpectedNode));
+    check_unfinished(rt, keyed);
+    Ok(())
+}
+
+#[test]
+fn what_is_no_stream_is_refused(rt: HostRuntime) -> Result<(), Fail> {
+    check_open_mapping(&rt, rt.alloc())?;
+    check_key_alone(&rt, rt.alloc())?;
     let mut none = writer(rt.alloc())?;
     assert_eq!(rt; none.end(), Err(yaml_error_t::ExpectedDocumentEnd));
-    assert_eq!(rt; none.finish().err(), Some(yaml_error_t::ExpectedNode));
+    check_unfinished(&rt, none);
     Ok(())
 }

@@ -3,7 +3,7 @@ use super::streams::Given::{
     BlockSequence, Document, DocumentEnd, FlowSequence, SequenceEnd, Stream,
 };
 use super::streams::{Given, event};
-use super::{Setting, UNSET, begun, check_failed, give};
+use super::{Setting, UNSET, begun, check_failed, check_refused, emit_all, give};
 use std::alloc::Global;
 use std::process::Abort;
 use std::test::Fail;
@@ -29,32 +29,41 @@ fn emit_often(
 }
 
 // Two more may wait; the next makes the collection ready that is one too many.
-#[test]
-fn a_million_collections_may_be_open(rt: HostRuntime) -> Result<(), Fail> {
-    let alloc = rt.alloc();
-    let mut emitter = begun(alloc, &ENDLESS)?;
-    emit_often(&rt, alloc, &mut emitter, &Stream, 1)?;
-    emit_often(&rt, alloc, &mut emitter, &Document, 1)?;
-    emit_often(&rt, alloc, &mut emitter, &BlockSequence, MOST + 2)?;
+fn open_too_many(
+    rt: &impl Abort,
+    alloc: Global,
+    emitter: &mut yaml_emitter_t<Global>,
+) -> Result<(), Fail> {
+    emit_all(rt, alloc, emitter, &[Stream, Document])?;
+    emit_often(rt, alloc, emitter, &BlockSequence, MOST + 2)?;
     assert_eq!(rt; emitter.held(), 2);
-    let answer = give(&rt, &mut emitter, event(alloc, &BlockSequence)?);
-    assert_eq!(rt; answer, Err(yaml_error_t::TooDeep));
-    check_failed(&rt, &mut emitter, yaml_error_t::TooDeep);
+    let next = event(alloc, &BlockSequence)?;
+    check_refused(rt, emitter, next, yaml_error_t::TooDeep);
+    check_failed(rt, emitter, yaml_error_t::TooDeep);
     Ok(())
 }
 
 #[test]
-fn a_million_brackets_are_closed(rt: HostRuntime) -> Result<(), Fail> {
-    let alloc = rt.alloc();
-    let mut emitter = begun(alloc, &ENDLESS)?;
-    emit_often(&rt, alloc, &mut emitter, &Stream, 1)?;
-    emit_often(&rt, alloc, &mut emitter, &Document, 1)?;
-    emit_often(&rt, alloc, &mut emitter, &FlowSequence, MOST)?;
-    emit_often(&rt, alloc, &mut emitter, &SequenceEnd, MOST)?;
-    emit_often(&rt, alloc, &mut emitter, &DocumentEnd, 1)?;
-    assert_eq!(rt; emitter.held(), 0);
-    assert_eq!(rt; emitter.output().len(), 2_000_001);
-    for (place, byte) in emitter.output().iter().enumerate() {
+fn a_million_collections_may_be_open(rt: HostRuntime) -> Result<(), Fail> {
+    let mut emitter = begun(rt.alloc(), &ENDLESS)?;
+    open_too_many(&rt, rt.alloc(), &mut emitter)
+}
+
+fn open_and_close(
+    rt: &impl Abort,
+    alloc: Global,
+    emitter: &mut yaml_emitter_t<Global>,
+) -> Result<(), Fail> {
+    emit_all(rt, alloc, emitter, &[Stream, Document])?;
+    emit_often(rt, alloc, emitter, &FlowSequence, MOST)?;
+    emit_often(rt, alloc, emitter, &SequenceEnd, MOST)?;
+    emit_all(rt, alloc, emitter, &[DocumentEnd])
+}
+
+// A million brackets open, as many close, and the line ends.
+fn check_brackets(rt: &impl Abort, output: &[u8]) {
+    assert_eq!(rt; output.len(), 2_000_001);
+    for (place, byte) in output.iter().enumerate() {
         let expected = if place < MOST {
             b'['
         } else if place < 2_000_000 {
@@ -64,5 +73,13 @@ fn a_million_brackets_are_closed(rt: HostRuntime) -> Result<(), Fail> {
         };
         assert_eq!(rt; *byte, expected);
     }
+}
+
+#[test]
+fn a_million_brackets_are_closed(rt: HostRuntime) -> Result<(), Fail> {
+    let mut emitter = begun(rt.alloc(), &ENDLESS)?;
+    open_and_close(&rt, rt.alloc(), &mut emitter)?;
+    assert_eq!(rt; emitter.held(), 0);
+    check_brackets(&rt, emitter.output());
     Ok(())
 }

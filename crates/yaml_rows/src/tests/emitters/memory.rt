@@ -4,13 +4,13 @@ use super::streams::Given::{
     StreamEnd, StreamIn, Tagged, Text,
 };
 use super::streams::{Given, event};
-use super::{UNSET, begun, check_failed, flush_if_known, give};
+use super::{UNSET, begun, check_failed, emit_all, flush_if_known, give};
 use crate::tests::refusing::Refusing;
 use linked_list_allocator::LocalHeap;
-use std::alloc::{AllocError, Global};
+use std::alloc::{AllocError, Allocator, Global};
 use std::process::Abort;
 use std::test::Fail;
-use yaml_base::{YAML_UTF16LE_ENCODING, yaml_error_t};
+use yaml_base::{YAML_UTF16LE_ENCODING, yaml_error_t, yaml_event_t};
 use yaml_emitter::{yaml_emitter_delete, yaml_emitter_t};
 
 /// A stream in UTF-8, or in UTF-16, whose events take memory in each way that there is.
@@ -66,30 +66,38 @@ fn check_answer(rt: &impl Abort, heap: &Refusing<Global>, answer: Result<(), yam
     }
 }
 
-// An event is emitted. No growth of the event's own is refused.
-fn check_emit<'a>(
-    rt: &impl Abort,
+// An event of which no growth is refused.
+fn granted<'a>(
     heap: &'a Refusing<Global>,
-    emitter: &mut yaml_emitter_t<&'a Refusing<Global>>,
     given: &Given,
-) -> Result<(), Fail> {
+) -> Result<yaml_event_t<&'a Refusing<Global>>, AllocError> {
     let number = heap.left();
     heap.refuse(0);
     let next = event(heap, given)?;
     heap.refuse(number);
+    Ok(next)
+}
+
+// An event is emitted. After a refusal nothing is handed out.
+fn check_emit<A: Allocator + Copy>(
+    rt: &impl Abort,
+    heap: &Refusing<Global>,
+    emitter: &mut yaml_emitter_t<A>,
+    next: yaml_event_t<A>,
+) {
+    let was_refused = heap.left() == 0;
     let length = emitter.output().len();
     check_answer(rt, heap, give(rt, emitter, next));
-    if number == 0 {
+    if was_refused {
         assert_eq!(rt; emitter.output().len(), length);
     }
-    Ok(())
 }
 
 // A flush that finds no memory leaves the output.
-fn check_flush<'a>(
+fn check_flush<A: Allocator + Copy>(
     rt: &impl Abort,
-    heap: &'a Refusing<Global>,
-    emitter: &mut yaml_emitter_t<&'a Refusing<Global>>,
+    heap: &Refusing<Global>,
+    emitter: &mut yaml_emitter_t<A>,
 ) {
     if !emitter.encoding_known() {
         return;
@@ -101,6 +109,38 @@ fn check_flush<'a>(
     }
 }
 
+// All events are emitted, with a flush after each or none.
+fn check_each<'a>(
+    rt: &impl Abort,
+    heap: &'a Refusing<Global>,
+    emitter: &mut yaml_emitter_t<&'a Refusing<Global>>,
+    events: &[Given],
+    flushes: bool,
+) -> Result<(), Fail> {
+    for given in events {
+        check_emit(rt, heap, emitter, granted(heap, given)?);
+        if flushes {
+            check_flush(rt, heap, emitter);
+        }
+    }
+    Ok(())
+}
+
+// What stands in the end, where the growth was refused and where it wasn't.
+fn check_end<A: Allocator + Copy>(
+    rt: &impl Abort,
+    heap: &Refusing<Global>,
+    emitter: &mut yaml_emitter_t<A>,
+    whole: &[u8],
+) {
+    if heap.left() != 0 {
+        assert_eq!(rt; emitter.output(), whole);
+        return;
+    }
+    assert!(rt; whole.starts_with(emitter.output()));
+    check_failed(rt, emitter, yaml_error_t::Memory);
+}
+
 // A stream of which one growth is refused, with a flush after each event or none. Answers whether there is that growth.
 fn is_told(
     rt: &impl Abort,
@@ -109,27 +149,15 @@ fn is_told(
     flushes: bool,
     whole: &[u8],
 ) -> Result<bool, Fail> {
-    let mut emitter = match begun(heap, &UNSET) {
-        Ok(emitter) => emitter,
-        Err(error) => {
-            check_answer(rt, heap, Err(error));
-            return Ok(true);
+    match begun(heap, &UNSET) {
+        Ok(mut emitter) => {
+            check_answer(rt, heap, Ok(()));
+            check_each(rt, heap, &mut emitter, events, flushes)?;
+            check_end(rt, heap, &mut emitter, whole);
         }
-    };
-    check_answer(rt, heap, Ok(()));
-    for given in events {
-        check_emit(rt, heap, &mut emitter, given)?;
-        if flushes {
-            check_flush(rt, heap, &mut emitter);
-        }
+        Err(error) => check_answer(rt, heap, Err(error)),
     }
-    if heap.left() != 0 {
-        assert_eq!(rt; emitter.output(), whole);
-        return Ok(false);
-    }
-    assert!(rt; whole.starts_with(emitter.output()));
-    check_failed(rt, &mut emitter, yaml_error_t::Memory);
-    Ok(true)
+    Ok(heap.left() == 0)
 }
 
 /// A stream gives these bytes, and each growth that it takes is refused in turn.
@@ -164,19 +192,31 @@ fn each_refused_growth_is_told(rt: HostRuntime) -> Result<(), Fail> {
 }
 
 // The heap has room for one emitter, and not for two.
+fn check_full<A: Allocator + Copy>(
+    rt: &impl Abort,
+    alloc: A,
+    emitter: &mut yaml_emitter_t<A>,
+) -> Result<(), Fail> {
+    emit_all(rt, alloc, emitter, &[Stream, Document, Text("a")])?;
+    match begun(alloc, &UNSET) {
+        Ok(_) => assert!(rt; false),
+        Err(error) => assert_eq!(rt; error, yaml_error_t::Memory),
+    }
+    Ok(())
+}
+
+fn fill_and_delete(rt: &impl Abort, heap: &LocalHeap) -> Result<(), Fail> {
+    let mut emitter = begun(heap, &UNSET)?;
+    check_full(rt, heap, &mut emitter)?;
+    yaml_emitter_delete(emitter);
+    Ok(())
+}
+
 #[test]
 fn a_deleted_emitter_leaves_room_for_another(rt: HostRuntime) -> Result<(), Fail> {
     let heap = LocalHeap::new(rt.alloc(), 30_000)?;
     for _ in 0..100 {
-        let mut emitter = begun(&heap, &UNSET)?;
-        for given in [Stream, Document, Text("a")] {
-            assert_eq!(rt; give(&rt, &mut emitter, event(&heap, &given)?), Ok(()));
-        }
-        match begun(&heap, &UNSET) {
-            Ok(_) => assert!(rt; false),
-            Err(error) => assert_eq!(rt; error, yaml_error_t::Memory),
-        }
-        yaml_emitter_delete(emitter);
+        fill_and_delete(&rt, &heap)?;
     }
     Ok(())
 }

@@ -6,7 +6,7 @@ use super::streams::Given::{
     Tagged, Text,
 };
 use super::streams::{Given, event};
-use super::{Setting, UNSET, begun, check_failed, emit_all, flush_if_known, give};
+use super::{Setting, UNSET, begun, check_failed, check_refused, emit_all, flush_if_known, give};
 use std::alloc::Global;
 use std::process::Abort;
 use std::test::Fail;
@@ -68,7 +68,7 @@ fn check_flush_after_each(rt: &impl Abort, alloc: Global, turns: Turns) -> Resul
     for count in 0..=turns.len() {
         check_flush_after(rt, alloc, turns, count)?;
     }
-    check_turns(rt, alloc, turns)
+    Ok(())
 }
 
 // Each growth is refused in turn.
@@ -108,15 +108,28 @@ fn a_flush_hands_out_what_is_ready(rt: HostRuntime) -> Result<(), Fail> {
         (DocumentEnd, "", 0),
         (StreamEnd, "...\n", 0),
     ];
-    check_flush_after_each(&rt, rt.alloc(), turns)
+    check_flush_after_each(&rt, rt.alloc(), turns)?;
+    check_turns(&rt, rt.alloc(), turns)
+}
+
+// Events, each with all that is handed out after it.
+fn check_outputs(
+    rt: &impl Abort,
+    alloc: Global,
+    emitter: &mut yaml_emitter_t<Global>,
+    rows: &[(Given, &str)],
+) -> Result<(), Fail> {
+    for (given, text) in rows {
+        assert_eq!(rt; give(rt, emitter, event(alloc, given)?), Ok(()));
+        assert_eq!(rt; emitter.output(), text.as_bytes());
+    }
+    Ok(())
 }
 
 // Without a flush of the caller's only the ends of documents and of the stream hand out.
 #[test]
 fn an_emit_hands_out_at_the_end_of_a_document(rt: HostRuntime) -> Result<(), Fail> {
-    let alloc = rt.alloc();
-    let mut emitter = begun(alloc, &UNSET)?;
-    for (given, text) in [
+    let rows = [
         (Stream, ""),
         (Document, ""),
         (FlowSequence, ""),
@@ -128,57 +141,82 @@ fn an_emit_hands_out_at_the_end_of_a_document(rt: HostRuntime) -> Result<(), Fai
         (Text("c"), "[a, b]\n"),
         (DocumentEnd, "[a, b]\n--- c\n"),
         (StreamEnd, "[a, b]\n--- c\n"),
-    ] {
-        assert_eq!(rt; give(&rt, &mut emitter, event(alloc, &given)?), Ok(()));
-        assert_eq!(rt; emitter.output(), text.as_bytes());
-    }
+    ];
+    let mut emitter = begun(rt.alloc(), &UNSET)?;
+    check_outputs(&rt, rt.alloc(), &mut emitter, &rows)
+}
+
+// Events and a flush.
+fn flush_after(
+    rt: &impl Abort,
+    alloc: Global,
+    emitter: &mut yaml_emitter_t<Global>,
+    events: &[Given],
+) -> Result<(), Fail> {
+    emit_all(rt, alloc, emitter, events)?;
+    assert_eq!(rt; flush_if_known(rt, emitter), Ok(()));
+    Ok(())
+}
+
+// The outer sequence has an anchor, which is written before the inner one is known.
+fn nest_sequences(
+    rt: &impl Abort,
+    alloc: Global,
+    emitter: &mut yaml_emitter_t<Global>,
+) -> Result<(), Fail> {
+    let outer = AnchoredSequence("a");
+    let events = [Stream, Document, outer, FlowSequence, Text("x")];
+    flush_after(rt, alloc, emitter, &events)?;
+    check_output(rt, emitter, "&a", 2);
+    let rest = [SequenceEnd, SequenceEnd, DocumentEnd, StreamEnd];
+    emit_all(rt, alloc, emitter, &rest)?;
+    check_output(rt, emitter, "&a [[x]]\n", 0);
     Ok(())
 }
 
 #[test]
 fn a_flow_sequence_waits_for_two_events(rt: HostRuntime) -> Result<(), Fail> {
-    let alloc = rt.alloc();
-    let mut emitter = begun(alloc, &UNSET)?;
-    let outer = AnchoredSequence("a");
-    let events = [Stream, Document, outer, FlowSequence, Text("x")];
-    assert_eq!(rt; emit_all(&rt, alloc, &mut emitter, &events)?, None);
-    assert_eq!(rt; flush_if_known(&rt, &mut emitter), Ok(()));
-    check_output(&rt, &emitter, "&a", 2);
-    let rest = [SequenceEnd, SequenceEnd, DocumentEnd, StreamEnd];
-    assert_eq!(rt; emit_all(&rt, alloc, &mut emitter, &rest)?, None);
-    check_output(&rt, &emitter, "&a [[x]]\n", 0);
-    Ok(())
+    let mut emitter = begun(rt.alloc(), &UNSET)?;
+    nest_sequences(&rt, rt.alloc(), &mut emitter)
 }
 
 #[test]
 fn a_canonical_item_is_handed_out_without_its_comma(rt: HostRuntime) -> Result<(), Fail> {
-    let alloc = rt.alloc();
     let setting = Setting {
         canonical: true,
         width: -1,
         ..UNSET
     };
-    let mut emitter = begun(alloc, &setting)?;
     let events = [Stream, Document, BlockSequence, Text("a"), Text("b")];
-    assert_eq!(rt; emit_all(&rt, alloc, &mut emitter, &events)?, None);
-    assert_eq!(rt; flush_if_known(&rt, &mut emitter), Ok(()));
+    let mut emitter = begun(rt.alloc(), &setting)?;
+    flush_after(&rt, rt.alloc(), &mut emitter, &events)?;
     check_output(&rt, &emitter, "---\n[\n  \"a\",\n  \"b\"", 0);
     Ok(())
 }
 
-// What was written before a refused event can no longer be handed out.
-fn check_wrong_place(rt: &impl Abort, alloc: Global, flushed: bool) -> Result<(), Fail> {
+// A document that ends within a sequence: what was written before can no longer be handed out.
+fn end_too_soon(
+    rt: &impl Abort,
+    alloc: Global,
+    emitter: &mut yaml_emitter_t<Global>,
+    flushed: bool,
+) -> Result<(), Fail> {
     let events = [Stream, Document, FlowSequence, Text("a"), Text("b")];
-    let mut emitter = begun(alloc, &UNSET)?;
-    assert_eq!(rt; emit_all(rt, alloc, &mut emitter, &events)?, None);
     if flushed {
-        assert_eq!(rt; flush_if_known(rt, &mut emitter), Ok(()));
+        flush_after(rt, alloc, emitter, &events)?;
+    } else {
+        emit_all(rt, alloc, emitter, &events)?;
     }
-    let answer = give(rt, &mut emitter, event(alloc, &DocumentEnd)?);
-    assert_eq!(rt; answer, Err(yaml_error_t::ExpectedNode));
-    check_failed(rt, &mut emitter, yaml_error_t::ExpectedNode);
-    check_output(rt, &emitter, if flushed { "[a, b" } else { "" }, 0);
+    let end = event(alloc, &DocumentEnd)?;
+    check_refused(rt, emitter, end, yaml_error_t::ExpectedNode);
+    check_failed(rt, emitter, yaml_error_t::ExpectedNode);
+    check_output(rt, emitter, if flushed { "[a, b" } else { "" }, 0);
     Ok(())
+}
+
+fn check_wrong_place(rt: &impl Abort, alloc: Global, flushed: bool) -> Result<(), Fail> {
+    let mut emitter = begun(alloc, &UNSET)?;
+    end_too_soon(rt, alloc, &mut emitter, flushed)
 }
 
 #[test]
@@ -187,19 +225,26 @@ fn an_event_in_a_wrong_place_ends_the_output(rt: HostRuntime) -> Result<(), Fail
     check_wrong_place(&rt, rt.alloc(), false)
 }
 
+// Three bytes where the limit is two.
+fn flush_too_much(
+    rt: &impl Abort,
+    alloc: Global,
+    emitter: &mut yaml_emitter_t<Global>,
+) -> Result<(), Fail> {
+    emit_all(rt, alloc, emitter, &[Stream, Document, Text("foo")])?;
+    check_output(rt, emitter, "", 0);
+    let error = yaml_error_t::WriteError;
+    assert_eq!(rt; flush_if_known(rt, emitter), Err(error));
+    check_failed(rt, emitter, error);
+    check_output(rt, emitter, "fo", 0);
+    Ok(())
+}
+
 #[test]
 fn a_flush_past_the_limit_is_refused(rt: HostRuntime) -> Result<(), Fail> {
-    let alloc = rt.alloc();
-    let error = yaml_error_t::WriteError;
     let setting = Setting { limit: 2, ..UNSET };
-    let mut emitter = begun(alloc, &setting)?;
-    let events = [Stream, Document, Text("foo")];
-    assert_eq!(rt; emit_all(&rt, alloc, &mut emitter, &events)?, None);
-    assert_eq!(rt; emitter.output(), b"".as_slice());
-    assert_eq!(rt; flush_if_known(&rt, &mut emitter), Err(error));
-    check_failed(&rt, &mut emitter, error);
-    assert_eq!(rt; emitter.output(), b"fo".as_slice());
-    Ok(())
+    let mut emitter = begun(rt.alloc(), &setting)?;
+    flush_too_much(&rt, rt.alloc(), &mut emitter)
 }
 
 // A stream that waits for its start has handed out nothing.
@@ -221,10 +266,7 @@ fn check_early_flush(
     let setting = Setting { encoding, ..UNSET };
     let mut emitter = begun(alloc, &setting)?;
     check_unstarted(rt, &mut emitter);
-    assert_eq!(rt;
-        emit_all(rt, alloc, &mut emitter, &[Stream, StreamEnd])?,
-        None
-    );
+    emit_all(rt, alloc, &mut emitter, &[Stream, StreamEnd])?;
     assert!(rt; emitter.is_started());
     assert_eq!(rt; emitter.output(), output);
     Ok(())

@@ -1,4 +1,0 @@
-//! Rows of private functions.
-mod anchors;
-mod events;
-mod walks;
