@@ -18,7 +18,7 @@ use Rattle.yaml_base.specs.Plain.{plain_laid}
 use Rattle.yaml_base.specs.Refusal.{scalar_tag}
 use Rattle.yaml_base.specs.Settings.{Effective}
 use Rattle.yaml_base.specs.SingleQuoted.{single_quoted_laid}
-use Rattle.yaml_base.specs.Style.{Choice, style_fitting, style_quoted}
+use Rattle.yaml_base.specs.Style.{Choice, chosen, fits_plain, is_plain, style_asked, style_fitting, style_quoted}
 use Rattle.yaml_base.specs.Tags.{Spelling, spelling}
 use Rattle.yaml_base.specs.declared.errors.yaml_error_t.{yaml_error_t}
 use Rattle.yaml_pen.specs.Page.{Page, natural}
@@ -135,6 +135,26 @@ chosen_fits s place simple content =
     fitting_fits (allowances charset content.value) _ _ _ content.value simple
     (λ fits. both (allows_block charset content.value) (not place.in_flow) (not simple) (not (is_empty content.value)) fits
     (not_either (is_empty content.value) (somewhere (bars_block charset) content.value)))
+
+-- where double quotes are asked for in any case, the style doesn't depend on what the value allows
+surely_asked : (canonical other : Bool) (asked : ScalarStyle) → style_asked canonical asked ≡ double_quoted → style_asked (canonical || other) asked ≡ double_quoted
+surely_asked true other asked h = h
+surely_asked false true asked h = refl
+surely_asked false false asked h = h
+
+pub chosen_surely : (one two : Allowances) (asked : ScalarStyle) (empty tag_written plain_implicit quoted_implicit flow simple canonical : Bool)
+    → style_asked canonical asked ≡ double_quoted
+    → chosen one asked empty tag_written plain_implicit quoted_implicit flow simple canonical
+    ≡ chosen two asked empty tag_written plain_implicit quoted_implicit flow simple canonical
+chosen_surely one two asked empty tag_written plain_implicit quoted_implicit flow simple canonical h =
+    let whole : ScalarStyle → Choice = λ style. record { style = style; bare = not tag_written && not quoted_implicit && not (is_plain style) } in
+    let style : Allowances → ScalarStyle =
+    λ a. style_fitting a (fits_plain a empty tag_written plain_implicit flow simple) (a.block && not flow && not simple)
+    (style_asked (canonical || (simple && a.multiline)) asked) in
+    let by : (a : Allowances) → style a ≡ double_quoted =
+    λ a. ap (style_fitting a (fits_plain a empty tag_written plain_implicit flow simple) (a.block && not flow && not simple))
+    (surely_asked canonical (simple && a.multiline) asked h) in
+    ap whole (by one ∙ sym (by two))
 
 module _ (s : Effective) (directives : List TagDirective) (place : Place) (simple : Bool) (content : Scalar) where
   -- what stands before a scalar's text, its tag as it is spelled, and the text

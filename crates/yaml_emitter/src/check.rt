@@ -79,6 +79,7 @@ fn check_tag<A: Allocator>(tag: &Option<String<A>>) -> Result<(), yaml_error_t>
     }
 }
 
+#[inline(never)]
 fn check_tag_text(tag: &str) -> Result<(), yaml_error_t>
     ensures { refused result ≡ tag_fault (chars tag.now) }
 {

@@ -101,6 +101,7 @@ impl<A: Allocator + Copy> yaml_emitter_t<A> {
     }
 
     /// Puts an event behind those that wait. Where at most three wait, it needs no memory.
+    #[inline(never)]
     fn enqueue(&mut self, event: yaml_event_t<A>) -> Result<(), yaml_error_t>
         requires output { self.old.has_output ≡ true }
         requires no_error { self.old.error ≡ None }
@@ -141,6 +142,7 @@ impl<A: Allocator + Copy> yaml_emitter_t<A> {
     }
 
     /// Writes the events that are ready, in order, up to the first error.
+    #[inline(never)]
     fn write_ready(&mut self) -> Result<(), yaml_error_t>
         requires output { self.old.has_output ≡ true }
         requires no_error { self.old.error ≡ None }
@@ -192,6 +194,7 @@ impl<A: Allocator + Copy> yaml_emitter_t<A> {
     }
 
     /// The first error is kept for good, and the events that wait are dropped.
+    #[inline(never)]
     fn fail(&mut self, error: yaml_error_t)
         ensures { self.new ≡ failed_by error self.old }
     {

@@ -86,6 +86,7 @@ impl<A: Allocator + Copy> yaml_emitter_t<A> {
         }
     }
 
+    #[inline(never)]
     fn put_alias(&mut self, name: &str) -> Result<(), yaml_error_t>
         requires stage { is_at_node self.old.stage ≡ true }
         requires names { name_or_tag_fault self.old.given.canonical (alias (chars name.now)) ≡ None }
@@ -126,6 +127,7 @@ impl<A: Allocator + Copy> yaml_emitter_t<A> {
     }
 
     /// Memory for what is open is asked for first: where it is refused, nothing of the start is written.
+    #[inline(never)]
     fn start_collection(
         &mut self,
         content: &CollectionContent,
@@ -173,6 +175,7 @@ impl<A: Allocator + Copy> yaml_emitter_t<A> {
         Ok(())
     }
 
+    #[inline(never)]
     fn end_collection(&mut self, mapping: bool) -> Result<(), yaml_error_t>
         requires stage { is_at_node self.old.stage ≡ true }
         ensures { (empty : Bool) → Processed (end_event mapping) empty self.old self.new result }

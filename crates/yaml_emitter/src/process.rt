@@ -51,6 +51,7 @@ impl<A: Allocator + Copy> yaml_emitter_t<A> {
     }
 
     /// Where the stream must start.
+    #[inline(never)]
     pub(crate) fn expect_stream_start(
         &mut self,
         event: &yaml_event_t<A>,
@@ -67,6 +68,7 @@ impl<A: Allocator + Copy> yaml_emitter_t<A> {
     }
 
     /// Where a document or the stream's end must stand.
+    #[inline(never)]
     pub(crate) fn expect_document(
         &mut self,
         first: bool,
@@ -93,6 +95,7 @@ impl<A: Allocator + Copy> yaml_emitter_t<A> {
     }
 
     /// Where a document must end.
+    #[inline(never)]
     pub(crate) fn expect_document_end(
         &mut self,
         event: &yaml_event_t<A>,
@@ -108,6 +111,7 @@ impl<A: Allocator + Copy> yaml_emitter_t<A> {
     }
 
     /// Behind the stream's end.
+    #[inline(never)]
     pub(crate) fn expect_nothing(&mut self, event: &yaml_event_t<A>) -> Result<(), yaml_error_t>
         requires stage { self.old.stage ≡ at_nothing }
         requires names { name_or_tag_fault self.old.given.canonical (seen_event event.now) ≡ None }

@@ -1,17 +1,13 @@
 -- A new line is a break where one is needed, and then spaces.
-use Rattle.std.proofs.Common.{◌≡◌, sym, ◌∙◌, ap, ℕ, ◌+◌, ◌-◌, ◌≤◌, zero, suc, Bool, inl, inr, [], ◌∷◌, ◌++◌, replicate, if◌then◌else◌, arith}
+use Rattle.std.proofs.Common.{◌≡◌, sym, ◌∙◌, ap, true, ℕ, ◌+◌, ◌-◌, ◌≤◌, zero, suc, Bool, inl, inr, [], ◌∷◌, ◌++◌, replicate, if◌then◌else◌, arith}
 use Rattle.std.proofs.lemmas.Bool.{cases_Bool, or_parts, ltb-false}
 use Rattle.yaml_base.specs.Characters.{Text, line_feed, space}
 use Rattle.yaml_base.specs.Cursor.{Cursor, Laid, then_laid, nothing_laid, text_laid, new_line, breaks_line, column_after}
-use Rattle.yaml_pen.specs.Lines.{line_break_laid, spaces_to}
+use Rattle.yaml_pen.specs.Lines.{line_begun, line_break_laid, spaces_to}
 
 pub column_after-spaces : (count column : ℕ) → column_after (replicate count space) column ≡ column + count
 column_after-spaces zero column = omega arith
 column_after-spaces (suc count) column = column_after-spaces count (column + 1) ∙ omega arith
-
--- the line that is begun, with the flags that were there
-abbrev pub line_begun : ℕ → Cursor → Laid
-line_begun at cursor = record { text = (new_line at cursor).text; cursor = record cursor { column = at } }
 
 spaces_at : (count at : ℕ) (front : Text) (cursor : Cursor) (column : ℕ) → column + count ≡ at
     → let l : Laid = record { text = front ++ replicate count space; cursor = record cursor { column = column_after (replicate count space) column } } in
@@ -38,3 +34,12 @@ break-then-spaces at cursor =
           let below : cursor.column ≤ at = ltb-false _ _ (or_parts _ _ (or_parts _ _ goes).0).1 in
           ap F goes ∙ spaces_at (at - cursor.column) at [] cursor cursor.column (omega arith) ∙ sym (ap G goes)
     ]
+
+-- where the line is broken, it is the text of a break and of spaces
+pub broken_begun : (at : ℕ) (cursor : Cursor) → breaks_line at cursor ≡ true → text_laid (line_feed ∷ replicate at space) cursor ≡ line_begun at cursor
+broken_begun at cursor breaks =
+    spaces_at at at (line_feed ∷ []) cursor 0 (omega arith)
+    ∙ ap (λ (b : Bool). let l : Laid = record {
+      text = if b then line_feed ∷ replicate at space else replicate (at - cursor.column) space;
+      cursor = record cursor { column = at };
+    } in l) (sym breaks)

@@ -1,10 +1,15 @@
 -- Spaces are characters of ASCII, and none is a break.
-use Rattle.std.proofs.Common.{◌≡◌, ◌<◌, refl, false, ℕ, zero, suc, replicate, arith}
+use Rattle.std.proofs.Common.{◌≡◌, ◌<◌, ◌∙◌, ◌∷◌, refl, ap, false, ℕ, zero, suc, replicate, arith}
 use Rattle.std.proofs.lemmas.List.Elements.{All-replicate}
 use Rattle.std.proofs.lemmas.Str.Ascii.{IsAscii-from_all}
 use Rattle.std.specs.List.{list_any}
 use Rattle.std.specs.Str.{IsAscii}
-use Rattle.yaml_base.specs.Characters.{is_break, space}
+use Rattle.yaml_base.specs.Characters.{is_break, line_feed, space}
+use Rattle.yaml_base.specs.Cursor.{text_laid}
+use Rattle.yaml_base.specs.LineBreaks.{with_breaks_written}
+use Rattle.yaml_base.specs.Settings.{LineBreak, line_feed_break}
+use Rattle.yaml_pen.specs.Page.{Page}
+use Rattle.yaml_pen.proofs.Writing.{Names, unbroken-written}
 
 -- each is below 128
 pub spaces_ascii : (count : ℕ) → IsAscii (replicate count space)
@@ -14,3 +19,17 @@ spaces_ascii count = IsAscii-from_all (replicate count space) (All-replicate (λ
 pub spaces_unbroken : (count : ℕ) → list_any is_break (replicate count space) ≡ false
 spaces_unbroken zero = refl
 spaces_unbroken (suc count) = spaces_unbroken count
+
+-- LF and spaces are of ASCII, and stand as they are where LF does
+pub line_start_ascii : (count : ℕ) → IsAscii (line_feed ∷ replicate count space)
+line_start_ascii count zero = omega arith
+line_start_ascii count (suc i) = spaces_ascii count i
+
+pub line_start_names : (count : ℕ) (page : Page) → page.line_break ≡ line_feed_break
+    → Names (line_feed ∷ replicate count space) (text_laid (line_feed ∷ replicate count space)) page
+line_start_names count page is =
+    record {
+      text = ap (λ (b : LineBreak). with_breaks_written b (line_feed ∷ replicate count space)) is
+          ∙ ap (λ l. line_feed ∷ l) (unbroken-written line_feed_break (replicate count space) (spaces_unbroken count));
+      cursor = refl;
+    }

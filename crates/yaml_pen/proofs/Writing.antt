@@ -209,7 +209,7 @@ utf8-bytes bytes is = sym (encodes-chars bytes is) ∙ encodes-bytes (chars byte
 pub line_feed-break : (c : ℕ) → is_break c ≡ false → (c == line_feed) ≡ false
 line_feed-break c other = (or_parts _ _ (or_parts _ _ (or_parts _ _ (or_parts _ _ other).0).0).0).0
 
-unbroken-written : (setting : LineBreak) (text : Text) → list_any is_break text ≡ false → with_breaks_written setting text ≡ text
+pub unbroken-written : (setting : LineBreak) (text : Text) → list_any is_break text ≡ false → with_breaks_written setting text ≡ text
 unbroken-written setting [] none = refl
 unbroken-written setting (c ∷ rest) none =
     let p = or_parts _ _ none in

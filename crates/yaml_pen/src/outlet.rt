@@ -69,6 +69,7 @@ impl<A: Allocator> Outlet<A> {
     }
 
     /// Empties the buffer into the output.
+    #[inline(never)]
     pub(crate) fn flush(&mut self) -> Result<(), yaml_error_t>
         ensures emptied { Emptied self.old self.new result }
         ensures output { IsPrefix self.old.output self.new.output }

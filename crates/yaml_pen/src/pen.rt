@@ -9,7 +9,7 @@ ghost use Rattle.yaml_base.specs.Encoding.{encode};
 ghost use Rattle.yaml_base.specs.Seen.{seen_encoding, seen_break};
 ghost use Rattle.yaml_pen.specs.Page.{buffer_size, Page, IsUntouched, IsReady, IsHandedOut, encoded, has_mark, new_page, natural};
 ghost use Rattle.yaml_pen.specs.Wrote.{Wrote, Flushed};
-ghost use Rattle.yaml_pen.specs.Lines.{line_break_laid, spaces_to};
+ghost use Rattle.yaml_pen.specs.Lines.{line_begun, line_break_laid, spaces_to};
 
 use crate::counting::{character_count, next_column};
 use crate::encoded::{encoded_break, encoded_character};
@@ -20,6 +20,8 @@ use yaml_base::{yaml_break_t, yaml_encoding_t, yaml_error_t};
 
 /// So many spaces are written at once.
 const MOST_SPACES: u32 = 64;
+/// LF, and as many spaces.
+static LINE_START: [u8; 65] = *b"\n                                                                ";
 
 /// Writes characters in an encoding through a buffer of 16,384 bytes to an output that it owns, and
 /// keeps the cursor. A call that writes, or a flush, answers `WriteError` where the encoded text passes
@@ -319,11 +321,62 @@ impl<A: Allocator> Pen<A> {
         ensures written { Wrote (new_line at) self.old self.new result }
         ensures stays { IsSome self.old.error → self.new ≡ self.old }
     {
-        self.break_line(at)?;
-        self.write_spaces_to(at)?;
+        self.go_to_line(at)?;
         self.set_whitespace(true);
         self.set_indention(true);
         Ok(())
+    }
+
+    // The line's start, the cursor's flags left as they are.
+    #[inline(always)]
+    fn go_to_line(&mut self, at: u32) -> Result<(), yaml_error_t>
+        requires ready { IsReady self.old }
+        requires below { at < 2147483648 }
+        ensures written { Wrote (line_begun at) self.old self.new result }
+        ensures stays { IsSome self.old.error → self.new ≡ self.old }
+    {
+        if self.starts_at_once(at) {
+            self.write_line_start(at)
+        } else {
+            self.break_and_indent(at)
+        }
+    }
+
+    // A break is needed, and it is one byte as the spaces are.
+    #[inline(always)]
+    fn starts_at_once(&self, at: u32) -> bool
+        requires { at < 2147483648 }
+        ensures breaks { result ≡ true → breaks_line at self.now.cursor ≡ true }
+        ensures few { result ≡ true → at ≤ 64 }
+        ensures unmarked { result ≡ true → has_mark self.now.encoding ≡ false }
+        ensures line_feed { result ≡ true → self.now.line_break ≡ line_feed_break }
+    {
+        at <= MOST_SPACES && self.breaks_line(at) && !has_mark(self.encoding) && is_line_feed(self.line_break)
+    }
+
+    fn write_line_start(&mut self, at: u32) -> Result<(), yaml_error_t>
+        requires ready { IsReady self.old }
+        requires breaks { breaks_line at self.old.cursor ≡ true }
+        requires few { at ≤ 64 }
+        requires unmarked { has_mark self.old.encoding ≡ false }
+        requires line_feed { self.old.line_break ≡ line_feed_break }
+        ensures written { Wrote (line_begun at) self.old self.new result }
+        ensures stays { IsSome self.old.error → self.new ≡ self.old }
+    {
+        self.outlet.append(&LINE_START[..at as usize + 1])?;
+        self.column = at;
+        Ok(())
+    }
+
+    #[inline(never)]
+    fn break_and_indent(&mut self, at: u32) -> Result<(), yaml_error_t>
+        requires ready { IsReady self.old }
+        requires below { at < 2147483648 }
+        ensures written { Wrote (line_begun at) self.old self.new result }
+        ensures stays { IsSome self.old.error → self.new ≡ self.old }
+    {
+        self.break_line(at)?;
+        self.write_spaces_to(at)
     }
 
     // Breaks the line where a new line at this column needs it.
@@ -380,6 +433,7 @@ impl<A: Allocator> Pen<A> {
     }
 
     // One space after another.
+    #[inline(never)]
     fn write_many_spaces(&mut self, count: u32) -> Result<(), yaml_error_t>
         requires ready { IsReady self.old }
         ensures written { Wrote (text_laid (replicate count space)) self.old self.new result }
@@ -400,13 +454,14 @@ impl<A: Allocator> Pen<A> {
         ensures stays { IsSome self.old.error → self.new ≡ self.old }
     {
         if need_whitespace && !self.whitespace {
-            self.write_character(' ')
+            self.put(b' ')
         } else {
             self.go_on()
         }
     }
 
     // One character after another.
+    #[inline(never)]
     fn write_characters(&mut self, text: &str) -> Result<(), yaml_error_t>
         requires ready { IsReady self.old }
         requires no_break { list_any is_break (chars text.now) ≡ false }
@@ -454,6 +509,7 @@ impl<A: Allocator> Pen<A> {
     }
 
     // In UTF-16.
+    #[inline(never)]
     fn write_ascii_characters(&mut self, text: &[u8]) -> Result<(), yaml_error_t>
         requires ready { IsReady self.old }
         requires ascii { IsAscii text.now }
@@ -515,5 +571,15 @@ fn has_mark(encoding: yaml_encoding_t) -> bool
     matches!(
         encoding,
         yaml_encoding_t::YAML_UTF16LE_ENCODING | yaml_encoding_t::YAML_UTF16BE_ENCODING
+    )
+}
+
+/// A break is written as LF; a setting of ANY is taken for LF.
+fn is_line_feed(line_break: yaml_break_t) -> bool
+    ensures { result ≡ true → unwrap_or (seen_break line_break) line_feed_break ≡ line_feed_break }
+{
+    !matches!(
+        line_break,
+        yaml_break_t::YAML_CR_BREAK | yaml_break_t::YAML_CRLN_BREAK
     )
 }

@@ -11,7 +11,7 @@ use Rattle.yaml_base.specs.Characters.{Text, is_among, is_break, is_space, space
 use Rattle.yaml_scalar.specs.Barred.{Barred, barred_by, barred_by_space, barred_in, either, is_quiet, none_barred}
 use Rattle.yaml_scalar.specs.WholeRuns.{last_from}
 
-or_none : (b : Bool) → (b || false) ≡ b
+pub or_none : (b : Bool) → (b || false) ≡ b
 or_none true = refl
 or_none false = refl
 

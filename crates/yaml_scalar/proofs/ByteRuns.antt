@@ -2,18 +2,44 @@
 use Rattle.std.proofs.Common.{◌≡◌, refl, sym, ap, subst, ◌∙◌, arith, inl, inr, true≢false, IsUtf8}
 use Rattle.std.proofs.lemmas.Bool.{agree_below, agree_below_at, and_from, and_parts, cases_lt, eqb-true, le-ltb, lt-ltb}
 use Rattle.std.proofs.lemmas.Bool.Decides.{nat_tests}
+use Rattle.std.proofs.lemmas.List.{take_more}
 use Rattle.std.proofs.lemmas.List.Folds.{list_all-append}
 use Rattle.std.proofs.lemmas.Str.{IsUtf8-take, chars_from_encodes, encode_ascii}
 use Rattle.std.specs.Int.Bits.{bit_and}
 use Rattle.std.specs.List.{list_all}
-use Rattle.std.specs.Prelude.{ℕ, Bool, true, false, List, [], ◌∷◌, ◌==◌, ◌||◌, ◌&&◌, not, ◌+◌, ◌-◌, ◌/◌, ◌%◌, ◌<◌, ◌≤◌, ◌⊎◌, codes, slice_index, take}
+use Rattle.std.specs.Prelude.{ℕ, Bool, true, false, List, [], ◌∷◌, ◌==◌, ◌||◌, ◌&&◌, not, ◌+◌, ◌-◌, ◌/◌, ◌%◌, ◌<◌, ◌≤◌, ◌⊎◌, codes, length, slice_index, take}
 use Rattle.std.specs.Str.{IsCharBoundary, chars}
 use lib.Utf8.{scalar, scalars, encode, encodes, next, scalar_cases}
 use Rattle.yaml_base.specs.Characters.{Text, is_among, is_break, is_printable}
 use Rattle.yaml_scalar.specs.Barred.{is_quiet}
 use Rattle.yaml_scalar.specs.declared.classes.TheConstants.{CLASSES}
-use Rattle.yaml_scalar.specs.ByteClasses.{IsFreeRun, Tells, is_free}
+use Rattle.yaml_scalar.specs.ByteClasses.{IsFreeRun, Tells, four_are_free, is_free}
 use Rattle.yaml_scalar.specs.WholeRuns.{IsRun, last_from, stays_in_line, stays_where}
+
+-- one byte more, and four
+free_more : (classes : ℕ) (bytes : List ℕ) (place : ℕ) → place < length bytes → is_free classes (slice_index bytes place) ≡ true
+    → list_all (is_free classes) (take place bytes) ≡ true → list_all (is_free classes) (take (place + 1) bytes) ≡ true
+free_more classes bytes place within free all =
+    ap (list_all (is_free classes)) (take_more bytes place 0 within)
+    ∙ list_all-append (is_free classes) (take place bytes) (slice_index bytes place ∷ [])
+    ∙ and_from _ _ all (and_from _ true free refl)
+
+pub free_four : (classes : ℕ) (bytes : List ℕ) (place : ℕ) → place + 4 ≤ length bytes → four_are_free classes bytes place ≡ true
+    → list_all (is_free classes) (take place bytes) ≡ true → list_all (is_free classes) (take (place + 4) bytes) ≡ true
+free_four classes bytes place within four_free all =
+    let p = and_parts (is_free classes (slice_index bytes place) && is_free classes (slice_index bytes (place + 1))
+        && is_free classes (slice_index bytes (place + 2))) (is_free classes (slice_index bytes (place + 3))) four_free in
+    let q = and_parts (is_free classes (slice_index bytes place) && is_free classes (slice_index bytes (place + 1)))
+        (is_free classes (slice_index bytes (place + 2))) p.0 in
+    let r = and_parts (is_free classes (slice_index bytes place)) (is_free classes (slice_index bytes (place + 1))) q.0 in
+    let one = free_more classes bytes place (omega arith) r.0 all in
+    let two = free_more classes bytes (place + 1) (omega arith) r.1 one in
+    let second : place + 1 + 1 ≡ place + 2 = omega arith in
+    let three = free_more classes bytes (place + 2) (omega arith) q.1 (subst (λ n. list_all (is_free classes) (take n bytes) ≡ true) second two) in
+    let third : place + 2 + 1 ≡ place + 3 = omega arith in
+    let four = free_more classes bytes (place + 3) (omega arith) p.1 (subst (λ n. list_all (is_free classes) (take n bytes) ≡ true) third three) in
+    let fourth : place + 3 + 1 ≡ place + 4 = omega arith in
+    subst (λ n. list_all (is_free classes) (take n bytes) ≡ true) fourth four
 
 -- a byte that goes on with a character is of no class
 inside_free : (classes b : ℕ) → 128 ≤ b → b < 192 → is_free classes b ≡ true
@@ -62,7 +88,7 @@ ascii_tells classes test computed c low free =
     sym (ap (λ b. not b || test c) one.0) ∙ agree_below_at (λ b. not (is_free classes b) || test b) (λ b. true) 128 c computed low
 
 -- a character past ASCII by the first of its bytes
-false_unless : (b : Bool) → (b ≡ true → ⊥) → b ≡ false
+pub false_unless : (b : Bool) → (b ≡ true → ⊥) → b ≡ false
 false_unless true h = absurd (h refl)
 false_unless false h = refl
 

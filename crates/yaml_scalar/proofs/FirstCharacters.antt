@@ -1,9 +1,13 @@
 -- A text's first characters, as they are taken one after another.
-use Rattle.std.proofs.Common.{◌≡◌, ℕ, List, [], ◌∷◌, ◌++◌, length, IsUtf8, chars}
+use Rattle.std.proofs.Common.{◌≡◌, ◌∙◌, refl, sym, ap, true≢false, ℕ, List, [], ◌∷◌, ◌++◌, length, IsUtf8, chars}
+use Rattle.std.proofs.lemmas.Bool.{eqb-true}
 use Rattle.std.proofs.lemmas.Str.{IsUtf8-past_char, chars-nil, chars_past_char}
 use Rattle.std.specs.Char.{encode_utf8}
-use Rattle.std.specs.Prelude.{false, ◌==◌, ◌||◌, ◌&&◌}
-use Rattle.yaml_base.specs.Analysis.{begins_like_mark}
+use Rattle.std.specs.Prelude.{true, false, ◌==◌, ◌||◌, ◌&&◌}
+use Rattle.yaml_base.specs.Analysis.{begins_like_mark, begins_unlike_plain}
+use Rattle.yaml_base.specs.Characters.{Text}
+use Rattle.yaml_scalar.specs.Barred.{is_ordinary}
+use Rattle.yaml_scalar.proofs.ByteRuns.{false_unless}
 
 no-characters : (bs : List ℕ) → length bs ≡ 0 → chars bs ≡ []
 no-characters [] e = chars-nil
@@ -27,3 +31,40 @@ mark-of-two bs r₁ r₂ a b u e₁ e₂ e₃ =
 pub mark-of-one : (bs r₁ : List ℕ) (a : ℕ) → IsUtf8 bs → bs ≡ encode_utf8 a ++ r₁ → length r₁ ≡ 0
     → false ≡ begins_like_mark (chars bs)
 mark-of-one bs r₁ a u e₁ e₂ = rw (chars_past_char bs r₁ a u e₁, no-characters r₁ e₂)
+
+-- a letter or a digit is no other character
+other_than : (c k : ℕ) → is_ordinary c ≡ true → is_ordinary k ≡ false → (c == k) ≡ false
+other_than c k h e = false_unless (c == k) (λ same. true≢false (sym h ∙ ap is_ordinary (eqb-true c k same) ∙ e))
+
+no_mark : (c : ℕ) (rest : Text) → (c == 45) ≡ false → (c == 46) ≡ false → begins_like_mark (c ∷ rest) ≡ false
+no_mark c [] e f = refl
+no_mark c (a ∷ []) e f = refl
+no_mark c (a ∷ b ∷ rest) e f = rw (e, f)
+
+-- so a text that begins with one begins as plain text may
+pub ordinary_plain : (c : ℕ) (rest : Text) → is_ordinary c ≡ true → begins_unlike_plain (c ∷ rest) ≡ false
+ordinary_plain c rest h =
+    let other : (k : ℕ) → is_ordinary k ≡ false → (c == k) ≡ false = λ k e. other_than c k h e in
+    rw (
+      other 32 refl,
+      no_mark c rest (other 45 refl) (other 46 refl),
+      other 35 refl,
+      other 44 refl,
+      other 91 refl,
+      other 93 refl,
+      other 123 refl,
+      other 125 refl,
+      other 38 refl,
+      other 42 refl,
+      other 33 refl,
+      other 124 refl,
+      other 62 refl,
+      other 39 refl,
+      other 34 refl,
+      other 37 refl,
+      other 64 refl,
+      other 96 refl,
+      other 63 refl,
+      other 58 refl,
+      other 45 refl,
+    )

@@ -1,20 +1,24 @@
 -- Characters between double quotes whose texts are written at once: they are of ASCII, and none becomes a fold.
-use Rattle.std.proofs.Common.{◌≡◌, ◌∙◌, refl, ap, sym, append_assoc, append-nil, arith}
+use Rattle.std.proofs.Common.{◌≡◌, ◌∙◌, refl, ap, sym, subst, append_assoc, append-nil, arith, Result, Ok, Err, IsErr, IsErrAnd, chars}
+use Rattle.std.specs.Borrow.{Bor}
 use Rattle.std.proofs.lemmas.Bool.{and_from, and_parts, not-true}
 use Rattle.std.proofs.lemmas.Bool.Decides.{nat_tests}
 use Rattle.std.proofs.lemmas.List.Folds.{list_all-append}
+use Rattle.std.proofs.lemmas.Result.{err_from_is_err_and}
 use Rattle.std.specs.List.{list_all}
 use Rattle.std.specs.Prelude.{ℕ, Bool, true, false, Option, Some, List, [], ◌∷◌, ◌++◌, ◌||◌, ◌&&◌, not, nat_lt, if◌then◌else◌}
 use Rattle.yaml_base.specs.Characters.{Text, is_ascii, is_space}
 use Rattle.yaml_base.specs.Cursor.{Cursor, Laid, column_after, is_past_width, text_laid, then_laid}
 use Rattle.yaml_base.specs.DoubleQuoted.{character_text, double_fold, double_inside, escape_text, may_fold, needs_escape}
 use Rattle.yaml_pen.proofs.Writing.{column_after-append}
+use Rattle.yaml_base.specs.declared.errors.yaml_error_t.{yaml_error_t}
 use Rattle.yaml_pen.specs.Page.{Page}
+use Rattle.yaml_pen.specs.Wrote.{Wrote}
 use Rattle.yaml_scalar.specs.EscapeBytes.{is_plain}
-use Rattle.yaml_scalar.specs.Gathered.{AreGathered, characters_text, is_gathered}
+use Rattle.yaml_scalar.specs.Gathered.{AreGathered, WroteGathered, characters_text, is_gathered}
 use Rattle.yaml_scalar.specs.WholeRuns.{last_from}
 use Rattle.yaml_scalar.proofs.EscapeBytes.{escape-plain}
-use Rattle.yaml_scalar.proofs.StillToWrite.{StillToWrite, still_as}
+use Rattle.yaml_scalar.proofs.StillToWrite.{StillToWrite, still_as, still_failed, still_rest, still_same}
 use Rattle.yaml_scalar.proofs.Unbroken.{unescaped}
 use Rattle.yaml_scalar.proofs.WholeRuns.{last-more}
 
@@ -118,3 +122,35 @@ gathered_still unicode limit indent {whole} {before} {last} {text} {rest} {bytes
     ∙ ap (λ b. then_laid (text_laid b here.cursor) (double_inside unicode limit indent (Some (last_from before are.front)) rest)) (sym are.bytes_are)
     ∙ ap (λ l. then_laid (text_laid bytes here.cursor) (double_inside unicode limit indent (Some l) rest)) (sym are.last_is))
     still
+
+-- what was gathered is written, or the error told
+pub wrote_gathered : {unicode : Bool} {before last : ℕ} {text : Text} {bytes rest : List ℕ} {old new : Page} {next : ℕ × Bor (List ℕ)}
+    → AreGathered unicode before text bytes last (chars rest) → last ≡ next.0 → rest ≡ next.1.now → Wrote (text_laid bytes) old new (Ok tt)
+    → WroteGathered unicode before text old new (Ok next)
+wrote_gathered {unicode} {before} {last} {text} {bytes} {rest} are last_is rest_is wrote =
+    record { bytes = bytes; last = last; rest = chars rest; are = are; wrote = wrote; next = (sym last_is, ap chars (sym rest_is)) }
+
+pub failed_gathered : {unicode : Bool} {before last : ℕ} {text rest : Text} {bytes : List ℕ} {old new : Page} {error : yaml_error_t}
+    (answer : Result (ℕ × Bor (List ℕ)) yaml_error_t) → IsErr answer × IsErrAnd answer (λ told. told ≡ error)
+    → AreGathered unicode before text bytes last rest → Wrote (text_laid bytes) old new (Err error)
+    → WroteGathered unicode before text old new answer
+failed_gathered {unicode} {before} {last} {text} {rest} {bytes} {old} {new} {error} answer is are wrote =
+    let p = err_from_is_err_and answer is.1 in
+    subst (λ (r : Result (ℕ × Bor (List ℕ)) yaml_error_t). WroteGathered unicode before text old new r)
+    (sym (p.1 ∙ ap (λ (e : yaml_error_t). let r : Result (ℕ × Bor (List ℕ)) yaml_error_t = Err e in r) p.2))
+    (record { bytes = bytes; last = last; rest = rest; are = are; wrote = wrote; next = tt })
+
+-- and what follows is still to be written
+pub gathered_left : (unicode : Bool) (limit : Option ℕ) (indent : ℕ) {whole : Cursor → Laid} {before : ℕ} {text : Text} {next : ℕ × Bor (List ℕ)} {start here later : Page}
+    → WroteGathered unicode before text here later (Ok next) → StillToWrite (double_inside unicode limit indent (Some before) text) whole start here
+    → StillToWrite (double_inside unicode limit indent (Some next.0) (chars next.1.now)) whole start later
+gathered_left unicode limit indent {whole} {before} {text} {next} {start} {here} {later} written still =
+    subst (λ (l : ℕ). StillToWrite (double_inside unicode limit indent (Some l) (chars next.1.now)) whole start later) (sym written.next.0)
+    (still_same (double_inside unicode limit indent (Some written.last)) (sym written.next.1)
+    (still_rest (gathered_still unicode limit indent written.are still) written.wrote))
+
+pub gathered_failed : (unicode : Bool) (limit : Option ℕ) (indent : ℕ) {whole : Cursor → Laid} {before : ℕ} {text : Text} {start here later : Page} {error : yaml_error_t}
+    → WroteGathered unicode before text here later (Err error) → StillToWrite (double_inside unicode limit indent (Some before) text) whole start here
+    → Wrote whole start later (Err error)
+gathered_failed unicode limit indent written still =
+    still_failed (double_inside unicode limit indent (Some written.last) written.rest) (gathered_still unicode limit indent written.are still) written.wrote

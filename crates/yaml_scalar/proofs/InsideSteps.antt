@@ -1,16 +1,19 @@
 -- What stands between double quotes is written one character after another, and runs of those that stay whole.
-use Rattle.std.proofs.Common.{◌≡◌, refl, ap, ◌∙◌, chars}
-use Rattle.std.proofs.lemmas.Bool.{and_parts, not-true}
-use Rattle.std.specs.Prelude.{ℕ, Bool, true, false, Option, None, Some, List, [], ◌∷◌, ◌&&◌, not, if◌then◌else◌}
-use Rattle.yaml_base.specs.Characters.{Text, is_break, is_space}
-use Rattle.yaml_base.specs.Cursor.{Cursor, Laid, is_past_width, text_laid, then_laid}
-use Rattle.yaml_base.specs.DoubleQuoted.{character_text, double_character, double_fold, double_inside, escape_text, may_fold, needs_escape}
+use Rattle.std.proofs.Common.{◌≡◌, refl, ap, ◌∙◌, arith, chars}
+use Rattle.std.proofs.lemmas.Bool.{and_from, and_parts, not-false, not-true}
+use Rattle.std.proofs.lemmas.Bool.Decides.{nat_tests}
+use Rattle.std.specs.List.{list_all}
+use Rattle.std.specs.Prelude.{ℕ, Bool, true, false, Option, None, Some, List, [], ◌∷◌, ◌==◌, ◌||◌, ◌&&◌, not, nat_lt, if◌then◌else◌}
+use Rattle.yaml_base.specs.Characters.{Text, is_ascii, is_break, is_printable, is_space}
+use Rattle.yaml_base.specs.Cursor.{Cursor, Laid, is_past_width, next_column, text_laid, then_laid}
+use Rattle.yaml_base.specs.DoubleQuoted.{backslash, character_text, double_character, double_fold, double_inside, escape_text, may_fold, needs_escape, quote}
 use Rattle.yaml_pen.specs.Page.{Page}
 use Rattle.yaml_scalar.proofs.RunsWritten.{StandAlone}
 use Rattle.yaml_scalar.proofs.StillToWrite.{StillToWrite}
 use Rattle.yaml_scalar.proofs.Unbroken.{unescaped}
 use Rattle.yaml_scalar.proofs.WholeRuns.{no_fold}
-use Rattle.yaml_scalar.specs.WholeRuns.{has_limit, stays}
+use Rattle.yaml_scalar.specs.EscapeBytes.{is_plain}
+use Rattle.yaml_scalar.specs.WholeRuns.{has_limit, stays, stays_where}
 
 -- what is still to be written between the quotes: these bytes' characters, after a character or at the start
 abbrev pub StillInside : (unicode : Bool) (limit : Option ℕ) (indent : ℕ) (value : Text) (before : Option ℕ) (bytes : List ℕ) (start here : Page) → Type 0
@@ -48,3 +51,38 @@ inside_alone unicode limit indent cursor =
           ap (λ (l : Laid). then_laid l (double_inside unicode limit indent (Some c) rest))
           (character_stays unicode limit indent (Some before) c rest (record cursor { column = column }) h);
     }
+
+-- characters that stay are laid out as themselves, from the value's first on
+pub inside_stays : (unicode : Bool) (limit : Option ℕ) (indent : ℕ) (before : Option ℕ) (run : Text) (cursor : Cursor)
+    → list_all (stays unicode limit) run ≡ true → double_inside unicode limit indent before run cursor ≡ text_laid run cursor
+inside_stays unicode limit indent before [] cursor h = refl
+inside_stays unicode limit indent before (c ∷ run) cursor h =
+    let p = and_parts (stays unicode limit c) (list_all (stays unicode limit) run) h in
+    let next : Cursor = record cursor { column = next_column c cursor.column } in
+    ap (λ (l : Laid). then_laid l (double_inside unicode limit indent (Some c) run)) (character_stays unicode limit indent before c run cursor p.0)
+    ∙ ap (λ (l : Laid). let m : Laid = record { text = c ∷ l.text; cursor = l.cursor } in m) (inside_stays unicode limit indent (Some c) run next p.1)
+
+-- what isn't escaped where ASCII alone is kept isn't where more is kept
+escaped_parts : (a b c d e : Bool) → (a || b || c || d || e) ≡ false → (b ≡ false) × ((a || false || c || d || e) ≡ false)
+escaped_parts true b c d e h = cc
+escaped_parts false true c d e h = cc
+escaped_parts false false c d e h = (refl, h)
+
+ascii_unescaped : (unicode : Bool) (c : ℕ) → needs_escape false c ≡ false → needs_escape unicode c ≡ false
+ascii_unescaped false c h = h
+ascii_unescaped true c h = (escaped_parts (not (is_printable c)) (not (is_ascii c)) (is_break c) (c == quote) (c == backslash) h).1
+
+pub ascii_stays : (unicode folds : Bool) (c : ℕ) → stays_where false folds c ≡ true → stays_where unicode folds c ≡ true
+ascii_stays unicode folds c h =
+    let p = and_parts (not (needs_escape false c)) (not (is_space c && folds)) h in
+    and_from _ _ (ap not (ascii_unescaped unicode c (not-true _ p.0))) p.1
+
+low : (c : ℕ) → is_ascii c ≡ true → nat_lt c 128 ≡ true
+low c h = grind (arith, nat_tests)
+
+-- and it is of ASCII
+pub ascii_stays_plain : (folds : Bool) (c : ℕ) → stays_where false folds c ≡ true → is_plain c ≡ true
+ascii_stays_plain folds c h =
+    let is = not-true _ (and_parts (not (needs_escape false c)) (not (is_space c && folds)) h).0 in
+    let ascii = not-false _ (escaped_parts (not (is_printable c)) (not (is_ascii c)) (is_break c) (c == quote) (c == backslash) is).0 in
+    and_from _ _ (low c ascii) (ap not (unescaped false c is).no_break)

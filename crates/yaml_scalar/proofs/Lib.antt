@@ -21,6 +21,7 @@ pub mod TidyBlocks
 pub mod BlockSteps
 pub mod FoldedSteps
 pub mod Barred
+pub mod Choices
 pub mod ByteRuns
 pub mod FirstCharacters
 pub mod PlainStarts
@@ -35,6 +36,7 @@ pub mod BlockStays
 pub mod InsideSteps
 pub mod GatheredTexts
 pub mod QuotedSteps
+pub mod ShortRuns
 pub mod LastCharacters
 pub mod NextEven
 pub mod BlockWrites

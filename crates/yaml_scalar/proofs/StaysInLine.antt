@@ -75,7 +75,7 @@ room_less None column count less le h = tt
 room_less (Some width) column count less le h = omega arith
 
 -- characters that stay, with room for them or no space among them, are laid out as themselves
-line_at : (quoted : Bool) (limit : Option ℕ) (indent : ℕ) (folds : Bool) (before : ℕ) (run rest : Text) (cursor : Cursor)
+pub line_at : (quoted : Bool) (limit : Option ℕ) (indent : ℕ) (folds : Bool) (before : ℕ) (run rest : Text) (cursor : Cursor)
     → list_all (stays_in_line folds quoted) run ≡ true → (folds ≡ false → HasRoom limit cursor.column (length run))
     → lines_after quoted limit indent before (run ++ rest) cursor
     ≡ then_laid (text_laid run cursor) (lines_after quoted limit indent (last_from before run) rest)

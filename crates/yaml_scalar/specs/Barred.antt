@@ -1,7 +1,7 @@
 -- What the characters of a value bar, all styles seen at once.
-use Rattle.std.specs.Prelude.{ℕ, Bool, true, false, ◌==◌, ◌||◌, not, codes, if◌then◌else◌}
+use Rattle.std.specs.Prelude.{ℕ, Bool, true, false, ◌==◌, ◌||◌, ◌&&◌, not, codes, if◌then◌else◌}
 use Rattle.std.specs.List.{list_any}
-use Rattle.yaml_base.specs.Analysis.{Charset, bars_block, bars_plain, bars_single_quoted, is_special, somewhere}
+use Rattle.yaml_base.specs.Analysis.{Allowances, Charset, bars_block, bars_plain, bars_single_quoted, begins_unlike_plain, is_empty, is_special, somewhere}
 use Rattle.yaml_base.specs.Characters.{Text, is_among, is_between, is_break, is_space, space, tab}
 use Rattle.yaml_scalar.specs.declared.analysis.barred_t.{barred_t}
 
@@ -73,3 +73,18 @@ is_quiet charset c =
 -- what a character bars before the rest, where it is a space
 abbrev pub barred_by_space : Charset → ℕ → Text → Barred
 barred_by_space charset c rest = if is_space c then barred_by charset space rest else none_barred
+
+-- no style but double quotes is left
+abbrev pub all_styles : Barred → Bool
+all_styles found = found.flow_plain && found.block_plain && found.single_quoted && found.block
+
+-- what a value allows, by what its characters bar
+abbrev pub allowed_by : Barred → Text → Allowances
+allowed_by found value =
+    record {
+      multiline = found.multiline;
+      flow_plain = not (is_empty value) && not (begins_unlike_plain value || found.flow_plain);
+      block_plain = not (begins_unlike_plain value || found.block_plain);
+      single_quoted = not found.single_quoted;
+      block = not (is_empty value || found.block);
+    }

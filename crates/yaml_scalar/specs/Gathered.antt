@@ -1,8 +1,14 @@
 -- Characters between double quotes whose texts are written at once.
-use Rattle.std.specs.Prelude.{◌≡◌, ℕ, Bool, true, List, [], ◌∷◌, ◌++◌, ◌||◌, ◌&&◌, not}
+use Rattle.std.specs.Borrow.{Bor}
+use Rattle.std.specs.Prelude.{◌≡◌, ℕ, Bool, true, Result, Ok, Err, IfOk, List, [], ◌∷◌, ◌++◌, ◌||◌, ◌&&◌, not}
+use Rattle.std.specs.Str.{chars}
 use Rattle.std.specs.List.{list_all}
 use Rattle.yaml_base.specs.Characters.{Text, is_ascii, is_space}
+use Rattle.yaml_base.specs.Cursor.{text_laid}
 use Rattle.yaml_base.specs.DoubleQuoted.{character_text, needs_escape}
+use Rattle.yaml_base.specs.declared.errors.yaml_error_t.{yaml_error_t}
+use Rattle.yaml_pen.specs.Page.{Page}
+use Rattle.yaml_pen.specs.Wrote.{Wrote}
 use Rattle.yaml_scalar.specs.WholeRuns.{last_from}
 
 -- so many bytes are gathered at most
@@ -30,3 +36,17 @@ pub record AreGathered (unicode : Bool) (before : ℕ) (text : Text) (bytes : Li
   pub bytes_are : bytes ≡ characters_text unicode front
   pub all : list_all (is_gathered unicode) front ≡ true
   pub last_is : last ≡ last_from before front
+
+-- an answer without what it holds
+abbrev pub without_next : Result (ℕ × Bor (List ℕ)) yaml_error_t → Result (Unit {0}) yaml_error_t
+without_next (Ok next) = Ok tt
+without_next (Err error) = Err error
+
+-- a text's first characters, as many as are gathered, are written at once; Ok holds the last of them, and what follows
+pub record WroteGathered (unicode : Bool) (before : ℕ) (text : Text) (old new : Page) (answer : Result (ℕ × Bor (List ℕ)) yaml_error_t) : Type 0 where
+  pub bytes : List ℕ
+  pub last : ℕ
+  pub rest : Text
+  pub are : AreGathered unicode before text bytes last rest
+  pub wrote : Wrote (text_laid bytes) old new (without_next answer)
+  pub next : IfOk answer (λ given. (given.0 ≡ last) × (chars given.1.now ≡ rest))

@@ -6,6 +6,7 @@ pub mod LineSteps
 pub mod BlockCode
 pub mod BlockSteps
 pub mod WholeRuns
+pub mod ShortRuns
 pub mod ByteClasses
 pub mod EscapeBytes
 pub mod Gathered

@@ -1,8 +1,9 @@
 -- What contracts see of an analysis and of a choice.
-use Rattle.std.specs.Prelude.{Bool}
+use Rattle.std.specs.Prelude.{◌≡◌, Bool}
 use Rattle.yaml_base.specs.Analysis.{Allowances, Charset}
+use Rattle.yaml_base.specs.Event.{ScalarStyle}
 use Rattle.yaml_base.specs.Seen.{seen_scalar_style}
-use Rattle.yaml_base.specs.Style.{Choice}
+use Rattle.yaml_base.specs.Style.{Choice, chosen}
 use Rattle.yaml_base.specs.declared.styles.yaml_scalar_style_t.{yaml_scalar_style_t}
 use Rattle.yaml_scalar.specs.declared.analysis.scalar_data_t.{scalar_data_t}
 use Rattle.yaml_scalar.specs.declared.analysis.charset_t.{charset_t}
@@ -25,3 +26,10 @@ seen_charset given = record { unicode = given.unicode; breaks12 = given.breaks12
 -- a style and whether the bare tag is written
 abbrev pub seen_choice : yaml_scalar_style_t × Bool → Choice
 seen_choice given = record { style = seen_scalar_style given.0; bare = given.1 }
+
+-- two analyses lead to the same choices
+abbrev pub ChooseAlike : Allowances → Allowances → Type 0
+ChooseAlike one other =
+    (asked : ScalarStyle) (empty tag_written plain_implicit quoted_implicit flow simple_key canonical : Bool)
+    → chosen one asked empty tag_written plain_implicit quoted_implicit flow simple_key canonical
+    ≡ chosen other asked empty tag_written plain_implicit quoted_implicit flow simple_key canonical

@@ -1,12 +1,12 @@
 //! Which styles a scalar's value allows.
 ghost use Rattle.std.specs.List.{list_any};
-ghost use Rattle.std.specs.Prelude.{◌≡◌, ◌≤◌, ◌==◌, ◌||◌, ◌&&◌, not, codes, length};
+ghost use Rattle.std.specs.Prelude.{◌≡◌, ◌≤◌, ◌==◌, ◌||◌, ◌&&◌, [], false, not, codes, length};
 ghost use Rattle.std.specs.Str.{IsUtf8, chars};
 ghost use Rattle.yaml_base.specs.Analysis as spec;
 ghost use Rattle.yaml_base.specs.Characters as class;
-ghost use Rattle.yaml_scalar.specs.Barred.{barred_by, barred_by_space, barred_in, either, is_ordinary, is_quiet, seen_barred};
+ghost use Rattle.yaml_scalar.specs.Barred.{all_styles, allowed_by, barred_by, barred_by_space, barred_in, either, is_ordinary, is_quiet, seen_barred};
 ghost use Rattle.yaml_scalar.specs.ByteClasses.{Tells};
-ghost use Rattle.yaml_scalar.specs.ScalarData.{seen_charset, seen_data};
+ghost use Rattle.yaml_scalar.specs.ScalarData.{ChooseAlike, seen_charset, seen_data};
 
 use crate::classes::{BREAK, SIGN, UNPRINTABLE, WIDE, free_length, last_of};
 use yaml_base::{is_ascii, is_blank, is_break, is_printable, is_space};
@@ -56,7 +56,23 @@ const NOTHING_BARRED: barred_t = barred_t {
 pub fn analyze_scalar(value: &str, unicode: bool, breaks12: bool) -> scalar_data_t
     ensures { seen_data result ≡ spec.allowances (record { unicode = unicode; breaks12 = breaks12 }) (chars value.now) }
 {
-    let barred = barred_in(value, charset_t { unicode, breaks12 });
+    let (barred, rest) = barred_before(value, charset_t { unicode, breaks12 });
+    data_of(value, with_break(barred, rest))
+}
+
+/// Analyses a scalar's value as far as the choice of its style goes by it: `select_scalar_style` chooses by the
+/// result as by that of `analyze_scalar`. A value that only double quotes can write isn't searched for breaks.
+pub fn analyze_for_style(value: &str, unicode: bool, breaks12: bool) -> scalar_data_t
+    ensures { ChooseAlike (seen_data result) (spec.allowances (record { unicode = unicode; breaks12 = breaks12 }) (chars value.now)) }
+{
+    let (barred, _) = barred_before(value, charset_t { unicode, breaks12 });
+    data_of(value, barred)
+}
+
+/// What a value allows, by what its characters bar.
+fn data_of(value: &str, barred: barred_t) -> scalar_data_t
+    ensures { seen_data result ≡ allowed_by (seen_barred barred) (chars value.now) }
+{
     let is_empty = is_at_end(value);
     let unlike_plain = begins_unlike_plain(value);
     scalar_data_t {
@@ -177,6 +193,7 @@ fn begins_unlike_plain(value: &str) -> bool
 {
     let mut chars = value.chars();
     match chars.next() {
+        Some(c) if is_ordinary(c) => false,
         Some(c) => first_bars_plain(value, c, chars.as_str()),
         None => false,
     }
@@ -306,7 +323,7 @@ fn past_quiet(barred: barred_t, text: &str, charset: charset_t) -> (barred_t, &s
 
 /// Only double quotes can write what was read.
 fn bars_all(barred: barred_t) -> bool
-    ensures { result ≡ (barred.flow_plain && barred.block_plain && barred.single_quoted && barred.block) }
+    ensures { result ≡ all_styles (seen_barred barred) }
 {
     barred.flow_plain && barred.block_plain && barred.single_quoted && barred.block
 }
@@ -344,9 +361,12 @@ fn with_break(barred: barred_t, rest: &str) -> barred_t
     }
 }
 
-/// What the characters of a value bar.
-fn barred_in(value: &str, charset: charset_t) -> barred_t
-    ensures { seen_barred result ≡ barred_in (seen_charset charset) (chars value.now) }
+/// What the characters of a value bar, as far as it was read, and the rest: none unless all is barred.
+#[inline(always)]
+fn barred_before(value: &str, charset: charset_t) -> (barred_t, &str)
+    ensures same { record (seen_barred result.0) { multiline = result.0.multiline || list_any class.is_break (chars result.1.now) }
+        ≡ barred_in (seen_charset charset) (chars value.now) }
+    ensures rest { all_styles (seen_barred result.0) ≡ false → chars result.1.now ≡ [] }
 {
     let (mut barred, first) = past_quiet(NOTHING_BARRED, value, charset);
     let mut chars = first.chars();
@@ -354,11 +374,11 @@ fn barred_in(value: &str, charset: charset_t) -> barred_t
         let rest = chars.as_str();
         let more = with_next(barred, c, rest, charset);
         if bars_all(more) {
-            return with_break(more, rest);
+            return (more, rest);
         }
         let (read, after) = past_quiet(more, rest, charset);
         barred = read;
         chars = after.chars();
     }
-    barred
+    (barred, "")
 }

@@ -1,7 +1,8 @@
 //! Classes of bytes, by which runs of characters are found without decoding them.
-ghost use Rattle.std.specs.Prelude.{◌≡◌};
+ghost use Rattle.std.specs.List.{list_all};
+ghost use Rattle.std.specs.Prelude.{◌≡◌, ◌≤◌, ◌+◌, true, length, take};
 ghost use Rattle.std.specs.Str.{chars};
-ghost use Rattle.yaml_scalar.specs.ByteClasses.{IsFreeRun};
+ghost use Rattle.yaml_scalar.specs.ByteClasses.{IsFreeRun, four_are_free, is_free};
 ghost use Rattle.yaml_scalar.specs.WholeRuns.{last_from};
 
 /// LF, CR, and the bytes that U+0085, U+2028 and U+2029 begin with.
@@ -40,14 +41,56 @@ static CLASSES: [u8; 256] = [
     16, 16, 16, 16, 16, 16, 16, 16, 16, 16, 16, 16, 16, 16, 16, 16,
 ];
 
+/// A byte is of none of these classes.
+#[inline(always)]
+fn is_free(byte: u8, classes: u8) -> bool
+    ensures { result ≡ is_free classes byte }
+{
+    CLASSES[byte as usize] & classes == 0
+}
+
+/// The four bytes from a place on are of none of these classes.
+#[inline(always)]
+fn are_free(bytes: &[u8], place: usize, classes: u8) -> bool
+    requires { place + 4 ≤ length bytes.now }
+    ensures { result ≡ four_are_free classes bytes.now place }
+{
+    is_free(bytes[place], classes)
+        && is_free(bytes[place + 1], classes)
+        && is_free(bytes[place + 2], classes)
+        && is_free(bytes[place + 3], classes)
+}
+
+/// The same, of bytes that follow others of none of these classes.
+#[inline(always)]
+fn are_free_too(bytes: &[u8], place: usize, classes: u8) -> bool
+    requires { place + 4 ≤ length bytes.now }
+    ensures { result ≡ true → list_all (is_free classes) (take place bytes.now) ≡ true → list_all (is_free classes) (take (place + 4) bytes.now) ≡ true }
+{
+    are_free(bytes, place, classes)
+}
+
+/// The length of a prefix, four bytes after four, none of whose bytes is of these classes.
+#[inline(always)]
+fn free_fours(bytes: &[u8], classes: u8) -> usize
+    ensures within { result ≤ length bytes.now }
+    ensures all { list_all (is_free classes) (take result bytes.now) ≡ true }
+{
+    let mut size = 0;
+    while bytes.len() - size >= 4 && are_free_too(bytes, size, classes) {
+        size += 4;
+    }
+    size
+}
+
 /// The length of the longest prefix of a text none of whose bytes is of these classes.
 #[inline(always)]
 pub(crate) fn free_length(text: &str, classes: u8) -> usize
     ensures { IsFreeRun classes text.now result }
 {
     let bytes = text.as_bytes();
-    let mut length = 0;
-    while length < bytes.len() && CLASSES[bytes[length] as usize] & classes == 0 {
+    let mut length = free_fours(bytes, classes);
+    while length < bytes.len() && is_free(bytes[length], classes) {
         length += 1;
     }
     length

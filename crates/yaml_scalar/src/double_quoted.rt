@@ -1,7 +1,8 @@
 //! Scalars between double quotes.
-ghost use Rattle.std.specs.Prelude.{◌≡◌, pos, ◌≤ℤ◌, ◌≤◌, ◌<◌, ◌==◌, ◌||◌, ◌&&◌, ◌∷◌, [], true, false, not, Option, None, Some, Bool, IfOk};
+ghost use Rattle.std.specs.Prelude.{◌≡◌, pos, ◌≤ℤ◌, ◌≤◌, ◌<◌, ◌==◌, ◌||◌, ◌&&◌, ◌∷◌, [], true, false, not, Option, None, Some, Bool, IfOk, length};
 ghost use Rattle.std.specs.List.{list_all};
-ghost use Rattle.std.specs.Str.{chars};
+ghost use Rattle.std.specs.Str.{IsUtf8, chars};
+ghost use Rattle.yaml_base.specs.Analysis.{begins_with};
 ghost use Rattle.yaml_base.specs.Characters.{is_space};
 ghost use Rattle.yaml_base.specs.Cursor.{is_past_width, text_laid};
 ghost use Rattle.yaml_base.specs.DoubleQuoted as spec;
@@ -10,14 +11,17 @@ ghost use Rattle.yaml_pen.specs.Page.{IsReady, natural};
 ghost use Rattle.yaml_pen.specs.Wrote.{Wrote};
 ghost use Rattle.yaml_scalar.specs.ByteClasses.{Tells};
 ghost use Rattle.yaml_scalar.specs.EscapeBytes.{is_plain};
+ghost use Rattle.yaml_scalar.specs.Gathered.{WroteGathered};
 ghost use Rattle.yaml_scalar.specs.ReadsBack.{ReadsBack};
-ghost use Rattle.yaml_scalar.specs.WholeRuns.{IsRun, stays, stays_where};
+ghost use Rattle.yaml_scalar.specs.ShortRuns.{IsShortRun};
+ghost use Rattle.yaml_scalar.specs.WholeRuns.{IsRun, has_limit, stays, stays_where};
 ghost use Rattle.yaml_scalar.specs.Width.{limit_where};
 
 use crate::classes::{BREAK, ESCAPED, SPACE, UNPRINTABLE, WIDE};
 use crate::escapes::{Escape, escape_of, needs_escape};
 use crate::gathered::{GatheredBytes, gather};
 use crate::runs::{Run, run_up_to};
+use crate::short_runs::{is_short_run, write_short_run};
 use crate::steps::{go_on, has_limit, may_fold_here};
 use std::alloc::Allocator;
 use yaml_base::{is_space, yaml_error_t};
@@ -79,7 +83,7 @@ fn write_quoted<A: Allocator>(
         pen.old pen.new result }
 {
     pen.put_indicator(b'"', true, false, false)?;
-    write_inside(pen, value, quoting)?;
+    write_value(pen, value, quoting)?;
     pen.put_indicator(b'"', false, false, false)
 }
 
@@ -216,11 +220,18 @@ fn run_where(before: char, text: &str, unicode: bool, folds: bool) -> Run
     run_up_to(before, text, ending_classes(unicode, folds))
 }
 
+/// A space may become a fold, since there is a width.
+fn has_folds(quoting: quoting_t) -> bool
+    ensures { result ≡ has_limit (limit_where quoting.allow_breaks quoting.width) }
+{
+    has_limit(quoting.allow_breaks, quoting.width)
+}
+
 /// The same, where a space may become a fold if there is a width.
 fn run_after(before: char, text: &str, quoting: quoting_t) -> Run
     ensures { IsRun (stays quoting.unicode (limit_where quoting.allow_breaks quoting.width)) before text.now result.length result.last }
 {
-    let folds = has_limit(quoting.allow_breaks, quoting.width);
+    let folds = has_folds(quoting);
     run_where(before, text, quoting.unicode, folds)
 }
 
@@ -234,7 +245,85 @@ fn write_gathered<A: Allocator>(pen: &mut Pen<A>, bytes: &GatheredBytes) -> Resu
     pen.write_ascii(bytes.as_slice())
 }
 
-/// What stands between the quotes: a character, the run that follows it, and what is gathered, in turn.
+/// A value is short and stands as it is, wherever its line ends.
+#[inline(always)]
+fn is_short(value: &str, quoting: quoting_t) -> bool
+    ensures { result ≡ true → IsShortRun (stays quoting.unicode (limit_where quoting.allow_breaks quoting.width)) value.now }
+{
+    let folds = has_folds(quoting);
+    is_short_run(value, ending_classes(false, folds))
+}
+
+/// What stands between the quotes.
+fn write_value<A: Allocator>(
+    pen: &mut Pen<A>,
+    value: &str,
+    quoting: quoting_t,
+) -> Result<(), yaml_error_t>
+    requires ready { IsReady pen.old }
+    requires not_negative { pos 0 ≤ℤ quoting.indent }
+    ensures { Wrote (spec.double_inside quoting.unicode (limit_where quoting.allow_breaks quoting.width) (natural quoting.indent) None (chars value.now))
+        pen.old pen.new result }
+{
+    if is_short(value, quoting) {
+        write_short_run(pen, value)
+    } else {
+        write_inside(pen, value, quoting)
+    }
+}
+
+/// An escape stands here.
+fn begins_with_escape(text: &str, unicode: bool) -> bool
+    ensures { result ≡ begins_with (spec.needs_escape unicode) (chars text.now) }
+{
+    match text.chars().next() {
+        Some(c) => needs_escape(c, unicode),
+        None => false,
+    }
+}
+
+/// Writes at once the characters that follow one, as many as are gathered; the last of these, and what follows it.
+#[inline(never)]
+fn write_escapes<'a, A: Allocator>(
+    pen: &mut Pen<A>,
+    before: char,
+    text: &'a str,
+    unicode: bool,
+) -> Result<(char, &'a str), yaml_error_t>
+    requires { IsReady pen.old }
+    ensures written { WroteGathered unicode before (chars text.now) pen.old pen.new result }
+    ensures is_text { IfOk result (λ next. IsUtf8 next.1.now) }
+    ensures shorter { IfOk result (λ next. length next.1.now ≤ length text.now) }
+{
+    let mut bytes = GatheredBytes::new();
+    let next = gather(&mut bytes, before, text, unicode);
+    write_gathered(pen, &bytes)?;
+    Ok(next)
+}
+
+/// The same where an escape comes next; else no character.
+#[inline(always)]
+fn write_next_escapes<'a, A: Allocator>(
+    pen: &mut Pen<A>,
+    before: char,
+    text: &'a str,
+    unicode: bool,
+) -> Result<(char, &'a str), yaml_error_t>
+    requires { IsReady pen.old }
+    ensures written { WroteGathered unicode before (chars text.now) pen.old pen.new result }
+    ensures is_text { IfOk result (λ next. IsUtf8 next.1.now) }
+    ensures shorter { IfOk result (λ next. length next.1.now ≤ length text.now) }
+{
+    if begins_with_escape(text, unicode) {
+        write_escapes(pen, before, text, unicode)
+    } else {
+        go_on(pen)?;
+        Ok((before, text))
+    }
+}
+
+/// The same: a character, the run that follows it, and escapes with the signs between them, in turn.
+#[inline(never)]
 fn write_inside<A: Allocator>(
     pen: &mut Pen<A>,
     value: &str,
@@ -253,9 +342,7 @@ fn write_inside<A: Allocator>(
         let run = run_after(c, rest, quoting);
         let (front, after) = rest.split_at(run.length);
         pen.write_run(front)?;
-        let mut bytes = GatheredBytes::new();
-        let (last, left) = gather(&mut bytes, run.last, after, quoting.unicode);
-        write_gathered(pen, &bytes)?;
+        let (last, left) = write_next_escapes(pen, run.last, after, quoting.unicode)?;
         before = Some(last);
         chars = left.chars();
     }

@@ -13,12 +13,13 @@ mod lines;
 mod literal;
 mod plain;
 mod runs;
+mod short_runs;
 mod single_quoted;
 mod steps;
 mod style;
 mod width;
 
-pub use analysis::{analyze_scalar, holds_break, scalar_data_t};
+pub use analysis::{analyze_for_style, analyze_scalar, holds_break, scalar_data_t};
 pub use block_header::write_block_scalar_hints;
 pub use double_quoted::write_double_quoted_scalar;
 pub use folded::write_folded_scalar;

@@ -1,5 +1,5 @@
 //! The lines that plain and single-quoted scalars share: runs of spaces, of breaks and of other characters.
-ghost use Rattle.std.specs.Prelude.{◌≡◌, ◌==◌, ◌&&◌, ◌||◌, not, ◌++◌, [], ◌∷◌, true, false, if◌then◌else◌};
+ghost use Rattle.std.specs.Prelude.{◌≡◌, ◌<◌, ◌==◌, ◌&&◌, ◌||◌, not, ◌++◌, [], ◌∷◌, true, false, if◌then◌else◌};
 ghost use Rattle.std.specs.Str.{chars};
 ghost use Rattle.yaml_base.specs.Analysis as analysis;
 ghost use Rattle.yaml_base.specs.Characters as class;
@@ -9,11 +9,13 @@ ghost use Rattle.yaml_base.specs.Plain as layout;
 ghost use Rattle.yaml_pen.specs.Page.{IsReady};
 ghost use Rattle.yaml_pen.specs.Wrote.{Wrote};
 ghost use Rattle.yaml_scalar.specs.LineSteps as steps;
-ghost use Rattle.yaml_scalar.specs.WholeRuns.{IsLineRun};
+ghost use Rattle.yaml_scalar.specs.ShortRuns.{IsShortLine};
+ghost use Rattle.yaml_scalar.specs.WholeRuns.{HasRoom, IsLineRun};
 ghost use Rattle.yaml_scalar.specs.Width.{limit_where};
 
 use crate::analysis::is_at_end;
-use crate::runs::{Run, line_run_within};
+use crate::runs::{Run, line_run_within, short_classes};
+use crate::short_runs::{is_short_run, write_short_run};
 use crate::steps::{go_on, may_fold_here, room_in_line};
 use std::alloc::Allocator;
 use yaml_base::{is_break, is_space, yaml_error_t};
@@ -223,16 +225,53 @@ fn write_step<A: Allocator>(
     }
 }
 
+// How many columns of the line are left, if any.
+fn line_room<A: Allocator>(pen: &Pen<A>, lines: Lines) -> usize
+    ensures { 0 < result → HasRoom (limit_where lines.allow_breaks lines.width) pen.now.cursor.column result }
+{
+    room_in_line(pen, lines.allow_breaks, lines.width)
+}
+
 // A `'` ends a run where it is doubled, and so does a space that may become a fold.
 fn run_after<A: Allocator>(pen: &Pen<A>, character: char, rest: &str, lines: Lines) -> Run
     ensures { IsLineRun (limit_where lines.allow_breaks lines.width) lines.quoted pen.now.cursor character rest.now result.length result.last }
 {
-    let room = room_in_line(pen, lines.allow_breaks, lines.width);
+    let room = line_room(pen, lines);
     line_run_within(character, rest, lines.quoted, room)
+}
+
+/// A value is short and one line, which stands as it is.
+#[inline(always)]
+fn is_short_line<A: Allocator>(pen: &Pen<A>, value: &str, lines: Lines) -> bool
+    ensures { result ≡ true → IsShortLine (limit_where lines.allow_breaks lines.width) lines.quoted pen.now.cursor value.now }
+{
+    let room = line_room(pen, lines);
+    if room == 0 || value.len() > room {
+        return false;
+    }
+    is_short_run(value, short_classes(lines.quoted))
 }
 
 /// Writes the lines of a value, the flags of the cursor left as they are.
 pub(crate) fn write_lines<A: Allocator>(
+    pen: &mut Pen<A>,
+    value: &str,
+    lines: Lines,
+) -> Result<(), yaml_error_t>
+    requires { IsReady pen.old }
+    ensures { Wrote (layout.runs_laid (steps.written_as lines.quoted) (limit_where lines.allow_breaks lines.width) lines.indent true
+        (layout.runs (chars value.now))) pen.old pen.new result }
+{
+    if is_short_line(pen, value, lines) {
+        write_short_run(pen, value)
+    } else {
+        write_runs(pen, value, lines)
+    }
+}
+
+/// The same, run by run.
+#[inline(never)]
+fn write_runs<A: Allocator>(
     pen: &mut Pen<A>,
     value: &str,
     lines: Lines,

@@ -1,10 +1,11 @@
 //! Runs of characters that are handed to the pen at once.
-ghost use Rattle.std.specs.Prelude.{◌≡◌, ◌<◌, ◌≤◌, ℕ, Bool, Option};
+ghost use Rattle.std.specs.Prelude.{◌≡◌, ◌<◌, ◌≤◌, ℕ, Bool, Option, false};
 ghost use Rattle.yaml_base.specs.Cursor.{Cursor};
 ghost use Rattle.yaml_scalar.specs.ByteClasses.{Tells};
+ghost use Rattle.yaml_scalar.specs.EscapeBytes.{is_plain};
 ghost use Rattle.yaml_scalar.specs.WholeRuns.{HasRoom, IsLineRun, IsRun, stays_in_line};
 
-use crate::classes::{APOSTROPHE, BREAK, SPACE, free_length, last_of};
+use crate::classes::{APOSTROPHE, BREAK, SPACE, WIDE, free_length, last_of};
 
 /// The run that follows a character: its bytes, and the last character up to its end.
 #[derive(Clone, Copy)]
@@ -29,6 +30,19 @@ fn ending_classes(ends: RunEnds) -> u8
         (false, true) => BREAK | APOSTROPHE,
         (true, false) => BREAK | SPACE,
         (true, true) => BREAK | SPACE | APOSTROPHE,
+    }
+}
+
+/// The classes of bytes that a short line doesn't hold: those of breaks, of what is past ASCII, and of a `'`
+/// where it is doubled.
+pub(crate) fn short_classes(quote: bool) -> u8
+    ensures plain { Tells result is_plain }
+    ensures line { Tells result (stays_in_line false quote) }
+{
+    if quote {
+        BREAK | WIDE | APOSTROPHE
+    } else {
+        BREAK | WIDE
     }
 }
 

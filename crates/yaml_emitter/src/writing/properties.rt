@@ -35,6 +35,7 @@ pub(crate) fn has_properties(anchor: Option<&str>, tag: Option<SpelledTag>, bare
 }
 
 /// Writes a node's anchor and its tag, or the bare tag.
+#[inline(never)]
 pub(crate) fn write_properties<A: Allocator>(
     pen: &mut Pen<A>,
     site: &Site,

@@ -121,6 +121,7 @@ fn write_double<A: Allocator>(
     Ok(mark)
 }
 
+#[inline(never)]
 fn write_literal<A: Allocator>(
     pen: &mut Pen<A>,
     site: &Site,
@@ -139,6 +140,7 @@ fn write_literal<A: Allocator>(
     Ok(OpenMark::after_header(mark))
 }
 
+#[inline(never)]
 fn write_folded<A: Allocator>(
     pen: &mut Pen<A>,
     site: &Site,

@@ -1,8 +1,27 @@
-use Rattle.std.proofs.Common.{sym, ◌∙◌}
+use Rattle.std.proofs.Common.{◌≡◌, ℕ, List, ◌∷◌, sym, ap, ◌∙◌, chars}
 use Rattle.std.proofs.lemmas.Str.{chars_past_char}
+use Rattle.std.specs.Prelude.{◌||◌, ◌&&◌, codes}
+use Rattle.yaml_base.specs.Analysis.{begins_like_mark, begins_unlike_plain, ends_word, is_indicator}
+use Rattle.yaml_base.specs.Characters.{Text, is_among, is_space}
+use Rattle.yaml_scalar.proofs.FirstCharacters.{ordinary_plain}
 use Rattle.yaml_scalar.proofs.analysis.begins_unlike_plain.Goals as goal
 
 pub returns-in-Some : goal.returns-in-Some
 returns-in-Some c =
-    let first = chars_past_char c.args.value.now _ _ c.utf8.value (sym c.chars-chars.ensures.rest ∙ c.in-Some.ensures.steps.0) in
-    rw (c.first_bars_plain.ensures, first, c.as_str.ensures)
+    let first = c.in-Some.c in
+    let rest : List ℕ = c.next.new.self.rest.now in
+    let parts : chars c.args.value.now ≡ first ∷ chars rest =
+    chars_past_char c.args.value.now rest first c.utf8.value (sym c.chars-chars.ensures.rest ∙ c.in-Some.ensures.steps.0) in
+    sym (ap begins_unlike_plain parts ∙ ordinary_plain first (chars rest) (sym c.if-is_ordinary.ensures))
+
+pub returns-in-Some-2 : goal.returns-in-Some-2
+returns-in-Some-2 c =
+    let first = c.in-Some.c in
+    let rest : List ℕ = c.next.new.self.rest.now in
+    let parts : chars c.args.value.now ≡ first ∷ chars rest =
+    chars_past_char c.args.value.now rest first c.utf8.value (sym c.chars-chars.ensures.rest ∙ c.in-Some.ensures.steps.0) in
+    c.first_bars_plain.ensures
+    ∙ ap (λ (t : Text). is_space first || begins_like_mark t || is_indicator first || (is_among (codes "?:-") first && ends_word (chars c.as_str.result.now))) parts
+    ∙ ap (λ (l : List ℕ). is_space first || begins_like_mark (first ∷ chars rest) || is_indicator first
+        || (is_among (codes "?:-") first && ends_word (chars l))) c.as_str.ensures
+    ∙ sym (ap begins_unlike_plain parts)

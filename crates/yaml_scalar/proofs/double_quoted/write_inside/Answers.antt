@@ -5,7 +5,7 @@ use Rattle.yaml_base.specs.DoubleQuoted.{double_inside}
 use Rattle.yaml_pen.proofs.Composing.{wrote_exit}
 use Rattle.yaml_pen.specs.Page.{natural}
 use Rattle.yaml_scalar.specs.Width.{limit_where}
-use Rattle.yaml_scalar.proofs.GatheredTexts.{gathered_plain, gathered_still}
+use Rattle.yaml_scalar.proofs.GatheredTexts.{gathered_failed, gathered_left}
 use Rattle.yaml_scalar.proofs.InsideSteps.{inside_after, inside_alone, stays_unbroken}
 use Rattle.yaml_scalar.proofs.RunsWritten.{character_still, end_still, run_failed, run_more}
 use Rattle.yaml_scalar.proofs.StillToWrite.{still_failed, still_rest, still_same}
@@ -20,9 +20,6 @@ write_run-requires-clause-no_break g c =
     run_unbroken _ (stays_unbroken c.args.quoting.unicode (limit_where c.args.quoting.allow_breaks c.args.quoting.width)) c.run_after-run.ensures
     c.split_at.ensures.front
 
-pub write_gathered-requires-clause-plain : goal.write_gathered-requires-clause-plain
-write_gathered-requires-clause-plain g c = gathered_plain c.gather-last.ensures.gathered
-
 pub loop-c-preserved : goal.loop-c-preserved
 loop-c-preserved g c =
     let so_far = c.loop-c.invariant in
@@ -36,15 +33,14 @@ loop-c-preserved g c =
     let after = run_more (inside_after quoting.unicode limit indent) (inside_alone quoting.unicode limit indent c.write_next.new.pen.cursor)
     is_text c.run_after-run.ensures c.split_at.ensures.front c.split_at.ensures.back (still_rest first c.in_ok-write_next.ensures)
     c.in_ok-write_run.ensures.written in
-    let gathered = gathered_still quoting.unicode limit indent c.gather-last.ensures.gathered after in
     record {
-      is_text = subst IsUtf8 (sym c.chars-chars-in-Some.ensures.rest) c.gather-last.ensures.is_text;
-      still = still_same (double_inside quoting.unicode limit indent (Some c.gather-last.result.0)) (ap chars (sym c.chars-chars-in-Some.ensures.rest))
-          (still_rest gathered c.in_ok-write_gathered.ensures);
+      is_text = subst IsUtf8 (sym c.chars-chars-in-Some.ensures.rest) c.in_ok-last.ensures.is_text;
+      still = still_same (double_inside quoting.unicode limit indent (Some c.in_ok-last.last)) (ap chars (sym c.chars-chars-in-Some.ensures.rest))
+          (gathered_left quoting.unicode limit indent c.in_ok-last.ensures.written after);
     }
 
-pub returns-in_err-write_gathered : goal.returns-in_err-write_gathered
-returns-in_err-write_gathered g c =
+pub returns-in_err-last : goal.returns-in_err-last
+returns-in_err-last g c =
     let so_far = c.loop-c.invariant in
     let quoting = c.args.quoting in
     let limit = limit_where quoting.allow_breaks quoting.width in
@@ -56,9 +52,8 @@ returns-in_err-write_gathered g c =
     let after = run_more (inside_after quoting.unicode limit indent) (inside_alone quoting.unicode limit indent c.write_next.new.pen.cursor)
     is_text c.run_after-run.ensures c.split_at.ensures.front c.split_at.ensures.back (still_rest first c.in_ok-write_next.ensures)
     c.in_ok-write_run.ensures.written in
-    let gathered = gathered_still quoting.unicode limit indent c.gather-last.ensures.gathered after in
-    wrote_exit c.from_residual-in_err-write_gathered.ensures
-    (still_failed (double_inside quoting.unicode limit indent (Some c.gather-last.result.0) (chars c.gather-last.result.1.now)) gathered c.in_err-write_gathered.ensures)
+    wrote_exit c.from_residual-in_err-last.ensures
+    (gathered_failed quoting.unicode limit indent c.in_err-last.ensures.written after)
 
 pub returns-in_err-write_next : goal.returns-in_err-write_next
 returns-in_err-write_next g c =

@@ -13,7 +13,7 @@ returns g c =
     wrote_as
     (double_quoted_laid quoting.unicode (limit_where quoting.allow_breaks quoting.width) (natural quoting.indent) (chars c.args.value.now))
     (double-steps quoting.unicode (limit_where quoting.allow_breaks quoting.width) (natural quoting.indent) (chars c.args.value.now) c.args.pen.now.cursor)
-    (wrote_then (wrote_then c.in_ok-put_indicator.ensures.written c.in_ok-write_inside.ensures) c.put_indicator-2.ensures.written)
+    (wrote_then (wrote_then c.in_ok-put_indicator.ensures.written c.in_ok-write_value.ensures) c.put_indicator-2.ensures.written)
 
 pub returns-in_err-put_indicator : goal.returns-in_err-put_indicator
 returns-in_err-put_indicator g c =
@@ -25,11 +25,11 @@ returns-in_err-put_indicator g c =
     (double-steps quoting.unicode (limit_where quoting.allow_breaks quoting.width) (natural quoting.indent) (chars c.args.value.now) c.args.pen.now.cursor)
     (wrote_failed quote_laid (wrote_failed inside c.in_err-put_indicator.ensures.written)))
 
-pub returns-in_err-write_inside : goal.returns-in_err-write_inside
-returns-in_err-write_inside g c =
+pub returns-in_err-write_value : goal.returns-in_err-write_value
+returns-in_err-write_value g c =
     let quoting = c.args.quoting in
-    wrote_exit c.from_residual-in_err-write_inside.ensures
+    wrote_exit c.from_residual-in_err-write_value.ensures
     (wrote_as
     (double_quoted_laid quoting.unicode (limit_where quoting.allow_breaks quoting.width) (natural quoting.indent) (chars c.args.value.now))
     (double-steps quoting.unicode (limit_where quoting.allow_breaks quoting.width) (natural quoting.indent) (chars c.args.value.now) c.args.pen.now.cursor)
-    (wrote_failed quote_laid (wrote_then c.in_ok-put_indicator.ensures.written c.in_err-write_inside.ensures)))
+    (wrote_failed quote_laid (wrote_then c.in_ok-put_indicator.ensures.written c.in_err-write_value.ensures)))

@@ -1,5 +1,5 @@
 use Rattle.std.proofs.Common.{ap, ◌∙◌, Bool}
-use Rattle.yaml_base.specs.Analysis.{Allowances, allowances, is_empty}
+use Rattle.yaml_base.specs.Analysis.{allowances, is_empty}
 use Rattle.yaml_base.specs.Style.{chosen}
 use Rattle.yaml_emitter.specs.BorrowedTexts.{seen_scalar}
 use Rattle.yaml_emitter.proofs.WritingScalars.{if_ok_from}
@@ -14,8 +14,7 @@ returns-clause-choice c =
     if_ok_from _ _ _ c.select_scalar_style.result
     (λ given holds.
     holds.1
-    ∙ ap (λ (a : Allowances). chosen a content.style c.is_empty_value.result c.args.tag_written content.plain_implicit content.quoted_implicit flow
-    c.args.site.now.simple canonical) c.analyze_scalar-data.ensures
+    ∙ c.deciding_data-data.ensures c.is_empty_value.result c.args.tag_written content.plain_implicit content.quoted_implicit flow c.args.site.now.simple
     ∙ ap (λ (e : Bool). chosen allowed content.style e c.args.tag_written content.plain_implicit content.quoted_implicit flow c.args.site.now.simple canonical)
     c.is_empty_value.ensures
     ∙ ap (λ (t : Bool). chosen allowed content.style

@@ -1,10 +1,13 @@
-use Rattle.std.proofs.Common.{ℕ, List, sym, ap, subst, ◌∙◌, IsUtf8, chars}
+use Rattle.std.proofs.Common.{ℕ, Bool, List, sym, ap, subst, ◌∙◌, IsUtf8, chars}
 use Rattle.std.proofs.lemmas.Bool.{and_parts}
-use Rattle.std.specs.Prelude.{◌&&◌}
-use Rattle.yaml_scalar.specs.Barred.{barred_in, either, seen_barred}
+use Rattle.std.proofs.lemmas.Str.{chars-nil}
+use Rattle.std.specs.List.{list_any}
+use Rattle.std.specs.Prelude.{◌&&◌, ◌||◌}
+use Rattle.yaml_base.specs.Characters.{is_break}
+use Rattle.yaml_scalar.specs.Barred.{Barred, barred_in, either, seen_barred}
 use Rattle.yaml_scalar.specs.ScalarData.{seen_charset}
-use Rattle.yaml_scalar.proofs.Barred.{all_barred, barred_more, barred_whole}
-use Rattle.yaml_scalar.proofs.analysis.barred_in.Goals as goal
+use Rattle.yaml_scalar.proofs.Barred.{all_barred, barred_more, barred_whole, or_none}
+use Rattle.yaml_scalar.proofs.analysis.barred_before.Goals as goal
 
 pub loop-c-preserved : goal.loop-c-preserved
 loop-c-preserved c =
@@ -22,8 +25,8 @@ loop-c-preserved c =
           ∙ ap (λ (l : List ℕ). either read (barred_in charset (chars l))) (sym c.chars-chars-in-Some.ensures.rest);
     }
 
-pub returns-then-bars_all : goal.returns-then-bars_all
-returns-then-bars_all c =
+pub returns-then-bars_all-clause-same : goal.returns-then-bars_all-clause-same
+returns-then-bars_all-clause-same c =
     let so_far = c.loop-c.invariant in
     let charset = seen_charset c.args.charset in
     let rest : List ℕ = c.as_str-rest.result.now in
@@ -34,8 +37,15 @@ returns-then-bars_all c =
     sym (barred_more charset _ (seen_barred c.loop-c.barred) _ _ rest c.in-Some.c so_far.is_text c.in-Some.ensures.steps.0 c.as_str-rest.ensures so_far.so_far
     c.with_next-more.ensures
     ∙ ap (λ (l : List ℕ). either more (barred_in charset (chars l))) (sym c.as_str-rest.ensures)
-    ∙ all_barred more (barred_in charset (chars rest)) r.0 r.1 q.1 p.1
-    ∙ sym c.with_break.ensures)
+    ∙ all_barred more (barred_in charset (chars rest)) r.0 r.1 q.1 p.1)
 
-pub returns : goal.returns
-returns c = barred_whole (seen_charset c.args.charset) _ (seen_barred c.loop-c.barred) _ c.in_default.ensures.steps.0.0 c.loop-c.invariant.so_far
+pub returns-clause-same : goal.returns-clause-same
+returns-clause-same c =
+    let charset = seen_charset c.args.charset in
+    let found = seen_barred c.loop-c.barred in
+    ap (λ (b : Bool). let more : Barred = record found { multiline = b } in more)
+    (ap (λ t. found.multiline || list_any is_break t) chars-nil ∙ or_none found.multiline)
+    ∙ barred_whole charset _ found _ c.in_default.ensures.steps.0.0 c.loop-c.invariant.so_far
+
+pub returns-clause-rest : goal.returns-clause-rest
+returns-clause-rest c some = chars-nil

@@ -2,7 +2,7 @@ use Rattle.std.proofs.Common.{◌≡◌, IsUtf8, chars, length}
 use Rattle.std.specs.Str.Iter.{chars_rest}
 use Rattle.yaml_scalar.specs.Barred.{barred_in, either, seen_barred}
 use Rattle.yaml_scalar.specs.ScalarData.{seen_charset}
-use Rattle.yaml_scalar.proofs.analysis.barred_in.Given as goal
+use Rattle.yaml_scalar.proofs.analysis.barred_before.Given as goal
 
 abbrev pub invariant-loop-c : goal.invariant-loop-c
 invariant-loop-c l =

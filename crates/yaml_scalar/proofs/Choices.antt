@@ -1,0 +1,77 @@
+-- The style of a value that only double quotes can write doesn't depend on its breaks.
+use Rattle.std.proofs.Common.{◌≡◌, ◌∙◌, refl, sym, ap}
+use Rattle.std.proofs.lemmas.Bool.{and_parts}
+use Rattle.std.specs.Prelude.{Bool, true, false, [], ◌∷◌, ◌||◌, ◌&&◌, not, if◌then◌else◌}
+use Rattle.yaml_base.specs.Analysis.{Allowances, Charset, allowances, begins_unlike_plain, is_empty}
+use Rattle.yaml_base.specs.Characters.{Text}
+use Rattle.yaml_base.specs.Event.{ScalarStyle, any_style, plain, single_quoted, double_quoted, literal, folded}
+use Rattle.yaml_base.specs.Style.{Choice, chosen, fits_plain, is_plain, style_asked, style_fitting, style_quoted}
+use Rattle.yaml_scalar.specs.Barred.{Barred, all_styles, allowed_by, barred_in}
+use Rattle.yaml_scalar.specs.ScalarData.{ChooseAlike}
+use Rattle.yaml_scalar.proofs.Barred.{or_none}
+
+-- what a value allows is what its characters don't bar
+pub allowed_whole : (charset : Charset) (value : Text) → allowances charset value ≡ allowed_by (barred_in charset value) value
+allowed_whole charset [] = refl
+allowed_whole charset (c ∷ rest) = refl
+
+-- where nothing else fits double quotes do
+none_fits : (allowed : Allowances) (plain_fits block_fits : Bool) (asked : ScalarStyle) → plain_fits ≡ false → allowed.single_quoted ≡ false
+    → block_fits ≡ false → style_fitting allowed plain_fits block_fits asked ≡ double_quoted
+none_fits allowed plain_fits block_fits plain p s b =
+    ap (λ (x : Bool). if x then plain else style_quoted allowed) p ∙ ap (λ (x : Bool). if x then single_quoted else double_quoted) s
+none_fits allowed plain_fits block_fits single_quoted p s b = ap (λ (x : Bool). if x then single_quoted else double_quoted) s
+none_fits allowed plain_fits block_fits literal p s b = ap (λ (x : Bool). if x then literal else double_quoted) b
+none_fits allowed plain_fits block_fits folded p s b = ap (λ (x : Bool). if x then folded else double_quoted) b
+none_fits allowed plain_fits block_fits any_style p s b = refl
+none_fits allowed plain_fits block_fits double_quoted p s b = refl
+
+neither_plain : (flow one other a b : Bool) → one ≡ false → other ≡ false → ((if flow then one else other) && a && b) ≡ false
+neither_plain true one other a b e f = ap (λ x. x && a && b) e
+neither_plain false one other a b e f = ap (λ x. x && a && b) f
+
+nothing_allowed : (allowed : Allowances) → allowed.flow_plain ≡ false → allowed.block_plain ≡ false → allowed.single_quoted ≡ false → allowed.block ≡ false
+    → (asked : ScalarStyle) (empty tag_written plain_implicit quoted_implicit flow simple_key canonical : Bool)
+    → chosen allowed asked empty tag_written plain_implicit quoted_implicit flow simple_key canonical
+    ≡ record { style = double_quoted; bare = not tag_written && not quoted_implicit && not (is_plain double_quoted) }
+nothing_allowed allowed f p s b asked empty tag_written plain_implicit quoted_implicit flow simple_key canonical =
+    ap (λ (style : ScalarStyle). let c : Choice = record { style = style; bare = not tag_written && not quoted_implicit && not (is_plain style) } in c)
+    (none_fits allowed (fits_plain allowed empty tag_written plain_implicit flow simple_key) (allowed.block && not flow && not simple_key)
+    (style_asked (canonical || (simple_key && allowed.multiline)) asked)
+    (neither_plain flow allowed.flow_plain allowed.block_plain (not (empty && (flow || simple_key))) (tag_written || plain_implicit) f p)
+    s (ap (λ x. x && not flow && not simple_key) b))
+
+not_plain : (a b x : Bool) → x ≡ true → (a && not (b || x)) ≡ false
+not_plain false b x e = refl
+not_plain true true x e = refl
+not_plain true false x e = ap not e
+
+not_either : (a x : Bool) → x ≡ true → not (a || x) ≡ false
+not_either true x e = refl
+not_either false x e = ap not e
+
+barred_double : (found : Barred) (value : Text) → all_styles found ≡ true
+    → (asked : ScalarStyle) (empty tag_written plain_implicit quoted_implicit flow simple_key canonical : Bool)
+    → chosen (allowed_by found value) asked empty tag_written plain_implicit quoted_implicit flow simple_key canonical
+    ≡ record { style = double_quoted; bare = not tag_written && not quoted_implicit && not (is_plain double_quoted) }
+barred_double found value all =
+    let p = and_parts (found.flow_plain && found.block_plain && found.single_quoted) found.block all in
+    let q = and_parts (found.flow_plain && found.block_plain) found.single_quoted p.0 in
+    let r = and_parts found.flow_plain found.block_plain q.0 in
+    nothing_allowed (allowed_by found value) (not_plain (not (is_empty value)) (begins_unlike_plain value) found.flow_plain r.0)
+    (not_either (begins_unlike_plain value) found.block_plain r.1) (ap not q.1) (not_either (is_empty value) found.block p.1)
+
+-- so breaks that follow don't matter, where any do
+pub alike : (found : Barred) (more : Bool) (value : Text) → (all_styles found ≡ false → more ≡ false)
+    → ChooseAlike (allowed_by found value) (allowed_by (record found { multiline = found.multiline || more }) value)
+alike found more value none asked empty tag_written plain_implicit quoted_implicit flow simple_key canonical = go (all_styles found) refl
+  where
+    choice : Bool → Choice
+    choice multiline =
+        chosen (allowed_by (record found { multiline = multiline }) value) asked empty tag_written plain_implicit quoted_implicit flow simple_key canonical
+    go : (all : Bool) → all_styles found ≡ all → choice found.multiline ≡ choice (found.multiline || more)
+    go true is =
+        barred_double (record found { multiline = found.multiline }) value is asked empty tag_written plain_implicit quoted_implicit flow simple_key canonical
+        ∙ sym (barred_double (record found { multiline = found.multiline || more }) value is
+        asked empty tag_written plain_implicit quoted_implicit flow simple_key canonical)
+    go false is = ap choice (sym (ap (λ b. found.multiline || b) (none is) ∙ or_none found.multiline))

@@ -1,0 +1,53 @@
+-- A short text of ASCII is laid out as it is.
+use Rattle.std.proofs.Common.{◌≡◌, ◌∙◌, refl, ap, arith, subst, sym, append-nil, IsUtf8}
+use Rattle.std.proofs.lemmas.List.{take_all}
+use Rattle.std.proofs.lemmas.Str.{encodes-IsAscii, encodes-chars}
+use Rattle.std.specs.List.{list_all}
+use Rattle.std.specs.Prelude.{◌≤◌, ℕ, Bool, true, false, Option, None, List, [], ◌++◌, length, take}
+use Rattle.std.specs.Str.{chars}
+use Rattle.yaml_base.specs.Characters.{Text}
+use Rattle.yaml_base.specs.Cursor.{Cursor, Laid, text_laid}
+use Rattle.yaml_base.specs.DoubleQuoted.{double_inside}
+use Rattle.yaml_base.specs.Plain.{spaces}
+use Rattle.yaml_scalar.specs.ByteClasses.{IsFreeRun, Tells}
+use Rattle.yaml_scalar.specs.EscapeBytes.{is_plain}
+use Rattle.yaml_scalar.specs.LineSteps.{steps_laid, written_as}
+use Rattle.yaml_scalar.specs.ShortRuns.{IsShortLine, IsShortRun, most_short}
+use Rattle.yaml_scalar.specs.WholeRuns.{stays}
+use Rattle.yaml_scalar.proofs.ByteRuns.{free_passes}
+use Rattle.yaml_scalar.proofs.EscapeBytes.{plain-ascii}
+use Rattle.yaml_scalar.proofs.InsideSteps.{inside_stays}
+use Rattle.yaml_scalar.proofs.StaysInLine.{line_at}
+
+-- characters of ASCII are bytes
+plain_bytes : (text : List ℕ) → IsUtf8 text → list_all is_plain (chars text) ≡ true → chars text ≡ text
+plain_bytes text is_text all = sym (encodes-IsAscii (chars text) (plain-ascii (chars text) all)) ∙ encodes-chars text is_text
+
+-- a text that is one run of bytes of no class
+pub whole_run : {classes size : ℕ} {text : List ℕ} (test : ℕ → Bool) → IsUtf8 text → IsFreeRun classes text size → length text ≤ size
+    → length text ≤ most_short → Tells classes is_plain → Tells classes test → IsShortRun test text
+whole_run {classes} {size} {text} test is_text free whole few plain tells =
+    let passes : (other : ℕ → Bool) → Tells classes other → list_all other (chars text) ≡ true =
+    λ other by. ap (λ l. list_all other (chars l)) (sym (take_all size text whole)) ∙ free_passes by is_text free in
+    let same = plain_bytes text is_text (passes is_plain plain) in
+    record {
+      few = few;
+      same = same;
+      plain = ap (list_all is_plain) (sym same) ∙ passes is_plain plain;
+      all = ap (list_all test) (sym same) ∙ passes test tells;
+    }
+
+-- a text that is one line
+pub short_line_laid : (quoted : Bool) (limit : Option ℕ) (indent : ℕ) (cursor : Cursor) {text : List ℕ} → IsShortLine limit quoted cursor text
+    → text_laid text cursor ≡ steps_laid (written_as quoted) limit indent spaces (chars text) cursor
+short_line_laid quoted limit indent cursor {text} is =
+    ap (λ (t : Text). let l : Laid = record { text = t; cursor = (text_laid text cursor).cursor } in l) (sym (append-nil text))
+    ∙ sym (line_at quoted limit indent false 32 text [] cursor is.run.all (λ _. is.room))
+    ∙ ap (λ (t : Text). steps_laid (written_as quoted) limit indent spaces t cursor) (append-nil text ∙ sym is.run.same)
+
+-- a text between double quotes
+pub short_inside_laid : (unicode : Bool) (limit : Option ℕ) (indent : ℕ) (cursor : Cursor) {text : List ℕ} → IsShortRun (stays unicode limit) text
+    → text_laid text cursor ≡ double_inside unicode limit indent None (chars text) cursor
+short_inside_laid unicode limit indent cursor {text} is =
+    sym (inside_stays unicode limit indent None text cursor is.all)
+    ∙ ap (λ (t : Text). double_inside unicode limit indent None t cursor) (sym is.same)

@@ -1,0 +1,20 @@
+use Rattle.std.proofs.Common.{◌∙◌, ap, sym, chars, Bool, List, ℕ}
+use Rattle.std.specs.List.{list_any}
+use Rattle.yaml_base.specs.Analysis.{Allowances, Charset}
+use Rattle.yaml_base.specs.Characters.{Text, is_break}
+use Rattle.yaml_base.specs.Style.{Choice, chosen}
+use Rattle.yaml_scalar.specs.Barred.{Barred, allowed_by, seen_barred}
+use Rattle.yaml_scalar.proofs.Choices.{alike, allowed_whole}
+use Rattle.yaml_scalar.proofs.analysis.analyze_for_style.Goals as goal
+
+pub returns : goal.returns
+returns c asked empty tag_written plain_implicit quoted_implicit flow simple_key canonical =
+    let value = chars c.args.value.now in
+    let charset : Charset = record { unicode = c.args.unicode; breaks12 = c.args.breaks12 } in
+    let found = seen_barred c.barred_before.result.0 in
+    let rest : List ℕ = c.barred_before.result.1.now in
+    let choice : Allowances → Choice = λ a. chosen a asked empty tag_written plain_implicit quoted_implicit flow simple_key canonical in
+    ap choice c.data_of.ensures
+    ∙ alike found (list_any is_break (chars rest)) value (λ some. ap (λ (t : Text). list_any is_break t) (c.barred_before.ensures.rest some))
+    asked empty tag_written plain_implicit quoted_implicit flow simple_key canonical
+    ∙ ap choice (ap (λ (b : Barred). allowed_by b value) c.barred_before.ensures.same ∙ sym (allowed_whole charset value))

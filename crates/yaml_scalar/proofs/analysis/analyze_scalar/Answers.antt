@@ -1,0 +1,10 @@
+use Rattle.std.proofs.Common.{◌∙◌, ap, sym, chars}
+use Rattle.yaml_scalar.specs.Barred.{Barred, allowed_by}
+use Rattle.yaml_scalar.proofs.Choices.{allowed_whole}
+use Rattle.yaml_scalar.proofs.analysis.analyze_scalar.Goals as goal
+
+pub returns : goal.returns
+returns c =
+    let value = chars c.args.value.now in
+    c.data_of.ensures ∙ ap (λ (b : Barred). allowed_by b value) (c.with_break.ensures ∙ c.barred_before.ensures.same)
+    ∙ sym (allowed_whole (record { unicode = c.args.unicode; breaks12 = c.args.breaks12 }) value)

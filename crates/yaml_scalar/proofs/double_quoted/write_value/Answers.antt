@@ -1,0 +1,23 @@
+use Rattle.std.proofs.Common.{refl, chars}
+use Rattle.std.specs.Prelude.{None}
+use Rattle.yaml_base.specs.DoubleQuoted.{double_inside}
+use Rattle.yaml_pen.proofs.Composing.{wrote_as}
+use Rattle.yaml_pen.specs.Page.{natural}
+use Rattle.yaml_scalar.specs.Width.{limit_where}
+use Rattle.yaml_scalar.proofs.ShortRuns.{short_inside_laid}
+use Rattle.yaml_scalar.proofs.double_quoted.write_value.Goals as goal
+
+pub write_short_run-requires-clause-few : goal.write_short_run-requires-clause-few
+write_short_run-requires-clause-few g c = (c.if-is_short.ensures refl).few
+
+pub write_short_run-requires-clause-plain : goal.write_short_run-requires-clause-plain
+write_short_run-requires-clause-plain g c = (c.if-is_short.ensures refl).plain
+
+pub returns-then-is_short : goal.returns-then-is_short
+returns-then-is_short g c =
+    let quoting = c.args.quoting in
+    let limit = limit_where quoting.allow_breaks quoting.width in
+    let indent = natural quoting.indent in
+    wrote_as (double_inside quoting.unicode limit indent None (chars c.args.value.now))
+    (short_inside_laid quoting.unicode limit indent c.args.pen.now.cursor (c.if-is_short.ensures refl))
+    c.write_short_run.ensures

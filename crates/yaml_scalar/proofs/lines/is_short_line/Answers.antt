@@ -1,0 +1,16 @@
+use Rattle.std.proofs.Common.{arith, false, length}
+use Rattle.yaml_scalar.specs.WholeRuns.{stays_in_line}
+use Rattle.yaml_scalar.specs.Width.{limit_where}
+use Rattle.yaml_scalar.proofs.StaysInLine.{room_less}
+use Rattle.yaml_scalar.proofs.lines.is_short_line.Goals as goal
+
+pub returns : goal.returns
+returns g c is =
+    let lines = c.args.lines in
+    let room = c.line_room-room.result in
+    record {
+      run = c.is_short_run.ensures is (stays_in_line false lines.quoted) c.short_classes.ensures.plain c.short_classes.ensures.line;
+      room = room_less (limit_where lines.allow_breaks lines.width) c.args.pen.now.cursor.column room (length c.args.value.now)
+          (omega arith)
+          (c.line_room-room.ensures (omega arith));
+    }

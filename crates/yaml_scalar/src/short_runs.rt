@@ -1,0 +1,39 @@
+//! Short texts of ASCII that are handed to the pen at once, as they are.
+ghost use Rattle.std.specs.List.{list_all};
+ghost use Rattle.std.specs.Prelude.{◌≡◌, ◌≤◌, ℕ, Bool, true, length};
+ghost use Rattle.yaml_base.specs.Cursor.{text_laid};
+ghost use Rattle.yaml_pen.specs.Page.{IsReady};
+ghost use Rattle.yaml_pen.specs.Wrote.{Wrote};
+ghost use Rattle.yaml_scalar.specs.ByteClasses.{Tells};
+ghost use Rattle.yaml_scalar.specs.EscapeBytes.{is_plain};
+ghost use Rattle.yaml_scalar.specs.ShortRuns.{IsShortRun, most_short};
+
+use crate::classes::free_length;
+use std::alloc::Allocator;
+use yaml_base::yaml_error_t;
+use yaml_pen::Pen;
+
+/// So many bytes are short.
+const MOST_BYTES: usize = 512;
+
+/// A text is short and holds no byte of some classes, which tell what is not of ASCII.
+#[inline(always)]
+pub(crate) fn is_short_run(text: &str, classes: u8) -> bool
+    ensures { result ≡ true → (test : ℕ → Bool) → Tells classes is_plain → Tells classes test → IsShortRun test text.now }
+{
+    text.len() <= MOST_BYTES && free_length(text, classes) == text.len()
+}
+
+/// Writes a short run.
+#[inline(always)]
+pub(crate) fn write_short_run<A: Allocator>(
+    pen: &mut Pen<A>,
+    text: &str,
+) -> Result<(), yaml_error_t>
+    requires ready { IsReady pen.old }
+    requires few { length text.now ≤ most_short }
+    requires plain { list_all is_plain text.now ≡ true }
+    ensures { Wrote (text_laid text.now) pen.old pen.new result }
+{
+    pen.write_ascii(text.as_bytes())
+}
