@@ -1,7 +1,7 @@
 -- The limit gives out only where the bytes of the events pass it.
 use Rattle.std.proofs.Common.{◌≡◌, refl, sym, ap, ◌∙◌, arith, subst, append_assoc, inl, inr}
 use Rattle.std.proofs.lemmas.List.{length-append, take-append-drop}
-use Rattle.std.specs.Prelude.{ℕ, ◌<◌, ◌≤◌, Bool, true, false, Option, None, Some, List, [], ◌∷◌, ◌++◌, length, take, drop}
+use Rattle.std.specs.Prelude.{ℕ, ◌<◌, ◌≤◌, Bool, false, Option, Some, List, [], ◌∷◌, ◌++◌, length, take, drop}
 use Rattle.yaml_base.proofs.Completions.{front_begins}
 use Rattle.yaml_base.proofs.PieceLaws.{front_layout, list_layout_steps}
 use Rattle.yaml_base.proofs.Prefixes.{prefix_same}
@@ -15,7 +15,7 @@ use Rattle.yaml_base.specs.Output.{settings_for, text_written, bytes_written}
 use Rattle.yaml_base.specs.Pieces.{begins_last, list_layout}
 use Rattle.yaml_base.specs.Prefix.{IsPrefix}
 use Rattle.yaml_base.specs.Ready.{written}
-use Rattle.yaml_base.specs.Refusal.{IsAccepted, ends_collection}
+use Rattle.yaml_base.specs.Refusal.{IsAccepted}
 use Rattle.yaml_base.specs.Settings.{Settings, Effective}
 use Rattle.yaml_base.specs.Steps.{Steps, at_stream, ends_next, steps}
 use Rattle.yaml_base.specs.declared.errors.yaml_error_t.{yaml_error_t}
@@ -28,7 +28,7 @@ use Rattle.yaml_emitter.proofs.StandingSteps.{closes_last-append}
 use Rattle.yaml_emitter.proofs.StandingTexts.{begin_taken, front_longer, holds_text}
 use Rattle.yaml_emitter.specs.Processing.{closes_at_once}
 use Rattle.yaml_emitter.specs.Promises.{BeginsOutput, OutputBegins, Promised, StopsWriting, stops_before, stops_within}
-use Rattle.yaml_emitter.specs.StandsAfter.{HoldsPiecesWith, StandsAfter, StandsCut, StandsStopped, StandsUnflushed, closes_last, holds_before, holds_part}
+use Rattle.yaml_emitter.specs.StandsAfter.{HoldsPiecesWith, StandsAfter, StandsCut, StandsStopped, StandsUnflushed, holds_before, holds_part}
 use Rattle.yaml_emitter.specs.State.{State}
 use Rattle.yaml_emitter.specs.Uncut.{IsUncut}
 use Rattle.yaml_writer.specs.Unfinished.{PassesLimit}

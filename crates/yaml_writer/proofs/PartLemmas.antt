@@ -3,7 +3,7 @@ use Rattle.std.proofs.Common.{◌≡◌, ◌≢◌, Bor, MatchOption, refl, sym,
 use Rattle.std.proofs.lemmas.Bool.{true≢false, and_parts, and_from, or_from, not-true, not_from_false, eqb-true, ne_eqb, eq-eqb}
 use Rattle.std.proofs.lemmas.List.Folds.{list_all-append}
 use Rattle.std.specs.List.{list_all}
-use Rattle.std.specs.Prelude.{ℕ, suc, Bool, true, false, Option, None, Some, List, [], ◌∷◌, ◌++◌, ◌<◌, ◌==◌, ◌||◌, ◌&&◌, not, length, get_or, codes, option_map, ⊤, if◌then◌else◌}
+use Rattle.std.specs.Prelude.{ℕ, suc, Bool, true, false, Option, None, Some, List, [], ◌∷◌, ◌++◌, ◌<◌, ◌==◌, ◌||◌, not, length, get_or, codes, option_map, ⊤, if◌then◌else◌}
 use Rattle.yaml_base.specs.Characters.{Text}
 use Rattle.yaml_base.specs.Script.{is_word}
 use Rattle.yaml_base.specs.Resolved.{is_decimal, is_negative, past_sign, are_digits}
