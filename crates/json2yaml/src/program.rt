@@ -10,7 +10,8 @@ use std::{fs, io, str};
 use thiserror::Error;
 use yaml_json::{JsonError, JsonSettings, Writer, write_json_texts, yaml_error_t};
 
-const USAGE: &str = "usage: json2yaml [-o FILE] [--indent N] [--width N] [--canonical] [--flow] [--no-portable] [--help] [--version] [FILE..]";
+const USAGE: &str =
+    "usage: json2yaml [-o FILE] [--indent N] [--width N] [--canonical] [--flow] [--no-portable] [--help] [--version] [FILE..]";
 
 /// Why nothing was written.
 #[derive(Clone, Copy, Debug, Drop, Error)]
@@ -151,7 +152,12 @@ fn give_all<'a, R: Runtime + AllocGlobal>(
     requires { IsBare writer.old }
 {
     if !conversion.files.is_empty() {
-        return give_files(rt, writer, conversion.files.as_slice(), &conversion.settings);
+        return give_files(
+            rt,
+            writer,
+            conversion.files.as_slice(),
+            &conversion.settings,
+        );
     }
     match give_file(rt, writer, None, &conversion.settings) {
         Ok(()) => Ok(()),
@@ -178,7 +184,11 @@ fn converted<'a, R: Runtime + AllocGlobal>(
 }
 
 /// Writes the bytes to a file, or to standard output.
-fn write_bytes<R: Runtime + AllocGlobal>(rt: &R, bytes: &[u8], name: Option<&str>) -> io::Result<()> {
+fn write_bytes<R: Runtime + AllocGlobal>(
+    rt: &R,
+    bytes: &[u8],
+    name: Option<&str>,
+) -> io::Result<()> {
     match name {
         None => io::writer(rt).write_all(bytes),
         Some(name) => {

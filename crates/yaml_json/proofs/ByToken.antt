@@ -1,5 +1,5 @@
 -- A value by the token that begins it.
-use Rattle.std.proofs.Common.{◌≡◌, refl, sym, ap, ◌∙◌, subst}
+use Rattle.std.proofs.Common.{◌≡◌, sym, ap, ◌∙◌}
 use Rattle.std.specs.Prelude.{ℕ, Bool, Option, None, Some, List, [], ◌∷◌}
 use Rattle.std.specs.Str.{chars}
 use Rattle.json.specs.Token as tokens

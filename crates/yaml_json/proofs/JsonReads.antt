@@ -1,8 +1,8 @@
 -- What the reader of whole streams finds in the bytes of a JSON value's stream.
-use Rattle.std.proofs.Common.{◌≡◌, ◌≤◌, refl, sym, ap, ◌∙◌, subst, arith}
+use Rattle.std.proofs.Common.{◌≡◌, refl, sym, ap, ◌∙◌, subst}
 use Rattle.std.proofs.lemmas.List.{take_all}
 use Rattle.std.specs.List.{All, list_all}
-use Rattle.std.specs.Prelude.{ℕ, Bool, true, None, Some, List, [], not}
+use Rattle.std.specs.Prelude.{ℕ, Bool, true, None, List, not}
 use Rattle.json.specs.Json.{Json}
 use Rattle.json.specs.Tree.{HasNumbers}
 use Rattle.yaml_base.specs.Analysis.{is_special}
@@ -35,7 +35,6 @@ use Rattle.yaml_base.proofs.stream_nodes.StreamBodies.{bodies_stand, stream_bodi
 use Rattle.yaml_base.proofs.stream_nodes.StreamNames.{accepted_names_stand}
 use Rattle.yaml_base.proofs.stream_nodes.StreamScalarLeaves.{scalars_fit}
 use Rattle.yaml_base.proofs.stream_nodes.StreamStands.{BodyStands, BodiesHold}
-use Rattle.yaml_emitter.specs.Promises.{IsWritten}
 use Rattle.yaml_emitter.proofs.CanonicalBytes.{characters_back}
 use Rattle.yaml_emitter.proofs.Meaning.{is_indent}
 use Rattle.yaml_emitter.proofs.MeaningBodies.{charset_of}

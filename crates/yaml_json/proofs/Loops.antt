@@ -4,7 +4,7 @@ use Rattle.std.specs.Prelude.{Bool, Option, None, Some, List, [], ◌∷◌, ◌
 use Rattle.std.specs.Str.{chars}
 use Rattle.json.specs.Token.{Token, begin_array, begin_object}
 use Rattle.json.specs.Json.{Json, array, object, Items, no_items, item, Members, no_members, member, parse_map, after_end_array, read_key, items, members, value}
-use Rattle.json.proofs.Grammar.{value-begin_array, value-begin_object, items_end, items_fail, items_more, members_end, members_fail, members_more, members_no_key, after_end_array-shorter, read_key-shorter, skip_value-shorter, left}
+use Rattle.json.proofs.Grammar.{value-begin_array, value-begin_object, items_end, items_fail, items_more, members_end, members_fail, members_more, members_no_key, read_key-shorter, skip_value-shorter, left}
 use Rattle.yaml_base.specs.Event.{CollectionStyle, Event, scalar, sequence_start, mapping_start}
 use Rattle.yaml_writer.specs.Writing.{WriterState, Gave, entered, mapping_event, sequence_event}
 use Rattle.yaml_writer.specs.declared.kinds.CollectionKind.TheVariants.{Mapping, Sequence}

@@ -1,8 +1,8 @@
 -- What the tree of a JSON value means, wherever each scalar stands.
 use Rattle.std.proofs.Common.{◌≡◌, refl, sym, ap, ◌∙◌, subst, append_assoc, append-nil}
-use Rattle.std.proofs.lemmas.Bool.{and_parts, false≢true, true≢false}
+use Rattle.std.proofs.lemmas.Bool.{and_parts, false≢true}
 use Rattle.std.proofs.lemmas.Slice.Eq.{bytes_eq-Decides}
-use Rattle.std.specs.Prelude.{ℕ, Bool, true, false, Option, None, Some, List, [], ◌∷◌, ◌++◌, ◌&&◌, bytes_eq, codes, is_some, if◌then◌else◌}
+use Rattle.std.specs.Prelude.{Bool, true, false, Option, None, List, [], ◌∷◌, ◌++◌, ◌&&◌, bytes_eq, codes, is_some, if◌then◌else◌}
 use Rattle.std.specs.Str.{chars}
 use Rattle.std.specs.Str.Parse.{digits_value}
 use Rattle.json.specs.Json.{Json, null, boolean, number, string, array, object, Items, no_items, item, Members, no_members, member}
@@ -10,7 +10,7 @@ use Rattle.json.specs.Tree.{HasNumbers, ItemsHaveNumbers, MembersHaveNumbers}
 use Rattle.yaml_base.specs.Analysis.{Allowances, allowances, is_empty}
 use Rattle.yaml_base.specs.Characters.{Text}
 use Rattle.yaml_base.specs.Event.{Scalar, ScalarStyle, any_style, plain, single_quoted, double_quoted, literal, folded, TagDirective}
-use Rattle.yaml_base.specs.Grammar.{Node, scalar_node, Nodes, no_nodes, nodes_and, Pairs, no_pairs, pairs_and}
+use Rattle.yaml_base.specs.Grammar.{scalar_node, Nodes, no_nodes, nodes_and, Pairs, no_pairs, pairs_and}
 use Rattle.yaml_base.specs.JsonNumbers.{JsonNumber, fraction_or, is_json_integer, is_json_number, json_value, means_number, number_meant, value_with, yaml_number}
 use Rattle.yaml_base.specs.Layout.{as_item, as_key, as_value, Place, has_no_nodes, has_no_pairs, is_simple, is_simple_at, is_written_in_flow, entry_place}
 use Rattle.yaml_base.specs.NodeLayout.{choice_of}
@@ -27,10 +27,10 @@ use Rattle.yaml_base.proofs.NumbersRead.{spelling_read}
 use Rattle.yaml_base.proofs.stream_nodes.StreamAgrees.{standing_in, tagging_in, node_tree, nodes_tree, pairs_tree}
 use Rattle.yaml_writer.proofs.PlainLemmas.{plain_texts}
 use Rattle.yaml_writer.proofs.PlainNumbers.{written_numbers}
-use Rattle.yaml_writer.specs.NumberParts.{IsNumber, number_in}
+use Rattle.yaml_writer.specs.NumberParts.{number_in}
 use Rattle.yaml_writer.specs.Writing.{float_tag, number_tag, text_style}
 use Rattle.yaml_json.specs.JsonEvents.{bool_content, collection_in, null_content, number_content, text_content, word_content}
-use Rattle.yaml_json.specs.Means.{Schema, tag_of, scalar_meant, in_order, pairs_in_order, MeansNumber, MeansText, Means, ItemsMean, MembersMean}
+use Rattle.yaml_json.specs.Means.{Schema, tag_of, scalar_meant, in_order, pairs_in_order, Means, ItemsMean, MembersMean}
 use Rattle.yaml_json.proofs.NumberBridge.{number_is}
 use Rattle.yaml_json.proofs.Trees.{json_node, items_nodes, members_pairs}
 

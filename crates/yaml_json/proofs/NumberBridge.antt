@@ -6,12 +6,12 @@ use Rattle.std.proofs.lemmas.List.Folds.{length-prefix_len}
 use Rattle.std.proofs.lemmas.List.Sums.{take_while-cons}
 use Rattle.std.specs.Char.{is_ascii_digit}
 use Rattle.std.specs.List.{list_all, prefix_len, take_while}
-use Rattle.std.specs.Prelude.{ℕ, Bool, true, false, cond, Option, None, Some, List, [], ◌∷◌, ◌++◌, ◌==◌, ◌||◌, ◌&&◌, not, codes, drop, length, nat_le, option_and_then, take, if◌then◌else◌}
+use Rattle.std.specs.Prelude.{ℕ, Bool, true, false, cond, Option, None, Some, [], ◌∷◌, ◌++◌, ◌==◌, ◌||◌, ◌&&◌, not, codes, drop, length, nat_le, option_and_then, take, if◌then◌else◌}
 use Rattle.json.specs.Print as json
 use Rattle.json.specs.Word.{after_digits, after_exponent, after_fraction, after_minus, after_number, after_sign, after_whole}
 use Rattle.yaml_base.specs.Characters.{Text}
-use Rattle.yaml_base.specs.JsonNumbers.{JsonExponent, JsonNumber, exponent_text, is_json_number, is_whole, json_text, minus}
-use Rattle.yaml_base.specs.Resolved.{are_digits, first_is, is_decimal}
+use Rattle.yaml_base.specs.JsonNumbers.{JsonExponent, JsonNumber, exponent_text, is_whole, minus}
+use Rattle.yaml_base.specs.Resolved.{are_digits, is_decimal}
 use Rattle.yaml_base.specs.Script.{is_word}
 use Rattle.yaml_writer.specs.NumberParts.{IsNumber, number_in}
 use Rattle.yaml_writer.proofs.PartLemmas.{number_found}

@@ -1,15 +1,15 @@
 -- The events of a JSON value are written alike in every mode.
 use Rattle.std.proofs.Common.{◌≡◌, refl, sym, ap, ◌∙◌}
-use Rattle.std.proofs.lemmas.Bool.{and_from, and_parts, and_right, false≢true, not_from_false, or_from}
+use Rattle.std.proofs.lemmas.Bool.{and_from, and_right, false≢true, not_from_false, or_from}
 use Rattle.std.specs.List.{list_any}
-use Rattle.std.specs.Prelude.{ℕ, Bool, true, false, Option, None, Some, List, [], ◌∷◌, ◌++◌, ◌||◌, ◌&&◌, codes, is_some, not, option_map, unwrap_or, if◌then◌else◌}
+use Rattle.std.specs.Prelude.{Bool, true, false, Option, Some, [], ◌∷◌, ◌++◌, ◌||◌, ◌&&◌, codes, is_some, not, option_map, unwrap_or, if◌then◌else◌}
 use Rattle.std.specs.Str.{chars}
 use Rattle.json.specs.Json.{Json, null, boolean, number, string, array, object, Items, no_items, item, Members, no_members, member}
 use Rattle.json.specs.Tree.{HasNumbers}
 use Rattle.yaml_base.specs.Analysis.{is_empty}
 use Rattle.yaml_base.specs.Characters.{Text}
 use Rattle.yaml_base.specs.Event.{Scalar}
-use Rattle.yaml_base.specs.Grammar.{Document, Node, scalar_node, Nodes, no_nodes, nodes_and, Pairs, no_pairs, pairs_and, Stream, tree_of}
+use Rattle.yaml_base.specs.Grammar.{Document, scalar_node, Nodes, no_nodes, nodes_and, Pairs, no_pairs, pairs_and, Stream, tree_of}
 use Rattle.yaml_base.specs.JsonNumbers.{JsonNumber, exponent_spelled, fraction_or, is_json_integer, is_json_number, minus, yaml_number}
 use Rattle.yaml_base.specs.Layout.{is_explicit}
 use Rattle.yaml_base.specs.Refusal.{scalar_tag, collection_tag}

@@ -3,7 +3,7 @@ use Rattle.std.proofs.Common.{◌≡◌, refl, sym, ap, ◌∙◌, append_assoc,
 use Rattle.std.specs.Prelude.{Bool, true, None, List, [], ◌∷◌, ◌++◌}
 use Rattle.std.specs.Str.{chars}
 use Rattle.json.specs.Json.{Json, null, boolean, number, string, array, object, Items, no_items, item, Members, no_members, member}
-use Rattle.yaml_base.specs.Event.{Event, document_end, document_start, scalar, sequence_start, sequence_end, mapping_start, mapping_end, stream_end, stream_start}
+use Rattle.yaml_base.specs.Event.{Event, document_end, scalar, sequence_start, sequence_end, mapping_start, mapping_end, stream_end, stream_start}
 use Rattle.yaml_base.specs.Grammar.{Node, scalar_node, sequence_node, mapping_node, Nodes, no_nodes, nodes_and, Pairs, no_pairs, pairs_and, Document, no_documents, documents_and, Stream, node_events, nodes_events, pairs_events, stream_events}
 use Rattle.yaml_base.proofs.Trees.{one_tree}
 use Rattle.yaml_base.specs.Refusal.{IsAccepted}

@@ -1,15 +1,14 @@
 -- What a writer was given, call by call.
 use Rattle.std.proofs.Common.{◌≡◌, refl, sym, ap, ap₂, ◌∙◌, subst, append_assoc, append-nil, inl, inr}
-use Rattle.std.specs.Prelude.{ℕ, Bool, true, false, Option, None, Some, List, [], ◌∷◌, ◌++◌, OnOk, Result, Ok, Err, codes, is_none, if◌then◌else◌}
+use Rattle.std.specs.Prelude.{ℕ, Bool, Option, None, List, [], ◌∷◌, ◌++◌, OnOk, Result, Ok, Err, is_none}
 use Rattle.yaml_base.specs.Characters.{Text}
 use Rattle.yaml_base.specs.Event.{CollectionStyle, Event, ScalarStyle, plain, scalar, sequence_start, mapping_start}
 use Rattle.yaml_base.specs.JsonNumbers.{JsonNumber, yaml_number}
-use Rattle.yaml_base.specs.Settings.{Settings}
 use Rattle.yaml_emitter.specs.State.{State}
 use Rattle.yaml_emitter.specs.StandsAfter.{StandsAfter}
 use Rattle.yaml_writer.proofs.PartLemmas.{number_found}
 use Rattle.yaml_writer.specs.NumberParts.{IsNumber, number_in}
-use Rattle.yaml_writer.specs.Writing.{WriterState, AddsAll, Ended, EndsInnermost, Gave, collection_of, end_event, entered, mapping_event, number_event, number_tag, sequence_event, tag_or, text_event, text_style, word_event}
+use Rattle.yaml_writer.specs.Writing.{WriterState, AddsAll, Gave, end_event, entered, mapping_event, number_event, number_tag, sequence_event, tag_or, text_event, text_style, word_event}
 use Rattle.yaml_writer.specs.declared.kinds.CollectionKind.{CollectionKind}
 use Rattle.yaml_json.specs.JsonEvents.{collection_in, number_content, style_of, text_content, word_content}
 use Rattle.yaml_json.specs.Wrote.{Ends, IsBare, Wrote, WroteEvent}
@@ -123,7 +122,7 @@ ended outer kind before after levels bare (inl none) = absurd (none_more outer k
 ended outer kind before after levels bare (inr end) =
     let same = same_last end.outer outer end.kind kind (sym end.levels ∙ levels) in (
       λ given all stands.
-      subst (λ (k : CollectionKind). StandsAfter given (all ++ end_event k ∷ []) after.emitter) same.1 (end.adds given all stands),
+          subst (λ (k : CollectionKind). StandsAfter given (all ++ end_event k ∷ []) after.emitter) same.1 (end.adds given all stands),
       ap (λ (w : WriterState). w.canonical) end.rest,
       ap (λ (w : WriterState). w.levels) end.rest ∙ same.0,
       (ap (λ (w : WriterState). w.anchor) end.rest ∙ bare.0, ap (λ (w : WriterState). w.tag) end.rest ∙ bare.1),

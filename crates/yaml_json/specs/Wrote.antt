@@ -1,5 +1,5 @@
 -- What a value of JSON comes to for the writer that it is given to, and what is left of the reader's tokens.
-use Rattle.std.specs.Prelude.{◌≡◌, ℕ, Bool, None, Some, Result, Ok, List, [], ◌∷◌, ◌++◌, flat_map, length, true}
+use Rattle.std.specs.Prelude.{◌≡◌, ℕ, Bool, None, Some, Ok, List, [], ◌∷◌, ◌++◌, flat_map, length, true}
 use Rattle.std.specs.Str.{chars}
 use Rattle.json.specs.Token.{Token}
 use Rattle.json.specs.Lex.{tokens}
