@@ -21,7 +21,8 @@ use yaml_base::{yaml_break_t, yaml_encoding_t, yaml_error_t};
 /// So many spaces are written at once.
 const MOST_SPACES: u32 = 64;
 /// LF, and as many spaces.
-static LINE_START: [u8; 65] = *b"\n                                                                ";
+static LINE_START: [u8; 65] =
+    *b"\n                                                                ";
 
 /// Writes characters in an encoding through a buffer of 16,384 bytes to an output that it owns, and
 /// keeps the cursor. A call that writes, or a flush, answers `WriteError` where the encoded text passes
@@ -351,7 +352,10 @@ impl<A: Allocator> Pen<A> {
         ensures unmarked { result ≡ true → has_mark self.now.encoding ≡ false }
         ensures line_feed { result ≡ true → self.now.line_break ≡ line_feed_break }
     {
-        at <= MOST_SPACES && self.breaks_line(at) && !has_mark(self.encoding) && is_line_feed(self.line_break)
+        at <= MOST_SPACES
+            && self.breaks_line(at)
+            && !has_mark(self.encoding)
+            && is_line_feed(self.line_break)
     }
 
     fn write_line_start(&mut self, at: u32) -> Result<(), yaml_error_t>

@@ -28,9 +28,9 @@ pub free_four : (classes : ℕ) (bytes : List ℕ) (place : ℕ) → place + 4 �
     → list_all (is_free classes) (take place bytes) ≡ true → list_all (is_free classes) (take (place + 4) bytes) ≡ true
 free_four classes bytes place within four_free all =
     let p = and_parts (is_free classes (slice_index bytes place) && is_free classes (slice_index bytes (place + 1))
-        && is_free classes (slice_index bytes (place + 2))) (is_free classes (slice_index bytes (place + 3))) four_free in
+    && is_free classes (slice_index bytes (place + 2))) (is_free classes (slice_index bytes (place + 3))) four_free in
     let q = and_parts (is_free classes (slice_index bytes place) && is_free classes (slice_index bytes (place + 1)))
-        (is_free classes (slice_index bytes (place + 2))) p.0 in
+    (is_free classes (slice_index bytes (place + 2))) p.0 in
     let r = and_parts (is_free classes (slice_index bytes place)) (is_free classes (slice_index bytes (place + 1))) q.0 in
     let one = free_more classes bytes place (omega arith) r.0 all in
     let two = free_more classes bytes (place + 1) (omega arith) r.1 one in

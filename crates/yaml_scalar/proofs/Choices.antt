@@ -69,6 +69,7 @@ alike found more value none asked empty tag_written plain_implicit quoted_implic
     choice : Bool → Choice
     choice multiline =
         chosen (allowed_by (record found { multiline = multiline }) value) asked empty tag_written plain_implicit quoted_implicit flow simple_key canonical
+
     go : (all : Bool) → all_styles found ≡ all → choice found.multiline ≡ choice (found.multiline || more)
     go true is =
         barred_double (record found { multiline = found.multiline }) value is asked empty tag_written plain_implicit quoted_implicit flow simple_key canonical

@@ -271,11 +271,7 @@ pub(crate) fn write_lines<A: Allocator>(
 
 /// The same, run by run.
 #[inline(never)]
-fn write_runs<A: Allocator>(
-    pen: &mut Pen<A>,
-    value: &str,
-    lines: Lines,
-) -> Result<(), yaml_error_t>
+fn write_runs<A: Allocator>(pen: &mut Pen<A>, value: &str, lines: Lines) -> Result<(), yaml_error_t>
     requires { IsReady pen.old }
     ensures { Wrote (layout.runs_laid (steps.written_as lines.quoted) (limit_where lines.allow_breaks lines.width) lines.indent true
         (layout.runs (chars value.now))) pen.old pen.new result }
