@@ -1,0 +1,40 @@
+/* Writes the YAML of a script of events: a call that tells how much room it needs, then one that writes. */
+#include <inttypes.h>
+#include <stdio.h>
+#include <stdlib.h>
+#include <string.h>
+
+#include "yaml_c.h"
+
+static const char script[] =
+    "portable on\n"
+    "+STR any\n"
+    "+DOC 1 -\n"
+    "+SEQ block 1 - -\n"
+    "=VAL any 1 1 - - \"one\"\n"
+    "=VAL double 1 1 - - \"two\\n\"\n"
+    "-SEQ\n"
+    "-DOC 1\n"
+    "-STR\n";
+
+static int32_t run(const char *text, uint8_t *out, size_t capacity, size_t *len, uint64_t *line) {
+    return yaml_run((const uint8_t *)text, strlen(text), out, capacity, len, line);
+}
+
+int main(void) {
+    uint8_t small[8];
+    size_t len;
+    uint64_t line;
+    if (run(script, small, sizeof small, &len, &line) != YAML_TOO_SMALL) return 1;
+    printf("%zu bytes\n", len);
+    uint8_t *yaml = malloc(len);
+    if (yaml == NULL) return 1;
+    if (run(script, yaml, len, &len, &line) != YAML_DONE) return 1;
+    fwrite(yaml, 1, len, stdout);
+    free(yaml);
+    if (run("+STR any\n+STR\n", small, sizeof small, &len, &line) != YAML_BAD_LINE) return 1;
+    printf("line %" PRIu64 " can't be read\n", line);
+    if (run("+STR any\n-DOC 1\n", small, sizeof small, &len, &line) != YAML_REFUSED) return 1;
+    printf("the event of line %" PRIu64 " is refused\n", line);
+    return 0;
+}

@@ -1,0 +1,78 @@
+//! Writes the YAML of a script of events through the static library `yaml_c`, from Rust without the toolchain.
+use std::io::Write;
+
+extern "C" {
+    fn yaml_run(
+        script: *const u8,
+        script_len: usize,
+        out: *mut u8,
+        out_capacity: usize,
+        out_len: *mut usize,
+        line: *mut u64,
+    ) -> i32;
+}
+
+/// Why a script has no YAML.
+#[derive(Debug, PartialEq)]
+enum RunError {
+    /// The event of this line is refused.
+    Refused(u64),
+    /// This line is no line of a script.
+    BadLine(u64),
+    NoMemory,
+}
+
+/// One call; `Ok(Err(needed))` where the buffer has less room than is needed.
+fn run_into(script: &str, out: &mut [u8]) -> Result<Result<usize, usize>, RunError> {
+    let (mut len, mut line) = (0, 0);
+    // SAFETY: the pointers and lengths are those of slices that are borrowed for the call, and `len` and `line` are written.
+    let status = unsafe {
+        yaml_run(script.as_ptr(), script.len(), out.as_mut_ptr(), out.len(), &mut len, &mut line)
+    };
+    match status {
+        0 => Ok(Ok(len)),
+        1 => Err(RunError::Refused(line)),
+        2 => Err(RunError::BadLine(line)),
+        4 => Ok(Err(len)),
+        _ => Err(RunError::NoMemory),
+    }
+}
+
+/// The YAML of a script.
+fn run(script: &str) -> Result<Vec<u8>, RunError> {
+    let mut yaml = vec![0; 8];
+    loop {
+        match run_into(script, &mut yaml)? {
+            Ok(len) => {
+                yaml.truncate(len);
+                return Ok(yaml);
+            }
+            Err(needed) => {
+                println!("{needed} bytes");
+                yaml.resize(needed, 0);
+            }
+        }
+    }
+}
+
+fn main() -> Result<(), RunError> {
+    let script = r#"portable on
++STR any
++DOC 1 -
++SEQ block 1 - -
+=VAL any 1 1 - - "one"
+=VAL double 1 1 - - "two\n"
+-SEQ
+-DOC 1
+-STR
+"#;
+    let yaml = run(script)?;
+    std::io::stdout().write_all(&yaml).expect("standard output is open");
+    if let Err(RunError::BadLine(line)) = run("+STR any\n+STR\n") {
+        println!("line {line} can't be read");
+    }
+    if let Err(RunError::Refused(line)) = run("+STR any\n-DOC 1\n") {
+        println!("the event of line {line} is refused");
+    }
+    Ok(())
+}
