@@ -5,6 +5,7 @@ pub mod Spellings
 pub mod Given
 pub mod Writing
 pub mod Unfinished
+pub mod Floats
 pub mod Inside
 pub mod PlainTexts
 pub mod ReadNumbers

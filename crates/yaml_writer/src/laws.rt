@@ -1,6 +1,7 @@
 //! Laws of the definitions, each the contract of a function that does nothing.
 ghost use Rattle.yaml_base.specs.JsonNumbers.{NumbersAreRead};
 ghost use Rattle.yaml_base.specs.SurelyText.{SurelyTextIsText};
+ghost use Rattle.yaml_writer.specs.Floats.{SpecialFloatsAreRead};
 ghost use Rattle.yaml_writer.specs.PlainTexts.{PlainTextsAreTexts};
 ghost use Rattle.yaml_writer.specs.ReadNumbers.{WrittenNumbersAreRead};
 
@@ -23,4 +24,9 @@ pub fn plain_texts_are_texts()
 /// number.
 pub fn written_numbers_are_read()
     ensures { WrittenNumbersAreRead }
+{}
+
+/// Both schemas read `.inf`, `-.inf` and `.nan` as exactly these floats.
+pub fn special_floats_are_read()
+    ensures { SpecialFloatsAreRead }
 {}

@@ -2,6 +2,7 @@
 #![tactic(auto)]
 
 mod collections;
+mod floats;
 mod giving;
 mod kinds;
 mod laws;
@@ -14,9 +15,11 @@ mod texts;
 mod words;
 mod writer;
 
+pub use floats::SpecialFloat;
 pub use kinds::CollectionKind;
 pub use laws::{
-    numbers_are_read, plain_texts_are_texts, surely_text_is_text, written_numbers_are_read,
+    numbers_are_read, plain_texts_are_texts, special_floats_are_read, surely_text_is_text,
+    written_numbers_are_read,
 };
 pub use numbers::{Number, number_of};
 pub use settings::Settings;

@@ -167,7 +167,7 @@ impl<A: Allocator + Copy> Writer<A> {
     }
 
     /// Writes a word of a type of YAML, plain.
-    fn word(&mut self, tag: &str, word: &str) -> Result<(), yaml_error_t>
+    pub(crate) fn word(&mut self, tag: &str, word: &str) -> Result<(), yaml_error_t>
         ensures given { OnOk result (Gave self.old (word_event self.old (chars tag.now) (chars word.now)) None self.new) }
         ensures failed { IfErr result (λ error. Failed self.old (word_event self.old (chars tag.now) (chars word.now)) error self.new) }
     {

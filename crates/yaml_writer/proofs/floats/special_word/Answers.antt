@@ -1,0 +1,13 @@
+use Rattle.std.proofs.Common.{codes, refl, sym, ap, ◌∙◌}
+use Rattle.yaml_base.proofs.Literals.{chars-literal}
+use Rattle.yaml_writer.specs.Floats.{special_text}
+use Rattle.yaml_writer.proofs.floats.special_word.Goals as goal
+
+pub returns-in-Infinity : goal.returns-in-Infinity
+returns-in-Infinity c = chars-literal (codes ".inf") refl ∙ ap special_text (sym c.in-Infinity.is)
+
+pub returns-in-NegativeInfinity : goal.returns-in-NegativeInfinity
+returns-in-NegativeInfinity c = chars-literal (codes "-.inf") refl ∙ ap special_text (sym c.in-NegativeInfinity.is)
+
+pub returns-in-NotANumber : goal.returns-in-NotANumber
+returns-in-NotANumber c = chars-literal (codes ".nan") refl ∙ ap special_text (sym c.in-NotANumber.is)
