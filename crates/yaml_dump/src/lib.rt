@@ -53,6 +53,7 @@ pub use yaml_emitter::YAML_UTF16BE_ENCODING;
 pub use yaml_emitter::YAML_UTF16LE_ENCODING;
 pub use yaml_emitter::YAML_WRITER_ERROR;
 pub use yaml_emitter::analyze_anchor;
+pub use yaml_emitter::analyze_for_style;
 pub use yaml_emitter::analyze_scalar;
 pub use yaml_emitter::analyze_tag;
 pub use yaml_emitter::analyze_tag_directive;

@@ -123,6 +123,7 @@ pub use yaml_mark::write_tag_suffix;
 pub use yaml_mark::written_tag_reads;
 pub use yaml_mark::written_tag_stays_one_word;
 pub use yaml_pen::Pen;
+pub use yaml_scalar::analyze_for_style;
 pub use yaml_scalar::analyze_scalar;
 pub use yaml_scalar::holds_break;
 pub use yaml_scalar::scalar_data_t;
