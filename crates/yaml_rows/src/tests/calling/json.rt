@@ -14,6 +14,9 @@ fn yaml_of_json(alloc: Global, text: &str) -> Result<Vec<u8>, JsonError> {
 fn json_is_written(rt: HostRuntime) -> Result<(), Fail> {
     let text = "{\"country\": \"no\", \"sizes\": {\"1\": 1e5}}";
     let expected = "---\ncountry: 'no'\nsizes:\n    '1': 1.0e+5\n";
-    assert_eq!(rt; yaml_of_json(rt.alloc(), text)?.as_slice(), expected.as_bytes());
+    assert_eq!(rt;
+        yaml_of_json(rt.alloc(), text)?.as_slice(),
+        expected.as_bytes()
+    );
     Ok(())
 }
