@@ -1,0 +1,16 @@
+use Rattle.std.proofs.Common.{refl}
+use Rattle.yaml_writer.specs.Writing.{entered}
+use Rattle.yaml_writer.specs.declared.kinds.CollectionKind.TheVariants.{Mapping}
+use Rattle.yaml_serde.specs.Documents.{mapping_call}
+use Rattle.yaml_serde.proofs.Within.{within_begun}
+use Rattle.yaml_serde.proofs.document.Document.begin_mapping.Goals as goal
+
+pub invariant_of-self : goal.invariant_of-self
+invariant_of-self g c =
+    let before = c.args.self.now.writer in
+    let inside = entered before Mapping in
+    record {
+      within =
+          within_begun g.G.Given.given c.begin_mapping.result before inside c.begin_mapping.new.self (mapping_call inside) refl
+          c.begin_mapping.ensures.given c.begin_mapping.ensures.failed c.args.self.now.within;
+    }

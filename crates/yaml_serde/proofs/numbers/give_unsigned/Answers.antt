@@ -1,0 +1,7 @@
+use Rattle.std.proofs.Common.{sym, subst, arith}
+use Rattle.yaml_serde.specs.Numbers.{HasNumber}
+use Rattle.yaml_serde.proofs.NumberTexts.{has_decimal}
+use Rattle.yaml_serde.proofs.numbers.give_unsigned.Goals as goal
+
+pub number-requires : goal.number-requires
+number-requires g c = subst HasNumber (sym c.format.ensures.text) (has_decimal c.args.value (omega arith))

@@ -1,0 +1,18 @@
+//! Any value that implements `serde::Serialize`, written as YAML.
+#![tactic(auto)]
+
+mod document;
+mod error;
+mod numbers;
+mod serializer;
+mod serializing;
+#[cfg(test)]
+mod tests;
+
+pub use error::Error;
+pub use serializing::{to_string, to_vec, to_vec_with};
+pub use yaml_writer::{
+    Settings, YAML_ANY_BREAK, YAML_ANY_ENCODING, YAML_CR_BREAK, YAML_CRLN_BREAK, YAML_LN_BREAK,
+    YAML_UTF8_ENCODING, YAML_UTF16BE_ENCODING, YAML_UTF16LE_ENCODING, yaml_break_t,
+    yaml_encoding_t, yaml_error_t,
+};
