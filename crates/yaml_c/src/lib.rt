@@ -2,4 +2,6 @@
 #![tactic(auto)]
 
 mod buffers;
+mod json_texts;
 mod scripts;
+mod statuses;

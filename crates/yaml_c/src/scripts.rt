@@ -5,20 +5,10 @@ ghost use Rattle.yaml_tool.specs.Runs.{Tells};
 ghost use Rattle.yaml_c.specs.Answers.{HandsOut, IsRun};
 
 use crate::buffers::hand_out;
+use crate::statuses::{BAD_LINE, DONE, NO_MEMORY, REFUSED, TOO_SMALL};
 use std::alloc::Global;
 use yaml_base::yaml_error_t;
 use yaml_tool::{run, run_answer_t};
-
-// The statuses of `enum yaml_status` in the header.
-const DONE: i32 = 0;
-
-const REFUSED: i32 = 1;
-
-const BAD_LINE: i32 = 2;
-
-const NO_MEMORY: i32 = 3;
-
-const TOO_SMALL: i32 = 4;
 
 /// Runs a script of events (`docs/SCRIPTS.md`), and writes its YAML to `out`. See the header.
 #[unsafe(no_mangle)]

@@ -1,0 +1,15 @@
+//! The statuses of `enum yaml_status` in the header.
+
+pub(crate) const DONE: i32 = 0;
+
+pub(crate) const REFUSED: i32 = 1;
+
+pub(crate) const BAD_LINE: i32 = 2;
+
+pub(crate) const NO_MEMORY: i32 = 3;
+
+pub(crate) const TOO_SMALL: i32 = 4;
+
+pub(crate) const NOT_JSON: i32 = 5;
+
+pub(crate) const TOO_DEEP: i32 = 6;
