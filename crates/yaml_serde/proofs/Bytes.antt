@@ -41,6 +41,7 @@ document_is_utf8 bytes document = IsUtf8-had bytes (∥∥₁_map document is)
     is : (events : List Event) × All IsCall events × IsStream default_settings (all_of events) bytes → IsUtf8 bytes
     is stream = stream_is_utf8 stream.0 bytes stream.2
 
-pub document_ok : {A E : Type 0} (answer : Result (Vec ℕ A) E) → IfOk answer (λ bytes. IsDocument default_settings bytes.items) → IfOk answer (λ bytes. IsUtf8 bytes.items)
+pub document_ok : {A E : Type 0} (answer : Result (Vec ℕ A) E) → IfOk answer (λ bytes. IsDocument default_settings bytes.items)
+    → IfOk answer (λ bytes. IsUtf8 bytes.items)
 document_ok (Ok bytes) document = document_is_utf8 bytes.items document
 document_ok (Err error) document = tt

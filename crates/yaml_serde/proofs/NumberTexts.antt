@@ -136,9 +136,11 @@ valid_is : (negative point exponent_negative : Bool) (whole fraction exponent : 
     → (point ≡ true → 0 < length fraction) → AllDigits 10 fraction → AllDigits 10 exponent
     → is_json_number
     (record { negative = negative; whole = whole; fraction = fraction_of point fraction; exponent = exponent_of exponent_negative exponent }) ≡ true
-valid_is negative true en whole fraction [] is some digits power = all_true (is_whole whole) (are_digits 10 fraction) true is (are_some fraction (some refl) digits) refl
+valid_is negative true en whole fraction [] is some digits power =
+    all_true (is_whole whole) (are_digits 10 fraction) true is (are_some fraction (some refl) digits) refl
 valid_is negative true en whole fraction (d ∷ ds) is some digits power =
-    all_true (is_whole whole) (are_digits 10 fraction) (are_digits 10 (d ∷ ds)) is (are_some fraction (some refl) digits) (are_some (d ∷ ds) (omega arith) power)
+    all_true (is_whole whole) (are_digits 10 fraction) (are_digits 10 (d ∷ ds)) is (are_some fraction (some refl) digits)
+    (are_some (d ∷ ds) (omega arith) power)
 valid_is negative false en whole fraction [] is some digits power = all_true (is_whole whole) true true is refl refl
 valid_is negative false en whole fraction (d ∷ ds) is some digits power =
     all_true (is_whole whole) true (are_digits 10 (d ∷ ds)) is refl (are_some (d ∷ ds) (omega arith) power)

@@ -32,7 +32,8 @@ module _ (given : Settings) where
     where
       more : Begun before → Begun after
       more begun =
-          (begun.0 ++ event ∷ [], All-append IsCall begun.0 (event ∷ []) begun.1 (All-cons IsCall event [] call (All-nil IsCall)), adds given (opening ++ begun.0) begun.2)
+          let one = All-cons IsCall event [] call (All-nil IsCall) in
+          (begun.0 ++ event ∷ [], All-append IsCall begun.0 (event ∷ []) begun.1 one, adds given (opening ++ begun.0) begun.2)
 
   -- the same state is as good
   within_same : (before after : WriterState) → after ≡ before → IsWithin given before.emitter → IsWithin given after.emitter
