@@ -10,6 +10,7 @@ use Rattle.yaml_base.specs.Event.{Event, stream_end, document_end, sequence_star
 use Rattle.yaml_base.specs.Grammar.{no_nodes, nodes_and, no_pairs, pairs_and, Level, at_item, at_key, at_value, Partial, before_stream, between_documents, within_document, after_root, after_stream, push, pushed, partial_of}
 use Rattle.yaml_base.specs.Refusal.{fault_if, too_deep, name_or_tag_fault, content_fault, expected, place_fault, most_open, begins_collection, ends_collection, open_levels, depth_fault, refusal_at, refusal, is_sound, open_count, BeginsAccepted, RefusedExactly}
 use Rattle.yaml_base.specs.Pieces.{empty_scalar, innermost_missing, outer_missing, levels_missing, missing, missing_after, completion}
+use Rattle.yaml_base.proofs.NoFaults.{neither, is_none_none}
 use Rattle.yaml_base.proofs.Trees.{stream_pushed}
 use Rattle.yaml_base.proofs.Pushes.{partial_of_events}
 use Rattle.yaml_base.proofs.Completions.{pushed-append, stream_completed, completion_pushed, front_begins}
@@ -167,18 +168,6 @@ begins_from_stands canonical events stands =
 or_none : (a b : Option ℕ) → a ≡ None → b ≡ None → option_or a b ≡ None
 or_none a b h k = ap (λ x. option_or x b) h ∙ k
 
-none_left : (a b : Option ℕ) → option_or a b ≡ None → a ≡ None
-none_left None b h = refl
-none_left (Some x) b h = h
-
-none_right : (a b : Option ℕ) → option_or a b ≡ None → b ≡ None
-none_right None b h = h
-none_right (Some x) b h = cc
-
-pub is_none_none : (a : Option ℕ) → is_none a ≡ true → a ≡ None
-is_none_none None h = refl
-is_none_none (Some x) h = cc
-
 no_fault : (wrong : Bool) (fault : ℕ) → fault_if wrong fault ≡ None → wrong ≡ false
 no_fault true fault h = cc
 no_fault false fault h = refl
@@ -223,12 +212,12 @@ next_stands canonical before event given accepted =
     let content = content_fault canonical event in
     let wrong_depth = begins_collection event && not (nat_lt (length (open_levels p)) most_open) in
     let rest = option_or (place_fault p event) (option_or content (depth_fault p event)) in
-    let names_none : names ≡ None = none_left names rest accepted in
-    let rest_none : rest ≡ None = none_right names rest accepted in
-    let place_none : place_fault p event ≡ None = none_left (place_fault p event) (option_or content (depth_fault p event)) rest_none in
-    let last_none : option_or content (depth_fault p event) ≡ None = none_right (place_fault p event) (option_or content (depth_fault p event)) rest_none in
-    let content_none : content ≡ None = none_left content (depth_fault p event) last_none in
-    let depth_none : depth_fault p event ≡ None = none_right content (depth_fault p event) last_none in
+    let names_none : names ≡ None = (neither names rest accepted).0 in
+    let rest_none : rest ≡ None = (neither names rest accepted).1 in
+    let place_none : place_fault p event ≡ None = (neither (place_fault p event) (option_or content (depth_fault p event)) rest_none).0 in
+    let last_none : option_or content (depth_fault p event) ≡ None = (neither (place_fault p event) (option_or content (depth_fault p event)) rest_none).1 in
+    let content_none : content ≡ None = (neither content (depth_fault p event) last_none).0 in
+    let depth_none : depth_fault p event ≡ None = (neither content (depth_fault p event) last_none).1 in
     let sound_event : is_sound canonical event ≡ true = ap is_none (or_none names content names_none content_none) in
     let pushes : (q : Partial) × (push p event ≡ Some q) = is_some_value (push p event) (no_fault (is_none (push p event)) (expected p) place_none) in
     let room : begins_collection event ≡ true → length (open_levels p) < most_open =
@@ -279,9 +268,9 @@ not_refused canonical before event given next =
     room_if (begins_collection event) room
     (λ begins. lt-ltb (length (open_levels p)) most_open
     (room_left before event most_open (length (open_levels p)) (omega arith) (open_count-levels before p given.is_partial) all begins)) in
-    or_none names (option_or (place_fault p event) (option_or content (depth_fault p event))) (none_left names content own_none)
+    or_none names (option_or (place_fault p event) (option_or content (depth_fault p event))) (neither names content own_none).0
     (or_none (place_fault p event) (option_or content (depth_fault p event)) (ap (λ b. fault_if b (expected p)) stands_at)
-    (or_none content (depth_fault p event) (none_right names content own_none) (ap (λ b. fault_if b too_deep) deep)))
+    (or_none content (depth_fault p event) (neither names content own_none).1 (ap (λ b. fault_if b too_deep) deep)))
 
 pub refused_exactly : RefusedExactly
 refused_exactly canonical before event begun =

@@ -14,8 +14,12 @@ pub mod rows
 pub mod Decoding
 pub mod BreakLaws
 pub mod PercentLaws
-pub mod TagLaws
+pub mod NoFaults
+pub mod TagForms
+pub mod TagReads
+pub mod TagWords
 pub mod Literals
+pub mod AsciiWords
 pub mod NumbersOutside
 pub mod UnfoldSteps
 pub mod UnfoldTrees

@@ -9,7 +9,7 @@ use Rattle.yaml_base.specs.Characters.{Text, is_alpha, is_blank, space}
 use Rattle.yaml_base.specs.LineBreaks.{with_line_breaks_read, is_read_break}
 use Rattle.yaml_base.specs.Event.{Version, TagDirective}
 use Rattle.yaml_base.specs.ReadPercent.{percent_read}
-use Rattle.yaml_base.specs.ReadTags.{TagSaid, bare_said, name_said, CutText, prefix_among, directives_assumed, cut_after_mark, name_joined, without_end_sign}
+use Rattle.yaml_base.specs.ReadTags.{TagSaid, bare_said, name_said, CutText, prefix_among, directives_assumed, cut_after_mark, name_joined, without_end_sign, is_handle_text}
 use Rattle.yaml_base.specs.ReadFolding.{FoldUnit, folding_read}
 use Rattle.yaml_base.specs.ReadDouble.{QuotePlace, between, QuoteStep, goes_on, gives, ends_quotes, has_no_reading, quote_step}
 use Rattle.yaml_base.specs.Content.{ScalarTag, tagged, untagged, Content, alias_content, scalar_content, sequence_content, mapping_content, Contents, no_contents, contents_and, ContentPairs, no_content_pairs, content_pairs_and, DocumentContent}
@@ -103,17 +103,6 @@ abbrev pub alias_named : Text → Token
 alias_named [] = bad
 alias_named (c ∷ rest) = alias_token (c ∷ rest)
 
--- the anchor alphabet, and then `!`
-abbrev pub ends_handle : Text → Bool
-ends_handle [] = false
-ends_handle (c ∷ []) = c == 0x21
-ends_handle (c ∷ d ∷ rest) = is_alpha c && ends_handle (d ∷ rest)
-
--- `!`, or the anchor alphabet between two `!` (section 7.1.2.2)
-abbrev pub is_handle : Text → Bool
-is_handle [] = false
-is_handle (c ∷ rest) = c == 0x21 && (length rest == 0 || ends_handle rest)
-
 -- the words of a directive's line
 abbrev pub words : Text → List Text
 words line = filter (λ word. not (length word == 0)) (slice_split is_blank line)
@@ -127,7 +116,7 @@ version_named word =
 -- a `%TAG` line, whose handle is well-formed and whose prefix is decoded
 abbrev pub tag_line_of : Text → Option Text → Token
 tag_line_of handle None = bad
-tag_line_of handle (Some prefix) = if is_handle handle then tag_line (record { handle = handle; prefix = prefix }) else bad
+tag_line_of handle (Some prefix) = if is_handle_text handle then tag_line (record { handle = handle; prefix = prefix }) else bad
 
 -- a directive by its words; a prefix may hold percent forms
 abbrev pub directive_token : List Text → Token

@@ -33,7 +33,7 @@ closes_handle [] = false
 closes_handle (c ∷ []) = c == 0x21
 closes_handle (c ∷ d ∷ rest) = is_alpha c && closes_handle (d ∷ rest)
 
--- `!`, or the anchor alphabet between two `!`
+-- `!`, or the anchor alphabet between two `!` (section 7.1.2.2)
 abbrev pub is_handle_text : Text → Bool
 is_handle_text [] = false
 is_handle_text (c ∷ []) = c == 0x21
@@ -50,8 +50,8 @@ cut_after_mark [] = record { front = []; rest = [] }
 cut_after_mark (c ∷ text) = let cut = cut_after_mark text in before_cut c cut.front cut.rest
 
 -- may stand after a handle: what may stand in a URI but for the signs of flow
-abbrev pub is_suffix_character : ℕ → Bool
-is_suffix_character c = is_uri_character c && not (is_among (codes ",[]") c)
+abbrev pub may_follow_handle : ℕ → Bool
+may_follow_handle c = is_uri_character c && not (is_among (codes ",[]") c)
 
 -- a prefix, and the text that stands after it
 abbrev pub name_joined : Option Text → Option Text → Option TagSaid
@@ -62,7 +62,7 @@ name_joined _ _ = None
 abbrev pub shorthand_said : List TagDirective → Text → Text → Option TagSaid
 shorthand_said own handle [] = None
 shorthand_said own handle (c ∷ suffix) =
-    if list_all is_suffix_character (c ∷ suffix) then name_joined (prefix_among (own ++ directives_assumed) handle) (percent_read (c ∷ suffix))
+    if list_all may_follow_handle (c ∷ suffix) then name_joined (prefix_among (own ++ directives_assumed) handle) (percent_read (c ∷ suffix))
     else None
 
 -- a text without a `>` at its end; none where it doesn't end so

@@ -1,6 +1,8 @@
 //! The classes of characters that the emitter goes by.
-ghost use Rattle.std.specs.Prelude.{◌≡◌};
+ghost use Rattle.std.specs.Prelude.{◌≡◌, ◌<◌, false};
 ghost use Rattle.yaml_base.specs.Characters as class;
+
+static HEX_DIGITS: [u8; 16] = *b"0123456789ABCDEF";
 
 /// A letter or digit of ASCII, `_` or `-`: what anchors and tag handles are made of.
 pub fn is_alpha(character: char) -> bool
@@ -54,4 +56,15 @@ pub fn is_printable(character: char) -> bool
         '\u{10000}'..='\u{10FFFF}' => true,
         _ => false,
     }
+}
+
+/// An upper-case hexadecimal digit.
+#[inline]
+pub fn hex_digit(digit: u8) -> u8
+    requires { digit < 16 }
+    ensures value { result ≡ class.hex_digit digit }
+    ensures ascii { result < 128 }
+    ensures no_break { class.is_break result ≡ false }
+{
+    HEX_DIGITS[digit as usize]
 }

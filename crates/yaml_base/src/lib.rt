@@ -11,7 +11,9 @@ mod laws;
 mod nodes;
 mod styles;
 
-pub use characters::{is_alpha, is_ascii, is_blank, is_bom, is_break, is_printable, is_space};
+pub use characters::{
+    hex_digit, is_alpha, is_ascii, is_blank, is_bom, is_break, is_printable, is_space,
+};
 pub use directives::{yaml_tag_directive_t, yaml_version_directive_t};
 pub use documents::{NodeNumber, yaml_document_t};
 pub use encodings::yaml_break_t::{YAML_ANY_BREAK, YAML_CR_BREAK, YAML_CRLN_BREAK, YAML_LN_BREAK};

@@ -1,21 +1,20 @@
 -- What the promises of a dump come to for a document that holds itself.
-use Rattle.std.proofs.Common.{◌≡◌, inl, inr, refl, sym, ap, ◌∙◌, subst, arith}
+use Rattle.std.proofs.Common.{◌≡◌, inl, inr, refl, sym, ap, ◌∙◌, subst}
 use Rattle.std.proofs.lemmas.List.Elements.{All-cons, All-nil}
-use Rattle.std.specs.Prelude.{ℕ, ◌==◌, ◌||◌, Bool, false, None, List, [], ◌∷◌, ◌++◌, length, Result, Ok, Err, OnOk, IfOk, Vec, if◌then◌else◌}
+use Rattle.std.specs.Prelude.{ℕ, ◌==◌, ◌||◌, Bool, true, false, None, List, [], ◌∷◌, ◌++◌, length, Result, Ok, Err, OnOk, IfOk, Vec, if◌then◌else◌}
 use Rattle.std.specs.Char.{encode_utf8}
 use Rattle.yaml_base.specs.Characters.{Text}
 use Rattle.yaml_base.specs.Event.{Event, any_style, block, stream_start, stream_end}
 use Rattle.yaml_base.specs.Meetings.{NumberPair, GraphNode, Graph, scalar_held, mapping_held, decimal_digits, document_event_list}
-use Rattle.yaml_base.specs.Dumped.{AreDumped, GraphsRead}
+use Rattle.yaml_base.specs.Dumped.{AreDumped}
 use Rattle.yaml_base.specs.Ready.{held_back}
-use Rattle.yaml_base.specs.Output.{output_of, settings_for, bytes_written}
-use Rattle.yaml_base.specs.Pieces.{list_layout}
+use Rattle.yaml_base.specs.Output.{output_of}
+use Rattle.yaml_base.specs.StreamLaw.{is_portable}
 use Rattle.yaml_base.specs.Unfolding.{IsDocument}
 use Rattle.yaml_base.specs.declared.errors.yaml_error_t.{yaml_error_t}
 use Rattle.yaml_dump.specs.Dumps.{Dumps, EmitsAll, opening, closing}
 use Rattle.yaml_emitter.specs.State.{State}
 use Rattle.yaml_emitter.specs.StandsAfter.{StandsAfter}
-use Rattle.yaml_emitter.specs.Uncut.{IsUncut}
 use Rattle.yaml_caller.specs.Letter.{letter_settings}
 use Rattle.yaml_caller.specs.Cycle.{cycle_bytes, cycle_graph}
 
@@ -40,20 +39,15 @@ pub cycle_row : output_of letter_settings cycle_events ≡ cycle_bytes
 unfolding encode_utf8 decimal_digits
 cycle_row = refl
 
--- so many bytes there are
-count : length (bytes_written (settings_for letter_settings cycle_events) (list_layout (settings_for letter_settings cycle_events) cycle_events))
-    ≡ length cycle_bytes
-unfolding encode_utf8 decimal_digits
-count = refl
-
 -- after the stream's end no event is queued
 pub none_waits : held_back cycle_events ≡ []
 unfolding decimal_digits
 none_waits = refl
 
--- no limit cuts it
-pub uncut : IsUncut letter_settings cycle_events
-uncut = omega (arith, count)
+-- no document is lost, and no tag has a sign of flow
+pub all_portable : is_portable letter_settings.portable letter_settings.canonical cycle_events ≡ true
+unfolding decimal_digits
+all_portable = refl
 
 -- the events are those of one dumped document
 pub one_dumped : AreDumped (cycle_graph ∷ []) cycle_events
@@ -86,8 +80,8 @@ pub then_ok : {P Q : Type 0} (answer : Result (Unit {0}) yaml_error_t) → OnOk 
 then_ok (Ok _) p f = f p
 then_ok (Err error) p f = tt
 
--- a copy reads as what was copied
-pub copy_reads : {A E : Type 0} (answer : Result (Vec ℕ A) E) (bytes : List ℕ) → IfOk answer (λ copy. copy.items ≡ bytes)
-    → GraphsRead false (cycle_graph ∷ []) bytes → IfOk answer (λ copy. GraphsRead false (cycle_graph ∷ []) copy.items)
-copy_reads (Ok copy) bytes same reads = subst (GraphsRead false (cycle_graph ∷ [])) (sym same) reads
-copy_reads (Err error) bytes same reads = tt
+-- what holds of bytes holds of their copy
+pub copy_holds : {A E : Type 0} (P : List ℕ → Type 0) (answer : Result (Vec ℕ A) E) (bytes : List ℕ) → IfOk answer (λ copy. copy.items ≡ bytes)
+    → P bytes → IfOk answer (λ copy. P copy.items)
+copy_holds P (Ok copy) bytes same holds = subst P (sym same) holds
+copy_holds P (Err error) bytes same holds = tt

@@ -2,6 +2,7 @@
 ghost use Rattle.std.specs.Prelude.{◌≡◌, IfOk, IfErr, OnOk, pos, true, false, None, [], ◌∷◌, codes, length, map};
 ghost use Rattle.yaml_base.specs.Documents.{graph_of};
 ghost use Rattle.yaml_base.specs.Dumped.{GraphsRead};
+ghost use Rattle.yaml_dump.specs.GraphTrees.{GraphsReadBack};
 ghost use Rattle.yaml_base.specs.SeenNodes.{all_numbers, numbers_of, seen_node};
 ghost use Rattle.yaml_emitter.specs.StandsAfter.{StandsAfter};
 ghost use Rattle.yaml_caller.specs.Letter.{letter_settings};
@@ -23,6 +24,7 @@ use yaml_emitter::yaml_emitter_t;
 pub fn cycle_written<A: Allocator + Copy>(alloc: A) -> Result<Vec<u8, A>, yaml_error_t>
     ensures bytes { IfOk result (λ bytes. bytes.items ≡ codes "---\n&id001 !!map {\n  ? !!str \"k\"\n  : *id001,\n}\n") }
     ensures graph { IfOk result (λ bytes. GraphsRead false (cycle_graph ∷ []) bytes.items) }
+    ensures trees { IfOk result (λ bytes. GraphsReadBack false (cycle_graph ∷ []) bytes.items) }
     ensures memory { IfErr result (λ error. error ≡ yaml_error_t.Memory) }
 {
     let document = cycle(alloc)?;
@@ -44,7 +46,9 @@ fn dump_cycle<A: Allocator + Copy>(
     requires unclosed { emitter.old.closed ≡ false }
     requires graph { graph_of document ≡ cycle_graph }
     ensures bytes { OnOk result (emitter.new.page.output ≡ cycle_bytes) }
+    ensures taken { emitter.new.page.taken ≡ emitter.old.page.taken }
     ensures graph { OnOk result (GraphsRead false (cycle_graph ∷ []) emitter.new.page.output) }
+    ensures trees { OnOk result (GraphsReadBack false (cycle_graph ∷ []) emitter.new.page.output) }
     ensures memory { IfErr result (λ error. error ≡ yaml_error_t.Memory) }
 {
     yaml_emitter_dump(alloc, emitter, document)?;

@@ -30,6 +30,7 @@ fn canonical_emitter<A: Allocator + Copy>(alloc: A) -> Result<yaml_emitter_t<A>,
     ensures stands { IfOk result (λ emitter. StandsAfter letter_settings [] emitter) }
     ensures output { IfOk result (λ emitter. emitter.has_output ≡ true) }
     ensures no_error { IfOk result (λ emitter. emitter.error ≡ None) }
+    ensures untaken { IfOk result (λ emitter. emitter.page.taken ≡ 0) }
     ensures unopened { IfOk result (λ emitter. (emitter.opened ≡ false) × (emitter.closed ≡ false)) }
     ensures memory { IfErr result (λ error. error ≡ yaml_error_t.Memory) }
 {
@@ -84,6 +85,7 @@ fn emit_letter<A: Allocator + Copy>(
     requires output { emitter.old.has_output ≡ true }
     requires letter { seen_text value ≡ codes "a" }
     ensures bytes { OnOk result (emitter.new.page.output ≡ codes "---\n\"a\"\n") }
+    ensures taken { emitter.new.page.taken ≡ emitter.old.page.taken }
     ensures memory { IfErr result (λ error. error ≡ yaml_error_t.Memory) }
 {
     yaml_emitter_emit(

@@ -39,6 +39,7 @@ pub fn pair_written<A: Allocator + Copy>(
 fn portable_emitter<A: Allocator + Copy>(alloc: A) -> Result<yaml_emitter_t<A>, yaml_error_t>
     ensures stands { IfOk result (λ emitter. StandsAfter portable_settings [] emitter) }
     ensures output { IfOk result (λ emitter. emitter.has_output ≡ true) }
+    ensures untaken { IfOk result (λ emitter. emitter.page.taken ≡ 0) }
 {
     let mut emitter = yaml_emitter_initialize(alloc)?;
     yaml_emitter_set_output_string(&mut emitter, 1_000_000);
@@ -55,6 +56,7 @@ fn emit_pair<A: Allocator + Copy>(
 ) -> Result<(), yaml_error_t>
     requires stands { StandsAfter portable_settings [] emitter.old }
     requires output { emitter.old.has_output ≡ true }
+    ensures taken { emitter.new.page.taken ≡ emitter.old.page.taken }
     ensures reads { OnOk result (agrees false (pair_events (seen_text key) (seen_text value)) (stream_trees false emitter.new.page.output) ≡ true) }
 {
     yaml_emitter_emit(

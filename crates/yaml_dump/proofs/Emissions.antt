@@ -21,7 +21,7 @@ abbrev pub KeepsButStart : State → State → Type 0
 KeepsButStart before after = KeepsSet (record before { started = after.started }) after
 
 pub keeps_same : (state : State) → KeepsButStart state state
-keeps_same state = record { given = refl; started = refl; has_output = refl; opened = refl; closed = refl }
+keeps_same state = record { given = refl; started = refl; has_output = refl; opened = refl; closed = refl; taken = refl }
 
 -- one more call
 pub keeps_more : (before middle after : State) → KeepsButStart before middle → KeepsSet (record middle { started = true }) after → KeepsButStart before after
@@ -32,6 +32,7 @@ keeps_more before middle after kept more =
       has_output = more.has_output ∙ kept.has_output;
       opened = more.opened ∙ kept.opened;
       closed = more.closed ∙ kept.closed;
+      taken = more.taken ∙ kept.taken;
     }
 
 -- an error that was told

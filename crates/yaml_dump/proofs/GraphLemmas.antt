@@ -23,7 +23,6 @@ use Rattle.yaml_dump.specs.GraphTrees.{GraphsReadBack, ReadsTrees}
 use Rattle.yaml_dump.proofs.GraphTreeLemmas.{dumped_trees_unfold}
 use Rattle.yaml_emitter.specs.State.{State}
 use Rattle.yaml_emitter.specs.StandsAfter.{StandsAfter}
-use Rattle.yaml_emitter.specs.Uncut.{IsUncut}
 use Rattle.yaml_emitter.specs.Promises.{ends_stream, HasRoom, IsWritten, Promised}
 
 -- the events of a document's walk
@@ -58,13 +57,12 @@ written_whole given before graphs state promised none dumped =
 
 -- graphs that were dumped whole in canonical mode are read back
 pub graphs_read : (given : Settings) (before : List Event) (graphs : List Graph) (state : State) → Promised given (before ++ stream_end ∷ []) state
-    → state.error ≡ None → given.canonical ≡ true
-    → IsUncut given (before ++ stream_end ∷ []) → AreDumped graphs (before ++ stream_end ∷ []) → GraphsRead given.breaks12 graphs state.page.output
-graphs_read given before graphs state promised none canonical uncut dumped =
+    → state.error ≡ None → given.canonical ≡ true → AreDumped graphs (before ++ stream_end ∷ []) → GraphsRead given.breaks12 graphs state.page.output
+graphs_read given before graphs state promised none canonical dumped =
     let read = dumped_stream graphs (before ++ stream_end ∷ []) dumped in
     record {
       contents = read.contents;
-      read = (written_whole given before graphs state promised none dumped).reads canonical uncut ∙ read.content;
+      read = (written_whole given before graphs state promised none dumped).reads canonical ∙ read.content;
       unfolds = read.unfolds;
     }
 
@@ -97,9 +95,9 @@ pub closing_reads : (old after : State) (closed empty : Bool) (answer : Result (
     → ((given : Settings) (all : List Event) → StandsAfter given all old → EmitsEach given (all ++ opening old.opened) (closing closed) answer after)
     → OnOk answer (empty ≡ true → old.closed ≡ false → (given : Settings) (all : List Event) → StandsAfter given all old
     → ReadsGraphs given ((all ++ opening old.opened) ++ stream_end ∷ []) after)
-closing_reads old after closed empty (Ok done) same emits = λ is unclosed given all stands graphs canonical uncut dumped.
+closing_reads old after closed empty (Ok done) same emits = λ is unclosed given all stands graphs canonical dumped.
     let whole = closing_whole old after closed done same emits unclosed given all stands in
-    graphs_read given (all ++ opening old.opened) graphs after whole.promised whole.no_error canonical uncut dumped
+    graphs_read given (all ++ opening old.opened) graphs after whole.promised whole.no_error canonical dumped
 closing_reads old after closed empty (Err error) same emits = tt
 
 -- and so in any mode

@@ -9,7 +9,6 @@ use Rattle.yaml_base.specs.declared.errors.yaml_error_t.TheVariants.{Memory}
 use Rattle.yaml_emitter.specs.State.{State}
 use Rattle.yaml_emitter.specs.StandsAfter.{StandsAfter}
 use Rattle.yaml_emitter.specs.Promises.{Promised}
-use Rattle.yaml_emitter.specs.Uncut.{IsUncut}
 
 -- all of them, without an error
 pub record EmitsAll (given : Settings) (all events : List Event) (state : State) : Type 0 where
@@ -74,9 +73,7 @@ Dumps graph before answer after =
     ((answer ≡ Err Memory) × (after ≡ before))
     ⊎ ((given : Settings) (all : List Event) → StandsAfter given all before → EmitsDump before.opened given all (dumped_events before graph) answer after)
 
--- what the canonical reader finds in the output of these events unfolds the graphs of which they are dumps, where no limit
--- cuts it
+-- what the canonical reader finds in the output of these events unfolds the graphs of which they are dumps
 abbrev pub ReadsGraphs : Settings → List Event → State → Type 0
 ReadsGraphs given events after =
-    (graphs : List Graph) → given.canonical ≡ true → IsUncut given events → AreDumped graphs events
-    → GraphsRead given.breaks12 graphs after.page.output
+    (graphs : List Graph) → given.canonical ≡ true → AreDumped graphs events → GraphsRead given.breaks12 graphs after.page.output

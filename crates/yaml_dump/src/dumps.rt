@@ -71,6 +71,7 @@ fn open_if_needed<A: Allocator + Copy>(emitter: &mut yaml_emitter_t<A>) -> Resul
     ensures begun { IsBegun emitter.old emitter.new }
     ensures grows { Grows emitter.old.page emitter.new.page }
     ensures given { emitter.new.given ≡ emitter.old.given }
+    ensures taken { emitter.new.page.taken ≡ emitter.old.page.taken }
     ensures output { emitter.new.has_output ≡ true }
     ensures answered { result ≡ told emitter.new.error }
 {
@@ -94,6 +95,7 @@ fn close_if_needed<A: Allocator + Copy>(emitter: &mut yaml_emitter_t<A>) -> Resu
     ensures begun { IsBegun emitter.old emitter.new }
     ensures grows { Grows emitter.old.page emitter.new.page }
     ensures given { emitter.new.given ≡ emitter.old.given }
+    ensures taken { emitter.new.page.taken ≡ emitter.old.page.taken }
     ensures output { emitter.new.has_output ≡ true }
 {
     if emitter.is_closed() {
@@ -130,6 +132,7 @@ pub fn yaml_emitter_dump<A: Allocator + Copy>(
     ensures begun { IsBegun emitter.old emitter.new }
     ensures grows { Grows emitter.old.page emitter.new.page }
     ensures given { emitter.new.given ≡ emitter.old.given }
+    ensures taken { emitter.new.page.taken ≡ emitter.old.page.taken }
     ensures output { emitter.new.has_output ≡ true }
 {
     if let Some(error) = emitter.error() {

@@ -11,7 +11,6 @@ ghost use Rattle.yaml_dump.specs.GraphTrees.{ReadsTrees};
 ghost use Rattle.yaml_emitter.specs.Promises.{Promised};
 ghost use Rattle.yaml_emitter.specs.StandsAfter.{StandsAfter};
 ghost use Rattle.yaml_emitter.specs.State.{KeepsSet};
-ghost use Rattle.yaml_emitter.specs.Uncut.{IsUncut};
 
 use std::alloc::Allocator;
 use yaml_base::{YAML_ANY_ENCODING, YAML_STREAM_END_EVENT, YAML_STREAM_START_EVENT, yaml_error_t};
@@ -45,8 +44,7 @@ pub fn yaml_emitter_open<A: Allocator + Copy>(
 
 /// Closes a stream that was opened: emits its end. Where it is closed already nothing is done, and no memory is needed.
 ///
-/// Where documents were dumped in canonical mode, and no limit cuts the output, the canonical reader finds in it contents
-/// that unfold their graphs, document by document, with each document's version and directives. So does the reader of whole
+/// Where documents were dumped in canonical mode, the canonical reader finds in the output contents that unfold their graphs, document by document, with each document's version and directives. So does the reader of whole
 /// streams in every mode, where a node without a tag has that of its kind; with portable mode off two kinds of streams are
 /// excepted (`streams_read_back` of `yaml_emitter`).
 ///
@@ -63,11 +61,12 @@ pub fn yaml_emitter_close<A: Allocator + Copy>(
         → Promised given (all ++ stream_end ∷ []) emitter.new }
     ensures grows { Grows emitter.old.page emitter.new.page }
     ensures set { emitter.old.closed ≡ false → KeepsSet (record emitter.old { started = true; closed = is_ok result }) emitter.new }
+    ensures taken { emitter.new.page.taken ≡ emitter.old.page.taken }
     ensures kept { emitter.old.closed ≡ false → IsSome emitter.old.error → emitter.new ≡ record emitter.old { started = true } }
     ensures answered { emitter.old.closed ≡ false → result ≡ told emitter.new.error }
     ensures graphs { emitter.old.closed ≡ false
         → OnOk result ((given : Settings) (all : List Event) (graphs : List Graph) → StandsAfter given all emitter.old → given.canonical ≡ true
-        → IsUncut given (all ++ stream_end ∷ []) → AreDumped graphs (all ++ stream_end ∷ []) → GraphsRead given.breaks12 graphs emitter.new.page.output) }
+        → AreDumped graphs (all ++ stream_end ∷ []) → GraphsRead given.breaks12 graphs emitter.new.page.output) }
     ensures trees { emitter.old.closed ≡ false
         → OnOk result ((given : Settings) (all : List Event) → StandsAfter given all emitter.old → ReadsTrees given (all ++ stream_end ∷ []) emitter.new) }
 {

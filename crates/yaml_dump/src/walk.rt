@@ -105,8 +105,8 @@ impl<A: Allocator> Walker<A> {
         Ok(())
     }
 
-    /// Goes on with a visit that was taken out: meets its next child, or leaves its node.
-    fn go_on(&mut self, document: &yaml_document_t<A>, visit: Visit) -> Result<(), AllocError>
+    /// Resumes a visit that was taken out: meets its next child, or leaves its node.
+    fn resume(&mut self, document: &yaml_document_t<A>, visit: Visit) -> Result<(), AllocError>
         requires counted { vec_len self.old.entered ≡ length (graph_of document.now).nodes }
         requires named { IsNamed (length (graph_of document.now).nodes) visit.number }
         ensures { IfOk result (λ _. seen_walker self.new ≡ with_turn (graph_of document.now) visit (seen_walker self.old)) }
@@ -140,7 +140,7 @@ pub(crate) fn walk<A: Allocator + Copy>(
     let mut walker = Walker::at_start(alloc, document.node_count() as usize)?;
     walker.meet(1)?;
     while let Some(visit) = walker.visits.pop() {
-        walker.go_on(document, visit)?;
+        walker.resume(document, visit)?;
     }
     Ok(walker.steps)
 }

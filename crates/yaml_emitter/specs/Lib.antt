@@ -1,4 +1,5 @@
 pub mod ScalarTexts
+pub mod UsualScalars
 pub mod BorrowedTexts
 pub mod Given
 pub mod Queue

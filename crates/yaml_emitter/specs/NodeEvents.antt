@@ -1,6 +1,6 @@
 -- Events within a document, and the stage that they stand at.
-use Rattle.std.specs.Prelude.{Bool, true, false, not, ◌&&◌}
-use Rattle.yaml_base.specs.Event.{Collection, Event, sequence_start, sequence_end, mapping_start, mapping_end}
+use Rattle.std.specs.Prelude.{Bool, true, false, not, is_some, ◌&&◌, ◌||◌}
+use Rattle.yaml_base.specs.Event.{Collection, Event, scalar, sequence_start, sequence_end, mapping_start, mapping_end}
 use Rattle.yaml_base.specs.Layout.{Brackets, square, curly, Role, as_item, as_key, is_in_mapping}
 use Rattle.yaml_base.specs.Steps.{Stage, at_node}
 
@@ -8,6 +8,11 @@ use Rattle.yaml_base.specs.Steps.{Stage, at_node}
 abbrev pub is_at_node : Stage → Bool
 is_at_node (at_node directives frames) = true
 is_at_node _ = false
+
+-- a scalar without anchor and tag, which needs no tag in any style
+abbrev pub is_usual_scalar : Event → Bool
+is_usual_scalar (scalar content) = not (is_some content.anchor || is_some content.tag) && content.plain_implicit && content.quoted_implicit
+is_usual_scalar _ = false
 
 -- the start of a mapping, or of a sequence
 abbrev pub start_event : (mapping : Bool) → Collection → Event

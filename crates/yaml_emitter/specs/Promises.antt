@@ -142,7 +142,7 @@ pub record IsWritten (given : Settings) (all : List Event) (state : State) : Typ
   pub output : state.page.output ≡ output_of given all
   pub uncut : IsUncut given all
   pub means : All (BodyMeans (settings_for given all)) (bodies_of (list_layout (settings_for given all) all))
-  pub reads : given.canonical ≡ true → IsUncut given all → canonical_content given.breaks12 state.page.output ≡ content_of all
+  pub reads : given.canonical ≡ true → canonical_content given.breaks12 state.page.output ≡ content_of all
   pub reads_back : is_portable given.portable given.canonical all ≡ true
       → agrees given.canonical all (stream_trees given.breaks12 state.page.output) ≡ true
   pub raw : HoldsRaw (settings_for given all) state.page.text

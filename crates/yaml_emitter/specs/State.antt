@@ -5,12 +5,12 @@ use Rattle.yaml_base.specs.Event.{Event}
 use Rattle.yaml_base.specs.Layout.{Standing}
 use Rattle.yaml_base.specs.Steps.{Stage, at_stream}
 use Rattle.yaml_base.specs.declared.errors.yaml_error_t.{yaml_error_t}
-use Rattle.yaml_pen.specs.Page.{Page, new_page, IsUntouched, IsReady}
+use Rattle.yaml_pen.specs.Page.{Page, new_page, all_taken, IsUntouched, IsReady}
 use Rattle.yaml_emitter.specs.Given.{nothing_given}
 
 -- what was set, and what it came to at the stream's start; whether an event was given, an output set, the stream
--- opened and closed; the events that wait; what may come next; the open mark; the text so far, its cursor and the
--- bytes handed out; the first error
+-- opened and closed; the events that wait; what may come next; the open mark; the text so far, its cursor, the bytes
+-- handed out and how many of them were taken; the first error
 pub record State : Type 0 where
   pub given : Settings
   pub settings : Effective
@@ -50,6 +50,10 @@ abbrev pub FitsPage : Stage → Page → Type 0
 FitsPage at_stream page = IsUntouched page × (page.mark_due ≡ false) × (page.output ≡ [])
 FitsPage _ page = IsReady page
 
+-- the same emitter, of whose output all is taken
+abbrev pub with_all_taken : State → State
+with_all_taken state = record state { page = all_taken state.page }
+
 -- the stream has not begun
 abbrev pub is_at_stream : Stage → Bool
 is_at_stream at_stream = true
@@ -59,10 +63,12 @@ is_at_stream _ = false
 abbrev pub knows_encoding : State → Bool
 knows_encoding state = is_some state.given.encoding || not (is_at_stream state.stage)
 
--- what the caller set stays: the settings, the output, and whether the stream was begun, opened and closed
+-- what the caller set stays: the settings, the output, how much of it was taken, and whether the stream was begun, opened
+-- and closed
 pub record KeepsSet (before after : State) : Type 0 where
   pub given : after.given ≡ before.given
   pub started : after.started ≡ before.started
   pub has_output : after.has_output ≡ before.has_output
   pub opened : after.opened ≡ before.opened
   pub closed : after.closed ≡ before.closed
+  pub taken : after.page.taken ≡ before.page.taken

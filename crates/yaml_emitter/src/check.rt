@@ -15,6 +15,7 @@ use yaml_base::{
 use yaml_mark::analyze_anchor;
 
 /// Refuses a faulty anchor or alias, and an empty tag where the tag is written.
+#[inline(always)]
 pub(crate) fn check_names<A: Allocator>(
     canonical: bool,
     event: &yaml_event_t<A>,
@@ -49,6 +50,7 @@ pub(crate) fn check_names<A: Allocator>(
     }
 }
 
+#[inline(always)]
 fn check_properties<A: Allocator>(
     anchor: &Option<String<A>>,
     tag: &Option<String<A>>,
@@ -61,6 +63,7 @@ fn check_properties<A: Allocator>(
     if tag_written { check_tag(tag) } else { Ok(()) }
 }
 
+#[inline(always)]
 fn check_anchor<A: Allocator>(anchor: &Option<String<A>>) -> Result<(), yaml_error_t>
     ensures { refused result ≡ option_and_then anchor_fault (option_map seen_text anchor.now) }
 {

@@ -5,11 +5,11 @@ ghost use Rattle.yaml_base.specs.Event.{Event};
 ghost use Rattle.yaml_base.specs.Seen.{seen_event};
 ghost use Rattle.yaml_base.specs.Ready.{written};
 ghost use Rattle.yaml_base.specs.Settings.{Settings};
-ghost use Rattle.yaml_pen.specs.Page.{told, encoded};
+ghost use Rattle.yaml_pen.specs.Page.{told, encoded, output_left};
 ghost use Rattle.yaml_pen.specs.Wrote.{Grows};
 ghost use Rattle.yaml_emitter.specs.Promises.{HasAllBytes, Promised};
 ghost use Rattle.yaml_emitter.specs.Queue.{is_head_ready};
-ghost use Rattle.yaml_emitter.specs.State.{KeepsSet};
+ghost use Rattle.yaml_emitter.specs.State.{KeepsSet, with_all_taken};
 ghost use Rattle.yaml_emitter.specs.StandsAfter.{Reached, ReachedOn, StandsAfter, StandsSo, TookFirst, failed_by};
 
 use crate::emitter::yaml_emitter_t;
@@ -76,6 +76,21 @@ pub fn yaml_emitter_flush<A: Allocator + Copy>(
     emitter.hand_out()
 }
 
+/// Gives the bytes that were handed out and not taken before, so that a stream of any length can be sent onwards
+/// while it is written: all that these calls gave, one after another, and what `output` returns then, are together
+/// the output. The output's limit counts what was taken, too.
+///
+/// It may be called at any time, also after an error, and takes no memory.
+pub fn yaml_emitter_take_output<A: Allocator + Copy>(emitter: &mut yaml_emitter_t<A>) -> Vec<u8, A>
+    ensures rest { result.items ≡ output_left emitter.old.page }
+    ensures untaken { emitter.old.page.taken ≡ 0 → result.items ≡ emitter.old.page.output }
+    ensures taken { emitter.new ≡ with_all_taken emitter.old }
+    ensures stands { (given : Settings) (all : List Event) → StandsAfter given all emitter.old → StandsAfter given all emitter.new }
+    ensures promised { (given : Settings) (all : List Event) → StandsAfter given all emitter.old → Promised given all emitter.new }
+{
+    emitter.pen.take_output()
+}
+
 impl<A: Allocator + Copy> yaml_emitter_t<A> {
     /// Writes an event that needn't wait, where none waits. After an error nothing waits.
     fn write_at_once(&mut self, event: &yaml_event_t<A>) -> Result<(), yaml_error_t>
@@ -101,7 +116,6 @@ impl<A: Allocator + Copy> yaml_emitter_t<A> {
     }
 
     /// Puts an event behind those that wait. Where at most three wait, it needs no memory.
-    #[inline(never)]
     fn enqueue(&mut self, event: yaml_event_t<A>) -> Result<(), yaml_error_t>
         requires output { self.old.has_output ≡ true }
         requires no_error { self.old.error ≡ None }
@@ -142,8 +156,27 @@ impl<A: Allocator + Copy> yaml_emitter_t<A> {
     }
 
     /// Writes the events that are ready, in order, up to the first error.
-    #[inline(never)]
+    #[inline]
     fn write_ready(&mut self) -> Result<(), yaml_error_t>
+        requires output { self.old.has_output ≡ true }
+        requires no_error { self.old.error ≡ None }
+        ensures stands { (given : Settings) (all front : List Event) → Reached given all front self.old.held self.old → StandsSo given all self.new }
+        ensures grows { Grows self.old.page self.new.page }
+        ensures waits { is_head_ready self.old.held ≡ false → IsOk result }
+        ensures set { KeepsSet self.old self.new }
+        ensures answered { result ≡ told self.new.error }
+        ensures output { self.new.has_output ≡ true }
+    {
+        if is_next_ready(self.queue.as_slice()) {
+            self.write_each_ready()
+        } else {
+            Ok(())
+        }
+    }
+
+    /// The same, where some may be.
+    #[inline(never)]
+    fn write_each_ready(&mut self) -> Result<(), yaml_error_t>
         requires output { self.old.has_output ≡ true }
         requires no_error { self.old.error ≡ None }
         ensures stands { (given : Settings) (all front : List Event) → Reached given all front self.old.held self.old → StandsSo given all self.new }

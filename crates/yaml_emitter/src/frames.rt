@@ -48,6 +48,13 @@ impl<A: Allocator> Frames<A> {
         }
     }
 
+    /// Some collection is open.
+    pub(crate) fn is_open(&self) -> bool
+        ensures { result ≡ nat_lt 0 (length self.now) }
+    {
+        self.innermost.is_some()
+    }
+
     /// As many collections are open as may be.
     pub(crate) fn is_full(&self) -> bool
         ensures { result ≡ not (nat_lt (length self.now) most_open) }
@@ -80,6 +87,7 @@ impl<A: Allocator> Frames<A> {
     }
 
     /// After a node of the innermost collection, which may have been a simple key; answers what comes next.
+    #[inline(always)]
     pub(crate) fn advance(&mut self, simple: bool) -> Stage
         ensures frames { self.new ≡ advanced simple self.old }
         ensures stage { (directives : List TagDirective) → seen_stage result directives self.new ≡ steps.stage_after directives self.old simple }

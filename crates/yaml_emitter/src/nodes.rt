@@ -16,15 +16,16 @@ ghost use Rattle.yaml_emitter.specs.NodeEvents.{brackets_of, end_event, first_en
 ghost use Rattle.yaml_emitter.specs.Places.{seen_frame, seen_place, seen_role};
 ghost use Rattle.yaml_emitter.specs.Processing.{Processed};
 ghost use Rattle.yaml_emitter.specs.Reach.{most_column};
+ghost use Rattle.yaml_emitter.specs.UsualScalars.{StandsPlain};
 ghost use Rattle.yaml_emitter.specs.WrittenPieces.{piece_at};
 
 use crate::emitter::yaml_emitter_t;
 use crate::place::{Frame, Place, Role};
 use crate::writing::{
     CollectionContent, ScalarContent, Site, borrowed_text, entries_column, is_simple_alias_key,
-    is_simple_collection_key, is_simple_scalar_key, is_written_in_flow, spell, write_alias,
-    write_collection_end, write_collection_start, write_scalar, written_collection_tag,
-    written_scalar_tag,
+    is_simple_collection_key, is_simple_scalar_key, is_simple_usual_key, is_written_in_flow, spell,
+    stands_plain, write_alias, write_collection_end, write_collection_start, write_scalar,
+    write_usual, written_collection_tag, written_scalar_tag,
 };
 use std::alloc::Allocator;
 use yaml_base::{
@@ -37,6 +38,7 @@ use yaml_pen::Pen;
 
 impl<A: Allocator + Copy> yaml_emitter_t<A> {
     /// Where a node may stand, or the end of the innermost open collection.
+    #[inline(always)]
     pub(crate) fn expect_node(
         &mut self,
         event: &yaml_event_t<A>,
@@ -104,12 +106,46 @@ impl<A: Allocator + Copy> yaml_emitter_t<A> {
         Ok(())
     }
 
+    #[inline(always)]
     fn put_scalar(&mut self, content: &ScalarContent) -> Result<(), yaml_error_t>
         requires stage { is_at_node self.old.stage ≡ true }
         requires names { name_or_tag_fault self.old.given.canonical (scalar (seen_scalar content.now)) ≡ None }
         ensures { (empty : Bool) → Processed (scalar (seen_scalar content.now)) empty self.old self.new result }
     {
-        if lacks_tag_and_flags(content, self.settings.canonical) {
+        if stands_plain(&self.settings, content) {
+            self.put_usual(content)
+        } else {
+            self.put_chosen(content)
+        }
+    }
+
+    /// A scalar that stands plain as it is.
+    fn put_usual(&mut self, content: &ScalarContent) -> Result<(), yaml_error_t>
+        requires stage { is_at_node self.old.stage ≡ true }
+        requires names { name_or_tag_fault self.old.given.canonical (scalar (seen_scalar content.now)) ≡ None }
+        requires plain { StandsPlain self.old.settings.canonical content.now }
+        ensures { (empty : Bool) → Processed (scalar (seen_scalar content.now)) empty self.old self.new result }
+    {
+        let place = self.frames.next_place();
+        let simple = is_simple_usual_key(&place, content);
+        let site = Site {
+            settings: &self.settings,
+            place,
+            simple,
+        };
+        self.mark = write_usual(&mut self.pen, &site, content, self.mark)?;
+        self.stage = self.frames.advance(simple);
+        Ok(())
+    }
+
+    /// Any other scalar.
+    #[inline(always)]
+    fn put_chosen(&mut self, content: &ScalarContent) -> Result<(), yaml_error_t>
+        requires stage { is_at_node self.old.stage ≡ true }
+        requires names { name_or_tag_fault self.old.given.canonical (scalar (seen_scalar content.now)) ≡ None }
+        ensures { (empty : Bool) → Processed (scalar (seen_scalar content.now)) empty self.old self.new result }
+    {
+        if lacks_flag(content, self.settings.canonical) {
             return Err(yaml_error_t::NoTagNorImplicit);
         }
         let place = self.frames.next_place();
@@ -200,8 +236,9 @@ impl<A: Allocator + Copy> yaml_emitter_t<A> {
     }
 }
 
-/// A scalar without a tag needs a flag.
-fn lacks_tag_and_flags(content: &ScalarContent, canonical: bool) -> bool
+/// A scalar whose tag isn't written needs a flag, and has none.
+#[inline(always)]
+fn lacks_flag(content: &ScalarContent, canonical: bool) -> bool
     ensures { result ≡ style.lacks_tag_and_flags
         (is_some (scalar_tag canonical (seen_scalar content.now))) content.now.plain_implicit content.now.quoted_implicit }
 {
@@ -210,6 +247,7 @@ fn lacks_tag_and_flags(content: &ScalarContent, canonical: bool) -> bool
 }
 
 /// What a scalar's event holds; its tag may be left out in plain style, and in others.
+#[inline(always)]
 fn scalar_content<'a, A: Allocator>(
     anchor: &'a Option<String<A>>,
     tag: &'a Option<String<A>>,

@@ -9,6 +9,7 @@ ghost use Rattle.yaml_base.specs.Settings.{line_feed_break};
 ghost use Rattle.yaml_base.specs.Steps.{Frame, at_stream, at_document, at_node, at_document_end, at_nothing, stage_after};
 ghost use Rattle.yaml_pen.specs.Page.{IsReady, IsUntouched, encoded};
 ghost use Rattle.yaml_pen.specs.Wrote.{Wrote};
+ghost use Rattle.yaml_emitter.specs.NodeEvents as node_events;
 ghost use Rattle.yaml_emitter.specs.Processing.{Processed};
 ghost use Rattle.yaml_emitter.specs.WrittenPieces.{piece_at, seen_mark};
 
@@ -23,7 +24,7 @@ use crate::writing::{
 use std::alloc::Allocator;
 use std::mem;
 use yaml_base::{
-    YAML_DOCUMENT_END_EVENT, YAML_DOCUMENT_START_EVENT, YAML_STREAM_END_EVENT,
+    YAML_DOCUMENT_END_EVENT, YAML_DOCUMENT_START_EVENT, YAML_SCALAR_EVENT, YAML_STREAM_END_EVENT,
     YAML_STREAM_START_EVENT, yaml_break_t, yaml_encoding_t, yaml_error_t, yaml_event_t,
     yaml_tag_directive_t, yaml_version_directive_t,
 };
@@ -31,12 +32,36 @@ use yaml_mark::Directives;
 use yaml_pen::Pen;
 
 impl<A: Allocator + Copy> yaml_emitter_t<A> {
-    /// One event. Its names and tags are looked at before its place.
+    /// One event. The most frequent, a usual scalar in a collection, has a copy of the work, in which no test of its
+    /// names and flags is left.
+    #[inline(never)]
     pub(crate) fn process(
         &mut self,
         event: &yaml_event_t<A>,
         empty: bool,
     ) -> Result<(), yaml_error_t>
+        requires output { self.old.has_output ≡ true }
+        ensures { Processed (seen_event event.now) empty self.old self.new result }
+    {
+        let within = matches!(self.stage, Stage::Node) && self.frames.is_open();
+        if within && is_usual_scalar(event) {
+            self.process_at_stage(event, empty)
+        } else {
+            self.process_other(event, empty)
+        }
+    }
+
+    #[inline(never)]
+    fn process_other(&mut self, event: &yaml_event_t<A>, empty: bool) -> Result<(), yaml_error_t>
+        requires output { self.old.has_output ≡ true }
+        ensures { Processed (seen_event event.now) empty self.old self.new result }
+    {
+        self.process_at_stage(event, empty)
+    }
+
+    /// Its names and tags are looked at before its place.
+    #[inline(always)]
+    fn process_at_stage(&mut self, event: &yaml_event_t<A>, empty: bool) -> Result<(), yaml_error_t>
         requires output { self.old.has_output ≡ true }
         ensures { Processed (seen_event event.now) empty self.old self.new result }
     {
@@ -184,6 +209,22 @@ impl<A: Allocator + Copy> yaml_emitter_t<A> {
         self.stage = Stage::Nothing;
         Ok(())
     }
+}
+
+/// A scalar without anchor and tag, which needs no tag in any style.
+fn is_usual_scalar<A: Allocator>(event: &yaml_event_t<A>) -> bool
+    ensures { result ≡ node_events.is_usual_scalar (seen_event event.now) }
+{
+    matches!(
+        event,
+        YAML_SCALAR_EVENT {
+            anchor: None,
+            tag: None,
+            plain_implicit: true,
+            quoted_implicit: true,
+            ..
+        }
+    )
 }
 
 fn hand_out_document_end<A: Allocator>(

@@ -4,6 +4,7 @@ ghost use Rattle.std.specs.Prelude.{◌≡◌, ◌↔◌, IsTrue, Some, None, fa
 ghost use Rattle.yaml_base.specs.Event.{Event};
 ghost use Rattle.yaml_base.specs.Seen.{seen_break, seen_encoding};
 ghost use Rattle.yaml_base.specs.Settings.{Settings};
+ghost use Rattle.yaml_pen.specs.Page.{output_left};
 ghost use Rattle.yaml_emitter.specs.Promises.{Promised};
 ghost use Rattle.yaml_emitter.specs.StandsAfter.{StandsAfter};
 ghost use Rattle.yaml_emitter.specs.State.{knows_encoding};
@@ -182,9 +183,10 @@ impl<A: Allocator> yaml_emitter_t<A> {
         self.closed = true;
     }
 
-    /// The bytes that were handed out; empty where no output is set.
+    /// The bytes that were handed out and not taken; empty where no output is set.
     pub fn output(&self) -> &[u8]
-        ensures value { result.now ≡ self.now.page.output }
+        ensures value { result.now ≡ output_left self.now.page }
+        ensures untaken { self.now.page.taken ≡ 0 → result.now ≡ self.now.page.output }
         ensures unset { self.now.has_output ≡ false → result.now ≡ [] }
     {
         self.pen.output()

@@ -13,6 +13,7 @@ mod simple_keys;
 mod site;
 mod spelling;
 mod styles;
+mod usual;
 
 pub(crate) use contents::{
     CollectionContent, ScalarContent, borrowed_text, writes_collection_tag, writes_scalar_tag,
@@ -25,6 +26,9 @@ pub(crate) use nodes::{
     entries_column, is_written_in_flow, write_alias, write_collection_end, write_collection_start,
 };
 pub(crate) use scalars::write_scalar;
-pub(crate) use simple_keys::{is_simple_alias_key, is_simple_collection_key, is_simple_scalar_key};
+pub(crate) use simple_keys::{
+    is_simple_alias_key, is_simple_collection_key, is_simple_scalar_key, is_simple_usual_key,
+};
 pub(crate) use site::Site;
 pub(crate) use spelling::{SpelledTag, spell};
+pub(crate) use usual::{stands_plain, write_usual};

@@ -1,116 +1,112 @@
--- What the reader of whole streams finds in the bytes of a JSON value's stream.
-use Rattle.std.proofs.Common.{◌≡◌, refl, sym, ap, ◌∙◌, subst}
+-- What the reader of whole streams finds in the bytes of a stream of JSON values.
+use Rattle.std.proofs.Common.{◌≡◌, sym, ap, ◌∙◌, append_assoc, append-nil}
 use Rattle.std.proofs.lemmas.List.{take_all}
-use Rattle.std.specs.List.{All, list_all}
-use Rattle.std.specs.Prelude.{ℕ, Bool, true, None, List, not}
+use Rattle.std.specs.List.{list_all}
+use Rattle.std.specs.Prelude.{ℕ, Bool, true, None, Some, List, [], ◌∷◌, ◌++◌, map}
 use Rattle.json.specs.Json.{Json}
 use Rattle.json.specs.Tree.{HasNumbers}
-use Rattle.yaml_base.specs.Analysis.{is_special}
-use Rattle.yaml_base.specs.Characters.{is_printable}
-use Rattle.yaml_base.specs.Cursor.{Laid}
 use Rattle.yaml_base.specs.Event.{Event}
-use Rattle.yaml_base.specs.Grammar.{Document, Stream, no_documents, stream_events, tree_of}
-use Rattle.yaml_base.specs.Layout.{first_standing, has_no_documents, documents_laid, root_place, text_of}
+use Rattle.yaml_base.specs.Grammar.{Documents, no_documents, documents_and}
+use Rattle.yaml_base.specs.Layout.{root_place}
 use Rattle.yaml_base.specs.Meaning.{has_scalar_texts}
-use Rattle.yaml_base.specs.NodeLayout.{bodies_of}
-use Rattle.yaml_base.specs.Output.{bytes_written, settings_for, text_written}
+use Rattle.yaml_base.specs.Output.{bytes_written, settings_for}
 use Rattle.yaml_base.specs.Pieces.{list_layout}
 use Rattle.yaml_base.specs.Refusal.{IsAccepted}
 use Rattle.yaml_base.specs.SchemaCore.{resolved_by_core}
 use Rattle.yaml_base.specs.SchemaOf11.{resolved_by_11}
 use Rattle.yaml_base.specs.Settings.{Settings, Effective}
-use Rattle.yaml_base.specs.StreamLaw.{is_portable}
+use Rattle.yaml_base.specs.StreamContent.{DocumentTree, Tree}
 use Rattle.yaml_base.specs.StreamReader.{stream_trees}
 use Rattle.yaml_base.specs.Tags.{directives_in_force}
-use Rattle.yaml_base.proofs.Trees.{tree_of-stream_events}
-use Rattle.yaml_base.proofs.stream_documents.StreamDocumentTexts.{start_laid}
-use Rattle.yaml_base.proofs.stream_documents.StreamHeadingLines.{heading_stands}
-use Rattle.yaml_base.proofs.stream_documents.StreamLawStands.{StreamStands, stream_read_back}
-use Rattle.yaml_base.proofs.stream_documents.StreamRootLeaves.{root_stands}
-use Rattle.yaml_base.proofs.stream_documents.StreamRootsStand.{is_on_mark}
-use Rattle.yaml_base.proofs.stream_keys.StreamKeysFit.{keys_fit}
-use Rattle.yaml_base.proofs.stream_keys.StreamSimpleKeys.{simple_keys_fit}
-use Rattle.yaml_base.proofs.stream_nodes.StreamAgrees.{node_tree}
-use Rattle.yaml_base.proofs.stream_nodes.StreamBodies.{bodies_stand, stream_bodies}
-use Rattle.yaml_base.proofs.stream_nodes.StreamNames.{accepted_names_stand}
-use Rattle.yaml_base.proofs.stream_nodes.StreamScalarLeaves.{scalars_fit}
-use Rattle.yaml_base.proofs.stream_nodes.StreamStands.{BodyStands, BodiesHold}
-use Rattle.yaml_emitter.proofs.CanonicalBytes.{characters_back}
-use Rattle.yaml_emitter.proofs.Meaning.{is_indent}
-use Rattle.yaml_emitter.proofs.MeaningBodies.{charset_of}
-use Rattle.yaml_emitter.proofs.RawTexts.{all_meet, lacks_fewer, special_list, special_printable, texts_hold_raw}
+use Rattle.yaml_base.proofs.stream_documents.StreamWholeReads.{document_trees}
+use Rattle.yaml_base.proofs.stream_nodes.StreamAgrees.{document_tree, node_tree}
+use Rattle.yaml_emitter.proofs.layouts.StreamsReadBack.{stream_found}
 use Rattle.yaml_writer.specs.Writing.{IsStream}
-use Rattle.yaml_json.specs.Means.{ReadsAsJson}
-use Rattle.yaml_json.proofs.Meanings.{node_means, reads_by_11, reads_by_core}
+use Rattle.yaml_json.specs.Means.{AllMean, ReadsAsJson, ReadsAsValues, Schema, plain_document}
+use Rattle.yaml_json.proofs.Meanings.{ReadsScalars, node_means, reads_by_11, reads_by_core}
 use Rattle.yaml_json.proofs.Portable.{portable_events}
-use Rattle.yaml_json.proofs.Trees.{all_events, json_document, json_node, json_stream, stream_flat}
+use Rattle.yaml_json.proofs.Trees.{all_events, json_document, json_documents, json_node, json_stream, stream_flat, values_of}
 
-module _ (given : Settings) (in_flow : Bool) (json : Json) (bytes : List ℕ) (numbers : HasNumbers json)
-    (texts : list_all has_scalar_texts (all_events json given.canonical in_flow) ≡ true)
-    (written : IsStream given (all_events json given.canonical in_flow) bytes) where
+-- each number of each value is one
+abbrev pub HaveNumbers : List Json → Type 0
+HaveNumbers [] = Unit {0}
+HaveNumbers (json ∷ values) = HasNumbers json × HaveNumbers values
+
+module _ (s : Effective) (in_flow : Bool) where
+  -- the tree of a value's document, and those of some values
+  abbrev pub root_of : Json → Tree
+  root_of json = node_tree (json_node json s.canonical in_flow) s (directives_in_force []) root_place
+
+  abbrev pub roots_of : List Json → List Tree
+  roots_of values = map root_of values
+
+  -- they are the documents' trees
+  trees_after : (values : List Json) (before : Documents)
+      → document_trees s (json_documents values s.canonical in_flow before) ≡ document_trees s before ++ map plain_document (roots_of values)
+  trees_after [] before = sym (append-nil (document_trees s before))
+  trees_after (json ∷ values) before =
+      let document = json_document json s.canonical in_flow in
+      trees_after values (documents_and before document)
+      ∙ append_assoc (document_trees s before) (document_tree s document ∷ []) (map plain_document (roots_of values))
+
+  -- and mean the values
+  roots_mean : (schema : Schema) → ReadsScalars schema → (values : List Json) → HaveNumbers values → AllMean schema values (roots_of values)
+  roots_mean schema reads [] numbers = tt
+  roots_mean schema reads (json ∷ values) numbers =
+      (node_means schema reads s (directives_in_force []) in_flow json numbers.0 root_place, roots_mean schema reads values numbers.1)
+
+module _ (given : Settings) (in_flow : Bool) (part : List ℕ × Json) (rest : List (List ℕ × Json)) (bytes : List ℕ)
+    (numbers : HaveNumbers (values_of (part ∷ rest)))
+    (texts : list_all has_scalar_texts (all_events (part ∷ rest) given.canonical in_flow) ≡ true)
+    (written : IsStream given (all_events (part ∷ rest) given.canonical in_flow) bytes) where
   abbrev all : List Event
-  all = all_events json given.canonical in_flow
+  all = all_events (part ∷ rest) given.canonical in_flow
 
   abbrev s : Effective
   s = settings_for given all
 
-  abbrev stream : Stream
-  stream = json_stream json given.canonical in_flow
+  abbrev values : List Json
+  values = values_of (part ∷ rest)
 
-  abbrev document : Document
-  document = json_document json given.canonical in_flow
-
-  flat : stream_events stream ≡ all
-  flat = stream_flat json given.canonical in_flow
-
-  -- the stream is the value's
+  -- the stream is that of the values
   abbrev accepted : IsAccepted given.canonical all
-  accepted = record { stream = stream; is_stream = flat; sound = written.accepted.sound; shallow = written.accepted.shallow }
-
-  portable : is_portable given.portable given.canonical all ≡ true
-  portable = portable_events given.portable given.canonical in_flow json numbers
-
-  -- each body stands
-  bodies : All (BodyStands s) (bodies_of (list_layout s (stream_events stream)))
-  bodies =
-      subst (λ (events : List Event). All (BodyStands s) (bodies_of (list_layout s events))) (sym flat)
-      (bodies_stand s (bodies_of (list_layout s all)) written.written.tidy written.written.means)
-
-  -- and so does the document
-  stands : StreamStands s all stream
-  stands =
-      let own = document.start.directives in
-      let indent = is_indent given.indent in
-      let held = (stream_bodies (BodyStands s) stream s bodies).1 in
-      let sound = (accepted_names_stand given all stream accepted texts portable (ap tree_of (sym flat) ∙ tree_of-stream_events stream)).0 in
-      let at = start_laid s (has_no_documents no_documents) document.start (documents_laid s no_documents first_standing).standing refl in
+  accepted =
       record {
-        documents = (
-          tt,
-          record {
-            root = root_stands s document (is_on_mark s (has_no_documents no_documents) document.start) indent.low
-                (scalars_fit s own (directives_in_force own) indent.low indent.high) (simple_keys_fit s own (directives_in_force own))
-                (keys_fit s own (directives_in_force own)) sound.names
-                (subst (λ (l : Laid). BodiesHold (BodyStands s) document.root s (directives_in_force own) root_place l.cursor) at held);
-            heading = heading_stands s document.start sound.version sound.directives sound.prefixes;
-          },
-        );
-        printable = all_meet is_printable (text_of (list_layout s all))
-            (lacks_fewer (is_special (charset_of s)) (λ c. not (is_printable c)) (λ c e. ap not (special_printable (charset_of s) c e))
-            (text_of (list_layout s all)) (special_list s given.canonical all indent accepted));
-        characters = characters_back s.encoding (text_written s (list_layout s all)) (texts_hold_raw given None all accepted).scalars;
+        stream = json_stream values given.canonical in_flow;
+        is_stream = stream_flat part rest given.canonical in_flow;
+        sound = written.accepted.sound;
+        shallow = written.accepted.shallow;
       }
 
   -- the bytes are all that the layout says
   whole : bytes ≡ bytes_written s (list_layout s all)
   whole = written.output ∙ written.written.output ∙ take_all given.limit (bytes_written s (list_layout s all)) written.written.uncut
 
-  pub reads_as_json : ReadsAsJson given.breaks12 bytes json
-  reads_as_json =
-      let directives = directives_in_force document.start.directives in
+  found : stream_trees given.breaks12 bytes ≡ Some (map plain_document (roots_of s in_flow values))
+  found =
+      ap (stream_trees given.breaks12) whole
+      ∙ stream_found given None all accepted texts (portable_events given.portable given.canonical in_flow part rest numbers.0)
+      ∙ ap (λ (trees : List DocumentTree). Some trees) (trees_after s in_flow values no_documents)
+
+  pub reads_as_values : ReadsAsValues given.breaks12 bytes values
+  reads_as_values =
       record {
-        root = node_tree (json_node json given.canonical in_flow) s directives root_place;
-        read = ap (stream_trees given.breaks12) whole ∙ stream_read_back given None all accepted portable stands;
-        by_11 = node_means resolved_by_11 reads_by_11 s directives in_flow json numbers root_place;
-        by_core = node_means resolved_by_core reads_by_core s directives in_flow json numbers root_place;
+        roots = roots_of s in_flow values;
+        read = found;
+        by_11 = roots_mean s in_flow resolved_by_11 reads_by_11 values numbers;
+        by_core = roots_mean s in_flow resolved_by_core reads_by_core values numbers;
       }
+
+-- one value alone
+pub reads_as_json : (given : Settings) (in_flow : Bool) (text : List ℕ) (json : Json) (bytes : List ℕ) → HasNumbers json
+    → list_all has_scalar_texts (all_events ((text, json) ∷ []) given.canonical in_flow) ≡ true
+    → IsStream given (all_events ((text, json) ∷ []) given.canonical in_flow) bytes
+    → ReadsAsJson given.breaks12 bytes json
+reads_as_json given in_flow text json bytes numbers texts written =
+    let s = settings_for given (all_events ((text, json) ∷ []) given.canonical in_flow) in
+    record {
+      root = root_of s in_flow json;
+      read = found given in_flow (text, json) [] bytes (numbers, tt) texts written;
+      by_11 = (roots_mean s in_flow resolved_by_11 reads_by_11 (json ∷ []) (numbers, tt)).0;
+      by_core = (roots_mean s in_flow resolved_by_core reads_by_core (json ∷ []) (numbers, tt)).0;
+    }

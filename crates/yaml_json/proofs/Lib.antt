@@ -6,5 +6,5 @@ pub mod Trees
 pub mod Meanings
 pub mod Portable
 pub mod JsonReads
-pub mod TextsInTurn
 pub mod YamlOf
+pub mod TextsInTurn

@@ -1,15 +1,15 @@
--- The events of a JSON value are written alike in every mode.
-use Rattle.std.proofs.Common.{◌≡◌, refl, sym, ap, ◌∙◌}
+-- The events of JSON values are written alike in every mode.
+use Rattle.std.proofs.Common.{◌≡◌, refl, sym, ap, ◌∙◌, append_assoc, append-nil}
 use Rattle.std.proofs.lemmas.Bool.{and_from, and_right, false≢true, not_from_false, or_from}
 use Rattle.std.specs.List.{list_any}
-use Rattle.std.specs.Prelude.{Bool, true, false, Option, Some, [], ◌∷◌, ◌++◌, ◌||◌, ◌&&◌, codes, is_some, not, option_map, unwrap_or, if◌then◌else◌}
+use Rattle.std.specs.Prelude.{ℕ, Bool, true, false, Option, Some, List, [], ◌∷◌, ◌++◌, ◌||◌, ◌&&◌, codes, is_some, map, not, option_map, unwrap_or, if◌then◌else◌}
 use Rattle.std.specs.Str.{chars}
 use Rattle.json.specs.Json.{Json, null, boolean, number, string, array, object, Items, no_items, item, Members, no_members, member}
 use Rattle.json.specs.Tree.{HasNumbers}
 use Rattle.yaml_base.specs.Analysis.{is_empty}
 use Rattle.yaml_base.specs.Characters.{Text}
 use Rattle.yaml_base.specs.Event.{Scalar}
-use Rattle.yaml_base.specs.Grammar.{Document, scalar_node, Nodes, no_nodes, nodes_and, Pairs, no_pairs, pairs_and, Stream, tree_of}
+use Rattle.yaml_base.specs.Grammar.{Document, Documents, no_documents, documents_and, scalar_node, Nodes, no_nodes, nodes_and, Pairs, no_pairs, pairs_and, Stream, tree_of}
 use Rattle.yaml_base.specs.JsonNumbers.{JsonNumber, exponent_spelled, fraction_or, is_json_integer, is_json_number, minus, yaml_number}
 use Rattle.yaml_base.specs.Layout.{is_explicit}
 use Rattle.yaml_base.specs.Refusal.{scalar_tag, collection_tag}
@@ -25,7 +25,7 @@ use Rattle.yaml_writer.specs.NumberParts.{number_in}
 use Rattle.yaml_writer.specs.Writing.{float_tag, number_tag}
 use Rattle.yaml_json.specs.JsonEvents.{collection_in, number_content, text_content, word_content}
 use Rattle.yaml_json.proofs.NumberBridge.{number_is}
-use Rattle.yaml_json.proofs.Trees.{all_events, items_nodes, json_document, json_node, json_stream, members_pairs, stream_flat}
+use Rattle.yaml_json.proofs.Trees.{all_events, items_nodes, json_document, json_documents, json_node, json_stream, members_pairs, stream_flat, values_of}
 
 -- Nothing is lost
 
@@ -122,22 +122,55 @@ mutual
       ∙ no_more (pairs_have_flow_sign canonical (directives_in_force []) before) (node_has_flow_sign canonical (directives_in_force []) named)
       (text_unsigned (chars key) canonical)
 
+-- Documents
+
+-- a document of each value
+abbrev documents_for : List Json → (canonical in_flow : Bool) → List Document
+documents_for values canonical in_flow = map (λ json. json_document json canonical in_flow) values
+
+documents_are : (values : List Json) (canonical in_flow : Bool) (before : Documents)
+    → documents_in_order (json_documents values canonical in_flow before) ≡ documents_in_order before ++ documents_for values canonical in_flow
+documents_are [] canonical in_flow before = sym (append-nil (documents_in_order before))
+documents_are (json ∷ values) canonical in_flow before =
+    let document = json_document json canonical in_flow in
+    documents_are values canonical in_flow (documents_and before document)
+    ∙ append_assoc (documents_in_order before) (document ∷ []) (documents_for values canonical in_flow)
+
+all_unsigned : (values : List Json) (canonical in_flow : Bool)
+    → list_any (document_has_flow_sign canonical) (documents_for values canonical in_flow) ≡ false
+all_unsigned [] canonical in_flow = refl
+all_unsigned (json ∷ values) canonical in_flow =
+    or_from (document_has_flow_sign canonical (json_document json canonical in_flow))
+    (list_any (document_has_flow_sign canonical) (documents_for values canonical in_flow)) (value_unsigned json canonical in_flow)
+    (all_unsigned values canonical in_flow)
+
+first_kept : (json : Json) (values : List Json) (canonical in_flow : Bool) → HasNumbers json
+    → is_lost canonical (documents_for (json ∷ values) canonical in_flow) ≡ false
+first_kept json values canonical in_flow numbers =
+    and_right (not (is_explicit canonical true (json_document json canonical in_flow).start))
+    (is_written_as_nothing canonical (json_node json canonical in_flow)) (value_written json canonical in_flow numbers)
+
+are_read_alike : (json : Json) (values : List Json) (canonical in_flow : Bool) → HasNumbers json
+    → are_portable canonical (documents_for (json ∷ values) canonical in_flow) ≡ true
+are_read_alike json values canonical in_flow numbers =
+    let documents = documents_for (json ∷ values) canonical in_flow in
+    and_from (not (is_lost canonical documents)) (not (list_any (document_has_flow_sign canonical) documents))
+    (not_from_false (is_lost canonical documents) (first_kept json values canonical in_flow numbers))
+    (not_from_false (list_any (document_has_flow_sign canonical) documents) (all_unsigned (json ∷ values) canonical in_flow))
+
 -- All
 
 -- in portable mode or not
-pub portable_events : (portable canonical in_flow : Bool) (json : Json) → HasNumbers json
-    → is_portable portable canonical (all_events json canonical in_flow) ≡ true
-portable_events true canonical in_flow json numbers = refl
-portable_events false canonical in_flow json numbers =
+pub portable_events : (portable canonical in_flow : Bool) (part : List ℕ × Json) (rest : List (List ℕ × Json)) → HasNumbers part.1
+    → is_portable portable canonical (all_events (part ∷ rest) canonical in_flow) ≡ true
+portable_events true canonical in_flow part rest numbers = refl
+portable_events false canonical in_flow part rest numbers =
     ap (λ (tree : Option Stream). unwrap_or (option_map (λ stream. are_portable canonical (documents_in_order stream.documents)) tree) false) found
-    ∙ and_from (not (is_lost canonical (document ∷ []))) (not (list_any (document_has_flow_sign canonical) (document ∷ [])))
-    (not_from_false (is_lost canonical (document ∷ []))
-    (and_right (not (is_explicit canonical true document.start)) (is_written_as_nothing canonical document.root) (value_written json canonical in_flow numbers)))
-    (not_from_false (list_any (document_has_flow_sign canonical) (document ∷ []))
-    (or_from (document_has_flow_sign canonical document) false (value_unsigned json canonical in_flow) refl))
+    ∙ ap (are_portable canonical) (documents_are (values_of (part ∷ rest)) canonical in_flow no_documents)
+    ∙ are_read_alike part.1 (values_of rest) canonical in_flow numbers
   where
-    document : Document
-    document = json_document json canonical in_flow
+    stream : Stream
+    stream = json_stream (values_of (part ∷ rest)) canonical in_flow
 
-    found : tree_of (all_events json canonical in_flow) ≡ Some (json_stream json canonical in_flow)
-    found = ap tree_of (sym (stream_flat json canonical in_flow)) ∙ tree_of-stream_events (json_stream json canonical in_flow)
+    found : tree_of (all_events (part ∷ rest) canonical in_flow) ≡ Some stream
+    found = ap tree_of (sym (stream_flat part rest canonical in_flow)) ∙ tree_of-stream_events stream

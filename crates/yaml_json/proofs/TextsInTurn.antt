@@ -10,8 +10,9 @@ use Rattle.yaml_base.specs.Event.{Event, document_end}
 use Rattle.yaml_base.specs.declared.errors.yaml_error_t.{yaml_error_t}
 use Rattle.yaml_writer.specs.Writing.{Passed, WriterState, plain_start}
 use Rattle.yaml_json.specs.JsonEvents.{json_events}
-use Rattle.yaml_json.specs.Wrote.{AreJson, IsBare, Wrote, WroteText, WroteTexts, parts_events}
+use Rattle.yaml_json.specs.Wrote.{AreJson, IsBare, ReadsTexts, Wrote, WroteText, WroteTexts, parts_events}
 use Rattle.yaml_json.proofs.WroteLemmas.{wrote_nothing, wrote_same, wrote_then}
+use Rattle.yaml_json.proofs.YamlOf.{last_reads}
 
 -- what separates two documents
 abbrev between : List Event
@@ -79,6 +80,9 @@ module _ (depth : ℕ) (in_flow : Bool) (text : List ℕ) (was : WriterState) (r
       ∙ ap (λ (t : List ℕ). flat_map (λ part. part.0) so_far.parts ++ (first ++ t)) is
       ∙ ap (λ (t : List ℕ). flat_map (λ part. part.0) so_far.parts ++ t) cut ∙ so_far.joined
 
+  each_done : AreJson depth (so_far.parts ++ (first, one.json) ∷ [])
+  each_done = one_more depth so_far.parts (first, one.json) so_far.each one.read
+
   pub texts_go_on : (answer : Result (Unit {0}) yaml_error_t) (after : WriterState) → Passed given between answer after
       → TextsSoFar depth in_flow text was more after
   texts_go_on answer after passed =
@@ -87,7 +91,7 @@ module _ (depth : ℕ) (in_flow : Bool) (text : List ℕ) (was : WriterState) (r
       record {
         parts = so_far.parts ++ (first, one.json) ∷ [];
         joined = joined_now more refl;
-        each = one_more depth so_far.parts (first, one.json) so_far.each one.read;
+        each = each_done;
         wrote = wrote_same was after (started was.canonical in_flow so_far.parts ++ (events ++ between))
             (started was.canonical in_flow (so_far.parts ++ (first, one.json) ∷ [])) started_more
             (wrote_then was now after (started was.canonical in_flow so_far.parts) (events ++ between) so_far.wrote
@@ -97,20 +101,27 @@ module _ (depth : ℕ) (in_flow : Bool) (text : List ℕ) (was : WriterState) (r
       started_more : started was.canonical in_flow so_far.parts ++ (json_events was.canonical in_flow one.json ++ between)
           ≡ started was.canonical in_flow (so_far.parts ++ (first, one.json) ∷ [])
       started_more =
-          ap (λ (events : List Event). started was.canonical in_flow so_far.parts ++ events) (sym (append-nil (json_events was.canonical in_flow one.json ++ between)))
+          ap (λ (events : List Event). started was.canonical in_flow so_far.parts ++ events)
+          (sym (append-nil (json_events was.canonical in_flow one.json ++ between)))
           ∙ sym (flat_map-append (λ (part : List ℕ × Json). json_events was.canonical in_flow part.1 ++ between) so_far.parts ((first, one.json) ∷ []))
+
+  -- where nothing follows, all texts are given
+  joined_done : more ≡ [] → flat_map (λ part. part.0) (so_far.parts ++ (first, one.json) ∷ []) ≡ text
+  joined_done none = sym (append-nil (flat_map (λ part. part.0) (so_far.parts ++ (first, one.json) ∷ []))) ∙ joined_now [] (sym none)
+
+  wrote_done : Wrote was (parts_events was.canonical in_flow (so_far.parts ++ (first, one.json) ∷ [])) given
+  wrote_done =
+      wrote_same was given (started was.canonical in_flow so_far.parts ++ json_events was.canonical in_flow one.json)
+      (parts_events was.canonical in_flow (so_far.parts ++ (first, one.json) ∷ [])) (ends_with was.canonical in_flow so_far.parts (first, one.json))
+      (wrote_then was now given (started was.canonical in_flow so_far.parts) (json_events was.canonical in_flow one.json) so_far.wrote events_given)
 
   pub texts_done : more ≡ [] → WroteTexts depth in_flow text was given
   texts_done none =
-      record {
-        parts = so_far.parts ++ (first, one.json) ∷ [];
-        joined = sym (append-nil (flat_map (λ part. part.0) (so_far.parts ++ (first, one.json) ∷ []))) ∙ joined_now [] (sym none);
-        each = one_more depth so_far.parts (first, one.json) so_far.each one.read;
-        wrote = wrote_same was given (started was.canonical in_flow so_far.parts ++ json_events was.canonical in_flow one.json)
-            (parts_events was.canonical in_flow (so_far.parts ++ (first, one.json) ∷ []))
-            (ends_with was.canonical in_flow so_far.parts (first, one.json))
-            (wrote_then was now given (started was.canonical in_flow so_far.parts) (json_events was.canonical in_flow one.json) so_far.wrote events_given);
-      }
+      record { parts = so_far.parts ++ (first, one.json) ∷ []; joined = joined_done none; each = each_done; wrote = wrote_done }
+
+  -- and are read
+  pub texts_read : more ≡ [] → ReadsTexts depth in_flow text was given
+  texts_read none = last_reads depth in_flow text was given so_far.parts (first, one.json) (joined_done none) each_done wrote_done
 
 -- What follows the first text
 

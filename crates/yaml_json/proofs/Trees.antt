@@ -1,15 +1,14 @@
--- The tree of a JSON value's events.
+-- The trees of the events of JSON values.
 use Rattle.std.proofs.Common.{◌≡◌, refl, sym, ap, ◌∙◌, append_assoc, append-nil}
-use Rattle.std.specs.Prelude.{Bool, true, None, List, [], ◌∷◌, ◌++◌}
+use Rattle.std.specs.Prelude.{ℕ, Bool, true, None, List, [], ◌∷◌, ◌++◌, flat_map, map}
 use Rattle.std.specs.Str.{chars}
 use Rattle.json.specs.Json.{Json, null, boolean, number, string, array, object, Items, no_items, item, Members, no_members, member}
 use Rattle.yaml_base.specs.Event.{Event, document_end, scalar, sequence_start, sequence_end, mapping_start, mapping_end, stream_end, stream_start}
-use Rattle.yaml_base.specs.Grammar.{Node, scalar_node, sequence_node, mapping_node, Nodes, no_nodes, nodes_and, Pairs, no_pairs, pairs_and, Document, no_documents, documents_and, Stream, node_events, nodes_events, pairs_events, stream_events}
-use Rattle.yaml_base.proofs.Trees.{one_tree}
-use Rattle.yaml_base.specs.Refusal.{IsAccepted}
+use Rattle.yaml_base.specs.Grammar.{Node, scalar_node, sequence_node, mapping_node, Nodes, no_nodes, nodes_and, Pairs, no_pairs, pairs_and, Document, Documents, no_documents, documents_and, Stream, node_events, nodes_events, pairs_events, document_events, documents_events, stream_events}
 use Rattle.yaml_writer.specs.NumberParts.{number_in}
 use Rattle.yaml_writer.specs.Writing.{closing, opening, plain_start}
 use Rattle.yaml_json.specs.JsonEvents.{bool_content, collection_in, items_events, json_events, members_events, null_content, number_content, text_content}
+use Rattle.yaml_json.specs.Wrote.{parts_events}
 
 -- a value as a node; items and members after others
 abbrev mutual
@@ -70,21 +69,55 @@ json_document json canonical in_flow =
       end_implicit = true;
     }
 
-abbrev pub json_stream : Json → (canonical in_flow : Bool) → Stream
-json_stream json canonical in_flow = record { encoding = None; documents = documents_and no_documents (json_document json canonical in_flow) }
+-- a document of each value, after others
+abbrev pub json_documents : List Json → (canonical in_flow : Bool) → Documents → Documents
+json_documents [] canonical in_flow before = before
+json_documents (json ∷ values) canonical in_flow before =
+    json_documents values canonical in_flow (documents_and before (json_document json canonical in_flow))
 
--- the events of a stream of a value
-abbrev pub all_events : Json → (canonical in_flow : Bool) → List Event
-all_events json canonical in_flow = opening ++ json_events canonical in_flow json ++ closing
+abbrev pub json_stream : List Json → (canonical in_flow : Bool) → Stream
+json_stream values canonical in_flow = record { encoding = None; documents = json_documents values canonical in_flow no_documents }
 
-pub stream_flat : (json : Json) (canonical in_flow : Bool) → stream_events (json_stream json canonical in_flow) ≡ all_events json canonical in_flow
-stream_flat json canonical in_flow =
-    ap (λ (events : List Event). stream_start None ∷ plain_start ∷ events)
-    (append_assoc (node_events (json_node json canonical in_flow)) (document_end true ∷ []) (stream_end ∷ [])
-    ∙ ap (λ (events : List Event). events ++ closing) (node_flat json canonical in_flow))
+-- the events of a document of a value
+abbrev value_events : (canonical in_flow : Bool) → Json → List Event
+value_events canonical in_flow json = plain_start ∷ (json_events canonical in_flow json ++ document_end true ∷ [])
 
--- so an accepted list of these events is that stream
-pub stream_is : (json : Json) (canonical in_flow : Bool) (accepted : IsAccepted canonical (all_events json canonical in_flow))
-    → accepted.stream ≡ json_stream json canonical in_flow
-stream_is json canonical in_flow accepted =
-    one_tree accepted.stream (json_stream json canonical in_flow) (accepted.is_stream ∙ sym (stream_flat json canonical in_flow))
+documents_flat : (values : List Json) (canonical in_flow : Bool) (before : Documents)
+    → documents_events (json_documents values canonical in_flow before) ≡ documents_events before ++ flat_map (value_events canonical in_flow) values
+documents_flat [] canonical in_flow before = sym (append-nil (documents_events before))
+documents_flat (json ∷ values) canonical in_flow before =
+    let document = json_document json canonical in_flow in
+    let later = flat_map (value_events canonical in_flow) values in
+    documents_flat values canonical in_flow (documents_and before document)
+    ∙ append_assoc (documents_events before) (document_events document) later
+    ∙ ap (λ (events : List Event). documents_events before ++ ((plain_start ∷ (events ++ document_end true ∷ [])) ++ later))
+    (node_flat json canonical in_flow)
+
+-- the values of some texts
+abbrev pub values_of : List (List ℕ × Json) → List Json
+values_of parts = map (λ part. part.1) parts
+
+-- the events of some texts, within the start of the first document and the end of the last
+parts_flat : (canonical in_flow : Bool) (part : List ℕ × Json) (rest : List (List ℕ × Json))
+    → flat_map (value_events canonical in_flow) (values_of (part ∷ rest))
+    ≡ plain_start ∷ (parts_events canonical in_flow (part ∷ rest) ++ document_end true ∷ [])
+parts_flat canonical in_flow part [] = append-nil (value_events canonical in_flow part.1)
+parts_flat canonical in_flow part (next ∷ rest) =
+    let first = json_events canonical in_flow part.1 in
+    let later = parts_events canonical in_flow (next ∷ rest) in
+    ap (λ (events : List Event). value_events canonical in_flow part.1 ++ events) (parts_flat canonical in_flow next rest)
+    ∙ ap (λ (events : List Event). plain_start ∷ events)
+    (append_assoc first (document_end true ∷ []) (plain_start ∷ (later ++ document_end true ∷ []))
+    ∙ sym (append_assoc first (document_end true ∷ plain_start ∷ later) (document_end true ∷ [])))
+
+-- the events of a stream of some texts
+abbrev pub all_events : List (List ℕ × Json) → (canonical in_flow : Bool) → List Event
+all_events parts canonical in_flow = opening ++ parts_events canonical in_flow parts ++ closing
+
+pub stream_flat : (part : List ℕ × Json) (rest : List (List ℕ × Json)) (canonical in_flow : Bool)
+    → stream_events (json_stream (values_of (part ∷ rest)) canonical in_flow) ≡ all_events (part ∷ rest) canonical in_flow
+stream_flat part rest canonical in_flow =
+    ap (λ (events : List Event). stream_start None ∷ (events ++ stream_end ∷ []))
+    (documents_flat (values_of (part ∷ rest)) canonical in_flow no_documents ∙ parts_flat canonical in_flow part rest)
+    ∙ ap (λ (events : List Event). stream_start None ∷ plain_start ∷ events)
+    (append_assoc (parts_events canonical in_flow (part ∷ rest)) (document_end true ∷ []) (stream_end ∷ []))

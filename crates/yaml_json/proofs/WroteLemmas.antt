@@ -1,17 +1,22 @@
 -- What a writer was given, call by call.
 use Rattle.std.proofs.Common.{◌≡◌, refl, sym, ap, ap₂, ◌∙◌, subst, append_assoc, append-nil, inl, inr}
-use Rattle.std.specs.Prelude.{ℕ, Bool, Option, None, List, [], ◌∷◌, ◌++◌, OnOk, Result, Ok, Err, is_none}
+use Rattle.std.specs.Prelude.{ℕ, Bool, false, Option, None, List, [], ◌∷◌, ◌++◌, OnOk, Result, Ok, Err, is_none}
 use Rattle.yaml_base.specs.Characters.{Text}
 use Rattle.yaml_base.specs.Event.{CollectionStyle, Event, ScalarStyle, plain, scalar, sequence_start, mapping_start}
 use Rattle.yaml_base.specs.JsonNumbers.{JsonNumber, yaml_number}
 use Rattle.yaml_emitter.specs.State.{State}
 use Rattle.yaml_emitter.specs.StandsAfter.{StandsAfter}
+use Rattle.yaml_writer.proofs.Finishing.{nothing_awaited}
 use Rattle.yaml_writer.proofs.PartLemmas.{number_found}
 use Rattle.yaml_writer.specs.NumberParts.{IsNumber, number_in}
-use Rattle.yaml_writer.specs.Writing.{WriterState, AddsAll, Gave, end_event, entered, mapping_event, number_event, number_tag, sequence_event, tag_or, text_event, text_style, word_event}
+use Rattle.yaml_writer.specs.Writing.{WriterState, AddsAll, Gave, awaits_node, end_event, entered, mapping_event, number_event, number_tag, sequence_event, tag_or, text_event, text_style, word_event}
 use Rattle.yaml_writer.specs.declared.kinds.CollectionKind.{CollectionKind}
 use Rattle.yaml_json.specs.JsonEvents.{collection_in, number_content, style_of, text_content, word_content}
 use Rattle.yaml_json.specs.Wrote.{Ends, IsBare, Wrote, WroteEvent}
+
+-- no node is awaited
+pub bare_awaits_none : (writer : WriterState) → IsBare writer → awaits_node writer ≡ false
+bare_awaits_none writer bare = nothing_awaited writer bare.0 bare.1
 
 -- what follows where a call succeeds
 pub on_ok : {A E P Q : Type 0} (answer : Result A E) → (P → Q) → OnOk answer P → OnOk answer Q

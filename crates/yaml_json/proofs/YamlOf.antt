@@ -1,35 +1,78 @@
--- The stream of a JSON text.
+-- The streams of JSON texts.
 use Rattle.std.proofs.Common.{◌≡◌, refl, ◌∙◌, subst}
 use Rattle.std.proofs.lemmas.Bool.{and_from}
 use Rattle.std.proofs.lemmas.List.Folds.{list_all-append}
 use Rattle.std.specs.List.{list_all}
-use Rattle.std.specs.Prelude.{ℕ, Bool, true, List, [], ◌++◌}
+use Rattle.std.specs.Prelude.{ℕ, Bool, true, Some, List, [], ◌∷◌, ◌++◌, flat_map}
 use Rattle.json.proofs.Numbered.{ArePrintableOrBad-tokens, value-HasNumbers}
+use Rattle.json.specs.Json.{Json, value}
 use Rattle.json.specs.Lex.{tokens}
+use Rattle.json.specs.Tree.{HasNumbers}
+use Rattle.yaml_base.specs.Event.{Event}
 use Rattle.yaml_base.specs.Meaning.{has_scalar_texts}
 use Rattle.yaml_base.specs.Settings.{Settings}
 use Rattle.yaml_emitter.specs.StandsAfter.{StandsAfter}
 use Rattle.yaml_writer.specs.Writing.{Finishes, WriterState, closing, opening}
 use Rattle.yaml_json.specs.JsonEvents.{json_events}
-use Rattle.yaml_json.specs.Wrote.{IsYamlOf, WroteText}
-use Rattle.yaml_json.proofs.JsonReads.{reads_as_json}
-use Rattle.yaml_json.proofs.Trees.{all_events}
+use Rattle.yaml_json.specs.Wrote.{AreJson, IsYamlOf, ReadsTexts, Wrote, WroteText, parts_events}
+use Rattle.yaml_json.proofs.JsonReads.{HaveNumbers, reads_as_json, reads_as_values}
+use Rattle.yaml_json.proofs.Trees.{values_of}
+
+-- each number of a value that was read is one
+text_has_numbers : (depth : ℕ) (text : List ℕ) (json : Json) → value depth (tokens text) ≡ Some (json, []) → HasNumbers json
+text_has_numbers depth text json read = value-HasNumbers depth (tokens text) [] json (ArePrintableOrBad-tokens text) read
+
+-- the texts of all events of a stream, its end included
+texts_closed : (events : List Event) → list_all has_scalar_texts events ≡ true → list_all has_scalar_texts (events ++ closing) ≡ true
+texts_closed events texts =
+    list_all-append has_scalar_texts events closing
+    ∙ and_from (list_all has_scalar_texts events) (list_all has_scalar_texts closing) texts refl
 
 -- a writer at the start of its first document was given a text's events, and was finished
 pub yaml_of : (given : Settings) (in_flow : Bool) (depth : ℕ) (text bytes : List ℕ) (first filled : WriterState) → StandsAfter given opening first.emitter
     → first.canonical ≡ given.canonical → WroteText depth in_flow text first filled → Finishes filled.emitter bytes
     → IsYamlOf given in_flow depth text bytes
 yaml_of given in_flow depth text bytes first filled stands canonical wrote finishes =
+    let events = opening ++ json_events given.canonical in_flow wrote.json in
     let stood = subst (λ (c : Bool). StandsAfter given (opening ++ json_events c in_flow wrote.json) filled.emitter) canonical
     (wrote.wrote.adds given opening stands) in
-    let stream = finishes given (opening ++ json_events given.canonical in_flow wrote.json) stood in
-    let texts : list_all has_scalar_texts (all_events wrote.json given.canonical in_flow) ≡ true =
-    list_all-append has_scalar_texts (opening ++ json_events given.canonical in_flow wrote.json) closing
-    ∙ and_from (list_all has_scalar_texts (opening ++ json_events given.canonical in_flow wrote.json)) (list_all has_scalar_texts closing) stood.texts refl in
+    let stream = finishes given events stood in
     record {
       json = wrote.json;
       read = wrote.read;
       stream = stream;
-      reads = reads_as_json given in_flow wrote.json bytes
-          (value-HasNumbers depth (tokens text) [] wrote.json (ArePrintableOrBad-tokens text) wrote.read) texts stream;
+      reads = reads_as_json given in_flow text wrote.json bytes (text_has_numbers depth text wrote.json wrote.read)
+          (texts_closed events stood.texts) stream;
     }
+
+-- Several texts
+
+all_have_numbers : (depth : ℕ) (parts : List (List ℕ × Json)) → AreJson depth parts → HaveNumbers (values_of parts)
+all_have_numbers depth [] each = tt
+all_have_numbers depth (part ∷ parts) each = (text_has_numbers depth part.0 part.1 each.0, all_have_numbers depth parts each.1)
+
+-- the same of the events of texts, of which there is one at least
+pub yaml_of_texts : (depth : ℕ) (in_flow : Bool) (text : List ℕ) (was now : WriterState) (part : List ℕ × Json) (rest : List (List ℕ × Json))
+    → flat_map (λ part. part.0) (part ∷ rest) ≡ text → AreJson depth (part ∷ rest) → Wrote was (parts_events was.canonical in_flow (part ∷ rest)) now
+    → ReadsTexts depth in_flow text was now
+yaml_of_texts depth in_flow text was now part rest joined each wrote given bytes stands canonical finishes =
+    let events = opening ++ parts_events given.canonical in_flow (part ∷ rest) in
+    let stood = subst (λ (c : Bool). StandsAfter given (opening ++ parts_events c in_flow (part ∷ rest)) now.emitter) canonical
+    (wrote.adds given opening stands) in
+    let stream = finishes given events stood in
+    record {
+      parts = part ∷ rest;
+      joined = joined;
+      each = each;
+      stream = stream;
+      reads = reads_as_values given in_flow part rest bytes (all_have_numbers depth (part ∷ rest) each) (texts_closed events stood.texts) stream;
+    }
+
+-- the last of them is one
+pub last_reads : (depth : ℕ) (in_flow : Bool) (text : List ℕ) (was now : WriterState) (parts : List (List ℕ × Json)) (last : List ℕ × Json)
+    → flat_map (λ part. part.0) (parts ++ last ∷ []) ≡ text → AreJson depth (parts ++ last ∷ [])
+    → Wrote was (parts_events was.canonical in_flow (parts ++ last ∷ [])) now
+    → ReadsTexts depth in_flow text was now
+last_reads depth in_flow text was now [] last joined each wrote = yaml_of_texts depth in_flow text was now last [] joined each wrote
+last_reads depth in_flow text was now (part ∷ rest) last joined each wrote =
+    yaml_of_texts depth in_flow text was now part (rest ++ last ∷ []) joined each wrote

@@ -1,5 +1,5 @@
 -- What a tree that was read means by a schema, and when that is a value of JSON. This names no writer and no event.
-use Rattle.std.specs.Prelude.{◌≡◌, ℕ, Bool, true, None, Some, List, [], ◌∷◌, ◌++◌, bytes_eq, codes, if◌then◌else◌}
+use Rattle.std.specs.Prelude.{◌≡◌, ℕ, Bool, true, None, Some, List, [], ◌∷◌, ◌++◌, bytes_eq, codes, map, if◌then◌else◌}
 use Rattle.std.specs.Str.{chars}
 use Rattle.json.specs.Json.{Json, null, boolean, number, string, array, object, Items, no_items, item, Members, no_members, member}
 use Rattle.yaml_base.specs.Characters.{Text}
@@ -7,7 +7,7 @@ use Rattle.yaml_base.specs.JsonNumbers.{JsonNumber, json_value, means_number}
 use Rattle.yaml_base.specs.Resolved.{Resolved, meant_null, meant_boolean, meant_integer, meant_decimal, meant_infinity, meant_nan, meant_timestamp, meant_merge, meant_value, meant_text, meant_by_nobody}
 use Rattle.yaml_base.specs.SchemaCore.{resolved_by_core}
 use Rattle.yaml_base.specs.SchemaOf11.{resolved_by_11}
-use Rattle.yaml_base.specs.StreamContent.{stood_plain, Tagging, with_tag, without_tag, Tree, scalar_tree, sequence_tree, mapping_tree, Trees, no_trees, trees_and, TreePairs, no_tree_pairs, tree_pairs_and}
+use Rattle.yaml_base.specs.StreamContent.{DocumentTree, stood_plain, Tagging, with_tag, without_tag, Tree, scalar_tree, sequence_tree, mapping_tree, Trees, no_trees, trees_and, TreePairs, no_tree_pairs, tree_pairs_and}
 use Rattle.yaml_base.specs.StreamReader.{stream_trees}
 use Rattle.yaml_writer.specs.NumberParts.{IsNumber}
 
@@ -78,10 +78,28 @@ abbrev mutual
       MeansText schema key pair.0 × Means schema json pair.1 × MembersMean schema members pairs
   MembersMean schema _ _ = ⊥
 
+-- trees mean some values, each its own, in order
+abbrev pub AllMean : Schema → List Json → List Tree → Type 0
+AllMean schema [] [] = Unit {0}
+AllMean schema (json ∷ values) (tree ∷ trees) = Means schema json tree × AllMean schema values trees
+AllMean schema _ _ = ⊥
+
+-- a document without directives
+abbrev pub plain_document : Tree → DocumentTree
+plain_document root = record { version = None; directives = []; root = root }
+
+-- what a reader of whole streams finds in some bytes: for each of these values one document without directives, in order, whose
+-- root means the value by the type repository of YAML 1.1 and by the core schema of YAML 1.2
+pub record ReadsAsValues (breaks12 : Bool) (bytes : List ℕ) (values : List Json) : Type 0 where
+  pub roots : List Tree
+  pub read : stream_trees breaks12 bytes ≡ Some (map plain_document roots)
+  pub by_11 : AllMean resolved_by_11 values roots
+  pub by_core : AllMean resolved_by_core values roots
+
 -- what a reader of whole streams finds in some bytes: one document without directives, whose root means this value by the type
 -- repository of YAML 1.1 and by the core schema of YAML 1.2
 pub record ReadsAsJson (breaks12 : Bool) (bytes : List ℕ) (json : Json) : Type 0 where
   pub root : Tree
-  pub read : stream_trees breaks12 bytes ≡ Some (record { version = None; directives = []; root = root } ∷ [])
+  pub read : stream_trees breaks12 bytes ≡ Some (plain_document root ∷ [])
   pub by_11 : Means resolved_by_11 json root
   pub by_core : Means resolved_by_core json root

@@ -1,14 +1,15 @@
 -- What a value of JSON comes to for the writer that it is given to, and what is left of the reader's tokens.
-use Rattle.std.specs.Prelude.{◌≡◌, ℕ, Bool, None, Some, Ok, List, [], ◌∷◌, ◌++◌, flat_map, length, true}
+use Rattle.std.specs.Prelude.{◌≡◌, ℕ, Bool, None, Some, Ok, List, [], ◌∷◌, ◌++◌, flat_map, length, map, true}
 use Rattle.std.specs.Str.{chars}
 use Rattle.json.specs.Token.{Token}
 use Rattle.json.specs.Lex.{tokens}
 use Rattle.json.specs.Json.{Json, Items, Members, items, members, value}
 use Rattle.yaml_base.specs.Event.{Event, document_end, scalar}
 use Rattle.yaml_base.specs.Settings.{Settings}
-use Rattle.yaml_writer.specs.Writing.{AddsAll, EndsInnermost, IsStream, WriterState, closing, opening, plain_start}
+use Rattle.yaml_emitter.specs.StandsAfter.{StandsAfter}
+use Rattle.yaml_writer.specs.Writing.{AddsAll, EndsInnermost, Finishes, IsStream, WriterState, closing, opening, plain_start}
 use Rattle.yaml_json.specs.JsonEvents.{json_events, items_events, members_events, text_content}
-use Rattle.yaml_json.specs.Means.{ReadsAsJson}
+use Rattle.yaml_json.specs.Means.{ReadsAsJson, ReadsAsValues}
 
 -- the next node has no anchor and no tag
 abbrev pub IsBare : WriterState → Type 0
@@ -82,6 +83,21 @@ pub record WroteTexts (depth : ℕ) (in_flow : Bool) (text : List ℕ) (was now 
   pub joined : flat_map (λ part. part.0) parts ≡ text
   pub each : AreJson depth parts
   pub wrote : Wrote was (parts_events was.canonical in_flow parts) now
+
+-- the text is one JSON text after another, the bytes are the stream of their documents, and both schemas read them as their
+-- values
+pub record IsYamlOfTexts (given : Settings) (in_flow : Bool) (depth : ℕ) (text bytes : List ℕ) : Type 0 where
+  pub parts : List (List ℕ × Json)
+  pub joined : flat_map (λ part. part.0) parts ≡ text
+  pub each : AreJson depth parts
+  pub stream : IsStream given (opening ++ parts_events given.canonical in_flow parts ++ closing) bytes
+  pub reads : ReadsAsValues given.breaks12 bytes (map (λ part. part.1) parts)
+
+-- where the writer was at the start of its first document, the stream that it then finishes is read as the values of the text
+abbrev pub ReadsTexts : (depth : ℕ) → (in_flow : Bool) → (text : List ℕ) → WriterState → WriterState → Type 0
+ReadsTexts depth in_flow text was now =
+    (given : Settings) (bytes : List ℕ) → StandsAfter given opening was.emitter → was.canonical ≡ given.canonical → Finishes now.emitter bytes
+    → IsYamlOfTexts given in_flow depth text bytes
 
 -- the text is JSON nested at most so deep, the bytes are the stream of its one document, and both schemas read them as its value
 pub record IsYamlOf (given : Settings) (in_flow : Bool) (depth : ℕ) (text bytes : List ℕ) : Type 0 where

@@ -1,6 +1,6 @@
 //! JSON texts that follow one another in a text.
 ghost use Rattle.std.specs.Prelude.{◌≡◌, ◌⊎◌, ◌<◌, ◌++◌, [], length, OnOk};
-ghost use Rattle.yaml_json.specs.Wrote.{IsBare, WroteTexts};
+ghost use Rattle.yaml_json.specs.Wrote.{IsBare, ReadsTexts, WroteTexts};
 
 use crate::error::JsonError;
 use crate::texts::{error_of, write_text_by};
@@ -42,6 +42,9 @@ fn first_cut<'a, A: Allocator>(
 /// document each, the first as the document that the writer is in. Blanks may stand between two texts, and must where they
 /// would else be one number or word.
 ///
+/// Where the writer was new and is then finished, both schemas of YAML read the documents of its stream as the values of the
+/// texts, in order.
+///
 /// The writer must have no anchor and no tag for the next node.
 ///
 /// # Errors
@@ -56,7 +59,8 @@ pub fn write_json_texts<A: Allocator + Copy>(
     depth: usize,
 ) -> Result<(), JsonError>
     requires { IsBare writer.old }
-    ensures { OnOk result (WroteTexts depth in_flow text.now writer.old writer.new) }
+    ensures written { OnOk result (WroteTexts depth in_flow text.now writer.old writer.new) }
+    ensures reads { OnOk result (ReadsTexts depth in_flow text.now writer.old writer.new) }
 {
     let mut scratch = Scratch::new(alloc);
     let mut rest = text;

@@ -76,7 +76,8 @@ pub fn write_json<A: Allocator + Copy>(
 /// # Errors
 ///
 /// `NotJson` and `TooDeep` where the text isn't JSON nested at most `settings.depth` deep. `Emitter` with `WriteError` where
-/// the bytes pass the limit, and with `Memory` where an allocation fails.
+/// the bytes pass the limit, with `Memory` where an allocation fails, and with `TooDeep` where arrays and objects nest more than
+/// 1,000,000 deep and `settings.depth` allows it.
 pub fn yaml_from_json<A: Allocator + Copy>(
     alloc: A,
     text: &str,

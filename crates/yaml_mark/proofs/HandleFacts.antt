@@ -12,7 +12,7 @@ use Rattle.std.specs.Str.{chars}
 use lib.Utf8.{encode, encodes}
 use Rattle.yaml_base.specs.Characters.{Text, is_alpha}
 use Rattle.yaml_base.specs.Tags.{name_fault, handle_fault, prefix_fault, tag_mark, last_from, without_last}
-use Rattle.yaml_base.proofs.TagLaws.{last-append, without_last-append, front_and_last}
+use Rattle.yaml_base.proofs.TagForms.{last-append, without_last-append, front_and_last}
 
 nothing : (bytes : List ℕ) → (length bytes == 0) ≡ true → bytes ≡ []
 nothing [] h = refl

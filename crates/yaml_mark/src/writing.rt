@@ -2,7 +2,6 @@
 ghost use Rattle.std.specs.Prelude.{◌≡◌, ◌<◌, ◌∷◌, ◌++◌, false, chars, MatchOption};
 ghost use Rattle.std.specs.List.{list_any};
 ghost use Rattle.yaml_base.specs.Characters.{is_break};
-ghost use Rattle.yaml_base.specs.Characters as class;
 ghost use Rattle.yaml_base.specs.Cursor.{name_laid, space_if, text_laid};
 ghost use Rattle.yaml_base.specs.Layout.{handle_laid};
 ghost use Rattle.yaml_base.specs.Percent as percent;
@@ -12,7 +11,7 @@ ghost use Rattle.yaml_pen.specs.Wrote.{Wrote};
 ghost use Rattle.yaml_mark.specs.Escaping.{byte_written};
 
 use std::alloc::Allocator;
-use yaml_base::yaml_error_t;
+use yaml_base::{hex_digit, yaml_error_t};
 use yaml_pen::Pen;
 
 /// Writes the name of an anchor or of an alias. `WriteError` and `Memory` as the pen tells them.
@@ -150,17 +149,4 @@ fn is_tag_character(byte: u8) -> bool
         b'0'..=b'9' | b'A'..=b'Z' | b'a'..=b'z' | b'_' | b'-' | b';' | b'/' | b'?' | b':' | b'@'
             | b'&' | b'=' | b'+' | b'$' | b',' | b'.' | b'~' | b'*' | b'\'' | b'(' | b')' | b'[' | b']'
     )
-}
-
-fn hex_digit(digit: u8) -> u8
-    requires { digit < 16 }
-    ensures value { result ≡ class.hex_digit digit }
-    ensures ascii { result < 128 }
-    ensures no_break { is_break result ≡ false }
-{
-    if digit < 10 {
-        b'0' + digit
-    } else {
-        b'A' + (digit - 10)
-    }
 }

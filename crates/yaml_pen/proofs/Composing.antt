@@ -58,6 +58,7 @@ wrote_then {first} {next} {before} {between} {after} {answer} one two =
         encoding = two.settings.encoding ∙ one.settings.encoding;
         line_break = two.settings.line_break ∙ one.settings.line_break;
         limit = two.settings.limit ∙ one.settings.limit;
+        taken = two.settings.taken ∙ one.settings.taken;
       };
       handed = two.handed;
       grew = record {
@@ -108,7 +109,7 @@ wrote_nothing {page} ready none handed =
     record {
       answered = sym (ap told none);
       ready = ready;
-      settings = record { encoding = refl; line_break = refl; limit = refl };
+      settings = record { encoding = refl; line_break = refl; limit = refl; taken = refl };
       handed = handed;
       grew = record { front = []; rest = []; parts = refl; grown = sym (append-nil page.text) };
       output = prefix_itself page.output;
@@ -124,7 +125,7 @@ wrote_stopped lay {page} {error} ready some handed =
     record {
       answered = sym (ap told some);
       ready = ready;
-      settings = record { encoding = refl; line_break = refl; limit = refl };
+      settings = record { encoding = refl; line_break = refl; limit = refl; taken = refl };
       handed = handed;
       grew = record { front = []; rest = named_text lay page; parts = refl; grown = sym (append-nil page.text) };
       output = prefix_itself page.output;
@@ -164,7 +165,7 @@ wrote_changing {lay} change {before} {between} {after} wrote is =
     let changed : P (record between { cursor = change between.cursor }) = record {
       answered = wrote.answered;
       ready = record { begun = wrote.ready.begun; marked = wrote.ready.marked };
-      settings = record { encoding = wrote.settings.encoding; line_break = wrote.settings.line_break; limit = wrote.settings.limit };
+      settings = record { encoding = wrote.settings.encoding; line_break = wrote.settings.line_break; limit = wrote.settings.limit; taken = wrote.settings.taken };
       handed = wrote.handed;
       grew = wrote.grew;
       output = wrote.output;
@@ -183,7 +184,7 @@ changed_wrote {lay} change {before} {between} {after} {answer} is wrote =
     record {
       answered = changed.answered;
       ready = changed.ready;
-      settings = record { encoding = changed.settings.encoding; line_break = changed.settings.line_break; limit = changed.settings.limit };
+      settings = record { encoding = changed.settings.encoding; line_break = changed.settings.line_break; limit = changed.settings.limit; taken = changed.settings.taken };
       handed = changed.handed;
       grew = changed.grew;
       output = changed.output;
@@ -201,7 +202,12 @@ flushed_wrote {before} {after} {answer} ready flushed =
     record {
       answered = flushed.answered;
       ready = record { begun = subst (λ (o : Option Encoding). IsSome o) (sym encoding) ready.begun; marked = due ∙ ready.marked };
-      settings = record { encoding = encoding; line_break = ap (λ (p : Page). p.line_break) flushed.kept; limit = ap (λ (p : Page). p.limit) flushed.kept };
+      settings = record {
+        encoding = encoding;
+        line_break = ap (λ (p : Page). p.line_break) flushed.kept;
+        limit = ap (λ (p : Page). p.limit) flushed.kept;
+        taken = ap (λ (p : Page). p.taken) flushed.kept;
+      };
       handed = flushed.handed;
       grew = record { front = []; rest = []; parts = refl; grown = text ∙ sym (append-nil before.text) };
       output = flushed.output;

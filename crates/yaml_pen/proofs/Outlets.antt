@@ -1,10 +1,13 @@
 -- What is handed out of a buffer is added to the output.
-use Rattle.std.proofs.Common.{sym, subst, ℕ, ◌≤◌, Result, Ok, Err, List, length}
+use Rattle.std.proofs.Common.{◌≡◌, refl, sym, ◌∙◌, ap, subst, ℕ, ◌≤◌, ◌<◌, ◌+◌, ◌-◌, Result, Ok, Err, List, [], ◌++◌, length, drop, take, append_assoc, append-nil, arith}
+use Rattle.std.proofs.Math.Seq.{drop-append_seam, take-append-add}
+use Rattle.std.proofs.lemmas.List.{length-append}
+use Rattle.yaml_base.specs.Encoding.{cut}
 use Rattle.yaml_base.specs.Prefix.{IsPrefix}
 use Rattle.yaml_base.specs.declared.errors.yaml_error_t.{yaml_error_t}
 use Rattle.yaml_base.specs.declared.errors.yaml_error_t.TheVariants.{WriteError, Memory}
 use Rattle.yaml_base.proofs.Prefixes.{prefix_same, prefix_cut}
-use Rattle.yaml_pen.specs.Outlet.{HandsOut}
+use Rattle.yaml_pen.specs.Outlet.{HandsOut, whole_output}
 
 pub hands_out_grows : (buffer before after : List ℕ) (limit : ℕ) (answer : Result (Unit {0}) yaml_error_t) → length before ≤ limit
     → HandsOut buffer before after limit answer → IsPrefix before after
@@ -13,3 +16,42 @@ hands_out_grows buffer before after limit (Err WriteError) within h = subst (λ 
     (prefix_cut limit before buffer within)
 hands_out_grows buffer before after limit (Err Memory) within h = prefix_same before after (sym h)
 hands_out_grows buffer before after limit (Err error) within h = absurd h
+
+-- what is left of an output, and how long it is
+pub whole_left : (taken left : List ℕ) → drop (length taken) (whole_output taken left) ≡ left
+unfolding whole_output
+whole_left taken left = drop-append_seam taken left
+
+pub whole_length : (taken left : List ℕ) → length (whole_output taken left) ≡ length taken + length left
+unfolding whole_output
+whole_length taken left = length-append taken left
+
+-- what is left is taken too
+pub whole_taken : (taken left : List ℕ) → whole_output (taken ++ left) [] ≡ whole_output taken left
+unfolding whole_output
+whole_taken taken left = append-nil (taken ++ left)
+
+whole_append : (taken left more : List ℕ) → whole_output taken (left ++ more) ≡ whole_output taken left ++ more
+unfolding whole_output
+whole_append taken left more = sym (append_assoc taken left more)
+
+whole_take : (taken left : List ℕ) (count limit : ℕ) → count ≡ length taken → count ≤ limit → whole_output taken (take (limit - count) left) ≡ take limit (whole_output taken left)
+unfolding whole_output
+whole_take taken left count limit counted within =
+    sym (take-append-add taken left (limit - count)) ∙ ap (λ n. take n (taken ++ left)) (omega (arith, counted, within))
+
+-- what was taken counts for the limit
+pub hands_on : (buffer taken before after : List ℕ) (count limit : ℕ) (answer : Result (Unit {0}) yaml_error_t) → count ≡ length taken
+    → length (whole_output taken before) ≤ limit → HandsOut buffer before after (limit - count) answer
+    → HandsOut buffer (whole_output taken before) (whole_output taken after) limit answer
+hands_on buffer taken before after count limit (Ok _) counted within h =
+    let room = whole_length taken before in
+    (omega (arith, counted, within, room, h.0, whole_length taken after), ap (whole_output taken) h.1 ∙ whole_append taken before buffer)
+hands_on buffer taken before after count limit (Err WriteError) counted within h =
+    let room = whole_length taken before in (
+      omega (arith, counted, within, room, h.0, length-append before buffer, length-append (whole_output taken before) buffer),
+      ap (whole_output taken) h.1 ∙ whole_take taken (before ++ buffer) count limit counted (omega (arith, counted, within, room))
+          ∙ ap (cut limit) (whole_append taken before buffer),
+    )
+hands_on buffer taken before after count limit (Err Memory) counted within h = ap (whole_output taken) h
+hands_on buffer taken before after count limit (Err error) counted within h = absurd h

@@ -78,6 +78,7 @@ page-begun encoding old line_break old_break bytes whitespace indention due old_
       text = t;
       cursor = record { column = column_after t 0; whitespace = whitespace; indention = indention };
       output = bytes.output;
+      taken = bytes.taken;
       error = bytes.error;
     }) text
     ∙ ap (λ d. record (page_of old old_due old_break bytes whitespace indention) {
@@ -110,6 +111,7 @@ page_with encoding line_break bytes text whitespace indention =
       text = text;
       cursor = record { column = column_after text 0; whitespace = whitespace; indention = indention };
       output = bytes.output;
+      taken = bytes.taken;
       error = bytes.error;
     }
 

@@ -43,6 +43,7 @@ pub record Adds (e : Encoding) (raw : Text) (before after : Bytes) : Type 0 wher
   pub no_error : before.error ≡ None
   pub unfailed : after.error ≡ None
   pub limit : after.limit ≡ before.limit
+  pub taken : after.taken ≡ before.taken
   pub output : IsPrefix before.output after.output
   pub sound : IsSound after
 
@@ -55,6 +56,7 @@ Adds-appended e raw bytes before after appended is =
       no_error = (appended.whole none).0;
       unfailed = none;
       limit = appended.limit;
+      taken = appended.taken;
       output = appended.output;
       sound = appended.handed;
     }
@@ -121,7 +123,7 @@ Wrote-page e raw encoding line_break before after whitespace indention due colum
     record {
       answered = sym (ap told adds.unfailed);
       ready = record { begun = ready.begun; marked = ready.marked };
-      settings = record { encoding = refl; line_break = refl; limit = adds.limit };
+      settings = record { encoding = refl; line_break = refl; limit = adds.limit; taken = adds.taken };
       handed = subst (λ (b : List ℕ). IsHandedOut b after.output after.limit after.error) bytes adds.sound;
       grew = record { front = raw; rest = []; parts = names.text ∙ sym (append-nil raw); grown = text };
       output = adds.output;

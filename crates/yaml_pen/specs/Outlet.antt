@@ -6,22 +6,34 @@ use Rattle.yaml_base.specs.declared.errors.yaml_error_t.{yaml_error_t}
 use Rattle.yaml_base.specs.declared.errors.yaml_error_t.TheVariants.{WriteError, Memory}
 use Rattle.yaml_pen.specs.Page.{IsHandedOut, told}
 
--- all bytes so far, those handed out, the limit and the first error
+-- all bytes so far, those handed out, how many of these the caller has taken, the limit and the first error
 pub record Bytes : Type 0 where
   pub all : List ℕ
   pub output : List ℕ
+  pub taken : ℕ
   pub limit : ℕ
   pub error : Option yaml_error_t
+
+-- the output: what the caller has taken, and what is left
+unfoldable pub whole_output : List ℕ → List ℕ → List ℕ
+whole_output taken left = taken ++ left
+
+-- the bytes of an outlet: its output up to a place, and the buffer after it
+abbrev pub bytes_of : ℕ → List ℕ → List ℕ → List ℕ → ℕ → Option yaml_error_t → Bytes
+bytes_of kept buffer taken left limit error =
+    let output = whole_output taken left in
+    record { all = take kept output ++ buffer; output = output; taken = length taken; limit = limit; error = error }
 
 -- what is handed out of the bytes is sound
 abbrev pub IsSound : Bytes → Type 0
 IsSound bytes = IsHandedOut bytes.all bytes.output bytes.limit bytes.error
 
--- an output that was kept up to a place, and a buffer of what follows; without an error all is kept
-pub record IsOutlet (kept : ℕ) (buffer : List ℕ) (output : List ℕ) (limit : ℕ) (error : Option yaml_error_t) : Type 0 where
-  pub within : kept ≤ length output
-  pub whole : error ≡ None → kept ≡ length output
-  pub handed : IsHandedOut (take kept output ++ buffer) output limit error
+-- an output that was kept up to a place, and a buffer of what follows; without an error all is kept; what is taken is counted
+pub record IsOutlet (kept count : ℕ) (buffer taken left : List ℕ) (limit : ℕ) (error : Option yaml_error_t) : Type 0 where
+  pub within : kept ≤ length (whole_output taken left)
+  pub whole : error ≡ None → kept ≡ length (whole_output taken left)
+  pub handed : IsHandedOut (take kept (whole_output taken left) ++ buffer) (whole_output taken left) limit error
+  pub counted : count ≡ length taken
 
 -- a buffer is appended to an output whole, or up to the limit, or not at all
 abbrev pub HandsOut : List ℕ → List ℕ → List ℕ → ℕ → Result (Unit {0}) yaml_error_t → Type 0
@@ -43,6 +55,7 @@ pub record Emptied (before after : Bytes) (answer : Result (Unit {0}) yaml_error
 pub record Appended (bytes : List ℕ) (before after : Bytes) (answer : Result (Unit {0}) yaml_error_t) : Type 0 where
   pub answered : answer ≡ told after.error
   pub limit : after.limit ≡ before.limit
+  pub taken : after.taken ≡ before.taken
   pub output : IsPrefix before.output after.output
   pub handed : IsSound after
   pub whole : after.error ≡ None → (before.error ≡ None) × (after.all ≡ before.all ++ bytes)

@@ -1,5 +1,5 @@
 -- What contracts see of a pen.
-use Rattle.std.specs.Prelude.{◌≡◌, ℕ, ℤ, pos, negsuc, ◌<◌, ◌≤◌, ◌⊎◌, Bool, true, false, Option, None, Some, Result, Ok, Err, List, [], IsSome, length, if◌then◌else◌}
+use Rattle.std.specs.Prelude.{◌≡◌, ℕ, ℤ, pos, negsuc, ◌<◌, ◌≤◌, ◌⊎◌, Bool, true, false, Option, None, Some, Result, Ok, Err, List, [], IsSome, length, drop, if◌then◌else◌}
 use Rattle.yaml_base.specs.Characters.{Text}
 use Rattle.yaml_base.specs.Settings.{Encoding, utf8, LineBreak, line_feed_break}
 use Rattle.yaml_base.specs.Cursor.{Cursor, first_cursor}
@@ -13,7 +13,7 @@ buffer_size = 16384
 
 -- the settings (no encoding before the stream is begun), whether the byte order mark still has to be
 -- written, the text so far without the mark, the cursor after it (its column unbounded), the bytes
--- handed out, and the first error
+-- handed out, how many of them, from the first on, the caller has taken, and the first error
 pub record Page : Type 0 where
   pub encoding : Option Encoding
   pub mark_due : Bool
@@ -22,11 +22,20 @@ pub record Page : Type 0 where
   pub text : Text
   pub cursor : Cursor
   pub output : List ℕ
+  pub taken : ℕ
   pub error : Option yaml_error_t
 
 -- the bytes of the text so far
 abbrev pub encoded : Page → List ℕ
 encoded page = encode page.encoding page.text
+
+-- what the caller hasn't taken of the output
+abbrev pub output_left : Page → List ℕ
+output_left page = drop page.taken page.output
+
+-- the same page, of whose output all is taken
+abbrev pub all_taken : Page → Page
+all_taken page = record page { taken = length page.output }
 
 -- UTF-16 begins with a mark
 abbrev pub has_mark : Option Encoding → Bool
@@ -64,7 +73,7 @@ pub record IsHandedOut (bytes : List ℕ) (output : List ℕ) (limit : ℕ) (err
 -- a pen that was made with this limit
 abbrev pub new_page : ℕ → Page
 new_page limit =
-    record { encoding = None; mark_due = false; line_break = line_feed_break; limit = limit; text = []; cursor = first_cursor; output = []; error = None }
+    record { encoding = None; mark_due = false; line_break = line_feed_break; limit = limit; text = []; cursor = first_cursor; output = []; taken = 0; error = None }
 
 -- a number that isn't negative
 abbrev pub natural : ℤ → ℕ

@@ -22,6 +22,7 @@ page_of encoding mark_due line_break bytes whitespace indention =
       text = text;
       cursor = record { column = column_after text 0; whitespace = whitespace; indention = indention };
       output = bytes.output;
+      taken = bytes.taken;
       error = bytes.error;
     }
 

@@ -8,11 +8,12 @@ use Rattle.yaml_base.specs.declared.errors.yaml_error_t.{yaml_error_t}
 use Rattle.yaml_base.specs.declared.errors.yaml_error_t.TheVariants.{Memory}
 use Rattle.yaml_pen.specs.Page.{Page, encoded, told, IsReady, IsHandedOut}
 
--- the settings of a page stay
+-- the settings of a page stay, and what the caller has taken
 pub record KeepsSettings (before after : Page) : Type 0 where
   pub encoding : after.encoding ≡ before.encoding
   pub line_break : after.line_break ≡ before.line_break
   pub limit : after.limit ≡ before.limit
+  pub taken : after.taken ≡ before.taken
 
 -- a text grew by a prefix of what was named
 pub record Grew (before named after : Text) : Type 0 where

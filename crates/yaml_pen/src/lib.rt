@@ -5,5 +5,6 @@ mod counting;
 mod encoded;
 mod outlet;
 mod pen;
+mod taken;
 
 pub use pen::Pen;

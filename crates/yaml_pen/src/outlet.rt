@@ -1,12 +1,14 @@
 //! Bytes on their way out: a buffer, and the output that it is flushed to, within a limit.
-ghost use Rattle.std.specs.Prelude.{◌≡◌, ◌≤◌, [], ◌∷◌, length, IfOk};
+ghost use Rattle.std.specs.Prelude.{◌≡◌, ◌≤◌, [], ◌∷◌, ◌+◌, length, drop, IfOk};
 ghost use Rattle.yaml_base.specs.Prefix.{IsPrefix};
 ghost use Rattle.yaml_pen.specs.Page.{buffer_size};
-ghost use Rattle.yaml_pen.specs.Outlet.{Appended, Emptied, HandsOut, IsSound};
+ghost use Rattle.yaml_pen.specs.Outlet.{Appended, Emptied, HandsOut, IsSound, whole_output};
 
+use crate::taken::TakenBytes;
 use arrayvec::ArrayVec;
 use std::alloc::{AllocError, Allocator};
 use std::marker::Model;
+use std::mem;
 use yaml_base::yaml_error_t;
 
 /// The bytes that the buffer holds.
@@ -15,33 +17,39 @@ pub(crate) const BUFFER_SIZE: usize = 16_384;
 #[derive(Drop)]
 pub(crate) struct Outlet<A: Allocator> {
     buffer: Box<ArrayVec<u8, BUFFER_SIZE>, A>,
+    // What the caller hasn't taken.
     output: Vec<u8, A>,
+    taken: TakenBytes,
+    taken_count: usize,
+    // Counted from the first byte on, taken or not.
     kept: usize,
     limit: usize,
     error: Option<yaml_error_t>,
 }
 
 impl<A: Allocator> Model for Outlet<A> {
-    ghost use Rattle.std.specs.Prelude.{◌++◌, take};
-    ghost use Rattle.yaml_pen.specs.Outlet.{Bytes, IsOutlet};
+    ghost use Rattle.yaml_pen.specs.Outlet.{Bytes, IsOutlet, bytes_of};
 
     ghost Value = { Bytes };
 
-    ghost view = { λ o. record { all = take o.kept o.output.items ++ o.buffer.value.items; output = o.output.items; limit = o.limit; error = o.error } };
+    ghost view = { λ o. bytes_of o.kept o.buffer.value.items o.taken.bytes o.output.items o.limit o.error };
 
-    ghost invariant = { λ o. IsOutlet o.kept o.buffer.value.items o.output.items o.limit o.error };
+    ghost invariant = { λ o. IsOutlet o.kept o.taken_count o.buffer.value.items o.taken.bytes o.output.items o.limit o.error };
 }
 
 impl<A: Allocator> Outlet<A> {
+    #[tactic(auto, unfolding(crate::specs::Outlet::whole_output))]
     pub(crate) fn new(alloc: A) -> Result<Outlet<A>, AllocError>
     where
         A: Copy,
-        ensures { IfOk result (λ o. o ≡ record { all = []; output = []; limit = usize.MAX; error = None }) }
+        ensures { IfOk result (λ o. o ≡ record { all = []; output = []; taken = 0; limit = usize.MAX; error = None }) }
     {
         let buffer = Box::new(alloc, ArrayVec::new()).map_err(|_| AllocError)?;
         Ok(Outlet {
             buffer,
             output: Vec::new(alloc),
+            taken: TakenBytes::new(),
+            taken_count: 0,
             kept: 0,
             limit: usize::MAX,
             error: None,
@@ -82,10 +90,16 @@ impl<A: Allocator> Outlet<A> {
         if self.buffer.is_empty() {
             return Ok(());
         }
-        let answer = hand_out(self.buffer.as_slice(), &mut self.output, self.limit);
+        let answer = hand_on(
+            self.buffer.as_slice(),
+            &mut self.output,
+            &self.taken,
+            self.taken_count,
+            self.limit,
+        );
         match answer {
             Ok(()) => {
-                self.kept = self.output.len();
+                self.kept = self.taken_count + self.output.len();
                 self.buffer.clear();
                 Ok(())
             }
@@ -96,10 +110,27 @@ impl<A: Allocator> Outlet<A> {
         }
     }
 
+    /// What the caller hasn't taken of the output.
+    #[tactic(auto, unfolding(crate::specs::Outlet::whole_output))]
     pub(crate) fn output(&self) -> &[u8]
-        ensures { result.now ≡ self.now.output }
+        ensures { result.now ≡ drop self.now.taken self.now.output }
     {
         self.output.as_slice()
+    }
+
+    /// Hands what isn't taken to the caller.
+    #[tactic(auto, unfolding(crate::specs::Outlet::whole_output))]
+    pub(crate) fn take_output(&mut self) -> Vec<u8, A>
+    where
+        A: Copy,
+        ensures rest { result.items ≡ drop self.old.taken self.old.output }
+        ensures taken { self.new ≡ record self.old { taken = length self.old.output } }
+    {
+        let none = Vec::new(*self.output.allocator());
+        let rest = mem::replace(&mut self.output, none);
+        self.taken = self.taken.with(rest.as_slice());
+        self.taken_count += rest.len();
+        rest
     }
 
     pub(crate) fn error(&self) -> Option<yaml_error_t>
@@ -152,6 +183,22 @@ impl<A: Allocator> Outlet<A> {
         let _ = self.buffer.try_push(byte);
         Ok(())
     }
+}
+
+// The limit counts what is taken, too.
+fn hand_on<A: Allocator>(
+    buffer: &[u8],
+    output: &mut Vec<u8, A>,
+    taken: &TakenBytes,
+    taken_count: usize,
+    limit: usize,
+) -> Result<(), yaml_error_t>
+    requires within { length (whole_output taken.now.bytes output.old.items) ≤ limit }
+    requires counted { taken_count ≡ length taken.now.bytes }
+    ensures handed { HandsOut buffer.now (whole_output taken.now.bytes output.old.items) (whole_output taken.now.bytes output.new.items) limit result }
+    ensures longer { length (whole_output taken.now.bytes output.new.items) ≡ taken_count + length output.new.items }
+{
+    hand_out(buffer, output, limit - taken_count)
 }
 
 // The limit cuts at any byte. All room is asked for before a byte is appended.

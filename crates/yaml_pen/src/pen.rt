@@ -7,7 +7,7 @@ ghost use Rattle.yaml_base.specs.Cursor.{text_laid, nothing_laid, breaks_line, n
 ghost use Rattle.yaml_base.specs.Settings.{line_feed_break, largest_i32};
 ghost use Rattle.yaml_base.specs.Encoding.{encode};
 ghost use Rattle.yaml_base.specs.Seen.{seen_encoding, seen_break};
-ghost use Rattle.yaml_pen.specs.Page.{buffer_size, Page, IsUntouched, IsReady, IsHandedOut, encoded, has_mark, new_page, natural};
+ghost use Rattle.yaml_pen.specs.Page.{buffer_size, Page, IsUntouched, IsReady, IsHandedOut, encoded, has_mark, new_page, natural, output_left, all_taken};
 ghost use Rattle.yaml_pen.specs.Wrote.{Wrote, Flushed};
 ghost use Rattle.yaml_pen.specs.Lines.{line_begun, line_break_laid, spaces_to};
 
@@ -118,12 +118,25 @@ impl<A: Allocator> Pen<A> {
         self.outlet.flush()
     }
 
-    /// The bytes that are handed out.
+    /// The bytes that are handed out, without those that the caller has taken.
     pub fn output(&self) -> &[u8]
-        ensures value { result.now ≡ self.now.output }
+        ensures value { result.now ≡ output_left self.now }
+        ensures untaken { self.now.taken ≡ 0 → result.now ≡ self.now.output }
         ensures handed { IsHandedOut (encoded self.now) self.now.output self.now.limit self.now.error }
     {
         self.outlet.output()
+    }
+
+    /// Gives the bytes that are handed out, without those that were taken before. What was taken and what is
+    /// left are together the output. Takes no memory, and may be called at any time, also after an error.
+    pub fn take_output(&mut self) -> Vec<u8, A>
+    where
+        A: Copy,
+        ensures rest { result.items ≡ output_left self.old }
+        ensures untaken { self.old.taken ≡ 0 → result.items ≡ self.old.output }
+        ensures taken { self.new ≡ all_taken self.old }
+    {
+        self.outlet.take_output()
     }
 
     /// The first error.
@@ -284,7 +297,7 @@ impl<A: Allocator> Pen<A> {
     }
 
     /// Writes an indicator of one character of ASCII that is no break, likewise.
-    #[inline]
+    #[inline(always)]
     pub fn put_indicator(
         &mut self,
         sign: u8,

@@ -1,4 +1,4 @@
-//! Tests of the whole, across crates. There is nothing else here.
+//! Tests of the crates below the emitter. There is nothing else here.
 #![tactic(auto)]
 
 #[cfg(test)]

@@ -1,19 +1,18 @@
-//! Each crate's rows: types, pens, marks, scalars; examples of calls, emitters call by call, whole runs of scripts; scripts and
-//! the program's options, errors in a caller, typed values, a writer of values, numbers of
-//! JSON, proved callers.
-mod callers;
-mod calling;
-mod dumps;
-mod emitters;
-mod errors;
+//! Rows of types, of marks, of pens, and of scalars.
 mod marks;
-mod numbers;
-mod options;
 mod pens;
-mod refusing;
-mod runs;
 mod scalars;
-mod scripts;
 mod types;
-mod values;
-mod writers;
+
+use std::fmt::Debug;
+use std::process::Abort;
+
+/// The two are equal. (A comparison in a function of its own is proved once.)
+fn equal<T: PartialEq + Debug>(rt: &impl Abort, got: &T, wanted: &T) {
+    assert_eq!(rt; *got, *wanted);
+}
+
+/// This was written.
+fn same(rt: &impl Abort, got: &[u8], wanted: &[u8]) {
+    assert_eq!(rt; got, wanted);
+}

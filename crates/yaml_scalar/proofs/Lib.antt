@@ -37,6 +37,7 @@ pub mod InsideSteps
 pub mod GatheredTexts
 pub mod QuotedSteps
 pub mod ShortRuns
+pub mod UsualTexts
 pub mod LastCharacters
 pub mod NextEven
 pub mod BlockWrites

@@ -1,10 +1,10 @@
 //! The escapes of characters between double quotes (YAML 1.1, section 5.6).
-ghost use Rattle.std.specs.Prelude.{◌≡◌, ◌≤◌, ◌∷◌, ◌%◌, None};
-ghost use Rattle.yaml_base.specs.Characters.{hex_digit};
+ghost use Rattle.std.specs.Prelude.{◌≡◌, ◌∷◌, ◌%◌, None};
+ghost use Rattle.yaml_base.specs.Characters as class;
 ghost use Rattle.yaml_base.specs.DoubleQuoted as spec;
 ghost use Rattle.yaml_scalar.specs.EscapeBytes.{escape_bytes};
 
-use yaml_base::{is_ascii, is_break, is_printable};
+use yaml_base::{hex_digit, is_ascii, is_break, is_printable};
 
 /// An escape, by how many characters it has, all of ASCII.
 #[derive(Clone, Copy)]
@@ -19,14 +19,15 @@ pub(crate) enum Escape {
     Eight([u8; 10]),
 }
 
-static HEX_DIGITS: [u8; 16] = *b"0123456789ABCDEF";
-
 /// Unprintable, past ASCII where that isn't kept, a break, the quote or the backslash.
 #[inline]
 pub(crate) fn needs_escape(c: char, unicode: bool) -> bool
     ensures { result ≡ spec.needs_escape unicode c }
 {
-    (!unicode && !is_ascii(c)) || !is_printable(c) || is_break(c) || c == '"' || c == '\\'
+    if !unicode && !is_ascii(c) {
+        return true;
+    }
+    !is_printable(c) || is_break(c) || c == '"' || c == '\\'
 }
 
 /// A backslash, and a letter where there is one for the character, else its number.
@@ -99,15 +100,7 @@ fn number_escape(n: u32) -> Escape
 
 /// The last hexadecimal digit of a number.
 fn digit_at(n: u32) -> u8
-    ensures { result ≡ hex_digit (n % 16) }
+    ensures { result ≡ class.hex_digit (n % 16) }
 {
-    hex_digit(n % 16)
-}
-
-/// An upper-case hexadecimal digit.
-fn hex_digit(digit: u32) -> u8
-    requires { digit ≤ 15 }
-    ensures { result ≡ hex_digit digit }
-{
-    HEX_DIGITS[digit as usize]
+    hex_digit((n % 16) as u8)
 }

@@ -17,6 +17,7 @@ mod short_runs;
 mod single_quoted;
 mod steps;
 mod style;
+mod usual;
 mod width;
 
 pub use analysis::{analyze_for_style, analyze_scalar, holds_break, scalar_data_t};
@@ -27,3 +28,4 @@ pub use literal::write_literal_scalar;
 pub use plain::write_plain_scalar;
 pub use single_quoted::write_single_quoted_scalar;
 pub use style::select_scalar_style;
+pub use usual::{is_usual, write_usual_scalar};

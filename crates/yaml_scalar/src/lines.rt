@@ -226,7 +226,7 @@ fn write_step<A: Allocator>(
 }
 
 // How many columns of the line are left, if any.
-fn line_room<A: Allocator>(pen: &Pen<A>, lines: Lines) -> usize
+pub(crate) fn line_room<A: Allocator>(pen: &Pen<A>, lines: Lines) -> usize
     ensures { 0 < result → HasRoom (limit_where lines.allow_breaks lines.width) pen.now.cursor.column result }
 {
     room_in_line(pen, lines.allow_breaks, lines.width)
@@ -253,6 +253,7 @@ fn is_short_line<A: Allocator>(pen: &Pen<A>, value: &str, lines: Lines) -> bool
 }
 
 /// Writes the lines of a value, the flags of the cursor left as they are.
+#[inline(always)]
 pub(crate) fn write_lines<A: Allocator>(
     pen: &mut Pen<A>,
     value: &str,
@@ -271,7 +272,11 @@ pub(crate) fn write_lines<A: Allocator>(
 
 /// The same, run by run.
 #[inline(never)]
-fn write_runs<A: Allocator>(pen: &mut Pen<A>, value: &str, lines: Lines) -> Result<(), yaml_error_t>
+pub(crate) fn write_runs<A: Allocator>(
+    pen: &mut Pen<A>,
+    value: &str,
+    lines: Lines,
+) -> Result<(), yaml_error_t>
     requires { IsReady pen.old }
     ensures { Wrote (layout.runs_laid (steps.written_as lines.quoted) (limit_where lines.allow_breaks lines.width) lines.indent true
         (layout.runs (chars value.now))) pen.old pen.new result }

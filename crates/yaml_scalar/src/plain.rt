@@ -21,6 +21,7 @@ use yaml_pen::Pen;
 ///
 /// Answers `WriteError` where the output's limit is passed, `Memory` where the output finds no room, and
 /// the pen's error where it failed before.
+#[inline(always)]
 pub fn write_plain_scalar<A: Allocator>(
     pen: &mut Pen<A>,
     value: &str,
@@ -48,6 +49,7 @@ pub fn write_plain_scalar<A: Allocator>(
     )
 }
 
+#[inline(always)]
 fn write_laid<A: Allocator>(
     pen: &mut Pen<A>,
     value: &str,
@@ -63,7 +65,7 @@ fn write_laid<A: Allocator>(
 }
 
 // The empty value needs none in a block collection or as a root.
-fn needs_space(flow: bool, value: &str) -> bool
+pub(crate) fn needs_space(flow: bool, value: &str) -> bool
     ensures { result ≡ flow || not (is_empty (chars value.now)) }
 {
     flow || !is_at_end(value)

@@ -1,8 +1,8 @@
 -- A document goes on with each call of its writer.
-use Rattle.std.proofs.Common.{◌≡◌, inl, inr, sym, subst}
+use Rattle.std.proofs.Common.{◌≡◌, inl, inr, refl, sym, subst}
 use Rattle.std.proofs.lemmas.List.Elements.{All-append, All-cons, All-nil}
 use Rattle.std.specs.List.{All}
-use Rattle.std.specs.Prelude.{◌⊎◌, ℕ, None, Some, List, [], ◌∷◌, ◌++◌, Result, Ok, Err, OnOk, IfErr, IfOk, Vec}
+use Rattle.std.specs.Prelude.{◌⊎◌, ℕ, Bool, true, false, None, Some, List, [], ◌∷◌, ◌++◌, Result, Ok, Err, OnOk, IfErr, IfOk, Vec}
 use mathlib.Core.Logic.{∥∥₁_map}
 use Rattle.yaml_base.specs.Characters.{Text}
 use Rattle.yaml_base.specs.Event.{Event}
@@ -11,7 +11,7 @@ use Rattle.yaml_base.specs.declared.errors.yaml_error_t.{yaml_error_t}
 use Rattle.yaml_base.specs.declared.errors.yaml_error_t.TheVariants.{Memory}
 use Rattle.yaml_emitter.specs.State.{State}
 use Rattle.yaml_emitter.specs.StandsAfter.{StandsAfter}
-use Rattle.yaml_writer.specs.Writing.{WriterState, Adds, Gave, Failed, EndsInnermost, Finishes, IsStream, closing, end_event, opening}
+use Rattle.yaml_writer.specs.Writing.{WriterState, Adds, Gave, Failed, EndsInnermost, Finishes, IsStream, NodeExpected, awaits_node, closing, end_event, opening}
 use Rattle.yaml_serde.specs.Documents.{IsCall, IsWithin, IsDocument, end_call}
 
 module _ (given : Settings) where
@@ -59,11 +59,21 @@ module _ (given : Settings) where
   within_begun (Err error) before inside after {event} call same gave (inr none) within = within_same before after none.1 within
 
   -- a collection was ended, or none was open
-  pub within_ended : (answer : Result (Unit {0}) yaml_error_t) (before after : WriterState) → EndsInnermost before answer after
+  within_end : (answer : Result (Unit {0}) yaml_error_t) (before after : WriterState) → EndsInnermost before answer after
       → IsWithin given before.emitter → IsWithin given after.emitter
-  within_ended answer before after (inl none) = within_same before after none.2
-  within_ended answer before after (inr ended) =
+  within_end answer before after (inl none) = within_same before after none.2
+  within_end answer before after (inr ended) =
       within_more before.emitter after.emitter (end_event ended.kind) (end_call ended.kind) ended.adds
+
+  -- or a tag awaited its node
+  pub within_ended : (answer : Result (Unit {0}) yaml_error_t) (before after : WriterState)
+      → (awaits_node before ≡ true → NodeExpected before answer after) → (awaits_node before ≡ false → EndsInnermost before answer after)
+      → IsWithin given before.emitter → IsWithin given after.emitter
+  within_ended answer before after awaited ended = by (awaits_node before) refl
+    where
+      by : (x : Bool) → awaits_node before ≡ x → IsWithin given before.emitter → IsWithin given after.emitter
+      by true is = within_same before after (awaited is).1
+      by false is = within_end answer before after (ended is)
 
   -- the next node has a tag, or there was no memory for it
   pub within_tagged : (answer : Result (Unit {0}) yaml_error_t) (before after : WriterState) (tag : Text)

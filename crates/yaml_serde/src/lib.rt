@@ -6,8 +6,6 @@ mod error;
 mod numbers;
 mod serializer;
 mod serializing;
-#[cfg(test)]
-mod tests;
 
 pub use error::Error;
 pub use serializing::{to_string, to_vec, to_vec_with};

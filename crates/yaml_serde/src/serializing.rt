@@ -23,7 +23,7 @@ use yaml_writer::Settings;
 /// `Custom` where the value's own `serialize` says so; `TwoTags` where the data of a variant is a variant with data, or
 /// bytes; `Flattened` where a flattened value is neither a struct nor a map; `Emitter` where more than 1,000,000
 /// collections are within one another, where the bytes pass the limit, and where a `Serialize` by hand writes no value,
-/// several, or a key alone; `Memory` where an allocation fails.
+/// several, a key alone, or a variant's name alone where data must follow; `Memory` where an allocation fails.
 pub fn to_vec_with<T: Serialize>(
     alloc: Global,
     settings: Settings,

@@ -87,6 +87,7 @@ fn set_all<A: Allocator>(settings: &Settings, emitter: &mut yaml_emitter_t<A>)
     ensures no_error { emitter.new.error ≡ None }
     ensures output { emitter.new.has_output ≡ true }
     ensures nothing { emitter.new.page.output ≡ [] }
+    ensures untaken { emitter.new.page.taken ≡ 0 }
 {
     yaml_emitter_set_output_string(emitter, settings.limit as usize);
     yaml_emitter_set_encoding(emitter, settings.encoding);
@@ -133,7 +134,8 @@ fn emit_all<A: Allocator + Copy>(
     requires output { emitter.old.has_output ≡ true }
     requires no_error { emitter.old.error ≡ None }
     requires nothing { emitter.old.page.output ≡ [] }
-    ensures { (given : given.Settings) → StandsAfter given [] emitter.old → Emits given (map seen_numbered events.items) result emitter.new }
+    ensures emits { (given : given.Settings) → StandsAfter given [] emitter.old → Emits given (map seen_numbered events.items) result emitter.new }
+    ensures taken { emitter.new.page.taken ≡ emitter.old.page.taken }
 {
     standing_is_promised();
     let mut last = None;
@@ -154,7 +156,8 @@ fn emit_all<A: Allocator + Copy>(
 fn flush_last<A: Allocator + Copy>(emitter: &mut yaml_emitter_t<A>, line: u64) -> run_answer_t
     requires output { emitter.old.has_output ≡ true }
     requires no_error { emitter.old.error ≡ None }
-    ensures { FlushesLast line emitter.old result emitter.new }
+    ensures flushed { FlushesLast line emitter.old result emitter.new }
+    ensures taken { emitter.new.page.taken ≡ emitter.old.page.taken }
 {
     match yaml_emitter_flush(emitter) {
         Ok(()) => run_answer_t::Done,

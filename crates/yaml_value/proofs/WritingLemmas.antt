@@ -14,31 +14,17 @@ use Rattle.yaml_base.specs.declared.errors.yaml_error_t.{yaml_error_t}
 use Rattle.yaml_base.specs.declared.errors.yaml_error_t.TheVariants.{WriteError, TooDeep, Memory}
 use Rattle.yaml_emitter.specs.State.{State}
 use Rattle.yaml_emitter.specs.Promises.{RefusedAt}
-use Rattle.yaml_emitter.specs.Uncut.{IsUncut}
 use Rattle.yaml_dump.specs.Dumps.{EmitsAll, EmitsEach, FailsAt}
 use Rattle.yaml_value.proofs.AcceptedLemmas.{value_accepted}
 use Rattle.yaml_value.proofs.ContentLemmas.{content_of-value_events, stream_tells_value}
 use Rattle.yaml_base.specs.Settings.{largest_usize}
 
--- a list whose first so many elements are fewer is no longer than that
-uncut_length : (limit : ℕ) (bytes : List ℕ) → length (take limit bytes) < limit → length bytes ≤ limit
-uncut_length limit bytes fewer = by (cases_lt (length bytes) limit)
-  where
-    by : (length bytes < limit) ⊎ (limit ≤ length bytes) → length bytes ≤ limit
-    by (inr long) = let whole = length-take-le limit bytes long in absurd (omega (arith, whole, fewer))
-    by (inl short) = omega (arith, short)
-
-uncut : (value : TypedValue) (output : List ℕ) → output ≡ typed_output value → length output < largest_usize → IsUncut typed_settings (value_events value)
-uncut value output is few =
-    let s = settings_for typed_settings (value_events value) in
-    uncut_length largest_usize (bytes_written s (list_layout s (value_events value))) (subst (λ bytes. length bytes < largest_usize) is few)
-
 -- all events emitted: the bytes are the value's
-pub value_written : (value : TypedValue) (state : State) → nesting value ≤ most_nested → Has64Bits value → length state.page.output < largest_usize
+pub value_written : (value : TypedValue) (state : State) → nesting value ≤ most_nested → Has64Bits value
     → EmitsAll typed_settings [] (value_events value) state → WritesValue value state.page.output
-value_written value state fits bits few emits =
+value_written value state fits bits emits =
     let written = emits.promised.whole emits.no_error (value_accepted value fits) in
-    let reads : ReadsAs state.page.output value = written.reads refl (uncut value state.page.output written.output few) ∙ content_of-value_events value in
+    let reads : ReadsAs state.page.output value = written.reads refl ∙ content_of-value_events value in
     record {
       bits = bits;
       bytes = written.output;
@@ -71,7 +57,7 @@ pub events_written : (value : TypedValue) (events : List Event) (answer : Result
     → length state.page.output < largest_usize → EmitsEach typed_settings [] events answer state → OnOk answer (WritesValue value state.page.output)
     × IfErr answer (λ error. error ≡ Memory)
 events_written value events (Ok _) state is fits bits few
-    emits = (value_written value state fits bits few (subst (λ events. EmitsAll typed_settings [] events state) is emits), tt)
+    emits = (value_written value state fits bits (subst (λ events. EmitsAll typed_settings [] events state) is emits), tt)
 events_written value events (Err error) state is fits bits few emits =
     (tt, only_memory value error state fits few (subst (λ events. FailsAt typed_settings [] events error state) is emits))
 

@@ -63,6 +63,7 @@ fn canonical_emitter<A: Allocator + Copy>(alloc: A) -> Result<yaml_emitter_t<A>,
     ensures stands { IfOk result (λ emitter. StandsAfter typed_settings [] emitter) }
     ensures output { IfOk result (λ emitter. emitter.has_output ≡ true) }
     ensures no_error { IfOk result (λ emitter. emitter.error ≡ None) }
+    ensures untaken { IfOk result (λ emitter. emitter.page.taken ≡ 0) }
     ensures memory { IfErr result (λ error. error ≡ yaml_error_t.Memory) }
 {
     let mut emitter = yaml_emitter_initialize(alloc)?;

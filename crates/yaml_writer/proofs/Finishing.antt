@@ -1,7 +1,8 @@
 -- What it comes to that a document and its stream are ended.
-use Rattle.std.proofs.Common.{◌≡◌, refl, sym, ap, ◌∙◌, arith, subst, append_assoc, inl, inr}
+use Rattle.std.proofs.Common.{◌≡◌, refl, sym, ap, ap₂, ◌∙◌, arith, subst, append_assoc, inl, inr}
 use Rattle.std.proofs.lemmas.List.{nil_from_length}
-use Rattle.std.specs.Prelude.{ℕ, ◌<◌, ◌≤◌, true, Option, None, Some, IsSome, is_some, unwrap_or, List, [], ◌∷◌, ◌++◌, length, Result, Ok, Err, Vec, IfOk, IfErr}
+use Rattle.std.specs.Prelude.{ℕ, ◌<◌, ◌≤◌, true, false, ◌||◌, Option, None, Some, IsSome, is_some, unwrap_or, List, [], ◌∷◌, ◌++◌, length, Result, Ok, Err, Vec, IfOk, IfErr}
+use Rattle.yaml_base.specs.Characters.{Text}
 use Rattle.yaml_base.specs.Event.{Event, stream_end, document_end}
 use Rattle.yaml_base.specs.Refusal.{IsAccepted}
 use Rattle.yaml_base.specs.Settings.{Settings}
@@ -11,8 +12,12 @@ use Rattle.yaml_emitter.specs.State.{State}
 use Rattle.yaml_emitter.specs.StandsAfter.{StandsAfter}
 use Rattle.yaml_emitter.specs.Promises.{Promised, RefusedAt, HasRoom, IsRefusal, ends_stream}
 use Rattle.yaml_writer.specs.Unfinished.{IsUnfinished, RefusesOne}
-use Rattle.yaml_writer.specs.Writing.{IsStream, Finishes, closing, plain_start}
+use Rattle.yaml_writer.specs.Writing.{IsStream, Finishes, WriterState, awaits_node, closing, plain_start}
 use Rattle.yaml_writer.proofs.Overflow.{overflowed}
+
+-- no node is awaited where there is neither an anchor nor a tag
+pub nothing_awaited : (writer : WriterState) → writer.anchor ≡ None → writer.tag ≡ None → awaits_node writer ≡ false
+nothing_awaited writer anchor tag = ap₂ (λ (a t : Option Text). is_some a || is_some t) anchor tag
 
 -- more events before the last are passed over
 ends_later : (event next : Event) (rest : List Event) → ends_stream (event ∷ next ∷ rest) ≡ ends_stream (next ∷ rest)

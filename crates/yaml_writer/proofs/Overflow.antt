@@ -22,10 +22,10 @@ use Rattle.yaml_base.specs.declared.errors.yaml_error_t.{yaml_error_t}
 use Rattle.yaml_base.specs.declared.errors.yaml_error_t.TheVariants.{WriteError, Memory}
 use Rattle.yaml_pen.proofs.Adding.{encode-append}
 use Rattle.yaml_pen.specs.Page.{Page, encoded}
-use Rattle.yaml_emitter.proofs.Standing.{end_next}
-use Rattle.yaml_emitter.proofs.StandingPromises.{stands_failed, steps_begin}
-use Rattle.yaml_emitter.proofs.StandingSteps.{closes_last-append}
-use Rattle.yaml_emitter.proofs.StandingTexts.{begin_taken, front_longer, holds_text}
+use Rattle.yaml_emitter.proofs.standing.Standing.{end_next}
+use Rattle.yaml_emitter.proofs.standing.StandingPromises.{stands_failed, steps_begin}
+use Rattle.yaml_emitter.proofs.standing.StandingSteps.{closes_last-append}
+use Rattle.yaml_emitter.proofs.standing.StandingTexts.{begin_taken, front_longer, holds_text}
 use Rattle.yaml_emitter.specs.Processing.{closes_at_once}
 use Rattle.yaml_emitter.specs.Promises.{BeginsOutput, OutputBegins, Promised, StopsWriting, stops_before, stops_within}
 use Rattle.yaml_emitter.specs.StandsAfter.{HoldsPiecesWith, StandsAfter, StandsCut, StandsStopped, StandsUnflushed, holds_before, holds_part}

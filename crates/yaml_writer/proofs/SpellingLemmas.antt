@@ -16,7 +16,7 @@ use Rattle.yaml_base.specs.JsonNumbers.{JsonNumber, JsonExponent, minus, is_json
 use Rattle.yaml_writer.specs.NumberParts.{IsNumber, IsNoNumber, is_fraction, is_exponent}
 use Rattle.yaml_writer.specs.Spellings.{is_spelled, is_spelled_exponent}
 use Rattle.yaml_writer.proofs.ValidNumbers.{Valid, valid_parts}
-use Rattle.yaml_writer.proofs.WordLemmas.{is_ascii_text, ascii_of}
+use Rattle.yaml_base.proofs.AsciiWords.{is_ascii_text, ascii_of}
 
 -- Characters
 

@@ -1,15 +1,15 @@
 -- What the words that the code tests say of all words of the schemas.
-use Rattle.std.proofs.Common.{◌≡◌, refl, sym, ap, ◌∙◌, arith}
-use Rattle.std.proofs.lemmas.Bool.{true≢false, and_parts, and_right, ltb-true}
+use Rattle.std.proofs.Common.{◌≡◌, refl, sym, ap, ◌∙◌}
+use Rattle.std.proofs.lemmas.Bool.{true≢false, and_parts, and_right}
 use Rattle.std.proofs.lemmas.Slice.Eq.{bytes_eq-Decides}
-use Rattle.std.proofs.lemmas.Str.{chars-IsAscii, encodes-IsAscii, encodes-chars}
 use Rattle.std.specs.List.{list_all, filter}
-use Rattle.std.specs.Str.{chars, IsUtf8, IsAscii, encode_utf8_all}
-use Rattle.std.specs.Prelude.{ℕ, zero, suc, Bool, true, false, Some, List, [], ◌∷◌, ◌++◌, ◌||◌, ◌&&◌, not, nat_lt, is_some, if◌then◌else◌}
+use Rattle.std.specs.Str.{chars, IsUtf8}
+use Rattle.std.specs.Prelude.{ℕ, Bool, true, false, Some, List, [], ◌∷◌, ◌++◌, ◌||◌, ◌&&◌, not, is_some, if◌then◌else◌}
 use Rattle.yaml_base.specs.Characters.{Text}
 use Rattle.yaml_base.specs.Script.{named, is_word}
 use Rattle.yaml_base.specs.Resolved.{Resolved, words_of_11, first_is, past_sign}
 use Rattle.yaml_base.specs.SurelyText.{begins_number, is_surely_text}
+use Rattle.yaml_base.proofs.AsciiWords.{is_ascii_text, ascii_of, same_word}
 use Rattle.yaml_base.proofs.SchemaWords.{named_either}
 use Rattle.yaml_writer.specs.Words.{empty_word, null_words, true_words, false_words, yes_words, no_words, key_words, is_schema_word}
 
@@ -44,35 +44,11 @@ named_without {A} test (entry ∷ table) text other = by (is_word text entry.0) 
 
 -- Bytes and characters
 
--- bytes of ASCII
-abbrev pub is_ascii_text : Text → Bool
-is_ascii_text bytes = list_all (λ b. nat_lt b 128) bytes
-
-pub ascii_of : (bytes : List ℕ) → is_ascii_text bytes ≡ true → IsAscii bytes
-ascii_of [] h i = omega arith
-ascii_of (b ∷ bytes) h zero = ltb-true b 128 (and_parts (nat_lt b 128) (is_ascii_text bytes) h).0
-ascii_of (b ∷ bytes) h (suc i) = ascii_of bytes (and_parts (nat_lt b 128) (is_ascii_text bytes) h).1 i
-
-same_word : (bytes word : List ℕ) → IsUtf8 bytes → is_ascii_text word ≡ true → is_word bytes word ≡ is_word (chars bytes) word
-same_word bytes word is h = by (is_word bytes word) (is_word (chars bytes) word) refl refl
-  where
-    ascii : IsAscii word
-    ascii = ascii_of word h
-
-    by : (x y : Bool) → is_word bytes word ≡ x → is_word (chars bytes) word ≡ y → x ≡ y
-    by true true e f = refl
-    by false false e f = refl
-    by true false e f =
-        sym ((bytes_eq-Decides (chars bytes) word).1 (ap chars ((bytes_eq-Decides bytes word).0 e) ∙ chars-IsAscii word ascii)) ∙ f
-    by false true e f =
-        sym e ∙ (bytes_eq-Decides bytes word).1
-        (sym (encodes-chars bytes is) ∙ ap encode_utf8_all ((bytes_eq-Decides (chars bytes) word).0 f) ∙ encodes-IsAscii word ascii)
-
 named_bytes : {A : Type 0} (table : List (Text × A)) (bytes : List ℕ) → IsUtf8 bytes → list_all (λ entry. is_ascii_text entry.0) table ≡ true
     → named table bytes ≡ named table (chars bytes)
 named_bytes [] bytes is h = refl
 named_bytes {A} (entry ∷ table) bytes is h =
-    ap (λ x. if x then Some entry.1 else named table bytes) (same_word bytes entry.0 is both.0)
+    ap (λ x. if x then Some entry.1 else named table bytes) (same_word bytes entry.0 is (ascii_of entry.0 both.0))
     ∙ ap (λ o. if is_word (chars bytes) entry.0 then Some entry.1 else o) (named_bytes table bytes is both.1)
   where
     both : (is_ascii_text entry.0 ≡ true) × (list_all (λ e. is_ascii_text e.0) table ≡ true)

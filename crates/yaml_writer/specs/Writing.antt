@@ -1,5 +1,5 @@
 -- What the calls of a writer give to its emitter.
-use Rattle.std.specs.Prelude.{◌≡◌, ◌⊎◌, ℕ, ℤ, Bool, true, Option, None, Some, Result, Err, List, [], ◌∷◌, ◌++◌, codes, is_none, if◌then◌else◌}
+use Rattle.std.specs.Prelude.{◌≡◌, ◌⊎◌, ℕ, ℤ, Bool, true, Option, None, Some, Result, Err, List, [], ◌∷◌, ◌++◌, ◌||◌, codes, is_none, is_some, if◌then◌else◌}
 use Rattle.std.specs.Fmt.{signed_decimal}
 use Rattle.std.specs.List.{list_any}
 use Rattle.yaml_base.specs.Characters.{Text, is_break}
@@ -10,7 +10,7 @@ use Rattle.yaml_base.specs.Settings.{Settings}
 use Rattle.yaml_base.specs.SurelyText.{is_surely_text}
 use Rattle.yaml_base.specs.TypedValues.{null_tag, bool_tag, int_tag, bool_text}
 use Rattle.yaml_base.specs.declared.errors.yaml_error_t.{yaml_error_t}
-use Rattle.yaml_base.specs.declared.errors.yaml_error_t.TheVariants.{ExpectedDocumentEnd, Memory}
+use Rattle.yaml_base.specs.declared.errors.yaml_error_t.TheVariants.{ExpectedDocumentEnd, ExpectedNode, Memory}
 use Rattle.yaml_pen.specs.Page.{told}
 use Rattle.yaml_emitter.specs.State.{State}
 use Rattle.yaml_emitter.specs.StandsAfter.{StandsAfter}
@@ -111,6 +111,14 @@ entered writer kind = record writer { levels = writer.levels ++ kind ∷ [] }
 
 -- ---- the calls
 
+-- an anchor or a tag was given, and its node not yet
+abbrev pub awaits_node : WriterState → Bool
+awaits_node writer = is_some writer.anchor || is_some writer.tag
+
+-- a node was expected, and nothing changed
+abbrev pub NodeExpected : WriterState → Result (Unit {0}) yaml_error_t → WriterState → Type 0
+NodeExpected before answer after = (answer ≡ Err ExpectedNode) × (after ≡ before)
+
 -- wherever the emitter stood, it stands after one more event
 abbrev pub Adds : State → Event → State → Type 0
 Adds before event after =
@@ -140,7 +148,7 @@ pub record Gave (before : WriterState) (event : Event) (error : Option yaml_erro
 abbrev pub Failed : WriterState → Event → yaml_error_t → WriterState → Type 0
 Failed before event error after = Gave before event (Some error) after ⊎ ((error ≡ Memory) × (after ≡ before))
 
--- the innermost collection was ended; the properties of the next node stay
+-- the innermost collection was ended
 pub record Ended (before : WriterState) (answer : Result (Unit {0}) yaml_error_t) (after : WriterState) : Type 0 where
   pub outer : List CollectionKind
   pub kind : CollectionKind

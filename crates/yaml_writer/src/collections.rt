@@ -1,7 +1,7 @@
 //! Collections and documents of a writer.
-ghost use Rattle.std.specs.Prelude.{◌≡◌, ◌⊎◌, IfErr, OnOk, None, Some};
+ghost use Rattle.std.specs.Prelude.{◌≡◌, ◌⊎◌, IfErr, OnOk, None, Some, true, false};
 ghost use Rattle.yaml_base.specs.Seen.{seen_mapping_style, seen_sequence_style};
-ghost use Rattle.yaml_writer.specs.Writing.{EndsInnermost, Failed, Gave, entered, mapping_event, sequence_event};
+ghost use Rattle.yaml_writer.specs.Writing.{EndsInnermost, Failed, Gave, NodeExpected, awaits_node, entered, mapping_event, sequence_event};
 ghost use Rattle.yaml_writer.specs.declared.kinds.CollectionKind.TheVariants.{Mapping, Sequence};
 
 use crate::giving::{give_end, give_mapping, give_sequence};
@@ -44,11 +44,15 @@ impl<A: Allocator + Copy> Writer<A> {
     /// Ends the innermost collection that is open.
     ///
     /// # Errors
-    /// `ExpectedDocumentEnd` where no collection is open; nothing changes then. `ExpectedNode` where a key of a mapping has no
-    /// value, and the other errors of the emitter.
+    /// `ExpectedNode` where an anchor or a tag awaits its node, and else `ExpectedDocumentEnd` where no collection is open;
+    /// nothing changes then. `ExpectedNode` where a key of a mapping has no value, and the other errors of the emitter.
     pub fn end(&mut self) -> Result<(), yaml_error_t>
-        ensures { EndsInnermost self.old result self.new }
+        ensures awaited { awaits_node self.old ≡ true → NodeExpected self.old result self.new }
+        ensures ended { awaits_node self.old ≡ false → EndsInnermost self.old result self.new }
     {
+        if self.awaits_node() {
+            return Err(yaml_error_t::ExpectedNode);
+        }
         match self.levels.pop() {
             None => Err(yaml_error_t::ExpectedDocumentEnd),
             Some(kind) => give_end(&mut self.emitter, kind),

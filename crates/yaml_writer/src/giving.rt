@@ -34,6 +34,7 @@ pub(crate) fn begin<A: Allocator + Copy>(alloc: A, emitter: &mut yaml_emitter_t<
     requires output { emitter.old.has_output ≡ true }
     ensures stands { (given : Settings) → StandsAfter given [] emitter.old → StandsAfter given opening emitter.new }
     ensures output { emitter.new.has_output ≡ true }
+    ensures taken { emitter.new.page.taken ≡ emitter.old.page.taken }
 {
     let _ = yaml_emitter_emit(
         emitter,
@@ -65,6 +66,7 @@ pub(crate) fn give_scalar<A: Allocator + Copy>(
         emitter.new }
     ensures answered { result ≡ told emitter.new.error }
     ensures output { emitter.new.has_output ≡ true }
+    ensures taken { emitter.new.page.taken ≡ emitter.old.page.taken }
 {
     let implicit = tag.is_none();
     yaml_emitter_emit(
@@ -93,6 +95,7 @@ pub(crate) fn give_mapping<A: Allocator + Copy>(
         emitter.new }
     ensures answered { result ≡ told emitter.new.error }
     ensures output { emitter.new.has_output ≡ true }
+    ensures taken { emitter.new.page.taken ≡ emitter.old.page.taken }
 {
     let implicit = tag.is_none();
     yaml_emitter_emit(
@@ -119,6 +122,7 @@ pub(crate) fn give_sequence<A: Allocator + Copy>(
         emitter.new }
     ensures answered { result ≡ told emitter.new.error }
     ensures output { emitter.new.has_output ≡ true }
+    ensures taken { emitter.new.page.taken ≡ emitter.old.page.taken }
 {
     let implicit = tag.is_none();
     yaml_emitter_emit(
@@ -141,6 +145,7 @@ pub(crate) fn give_end<A: Allocator + Copy>(
     ensures adds { Adds emitter.old (end_event kind) emitter.new }
     ensures answered { result ≡ told emitter.new.error }
     ensures output { emitter.new.has_output ≡ true }
+    ensures taken { emitter.new.page.taken ≡ emitter.old.page.taken }
 {
     let event = match kind {
         CollectionKind::Mapping => YAML_MAPPING_END_EVENT,
@@ -158,6 +163,7 @@ pub(crate) fn give_alias<A: Allocator + Copy>(
     ensures adds { AddsAll emitter.old (alias (seen_text anchor) ∷ []) emitter.new }
     ensures answered { result ≡ told emitter.new.error }
     ensures output { emitter.new.has_output ≡ true }
+    ensures taken { emitter.new.page.taken ≡ emitter.old.page.taken }
 {
     yaml_emitter_emit(emitter, YAML_ALIAS_EVENT { anchor })
 }
@@ -171,6 +177,7 @@ pub(crate) fn give_next<A: Allocator + Copy>(
     ensures adds { AddsAll emitter.old (document_end true ∷ document_begins ∷ []) emitter.new }
     ensures answered { result ≡ told emitter.new.error }
     ensures output { emitter.new.has_output ≡ true }
+    ensures taken { emitter.new.page.taken ≡ emitter.old.page.taken }
 {
     let _ = yaml_emitter_emit(emitter, YAML_DOCUMENT_END_EVENT { implicit: true });
     yaml_emitter_emit(emitter, plain_start(alloc))
@@ -181,6 +188,7 @@ fn end_stream<A: Allocator + Copy>(emitter: &mut yaml_emitter_t<A>) -> Result<()
     requires output { emitter.old.has_output ≡ true }
     ensures clean { OnOk result (emitter.old.error ≡ None) }
     ensures finishes { OnOk result (Finishes emitter.old emitter.new.page.output) }
+    ensures taken { emitter.new.page.taken ≡ emitter.old.page.taken }
     ensures unfinished { IfErr result (λ error. IsUnfinished emitter.old error) }
 {
     let _ = yaml_emitter_emit(emitter, YAML_DOCUMENT_END_EVENT { implicit: true });
@@ -199,6 +207,7 @@ pub(crate) fn finished<A: Allocator + Copy>(
     emitter: &mut yaml_emitter_t<A>,
 ) -> Result<Vec<u8, A>, yaml_error_t>
     requires output { emitter.old.has_output ≡ true }
+    requires untaken { emitter.old.page.taken ≡ 0 }
     ensures finishes { IfOk result (λ bytes. Finishes emitter.old bytes.items) }
     ensures unfinished { IfErr result (λ error. IsUnfinished emitter.old error) }
 {

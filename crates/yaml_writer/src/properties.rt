@@ -1,7 +1,7 @@
 //! Properties of nodes, aliases, and further documents of a writer.
-ghost use Rattle.std.specs.Prelude.{◌≡◌, ◌⊎◌, IfErr, OnOk, Err, Some, [], ◌∷◌, true, chars};
+ghost use Rattle.std.specs.Prelude.{◌≡◌, ◌⊎◌, IfErr, OnOk, Err, Some, [], ◌∷◌, true, false, chars};
 ghost use Rattle.yaml_base.specs.Event as event;
-ghost use Rattle.yaml_writer.specs.Writing.{Passed, plain_start};
+ghost use Rattle.yaml_writer.specs.Writing.{NodeExpected, Passed, awaits_node, plain_start};
 
 use crate::giving::{give_alias, give_next};
 use crate::scalars::text_of;
@@ -10,7 +10,7 @@ use std::alloc::Allocator;
 use yaml_base::yaml_error_t;
 
 impl<A: Allocator + Copy> Writer<A> {
-    /// Names the next node that isn't an alias, so that aliases may stand for it.
+    /// Names the next node, so that aliases may stand for it.
     ///
     /// # Errors
     /// `Memory`; nothing changes then. A name that can't be written is refused with its node.
@@ -27,7 +27,7 @@ impl<A: Allocator + Copy> Writer<A> {
         }
     }
 
-    /// Gives the next node that isn't an alias a tag, which is written.
+    /// Gives the next node a tag, which is written.
     ///
     /// # Errors
     /// `Memory`; nothing changes then. A tag that can't be written is refused with its node.
@@ -44,13 +44,19 @@ impl<A: Allocator + Copy> Writer<A> {
         }
     }
 
-    /// Writes an alias, which stands for the node of this name. The properties of the next node stay.
+    /// Writes an alias, which stands for the node of this name.
     ///
     /// # Errors
-    /// Those of the emitter, and `Memory`.
+    /// `ExpectedNode` where an anchor or a tag awaits its node, since an alias has neither; nothing changes then. Those of the
+    /// emitter, and `Memory`.
     pub fn alias(&mut self, name: &str) -> Result<(), yaml_error_t>
-        ensures { ((result ≡ Err yaml_error_t.Memory) × (self.new ≡ self.old)) ⊎ Passed self.old (event.alias (chars name.now) ∷ []) result self.new }
+        ensures awaited { awaits_node self.old ≡ true → NodeExpected self.old result self.new }
+        ensures passed { awaits_node self.old ≡ false
+            → ((result ≡ Err yaml_error_t.Memory) × (self.new ≡ self.old)) ⊎ Passed self.old (event.alias (chars name.now) ∷ []) result self.new }
     {
+        if self.awaits_node() {
+            return Err(yaml_error_t::ExpectedNode);
+        }
         match text_of(self.alloc, name) {
             Ok(name) => give_alias(&mut self.emitter, name),
             Err(error) => Err(error),
@@ -60,10 +66,16 @@ impl<A: Allocator + Copy> Writer<A> {
     /// Ends the document, and begins another.
     ///
     /// # Errors
-    /// `ExpectedNode` where the document has no root or a collection is open; the other errors of the emitter.
+    /// `ExpectedNode` where an anchor or a tag awaits its node; nothing changes then. `ExpectedNode` where the document has no
+    /// root or a collection is open, and the other errors of the emitter.
     pub fn next_document(&mut self) -> Result<(), yaml_error_t>
-        ensures { Passed self.old (event.document_end true ∷ plain_start ∷ []) result self.new }
+        ensures awaited { awaits_node self.old ≡ true → NodeExpected self.old result self.new }
+        ensures passed { awaits_node self.old ≡ false → Passed self.old (event.document_end true ∷ plain_start ∷ []) result self.new }
     {
-        give_next(self.alloc, &mut self.emitter)
+        if self.awaits_node() {
+            Err(yaml_error_t::ExpectedNode)
+        } else {
+            give_next(self.alloc, &mut self.emitter)
+        }
     }
 }

@@ -62,6 +62,7 @@ pub(crate) fn emitter_of<A: Allocator + Copy>(
 ) -> Result<yaml_emitter_t<A>, yaml_error_t>
     ensures stands { IfOk result (λ emitter. StandsAfter (seen_settings settings.now) [] emitter) }
     ensures output { IfOk result (λ emitter. emitter.has_output ≡ true) }
+    ensures untaken { IfOk result (λ emitter. emitter.page.taken ≡ 0) }
     ensures memory { IfErr result (λ error. error ≡ yaml_error_t.Memory) }
 {
     let mut emitter = yaml_emitter_initialize(alloc)?;

@@ -1,11 +1,11 @@
 //! The writer: what it holds, and how it begins.
-ghost use Rattle.std.specs.Prelude.{◌≡◌, IfOk, IfErr, OnOk, [], None, Some, option_map};
+ghost use Rattle.std.specs.Prelude.{◌≡◌, IfOk, IfErr, OnOk, [], None, Some, Err, true, false, option_map};
 ghost use Rattle.yaml_base.specs.Seen.{seen_scalar_style, seen_text};
 ghost use Rattle.std.specs.Option.{option_or};
 ghost use Rattle.yaml_emitter.specs.StandsAfter.{StandsAfter};
 ghost use Rattle.yaml_writer.specs.Given.{seen_settings};
 ghost use Rattle.yaml_writer.specs.Unfinished.{IsUnfinished};
-ghost use Rattle.yaml_writer.specs.Writing.{Finishes, Gave, opening, scalar_event};
+ghost use Rattle.yaml_writer.specs.Writing.{Finishes, Gave, awaits_node, opening, scalar_event};
 
 use crate::giving::{begin, finished, give_scalar};
 use crate::kinds::CollectionKind;
@@ -79,16 +79,28 @@ impl<A: Allocator + Copy> Writer<A> {
         give_scalar(&mut self.emitter, anchor, tag, value, style)
     }
 
+    /// Whether an anchor or a tag was given whose node wasn't yet.
+    pub(crate) fn awaits_node(&self) -> bool
+        ensures { result ≡ awaits_node self.now }
+    {
+        self.anchor.is_some() || self.tag.is_some()
+    }
+
     /// The bytes of the stream: ends the document and the stream. A stream of more documents than one comes by
     /// `next_document`.
     ///
     /// # Errors
-    /// The first error of the emitter, as `ExpectedNode` where a document has no root, or a collection is still open.
-    /// `WriteError` where the bytes pass the limit. `Memory` where an allocation fails.
+    /// `ExpectedNode` where an anchor or a tag awaits its node. Else the first error of the emitter, as `ExpectedNode` where a
+    /// document has no root, or a collection is still open. `WriteError` where the bytes pass the limit. `Memory` where an
+    /// allocation fails.
     pub fn finish(mut self) -> Result<Vec<u8, A>, yaml_error_t>
+        ensures awaited { awaits_node self ≡ true → result ≡ Err yaml_error_t.ExpectedNode }
         ensures finishes { IfOk result (λ bytes. Finishes self.emitter bytes.items) }
-        ensures unfinished { IfErr result (λ error. IsUnfinished self.emitter error) }
+        ensures unfinished { awaits_node self ≡ false → IfErr result (λ error. IsUnfinished self.emitter error) }
     {
+        if self.awaits_node() {
+            return Err(yaml_error_t::ExpectedNode);
+        }
         finished(self.alloc, &mut self.emitter)
     }
 }

@@ -1,9 +1,9 @@
 -- Texts that have no reading as a stream, or another one than it seems, computed.
-use Rattle.std.specs.Prelude.{◌≡◌, false, None, Some, [], ◌∷◌, codes, refl}
+use Rattle.std.specs.Prelude.{◌≡◌, false, None, Some, [], ◌∷◌, ◌++◌, codes, refl, replicate}
 use Rattle.std.specs.Char.{encode_utf8}
 use Rattle.std.specs.Str.{chars, is_utf8}
 use Rattle.yaml_base.specs.StreamReader.{stream_trees}
-use Rattle.yaml_base.proofs.rows.StreamTrees.{only, bare_word, in_quotes, items}
+use Rattle.yaml_base.proofs.rows.StreamTrees.{only, bare_word, in_quotes, items, pair, pairs}
 
 -- entries one column off: too deep, not deep enough, and an item that goes on the text before it
 columns : (stream_trees false (codes "a: b\n c: d\n") ≡ None)
@@ -34,6 +34,13 @@ keys : (stream_trees false (codes "a: b: c\n") ≡ None)
     × (stream_trees false (codes "a : b\n") ≡ None)
 unfolding chars is_utf8 encode_utf8
 keys = (refl, refl, refl, refl, refl, refl, refl)
+
+-- the longest simple key has 1,024 characters; with one more it isn't read, but after `? ` it is
+long_keys : (stream_trees false (replicate 1024 120 ++ codes ": v\n") ≡ only (pairs (pair (bare_word (replicate 1024 120)) (bare_word (codes "v")) ∷ [])))
+    × (stream_trees false (replicate 1025 120 ++ codes ": v\n") ≡ None)
+    × (stream_trees false (codes "? " ++ (replicate 1025 120 ++ codes "\n: v\n")) ≡ only (pairs (pair (bare_word (replicate 1025 120)) (bare_word (codes "v")) ∷ [])))
+unfolding chars is_utf8 encode_utf8
+long_keys = (refl, refl, refl)
 
 -- marks: directives without `...` before them, `---` glued, `...` twice, with text, or a wrong end sign
 marks : (stream_trees false (codes "a\n%YAML 1.1\n--- b\n") ≡ None)

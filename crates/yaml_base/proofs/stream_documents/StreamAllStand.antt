@@ -17,7 +17,7 @@ use Rattle.yaml_base.specs.CanonicalReader.{characters_read}
 use Rattle.yaml_base.specs.Meaning.{has_scalar_texts, has_scalar_values, MeaningIsKept}
 use Rattle.yaml_base.specs.WrittenTexts.{BodiesAreTidy}
 use Rattle.yaml_base.specs.StreamContent.{documents_in_order}
-use Rattle.yaml_base.specs.StreamLaw.{StreamReadsBack}
+use Rattle.yaml_base.specs.StreamLaw.{StreamReadsBack, is_portable}
 use Rattle.yaml_base.proofs.Trees.{tree_of-stream_events}
 use Rattle.yaml_base.proofs.stream_lines.StreamClosed.{margin_cursor}
 use Rattle.yaml_base.proofs.stream_nodes.StreamStands.{BodyStands, BodiesHold}
@@ -31,7 +31,7 @@ use Rattle.yaml_base.proofs.stream_keys.StreamKeysFit.{keys_fit}
 use Rattle.yaml_base.proofs.stream_documents.StreamRootsStand.{is_on_mark, DocumentsStand}
 use Rattle.yaml_base.proofs.stream_documents.StreamRootLeaves.{root_stands}
 use Rattle.yaml_base.proofs.stream_documents.StreamDocumentTexts.{start_laid, end_cursor}
-use Rattle.yaml_base.proofs.stream_documents.StreamLawStands.{documents_parts, indent_deep, stream_agrees}
+use Rattle.yaml_base.proofs.stream_documents.StreamLawStands.{StreamStands, documents_parts, indent_deep, stream_agrees}
 
 -- Documents
 
@@ -91,18 +91,29 @@ LayoutsAreRead =
     → characters_read (bytes_written (effective given encoding) (list_layout (effective given encoding) events))
     ≡ Some (text_written (effective given encoding) (list_layout (effective given encoding) events))
 
--- every stream reads back, where bodies are tidy and keep their meaning, and texts are printable and read from their bytes
-pub streams_read_back : BodiesAreTidy → MeaningIsKept → TextsAreValues → LayoutsArePrintable → LayoutsAreRead → StreamReadsBack
-streams_read_back tidy kept values printable characters = λ given encoding events accepted texts portable.
+-- every stream that is read alike stands
+abbrev pub StreamsStand : Type 0
+StreamsStand =
+    (given : Settings) (encoding : Option Encoding) (events : List Event) (accepted : IsAccepted given.canonical events)
+    → list_all has_scalar_texts events ≡ true → is_portable given.portable given.canonical events ≡ true
+    → StreamStands (effective given encoding) events accepted.stream
+
+-- it does where bodies are tidy and keep their meaning, and texts are printable and read from their bytes
+pub streams_stand : BodiesAreTidy → MeaningIsKept → TextsAreValues → LayoutsArePrintable → LayoutsAreRead → StreamsStand
+streams_stand tidy kept values printable characters given encoding events accepted texts portable =
     let s = effective given encoding in
     let stream = accepted.stream in
     let own = subst (IsAccepted given.canonical) (sym accepted.is_stream) accepted in
     let scalars = ap (list_all has_scalar_values) accepted.is_stream ∙ values events texts in
-    stream_agrees given encoding events accepted portable
-    (record {
+    record {
       documents = documents_stand s stream.documents (indent_deep given.indent) (indent_low given.indent)
           (accepted_names_stand given events stream accepted texts portable (ap tree_of (sym accepted.is_stream) ∙ tree_of-stream_events stream))
           (roots_stand given encoding stream tidy kept own scalars);
       printable = printable given encoding events accepted;
       characters = characters given encoding events accepted;
-    })
+    }
+
+-- and then reads back
+pub streams_read_back : StreamsStand → StreamReadsBack
+streams_read_back stand given encoding events accepted texts portable =
+    stream_agrees given encoding events accepted portable (stand given encoding events accepted texts portable)

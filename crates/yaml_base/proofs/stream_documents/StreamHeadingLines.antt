@@ -17,7 +17,9 @@ use Rattle.yaml_base.specs.Meaning.{directive_scalars}
 use Rattle.yaml_base.specs.StreamLines.{Line, lines_of, text_of_lines}
 use Rattle.yaml_base.specs.StreamDocuments.{begins_with_percent, heading_of}
 use Rattle.yaml_base.proofs.PercentLaws.{prefix_stands}
-use Rattle.yaml_base.proofs.TagLaws.{handle_form, handle_ends_no_word, neither}
+use Rattle.yaml_base.proofs.TagForms.{handle_form}
+use Rattle.yaml_base.proofs.TagWords.{handle_ends_no_word}
+use Rattle.yaml_base.proofs.NoFaults.{neither}
 use Rattle.yaml_base.proofs.stream_lines.StreamLineLaws.{OneLine, one_line_both, is_closed}
 use Rattle.yaml_base.proofs.stream_lines.StreamClosed.{lines_broken, character_line, closed_behind}
 use Rattle.yaml_base.proofs.stream_nodes.StreamProperties.{holds_white}

@@ -1,5 +1,5 @@
 -- A document's directives, as they are written, are lines that are read as these directives.
-use Rattle.std.proofs.Common.{◌≡◌, refl, sym, ap, ◌∙◌, inl, inr, append_assoc, append-nil, arith, int_eq}
+use Rattle.std.proofs.Common.{◌≡◌, ◌⊎◌, refl, sym, ap, ◌∙◌, subst, inl, inr, append_assoc, append-nil, arith, int_eq}
 use Rattle.std.proofs.lemmas.Bool.{false≢true, eqb-true, and_parts, and_from, or_from, not-true}
 use Rattle.std.proofs.lemmas.Bool.Decides.{nat_tests}
 use Rattle.std.proofs.lemmas.List.Splits.{slice_split-cons_yes, slice_split-cons_no}
@@ -13,14 +13,16 @@ use Rattle.yaml_base.specs.Event.{Version, TagDirective, DocumentStart}
 use Rattle.yaml_base.specs.Percent.{percent_escaped, prefix_escaped, is_tag_character, character_written, percent_sign}
 use Rattle.yaml_base.specs.ReadPercent.{is_uri_character, percent_read}
 use Rattle.yaml_base.specs.ReadTags.{closes_handle, is_handle_text, prefix_said, is_given}
-use Rattle.yaml_base.specs.Tags.{tag_mark, prefix_fault, handle_fault, next_directive_fault, directive_fault, gives_handle, duplicate_directive, incompatible_version, directives_fault_after, version_fault, directives_fault}
+use Rattle.yaml_base.specs.Tags.{tag_mark, prefix_fault, handle_fault, next_directive_fault, directive_fault, gives_handle, duplicate_directive, incompatible_version, directives_fault_after, version_fault, is_the_number, directives_fault}
 use Rattle.yaml_base.specs.Meaning.{directive_scalars}
 use Rattle.yaml_base.specs.StreamLines.{Line}
 use Rattle.yaml_base.specs.Indicators.{version_1_1, version_1_2}
 use Rattle.yaml_base.specs.Layout.{version_word}
 use Rattle.yaml_base.specs.StreamDocuments.{Heading, with_directive, directive_by_words, directive_line, heading_of, no_heading, version_said, with_version}
 use Rattle.yaml_base.proofs.PercentLaws.{escaped_stands, stands_in_prefix, prefix_stands, prefix_begins, decoded_prefix, character_stands}
-use Rattle.yaml_base.proofs.TagLaws.{IsHandle, handle_form, handle_ends_no_word, neither, not_given}
+use Rattle.yaml_base.proofs.TagForms.{IsHandle, handle_form}
+use Rattle.yaml_base.proofs.TagWords.{handle_ends_no_word}
+use Rattle.yaml_base.proofs.NoFaults.{neither, not_given}
 use Rattle.yaml_base.proofs.stream_nodes.StreamProperties.{holds_white, has_no_space, no_white_no_space}
 use Rattle.yaml_base.proofs.stream_nodes.StreamTags.{uri_text, uri_character}
 
@@ -50,7 +52,7 @@ closes_letters (c ∷ d ∷ middle) h =
     and_from (is_alpha c) (closes_handle (d ∷ (middle ++ tag_mark ∷ []))) parts.0 (closes_letters (d ∷ middle) parts.1)
 
 -- a handle without a fault is a handle to the reader
-handle_reads : (handle : Text) → IsHandle handle → is_handle_text handle ≡ true
+pub handle_reads : (handle : Text) → IsHandle handle → is_handle_text handle ≡ true
 handle_reads handle (inl e) = ap is_handle_text e
 handle_reads handle (inr form) = ap is_handle_text form.1 ∙ by form.0 (closes_letters form.0 form.2)
   where
@@ -182,34 +184,39 @@ tags_read portable version before (directive ∷ rest) sound scalars =
 
 -- Versions
 
--- the tests of a version that passed
-version_tests : (a b c : Bool) → ◌≡◌ {A = Option ℕ} (if a && (b || c) then None else Some incompatible_version) None → (a ≡ true) × ((b || c) ≡ true)
-version_tests true true c h = (refl, refl)
-version_tests true false true h = (refl, refl)
-version_tests true false false h = absurd (cc)
-version_tests false b c h = absurd (cc)
+-- the versions that may be given
+abbrev pub version_of : ℕ → Version
+version_of minor = record { major = pos 1; minor = pos minor }
+
+pub version_form : (version : Version) → version_fault version ≡ None → (version ≡ version_of 1) ⊎ (version ≡ version_of 2)
+version_form version h = by version.major version.minor (tests _ _ _ h)
+  where
+    tests : (a b c : Bool) → ◌≡◌ {A = Option ℕ} (if a && (b || c) then None else Some incompatible_version) None
+        → (a ≡ true) × ((b ≡ true) ⊎ (c ≡ true))
+    tests true true c h = (refl, inl refl)
+    tests true false true h = (refl, inr refl)
+    tests true false false h = absurd (cc)
+    tests false b c h = absurd (cc)
+
+    by : (major minor : ℤ) → (is_the_number 1 major ≡ true) × ((is_the_number 1 minor ≡ true) ⊎ (is_the_number 2 minor ≡ true))
+        → (◌≡◌ {A = Version} (record { major = major; minor = minor }) (version_of 1))
+        ⊎ (◌≡◌ {A = Version} (record { major = major; minor = minor }) (version_of 2))
+    by (negsuc a) minor h = absurd (false≢true h.0)
+    by (pos a) (negsuc b) (k, inl h) = absurd (false≢true h)
+    by (pos a) (negsuc b) (k, inr h) = absurd (false≢true h)
+    by (pos a) (pos b) (k, inl h) = let e : 1 ≡ a = eqb-true 1 a k in let f : 1 ≡ b = eqb-true 1 b h in inl (rw (← e, ← f) refl)
+    by (pos a) (pos b) (k, inr h) = let e : 1 ≡ a = eqb-true 1 a k in let f : 2 ≡ b = eqb-true 2 b h in inr (rw (← e, ← f) refl)
 
 -- a version without a fault is read as it was given
 version_reads : (version : Version) → version_fault version ≡ None → version_said ((version_word version).text) ≡ Some version
-version_reads version h = by version.major version.minor h
+version_reads version h = by (version_form version h)
   where
-    made : ℤ → ℤ → Version
-    made major minor = record { major = major; minor = minor }
+    IsRead : Version → Type 0
+    IsRead version = version_said ((version_word version).text) ≡ Some version
 
-    minor_two : (m : ℕ) → (1 == m || 2 == m) ≡ true → version_said ((version_word (made (pos 1) (pos m))).text) ≡ Some (made (pos 1) (pos m))
-    minor_two m h = at (1 == m) refl h
-      where
-        at : (x : Bool) → (1 == m) ≡ x → (x || 2 == m) ≡ true → version_said ((version_word (made (pos 1) (pos m))).text) ≡ Some (made (pos 1) (pos m))
-        at true e h = let f : 1 ≡ m = eqb-true 1 m e in rw (← f) refl
-        at false e h = let f : 2 ≡ m = eqb-true 2 m h in rw (← f) refl
-
-    by : (major minor : ℤ) → version_fault (made major minor) ≡ None → version_said ((version_word (made major minor)).text) ≡ Some (made major minor)
-    by (negsuc a) minor h = absurd (cc)
-    by (pos a) (negsuc b) h = absurd (false≢true (version_tests (1 == a) false false h).1)
-    by (pos a) (pos b) h =
-        let tests = version_tests (1 == a) (1 == b) (2 == b) h in
-        let e : 1 ≡ a = eqb-true 1 a tests.0 in
-        rw (← e) (minor_two b tests.1)
+    by : (version ≡ version_of 1) ⊎ (version ≡ version_of 2) → IsRead version
+    by (inl e) = subst IsRead (sym e) refl
+    by (inr e) = subst IsRead (sym e) refl
 
 -- the line of a version, if there is one
 abbrev pub version_lines : Option Version → List Line

@@ -15,7 +15,7 @@ use Rattle.yaml_base.proofs.stream_flow.StreamWords.{shifted, double_quoted_word
 use Rattle.yaml_base.proofs.stream_flow.StreamPlainWords.{is_white_class, shown_at, plain_word}
 use Rattle.yaml_base.proofs.stream_flow.StreamWhites.{space_class}
 use Rattle.yaml_base.proofs.stream_flow.StreamSays.{Says, double_class, single_class, ends_unquoted}
-use Rattle.yaml_base.proofs.TagLaws.{letters_end_no_word}
+use Rattle.yaml_base.proofs.TagWords.{letters_end_no_word}
 use Rattle.yaml_base.proofs.stream_nodes.StreamProperties.{holds_white, WrittenTag, IsTagged, IsNamed, name_letters}
 
 -- the anchor and the tag as they are written, and a space after them

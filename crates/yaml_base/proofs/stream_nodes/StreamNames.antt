@@ -15,9 +15,8 @@ use Rattle.yaml_base.specs.Meaning.{option_scalars, directive_scalars, has_scala
 use Rattle.yaml_base.specs.StreamContent.{documents_in_order}
 use Rattle.yaml_base.specs.StreamScalars.{name_read}
 use Rattle.yaml_base.specs.StreamLaw.{tag_has_flow_sign, node_has_flow_sign, nodes_have_flow_sign, pairs_have_flow_sign, document_has_flow_sign, is_lost, are_portable, is_portable}
-use Rattle.yaml_base.proofs.Accepted.{is_none_none}
 use Rattle.yaml_base.proofs.Trees.{tree_of-stream_events}
-use Rattle.yaml_base.proofs.TagLaws.{neither}
+use Rattle.yaml_base.proofs.NoFaults.{neither, is_none_none}
 use Rattle.yaml_base.proofs.stream_nodes.StreamProperties.{IsNamed}
 use Rattle.yaml_base.proofs.stream_nodes.StreamStands.{TagStands, NamesStand, AllNamesStand, PairsNamesStand}
 use Rattle.yaml_base.proofs.stream_nodes.StreamTags.{written_tag}
@@ -30,7 +29,7 @@ abbrev pub is_good : Bool → Event → Bool
 is_good canonical event = is_sound canonical event && has_scalar_texts event
 
 -- both tests on each event
-all_good : (canonical : Bool) (events : List Event) → list_all (is_sound canonical) events ≡ true → list_all has_scalar_texts events ≡ true
+pub all_good : (canonical : Bool) (events : List Event) → list_all (is_sound canonical) events ≡ true → list_all has_scalar_texts events ≡ true
     → list_all (is_good canonical) events ≡ true
 all_good canonical [] h k = refl
 all_good canonical (event ∷ rest) h k =
@@ -40,7 +39,7 @@ all_good canonical (event ∷ rest) h k =
     (and_from (is_sound canonical event) (has_scalar_texts event) sound.0 texts.0) (all_good canonical rest sound.1 texts.1)
 
 -- no fault of such an event is told
-no_faults : (canonical : Bool) (event : Event) → is_good canonical event ≡ true
+pub no_faults : (canonical : Bool) (event : Event) → is_good canonical event ≡ true
     → (name_or_tag_fault canonical event ≡ None) × (content_fault canonical event ≡ None) × (has_scalar_texts event ≡ true)
 no_faults canonical event h =
     let parts = and_parts (is_sound canonical event) (has_scalar_texts event) h in

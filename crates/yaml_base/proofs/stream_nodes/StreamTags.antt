@@ -10,12 +10,14 @@ use Rattle.yaml_base.specs.Characters.{Text, is_alpha, is_among}
 use Rattle.yaml_base.specs.Event.{TagDirective}
 use Rattle.yaml_base.specs.Percent.{character_written, percent_escaped, suffix_escaped, is_tag_character}
 use Rattle.yaml_base.specs.ReadPercent.{is_uri_character, percent_read}
-use Rattle.yaml_base.specs.ReadTags.{bare_said, name_said, CutText, cut_after_mark, is_suffix_character, verbatim_said, shorthand_said, tag_said, without_end_sign, name_joined, prefix_among, directives_assumed}
+use Rattle.yaml_base.specs.ReadTags.{bare_said, name_said, CutText, cut_after_mark, may_follow_handle, verbatim_said, shorthand_said, tag_said, without_end_sign, name_joined, prefix_among, directives_assumed}
 use Rattle.yaml_base.specs.CanonicalReader.{shorthand_read, tag_read, verbatim_read}
 use Rattle.yaml_base.specs.Tags.{tag_mark, directives_fault, directives_in_force, Spelling, verbatim, spelling, spelled}
 use Rattle.yaml_base.specs.StreamLaw.{has_flow_sign}
 use Rattle.yaml_base.proofs.PercentLaws.{character_is_no_flow_sign, stands_written, escaped_stands, suffix_stands, escaped_begins, suffix_begins, written_is_no_less, alpha_is_no_less, portable_suffix_has_no_flow_sign}
-use Rattle.yaml_base.proofs.TagLaws.{end_sign_dropped, stands_no_mark, IsHandle, handle_form, cut_at_handle, in_force_found, spelling_is, written_tag_reads, written_tag_ends_no_word}
+use Rattle.yaml_base.proofs.TagForms.{end_sign_dropped, IsHandle, handle_form, in_force_found, spelling_is}
+use Rattle.yaml_base.proofs.TagReads.{stands_no_mark, cut_at_handle, written_tag_reads}
+use Rattle.yaml_base.proofs.TagWords.{written_tag_ends_no_word}
 use Rattle.yaml_base.proofs.stream_nodes.StreamProperties.{WrittenTag}
 
 -- Characters
@@ -49,17 +51,17 @@ suffix_has_no_flow_sign false text h = by text (not-true (list_any is_flow_sign 
         (character_is_no_flow_sign (is_tag_character c) c (λ k. parts.0)) (by text parts.1)
 
 -- a text in a URI without such a sign may stand after a handle
-suffix_text : (text : Text) → list_all is_uri_character text ≡ true → list_any is_flow_sign text ≡ false → list_all is_suffix_character text ≡ true
+suffix_text : (text : Text) → list_all is_uri_character text ≡ true → list_any is_flow_sign text ≡ false → list_all may_follow_handle text ≡ true
 suffix_text [] h k = refl
 suffix_text (c ∷ text) h k =
     let parts = and_parts (is_uri_character c) (list_all is_uri_character text) h in
     let none = or_parts (is_flow_sign c) (list_any is_flow_sign text) k in
-    and_from (is_suffix_character c) (list_all is_suffix_character text)
+    and_from (may_follow_handle c) (list_all may_follow_handle text)
     (and_from (is_uri_character c) (not (is_flow_sign c)) parts.0 (ap not none.0)) (suffix_text text parts.1 none.1)
 
 -- what is written after a handle may stand there
 pub suffix_reads : (portable : Bool) (text : Text) → (portable || not (list_any is_flow_sign text)) ≡ true
-    → list_all is_suffix_character (suffix_escaped portable text) ≡ true
+    → list_all may_follow_handle (suffix_escaped portable text) ≡ true
 suffix_reads portable text h =
     suffix_text (suffix_escaped portable text) (uri_text (suffix_escaped portable text) (suffix_stands portable text)) (suffix_has_no_flow_sign portable text h)
 
@@ -75,7 +77,7 @@ verbatim_as_read own c name h =
 
 -- a text that begins with `!` and goes on with another character than `<`
 by_handle : (own : List TagDirective) (d : ℕ) (rest handle : Text) (c : ℕ) (suffix : Text) → (d == 0x3C) ≡ false
-    → cut_after_mark (tag_mark ∷ d ∷ rest) ≡ record { front = handle; rest = c ∷ suffix } → list_all is_suffix_character (c ∷ suffix) ≡ true
+    → cut_after_mark (tag_mark ∷ d ∷ rest) ≡ record { front = handle; rest = c ∷ suffix } → list_all may_follow_handle (c ∷ suffix) ≡ true
     → tag_said own (tag_mark ∷ d ∷ rest) ≡ tag_read own (tag_mark ∷ d ∷ rest)
 by_handle own d rest handle c suffix less cut h =
     let made : CutText = cut_after_mark (tag_mark ∷ d ∷ rest) in
@@ -100,7 +102,7 @@ second_sign handle c suffix (inr form) h = by form.0 form.1 form.2
 
 -- a shorthand says what a canonical one says
 shorthand_as_read : (own : List TagDirective) (handle : Text) (c : ℕ) (suffix : Text) → IsHandle handle → list_all stands_written (c ∷ suffix) ≡ true
-    → list_all is_suffix_character (c ∷ suffix) ≡ true → tag_said own (handle ++ (c ∷ suffix)) ≡ tag_read own (handle ++ (c ∷ suffix))
+    → list_all may_follow_handle (c ∷ suffix) ≡ true → tag_said own (handle ++ (c ∷ suffix)) ≡ tag_read own (handle ++ (c ∷ suffix))
 shorthand_as_read own handle c suffix form stands h =
     let second = second_sign handle c suffix form (and_parts (stands_written c) (list_all stands_written suffix) stands).0 in
     ap (tag_said own) second.2
@@ -132,7 +134,7 @@ spelling_as_read portable own d tag sound =
         at (c ∷ name) begins h = verbatim_as_read own c name h
 
     by : (handle : Text) → IsHandle handle → (suffix : Text) → (c : ℕ) × (more : Text) × (suffix ≡ c ∷ more) → list_all stands_written suffix ≡ true
-        → list_all is_suffix_character suffix ≡ true → tag_said own (handle ++ suffix) ≡ tag_read own (handle ++ suffix)
+        → list_all may_follow_handle suffix ≡ true → tag_said own (handle ++ suffix) ≡ tag_read own (handle ++ suffix)
     by handle form [] begins stands h = absurd (nothing_begins begins.2)
     by handle form (c ∷ suffix) begins stands h = shorthand_as_read own handle c suffix form stands h
 

@@ -158,6 +158,7 @@ impl Indicator {
 }
 
 /// Writes an indicator.
+#[inline(always)]
 pub(crate) fn write_indicator<A: Allocator>(
     pen: &mut Pen<A>,
     indicator: Indicator,

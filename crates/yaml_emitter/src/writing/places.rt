@@ -70,6 +70,7 @@ fn write_flow_place<A: Allocator>(
 }
 
 /// The sign before an entry in flow, and a new line where one is due.
+#[inline(always)]
 fn write_entry<A: Allocator>(
     pen: &mut Pen<A>,
     settings: &EffectiveSettings,
@@ -100,6 +101,7 @@ fn write_simple_key<A: Allocator>(
 }
 
 /// The same before another key, and its sign.
+#[inline(always)]
 fn write_long_key<A: Allocator>(
     pen: &mut Pen<A>,
     settings: &EffectiveSettings,
@@ -129,6 +131,7 @@ fn write_long_value<A: Allocator>(
 }
 
 /// What a place in a block puts before its node (YAML 1.1, sections 10.1.2 and 10.2.2).
+#[inline(always)]
 fn write_block_place<A: Allocator>(
     pen: &mut Pen<A>,
     place: &Place,

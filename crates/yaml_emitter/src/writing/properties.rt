@@ -21,6 +21,7 @@ use yaml_base::yaml_error_t;
 use yaml_pen::Pen;
 
 /// Whether an anchor, a tag or the bare tag is written.
+#[inline(always)]
 pub(crate) fn has_properties(anchor: Option<&str>, tag: Option<SpelledTag>, bare: bool) -> bool
     ensures { result ≡ false → (portable : Bool) (cursor : Cursor)
         → then_laid (anchor_laid (seen_name anchor.entry) cursor) (spelled_tag_laid portable (seen_tag tag.entry) bare) ≡ nothing_laid cursor }

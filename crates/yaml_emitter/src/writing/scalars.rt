@@ -1,16 +1,16 @@
 //! Scalars: their style, what stands before them, and their text (YAML 1.1, chapter 9).
 
-ghost use Rattle.std.specs.Prelude.{◌≡◌, Bool, List, false, true, IfOk, IsOk, chars, is_some, option_map};
-ghost use Rattle.yaml_base.specs.Analysis.{allowances, is_empty};
+ghost use Rattle.std.specs.Prelude.{◌≡◌, ◌&&◌, List, false, true, not, IfOk, IsOk, chars, is_some, option_map};
+ghost use Rattle.yaml_base.specs.Analysis.{is_empty};
 ghost use Rattle.yaml_base.specs.Event.{TagDirective, double_quoted};
 ghost use Rattle.yaml_base.specs.Layout.{choice_of, mark_after, scalar_piece};
 ghost use Rattle.yaml_base.specs.Refusal.{scalar_tag};
 ghost use Rattle.yaml_base.specs.Seen.{seen_scalar_style};
-ghost use Rattle.yaml_base.specs.Style.{chosen, lacks_tag_and_flags, style_asked};
+ghost use Rattle.yaml_base.specs.Style.{lacks_tag_and_flags, style_asked};
 ghost use Rattle.yaml_base.specs.Tags.{spelling};
 ghost use Rattle.yaml_pen.specs.Page.{IsReady};
 ghost use Rattle.yaml_pen.specs.Wrote.{Wrote};
-ghost use Rattle.yaml_scalar.specs.ScalarData.{seen_choice, seen_data};
+ghost use Rattle.yaml_scalar.specs.ScalarData.{seen_choice};
 ghost use Rattle.yaml_emitter.specs.BorrowedTexts.{seen_name, seen_scalar};
 ghost use Rattle.yaml_emitter.specs.Given.{seen_effective};
 ghost use Rattle.yaml_emitter.specs.Places.{seen_place};
@@ -29,18 +29,10 @@ use crate::writing::styles::write_text;
 use std::alloc::Allocator;
 use yaml_base::{YAML_DOUBLE_QUOTED_SCALAR_STYLE, yaml_error_t, yaml_scalar_style_t};
 use yaml_pen::Pen;
-use yaml_scalar::{analyze_for_style, scalar_data_t, select_scalar_style};
-
-/// Stands for an analysis that decides nothing.
-const UNDECIDED: scalar_data_t = scalar_data_t {
-    multiline: false,
-    flow_plain_allowed: false,
-    block_plain_allowed: false,
-    single_quoted_allowed: false,
-    block_allowed: false,
-};
+use yaml_scalar::{analyze_for_style, select_scalar_style};
 
 /// Writes a scalar at its place, its tag spelled so, and returns the open mark that it leaves.
+#[inline(always)]
 pub(crate) fn write_scalar<A: Allocator>(
     pen: &mut Pen<A>,
     site: &Site,
@@ -74,6 +66,7 @@ pub(crate) fn write_scalar<A: Allocator>(
 }
 
 /// The style that a scalar is written in, and whether the bare tag stands before it.
+#[inline(always)]
 fn choose(
     site: &Site,
     content: &ScalarContent,
@@ -86,7 +79,11 @@ fn choose(
         seen_choice given ≡ choice_of (seen_effective site.now.settings.now) (seen_place site.now.place) site.now.simple (seen_scalar content.now)) }
 {
     let settings = site.settings;
-    let data = deciding_data(settings, content);
+    if is_surely_double(settings.canonical, content.style) {
+        let bare = needs_bare_tag(tag_written, content.quoted_implicit);
+        return Ok((YAML_DOUBLE_QUOTED_SCALAR_STYLE, bare));
+    }
+    let data = analyze_for_style(content.value, settings.unicode, settings.breaks12);
     select_scalar_style(
         content.style,
         &data,
@@ -100,25 +97,18 @@ fn choose(
     )
 }
 
-/// What decides the style of a value: its analysis, where it may be written in another style than double quotes.
-fn deciding_data(settings: &EffectiveSettings, content: &ScalarContent) -> scalar_data_t
-    ensures { (empty tag_written plain_implicit quoted_implicit flow simple : Bool)
-        → chosen (seen_data result) (seen_scalar_style content.now.style) empty tag_written plain_implicit quoted_implicit flow simple settings.now.canonical
-        ≡ chosen (allowances (record { unicode = settings.now.unicode; breaks12 = settings.now.breaks12 }) (chars content.now.value.now))
-        (seen_scalar_style content.now.style) empty tag_written plain_implicit quoted_implicit flow simple settings.now.canonical }
-{
-    if is_surely_double(settings.canonical, content.style) {
-        UNDECIDED
-    } else {
-        analyze_for_style(content.value, settings.unicode, settings.breaks12)
-    }
-}
-
 /// Double quotes are written, whatever the value holds.
 fn is_surely_double(canonical: bool, style: yaml_scalar_style_t) -> bool
     ensures { result ≡ true → style_asked canonical (seen_scalar_style style) ≡ double_quoted }
 {
     canonical || matches!(style, YAML_DOUBLE_QUOTED_SCALAR_STYLE)
+}
+
+/// The bare tag tells a scalar in quotes apart that has no tag and no flag.
+fn needs_bare_tag(tag_written: bool, quoted_implicit: bool) -> bool
+    ensures { result ≡ (not tag_written && not quoted_implicit) }
+{
+    !tag_written && !quoted_implicit
 }
 
 fn is_empty_value(value: &str) -> bool

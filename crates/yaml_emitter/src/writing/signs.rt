@@ -106,11 +106,11 @@ pub(crate) fn write_flow_line<A: Allocator>(
 fn needs_flow_line<A: Allocator>(pen: &Pen<A>, settings: &EffectiveSettings) -> bool
     ensures { result ≡ (settings.now.canonical || layout.is_past_width (seen_width settings.now.width) pen.now.cursor) }
 {
-    settings.canonical || is_past_width(pen, settings.width)
+    settings.canonical || is_line_full(pen, settings.width)
 }
 
 /// The column is past the width, which isn't negative; `i32::MAX` is never passed.
-fn is_past_width<A: Allocator>(pen: &Pen<A>, width: i32) -> bool
+fn is_line_full<A: Allocator>(pen: &Pen<A>, width: i32) -> bool
     requires { pos 0 ≤ℤ width }
     ensures { result ≡ layout.is_past_width (seen_width width) pen.now.cursor }
 {

@@ -1,6 +1,6 @@
 //! Simple keys: nodes without a break, whose names, tag and value are short.
 
-ghost use Rattle.std.specs.Prelude.{◌≡◌, ℕ, List, ◌+◌, ◌&&◌, not, min, chars, option_map};
+ghost use Rattle.std.specs.Prelude.{◌≡◌, ℕ, Bool, List, ◌+◌, ◌&&◌, not, min, chars, option_map};
 ghost use Rattle.std.specs.List.{list_any};
 ghost use Rattle.yaml_base.specs.Characters as class;
 ghost use Rattle.yaml_base.specs.Event.{CollectionStyle, TagDirective};
@@ -10,6 +10,7 @@ ghost use Rattle.yaml_base.specs.Refusal.{collection_tag, scalar_tag};
 ghost use Rattle.yaml_base.specs.Tags.{spelling};
 ghost use Rattle.yaml_emitter.specs.Places.{seen_place};
 ghost use Rattle.yaml_emitter.specs.BorrowedTexts.{seen_name, seen_collection, seen_scalar, seen_spelling};
+ghost use Rattle.yaml_emitter.specs.UsualScalars.{StandsPlain};
 ghost use Rattle.yaml_emitter.specs.WrittenSigns.{seen_tag, spelled_count};
 
 use crate::effective::EffectiveSettings;
@@ -30,6 +31,7 @@ pub(crate) fn is_simple_alias_key(settings: &EffectiveSettings, place: &Place, n
 }
 
 /// Whether a scalar at a place is a simple key, its tag spelled so.
+#[inline(always)]
 pub(crate) fn is_simple_scalar_key(
     settings: &EffectiveSettings,
     place: &Place,
@@ -44,6 +46,17 @@ pub(crate) fn is_simple_scalar_key(
         && layout.is_simple_scalar settings.now.canonical directives (seen_scalar content.now))) }
 {
     place.role.is_key() && (!settings.canonical && is_simple_scalar(content, tag))
+}
+
+/// Whether a scalar that stands plain as it is is a simple key at a place.
+pub(crate) fn is_simple_usual_key(place: &Place, content: &ScalarContent) -> bool
+    ensures { (canonical : Bool) (directives : List TagDirective)
+        → StandsPlain canonical content.now
+        → result
+        ≡ (is_key (seen_place place.now).role
+        && (not canonical && layout.is_simple_scalar canonical directives (seen_scalar content.now))) }
+{
+    place.role.is_key() && is_short(byte_count(content.value), None, None)
 }
 
 /// Whether a collection at a place, which may be empty, is a simple key, its tag spelled so.
@@ -71,6 +84,7 @@ fn is_simple_alias(name: &str) -> bool
     byte_count(name) <= MOST_BYTES
 }
 
+#[inline(always)]
 fn is_simple_scalar(content: &ScalarContent, tag: Option<SpelledTag>) -> bool
     ensures { result
         ≡ (not (list_any class.is_break (chars content.now.value.now))

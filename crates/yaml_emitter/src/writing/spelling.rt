@@ -17,6 +17,7 @@ pub(crate) enum SpelledTag<'a> {
 }
 
 /// Spells a tag that is written by the first directive whose prefix it begins with and goes on from.
+#[inline(always)]
 pub(crate) fn spell<'a, A: Allocator>(
     tag: Option<&'a str>,
     directives: &'a Directives<A>,

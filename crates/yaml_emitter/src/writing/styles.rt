@@ -30,6 +30,7 @@ use yaml_scalar::{
 };
 
 /// Writes a scalar's text in a style, and answers the open mark that it leaves.
+#[inline(always)]
 pub(crate) fn write_text<A: Allocator>(
     pen: &mut Pen<A>,
     site: &Site,
@@ -53,6 +54,7 @@ pub(crate) fn write_text<A: Allocator>(
     }
 }
 
+#[inline(always)]
 fn write_plain<A: Allocator>(
     pen: &mut Pen<A>,
     site: &Site,
@@ -96,6 +98,7 @@ fn write_single<A: Allocator>(
     Ok(mark)
 }
 
+#[inline(always)]
 fn write_double<A: Allocator>(
     pen: &mut Pen<A>,
     site: &Site,
@@ -160,7 +163,7 @@ fn write_folded<A: Allocator>(
 }
 
 /// Where a scalar's further lines begin, in columns.
-fn line_indent(settings: &EffectiveSettings, place: &Place) -> i32
+pub(crate) fn line_indent(settings: &EffectiveSettings, place: &Place) -> i32
     ensures value { result ≡ pos (deeper settings.now.indent place.now.column) }
     ensures low { pos 2 ≤ℤ result }
     ensures high { result ≤ℤ pos (most_column + 9) }

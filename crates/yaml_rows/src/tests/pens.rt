@@ -1,4 +1,4 @@
-//! Bytes that are known from outside, borders of the buffer, limits, and growths that are refused.
+//! Bytes that are known from outside, borders of the buffer, and limits.
 ghost use Rattle.std.specs.Prelude.{◌≡◌, IfOk, false};
 ghost use Rattle.std.specs.List.{list_any};
 ghost use Rattle.std.specs.Str.{chars};
@@ -6,8 +6,11 @@ ghost use Rattle.std.specs.String.{string_bytes};
 ghost use Rattle.yaml_base.specs.Characters.{is_break};
 ghost use Rattle.yaml_pen.specs.Page.{IsReady};
 
-use linked_list_allocator::LocalHeap;
-use std::alloc::{AllocError, Allocator};
+mod memory;
+
+use super::{equal, same};
+use std::alloc::{AllocError, Allocator, Global};
+use std::process::Abort;
 use std::test::Fail;
 use yaml_base::{
     YAML_CRLN_BREAK, YAML_LN_BREAK, YAML_UTF8_ENCODING, YAML_UTF16BE_ENCODING,
@@ -87,226 +90,276 @@ fn write_long_run<A: Allocator, B: Allocator>(
     }
 }
 
+/// The column, and whether both flags of the cursor are on, or both off.
+fn check_cursor<A: Allocator>(rt: &impl Abort, pen: &Pen<A>, column: i32, flags: bool) {
+    equal(rt, &pen.column(), &column);
+    equal(rt, &pen.whitespace(), &flags);
+    equal(rt, &pen.indention(), &flags);
+}
+
+// Nothing was handed out before the flush, and this is after it.
+fn check_flushed<A: Allocator>(
+    rt: &impl Abort,
+    pen: &mut Pen<A>,
+    expected: &[u8],
+) -> Result<(), yaml_error_t>
+    requires { IsReady pen.old }
+{
+    same(rt, pen.output(), b"");
+    pen.flush()?;
+    same(rt, pen.output(), expected);
+    equal(rt, &pen.error(), &None);
+    Ok(())
+}
+
+// An indicator, a character outside ASCII, and a new line.
+#[tactic(auto, using(yaml_base::proofs::Literals::literal_unbroken))]
+fn write_line<A: Allocator>(rt: &impl Abort, pen: &mut Pen<A>) -> Result<(), yaml_error_t>
+    requires { IsReady pen.old }
+    ensures { IsReady pen.new }
+{
+    pen.write_indicator("---", true, false, false)?;
+    check_cursor(rt, pen, 3, false);
+    pen.write_char('é')?;
+    equal(rt, &pen.column(), &4);
+    pen.write_indent(2)?;
+    check_cursor(rt, pen, 2, true);
+    Ok(())
+}
+
+// A letter, the setting's line break, and a separator of lines.
+fn end_line<A: Allocator>(rt: &impl Abort, pen: &mut Pen<A>) -> Result<(), yaml_error_t>
+    requires { IsReady pen.old }
+    ensures { IsReady pen.new }
+{
+    pen.put(b'a')?;
+    pen.set_whitespace(false);
+    pen.set_indention(false);
+    check_cursor(rt, pen, 3, false);
+    pen.put_break()?;
+    pen.write_break('\u{2028}')?;
+    equal(rt, &pen.column(), &0);
+    Ok(())
+}
+
+/// An encoding, and what is written in it.
+type Written<'a> = (yaml_encoding_t, &'a [u8]);
+
+fn check_calls(rt: &impl Abort, alloc: Global, row: &Written) -> Result<(), Fail> {
+    let mut pen = begun(alloc, usize::MAX, row.0)?;
+    write_line(rt, &mut pen)?;
+    end_line(rt, &mut pen)?;
+    check_flushed(rt, &mut pen, row.1)?;
+    Ok(())
+}
+
 #[test]
 fn each_call_writes(rt: HostRuntime) -> Result<(), Fail> {
-    let utf8: &[u8] = b"---\xC3\xA9\n  a\n\xE2\x80\xA8";
-    let little: &[u8] = b"\xFF\xFE-\0-\0-\0\xE9\0\n\0 \0 \0a\0\n\0\x28\x20";
-    let big: &[u8] = b"\xFE\xFF\0-\0-\0-\0\xE9\0\n\0 \0 \0a\0\n\x20\x28";
-    for (encoding, expected) in [
-        (YAML_UTF8_ENCODING, utf8),
-        (YAML_UTF16LE_ENCODING, little),
-        (YAML_UTF16BE_ENCODING, big),
-    ] {
-        let mut pen = begun(rt.alloc(), usize::MAX, encoding)?;
-        pen.write_indicator("---", true, false, false)?;
-        assert_eq!(rt;
-            (pen.column(), pen.whitespace(), pen.indention()),
-            (3, false, false)
-        );
-        pen.write_char('é')?;
-        assert_eq!(rt; pen.column(), 4);
-        pen.write_indent(2)?;
-        assert_eq!(rt;
-            (pen.column(), pen.whitespace(), pen.indention()),
-            (2, true, true)
-        );
-        pen.put(b'a')?;
-        pen.set_whitespace(false);
-        pen.set_indention(false);
-        assert_eq!(rt;
-            (pen.column(), pen.whitespace(), pen.indention()),
-            (3, false, false)
-        );
-        pen.put_break()?;
-        pen.write_break('\u{2028}')?;
-        assert_eq!(rt; pen.column(), 0);
-        assert_eq!(rt; pen.output(), b"".as_slice());
-        pen.flush()?;
-        assert_eq!(rt; pen.output(), expected);
-        assert_eq!(rt; pen.error(), None);
-    }
-    Ok(())
+    let utf8 = b"---\xC3\xA9\n  a\n\xE2\x80\xA8".as_slice();
+    let little = b"\xFF\xFE-\0-\0-\0\xE9\0\n\0 \0 \0a\0\n\0\x28\x20".as_slice();
+    let big = b"\xFE\xFF\0-\0-\0-\0\xE9\0\n\0 \0 \0a\0\n\x20\x28".as_slice();
+    check_calls(&rt, rt.alloc(), &(YAML_UTF8_ENCODING, utf8))?;
+    check_calls(&rt, rt.alloc(), &(YAML_UTF16LE_ENCODING, little))?;
+    check_calls(&rt, rt.alloc(), &(YAML_UTF16BE_ENCODING, big))
+}
+
+// The setting's line break, and two that are written as given.
+fn write_breaks<A: Allocator>(pen: &mut Pen<A>) -> Result<(), yaml_error_t>
+    requires { IsReady pen.old }
+    ensures { IsReady pen.new }
+{
+    pen.put(b'a')?;
+    pen.put_break()?;
+    pen.write_break('\n')?;
+    pen.write_break('\r')
+}
+
+#[tactic(auto, using(yaml_base::proofs::Literals::literal_unbroken))]
+fn write_indicators<A: Allocator>(pen: &mut Pen<A>) -> Result<(), yaml_error_t>
+    requires { IsReady pen.old }
+    ensures { IsReady pen.new }
+{
+    pen.write_indicator("-", true, true, true)?;
+    pen.write_indicator("b", true, false, false)?;
+    pen.write_indicator("c", true, false, false)
 }
 
 #[test]
 fn line_breaks_are_those_of_the_setting(rt: HostRuntime) -> Result<(), Fail> {
     let mut pen = Pen::new(rt.alloc())?;
     pen.begin(YAML_UTF8_ENCODING, YAML_CRLN_BREAK);
-    pen.put(b'a')?;
+    write_breaks(&mut pen)?;
+    write_indicators(&mut pen)?;
+    check_flushed(&rt, &mut pen, b"a\r\n\r\n\r-b c")?;
+    Ok(())
+}
+
+// The flush hands out what the limit leaves, and each call after it is refused.
+fn check_cut<A: Allocator>(rt: &impl Abort, pen: &mut Pen<A>, cut: &[u8])
+    requires { IsReady pen.old }
+{
+    let refused = Err(yaml_error_t::WriteError);
+    equal(rt, &pen.flush(), &refused);
+    same(rt, pen.output(), cut);
+    equal(rt, &pen.put(b'a'), &refused);
+    equal(rt, &pen.flush(), &refused);
+    equal(rt, &pen.error(), &Some(yaml_error_t::WriteError));
+    same(rt, pen.output(), cut);
+}
+
+fn check_limit(rt: &impl Abort, alloc: Global, row: &Written, limit: usize) -> Result<(), Fail> {
+    let mut pen = begun(alloc, limit, row.0)?;
+    pen.write_char('\u{1F600}')?;
     pen.put_break()?;
-    pen.write_break('\n')?;
-    pen.write_break('\r')?;
-    pen.write_indicator("-", true, true, true)?;
-    pen.write_indicator("b", true, false, false)?;
-    pen.write_indicator("c", true, false, false)?;
-    pen.flush()?;
-    assert_eq!(rt; pen.output(), b"a\r\n\r\n\r-b c".as_slice());
+    match row.1.get(..limit) {
+        Some(cut) if limit < row.1.len() => check_cut(rt, &mut pen, cut),
+        _ => check_flushed(rt, &mut pen, row.1)?,
+    }
+    Ok(())
+}
+
+fn check_limits(rt: &impl Abort, alloc: Global, row: &Written) -> Result<(), Fail> {
+    for limit in 0..row.1.len().saturating_add(2) {
+        check_limit(rt, alloc, row, limit)?;
+    }
     Ok(())
 }
 
 #[test]
 fn a_limit_cuts_at_any_byte(rt: HostRuntime) -> Result<(), Fail> {
-    let utf8: &[u8] = b"\xF0\x9F\x98\x80\n";
-    let little: &[u8] = b"\xFF\xFE\x3D\xD8\x00\xDE\n\0";
-    let big: &[u8] = b"\xFE\xFF\xD8\x3D\xDE\x00\0\n";
-    for (encoding, whole) in [
-        (YAML_UTF8_ENCODING, utf8),
-        (YAML_UTF16LE_ENCODING, little),
-        (YAML_UTF16BE_ENCODING, big),
-    ] {
-        for limit in 0..=whole.len() + 1 {
-            let mut pen = begun(rt.alloc(), limit, encoding)?;
-            pen.write_char('\u{1F600}')?;
-            pen.put_break()?;
-            let answer = pen.flush();
-            if limit < whole.len() {
-                assert_eq!(rt; pen.output(), &whole[..limit]);
-                assert_eq!(rt; answer, Err(yaml_error_t::WriteError));
-                assert_eq!(rt; pen.put(b'a'), Err(yaml_error_t::WriteError));
-                assert_eq!(rt; pen.flush(), Err(yaml_error_t::WriteError));
-                assert_eq!(rt; pen.error(), Some(yaml_error_t::WriteError));
-                assert_eq!(rt; pen.output(), &whole[..limit]);
-            } else {
-                assert_eq!(rt; pen.output(), whole);
-                assert_eq!(rt; answer, Ok(()));
-                assert_eq!(rt; pen.error(), None);
-            }
-        }
+    let utf8 = b"\xF0\x9F\x98\x80\n".as_slice();
+    let little = b"\xFF\xFE\x3D\xD8\x00\xDE\n\0".as_slice();
+    let big = b"\xFE\xFF\xD8\x3D\xDE\x00\0\n".as_slice();
+    check_limits(&rt, rt.alloc(), &(YAML_UTF8_ENCODING, utf8))?;
+    check_limits(&rt, rt.alloc(), &(YAML_UTF16LE_ENCODING, little))?;
+    check_limits(&rt, rt.alloc(), &(YAML_UTF16BE_ENCODING, big))
+}
+
+/// `a`, U+00E9, U+20AC and U+1F600 in an encoding, ten bytes in each.
+type Cycle<'a> = (yaml_encoding_t, &'a [u8; 10]);
+
+const IN_UTF8: &[u8; 10] = b"a\xC3\xA9\xE2\x82\xAC\xF0\x9F\x98\x80";
+
+const IN_UTF16LE: &[u8; 10] = b"a\0\xE9\0\xAC\x20\x3D\xD8\x00\xDE";
+
+const IN_UTF16BE: &[u8; 10] = b"\0a\0\xE9\x20\xAC\xD8\x3D\xDE\x00";
+
+// So many bytes: the cycle again and again.
+fn check_bytes(rt: &impl Abort, bytes: &[u8], count: usize, cycle: &[u8; 10]) {
+    equal(rt, &bytes.len(), &count);
+    for (place, byte) in bytes.iter().enumerate() {
+        assert_eq!(rt; *byte, cycle[place % 10], "at {place}");
+    }
+}
+
+// Where the cycles begin: after the mark and so many letters.
+fn start_of(encoding: yaml_encoding_t, ahead: usize) -> usize {
+    match encoding {
+        YAML_UTF8_ENCODING => ahead,
+        _ => ahead.saturating_mul(2).saturating_add(2),
+    }
+}
+
+fn check_cycles(rt: &impl Abort, alloc: Global, row: &Cycle, ahead: usize) -> Result<(), Fail> {
+    let mut pen = begun(alloc, usize::MAX, row.0)?;
+    put_letters(&mut pen, ahead)?;
+    write_cycles(&mut pen, 10_000)?;
+    pen.flush()?;
+    let rest = pen.output().get(start_of(row.0, ahead)..).unwrap_or(b"");
+    check_bytes(rt, rest, 100_000, row.1);
+    Ok(())
+}
+
+fn check_each_cycle(rt: &impl Abort, alloc: Global, row: &Cycle) -> Result<(), Fail> {
+    for ahead in 0..10 {
+        check_cycles(rt, alloc, row, ahead)?;
     }
     Ok(())
 }
 
-// Ten bytes are `a`, U+00E9, U+20AC and U+1F600; after `ahead` letters the buffer's end falls into
-// each of their places.
+// After some letters the buffer's end falls into each place of the ten bytes.
 #[test]
 fn characters_stay_whole_across_the_buffer(rt: HostRuntime) -> Result<(), Fail> {
-    let utf8 = b"a\xC3\xA9\xE2\x82\xAC\xF0\x9F\x98\x80";
-    let little = b"a\0\xE9\0\xAC\x20\x3D\xD8\x00\xDE";
-    let big = b"\0a\0\xE9\x20\xAC\xD8\x3D\xDE\x00";
-    for (encoding, cycle, mark, width) in [
-        (YAML_UTF8_ENCODING, utf8, 0usize, 1usize),
-        (YAML_UTF16LE_ENCODING, little, 2, 2),
-        (YAML_UTF16BE_ENCODING, big, 2, 2),
-    ] {
-        for ahead in 0..10usize {
-            let mut pen = begun(rt.alloc(), usize::MAX, encoding)?;
-            put_letters(&mut pen, ahead)?;
-            write_cycles(&mut pen, 10_000)?;
-            pen.flush()?;
-            let start = mark + ahead * width;
-            assert_eq!(rt; pen.output().len(), start + 100_000);
-            for (place, byte) in pen.output()[start..].iter().enumerate() {
-                assert_eq!(rt; *byte, cycle[place % 10], "after {ahead}, at {place}");
-            }
-        }
+    check_each_cycle(&rt, rt.alloc(), &(YAML_UTF8_ENCODING, IN_UTF8))?;
+    check_each_cycle(&rt, rt.alloc(), &(YAML_UTF16LE_ENCODING, IN_UTF16LE))?;
+    check_each_cycle(&rt, rt.alloc(), &(YAML_UTF16BE_ENCODING, IN_UTF16BE))
+}
+
+// A run that is longer than six buffers, one of nothing, and a short one, after so many letters.
+fn write_runs(
+    rt: &impl Abort,
+    pen: &mut Pen<Global>,
+    alloc: Global,
+    ahead: i32,
+) -> Result<(), yaml_error_t>
+    requires { IsReady pen.old }
+    ensures { IsReady pen.new }
+{
+    write_long_run(pen, alloc, 10_000)?;
+    equal(rt, &pen.column(), &ahead.saturating_add(40_000));
+    write_long_run(pen, alloc, 0)?;
+    write_long_run(pen, alloc, 1)?;
+    equal(rt, &pen.column(), &ahead.saturating_add(40_004));
+    Ok(())
+}
+
+fn check_runs(rt: &impl Abort, alloc: Global, row: &Cycle, ahead: u8) -> Result<(), Fail> {
+    let mut pen = begun(alloc, usize::MAX, row.0)?;
+    put_letters(&mut pen, usize::from(ahead))?;
+    write_runs(rt, &mut pen, alloc, i32::from(ahead))?;
+    pen.flush()?;
+    let rest = pen
+        .output()
+        .get(start_of(row.0, usize::from(ahead))..)
+        .unwrap_or(b"");
+    check_bytes(rt, rest, 100_010, row.1);
+    Ok(())
+}
+
+// The same ten bytes, written as runs.
+#[test]
+fn runs_stay_whole_across_the_buffer(rt: HostRuntime) -> Result<(), Fail> {
+    for ahead in 0..10 {
+        check_runs(&rt, rt.alloc(), &(YAML_UTF8_ENCODING, IN_UTF8), ahead)?;
+        check_runs(&rt, rt.alloc(), &(YAML_UTF16LE_ENCODING, IN_UTF16LE), ahead)?;
     }
     Ok(())
 }
 
-// The same ten bytes, written as one run that is longer than six buffers.
-#[test]
-fn runs_stay_whole_across_the_buffer(rt: HostRuntime) -> Result<(), Fail> {
-    let utf8 = b"a\xC3\xA9\xE2\x82\xAC\xF0\x9F\x98\x80";
-    let little = b"a\0\xE9\0\xAC\x20\x3D\xD8\x00\xDE";
-    for (encoding, cycle, mark, width) in [
-        (YAML_UTF8_ENCODING, utf8, 0usize, 1usize),
-        (YAML_UTF16LE_ENCODING, little, 2, 2),
-    ] {
-        for ahead in 0..10usize {
-            let mut pen = begun(rt.alloc(), usize::MAX, encoding)?;
-            put_letters(&mut pen, ahead)?;
-            write_long_run(&mut pen, rt.alloc(), 10_000)?;
-            assert_eq!(rt; pen.column(), 40_000 + ahead as i32);
-            write_long_run(&mut pen, rt.alloc(), 0)?;
-            write_long_run(&mut pen, rt.alloc(), 1)?;
-            assert_eq!(rt; pen.column(), 40_004 + ahead as i32);
-            pen.flush()?;
-            let start = mark + ahead * width;
-            assert_eq!(rt; pen.output().len(), start + 100_010);
-            for (place, byte) in pen.output()[start..].iter().enumerate() {
-                assert_eq!(rt; *byte, cycle[place % 10], "after {ahead}, at {place}");
-            }
-        }
+// After a refusal a run is refused by the same error, and hands out nothing.
+fn check_run_refused<A: Allocator>(
+    rt: &impl Abort,
+    pen: &mut Pen<A>,
+    alloc: Global,
+    error: yaml_error_t,
+)
+    requires { IsReady pen.old }
+    ensures { IsReady pen.new }
+{
+    let length = pen.output().len();
+    equal(rt, &write_long_run(pen, alloc, 1), &Err(error));
+    equal(rt, &pen.error(), &Some(error));
+    equal(rt, &pen.output().len(), &length);
+}
+
+fn check_run_limit(rt: &impl Abort, alloc: Global, limit: usize) -> Result<(), Fail> {
+    let error = yaml_error_t::WriteError;
+    let mut pen = begun(alloc, limit, YAML_UTF8_ENCODING)?;
+    let written = write_long_run(&mut pen, alloc, 5_000);
+    assert!(rt; written.is_ok() || written == Err(error));
+    equal(rt, &pen.flush().is_ok(), &(limit == 50_000));
+    check_bytes(rt, pen.output(), limit, IN_UTF8);
+    if limit < 50_000 {
+        check_run_refused(rt, &mut pen, alloc, error);
     }
     Ok(())
 }
 
 #[test]
 fn a_limit_cuts_a_run_at_any_byte(rt: HostRuntime) -> Result<(), Fail> {
-    let cycle = b"a\xC3\xA9\xE2\x82\xAC\xF0\x9F\x98\x80";
-    for limit in [0usize, 1, 16_383, 16_384, 16_385, 33_333, 49_999, 50_000] {
-        let mut pen = begun(rt.alloc(), limit, YAML_UTF8_ENCODING)?;
-        let written = write_long_run(&mut pen, rt.alloc(), 5_000);
-        let answer = pen.flush();
-        assert!(rt; written.is_ok() || written == Err(yaml_error_t::WriteError));
-        assert_eq!(rt; answer.is_ok(), limit == 50_000);
-        assert_eq!(rt; pen.output().len(), limit);
-        for (place, byte) in pen.output().iter().enumerate() {
-            assert_eq!(rt; *byte, cycle[place % 10], "within {limit}, at {place}");
-        }
-        if limit < 50_000 {
-            assert_eq!(rt; answer, Err(yaml_error_t::WriteError));
-            assert_eq!(rt;
-                write_long_run(&mut pen, rt.alloc(), 1),
-                Err(yaml_error_t::WriteError)
-            );
-            assert_eq!(rt; pen.output().len(), limit);
-        }
-    }
-    Ok(())
-}
-
-// The buffer takes 16,384 bytes and a little; the output's first flush asks for as many, its second
-// for more than that again.
-#[test]
-fn refused_growths_leave_the_output(rt: HostRuntime) -> Result<(), Fail> {
-    for (budget, made, handed_out) in [
-        (1_000, false, 0),
-        (20_000, true, 0),
-        (50_000, true, 16_384),
-    ] {
-        let heap = LocalHeap::new(rt.alloc(), budget)?;
-        match begun(&heap, usize::MAX, YAML_UTF8_ENCODING) {
-            Err(error) => {
-                assert_eq!(rt; error, yaml_error_t::Memory);
-                assert!(rt; !made);
-            }
-            Ok(mut pen) => {
-                assert!(rt; made);
-                assert_eq!(rt; pen.flush(), Ok(()));
-                assert_eq!(rt; put_letters(&mut pen, 100_000), Err(yaml_error_t::Memory));
-                assert_eq!(rt; pen.put(b'a'), Err(yaml_error_t::Memory));
-                assert_eq!(rt; pen.flush(), Err(yaml_error_t::Memory));
-                assert_eq!(rt; pen.error(), Some(yaml_error_t::Memory));
-                assert_eq!(rt; pen.output().len(), handed_out);
-                assert!(rt; pen.output().iter().all(|byte| *byte == b'x'));
-            }
-        }
-    }
-    Ok(())
-}
-
-// A run is refused where its own flush finds no room; the first piece of this one has 16,383 bytes, as a
-// character stands across the buffer's end.
-#[test]
-fn refused_growths_end_a_run(rt: HostRuntime) -> Result<(), Fail> {
-    let cycle = b"a\xC3\xA9\xE2\x82\xAC\xF0\x9F\x98\x80";
-    for (budget, handed_out) in [(20_000, 0), (50_000, 16_383)] {
-        let heap = LocalHeap::new(rt.alloc(), budget)?;
-        let mut pen = begun(&heap, usize::MAX, YAML_UTF8_ENCODING)?;
-        assert_eq!(rt;
-            write_long_run(&mut pen, rt.alloc(), 10_000),
-            Err(yaml_error_t::Memory)
-        );
-        assert_eq!(rt;
-            write_long_run(&mut pen, rt.alloc(), 1),
-            Err(yaml_error_t::Memory)
-        );
-        assert_eq!(rt; pen.error(), Some(yaml_error_t::Memory));
-        assert_eq!(rt; pen.output().len(), handed_out);
-        for (place, byte) in pen.output().iter().enumerate() {
-            assert_eq!(rt; *byte, cycle[place % 10]);
-        }
+    let limits: &[usize] = &[0, 1, 16_383, 16_384, 16_385, 33_333, 49_999, 50_000];
+    for limit in limits {
+        check_run_limit(&rt, rt.alloc(), *limit)?;
     }
     Ok(())
 }

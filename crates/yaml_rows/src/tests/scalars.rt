@@ -12,7 +12,9 @@ mod short_quoted;
 mod single_quoted;
 mod styles;
 
+use super::{equal, same};
 use std::alloc::Allocator;
+use std::process::Abort;
 use yaml_base::{YAML_CR_BREAK, YAML_CRLN_BREAK, YAML_LN_BREAK, YAML_UTF8_ENCODING, yaml_error_t};
 use yaml_pen::Pen;
 
@@ -47,4 +49,37 @@ fn begun_with_returns<A: Allocator + Copy>(
         pen.begin(YAML_UTF8_ENCODING, YAML_CR_BREAK);
     }
     Ok(pen)
+}
+
+/// What was written.
+fn finished<A: Allocator + Copy>(alloc: A, pen: &mut Pen<A>) -> Result<Vec<u8, A>, yaml_error_t>
+    requires { IsReady pen.old }
+{
+    pen.flush()?;
+    Vec::from_slice(alloc, pen.output()).map_err(|_| yaml_error_t::Memory)
+}
+
+/// The flush is refused, and hands out this.
+fn check_cut<A: Allocator>(rt: &impl Abort, pen: &mut Pen<A>, cut: &[u8])
+    requires { IsReady pen.old }
+    ensures { IsReady pen.new }
+{
+    equal(rt, &pen.flush(), &Err(yaml_error_t::WriteError));
+    same(rt, pen.output(), cut);
+}
+
+/// A sign `-`, which a space must follow.
+#[tactic(auto, using(yaml_base::proofs::Literals::literal_unbroken))]
+fn write_sign<A: Allocator>(pen: &mut Pen<A>) -> Result<(), yaml_error_t>
+    requires { IsReady pen.old }
+    ensures { IfOk result (λ _. IsReady pen.new) }
+{
+    pen.write_indicator("-", true, false, true)
+}
+
+/// The column; both flags of the cursor are off.
+fn check_column<A: Allocator>(rt: &impl Abort, pen: &Pen<A>, column: i32) {
+    equal(rt, &pen.column(), &column);
+    equal(rt, &pen.whitespace(), &false);
+    equal(rt, &pen.indention(), &false);
 }

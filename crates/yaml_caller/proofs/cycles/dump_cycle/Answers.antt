@@ -5,7 +5,7 @@ use Rattle.yaml_caller.specs.Cycle.{cycle_bytes, cycle_graph}
 use Rattle.yaml_caller.proofs.Written.{stream_bytes}
 use Rattle.yaml_caller.proofs.OnlyMemory.{front_memory, exit_memory}
 use Rattle.yaml_caller.proofs.CycleFits.{cycle_fits, dump_memory}
-use Rattle.yaml_caller.proofs.Dumped.{dumped_cycle, cycle_events, none_waits, cycle_row, uncut, one_dumped, after_dump, still_open, then_ok}
+use Rattle.yaml_caller.proofs.Dumped.{dumped_cycle, cycle_events, none_waits, cycle_row, all_portable, one_dumped, after_dump, still_open, then_ok}
 use Rattle.yaml_caller.proofs.cycles.dump_cycle.Goals as goal
 
 pub returns-clause-bytes : goal.returns-clause-bytes
@@ -28,7 +28,18 @@ returns-clause-graph g c =
     let stands = after_dump graph old after _ c.requires.unopened c.requires.graph c.requires.stands
     (c.in_ok-yaml_emitter_dump.ensures.dumps c.requires.no_error) in
     then_ok c.yaml_emitter_close.result (c.yaml_emitter_close.ensures.graphs unclosed)
-    (λ reads. reads letter_settings dumped_cycle (cycle_graph ∷ []) stands refl uncut one_dumped)
+    (λ reads. reads letter_settings dumped_cycle (cycle_graph ∷ []) stands refl one_dumped)
+
+pub returns-clause-trees : goal.returns-clause-trees
+returns-clause-trees g c =
+    let old = c.args.emitter.now in
+    let after = c.yaml_emitter_dump.new.emitter in
+    let graph = graph_of c.args.document in
+    let unclosed = still_open graph old.closed after.closed c.requires.graph c.requires.unclosed c.in_ok-yaml_emitter_dump.ensures.closed in
+    let stands = after_dump graph old after _ c.requires.unopened c.requires.graph c.requires.stands
+    (c.in_ok-yaml_emitter_dump.ensures.dumps c.requires.no_error) in
+    then_ok c.yaml_emitter_close.result (c.yaml_emitter_close.ensures.trees unclosed)
+    (λ reads. reads letter_settings dumped_cycle stands (cycle_graph ∷ []) all_portable one_dumped)
 
 pub returns-in_err-yaml_emitter_dump-clause-memory : goal.returns-in_err-yaml_emitter_dump-clause-memory
 returns-in_err-yaml_emitter_dump-clause-memory g c =

@@ -1,6 +1,7 @@
 use Rattle.std.proofs.Common.{chars, codes, refl, ap, ◌∙◌}
 use Rattle.yaml_base.proofs.Literals.{chars-literal}
 use Rattle.yaml_base.specs.Settings.{Settings}
+use Rattle.yaml_writer.proofs.Finishing.{nothing_awaited}
 use Rattle.yaml_writer.specs.Given.{seen_settings}
 use Rattle.yaml_caller.proofs.Listing.{list_answered, list_bytes}
 use Rattle.yaml_caller.proofs.listed.list_written.Goals as goal
@@ -16,6 +17,7 @@ returns g c =
           list_bytes (seen_settings c.default.result) first.writer c.begin_sequence.new.self c.text.new.self c.null.new.self c.end.new.self
           (chars (codes "no"))
           bytes c.default.ensures (chars-literal (codes "no") refl) first.ensures.stands canonical first.ensures.levels first.ensures.bare
-          c.in_ok-begin_sequence.ensures.given c.in_ok-text.ensures.given c.in_ok-null.ensures.given c.in_ok-end.ensures finishes)
+          c.in_ok-begin_sequence.ensures.given c.in_ok-text.ensures.given c.in_ok-null.ensures.given
+          (c.in_ok-end.ensures.ended (nothing_awaited c.null.new.self c.in_ok-null.ensures.given.no_anchor c.in_ok-null.ensures.given.no_tag)) finishes)
           c.finish.ensures.finishes;
     }

@@ -4,8 +4,8 @@ use Rattle.yaml_caller.specs.Pair.{portable_settings}
 use Rattle.yaml_caller.proofs.PairReads.{pair_promised, pair_reads}
 use Rattle.yaml_caller.proofs.pairs.emit_pair.Goals as goal
 
-pub returns : goal.returns
-returns g c =
+pub returns-clause-reads : goal.returns-clause-reads
+returns-clause-reads g c =
     let first = c.yaml_emitter_emit.ensures.stands portable_settings [] c.requires.stands in
     let second = c.yaml_emitter_emit-2.ensures.stands portable_settings _ first in
     let third = c.yaml_emitter_emit-3.ensures.stands portable_settings _ second in
@@ -14,11 +14,8 @@ returns g c =
     let sixth = c.yaml_emitter_emit-6.ensures.stands portable_settings _ fifth in
     let seventh = c.yaml_emitter_emit-7.ensures.stands portable_settings _ sixth in
     let promised = c.yaml_emitter_emit-8.ensures.promised portable_settings _ seventh in
-    record {
-      reads =
-          pair_reads (seen_text c.args.key) (seen_text c.args.value) c.yaml_emitter_emit-8.result c.yaml_emitter_emit-8.new.emitter
-          (pair_promised (map seen_directive c.new.result.items) (seen_event c.text_event.result) (seen_event c.text_event-2.result)
-          (seen_text c.args.key) (seen_text c.args.value) c.yaml_emitter_emit-8.new.emitter (ap (map seen_directive) c.new.ensures.items)
-          c.text_event.ensures c.text_event-2.ensures promised)
-          c.yaml_emitter_emit-8.ensures.answered;
-    }
+    pair_reads (seen_text c.args.key) (seen_text c.args.value) c.yaml_emitter_emit-8.result c.yaml_emitter_emit-8.new.emitter
+    (pair_promised (map seen_directive c.new.result.items) (seen_event c.text_event.result) (seen_event c.text_event-2.result)
+    (seen_text c.args.key) (seen_text c.args.value) c.yaml_emitter_emit-8.new.emitter (ap (map seen_directive) c.new.ensures.items)
+    c.text_event.ensures c.text_event-2.ensures promised)
+    c.yaml_emitter_emit-8.ensures.answered

@@ -1,4 +1,4 @@
-use Rattle.std.proofs.Common.{◌≡◌, true, false, sym, subst, List, ℕ}
+use Rattle.std.proofs.Common.{◌≡◌, ◌∙◌, true, false, sym, subst, List, ℕ}
 use Rattle.yaml_base.specs.Seen.{seen_text}
 use Rattle.yaml_base.specs.StreamContent.{agrees}
 use Rattle.yaml_base.specs.StreamReader.{stream_trees}
@@ -12,5 +12,5 @@ returns g c =
     record {
       reads =
           copy_agrees (seen_text c.args.key) (seen_text c.args.value) c.copied.result _ c.copied.ensures.bytes
-          (subst (λ (bytes : List ℕ). agrees false events (stream_trees false bytes) ≡ true) (sym c.output.ensures.value) c.in_ok-emit_pair.ensures.reads);
+          (subst (λ (bytes : List ℕ). agrees false events (stream_trees false bytes) ≡ true) (sym (c.output.ensures.untaken (c.emit_pair.ensures.taken ∙ c.in_ok-emitter.ensures.untaken))) c.in_ok-emit_pair.ensures.reads);
     }

@@ -17,8 +17,8 @@ loop-visit-init g c =
     stands_first (graph_of c.args.document.now) _ (seen_walker c.in_ok-walker.walker) (seen_walker c.meet.new.self) (omega (arith, nonempty))
     (ap nat_abs c.node_count.ensures) count c.in_ok-meet.ensures
 
-pub go_on-requires-clause-named : goal.go_on-requires-clause-named
-go_on-requires-clause-named g c =
+pub resume-requires-clause-named : goal.resume-requires-clause-named
+resume-requires-clause-named g c =
     let walker = c.loop-visit.walker in
     innermost_named (graph_of c.args.document.now) c.in-Some.visit (seen_walker (record walker { visits = c.pop.new.self }))
     (stands_popped (graph_of c.args.document.now) walker c.pop.new.self c.in-Some.visit c.in-Some.ensures.items c.loop-visit.invariant)
@@ -27,17 +27,17 @@ pub loop-visit-smaller : goal.loop-visit-smaller
 loop-visit-smaller g c =
     let walker = c.loop-visit.walker in
     steps_fewer (graph_of c.args.document.now) c.in-Some.visit (seen_walker (record walker { visits = c.pop.new.self }))
-    (seen_walker c.go_on.new.self) c.numbers_name_nodes.ensures
+    (seen_walker c.resume.new.self) c.numbers_name_nodes.ensures
     (stands_popped (graph_of c.args.document.now) walker c.pop.new.self c.in-Some.visit c.in-Some.ensures.items c.loop-visit.invariant)
-    c.in_ok-go_on.ensures
+    c.in_ok-resume.ensures
 
 pub loop-visit-preserved : goal.loop-visit-preserved
 loop-visit-preserved g c =
     let walker = c.loop-visit.walker in
     stands_behind (graph_of c.args.document.now) c.in-Some.visit (seen_walker (record walker { visits = c.pop.new.self }))
-    (seen_walker c.go_on.new.self) c.numbers_name_nodes.ensures
+    (seen_walker c.resume.new.self) c.numbers_name_nodes.ensures
     (stands_popped (graph_of c.args.document.now) walker c.pop.new.self c.in-Some.visit c.in-Some.ensures.items c.loop-visit.invariant)
-    c.in_ok-go_on.ensures
+    c.in_ok-resume.ensures
 
 pub returns-clause-walked : goal.returns-clause-walked
 returns-clause-walked g c =

@@ -1,4 +1,4 @@
-use Rattle.yaml_emitter.proofs.Defaults.{defaults_added}
+use Rattle.yaml_emitter.proofs.pieces.Defaults.{defaults_added}
 use Rattle.yaml_emitter.proofs.directives.add_defaults.Goals as goal
 
 pub returns-clause-added : goal.returns-clause-added

@@ -1,5 +1,5 @@
 use Rattle.std.proofs.Common.{sym, arith, ◌∙◌}
-use Rattle.yaml_emitter.proofs.Defaults.{two_defaults}
+use Rattle.yaml_emitter.proofs.pieces.Defaults.{two_defaults}
 use Rattle.yaml_emitter.proofs.directives.are_defaults.Goals as goal
 
 pub returns-then-gives : goal.returns-then-gives

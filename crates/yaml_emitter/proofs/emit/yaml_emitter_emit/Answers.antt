@@ -8,10 +8,10 @@ use Rattle.yaml_emitter.specs.Inside.{state_of}
 use Rattle.yaml_emitter.specs.Queue.{is_head_ready}
 use Rattle.yaml_emitter.specs.State.{State}
 use Rattle.yaml_emitter.specs.StandsAfter.{StandsAfter}
-use Rattle.yaml_emitter.proofs.Emitting.{none_became_ready, reached_alone, stands_few, reached_taken}
-use Rattle.yaml_emitter.proofs.Growing.{grows_page}
-use Rattle.yaml_emitter.proofs.Promising.{promised, stands_with}
-use Rattle.yaml_emitter.proofs.StandingMore.{failed_more}
+use Rattle.yaml_emitter.proofs.standing.Emitting.{none_became_ready, reached_alone, stands_few, reached_taken}
+use Rattle.yaml_emitter.proofs.standing.Growing.{grows_page}
+use Rattle.yaml_emitter.proofs.standing.Promising.{promised, stands_with}
+use Rattle.yaml_emitter.proofs.standing.StandingMore.{failed_more}
 use Rattle.yaml_emitter.proofs.emit.yaml_emitter_emit.Goals as goal
 
 pub returns-in-Some-clause-stands : goal.returns-in-Some-clause-stands

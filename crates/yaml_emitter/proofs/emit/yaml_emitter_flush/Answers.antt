@@ -2,7 +2,7 @@ use Rattle.std.proofs.Common.{List}
 use Rattle.yaml_base.specs.Event.{Event}
 use Rattle.yaml_base.specs.Settings.{Settings}
 use Rattle.yaml_emitter.specs.StandsAfter.{StandsAfter}
-use Rattle.yaml_emitter.proofs.Promising.{flushed_all, promised, stands_encoded, stands_on, stands_unfailed}
+use Rattle.yaml_emitter.proofs.standing.Promising.{flushed_all, promised, stands_encoded, stands_on, stands_unfailed}
 use Rattle.yaml_emitter.proofs.emit.yaml_emitter_flush.Goals as goal
 
 pub returns-in-Some-clause-promised : goal.returns-in-Some-clause-promised

@@ -5,7 +5,7 @@ use Rattle.yaml_pen.specs.Page.{Page, IsUntouched, new_page}
 use Rattle.yaml_emitter.specs.State.{FitsPage}
 use Rattle.yaml_base.specs.Seen.{seen_events}
 use Rattle.yaml_emitter.specs.Given.{nothing_given}
-use Rattle.yaml_emitter.proofs.StandingMore.{new_stands}
+use Rattle.yaml_emitter.proofs.standing.StandingMore.{new_stands}
 use Rattle.yaml_emitter.proofs.emitter.yaml_emitter_initialize.Goals as goal
 
 untouched_new : IsUntouched (new_page largest_usize)

@@ -1,5 +1,5 @@
 use Rattle.yaml_emitter.proofs.laws.canonical_bytes_read.Goals as goal
-use Rattle.yaml_emitter.proofs.Canonical as lemma
+use Rattle.yaml_emitter.proofs.canonical.Canonical as lemma
 
 pub returns : goal.returns
 returns c = lemma.canonical_bytes_read

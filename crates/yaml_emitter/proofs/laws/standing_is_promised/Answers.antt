@@ -1,5 +1,5 @@
 use Rattle.yaml_emitter.proofs.laws.standing_is_promised.Goals as goal
-use Rattle.yaml_emitter.proofs.Promising as lemma
+use Rattle.yaml_emitter.proofs.standing.Promising as lemma
 
 pub returns : goal.returns
 returns c = lemma.promised

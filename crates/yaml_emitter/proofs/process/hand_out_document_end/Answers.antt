@@ -1,5 +1,5 @@
 use Rattle.yaml_pen.proofs.Composing.{wrote_exit}
-use Rattle.yaml_emitter.proofs.HandingOut.{wrote_flushed}
+use Rattle.yaml_emitter.proofs.standing.HandingOut.{wrote_flushed}
 use Rattle.yaml_emitter.proofs.process.hand_out_document_end.Goals as goal
 
 pub returns-in_err-write_document_end-clause-written : goal.returns-in_err-write_document_end-clause-written

@@ -1,5 +1,5 @@
 use Rattle.std.proofs.Common.{refl, Some}
-use Rattle.yaml_emitter.proofs.StandingSet.{stands_inside}
+use Rattle.yaml_emitter.proofs.standing.StandingSet.{stands_inside}
 use Rattle.yaml_emitter.proofs.setters.yaml_emitter_set_indent.Goals as goal
 
 pub returns-clause-stands : goal.returns-clause-stands

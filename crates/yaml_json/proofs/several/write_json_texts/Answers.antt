@@ -1,5 +1,6 @@
 use Rattle.std.proofs.Common.{rules}
-use Rattle.yaml_json.proofs.TextsInTurn.{no_more, some_more, texts_begin, texts_done, texts_go_on}
+use Rattle.yaml_json.proofs.WroteLemmas.{bare_awaits_none}
+use Rattle.yaml_json.proofs.TextsInTurn.{no_more, some_more, texts_begin, texts_done, texts_go_on, texts_read}
 use Rattle.yaml_json.proofs.several.write_json_texts.Goals as goal
 
 pub texts-init : goal.texts-init
@@ -8,9 +9,15 @@ texts-init g c = (search rules, texts_begin c.args.depth c.args.in_flow c.args.t
 pub write_text_by-requires : goal.write_text_by-requires
 write_text_by-requires g c = c.texts.invariant.1.wrote.bare
 
-pub returns-then-is_empty : goal.returns-then-is_empty
-returns-then-is_empty g c =
+pub returns-then-is_empty-clause-written : goal.returns-then-is_empty-clause-written
+returns-then-is_empty-clause-written g c =
     texts_done c.args.depth c.args.in_flow c.args.text.now c.args.writer.now c.texts.rest.now c.first_cut.result.0.now c.first_cut.result.1.now
+    c.texts.writer c.write_text_by.new.writer c.first_cut.ensures.joined c.texts.invariant.1 c.in_default.ensures.written
+    (no_more c.first_cut.result.1.now c.is_empty.result c.is_empty.ensures c.if-is_empty.true)
+
+pub returns-then-is_empty-clause-reads : goal.returns-then-is_empty-clause-reads
+returns-then-is_empty-clause-reads g c =
+    texts_read c.args.depth c.args.in_flow c.args.text.now c.args.writer.now c.texts.rest.now c.first_cut.result.0.now c.first_cut.result.1.now
     c.texts.writer c.write_text_by.new.writer c.first_cut.ensures.joined c.texts.invariant.1 c.in_default.ensures.written
     (no_more c.first_cut.result.1.now c.is_empty.result c.is_empty.ensures c.if-is_empty.true)
 
@@ -23,5 +30,5 @@ texts-preserved g c = (
   search rules,
   texts_go_on c.args.depth c.args.in_flow c.args.text.now c.args.writer.now c.texts.rest.now c.first_cut.result.0.now c.first_cut.result.1.now
       c.texts.writer c.write_text_by.new.writer c.first_cut.ensures.joined c.texts.invariant.1 c.in_default.ensures.written c.next_document.result
-      c.next_document.new.self c.next_document.ensures,
+      c.next_document.new.self (c.next_document.ensures.passed (bare_awaits_none c.write_text_by.new.writer c.in_default.ensures.written.wrote.bare)),
 )

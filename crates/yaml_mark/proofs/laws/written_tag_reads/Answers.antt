@@ -1,4 +1,4 @@
-use Rattle.yaml_base.proofs.TagLaws as law
+use Rattle.yaml_base.proofs.TagReads as law
 use Rattle.yaml_mark.proofs.laws.written_tag_reads.Goals as goal
 
 pub returns : goal.returns

@@ -1,12 +1,17 @@
 //! Literal and folded scalars.
-ghost use Rattle.std.specs.Prelude.{◌≡◌, true, false};
+ghost use Rattle.std.specs.Prelude.{◌≡◌, pos, ◌≤ℤ◌, true, false};
 ghost use Rattle.std.specs.Str.{chars};
 ghost use Rattle.yaml_base.specs.Analysis.{is_empty};
+ghost use Rattle.yaml_pen.specs.Page.{IsReady};
 
-use super::{begun, begun_with_returns, begun_within};
-use std::alloc::Allocator;
+use super::{
+    begun, begun_with_returns, begun_within, check_cut, equal, finished, same, write_sign,
+};
+use std::alloc::{Allocator, Global};
+use std::process::Abort;
 use std::test::Fail;
 use yaml_base::yaml_error_t;
+use yaml_pen::Pen;
 use yaml_scalar::{
     analyze_scalar, write_block_scalar_hints, write_folded_scalar, write_literal_scalar,
 };
@@ -18,46 +23,80 @@ pub(super) fn is_allowed(value: &str) -> bool
     analyze_scalar(value, true, false).block_allowed
 }
 
-/// The text of a literal root, and the open mark; nothing and -1 where it isn't allowed.
-pub(super) fn literal<A: Allocator + Copy>(
-    alloc: A,
+// A literal value where it is allowed; the open mark, or -1.
+fn write_literal<A: Allocator>(
+    pen: &mut Pen<A>,
     value: &str,
-) -> Result<(Vec<u8, A>, i32), yaml_error_t> {
+    indent: i32,
+    best_indent: i32,
+) -> Result<i32, yaml_error_t>
+    requires ready { IsReady pen.old }
+    requires least { pos 2 ≤ℤ best_indent }
+    requires most { best_indent ≤ℤ pos 9 }
+    requires within { best_indent ≤ℤ indent }
+    ensures { IsReady pen.new }
+{
+    if is_allowed(value) {
+        return write_literal_scalar(pen, value, indent, best_indent);
+    }
+    Ok(-1)
+}
+
+// A folded value where it is allowed; the open mark, or -1.
+fn write_folded<A: Allocator>(
+    pen: &mut Pen<A>,
+    value: &str,
+    indent: i32,
+    best_indent: i32,
+    width: i32,
+) -> Result<i32, yaml_error_t>
+    requires ready { IsReady pen.old }
+    requires least { pos 2 ≤ℤ best_indent }
+    requires most { best_indent ≤ℤ pos 9 }
+    requires within { best_indent ≤ℤ indent }
+    ensures { IsReady pen.new }
+{
+    if is_allowed(value) {
+        return write_folded_scalar(pen, value, indent, best_indent, width);
+    }
+    Ok(-1)
+}
+
+/// The text of a literal root, and the open mark; nothing and -1 where it isn't allowed.
+pub(super) fn literal(alloc: Global, value: &str) -> Result<(Vec<u8>, i32), yaml_error_t> {
     let mut pen = begun(alloc)?;
-    let mark = if is_allowed(value) {
-        write_literal_scalar(&mut pen, value, 2, 2)?
-    } else {
-        -1
-    };
-    pen.flush()?;
-    Ok((
-        Vec::from_slice(alloc, pen.output()).map_err(|_| yaml_error_t::Memory)?,
-        mark,
-    ))
+    let mark = write_literal(&mut pen, value, 2, 2)?;
+    Ok((finished(alloc, &mut pen)?, mark))
 }
 
 /// The text of a folded root, and the open mark; nothing and -1 where it isn't allowed.
-pub(super) fn folded<A: Allocator + Copy>(
-    alloc: A,
+pub(super) fn folded(
+    alloc: Global,
     value: &str,
     width: i32,
-) -> Result<(Vec<u8, A>, i32), yaml_error_t> {
+) -> Result<(Vec<u8>, i32), yaml_error_t> {
     let mut pen = begun(alloc)?;
-    let mark = if is_allowed(value) {
-        write_folded_scalar(&mut pen, value, 2, 2, width)?
-    } else {
-        -1
-    };
-    pen.flush()?;
-    Ok((
-        Vec::from_slice(alloc, pen.output()).map_err(|_| yaml_error_t::Memory)?,
-        mark,
-    ))
+    let mark = write_folded(&mut pen, value, 2, 2, width)?;
+    Ok((finished(alloc, &mut pen)?, mark))
+}
+
+/// Values, each at a width, and what is written.
+type Rows<'a> = &'a [(&'a str, i32, &'a str)];
+
+fn check_folded(rt: &impl Abort, alloc: Global, rows: Rows) -> Result<(), Fail> {
+    for (value, width, text) in rows {
+        same(
+            rt,
+            folded(alloc, value, *width)?.0.as_slice(),
+            text.as_bytes(),
+        );
+    }
+    Ok(())
 }
 
 #[test]
 fn long_lines_are_folded_past_the_width(rt: HostRuntime) -> Result<(), Fail> {
-    for (value, width, text) in [
+    let rows: Rows = &[
         ("a\nb\n\n c\n", 80, ">\n  a\n\n  b\n\n   c\n"),
         (" aaaaaa b", 5, ">2-\n   aaaaaa b"),
         ("aaaaaa  b", 5, ">-\n  aaaaaa \n  b"),
@@ -66,28 +105,22 @@ fn long_lines_are_folded_past_the_width(rt: HostRuntime) -> Result<(), Fail> {
         ("aaaa b", i32::MAX, ">-\n  aaaa b"),
         ("a b\nc d", -1, ">-\n  a\n  b\n\n  c\n  d"),
         ("a\u{2028}b", 80, ">-\n  a\u{2028}  b"),
-    ] {
-        assert!(rt; is_allowed(value), "{value}");
-        assert!(rt;
-            folded(rt.alloc(), value, width)?.0.as_slice() == text.as_bytes(),
-            "{value}"
-        );
-    }
-    Ok(())
+    ];
+    check_folded(&rt, rt.alloc(), rows)
 }
 
 #[test]
 fn items_stand_at_their_indentation(rt: HostRuntime) -> Result<(), Fail> {
     let mut pen = begun(rt.alloc())?;
-    pen.write_indicator("-", true, false, true)?;
-    let value = " a\n b";
-    assert!(rt; is_allowed(value));
-    if is_allowed(value) {
-        assert_eq!(rt; write_literal_scalar(&mut pen, value, 6, 3), Ok(0));
-        assert_eq!(rt; write_folded_scalar(&mut pen, value, 6, 3, 80), Ok(0));
-    }
-    pen.flush()?;
-    assert!(rt; pen.output() == b"- |3-\n       a\n       b>3-\n       a\n       b".as_slice());
+    write_sign(&mut pen)?;
+    equal(&rt, &write_literal(&mut pen, " a\n b", 6, 3)?, &0);
+    equal(&rt, &write_folded(&mut pen, " a\n b", 6, 3, 80)?, &0);
+    let written = finished(rt.alloc(), &mut pen)?;
+    same(
+        &rt,
+        written.as_slice(),
+        b"- |3-\n       a\n       b>3-\n       a\n       b",
+    );
     Ok(())
 }
 
@@ -96,81 +129,97 @@ fn an_item_follows_its_sign(rt: HostRuntime) -> Result<(), Fail> {
     let mut pen = begun(rt.alloc())?;
     pen.put(b'-')?;
     pen.set_whitespace(false);
-    let value = " a";
-    assert!(rt; is_allowed(value));
-    if is_allowed(value) {
-        assert_eq!(rt; write_literal_scalar(&mut pen, value, 2, 2), Ok(0));
+    equal(&rt, &write_literal(&mut pen, " a", 2, 2)?, &0);
+    same(
+        &rt,
+        finished(rt.alloc(), &mut pen)?.as_slice(),
+        b"- |2-\n   a",
+    );
+    Ok(())
+}
+
+// The header of a value, and the open mark; nothing and -1 where no setting indents so.
+fn header(alloc: Global, value: &str, best_indent: i32) -> Result<(Vec<u8>, i32), yaml_error_t> {
+    let mut pen = begun(alloc)?;
+    if best_indent < 2 || best_indent > 9 {
+        return Ok((finished(alloc, &mut pen)?, -1));
     }
-    pen.flush()?;
-    assert!(rt; pen.output() == b"- |2-\n   a".as_slice());
+    let mark = write_block_scalar_hints(&mut pen, value, best_indent)?;
+    Ok((finished(alloc, &mut pen)?, mark))
+}
+
+/// Values, each at an indent, with their header and the open mark.
+type Headers<'a> = &'a [(&'a str, i32, &'a str, i32)];
+
+fn check_headers(rt: &impl Abort, alloc: Global, rows: Headers) -> Result<(), Fail> {
+    for (value, best_indent, hints, mark) in rows {
+        let written = header(alloc, value, *best_indent)?;
+        same(rt, written.0.as_slice(), hints.as_bytes());
+        equal(rt, &written.1, mark);
+    }
     Ok(())
 }
 
 #[test]
 fn hints_stand_alone(rt: HostRuntime) -> Result<(), Fail> {
-    for (value, best_indent, hints, mark) in [
+    let rows: Headers = &[
         ("a", 2, "-", 0),
         ("a\n", 2, "", 0),
         ("a\n\n", 2, "+", 2),
         (" a", 9, "9-", 0),
         ("\na\n", 4, "4", 0),
         ("\u{2028}", 3, "3+", 2),
-    ] {
-        let mut pen = begun(rt.alloc())?;
-        assert_eq!(rt;
-            write_block_scalar_hints(&mut pen, value, best_indent),
-            Ok(mark),
-            "{value}"
-        );
-        pen.flush()?;
-        assert!(rt; pen.output() == hints.as_bytes(), "{value}");
-    }
+    ];
+    check_headers(&rt, rt.alloc(), rows)
+}
+
+fn check_breaks(
+    rt: &impl Abort,
+    alloc: Global,
+    line_feed_too: bool,
+    text: &[u8],
+) -> Result<(), Fail> {
+    let mut pen = begun_with_returns(alloc, line_feed_too)?;
+    write_literal(&mut pen, "a\n", 2, 2)?;
+    same(rt, finished(alloc, &mut pen)?.as_slice(), text);
     Ok(())
 }
 
 #[test]
 fn line_breaks_are_those_of_the_setting(rt: HostRuntime) -> Result<(), Fail> {
-    let value = "a\n";
-    assert!(rt; is_allowed(value));
-    for (line_feed_too, text) in [(true, "|\r\n  a\r\n"), (false, "|\r  a\r")] {
-        let mut pen = begun_with_returns(rt.alloc(), line_feed_too)?;
-        if is_allowed(value) {
-            write_literal_scalar(&mut pen, value, 2, 2)?;
+    check_breaks(&rt, rt.alloc(), true, b"|\r\n  a\r\n")?;
+    check_breaks(&rt, rt.alloc(), false, b"|\r  a\r")
+}
+
+// The flush was refused, and each writer is.
+fn check_stopped(rt: &impl Abort, pen: &mut Pen<Global>)
+    requires { IsReady pen.old }
+{
+    let refused = Err(yaml_error_t::WriteError);
+    equal(rt, &write_folded(pen, "\na b", 2, 2, 2), &refused);
+    equal(rt, &write_literal(pen, "\na b", 2, 2), &refused);
+    equal(rt, &write_block_scalar_hints(pen, "a\n", 2), &refused);
+}
+
+fn check_limit(rt: &impl Abort, alloc: Global, limit: usize, text: &[u8]) -> Result<(), Fail> {
+    let mut pen = begun_within(alloc, limit)?;
+    equal(rt, &write_folded(&mut pen, "\na b", 2, 2, 2)?, &0);
+    match text.get(..limit) {
+        Some(cut) if limit < text.len() => {
+            check_cut(rt, &mut pen, cut);
+            check_stopped(rt, &mut pen);
+            same(rt, pen.output(), cut);
         }
-        pen.flush()?;
-        assert!(rt; pen.output() == text.as_bytes());
+        _ => same(rt, finished(alloc, &mut pen)?.as_slice(), text),
     }
     Ok(())
 }
 
 #[test]
 fn a_limit_cuts_and_stops(rt: HostRuntime) -> Result<(), Fail> {
-    let whole = b">2-\n\n  a\n  b";
-    let value = "\na b";
-    assert!(rt; is_allowed(value));
-    for limit in 0..=whole.len() {
-        let mut pen = begun_within(rt.alloc(), limit)?;
-        if is_allowed(value) {
-            assert_eq!(rt; write_folded_scalar(&mut pen, value, 2, 2, 2), Ok(0));
-            if limit < whole.len() {
-                assert_eq!(rt; pen.flush(), Err(yaml_error_t::WriteError));
-                assert_eq!(rt;
-                    write_folded_scalar(&mut pen, value, 2, 2, 2),
-                    Err(yaml_error_t::WriteError)
-                );
-                assert_eq!(rt;
-                    write_literal_scalar(&mut pen, value, 2, 2),
-                    Err(yaml_error_t::WriteError)
-                );
-                assert_eq!(rt;
-                    write_block_scalar_hints(&mut pen, "a\n", 2),
-                    Err(yaml_error_t::WriteError)
-                );
-            } else {
-                assert_eq!(rt; pen.flush(), Ok(()));
-            }
-        }
-        assert!(rt; pen.output() == &whole[..limit]);
+    let whole = b">2-\n\n  a\n  b".as_slice();
+    for limit in 0..whole.len().saturating_add(1) {
+        check_limit(&rt, rt.alloc(), limit, whole)?;
     }
     Ok(())
 }

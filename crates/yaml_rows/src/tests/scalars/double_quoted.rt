@@ -1,26 +1,39 @@
 //! Texts between double quotes that are known from outside.
-ghost use Rattle.std.specs.Prelude.{IfOk};
-ghost use Rattle.yaml_pen.specs.Page.{IsReady};
-
-use std::alloc::Allocator;
+use super::{begun, begun_with_returns, equal, finished, same};
+use std::alloc::Global;
+use std::process::Abort;
 use std::test::Fail;
-use yaml_base::{YAML_CRLN_BREAK, YAML_LN_BREAK, YAML_UTF8_ENCODING, yaml_error_t};
-use yaml_pen::Pen;
+use yaml_base::yaml_error_t;
 use yaml_scalar::write_double_quoted_scalar;
 
 const NO_WIDTH: i32 = i32::MAX;
 
-fn begun<A: Allocator + Copy>(alloc: A) -> Result<Pen<A>, yaml_error_t>
-    ensures { IfOk result (λ pen. IsReady pen) }
-{
-    let mut pen = Pen::new(alloc)?;
-    pen.begin(YAML_UTF8_ENCODING, YAML_LN_BREAK);
-    Ok(pen)
+// The text of a root, with line breaks or without, in ASCII or not.
+fn root(
+    alloc: Global,
+    value: &str,
+    (allow_breaks, unicode): (bool, bool),
+    width: i32,
+) -> Result<Vec<u8>, yaml_error_t> {
+    let mut pen = begun(alloc)?;
+    write_double_quoted_scalar(&mut pen, value, allow_breaks, unicode, 2, width)?;
+    finished(alloc, &mut pen)
+}
+
+/// Values, each in ASCII or not, and what is written.
+type Escapes<'a> = &'a [(&'a str, bool, &'a str)];
+
+fn check_escapes(rt: &impl Abort, alloc: Global, rows: Escapes) -> Result<(), Fail> {
+    for (value, unicode, expected) in rows {
+        let written = root(alloc, value, (true, *unicode), NO_WIDTH)?;
+        same(rt, written.as_slice(), expected.as_bytes());
+    }
+    Ok(())
 }
 
 #[test]
 fn each_escape_is_written(rt: HostRuntime) -> Result<(), Fail> {
-    for (value, unicode, expected) in [
+    let rows: Escapes = &[
         (
             "\0\u{7}\u{8}\t\n\u{B}\u{C}\r",
             true,
@@ -48,19 +61,32 @@ fn each_escape_is_written(rt: HostRuntime) -> Result<(), Fail> {
         ("\0\u{7}\"\\\u{85}\u{7F}", false, r#""\0\a\"\\\N\x7F""#),
         ("", false, r#""""#),
         (" \n", false, r#"" \n""#),
-    ] {
-        let mut pen = begun(rt.alloc())?;
-        write_double_quoted_scalar(&mut pen, value, true, unicode, 2, NO_WIDTH)?;
-        pen.flush()?;
-        assert_eq!(rt; pen.output(), expected.as_bytes());
-        assert!(rt; !pen.whitespace() && !pen.indention());
+    ];
+    check_escapes(&rt, rt.alloc(), rows)
+}
+
+#[test]
+fn the_last_quote_is_no_space(rt: HostRuntime) -> Result<(), Fail> {
+    let mut pen = begun(rt.alloc())?;
+    write_double_quoted_scalar(&mut pen, " \n", true, false, 2, NO_WIDTH)?;
+    assert!(rt; !pen.whitespace() && !pen.indention());
+    Ok(())
+}
+
+/// Values, each with line breaks or without, at a width, and what is written.
+type Folds<'a> = &'a [(&'a str, bool, i32, &'a str)];
+
+fn check_folds(rt: &impl Abort, alloc: Global, rows: Folds) -> Result<(), Fail> {
+    for (value, allow_breaks, width, expected) in rows {
+        let written = root(alloc, value, (*allow_breaks, false), *width)?;
+        same(rt, written.as_slice(), expected.as_bytes());
     }
     Ok(())
 }
 
 #[test]
 fn folds_stand_past_the_width(rt: HostRuntime) -> Result<(), Fail> {
-    for (value, allow_breaks, width, expected) in [
+    let rows: Folds = &[
         ("aaaaaa  b", true, 5, "\"aaaaaa\n  \\ b\""),
         ("aaaaaa b cccc d", true, 5, "\"aaaaaa\n  b cccc\n  d\""),
         ("aaaaaa b", false, 5, "\"aaaaaa b\""),
@@ -72,24 +98,18 @@ fn folds_stand_past_the_width(rt: HostRuntime) -> Result<(), Fail> {
         (" a", true, -1, "\" a\""),
         ("a b", true, -1, "\"a\n  b\""),
         ("a\nb c", true, 3, "\"a\\nb\n  c\""),
-    ] {
-        let mut pen = begun(rt.alloc())?;
-        write_double_quoted_scalar(&mut pen, value, allow_breaks, false, 2, width)?;
-        pen.flush()?;
-        assert_eq!(rt; pen.output(), expected.as_bytes());
-    }
-    Ok(())
+    ];
+    check_folds(&rt, rt.alloc(), rows)
 }
 
 #[test]
 fn a_space_goes_before_the_quote(rt: HostRuntime) -> Result<(), Fail> {
-    let mut pen = Pen::new(rt.alloc())?;
-    pen.begin(YAML_UTF8_ENCODING, YAML_CRLN_BREAK);
+    let mut pen = begun_with_returns(rt.alloc(), true)?;
     pen.put(b'-')?;
     pen.set_whitespace(false);
     write_double_quoted_scalar(&mut pen, "aaaa b", true, false, 4, 3)?;
-    pen.flush()?;
-    assert_eq!(rt; pen.output(), b"- \"aaaa\r\n    b\"".as_slice());
-    assert_eq!(rt; pen.column(), 6);
+    equal(&rt, &pen.column(), &6);
+    let written = finished(rt.alloc(), &mut pen)?;
+    same(&rt, written.as_slice(), b"- \"aaaa\r\n    b\"");
     Ok(())
 }

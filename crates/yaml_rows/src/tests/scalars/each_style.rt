@@ -1,7 +1,8 @@
 //! Short values in each style that they allow.
 use super::block::{folded, literal};
-use super::{begun, short_block, short_quoted};
-use std::alloc::Allocator;
+use super::{begun, equal, finished, same, short_block, short_quoted};
+use std::alloc::Global;
+use std::process::Abort;
 use std::test::Fail;
 use yaml_base::yaml_error_t;
 use yaml_scalar::{
@@ -9,7 +10,7 @@ use yaml_scalar::{
 };
 
 // What the signs of a table stand for.
-fn meant<A: Allocator>(alloc: A, signs: &str) -> Result<String<A>, yaml_error_t> {
+fn meant(alloc: Global, signs: &str) -> Result<String, Fail> {
     let mut text = String::new(alloc);
     for sign in signs.chars() {
         let c = match sign {
@@ -17,50 +18,36 @@ fn meant<A: Allocator>(alloc: A, signs: &str) -> Result<String<A>, yaml_error_t>
             '~' => '\u{2028}',
             other => other,
         };
-        text.push(c).map_err(|_| yaml_error_t::Memory)?;
+        text.push(c)?;
     }
     Ok(text)
 }
 
 // A plain root, or `None` where it isn't allowed.
-fn plain<A: Allocator + Copy>(
-    alloc: A,
-    value: &str,
-    width: i32,
-) -> Result<Option<Vec<u8, A>>, yaml_error_t> {
+fn plain(alloc: Global, value: &str, width: i32) -> Result<Option<Vec<u8>>, yaml_error_t> {
     if !analyze_scalar(value, true, false).block_plain_allowed {
         return Ok(None);
     }
     let mut pen = begun(alloc)?;
     write_plain_scalar(&mut pen, value, true, false, 2, width)?;
-    pen.flush()?;
-    Ok(Some(Vec::from_slice(alloc, pen.output()).map_err(|_| yaml_error_t::Memory)?))
+    Ok(Some(finished(alloc, &mut pen)?))
 }
 
 // A root between single quotes, or nothing where they aren't allowed.
-fn single<A: Allocator + Copy>(
-    alloc: A,
-    value: &str,
-    width: i32,
-) -> Result<Vec<u8, A>, yaml_error_t> {
-    let mut pen = begun(alloc)?;
-    if analyze_scalar(value, true, false).single_quoted_allowed {
-        write_single_quoted_scalar(&mut pen, value, true, 2, width)?;
+fn single(alloc: Global, value: &str, width: i32) -> Result<Vec<u8>, yaml_error_t> {
+    if !analyze_scalar(value, true, false).single_quoted_allowed {
+        return Ok(Vec::new(alloc));
     }
-    pen.flush()?;
-    Vec::from_slice(alloc, pen.output()).map_err(|_| yaml_error_t::Memory)
+    let mut pen = begun(alloc)?;
+    write_single_quoted_scalar(&mut pen, value, true, 2, width)?;
+    finished(alloc, &mut pen)
 }
 
 // A root between double quotes.
-fn double<A: Allocator + Copy>(
-    alloc: A,
-    value: &str,
-    width: i32,
-) -> Result<Vec<u8, A>, yaml_error_t> {
+fn double(alloc: Global, value: &str, width: i32) -> Result<Vec<u8>, yaml_error_t> {
     let mut pen = begun(alloc)?;
     write_double_quoted_scalar(&mut pen, value, true, true, 2, width)?;
-    pen.flush()?;
-    Vec::from_slice(alloc, pen.output()).map_err(|_| yaml_error_t::Memory)
+    finished(alloc, &mut pen)
 }
 
 // The open mark after a block text: 2 where its header keeps all final breaks; -1 where there is no text.
@@ -75,81 +62,114 @@ fn is_listed(signs: &str, list: &[&str]) -> bool {
     list.iter().any(|member| *member == signs)
 }
 
+// A value is plain, as it is, or isn't allowed to be.
+fn check_plain(rt: &impl Abort, alloc: Global, signs: &str, width: i32) -> Result<(), Fail> {
+    let value = meant(alloc, signs)?;
+    let may_be_plain = is_listed(signs, short_quoted::PLAIN);
+    match plain(alloc, value.as_str(), width)? {
+        Some(text) => {
+            equal(rt, &may_be_plain, &true);
+            same(rt, text.as_slice(), signs.as_bytes());
+        }
+        None => equal(rt, &may_be_plain, &false),
+    }
+    Ok(())
+}
+
 // One value plain and between quotes, at one width.
-fn agrees_in_quotes<A: Allocator + Copy>(
-    alloc: A,
+fn check_in_quotes(
+    rt: &impl Abort,
+    alloc: Global,
     row: &short_quoted::Row,
     width: i32,
-) -> Result<bool, yaml_error_t> {
+) -> Result<(), Fail> {
     let (signs, as_single, as_double) = *row;
+    check_plain(rt, alloc, signs, width)?;
     let value = meant(alloc, signs)?;
-    let between_single = meant(alloc, as_single)?;
-    let may_be_plain = is_listed(signs, short_quoted::PLAIN);
-    let plainly = match plain(alloc, value.as_str(), width)? {
-        Some(text) => may_be_plain && text.as_slice() == signs.as_bytes(),
-        None => !may_be_plain,
-    };
-    Ok(
-        plainly
-            && single(alloc, value.as_str(), width)?.as_slice()
-                == between_single.as_str().as_bytes()
-            && double(alloc, value.as_str(), width)?.as_slice() == as_double.as_bytes(),
-    )
+    let wanted = meant(alloc, as_single)?;
+    let written = single(alloc, value.as_str(), width)?;
+    same(rt, written.as_slice(), wanted.as_str().as_bytes());
+    same(
+        rt,
+        double(alloc, value.as_str(), width)?.as_slice(),
+        as_double.as_bytes(),
+    );
+    Ok(())
+}
+
+// A text and an open mark, against the signs of a table.
+fn check_lines(
+    rt: &impl Abort,
+    alloc: Global,
+    written: &(Vec<u8>, i32),
+    signs: &str,
+    mark: i32,
+) -> Result<(), Fail> {
+    same(
+        rt,
+        written.0.as_slice(),
+        meant(alloc, signs)?.as_str().as_bytes(),
+    );
+    equal(rt, &written.1, &mark);
+    Ok(())
 }
 
 // One value literal and folded, at one width.
-fn agrees_in_lines<A: Allocator + Copy>(
-    alloc: A,
+fn check_in_lines(
+    rt: &impl Abort,
+    alloc: Global,
     row: &short_block::Row,
     width: i32,
-) -> Result<bool, yaml_error_t> {
+) -> Result<(), Fail> {
     let (signs, as_literal, as_folded) = *row;
     let value = meant(alloc, signs)?;
-    let in_lines = meant(alloc, as_literal)?;
-    let cut = meant(alloc, as_folded)?;
     let mark = mark_after(as_literal);
-    let literally = literal(alloc, value.as_str())?;
-    let folding = folded(alloc, value.as_str(), width)?;
-    Ok(
-        literally.0.as_slice() == in_lines.as_str().as_bytes()
-            && folding.0.as_slice() == cut.as_str().as_bytes()
-            && literally.1 == mark
-            && folding.1 == mark,
+    check_lines(
+        rt,
+        alloc,
+        &literal(alloc, value.as_str())?,
+        as_literal,
+        mark,
+    )?;
+    check_lines(
+        rt,
+        alloc,
+        &folded(alloc, value.as_str(), width)?,
+        as_folded,
+        mark,
     )
+}
+
+fn check_quotes(rt: &impl Abort, alloc: Global, rows: &[short_quoted::Row]) -> Result<(), Fail> {
+    for row in rows {
+        check_in_quotes(rt, alloc, row, 5)?;
+        check_in_quotes(rt, alloc, row, i32::MAX)?;
+    }
+    Ok(())
 }
 
 #[test]
 fn short_values_stand_plain_and_between_quotes(rt: HostRuntime) -> Result<(), Fail> {
-    for rows in [
-        short_quoted::SHORTEST,
-        short_quoted::FOUR_AFTER_SPACE,
-        short_quoted::FOUR_AFTER_FEED,
-        short_quoted::FOUR_AFTER_LETTER,
-        short_quoted::FOUR_AFTER_SEPARATOR,
-    ] {
-        for row in rows {
-            for width in [5, i32::MAX] {
-                assert!(rt; agrees_in_quotes(rt.alloc(), row, width)?, "{}", row.0);
-            }
-        }
+    check_quotes(&rt, rt.alloc(), short_quoted::SHORTEST)?;
+    check_quotes(&rt, rt.alloc(), short_quoted::FOUR_AFTER_SPACE)?;
+    check_quotes(&rt, rt.alloc(), short_quoted::FOUR_AFTER_FEED)?;
+    check_quotes(&rt, rt.alloc(), short_quoted::FOUR_AFTER_LETTER)?;
+    check_quotes(&rt, rt.alloc(), short_quoted::FOUR_AFTER_SEPARATOR)
+}
+
+fn check_blocks(rt: &impl Abort, alloc: Global, rows: &[short_block::Row]) -> Result<(), Fail> {
+    for row in rows {
+        check_in_lines(rt, alloc, row, 5)?;
+        check_in_lines(rt, alloc, row, i32::MAX)?;
     }
     Ok(())
 }
 
 #[test]
 fn short_values_stand_in_lines(rt: HostRuntime) -> Result<(), Fail> {
-    for rows in [
-        short_block::SHORTEST,
-        short_block::FOUR_AFTER_SPACE,
-        short_block::FOUR_AFTER_FEED,
-        short_block::FOUR_AFTER_LETTER,
-        short_block::FOUR_AFTER_SEPARATOR,
-    ] {
-        for row in rows {
-            for width in [5, i32::MAX] {
-                assert!(rt; agrees_in_lines(rt.alloc(), row, width)?, "{}", row.0);
-            }
-        }
-    }
-    Ok(())
+    check_blocks(&rt, rt.alloc(), short_block::SHORTEST)?;
+    check_blocks(&rt, rt.alloc(), short_block::FOUR_AFTER_SPACE)?;
+    check_blocks(&rt, rt.alloc(), short_block::FOUR_AFTER_FEED)?;
+    check_blocks(&rt, rt.alloc(), short_block::FOUR_AFTER_LETTER)?;
+    check_blocks(&rt, rt.alloc(), short_block::FOUR_AFTER_SEPARATOR)
 }

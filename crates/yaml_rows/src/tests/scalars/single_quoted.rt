@@ -1,26 +1,47 @@
 //! Single-quoted scalars.
-use super::{begun, begun_with_returns, begun_within};
-use std::alloc::Allocator;
+use super::{
+    begun, begun_with_returns, begun_within, check_column, check_cut, equal, finished, same,
+    write_sign,
+};
+use std::alloc::Global;
+use std::process::Abort;
 use std::test::Fail;
 use yaml_base::yaml_error_t;
 use yaml_scalar::{analyze_scalar, write_single_quoted_scalar};
 
 // The text of a root.
-fn root<A: Allocator + Copy>(
-    alloc: A,
+fn root(
+    alloc: Global,
     value: &str,
     allow_breaks: bool,
     width: i32,
-) -> Result<Vec<u8, A>, yaml_error_t> {
+) -> Result<Vec<u8>, yaml_error_t> {
     let mut pen = begun(alloc)?;
     write_single_quoted_scalar(&mut pen, value, allow_breaks, 2, width)?;
-    pen.flush()?;
-    Vec::from_slice(alloc, pen.output()).map_err(|_| yaml_error_t::Memory)
+    finished(alloc, &mut pen)
+}
+
+/// Values, each at a width, and what is written.
+type Rows<'a> = &'a [(&'a str, i32, &'a str)];
+
+fn check_roots(rt: &impl Abort, alloc: Global, rows: Rows) -> Result<(), Fail> {
+    for (value, width, written) in rows {
+        assert!(rt;
+            analyze_scalar(value, true, false).single_quoted_allowed,
+            "{value}"
+        );
+        same(
+            rt,
+            root(alloc, value, true, *width)?.as_slice(),
+            written.as_bytes(),
+        );
+    }
+    Ok(())
 }
 
 #[test]
 fn roots_stand_between_quotes(rt: HostRuntime) -> Result<(), Fail> {
-    for (value, width, written) in [
+    let rows: Rows = &[
         ("", 80, "''"),
         (" ", 0, "' '"),
         ("'", 80, "''''"),
@@ -38,61 +59,59 @@ fn roots_stand_between_quotes(rt: HostRuntime) -> Result<(), Fail> {
         ("aaaaa b", i32::MAX, "'aaaaa b'"),
         ("a''' b c", 5, "'a''''''\n  b c'"),
         ("aaaaaa  b", 5, "'aaaaaa  b'"),
-    ] {
-        assert!(rt;
-            analyze_scalar(value, true, false).single_quoted_allowed,
-            "{value}"
-        );
-        assert!(rt;
-            root(rt.alloc(), value, true, width)?.as_slice() == written.as_bytes(),
-            "{value}"
-        );
-    }
-    Ok(())
+    ];
+    check_roots(&rt, rt.alloc(), rows)
 }
 
 #[test]
 fn simple_keys_never_fold(rt: HostRuntime) -> Result<(), Fail> {
-    assert!(rt; root(rt.alloc(), "aaaaa b", false, 5)?.as_slice() == "'aaaaa b'".as_bytes());
+    same(
+        &rt,
+        root(rt.alloc(), "aaaaa b", false, 5)?.as_slice(),
+        b"'aaaaa b'",
+    );
     Ok(())
 }
 
 #[test]
-#[tactic(auto, using(yaml_base::proofs::Literals::literal_unbroken))]
 fn a_space_stands_before_the_quote(rt: HostRuntime) -> Result<(), Fail> {
     let mut pen = begun(rt.alloc())?;
-    pen.write_indicator("-", true, false, true)?;
+    write_sign(&mut pen)?;
     write_single_quoted_scalar(&mut pen, "b\nc", true, 4, 80)?;
-    assert_eq!(rt;
-        (pen.column(), pen.whitespace(), pen.indention()),
-        (6, false, false)
+    check_column(&rt, &pen, 6);
+    same(
+        &rt,
+        finished(rt.alloc(), &mut pen)?.as_slice(),
+        b"- 'b\n\n    c'",
     );
-    pen.flush()?;
-    assert!(rt; pen.output() == "- 'b\n\n    c'".as_bytes());
+    Ok(())
+}
+
+fn check_breaks(
+    rt: &impl Abort,
+    alloc: Global,
+    line_feed_too: bool,
+    written: &[u8],
+) -> Result<(), Fail> {
+    let mut pen = begun_with_returns(alloc, line_feed_too)?;
+    write_single_quoted_scalar(&mut pen, "a\nb  c", true, 2, 80)?;
+    same(rt, finished(alloc, &mut pen)?.as_slice(), written);
     Ok(())
 }
 
 #[test]
 fn breaks_are_written_as_set(rt: HostRuntime) -> Result<(), Fail> {
-    let expected: [(bool, &[u8]); 2] = [(true, b"'a\r\n\r\n  b  c'"), (false, b"'a\r\r  b  c'")];
-    for (line_feed_too, written) in expected {
-        let mut pen = begun_with_returns(rt.alloc(), line_feed_too)?;
-        write_single_quoted_scalar(&mut pen, "a\nb  c", true, 2, 80)?;
-        pen.flush()?;
-        assert!(rt; pen.output() == written);
-    }
-    Ok(())
+    check_breaks(&rt, rt.alloc(), true, b"'a\r\n\r\n  b  c'")?;
+    check_breaks(&rt, rt.alloc(), false, b"'a\r\r  b  c'")
 }
 
 #[test]
 fn a_limit_cuts_and_is_told_again(rt: HostRuntime) -> Result<(), Fail> {
     let mut pen = begun_within(rt.alloc(), 3)?;
     write_single_quoted_scalar(&mut pen, "ab", true, 2, 80)?;
-    assert_eq!(rt; pen.flush(), Err(yaml_error_t::WriteError));
-    assert_eq!(rt;
-        write_single_quoted_scalar(&mut pen, "c", true, 2, 80),
-        Err(yaml_error_t::WriteError)
-    );
-    assert!(rt; pen.output() == "'ab".as_bytes());
+    check_cut(&rt, &mut pen, b"'ab");
+    let answer = write_single_quoted_scalar(&mut pen, "c", true, 2, 80);
+    equal(&rt, &answer, &Err(yaml_error_t::WriteError));
+    same(&rt, pen.output(), b"'ab");
     Ok(())
 }

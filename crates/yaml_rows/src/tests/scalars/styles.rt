@@ -1,15 +1,31 @@
 //! Styles that are known from outside, from the value to the choice.
+use super::equal;
+use std::process::Abort;
 use std::test::Fail;
 use yaml_base::{
     YAML_ANY_SCALAR_STYLE, YAML_DOUBLE_QUOTED_SCALAR_STYLE, YAML_FOLDED_SCALAR_STYLE,
     YAML_LITERAL_SCALAR_STYLE, YAML_PLAIN_SCALAR_STYLE, YAML_SINGLE_QUOTED_SCALAR_STYLE,
-    yaml_error_t,
+    yaml_error_t, yaml_scalar_style_t,
 };
 use yaml_scalar::{analyze_scalar, select_scalar_style};
 
+/// A value, whether unicode and the line breaks of YAML 1.2 are on; whether it has several lines; what may hold it:
+/// plain in flow, plain in block, single quotes, a block.
+type Analysis<'a> = (&'a str, bool, bool, bool, bool, bool, bool, bool);
+
+fn check_analysis(rt: &impl Abort, row: &Analysis) {
+    let (value, unicode, breaks12, multiline, flow, block, single, lines) = *row;
+    let data = analyze_scalar(value, unicode, breaks12);
+    equal(rt, &(value, data.multiline), &(value, multiline));
+    equal(rt, &(value, data.flow_plain_allowed), &(value, flow));
+    equal(rt, &(value, data.block_plain_allowed), &(value, block));
+    equal(rt, &(value, data.single_quoted_allowed), &(value, single));
+    equal(rt, &(value, data.block_allowed), &(value, lines));
+}
+
 #[test]
 fn values_are_analysed(rt: HostRuntime) -> Result<(), Fail> {
-    for (value, unicode, breaks12, multiline, flow, block, single, lines) in [
+    let rows: &[Analysis] = &[
         ("foo", false, false, false, true, true, true, true),
         ("", false, false, false, false, true, true, false),
         ("a:", false, false, false, false, false, true, true),
@@ -24,149 +40,85 @@ fn values_are_analysed(rt: HostRuntime) -> Result<(), Fail> {
         ("a\u{2028}b", true, false, true, false, false, true, true),
         ("a\u{2028}b", true, true, true, false, false, false, false),
         ("\t", true, false, false, false, false, false, false),
-    ] {
-        let data = analyze_scalar(value, unicode, breaks12);
-        assert_eq!(rt; data.multiline, multiline, "multiline of {value}");
-        assert_eq!(rt; data.flow_plain_allowed, flow, "plain in flow of {value}");
-        assert_eq!(rt;
-            data.block_plain_allowed,
-            block,
-            "plain in block of {value}"
-        );
-        assert_eq!(rt;
-            data.single_quoted_allowed,
-            single,
-            "single quotes of {value}"
-        );
-        assert_eq!(rt; data.block_allowed, lines, "block of {value}");
+    ];
+    for row in rows {
+        check_analysis(&rt, row);
     }
     Ok(())
 }
 
+const ANY: yaml_scalar_style_t = YAML_ANY_SCALAR_STYLE;
+
+const PLAIN: yaml_scalar_style_t = YAML_PLAIN_SCALAR_STYLE;
+
+const SINGLE: yaml_scalar_style_t = YAML_SINGLE_QUOTED_SCALAR_STYLE;
+
+const DOUBLE: yaml_scalar_style_t = YAML_DOUBLE_QUOTED_SCALAR_STYLE;
+
+const LITERAL: yaml_scalar_style_t = YAML_LITERAL_SCALAR_STYLE;
+
+const FOLDED: yaml_scalar_style_t = YAML_FOLDED_SCALAR_STYLE;
+
+/// A style, and whether the bare tag `!` goes before it; or an error.
+type Choice = Result<(yaml_scalar_style_t, bool), yaml_error_t>;
+
+/// A value, the style asked for, its two flags; whether it stands in flow, is a simple key, and is canonical.
+type Asked<'a> = (&'a str, yaml_scalar_style_t, (bool, bool), bool, bool, bool);
+
+// `tagged` where the value has a tag.
+fn choice(asked: &Asked, tagged: bool) -> Choice {
+    let (value, style, (plain, quoted), flow, key, canonical) = *asked;
+    let data = analyze_scalar(value, false, false);
+    let empty = value.is_empty();
+    select_scalar_style(
+        style, &data, empty, tagged, plain, quoted, flow, key, canonical,
+    )
+}
+
+fn check_choices(rt: &impl Abort, rows: &[(Asked, (yaml_scalar_style_t, bool))]) {
+    for (asked, expected) in rows {
+        equal(rt, &choice(asked, false), &Ok(*expected));
+    }
+}
+
 #[test]
 fn styles_are_chosen(rt: HostRuntime) -> Result<(), Fail> {
-    for (value, asked, flags, flow, key, canonical, expected) in [
+    let rows: &[(Asked, (yaml_scalar_style_t, bool))] = &[
         (
-            "foo",
-            YAML_ANY_SCALAR_STYLE,
-            (true, true),
-            false,
-            false,
-            false,
-            (YAML_PLAIN_SCALAR_STYLE, false),
+            ("foo", ANY, (true, true), false, false, false),
+            (PLAIN, false),
         ),
         (
-            "a:",
-            YAML_ANY_SCALAR_STYLE,
-            (true, false),
-            false,
-            false,
-            false,
-            (YAML_SINGLE_QUOTED_SCALAR_STYLE, true),
+            ("a:", ANY, (true, false), false, false, false),
+            (SINGLE, true),
         ),
         (
-            "foo",
-            YAML_PLAIN_SCALAR_STYLE,
-            (false, true),
-            false,
-            false,
-            false,
-            (YAML_SINGLE_QUOTED_SCALAR_STYLE, false),
+            ("foo", PLAIN, (false, true), false, false, false),
+            (SINGLE, false),
+        ),
+        (("", ANY, (true, true), true, false, false), (SINGLE, false)),
+        (("", ANY, (true, true), false, false, false), (PLAIN, false)),
+        (
+            ("a", ANY, (true, false), false, false, true),
+            (DOUBLE, true),
         ),
         (
-            "",
-            YAML_ANY_SCALAR_STYLE,
-            (true, true),
-            true,
-            false,
-            false,
-            (YAML_SINGLE_QUOTED_SCALAR_STYLE, false),
+            ("a\nb", LITERAL, (true, true), false, true, false),
+            (DOUBLE, false),
         ),
         (
-            "",
-            YAML_ANY_SCALAR_STYLE,
-            (true, true),
-            false,
-            false,
-            false,
-            (YAML_PLAIN_SCALAR_STYLE, false),
+            ("a\nb", LITERAL, (true, true), false, false, false),
+            (LITERAL, false),
         ),
         (
-            "a",
-            YAML_ANY_SCALAR_STYLE,
-            (true, false),
-            false,
-            false,
-            true,
-            (YAML_DOUBLE_QUOTED_SCALAR_STYLE, true),
+            ("a", FOLDED, (true, true), true, false, false),
+            (DOUBLE, false),
         ),
-        (
-            "a\nb",
-            YAML_LITERAL_SCALAR_STYLE,
-            (true, true),
-            false,
-            true,
-            false,
-            (YAML_DOUBLE_QUOTED_SCALAR_STYLE, false),
-        ),
-        (
-            "a\nb",
-            YAML_LITERAL_SCALAR_STYLE,
-            (true, true),
-            false,
-            false,
-            false,
-            (YAML_LITERAL_SCALAR_STYLE, false),
-        ),
-        (
-            "a",
-            YAML_FOLDED_SCALAR_STYLE,
-            (true, true),
-            true,
-            false,
-            false,
-            (YAML_DOUBLE_QUOTED_SCALAR_STYLE, false),
-        ),
-    ] {
-        let data = analyze_scalar(value, false, false);
-        let (plain, quoted) = flags;
-        let chosen = select_scalar_style(
-            asked,
-            &data,
-            value.is_empty(),
-            false,
-            plain,
-            quoted,
-            flow,
-            key,
-            canonical,
-        );
-        assert_eq!(rt; chosen, Ok(expected), "the style of {value}");
-    }
-    let data = analyze_scalar("x", false, false);
-    let tagged = select_scalar_style(
-        YAML_ANY_SCALAR_STYLE,
-        &data,
-        false,
-        true,
-        false,
-        false,
-        false,
-        false,
-        false,
-    );
-    assert_eq!(rt; tagged, Ok((YAML_PLAIN_SCALAR_STYLE, false)));
-    let neither = select_scalar_style(
-        YAML_ANY_SCALAR_STYLE,
-        &data,
-        false,
-        false,
-        false,
-        false,
-        false,
-        false,
-        false,
-    );
-    assert_eq!(rt; neither, Err(yaml_error_t::NoTagNorImplicit));
+    ];
+    check_choices(&rt, rows);
+    let neither = ("x", ANY, (false, false), false, false, false);
+    equal(&rt, &choice(&neither, true), &Ok((PLAIN, false)));
+    let refused = Err(yaml_error_t::NoTagNorImplicit);
+    equal(&rt, &choice(&neither, false), &refused);
     Ok(())
 }

@@ -10,8 +10,8 @@ use Rattle.yaml_tool.specs.Runs.{events_in, LastLine}
 use Rattle.yaml_tool.proofs.RunLemmas.{some_told, events_more, parts_more, ends_more, refused_at, ended_with, ended_without}
 use Rattle.yaml_tool.proofs.runs.emit_all.Goals as goal
 
-pub returns-in-Err : goal.returns-in-Err
-returns-in-Err g c given stands =
+pub returns-in-Err-clause-emits : goal.returns-in-Err-clause-emits
+returns-in-Err-clause-emits g c given stands =
     let now = c.loop-numbered in
     let stood = now.invariant.5 given stands in
     inl
@@ -34,10 +34,11 @@ loop-numbered-preserved g c =
           subst (λ events. StandsAfter given events c.yaml_emitter_emit.new.emitter) (events_more now.yielded c.in-Some.numbered)
           (c.yaml_emitter_emit.ensures.stands given (events_in (map seen_numbered now.yielded)) (now.invariant.5 given stands)),
       ends_more now.yielded c.in-Some.numbered,
+      c.yaml_emitter_emit.ensures.set.taken ∙ now.invariant.7,
     )
 
-pub returns-in-Some-last : goal.returns-in-Some-last
-returns-in-Some-last g c given stands =
+pub returns-in-Some-last-clause-emits : goal.returns-in-Some-last-clause-emits
+returns-in-Some-last-clause-emits g c given stands =
     let now = c.loop-numbered in
     let road = YieldsList-from_vec {s = c.into_iter-numbered-iterator.result} c.args.events.items c.into_iter-numbered-iterator.ensures.into_iter_gives.0
     (c.into_iter-numbered-iterator.ensures.into_iter_gives.1 ∙ c.args.events.ok.0) in
@@ -47,10 +48,10 @@ returns-in-Some-last g c given stands =
     ended_with given (map seen_numbered c.args.events.items) c.in-Some-last.line now.last c.flush_last.result now.emitter c.flush_last.new.emitter
     c.in-Some-last.is
     (subst (λ all. StandsAfter given (events_in all) now.emitter) whole (now.invariant.5 given stands)) now.invariant.3
-    (subst (λ all. LastLine all now.last now.emitter) whole now.invariant.6) c.flush_last.ensures
+    (subst (λ all. LastLine all now.last now.emitter) whole now.invariant.6) c.flush_last.ensures.flushed
 
-pub returns-in-None-last : goal.returns-in-None-last
-returns-in-None-last g c given stands =
+pub returns-in-None-last-clause-emits : goal.returns-in-None-last-clause-emits
+returns-in-None-last-clause-emits g c given stands =
     let now = c.loop-numbered in
     let road = YieldsList-from_vec {s = c.into_iter-numbered-iterator.result} c.args.events.items c.into_iter-numbered-iterator.ensures.into_iter_gives.0
     (c.into_iter-numbered-iterator.ensures.into_iter_gives.1 ∙ c.args.events.ok.0) in
@@ -61,3 +62,12 @@ returns-in-None-last g c given stands =
     ended_without given (map seen_numbered c.args.events.items) now.last now.emitter c.in-None-last.is stood
     (c.standing_is_promised.ensures given (events_in (map seen_numbered c.args.events.items)) now.emitter stood) now.invariant.3
     (subst (λ all. LastLine all now.last now.emitter) whole now.invariant.6)
+
+pub returns-in-Err-clause-taken : goal.returns-in-Err-clause-taken
+returns-in-Err-clause-taken g c = c.yaml_emitter_emit.ensures.set.taken ∙ c.loop-numbered.invariant.7
+
+pub returns-in-Some-last-clause-taken : goal.returns-in-Some-last-clause-taken
+returns-in-Some-last-clause-taken g c = c.flush_last.ensures.taken ∙ c.loop-numbered.invariant.7
+
+pub returns-in-None-last-clause-taken : goal.returns-in-None-last-clause-taken
+returns-in-None-last-clause-taken g c = c.loop-numbered.invariant.7

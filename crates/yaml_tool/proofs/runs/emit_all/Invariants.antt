@@ -15,3 +15,4 @@ invariant-loop-numbered g l =
     × (l.yielded ++ into_iter_items l.numbered-iterator ≡ l.fn.events.items)
     × ((given : Settings) → StandsAfter given [] l.initial.emitter → StandsAfter given (events_in (map seen_numbered l.yielded)) l.emitter)
     × LastLine (map seen_numbered l.yielded) l.last l.emitter
+    × (l.emitter.page.taken ≡ l.initial.emitter.page.taken)

@@ -3,8 +3,8 @@ use Rattle.yaml_base.specs.declared.errors.yaml_error_t.{yaml_error_t}
 use Rattle.yaml_tool.proofs.RunLemmas.{some_told}
 use Rattle.yaml_tool.proofs.runs.flush_last.Goals as goal
 
-pub returns-in-Err : goal.returns-in-Err
-returns-in-Err g c = (
+pub returns-in-Err-clause-flushed : goal.returns-in-Err-clause-flushed
+returns-in-Err-clause-flushed g c = (
   refl,
   some_told c.yaml_emitter_flush.new.emitter.error c.in-Err.error c.in-Err.ensures.answered,
   c.yaml_emitter_flush.ensures.grows,

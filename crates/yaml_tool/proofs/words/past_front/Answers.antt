@@ -1,7 +1,8 @@
 use Rattle.std.proofs.Common.{◌≡◌, length, take, sym, subst, ap, ◌∙◌}
 use Rattle.std.proofs.lemmas.Slice.Eq.{bytes_eq-Decides}
 use Rattle.yaml_tool.specs.Cuts.{Follows}
-use Rattle.yaml_tool.proofs.WordLemmas.{ascii_of, follows, cut_behind}
+use Rattle.yaml_base.proofs.AsciiWords.{ascii_of}
+use Rattle.yaml_tool.proofs.WordLemmas.{follows, cut_behind}
 use Rattle.yaml_tool.proofs.words.past_front.Goals as goal
 
 pub range_from-requires : goal.range_from-requires

@@ -1,4 +1,4 @@
-use Rattle.std.proofs.Common.{◌≡◌, [], ◌<◌, length, OnOk, IfErr, subst}
+use Rattle.std.proofs.Common.{◌≡◌, ◌∙◌, [], ◌<◌, length, OnOk, IfErr, subst}
 use Rattle.yaml_base.specs.Seen.{seen_events}
 use Rattle.yaml_base.specs.TypedValues.{typed_settings, WritesValue}
 use Rattle.yaml_base.specs.declared.errors.yaml_error_t.TheVariants.{Memory}
@@ -11,18 +11,20 @@ pub returns-in-Ok-clause-written : goal.returns-in-Ok-clause-written
 returns-in-Ok-clause-written g c =
     let value = seen_value c.args.value.now in
     let emitter = c.emit_each-answer.new.emitter in
-    let few = subst (λ bytes. length bytes < largest_usize) c.output-output.ensures.value c.is_below_limit.ensures in
+    let whole = c.output-output.ensures.untaken (c.emit_each-answer.ensures.set.taken ∙ c.in_ok-emitter.ensures.untaken) in
+    let few = subst (λ bytes. length bytes < largest_usize) whole c.is_below_limit.ensures in
     let both = events_written value
     (seen_events c.in_ok-events.events.items) c.emit_each-answer.result emitter c.in_ok-events.ensures.events c.requires c.in_ok-events.ensures.bits few
     (c.emit_each-answer.ensures.emits typed_settings [] c.in_ok-emitter.ensures.stands) in
-    copy_written c.copied.result value emitter.page.output c.output-output.result.now c.output-output.ensures.value
+    copy_written c.copied.result value emitter.page.output c.output-output.result.now whole
     (subst (λ answer. OnOk answer (WritesValue value emitter.page.output)) c.in-Ok.is both.0) c.copied.ensures.bytes
 
 pub returns-clause-memory : goal.returns-clause-memory
 returns-clause-memory g c =
     let value = seen_value c.args.value.now in
     let emitter = c.emit_each-answer.new.emitter in
-    let few = subst (λ bytes. length bytes < largest_usize) c.output-output.ensures.value c.is_below_limit.ensures in
+    let whole = c.output-output.ensures.untaken (c.emit_each-answer.ensures.set.taken ∙ c.in_ok-emitter.ensures.untaken) in
+    let few = subst (λ bytes. length bytes < largest_usize) whole c.is_below_limit.ensures in
     let both = events_written value
     (seen_events c.in_ok-events.events.items) c.emit_each-answer.result emitter c.in_ok-events.ensures.events c.requires c.in_ok-events.ensures.bits few
     (c.emit_each-answer.ensures.emits typed_settings [] c.in_ok-emitter.ensures.stands) in

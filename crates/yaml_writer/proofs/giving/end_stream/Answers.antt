@@ -1,6 +1,6 @@
 use Rattle.std.proofs.Common.{[], ◌∷◌, ◌++◌, true}
 use Rattle.yaml_base.specs.Event.{document_end}
-use Rattle.yaml_emitter.proofs.StandingMore.{some_from_told}
+use Rattle.yaml_emitter.proofs.standing.StandingMore.{some_from_told}
 use Rattle.yaml_pen.proofs.Writing.{none_from_told}
 use Rattle.yaml_writer.proofs.Finishing.{closed, closed_stands, error_kept, failed_unfinished, none_before, none_waits, some_waits, stream_finished, waiting_unfinished}
 use Rattle.yaml_writer.proofs.giving.end_stream.Goals as goal

@@ -5,9 +5,9 @@ use Rattle.yaml_emitter.specs.Inside.{state_of}
 use Rattle.yaml_emitter.specs.NodeEvents.{end_event}
 use Rattle.yaml_emitter.specs.Places.{seen_frame}
 use Rattle.yaml_emitter.specs.Stages.{seen_stage}
-use Rattle.yaml_emitter.proofs.ProcessedBy.{processed_exit}
-use Rattle.yaml_emitter.proofs.NodesDone.{at_node_inside, output_at_node, seen_at_node, ready_inside, kept_at_node, kept_advancing}
-use Rattle.yaml_emitter.proofs.CollectionsDone.{may_end_here, end_cut, end_written}
+use Rattle.yaml_emitter.proofs.events_done.ProcessedBy.{processed_exit}
+use Rattle.yaml_emitter.proofs.events_done.NodesDone.{at_node_inside, output_at_node, seen_at_node, ready_inside, kept_at_node, kept_advancing}
+use Rattle.yaml_emitter.proofs.events_done.CollectionsDone.{may_end_here, end_cut, end_written}
 use Rattle.yaml_emitter.proofs.emitter.yaml_emitter_t.end_collection.Goals as goal
 
 pub write_collection_end-requires : goal.write_collection_end-requires

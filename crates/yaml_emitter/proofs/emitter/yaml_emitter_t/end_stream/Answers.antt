@@ -1,9 +1,9 @@
 use Rattle.std.proofs.Common.{refl}
 use Rattle.yaml_base.specs.Event.{stream_end}
 use Rattle.yaml_emitter.specs.Inside.{state_of}
-use Rattle.yaml_emitter.proofs.KeptInside.{fits_ready, kept_writing, output_behind, stage_inside, behind_start}
-use Rattle.yaml_emitter.proofs.ProcessedBy.{processed_exit}
-use Rattle.yaml_emitter.proofs.EventsDone.{stream_cut, stream_ended}
+use Rattle.yaml_emitter.proofs.events_done.KeptInside.{fits_ready, kept_writing, output_behind, stage_inside, behind_start}
+use Rattle.yaml_emitter.proofs.events_done.ProcessedBy.{processed_exit}
+use Rattle.yaml_emitter.proofs.events_done.EventsDone.{stream_cut, stream_ended}
 use Rattle.yaml_emitter.proofs.emitter.yaml_emitter_t.end_stream.Goals as goal
 
 pub invariant_of-self : goal.invariant_of-self

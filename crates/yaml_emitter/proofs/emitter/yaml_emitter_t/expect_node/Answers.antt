@@ -4,7 +4,7 @@ use Rattle.yaml_base.specs.Event.{Collection, any_layout, alias, scalar, sequenc
 use Rattle.yaml_base.specs.Refusal.{name_or_tag_fault}
 use Rattle.yaml_base.specs.Seen.{seen_event, seen_sequence_style, seen_mapping_style}
 use Rattle.yaml_emitter.specs.BorrowedTexts.{seen_collection, seen_scalar}
-use Rattle.yaml_emitter.proofs.ProcessedBy.{processed_as}
+use Rattle.yaml_emitter.proofs.events_done.ProcessedBy.{processed_as}
 use Rattle.yaml_emitter.proofs.emitter.yaml_emitter_t.expect_node.Goals as goal
 
 pub start_collection-requires-clause-names : goal.start_collection-requires-clause-names

@@ -7,11 +7,11 @@ use Rattle.yaml_pen.proofs.Composing.{flushed_grows}
 use Rattle.yaml_emitter.specs.Inside.{state_of}
 use Rattle.yaml_emitter.specs.State.{State}
 use Rattle.yaml_emitter.specs.StandsAfter.{StandsSo}
-use Rattle.yaml_emitter.proofs.KeptInside.{error_inside, has_output_inside, kept_flushing}
-use Rattle.yaml_emitter.proofs.Growing.{flushed_unflushed}
-use Rattle.yaml_emitter.proofs.StandingMore.{flush_failed, some_from_told}
-use Rattle.yaml_emitter.proofs.StandingPromises.{stands_well}
-use Rattle.yaml_emitter.proofs.StandingSet.{stands_flushed}
+use Rattle.yaml_emitter.proofs.events_done.KeptInside.{error_inside, has_output_inside, kept_flushing}
+use Rattle.yaml_emitter.proofs.standing.Growing.{flushed_unflushed}
+use Rattle.yaml_emitter.proofs.standing.StandingMore.{flush_failed, some_from_told}
+use Rattle.yaml_emitter.proofs.standing.StandingPromises.{stands_well}
+use Rattle.yaml_emitter.proofs.standing.StandingSet.{stands_flushed}
 use Rattle.yaml_emitter.proofs.emitter.yaml_emitter_t.hand_out.Goals as goal
 
 pub invariant_of-self : goal.invariant_of-self

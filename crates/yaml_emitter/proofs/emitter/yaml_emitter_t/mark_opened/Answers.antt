@@ -2,8 +2,8 @@ use Rattle.std.proofs.Common.{subst, sym, true}
 use Rattle.yaml_emitter.specs.Inside.{state_of}
 use Rattle.yaml_emitter.specs.State.{State}
 use Rattle.yaml_emitter.specs.StandsAfter.{StandsAfter}
-use Rattle.yaml_emitter.proofs.Promising.{promised}
-use Rattle.yaml_emitter.proofs.StandingMarked.{stands_marked}
+use Rattle.yaml_emitter.proofs.standing.Promising.{promised}
+use Rattle.yaml_emitter.proofs.standing.StandingMarked.{stands_marked}
 use Rattle.yaml_emitter.proofs.emitter.yaml_emitter_t.mark_opened.Goals as goal
 
 pub returns-clause-stands : goal.returns-clause-stands

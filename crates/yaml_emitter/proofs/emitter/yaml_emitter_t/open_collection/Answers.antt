@@ -4,16 +4,16 @@ use Rattle.yaml_base.specs.Event.{any_layout}
 use Rattle.yaml_base.specs.Refusal.{collection_tag, most_open}
 use Rattle.yaml_base.specs.Tags.{spelling}
 use Rattle.yaml_emitter.specs.WrittenSigns.{seen_tag}
-use Rattle.yaml_emitter.proofs.WritingTags.{spelled_handle}
+use Rattle.yaml_emitter.proofs.pieces.WritingTags.{spelled_handle}
 use Rattle.yaml_base.specs.declared.errors.yaml_error_t.TheVariants.{Memory}
 use Rattle.yaml_emitter.specs.BorrowedTexts.{seen_collection}
 use Rattle.yaml_emitter.specs.Inside.{state_of}
 use Rattle.yaml_emitter.specs.NodeEvents.{start_event}
 use Rattle.yaml_emitter.specs.Places.{seen_frame, seen_place}
 use Rattle.yaml_emitter.specs.Stages.{seen_stage}
-use Rattle.yaml_emitter.proofs.ProcessedBy.{exit_by_memory, processed_exit}
-use Rattle.yaml_emitter.proofs.NodesDone.{at_node_inside, ready_inside, output_at_node, seen_at_node, kept_at_node, names_inside, collection_anchor, pushed_at_node}
-use Rattle.yaml_emitter.proofs.CollectionsDone.{of_any_style, room_here, full_here, start_refused, start_cut, start_unkept, start_written}
+use Rattle.yaml_emitter.proofs.events_done.ProcessedBy.{exit_by_memory, processed_exit}
+use Rattle.yaml_emitter.proofs.events_done.NodesDone.{at_node_inside, ready_inside, output_at_node, seen_at_node, kept_at_node, names_inside, collection_anchor, pushed_at_node}
+use Rattle.yaml_emitter.proofs.events_done.CollectionsDone.{of_any_style, room_here, full_here, start_refused, start_cut, start_unkept, start_written}
 use Rattle.yaml_emitter.proofs.emitter.yaml_emitter_t.open_collection.Goals as goal
 
 pub returns-then-is_full : goal.returns-then-is_full

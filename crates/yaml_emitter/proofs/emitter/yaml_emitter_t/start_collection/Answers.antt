@@ -4,8 +4,8 @@ use Rattle.yaml_emitter.specs.BorrowedTexts.{seen_collection}
 use Rattle.yaml_emitter.specs.NodeEvents.{start_event}
 use Rattle.yaml_emitter.specs.Processing.{Processed}
 use Rattle.yaml_emitter.specs.State.{State}
-use Rattle.yaml_emitter.proofs.KeptInside.{kept_with_room, seen_with_room}
-use Rattle.yaml_emitter.proofs.ProcessedBy.{exit_by_memory, processed_exit, processed_unwritten}
+use Rattle.yaml_emitter.proofs.events_done.KeptInside.{kept_with_room, seen_with_room}
+use Rattle.yaml_emitter.proofs.events_done.ProcessedBy.{exit_by_memory, processed_exit, processed_unwritten}
 use Rattle.yaml_emitter.proofs.emitter.yaml_emitter_t.start_collection.Goals as goal
 
 pub invariant_of-self : goal.invariant_of-self

@@ -4,8 +4,8 @@ use Rattle.yaml_base.specs.Settings.{Effective, Encoding, utf8}
 use Rattle.yaml_pen.specs.Page.{Page, IsReady}
 use Rattle.yaml_emitter.specs.Inside.{state_of}
 use Rattle.yaml_emitter.specs.Given.{seen_effective}
-use Rattle.yaml_emitter.proofs.KeptInside.{has_output_inside, stage_inside}
-use Rattle.yaml_emitter.proofs.EventsDone.{stream_started, given_is_there}
+use Rattle.yaml_emitter.proofs.events_done.KeptInside.{has_output_inside, stage_inside}
+use Rattle.yaml_emitter.proofs.events_done.EventsDone.{stream_started, given_is_there}
 use Rattle.yaml_emitter.proofs.emitter.yaml_emitter_t.start_stream.Goals as goal
 
 pub invariant_of-self : goal.invariant_of-self

@@ -4,9 +4,9 @@ use Rattle.yaml_pen.specs.Page.{told}
 use Rattle.yaml_pen.specs.Wrote.{Grows}
 use Rattle.yaml_emitter.specs.State.{KeepsSet, State}
 use Rattle.yaml_emitter.specs.StandsAfter.{StandsSo}
-use Rattle.yaml_emitter.proofs.Emitting.{took_alone, took_end, took_failed}
-use Rattle.yaml_emitter.proofs.Growing.{took_grows}
-use Rattle.yaml_emitter.proofs.KeepsSet.{failed_keeps_set, processed_keeps_set}
+use Rattle.yaml_emitter.proofs.standing.Emitting.{took_alone, took_end, took_failed}
+use Rattle.yaml_emitter.proofs.standing.Growing.{took_grows}
+use Rattle.yaml_emitter.proofs.standing.KeepsSet.{failed_keeps_set, processed_keeps_set}
 use Rattle.yaml_emitter.proofs.emitter.yaml_emitter_t.write_at_once.Goals as goal
 
 pub returns-in-Ok-clause-stands : goal.returns-in-Ok-clause-stands

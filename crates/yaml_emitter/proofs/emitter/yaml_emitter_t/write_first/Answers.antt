@@ -2,8 +2,8 @@ use Rattle.std.proofs.Common.{subst, sym}
 use Rattle.yaml_pen.specs.Wrote.{Grows}
 use Rattle.yaml_emitter.specs.State.{State}
 use Rattle.yaml_emitter.specs.StandsAfter.{StandsSo}
-use Rattle.yaml_emitter.proofs.Emitting.{took_next, took_failed}
-use Rattle.yaml_emitter.proofs.Growing.{took_grows}
+use Rattle.yaml_emitter.proofs.standing.Emitting.{took_next, took_failed}
+use Rattle.yaml_emitter.proofs.standing.Growing.{took_grows}
 use Rattle.yaml_emitter.proofs.emitter.yaml_emitter_t.write_first.Goals as goal
 
 pub returns-in-Ok-clause-next : goal.returns-in-Ok-clause-next

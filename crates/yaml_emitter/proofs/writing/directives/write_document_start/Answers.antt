@@ -2,7 +2,7 @@ use Rattle.std.proofs.Common.{map, option_map, ap, ◌∙◌, ◌&&◌, ◌||◌
 use Rattle.yaml_base.specs.Seen.{seen_version, seen_directive}
 use Rattle.yaml_emitter.specs.Given.{seen_effective}
 use Rattle.yaml_emitter.specs.WrittenPieces.{seen_mark}
-use Rattle.yaml_emitter.proofs.WritingPieces.{wrote_document_start}
+use Rattle.yaml_emitter.proofs.pieces.WritingPieces.{wrote_document_start}
 use Rattle.yaml_emitter.proofs.writing.directives.write_document_start.Goals as goal
 
 pub returns : goal.returns

@@ -1,6 +1,6 @@
 use Rattle.yaml_base.specs.Seen.{seen_directive}
 use Rattle.yaml_pen.proofs.Composing.{wrote_exit}
-use Rattle.yaml_emitter.proofs.WritingDirectives.{wrote_next_directive, failed_next_directive, next_handle}
+use Rattle.yaml_emitter.proofs.pieces.WritingDirectives.{wrote_next_directive, failed_next_directive, next_handle}
 use Rattle.yaml_emitter.proofs.writing.directives.write_tag_directives.Goals as goal
 
 pub write_tag_directive-requires-clause-no_break : goal.write_tag_directive-requires-clause-no_break

@@ -1,7 +1,7 @@
 use Rattle.yaml_pen.proofs.Composing.{wrote_as}
 use Rattle.yaml_emitter.specs.Given.{seen_effective}
 use Rattle.yaml_emitter.specs.WrittenPieces.{document_end_laid}
-use Rattle.yaml_emitter.proofs.WritingPieces.{wrote_document_end}
+use Rattle.yaml_emitter.proofs.pieces.WritingPieces.{wrote_document_end}
 use Rattle.yaml_emitter.proofs.writing.documents.write_document_end.Goals as goal
 
 pub returns : goal.returns

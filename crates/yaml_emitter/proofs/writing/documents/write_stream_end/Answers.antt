@@ -2,7 +2,7 @@ use Rattle.std.proofs.Common.{subst, Bool, ◌==◌}
 use Rattle.yaml_base.specs.Layout.{laid_if, closing_mark_laid}
 use Rattle.yaml_pen.specs.Wrote.{Wrote}
 use Rattle.yaml_emitter.specs.WrittenPieces.{seen_mark}
-use Rattle.yaml_emitter.proofs.WritingPieces.{wrote_lead}
+use Rattle.yaml_emitter.proofs.pieces.WritingPieces.{wrote_lead}
 use Rattle.yaml_emitter.proofs.writing.documents.write_stream_end.Goals as goal
 
 pub returns : goal.returns

@@ -4,7 +4,7 @@ use Rattle.yaml_base.specs.Characters.{is_break}
 use Rattle.yaml_base.specs.Cursor.{indicator}
 use Rattle.yaml_base.specs.Indicators.{Indicator, indicator_laid}
 use Rattle.yaml_pen.specs.Wrote.{Wrote}
-use Rattle.yaml_emitter.proofs.Signs.{one_byte, sign-chars, sign-no_break}
+use Rattle.yaml_emitter.proofs.pieces.Signs.{one_byte, sign-chars, sign-no_break}
 use Rattle.yaml_emitter.proofs.writing.indicators.write_indicator.Goals as goal
 
 pub write_indicator-requires-clause-no_break : goal.write_indicator-requires-clause-no_break

@@ -3,7 +3,7 @@ use Rattle.yaml_base.specs.Cursor.{Cursor, then_laid}
 use Rattle.yaml_base.specs.Layout.{place_laid, alias_laid}
 use Rattle.yaml_emitter.specs.Given.{seen_effective}
 use Rattle.yaml_emitter.specs.Places.{seen_place}
-use Rattle.yaml_emitter.proofs.WritingPieces.{wrote_lead}
+use Rattle.yaml_emitter.proofs.pieces.WritingPieces.{wrote_lead}
 use Rattle.yaml_pen.proofs.Composing.{wrote_as, wrote_exit, wrote_failed, wrote_then}
 use Rattle.yaml_emitter.proofs.writing.nodes.write_alias.Goals as goal
 

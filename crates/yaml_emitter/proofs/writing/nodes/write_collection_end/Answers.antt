@@ -4,7 +4,7 @@ use Rattle.yaml_emitter.specs.Given.{seen_effective}
 use Rattle.yaml_emitter.specs.NodeEvents.{brackets_of}
 use Rattle.yaml_emitter.specs.Places.{seen_place, seen_role}
 use Rattle.yaml_emitter.specs.WrittenSigns.{signs_laid}
-use Rattle.yaml_emitter.proofs.SignsWritten.{end_in_flow, end_in_block}
+use Rattle.yaml_emitter.proofs.pieces.SignsWritten.{end_in_flow, end_in_block}
 use Rattle.yaml_emitter.proofs.writing.nodes.write_collection_end.Goals as goal
 
 pub returns-then-frame : goal.returns-then-frame

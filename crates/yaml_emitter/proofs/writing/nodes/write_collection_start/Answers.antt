@@ -7,8 +7,8 @@ use Rattle.yaml_emitter.specs.BorrowedTexts.{seen_name, seen_collection}
 use Rattle.yaml_emitter.specs.Given.{seen_effective}
 use Rattle.yaml_emitter.specs.Places.{seen_place}
 use Rattle.yaml_emitter.specs.WrittenSigns.{seen_tag}
-use Rattle.yaml_emitter.proofs.SignsWritten.{lead-spelled}
-use Rattle.yaml_emitter.proofs.WritingPieces.{wrote_lead}
+use Rattle.yaml_emitter.proofs.pieces.SignsWritten.{lead-spelled}
+use Rattle.yaml_emitter.proofs.pieces.WritingPieces.{wrote_lead}
 use Rattle.yaml_emitter.proofs.writing.nodes.write_collection_start.Goals as goal
 
 pub returns-clause-written : goal.returns-clause-written

@@ -5,7 +5,7 @@ use Rattle.yaml_emitter.specs.BorrowedTexts.{seen_name}
 use Rattle.yaml_emitter.specs.Given.{seen_effective}
 use Rattle.yaml_emitter.specs.Places.{seen_place}
 use Rattle.yaml_emitter.specs.WrittenSigns.{seen_tag, spelled_tag_laid}
-use Rattle.yaml_emitter.proofs.SignsWritten.{laid_alone}
+use Rattle.yaml_emitter.proofs.pieces.SignsWritten.{laid_alone}
 use Rattle.yaml_emitter.proofs.writing.nodes.write_lead.Goals as goal
 
 pub returns-in_err-write_place : goal.returns-in_err-write_place

@@ -2,7 +2,7 @@ use Rattle.std.proofs.Common.{refl}
 use Rattle.yaml_base.specs.Cursor.{Cursor, new_line, nothing_laid, then_laid}
 use Rattle.yaml_base.specs.Layout.{line_column}
 use Rattle.yaml_pen.proofs.Composing.{wrote_as}
-use Rattle.yaml_emitter.proofs.SignsWritten.{laid_alone}
+use Rattle.yaml_emitter.proofs.pieces.SignsWritten.{laid_alone}
 use Rattle.yaml_emitter.proofs.writing.places.write_line_alone.Goals as goal
 
 pub returns : goal.returns

@@ -2,7 +2,7 @@ use Rattle.yaml_base.specs.Layout.{place_laid}
 use Rattle.yaml_pen.proofs.Composing.{wrote_as}
 use Rattle.yaml_emitter.specs.Given.{seen_effective}
 use Rattle.yaml_emitter.specs.Places.{seen_place}
-use Rattle.yaml_emitter.proofs.SignsWritten.{flow_here, block_here}
+use Rattle.yaml_emitter.proofs.pieces.SignsWritten.{flow_here, block_here}
 use Rattle.yaml_emitter.proofs.writing.places.write_place.Goals as goal
 
 pub returns-then-site : goal.returns-then-site

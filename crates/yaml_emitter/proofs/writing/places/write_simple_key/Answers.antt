@@ -5,7 +5,7 @@ use Rattle.yaml_base.specs.Layout.{flow_break}
 use Rattle.yaml_pen.proofs.Composing.{wrote_as}
 use Rattle.yaml_emitter.specs.Given.{seen_effective}
 use Rattle.yaml_emitter.specs.WrittenSigns.{seen_indicator}
-use Rattle.yaml_emitter.proofs.SignsWritten.{laid_alone}
+use Rattle.yaml_emitter.proofs.pieces.SignsWritten.{laid_alone}
 use Rattle.yaml_emitter.proofs.writing.places.write_simple_key.Goals as goal
 
 pub returns : goal.returns

@@ -3,7 +3,7 @@ use Rattle.std.specs.List.{list_any}
 use Rattle.yaml_base.specs.Characters.{is_break}
 use Rattle.yaml_base.specs.Layout.{handle_laid}
 use Rattle.yaml_emitter.specs.WrittenSigns.{spelled_tag_laid}
-use Rattle.yaml_emitter.proofs.Signs.{sign-chars}
+use Rattle.yaml_emitter.proofs.pieces.Signs.{sign-chars}
 use Rattle.yaml_emitter.proofs.writing.properties.bare_tag_signs.Goals as goal
 
 pub returns-then-bare-clause-whole : goal.returns-then-bare-clause-whole

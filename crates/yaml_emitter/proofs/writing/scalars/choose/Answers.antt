@@ -1,8 +1,9 @@
-use Rattle.std.proofs.Common.{ap, ◌∙◌, Bool}
+use Rattle.std.proofs.Common.{ap, sym, refl, ◌∙◌, Bool}
 use Rattle.yaml_base.specs.Analysis.{allowances, is_empty}
-use Rattle.yaml_base.specs.Style.{chosen}
+use Rattle.yaml_base.specs.Event.{double_quoted}
+use Rattle.yaml_base.specs.Style.{Choice, chosen}
 use Rattle.yaml_emitter.specs.BorrowedTexts.{seen_scalar}
-use Rattle.yaml_emitter.proofs.WritingScalars.{if_ok_from}
+use Rattle.yaml_emitter.proofs.pieces.WritingScalars.{chosen_surely, if_ok_from}
 use Rattle.yaml_emitter.proofs.writing.scalars.choose.Goals as goal
 
 pub returns-clause-choice : goal.returns-clause-choice
@@ -14,9 +15,21 @@ returns-clause-choice c =
     if_ok_from _ _ _ c.select_scalar_style.result
     (λ given holds.
     holds.1
-    ∙ c.deciding_data-data.ensures c.is_empty_value.result c.args.tag_written content.plain_implicit content.quoted_implicit flow c.args.site.now.simple
+    ∙ c.analyze_for_style-data.ensures content.style c.is_empty_value.result c.args.tag_written content.plain_implicit content.quoted_implicit flow c.args.site.now.simple canonical
     ∙ ap (λ (e : Bool). chosen allowed content.style e c.args.tag_written content.plain_implicit content.quoted_implicit flow c.args.site.now.simple canonical)
     c.is_empty_value.ensures
     ∙ ap (λ (t : Bool). chosen allowed content.style
     (is_empty content.value) t content.plain_implicit content.quoted_implicit flow c.args.site.now.simple canonical) c.requires.tag)
     c.select_scalar_style.ensures
+
+pub returns-then-is_surely_double-clause-choice : goal.returns-then-is_surely_double-clause-choice
+returns-then-is_surely_double-clause-choice c =
+    let content = seen_scalar c.args.content.now in
+    let allowed = allowances (record { unicode = c.args.site.now.settings.now.unicode; breaks12 = c.args.site.now.settings.now.breaks12 }) content.value in
+    let flow = c.args.site.now.place.in_flow in
+    let canonical = c.args.site.now.settings.now.canonical in
+    ap (λ (b : Bool). let choice : Choice = record { style = double_quoted; bare = b } in choice) c.needs_bare_tag-bare.ensures
+    ∙ sym (chosen_surely allowed content.style (is_empty content.value) c.args.tag_written content.plain_implicit content.quoted_implicit flow
+    c.args.site.now.simple canonical (c.is_surely_double.ensures c.if-is_surely_double.true))
+    ∙ ap (λ (t : Bool). chosen allowed content.style
+    (is_empty content.value) t content.plain_implicit content.quoted_implicit flow c.args.site.now.simple canonical) c.requires.tag

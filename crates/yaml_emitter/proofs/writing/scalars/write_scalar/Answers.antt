@@ -8,7 +8,7 @@ use Rattle.yaml_emitter.specs.Given.{seen_effective}
 use Rattle.yaml_emitter.specs.Places.{seen_place}
 use Rattle.yaml_emitter.specs.ScalarTexts.{scalar_text_laid, style_fits}
 use Rattle.yaml_emitter.specs.WrittenPieces.{seen_mark}
-use Rattle.yaml_emitter.proofs.WritingScalars.{wrote_exit_from, wrote_scalar, chosen_fits}
+use Rattle.yaml_emitter.proofs.pieces.WritingScalars.{wrote_exit_from, wrote_scalar, chosen_fits}
 use Rattle.yaml_emitter.proofs.writing.scalars.write_scalar.Goals as goal
 
 pub returns-in_err-write_lead-clause-written : goal.returns-in_err-write_lead-clause-written

@@ -4,8 +4,8 @@ use Rattle.yaml_base.specs.Refusal.{collection_tag}
 use Rattle.yaml_emitter.specs.BorrowedTexts.{seen_collection}
 use Rattle.yaml_emitter.specs.Places.{seen_role}
 use Rattle.yaml_emitter.specs.WrittenSigns.{spelled_count}
-use Rattle.yaml_emitter.proofs.SignsWritten.{tag_count-spelled}
-use Rattle.yaml_emitter.proofs.WritingTags.{short_collection, simple_where}
+use Rattle.yaml_emitter.proofs.pieces.SignsWritten.{tag_count-spelled}
+use Rattle.yaml_emitter.proofs.pieces.WritingTags.{short_collection, simple_where}
 use Rattle.yaml_emitter.proofs.writing.simple_keys.is_simple_collection_key.Goals as goal
 
 pub returns-then-empty : goal.returns-then-empty

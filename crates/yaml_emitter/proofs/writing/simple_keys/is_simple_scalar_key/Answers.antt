@@ -7,8 +7,8 @@ use Rattle.yaml_base.specs.Refusal.{scalar_tag}
 use Rattle.yaml_emitter.specs.BorrowedTexts.{seen_scalar}
 use Rattle.yaml_emitter.specs.Places.{seen_role}
 use Rattle.yaml_emitter.specs.WrittenSigns.{spelled_count}
-use Rattle.yaml_emitter.proofs.SignsWritten.{tag_count-spelled}
-use Rattle.yaml_emitter.proofs.WritingTags.{simple_where}
+use Rattle.yaml_emitter.proofs.pieces.SignsWritten.{tag_count-spelled}
+use Rattle.yaml_emitter.proofs.pieces.WritingTags.{simple_where}
 use Rattle.yaml_emitter.proofs.writing.simple_keys.is_simple_scalar_key.Goals as goal
 
 pub returns-then-not-settings : goal.returns-then-not-settings

@@ -1,5 +1,5 @@
 use Rattle.std.specs.Str.{chars}
-use Rattle.yaml_emitter.proofs.WritingTags.{refused_spelled}
+use Rattle.yaml_emitter.proofs.pieces.WritingTags.{refused_spelled}
 use Rattle.yaml_emitter.proofs.writing.spelling.spell_text.Goals as goal
 
 pub returns-in-Err : goal.returns-in-Err

@@ -2,7 +2,7 @@ use Rattle.std.proofs.Common.{◌≡◌, pos, rules, arith, false, refl, ◌∙�
 use Rattle.std.specs.Str.{chars}
 use Rattle.std.proofs.lemmas.Int.{to_z-of_z, ints}
 use mir.Val.{SFits}
-use Rattle.yaml_emitter.proofs.WritingScalars.{wrote_exit_from, wrote_folded}
+use Rattle.yaml_emitter.proofs.pieces.WritingScalars.{wrote_exit_from, wrote_folded}
 use Rattle.yaml_emitter.proofs.writing.styles.write_folded.Goals as goal
 
 pub returns-in_err-mark-clause-written : goal.returns-in_err-mark-clause-written

@@ -2,7 +2,7 @@ use Rattle.std.proofs.Common.{rules, ◌∙◌, w32}
 use Rattle.std.specs.Str.{chars}
 use Rattle.std.proofs.lemmas.Int.{to_z-of_z}
 use mir.Val.{SFits}
-use Rattle.yaml_emitter.proofs.WritingScalars.{wrote_exit_from, wrote_single}
+use Rattle.yaml_emitter.proofs.pieces.WritingScalars.{wrote_exit_from, wrote_single}
 use Rattle.yaml_emitter.proofs.writing.styles.write_single.Goals as goal
 
 pub returns-in_err-write_single_quoted_scalar-clause-written : goal.returns-in_err-write_single_quoted_scalar-clause-written

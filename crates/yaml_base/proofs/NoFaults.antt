@@ -1,0 +1,19 @@
+-- What it says that no fault is told.
+use Rattle.std.proofs.Common.{◌≡◌, ℕ, Bool, true, false, cond, Option, None, Some, refl}
+use Rattle.std.specs.Option.{option_or}
+use Rattle.std.specs.Prelude.{is_none}
+
+-- neither of two options has a value where the first of them that has one is none
+pub neither : {A : Type 0} (x y : Option A) → option_or x y ≡ None → (x ≡ None) × (y ≡ None)
+neither None y e = (refl, e)
+neither (Some x) y e = absurd (cc)
+
+-- the test of an option without a value
+pub is_none_none : {A : Type 0} (x : Option A) → is_none x ≡ true → x ≡ None
+is_none_none None h = refl
+is_none_none (Some x) h = cc
+
+-- a fault that isn't told
+pub not_given : (given : Bool) (number : ℕ) → cond {A = Option ℕ} given (Some number) None ≡ None → given ≡ false
+not_given true number e = absurd (cc)
+not_given false number e = refl

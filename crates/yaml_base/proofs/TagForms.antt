@@ -1,0 +1,181 @@
+-- The forms of handles and tags: what they consist of, and how a tag is spelled by the directives in force.
+use Rattle.std.proofs.Common.{◌≡◌, ℕ, Bool, true, false, cond, not, Option, Some, None, List, [], ◌∷◌, ◌++◌, refl, sym, ◌∙◌, ap, ◌⊎◌, inl, inr, append_assoc}
+use Rattle.std.proofs.lemmas.Bool.{eqb-true, and_parts, or_parts, not-false}
+use Rattle.std.proofs.lemmas.Slice.Eq.{bytes_eq-Decides}
+use Rattle.std.specs.Prelude.{◌==◌, codes, bytes_eq, option_map}
+use Rattle.std.specs.List.{list_all}
+use lib.Utf8.{scalar, scalars}
+use Rattle.yaml_base.specs.Characters.{Text, is_alpha}
+use Rattle.yaml_base.specs.Event.{TagDirective}
+use Rattle.yaml_base.specs.ReadTags.{prefix_among, directives_assumed, without_end_sign}
+use Rattle.yaml_base.specs.Tags.{tag_mark, last_from, without_last, handle_fault, directive_fault, gives_handle, next_directive_fault, directives_fault_after, directives_fault, directives_in_force, behind, Spelling, shorthand, verbatim, spelling_by, spelling, spelled}
+use Rattle.yaml_base.proofs.NoFaults.{neither, not_given}
+
+-- Ends of tags
+
+pub last-append : (c : ℕ) (rest : Text) (end : ℕ) → last_from c (rest ++ end ∷ []) ≡ end
+last-append c [] end = refl
+last-append c (next ∷ rest) end = last-append next rest end
+
+pub without_last-append : (text : Text) (end : ℕ) → without_last (text ++ end ∷ []) ≡ text
+without_last-append [] end = refl
+without_last-append (c ∷ []) end = refl
+without_last-append (c ∷ next ∷ rest) end = ap (λ x. c ∷ x) (without_last-append (next ∷ rest) end)
+
+-- what stands before the sign at the end
+pub end_sign_dropped : (text : Text) → without_end_sign (text ++ 0x3E ∷ []) ≡ Some text
+end_sign_dropped [] = refl
+end_sign_dropped (c ∷ []) = refl
+end_sign_dropped (c ∷ d ∷ rest) = ap (option_map (λ text. c ∷ text)) (end_sign_dropped (d ∷ rest))
+
+-- Handles
+
+pub front_and_last : (c d : ℕ) (rest : Text) → d ∷ rest ≡ without_last (d ∷ rest) ++ last_from c (d ∷ rest) ∷ []
+front_and_last c d [] = refl
+front_and_last c d (e ∷ rest) = ap (λ x. d ∷ x) (front_and_last d e rest)
+
+handle_tests : (a b t : Bool) → cond {A = Option ℕ} a (Some 8) (cond b (Some 9) (cond t None (Some 10))) ≡ None → (a ≡ false) × (b ≡ false) × (t ≡ true)
+handle_tests true b t e = cc
+handle_tests false true t e = cc
+handle_tests false false true e = (refl, refl, refl)
+handle_tests false false false e = cc
+
+-- `!`, or characters of the anchor alphabet between two
+abbrev pub IsHandle : Text → Type 0
+IsHandle handle =
+    (handle ≡ tag_mark ∷ [])
+    ⊎ ((middle : Text) × (handle ≡ (tag_mark ∷ middle) ++ tag_mark ∷ []) × (list_all is_alpha middle ≡ true))
+
+pub handle_form : (handle : Text) → handle_fault handle ≡ None → IsHandle handle
+handle_form [] e = absurd (cc)
+handle_form (c ∷ []) e =
+    let tests = handle_tests (not (c == tag_mark)) (not (c == tag_mark)) true e in
+    inl (ap (λ x. x ∷ []) (eqb-true c tag_mark (not-false _ tests.0)))
+handle_form (c ∷ d ∷ rest) e =
+    let tests = handle_tests (not (c == tag_mark)) (not (last_from c (d ∷ rest) == tag_mark)) (list_all is_alpha (without_last (d ∷ rest))) e in
+    let first : c ≡ tag_mark = eqb-true _ _ (not-false _ tests.0) in
+    let last : last_from c (d ∷ rest) ≡ tag_mark = eqb-true _ _ (not-false _ tests.1) in
+    let whole =
+    ap (λ x. c ∷ x) (front_and_last c d rest)
+    ∙ ap (λ x. (c ∷ without_last (d ∷ rest)) ++ x ∷ []) last
+    ∙ ap (λ x. (x ∷ without_last (d ∷ rest)) ++ tag_mark ∷ []) first
+    in
+    inr (without_last (d ∷ rest), whole, tests.2)
+
+-- What follows a prefix
+
+behind_step : (same : Bool) (p c : ℕ) (prefix text suffix : Text) → (p == c) ≡ same → cond same (behind prefix text) None ≡ Some suffix → (p ≡ c)
+    × (behind prefix text ≡ Some suffix)
+behind_step true p c prefix text suffix h e = (eqb-true p c h, e)
+behind_step false p c prefix text suffix h e = absurd (cc)
+
+-- with the prefix it is the text
+pub behind-whole : (prefix text suffix : Text) → behind prefix text ≡ Some suffix → prefix ++ suffix ≡ text
+behind-whole [] [] suffix e = cc
+behind-whole [] (c ∷ text) suffix e = cc
+behind-whole (p ∷ prefix) [] suffix e = cc
+behind-whole (p ∷ prefix) (c ∷ text) suffix e =
+    let step = behind_step (p == c) p c prefix text suffix refl e in
+    ap (λ x. p ∷ x) (behind-whole prefix text suffix step.1) ∙ ap (λ x. x ∷ text) step.0
+
+-- and it is at least one character
+pub behind_begins : (prefix text : Text) → behind prefix text ≡ Some [] → ⊥
+behind_begins [] [] e = cc
+behind_begins [] (c ∷ text) e = cc
+behind_begins (p ∷ prefix) [] e = cc
+behind_begins (p ∷ prefix) (c ∷ text) e =
+    behind_begins prefix text (behind_step (p == c) p c prefix text [] refl e).1
+
+pub scalars_behind : (prefix suffix : Text) → scalars (prefix ++ suffix) ≡ true → scalars suffix ≡ true
+scalars_behind [] suffix h = h
+scalars_behind (p ∷ prefix) suffix h = scalars_behind prefix suffix (and_parts (scalar p) (scalars (prefix ++ suffix)) h).1
+
+-- How a tag is spelled
+
+-- Directives that are found by their handles.
+abbrev pub AreFound : List TagDirective → List TagDirective → Type 0
+AreFound own [] = Unit {0}
+AreFound own (directive ∷ rest) =
+    (handle_fault directive.handle ≡ None)
+    × (prefix_among (own ++ directives_assumed) directive.handle ≡ Some directive.prefix)
+    × AreFound own rest
+
+-- a tag is spelled as it is, or by the handle of a directive that is found, whose prefix and the rest are the tag
+abbrev pub ByHandle : List TagDirective → Text → (Spelling → Type 0) → Type 0
+ByHandle own tag P =
+    (handle prefix : Text) (c : ℕ) (suffix : Text) →
+    handle_fault handle ≡ None →
+    prefix_among (own ++ directives_assumed) handle ≡ Some prefix →
+    prefix ++ (c ∷ suffix) ≡ tag →
+    P (shorthand handle (c ∷ suffix))
+
+spelled_step : (P : Spelling → Type 0) (own : List TagDirective) (directive : TagDirective) (tag : Text) (otherwise : Spelling) (suffix : Option Text)
+    → behind directive.prefix tag ≡ suffix → handle_fault directive.handle ≡ None
+    → prefix_among (own ++ directives_assumed) directive.handle ≡ Some directive.prefix → ByHandle own tag P → P otherwise
+    → P (spelling_by directive.handle suffix otherwise)
+spelled_step P own directive tag otherwise None e f g by known = known
+spelled_step P own directive tag otherwise (Some []) e f g by known = absurd (behind_begins directive.prefix tag e)
+spelled_step P own directive tag otherwise (Some (c ∷ suffix)) e f g by known =
+    by directive.handle directive.prefix c suffix f g (behind-whole directive.prefix tag (c ∷ suffix) e)
+
+pub spelling_is : (P : Spelling → Type 0) (own directives : List TagDirective) (tag : Text) → AreFound own directives → P (verbatim tag) → ByHandle own tag P
+    → P (spelling directives tag)
+spelling_is P own [] tag found whole by = whole
+spelling_is P own (directive ∷ rest) tag found whole by =
+    spelled_step P own directive tag (spelling rest tag) (behind directive.prefix tag) refl found.0 found.1 by
+    (spelling_is P own rest tag found.2 whole by)
+
+-- Directives in force are found
+
+same_text : (text : Text) → bytes_eq text text ≡ true
+same_text text = (bytes_eq-Decides text text).1 refl
+
+-- directives that don't give a handle are passed over
+passed_over : (before more : List TagDirective) (handle : Text) → gives_handle handle before ≡ false
+    → prefix_among (before ++ more) handle ≡ prefix_among more handle
+passed_over [] more handle h = refl
+passed_over (d ∷ before) more handle h =
+    let both = or_parts (bytes_eq d.handle handle) (gives_handle handle before) h in
+    rw both.0 (passed_over before more handle both.1)
+
+found_after : (before : List TagDirective) (directive : TagDirective) (more : List TagDirective) → gives_handle directive.handle before ≡ false
+    → prefix_among (before ++ (directive ∷ more)) directive.handle ≡ Some directive.prefix
+found_after before directive more h =
+    passed_over before (directive ∷ more) directive.handle h ∙ rw (same_text directive.handle) refl
+
+all_found : (own before rest : List TagDirective) → own ≡ before ++ rest → directives_fault_after before rest ≡ None → AreFound own rest
+all_found own before [] e h = tt
+all_found own before (directive ∷ rest) e h =
+    let both = neither (next_directive_fault before directive) (directives_fault_after (before ++ directive ∷ []) rest) h in
+    let parts = neither (directive_fault directive) (cond {A = Option ℕ} (gives_handle directive.handle before) (Some 12) None) both.0 in
+    let whole : own ++ directives_assumed ≡ before ++ (directive ∷ (rest ++ directives_assumed)) =
+    ap (λ x. x ++ directives_assumed) e ∙ append_assoc before (directive ∷ rest) directives_assumed
+    in (
+      (neither _ _ parts.0).0,
+      ap (λ x. prefix_among x directive.handle) whole
+          ∙ found_after before directive (rest ++ directives_assumed) (not_given _ 12 parts.1),
+      all_found own (before ++ directive ∷ []) rest (e ∙ sym (append_assoc before (directive ∷ []) rest)) both.1,
+    )
+
+abbrev primary : TagDirective
+primary = record { handle = codes "!"; prefix = codes "!" }
+
+abbrev secondary : TagDirective
+secondary = record { handle = codes "!!"; prefix = codes "tag:yaml.org,2002:" }
+
+defaults_found_by : (own : List TagDirective) (first second : Bool) → gives_handle primary.handle own ≡ first → gives_handle secondary.handle own ≡ second
+    → AreFound own (cond (not first) (primary ∷ cond (not second) (secondary ∷ []) []) (cond (not second) (secondary ∷ []) []))
+defaults_found_by own true true e f = tt
+defaults_found_by own true false e f = (refl, passed_over own directives_assumed (codes "!!") f, tt)
+defaults_found_by own false true e f = (refl, passed_over own directives_assumed (codes "!") e, tt)
+defaults_found_by own false false e f =
+    (refl, passed_over own directives_assumed (codes "!") e, (refl, passed_over own directives_assumed (codes "!!") f, tt))
+
+found-append : (own xs ys : List TagDirective) → AreFound own xs → AreFound own ys → AreFound own (xs ++ ys)
+found-append own [] ys f g = g
+found-append own (x ∷ xs) ys f g = (f.0, f.1, found-append own xs ys f.2 g)
+
+pub in_force_found : (own : List TagDirective) → directives_fault own ≡ None → AreFound own (directives_in_force own)
+in_force_found own h =
+    found-append own own _ (all_found own [] own refl h)
+    (defaults_found_by own (gives_handle primary.handle own) (gives_handle secondary.handle own) refl refl)

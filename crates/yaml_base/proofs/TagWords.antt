@@ -1,0 +1,84 @@
+-- A written tag is one word: it holds no white space, and it is never the bare tag.
+use Rattle.std.proofs.Common.{◌≡◌, ℕ, Bool, true, false, ◌||◌, None, List, [], ◌∷◌, ◌++◌, refl, sym, ◌∙◌, ap, inl, inr, arith}
+use Rattle.std.proofs.lemmas.Bool.{and_parts, or_parts, or_from}
+use Rattle.std.proofs.lemmas.Bool.Decides.{nat_tests}
+use Rattle.std.specs.List.{list_all, list_any}
+use Rattle.yaml_base.specs.Characters.{Text, is_alpha, is_blank, is_break}
+use Rattle.yaml_base.specs.Event.{TagDirective}
+use Rattle.yaml_base.specs.Percent.{percent_escaped, suffix_escaped}
+use Rattle.yaml_base.specs.Tags.{tag_mark, handle_fault, directives_fault, directives_in_force, Spelling, spelling, spelled}
+use Rattle.yaml_base.proofs.PercentLaws.{stands_written, separates, escaped_stands, suffix_stands, suffix_begins, written_never_separates}
+use Rattle.yaml_base.proofs.TagForms.{IsHandle, handle_form, spelling_is, in_force_found}
+
+any-append : (p : ℕ → Bool) (xs ys : Text) → list_any p xs ≡ false → list_any p ys ≡ false → list_any p (xs ++ ys) ≡ false
+any-append p [] ys h k = k
+any-append p (x ∷ xs) ys h k =
+    let both = or_parts (p x) (list_any p xs) h in or_from _ _ both.0 (any-append p xs ys both.1 k)
+
+-- by what a reader could end a word
+abbrev pub ends_word : ℕ → Bool
+ends_word c = is_blank c || is_break c
+
+alpha_ends_no_word : (c : ℕ) → is_alpha c ≡ true → ends_word c ≡ false
+alpha_ends_no_word c h = grind (arith, nat_tests)
+
+pub letters_end_no_word : (text : Text) → list_all is_alpha text ≡ true → list_any ends_word text ≡ false
+letters_end_no_word [] h = refl
+letters_end_no_word (c ∷ rest) h =
+    let both = and_parts (is_alpha c) (list_all is_alpha rest) h in
+    or_from _ _ (alpha_ends_no_word c both.0) (letters_end_no_word rest both.1)
+
+pub handle_ends_no_word : (handle : Text) → IsHandle handle → list_any ends_word handle ≡ false
+handle_ends_no_word handle (inl e) = rw e refl
+handle_ends_no_word handle (inr form) =
+    rw form.1 (any-append ends_word (tag_mark ∷ form.0) (tag_mark ∷ []) (letters_end_no_word form.0 form.2) refl)
+
+never_separates : (text : Text) → list_all stands_written text ≡ true → list_any separates text ≡ false
+never_separates [] h = refl
+never_separates (c ∷ rest) h =
+    let both = and_parts (stands_written c) (list_all stands_written rest) h in
+    or_from _ _ (written_never_separates c both.0) (never_separates rest both.1)
+
+-- percent forms hold no blank, no break, no `!`, no `<` and no `>`
+pub escaped_never_separates : (text : Text) → list_any separates (percent_escaped text) ≡ false
+escaped_never_separates text = never_separates (percent_escaped text) (escaped_stands text)
+
+separates_not_ends : (text : Text) → list_any separates text ≡ false → list_any ends_word text ≡ false
+separates_not_ends [] h = refl
+separates_not_ends (c ∷ rest) h =
+    let both = or_parts (separates c) (list_any separates rest) h in
+    or_from _ _ (or_parts (ends_word c) _ both.0).0 (separates_not_ends rest both.1)
+
+escaped_ends_no_word : (text : Text) → list_any ends_word (percent_escaped text) ≡ false
+escaped_ends_no_word text = separates_not_ends (percent_escaped text) (escaped_never_separates text)
+
+suffix_ends_no_word : (portable : Bool) (text : Text) → list_any ends_word (suffix_escaped portable text) ≡ false
+suffix_ends_no_word portable text =
+    separates_not_ends (suffix_escaped portable text) (never_separates (suffix_escaped portable text) (suffix_stands portable text))
+
+-- a written tag holds no blank and no break
+pub written_tag_ends_no_word : (portable : Bool) (own : List TagDirective) (tag : Text) → directives_fault own ≡ None
+    → list_any ends_word (spelled portable (spelling (directives_in_force own) tag)) ≡ false
+written_tag_ends_no_word portable own tag h =
+    let P : Spelling → Type 0 = λ s. list_any ends_word (spelled portable s) ≡ false in
+    spelling_is P own (directives_in_force own) tag (in_force_found own h)
+    (any-append ends_word (percent_escaped tag) (0x3E ∷ []) (escaped_ends_no_word tag) refl)
+    (λ handle prefix c suffix f g whole.
+    any-append ends_word handle (suffix_escaped portable (c ∷ suffix)) (handle_ends_no_word handle (handle_form handle f))
+    (suffix_ends_no_word portable (c ∷ suffix)))
+
+two_at_least : (handle : Text) (d : ℕ) (more : Text) → handle_fault handle ≡ None → handle ++ (d ∷ more) ≡ tag_mark ∷ [] → ⊥
+two_at_least [] d more f e = cc
+two_at_least (x ∷ []) d more f e = cc
+two_at_least (x ∷ y ∷ handle) d more f e = cc
+
+-- a written tag is never the bare tag
+pub written_tag_is_not_bare : (portable : Bool) (own : List TagDirective) (tag : Text) → directives_fault own ≡ None
+    → spelled portable (spelling (directives_in_force own) tag) ≡ tag_mark ∷ [] → ⊥
+written_tag_is_not_bare portable own tag h =
+    let P : Spelling → Type 0 = λ s. spelled portable s ≡ tag_mark ∷ [] → ⊥ in
+    spelling_is P own (directives_in_force own) tag (in_force_found own h)
+    (λ e. cc)
+    (λ handle prefix c suffix f g whole e.
+    let begins = suffix_begins portable c suffix in
+    two_at_least handle begins.0 begins.1 f (ap (λ x. handle ++ x) (sym begins.2) ∙ e))

@@ -1,0 +1,15 @@
+pub mod CanonicalEvents
+pub mod CanonicalTokens
+pub mod CanonicalFold
+pub mod CanonicalDocuments
+pub mod CanonicalBytes
+pub mod CanonicalText
+pub mod CanonicalNames
+pub mod CanonicalQuotes
+pub mod CanonicalPlaces
+pub mod CanonicalNodes
+pub mod CanonicalLines
+pub mod CanonicalSound
+pub mod CanonicalStream
+pub mod Canonical
+pub mod CanonicalOutput

@@ -1,0 +1,228 @@
+-- What document marks and directives say to the canonical reader.
+use Rattle.std.proofs.Common.{◌≡◌, ◌⊎◌, ℕ, ℤ, pos, negsuc, refl, sym, ap, ◌∙◌, subst, append_assoc, append-nil, arith, inl, inr}
+use Rattle.std.proofs.lemmas.Bool.{and_parts, and_from, or_right, false≢true, eqb-true}
+use Rattle.std.proofs.lemmas.Bool.Decides.{nat_tests}
+use Rattle.std.proofs.lemmas.List.Folds.{list_all-append}
+use Rattle.std.proofs.lemmas.List.Splits.{slice_split-cons_yes, slice_split-cons_no}
+use Rattle.std.specs.List.{list_all, slice_split, onto_first}
+use Rattle.std.specs.Str.{all_scalars}
+use Rattle.std.specs.Prelude.{Bool, true, false, Option, None, Some, List, [], ◌∷◌, ◌++◌, ◌&&◌, ◌||◌, ◌==◌, not, codes, filter, length, replicate, if◌then◌else◌}
+use Rattle.yaml_base.specs.Characters.{Text, is_alpha, is_blank, space, line_feed}
+use Rattle.yaml_base.specs.LineBreaks.{is_read_break}
+use Rattle.yaml_base.specs.Cursor.{Cursor, new_line, space_if}
+use Rattle.yaml_base.specs.Event.{Version, TagDirective}
+use Rattle.yaml_base.specs.Percent.{prefix_escaped}
+use Rattle.yaml_base.specs.Tags.{version_fault, is_the_number, prefix_fault, tag_mark}
+use Rattle.yaml_base.specs.Indicators.{indicator_laid, spaced, document_start, document_end, yaml_directive}
+use Rattle.yaml_base.specs.Layout.{closing_mark_laid, version_laid, tag_directive_laid, tag_directives_laid, document_mark_laid}
+use Rattle.yaml_base.specs.CanonicalReader.{version_line, tag_line, document_begins, document_ends, free, in_line, tokens_from, words, directive_token, tag_line_of}
+use Rattle.yaml_base.proofs.PercentLaws.{decoded_prefix, prefix_begins}
+use Rattle.yaml_base.proofs.TagForms.{IsHandle}
+use Rattle.yaml_base.proofs.BreakLaws.{laid-append}
+use Rattle.yaml_base.proofs.stream_documents.StreamHeadings.{handle_reads, version_of, version_form}
+use Rattle.yaml_emitter.proofs.canonical.CanonicalText.{anything, Says, says_after, says_text, says_nothing, says_white, space_if-white, new_line-white, indicator_says, scalars-append, and_false}
+use Rattle.yaml_emitter.proofs.canonical.CanonicalNames.{is_written, all_written, all-scalars, all-laid, prefix-written, handle_text}
+use Rattle.yaml_emitter.proofs.canonical.CanonicalTokens.{version_tokens, tag_line_tokens}
+
+-- Marks.
+
+says_begins : (breaks12 : Bool) → Says breaks12 anything (codes "---") (document_begins ∷ [])
+says_begins true = record { scalars = refl; laid = refl; reads = λ rest meets. refl }
+says_begins false = record { scalars = refl; laid = refl; reads = λ rest meets. refl }
+
+says_ends : (breaks12 : Bool) → Says breaks12 anything (codes "...") (document_ends ∷ [])
+says_ends true = record { scalars = refl; laid = refl; reads = λ rest meets. refl }
+says_ends false = record { scalars = refl; laid = refl; reads = λ rest meets. refl }
+
+module _ (breaks12 : Bool) where
+  line_says : (at : ℕ) (cursor : Cursor) → Says breaks12 anything (new_line at cursor).text []
+  line_says at cursor = says_white breaks12 (new_line at cursor).text (new_line-white at cursor)
+
+  pub closing_says : (cursor : Cursor) → Says breaks12 anything (closing_mark_laid cursor).text (document_ends ∷ [])
+  closing_says cursor =
+      says_after (indicator_says true false false cursor (says_ends breaks12)) (line_says 0 (indicator_laid document_end cursor).cursor)
+
+  pub mark_says : (cursor : Cursor) → Says breaks12 anything (document_mark_laid true cursor).text (document_begins ∷ [])
+  mark_says cursor =
+      let line = new_line 0 cursor in
+      let sign = indicator_laid document_start line.cursor in
+      says_after (says_after (line_says 0 cursor) (indicator_says true false false line.cursor (says_begins breaks12))) (line_says 0 sign.cursor)
+
+-- a new line after what leaves indention off breaks the line
+pub line_breaks : (at : ℕ) (cursor : Cursor) → cursor.indention ≡ false → (new_line at cursor).text ≡ line_feed ∷ replicate at space
+line_breaks at cursor e = rw e refl
+
+-- Versions.
+
+first_version : (breaks12 : Bool) → Says breaks12 anything (codes "%YAML 1.1\n") (version_line (version_of 1) ∷ [])
+first_version true = record { scalars = refl; laid = refl; reads = λ rest meets. refl }
+first_version false = record { scalars = refl; laid = refl; reads = λ rest meets. refl }
+
+second_version : (breaks12 : Bool) → Says breaks12 anything (codes "%YAML 1.2\n") (version_line (version_of 2) ∷ [])
+second_version true = record { scalars = refl; laid = refl; reads = λ rest meets. refl }
+second_version false = record { scalars = refl; laid = refl; reads = λ rest meets. refl }
+
+-- a line of two words is ended by a break
+version_text_is : (cursor : Cursor) (word : Text) (end : Cursor) → end.indention ≡ false
+    → ((space_if true cursor ++ codes "%YAML") ++ (space ∷ word)) ++ (new_line 0 end).text ≡ space_if true cursor
+    ++ (codes "%YAML" ++ ((space ∷ word) ++ line_feed ∷ []))
+version_text_is cursor word end e =
+    ap (λ t. ((space_if true cursor ++ codes "%YAML") ++ (space ∷ word)) ++ t) (line_breaks 0 end e)
+    ∙ append_assoc (space_if true cursor ++ codes "%YAML") (space ∷ word) (line_feed ∷ [])
+    ∙ append_assoc (space_if true cursor) (codes "%YAML") ((space ∷ word) ++ line_feed ∷ [])
+
+abbrev pub VersionOk : Option Version → Type 0
+VersionOk None = Unit {0}
+VersionOk (Some version) = version_fault version ≡ None
+
+pub version_says : (breaks12 : Bool) (version : Option Version) (cursor : Cursor) → VersionOk version
+    → Says breaks12 anything (version_laid version cursor).text (version_tokens version)
+version_says breaks12 None cursor ok = says_nothing breaks12
+version_says breaks12 (Some version) cursor ok = by (version_form version ok)
+  where
+    says : (word : Text) (v : Version) → Says breaks12 anything (codes "%YAML" ++ ((space ∷ word) ++ line_feed ∷ [])) (version_line v ∷ [])
+        → Says breaks12 anything (((space_if true cursor ++ codes "%YAML") ++ (space ∷ word))
+        ++ (new_line 0 (indicator_laid (spaced word) (indicator_laid yaml_directive cursor).cursor).cursor).text) (version_line v ∷ [])
+    says word v line =
+        let end = (indicator_laid (spaced word) (indicator_laid yaml_directive cursor).cursor).cursor in
+        says_text (((space_if true cursor ++ codes "%YAML") ++ (space ∷ word)) ++ (new_line 0 end).text) (version_text_is cursor word end (and_false _))
+        (says_after (says_white breaks12 (space_if true cursor) (space_if-white true cursor)) line)
+
+    by : (version ≡ version_of 1) ⊎ (version ≡ version_of 2) → Says breaks12 anything (version_laid (Some version) cursor).text (version_line version ∷ [])
+    by (inl e) = subst (λ v. Says breaks12 anything (version_laid (Some v) cursor).text (version_line v ∷ [])) (sym e)
+        (says (codes "1.1") (version_of 1) (first_version breaks12))
+    by (inr e) = subst (λ v. Says breaks12 anything (version_laid (Some v) cursor).text (version_line v ∷ [])) (sym e)
+        (says (codes "1.2") (version_of 2) (second_version breaks12))
+
+-- Tag directives.
+
+-- stands within a line
+abbrev in_a_line : ℕ → Bool
+in_a_line c = is_written c || c == space
+
+no_break : (breaks12 : Bool) (c : ℕ) → in_a_line c ≡ true → is_read_break breaks12 c ≡ false
+no_break true c h = grind (arith, nat_tests)
+no_break false c h = grind (arith, nat_tests)
+
+line_goes : (breaks12 : Bool) (text seen rest : Text) → list_all in_a_line text ≡ true
+    → tokens_from breaks12 (in_line seen) (text ++ line_feed ∷ rest) ≡ directive_token (words (seen ++ text)) ∷ tokens_from breaks12 free rest
+line_goes breaks12 [] seen rest h = ap (λ t. directive_token (words t) ∷ tokens_from breaks12 free rest) (sym (append-nil seen))
+line_goes breaks12 (c ∷ text) seen rest h =
+    let p = and_parts (in_a_line c) (list_all in_a_line text) h in
+    rw (no_break breaks12 c p.0)
+    (line_goes breaks12 text (seen ++ c ∷ []) rest p.1
+    ∙ ap (λ t. directive_token (words t) ∷ tokens_from breaks12 free rest) (append_assoc seen (c ∷ []) text))
+
+written_in_line : (c : ℕ) → is_written c ≡ true → in_a_line c ≡ true
+written_in_line c h = rw h refl
+
+all_in_line : (text : Text) → all_written text ≡ true → list_all in_a_line text ≡ true
+all_in_line [] h = refl
+all_in_line (c ∷ text) h = let p = and_parts (is_written c) (all_written text) h in and_from _ _ (written_in_line c p.0) (all_in_line text p.1)
+
+written_no_blank : (c : ℕ) → is_written c ≡ true → is_blank c ≡ false
+written_no_blank c h = grind (arith, nat_tests)
+
+split_word : (word rest : Text) → all_written word ≡ true → slice_split is_blank (word ++ space ∷ rest) ≡ word ∷ slice_split is_blank rest
+split_word [] rest h = slice_split-cons_yes is_blank space rest refl
+split_word (c ∷ word) rest h =
+    let p = and_parts (is_written c) (all_written word) h in
+    slice_split-cons_no is_blank c (word ++ space ∷ rest) (written_no_blank c p.0) ∙ ap (onto_first c) (split_word word rest p.1)
+
+split_last : (word : Text) → all_written word ≡ true → slice_split is_blank word ≡ word ∷ []
+split_last [] h = refl
+split_last (c ∷ word) h =
+    let p = and_parts (is_written c) (all_written word) h in
+    slice_split-cons_no is_blank c word (written_no_blank c p.0) ∙ ap (onto_first c) (split_last word p.1)
+
+-- a word with a character counts
+abbrev counts : Text → Bool
+counts word = not (length word == 0)
+
+some_counts : (c : ℕ) (rest : Text) → counts (c ∷ rest) ≡ true
+some_counts c rest = grind (arith, nat_tests)
+
+line_words : (handle prefix : Text) → all_written handle ≡ true → all_written prefix ≡ true → counts handle ≡ true → counts prefix ≡ true
+    → words ((codes "%TAG" ++ space ∷ []) ++ (handle ++ space ∷ prefix)) ≡ codes "%TAG" ∷ handle ∷ prefix ∷ []
+line_words handle prefix h p m n =
+    ap (filter counts) (split_word (codes "%TAG") (handle ++ space ∷ prefix) refl
+    ∙ ap (λ ws. codes "%TAG" ∷ ws) (split_word handle prefix h ∙ ap (λ ws. handle ∷ ws) (split_last prefix p)))
+    ∙ rw (m, n) refl
+
+handle_written : (handle : Text) → IsHandle handle → all_written handle ≡ true
+handle_written handle is = let tag = handle_text handle is in rw tag.is tag.written
+
+handle_counts : (handle : Text) → IsHandle handle → counts handle ≡ true
+handle_counts handle is = let tag = handle_text handle is in rw tag.is (some_counts tag_mark tag.rest)
+
+-- a directive whose handle and prefix are as they must be
+pub record DirectiveOk (directive : TagDirective) : Type 0 where
+  pub handle : IsHandle directive.handle
+  pub some : prefix_fault directive.prefix ≡ None
+  pub scalars : all_scalars directive.prefix ≡ true
+
+prefix_counts : (portable : Bool) (prefix : Text) → prefix_fault prefix ≡ None → counts (prefix_escaped portable prefix) ≡ true
+prefix_counts portable [] h = absurd (cc)
+prefix_counts portable (c ∷ prefix) h = let begins = prefix_begins portable c prefix in rw begins.2 (some_counts begins.0 begins.1)
+
+abbrev pub EachDirective : List TagDirective → Type 0
+EachDirective [] = Unit {0}
+EachDirective (directive ∷ rest) = DirectiveOk directive × EachDirective rest
+
+module _ (breaks12 portable : Bool) where
+  enter_line : (rest : Text) → tokens_from breaks12 free (codes "%TAG" ++ (space ∷ rest)) ≡ tokens_from breaks12 (in_line (codes "%TAG" ++ space ∷ [])) rest
+  enter_line rest = by breaks12
+    where
+      by : (b : Bool) → tokens_from b free (codes "%TAG" ++ (space ∷ rest)) ≡ tokens_from b (in_line (codes "%TAG" ++ space ∷ [])) rest
+      by true = refl
+      by false = refl
+
+  -- the line itself, from its `%` to its break
+  abbrev line_of : TagDirective → Text
+  line_of directive = codes "%TAG" ++ (space ∷ ((directive.handle ++ space ∷ prefix_escaped portable directive.prefix) ++ line_feed ∷ []))
+
+  whole_line : (directive : TagDirective) → DirectiveOk directive → Says breaks12 anything (line_of directive) (tag_line directive ∷ [])
+  whole_line directive ok =
+      let h = handle_written directive.handle ok.handle in
+      let p = prefix-written portable directive.prefix in
+      let inner = directive.handle ++ space ∷ prefix_escaped portable directive.prefix in
+      let token : directive_token (words ((codes "%TAG" ++ space ∷ []) ++ inner)) ≡ tag_line directive =
+      ap directive_token (line_words directive.handle (prefix_escaped portable directive.prefix) h p (handle_counts directive.handle ok.handle)
+      (prefix_counts portable directive.prefix ok.some))
+      ∙ ap (tag_line_of directive.handle) (decoded_prefix portable directive.prefix ok.scalars)
+      ∙ rw (handle_reads directive.handle ok.handle) refl in
+      record {
+        scalars = scalars-append inner (line_feed ∷ [])
+            (scalars-append directive.handle (space ∷ prefix_escaped portable directive.prefix) (all-scalars directive.handle h)
+            (all-scalars (prefix_escaped portable directive.prefix) p)) refl;
+        laid = laid-append inner (line_feed ∷ [])
+            (laid-append directive.handle (space ∷ prefix_escaped portable directive.prefix) (all-laid directive.handle h)
+            (all-laid (prefix_escaped portable directive.prefix) p)) refl;
+        reads = λ rest meets.
+            enter_line ((inner ++ line_feed ∷ []) ++ rest)
+            ∙ ap (tokens_from breaks12 (in_line (codes "%TAG" ++ space ∷ []))) (append_assoc inner (line_feed ∷ []) rest)
+            ∙ line_goes breaks12 inner (codes "%TAG" ++ space ∷ []) rest
+            (list_all-append in_a_line directive.handle (space ∷ prefix_escaped portable directive.prefix)
+            ∙ and_from _ _ (all_in_line directive.handle h) (all_in_line (prefix_escaped portable directive.prefix) p))
+            ∙ ap (λ t. t ∷ tokens_from breaks12 free rest) token;
+      }
+
+  directive_says : (directive : TagDirective) (cursor : Cursor) → DirectiveOk directive
+      → Says breaks12 anything (tag_directive_laid portable directive cursor).text (tag_line directive ∷ [])
+  directive_says directive cursor ok =
+      let sp = space_if true cursor in
+      let esc = prefix_escaped portable directive.prefix in
+      let e : (((sp ++ codes "%TAG") ++ (space ∷ directive.handle)) ++ (space ∷ esc)) ++ line_feed ∷ [] ≡ sp ++ line_of directive =
+      append_assoc ((sp ++ codes "%TAG") ++ (space ∷ directive.handle)) (space ∷ esc) (line_feed ∷ [])
+      ∙ append_assoc (sp ++ codes "%TAG") (space ∷ directive.handle) ((space ∷ esc) ++ line_feed ∷ [])
+      ∙ append_assoc sp (codes "%TAG") ((space ∷ directive.handle) ++ ((space ∷ esc) ++ line_feed ∷ []))
+      ∙ ap (λ t. sp ++ (codes "%TAG" ++ (space ∷ t))) (sym (append_assoc directive.handle (space ∷ esc) (line_feed ∷ []))) in
+      says_text (tag_directive_laid portable directive cursor).text e
+      (says_after (says_white breaks12 sp (space_if-white true cursor)) (whole_line directive ok))
+
+  pub directives_say : (directives : List TagDirective) (cursor : Cursor) → EachDirective directives
+      → Says breaks12 anything (tag_directives_laid portable directives cursor).text (tag_line_tokens directives)
+  directives_say [] cursor ok = says_nothing breaks12
+  directives_say (directive ∷ rest) cursor ok =
+      let first = tag_directive_laid portable directive cursor in
+      says_after (directive_says directive cursor ok.0) (directives_say rest first.cursor ok.1)

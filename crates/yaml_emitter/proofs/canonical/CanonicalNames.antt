@@ -1,0 +1,210 @@
+-- What anchors, aliases and tags say to the canonical reader.
+use Rattle.std.proofs.Common.{◌≡◌, ℕ, refl, sym, ap, ◌∙◌, subst, append_assoc, append-nil, arith, inl, inr}
+use Rattle.std.proofs.lemmas.Bool.{and_parts, and_from, false≢true}
+use Rattle.std.proofs.lemmas.Bool.Decides.{nat_tests}
+use Rattle.std.proofs.lemmas.List.Folds.{list_all-append}
+use Rattle.std.specs.List.{list_all}
+use Rattle.std.specs.Str.{all_scalars}
+use Rattle.std.specs.Prelude.{Bool, true, false, None, List, [], ◌∷◌, ◌++◌, ◌||◌, ◌==◌, not, codes}
+use lib.Utf8.{scalar}
+use Rattle.yaml_base.specs.Characters.{Text, is_alpha, is_among, is_space, space, carriage_return, next_line}
+use Rattle.yaml_base.specs.Analysis.{begins_with}
+use Rattle.yaml_base.specs.LineBreaks.{is_laid_text}
+use Rattle.yaml_base.specs.Event.{TagDirective}
+use Rattle.yaml_base.specs.Percent.{percent_escaped, suffix_escaped, prefix_escaped}
+use Rattle.yaml_base.specs.Tags.{Spelling, spelling, spelled, directives_fault, directives_in_force, tag_mark}
+use Rattle.yaml_base.specs.CanonicalReader.{anchor_token, alias_token, tag_token, anchor_named, alias_named, free, in_anchor, in_alias, in_tag, tokens_from, free_turn, goes_to}
+use Rattle.yaml_base.proofs.PercentLaws.{stands_written, escaped_stands, suffix_stands, stands_in_prefix, prefix_stands}
+use Rattle.yaml_base.proofs.TagForms.{IsHandle, handle_form, spelling_is, in_force_found}
+use Rattle.yaml_emitter.proofs.canonical.CanonicalText.{name_ends, space_next, Says}
+
+-- what stands in a written tag, handle or prefix
+abbrev pub is_written : ℕ → Bool
+is_written c = stands_written c || is_among (codes "!<>") c
+
+written-scalar : (c : ℕ) → is_written c ≡ true → scalar c ≡ true
+written-scalar c h = grind (arith, nat_tests)
+
+written-laid : (c : ℕ) → is_written c ≡ true → not (c == carriage_return || c == next_line) ≡ true
+written-laid c h = grind (arith, nat_tests)
+
+pub written-space : (c : ℕ) → is_written c ≡ true → (c == space) ≡ false
+written-space c h = grind (arith, nat_tests)
+
+alpha-written : (c : ℕ) → is_alpha c ≡ true → is_written c ≡ true
+alpha-written c h = grind (arith, nat_tests)
+
+stands-written : (c : ℕ) → stands_written c ≡ true → is_written c ≡ true
+stands-written c h = rw h refl
+
+abbrev pub all_written : Text → Bool
+all_written text = list_all is_written text
+
+pub all-scalars : (text : Text) → all_written text ≡ true → all_scalars text ≡ true
+all-scalars [] h = refl
+all-scalars (c ∷ text) h = let p = and_parts (is_written c) (all_written text) h in and_from _ _ (written-scalar c p.0) (all-scalars text p.1)
+
+pub all-laid : (text : Text) → all_written text ≡ true → is_laid_text text ≡ true
+all-laid [] h = refl
+all-laid (c ∷ text) h = let p = and_parts (is_written c) (all_written text) h in and_from _ _ (written-laid c p.0) (all-laid text p.1)
+
+pub alphas-written : (text : Text) → list_all is_alpha text ≡ true → all_written text ≡ true
+alphas-written [] h = refl
+alphas-written (c ∷ text) h = let p = and_parts (is_alpha c) (list_all is_alpha text) h in and_from _ _ (alpha-written c p.0) (alphas-written text p.1)
+
+stand-written : (text : Text) → list_all stands_written text ≡ true → all_written text ≡ true
+stand-written [] h = refl
+stand-written (c ∷ text) h = let p = and_parts (stands_written c) (list_all stands_written text) h in
+    and_from _ _ (stands-written c p.0) (stand-written text p.1)
+
+pub escaped-written : (text : Text) → all_written (percent_escaped text) ≡ true
+escaped-written text = stand-written (percent_escaped text) (escaped_stands text)
+
+pub suffix-written : (portable : Bool) (text : Text) → all_written (suffix_escaped portable text) ≡ true
+suffix-written portable text = stand-written (suffix_escaped portable text) (suffix_stands portable text)
+
+prefix_character : (c : ℕ) → stands_in_prefix c ≡ true → is_written c ≡ true
+prefix_character c h = grind (arith, nat_tests)
+
+stand-in-prefix : (text : Text) → list_all stands_in_prefix text ≡ true → all_written text ≡ true
+stand-in-prefix [] h = refl
+stand-in-prefix (c ∷ text) h = let p = and_parts (stands_in_prefix c) (list_all stands_in_prefix text) h in
+    and_from _ _ (prefix_character c p.0) (stand-in-prefix text p.1)
+
+pub prefix-written : (portable : Bool) (text : Text) → all_written (prefix_escaped portable text) ≡ true
+prefix-written portable text = stand-in-prefix (prefix_escaped portable text) (prefix_stands portable text)
+
+pub written-append : (a b : Text) → all_written a ≡ true → all_written b ≡ true → all_written (a ++ b) ≡ true
+written-append a b h k = list_all-append is_written a b ∙ and_from _ _ h k
+
+-- Names.
+
+pub record IsName (name : Text) : Type 0 where
+  pub some : begins_with is_alpha name ≡ true
+  pub alphas : list_all is_alpha name ≡ true
+
+anchor-ends : (breaks12 : Bool) (seen rest : Text) → begins_with is_alpha rest ≡ false
+    → tokens_from breaks12 (in_anchor seen) rest ≡ anchor_named seen ∷ tokens_from breaks12 free rest
+anchor-ends breaks12 seen [] h = refl
+anchor-ends breaks12 seen (c ∷ rest) h = rw h refl
+
+anchor-goes : (breaks12 : Bool) (name seen rest : Text) → list_all is_alpha name ≡ true → begins_with is_alpha rest ≡ false
+    → tokens_from breaks12 (in_anchor seen) (name ++ rest) ≡ anchor_named (seen ++ name) ∷ tokens_from breaks12 free rest
+anchor-goes breaks12 [] seen rest h k = anchor-ends breaks12 seen rest k ∙ ap (λ t. anchor_named t ∷ tokens_from breaks12 free rest) (sym (append-nil seen))
+anchor-goes breaks12 (c ∷ name) seen rest h k =
+    let p : (is_alpha c ≡ true) × (list_all is_alpha name ≡ true) = and_parts _ _ h in
+    rw p.0
+    (anchor-goes breaks12 name (seen ++ c ∷ []) rest p.1 k
+    ∙ ap (λ t. anchor_named t ∷ tokens_from breaks12 free rest) (append_assoc seen (c ∷ []) name))
+
+alias-ends : (breaks12 : Bool) (seen rest : Text) → begins_with is_alpha rest ≡ false
+    → tokens_from breaks12 (in_alias seen) rest ≡ alias_named seen ∷ tokens_from breaks12 free rest
+alias-ends breaks12 seen [] h = refl
+alias-ends breaks12 seen (c ∷ rest) h = rw h refl
+
+alias-goes : (breaks12 : Bool) (name seen rest : Text) → list_all is_alpha name ≡ true → begins_with is_alpha rest ≡ false
+    → tokens_from breaks12 (in_alias seen) (name ++ rest) ≡ alias_named (seen ++ name) ∷ tokens_from breaks12 free rest
+alias-goes breaks12 [] seen rest h k = alias-ends breaks12 seen rest k ∙ ap (λ t. alias_named t ∷ tokens_from breaks12 free rest) (sym (append-nil seen))
+alias-goes breaks12 (c ∷ name) seen rest h k =
+    let p : (is_alpha c ≡ true) × (list_all is_alpha name ≡ true) = and_parts _ _ h in
+    rw p.0
+    (alias-goes breaks12 name (seen ++ c ∷ []) rest p.1 k
+    ∙ ap (λ t. alias_named t ∷ tokens_from breaks12 free rest) (append_assoc seen (c ∷ []) name))
+
+-- `&` and `*` begin names
+free-anchor : (breaks12 : Bool) → free_turn breaks12 0x26 ≡ goes_to (in_anchor [])
+free-anchor true = refl
+free-anchor false = refl
+
+free-alias : (breaks12 : Bool) → free_turn breaks12 0x2A ≡ goes_to (in_alias [])
+free-alias true = refl
+free-alias false = refl
+
+named-anchor : (name : Text) → begins_with is_alpha name ≡ true → anchor_named name ≡ anchor_token name
+named-anchor [] h = absurd (false≢true h)
+named-anchor (c ∷ name) h = refl
+
+named-alias : (name : Text) → begins_with is_alpha name ≡ true → alias_named name ≡ alias_token name
+named-alias [] h = absurd (false≢true h)
+named-alias (c ∷ name) h = refl
+
+pub anchor_says : (breaks12 : Bool) (name : Text) → IsName name → Says breaks12 name_ends (codes "&" ++ name) (anchor_token name ∷ [])
+anchor_says breaks12 name is = record {
+  scalars = all-scalars name (alphas-written name is.alphas);
+  laid = all-laid name (alphas-written name is.alphas);
+  reads = λ rest meets.
+      rw (free-anchor breaks12)
+      (anchor-goes breaks12 name [] rest is.alphas meets
+      ∙ ap (λ t. t ∷ tokens_from breaks12 free rest) (named-anchor name is.some));
+}
+
+pub alias_says : (breaks12 : Bool) (name : Text) → IsName name → Says breaks12 name_ends (codes "*" ++ name) (alias_token name ∷ [])
+alias_says breaks12 name is = record {
+  scalars = all-scalars name (alphas-written name is.alphas);
+  laid = all-laid name (alphas-written name is.alphas);
+  reads = λ rest meets.
+      rw (free-alias breaks12)
+      (alias-goes breaks12 name [] rest is.alphas meets
+      ∙ ap (λ t. t ∷ tokens_from breaks12 free rest) (named-alias name is.some));
+}
+
+-- Tags.
+
+tag-ends : (breaks12 : Bool) (seen rest : Text) → begins_with is_space rest ≡ true
+    → tokens_from breaks12 (in_tag seen) rest ≡ tag_token seen ∷ tokens_from breaks12 free rest
+tag-ends breaks12 seen [] h = absurd (false≢true h)
+tag-ends breaks12 seen (c ∷ rest) h = rw h refl
+
+tag-goes : (breaks12 : Bool) (text seen rest : Text) → all_written text ≡ true → begins_with is_space rest ≡ true
+    → tokens_from breaks12 (in_tag seen) (text ++ rest) ≡ tag_token (seen ++ text) ∷ tokens_from breaks12 free rest
+tag-goes breaks12 [] seen rest h k = tag-ends breaks12 seen rest k ∙ ap (λ t. tag_token t ∷ tokens_from breaks12 free rest) (sym (append-nil seen))
+tag-goes breaks12 (c ∷ text) seen rest h k =
+    let p : (is_written c ≡ true) × (all_written text ≡ true) = and_parts _ _ h in
+    rw (written-space c p.0)
+    (tag-goes breaks12 text (seen ++ c ∷ []) rest p.1 k
+    ∙ ap (λ t. tag_token t ∷ tokens_from breaks12 free rest) (append_assoc seen (c ∷ []) text))
+
+free-tag : (breaks12 : Bool) → free_turn breaks12 0x21 ≡ goes_to (in_tag (0x21 ∷ []))
+free-tag true = refl
+free-tag false = refl
+
+-- a text of a tag, from its `!` on
+pub record IsTagText (text : Text) : Type 0 where
+  pub rest : Text
+  pub is : text ≡ tag_mark ∷ rest
+  pub written : all_written rest ≡ true
+
+pub tag_says : (breaks12 : Bool) (text : Text) → IsTagText text → Says breaks12 space_next text (tag_token text ∷ [])
+tag_says breaks12 text tag =
+    subst (λ t. Says breaks12 space_next t (tag_token t ∷ [])) (sym tag.is)
+    (record {
+      scalars = all-scalars tag.rest tag.written;
+      laid = all-laid tag.rest tag.written;
+      reads = λ rest meets. rw (free-tag breaks12) (tag-goes breaks12 tag.rest (0x21 ∷ []) rest tag.written meets);
+    })
+
+tag-append : (a b : Text) → IsTagText a → all_written b ≡ true → IsTagText (a ++ b)
+tag-append a b tag h = record { rest = tag.rest ++ b; is = ap (λ t. t ++ b) tag.is; written = written-append tag.rest b tag.written h }
+
+pub handle_text : (handle : Text) → IsHandle handle → IsTagText handle
+handle_text handle (inl e) = record { rest = []; is = e; written = refl }
+handle_text handle (inr form) = record {
+  rest = form.0 ++ tag_mark ∷ [];
+  is = form.1;
+  written = written-append form.0 (tag_mark ∷ []) (alphas-written form.0 form.2) refl;
+}
+
+-- A written tag is such a text.
+pub tag_text : (portable : Bool) (own : List TagDirective) (tag : Text) → directives_fault own ≡ None
+    → IsTagText (spelled portable (spelling (directives_in_force own) tag))
+tag_text portable own tag h =
+    let P : Spelling → Type 0 = λ s. IsTagText (spelled portable s) in
+    spelling_is P own (directives_in_force own) tag (in_force_found own h)
+    (record {
+      rest = (0x3C ∷ percent_escaped tag)
+          ++ codes ">";
+      is = refl;
+      written = written-append (0x3C ∷ percent_escaped tag) (codes ">") (escaped-written tag) refl;
+    })
+    (λ handle prefix c suffix f g whole.
+    tag-append handle (suffix_escaped portable (c ∷ suffix)) (handle_text handle (handle_form handle f)) (suffix-written portable (c ∷ suffix)))

@@ -1,0 +1,161 @@
+-- What the text of a stream says to the canonical reader.
+use Rattle.std.proofs.Common.{◌≡◌, ℕ, ◌≤◌, refl, sym, ap, ◌∙◌, subst, append_assoc, append-nil}
+use Rattle.std.proofs.lemmas.Bool.{false≢true}
+use Rattle.std.specs.Prelude.{Bool, true, false, None, List, [], ◌∷◌, ◌++◌, ◌&&◌, ◌||◌, ◌==◌, not, if◌then◌else◌}
+use Rattle.yaml_base.specs.Characters.{Text}
+use Rattle.yaml_base.specs.Settings.{Effective}
+use Rattle.yaml_base.specs.Cursor.{Cursor, new_line}
+use Rattle.yaml_base.specs.Tags.{directives_in_force}
+use Rattle.yaml_base.specs.Grammar.{Document, Documents, no_documents, documents_and, Stream}
+use Rattle.yaml_base.specs.Layout.{text_of, Standing, PiecesLaid, root_place, node_laid, laid_if, closing_mark_laid, version_laid, tag_directives_laid, has_directives, is_explicit, document_mark_laid, document_start_laid, document_start_piece, document_end_piece, document_laid, has_no_documents, documents_laid, first_standing, stream_start_piece, stream_end_piece, layout}
+use Rattle.yaml_base.specs.CanonicalReader.{Token, document_begins}
+use Rattle.yaml_emitter.proofs.canonical.CanonicalText.{anything, name_ends, Says, Opens, opens_append, says_then, says_after, says_text, says_tokens, says_nothing, says_white, new_line-white}
+use Rattle.yaml_emitter.proofs.canonical.CanonicalPlaces.{in_canonical}
+use Rattle.yaml_emitter.proofs.canonical.CanonicalNodes.{lead_text, more_text, node_after}
+use Rattle.yaml_emitter.proofs.canonical.CanonicalLines.{closing_says, mark_says, version_says, directives_say, line_breaks}
+use Rattle.yaml_emitter.proofs.canonical.CanonicalSound.{DocumentOk, DocumentsOk}
+use Rattle.yaml_emitter.proofs.canonical.CanonicalTokens.{node_tokens, version_tokens, tag_line_tokens, end_tokens, document_tokens, left_open, documents_tokens}
+
+-- the open mark between documents, after one that was left open or not
+abbrev mark_of : Bool → ℕ
+mark_of true = 1
+mark_of false = 0
+
+mark_tells : (mark : ℕ) (left : Bool) → mark ≡ mark_of left → not (mark == 0) ≡ left
+mark_tells mark left e = ap (λ m. not (m == 0)) e ∙ by left
+  where
+    by : (b : Bool) → not (mark_of b == 0) ≡ b
+    by true = refl
+    by false = refl
+
+mark_kept : (mark : ℕ) (left : Bool) → mark ≡ mark_of left → (mark == 2) ≡ false
+mark_kept mark left e = ap (λ m. m == 2) e ∙ by left
+  where
+    by : (b : Bool) → (mark_of b == 2) ≡ false
+    by true = refl
+    by false = refl
+
+explicit : (a b d : Bool) → (a || b || true || d) ≡ true
+explicit true b d = refl
+explicit false true d = refl
+explicit false false d = refl
+
+-- documents that were laid after a text
+record Between (breaks12 : Bool) (text : Text) (tokens : List Token) (left : Bool) (laid : PiecesLaid) : Type 0 where
+  says : Says breaks12 anything (text ++ text_of laid.pieces) tokens
+  mark : laid.standing.mark ≡ mark_of left
+
+module _ (breaks12 : Bool) (s : Effective) (wide : 2 ≤ s.indent) where
+  closing_if : (b : Bool) (cursor : Cursor) → Says breaks12 anything (laid_if b closing_mark_laid cursor).text (end_tokens b)
+  closing_if true cursor = closing_says breaks12 cursor
+  closing_if false cursor = says_nothing breaks12
+
+  mark_if : (b : Bool) (cursor : Cursor) → b ≡ true → Says breaks12 anything (laid_if b (document_mark_laid true) cursor).text (document_begins ∷ [])
+  mark_if true cursor e = mark_says breaks12 cursor
+  mark_if false cursor e = absurd (false≢true e)
+
+  head_says : (first left : Bool) (x : Document) (standing : Standing) → DocumentOk x → standing.mark ≡ mark_of left
+      → Says breaks12 anything (document_start_laid (in_canonical s) first x.start standing).text
+      (((end_tokens (has_directives x.start && left) ++ version_tokens x.start.version) ++ tag_line_tokens x.start.directives) ++ document_begins ∷ [])
+  head_says first left x standing ok e =
+      let some = has_directives x.start in
+      let closing = laid_if (some && not (standing.mark == 0)) closing_mark_laid standing.cursor in
+      let version = version_laid x.start.version closing.cursor in
+      let lines = tag_directives_laid s.portable x.start.directives version.cursor in
+      says_tokens (((end_tokens (some && left) ++ version_tokens x.start.version) ++ tag_line_tokens x.start.directives) ++ document_begins ∷ [])
+      (ap (λ b. ((end_tokens (some && b) ++ version_tokens x.start.version) ++ tag_line_tokens x.start.directives) ++ document_begins ∷ [])
+      (mark_tells standing.mark left e))
+      (says_after
+      (says_after
+      (says_after (closing_if (some && not (standing.mark == 0)) standing.cursor) (version_says breaks12 x.start.version closing.cursor ok.version))
+      (directives_say breaks12 s.portable x.start.directives version.cursor ok.directives))
+      (mark_if (is_explicit true first x.start) lines.cursor (explicit (not x.start.implicit) (not first) some)))
+
+  end_says : (implicit : Bool) (standing : Standing) → Says breaks12 anything (document_end_piece implicit standing).piece.lead (end_tokens (not implicit))
+  end_says true standing = says_white breaks12 (new_line 0 standing.cursor).text (new_line-white 0 standing.cursor)
+  end_says false standing =
+      says_after (says_white breaks12 (new_line 0 standing.cursor).text (new_line-white 0 standing.cursor))
+      (closing_says breaks12 (new_line 0 standing.cursor).cursor)
+
+  line_opens : (cursor : Cursor) → cursor.indention ≡ false → Opens name_ends (new_line 0 cursor).text
+  line_opens cursor e = subst (λ t. Opens name_ends t) (sym (line_breaks 0 cursor e)) (record { meets = λ rest. refl })
+
+  end_opens : (implicit : Bool) (standing : Standing) → standing.cursor.indention ≡ false → Opens name_ends (document_end_piece implicit standing).piece.lead
+  end_opens true standing e = line_opens standing.cursor e
+  end_opens false standing e =
+      let line = new_line 0 standing.cursor in
+      opens_append line.text (closing_mark_laid line.cursor).text (line_opens standing.cursor e)
+
+  end_mark : (implicit : Bool) (standing : Standing) → standing.mark ≡ 0 → (document_end_piece implicit standing).standing.mark ≡ mark_of implicit
+  end_mark true standing e = ap (λ m. if m == 0 then 1 else m) e
+  end_mark false standing e = refl
+
+  document_says : (x : Document) (first left : Bool) (text : Text) (tokens : List Token) (standing : Standing) → Says breaks12 anything text tokens
+      → standing.mark ≡ mark_of left → DocumentOk x
+      → Between breaks12 text (tokens ++ document_tokens s.portable left x) x.end_implicit (document_laid (in_canonical s) first x standing)
+  document_says x first left text tokens standing says e ok =
+      let own = x.start.directives in
+      let head = document_start_laid (in_canonical s) first x.start standing in
+      let start = document_start_piece (in_canonical s) first x.start standing in
+      let node = node_laid x.root (in_canonical s) (directives_in_force own) root_place start.standing in
+      let end = document_end_piece x.end_implicit node.standing in
+      let h = ((end_tokens (has_directives x.start && left) ++ version_tokens x.start.version) ++ tag_line_tokens own) ++ document_begins ∷ [] in
+      let n = node_tokens s.portable x.root own in
+      let t = end_tokens (not x.end_implicit) in
+      let before : Says breaks12 anything (text ++ text_of (start.piece ∷ [])) (tokens ++ h) =
+      says_text (text ++ text_of (start.piece ∷ [])) (ap (λ u. text ++ u) (lead_text head.text)) (says_after says (head_says first left x standing ok e)) in
+      let after = node_after breaks12 s wide own ok.sound x.root None anything (text ++ text_of (start.piece ∷ []))
+      (tokens ++ h) start.standing before refl ok.root in
+      let all = says_then after.says (end_opens x.end_implicit node.standing after.off) (end_says x.end_implicit node.standing) in
+      record {
+        says =
+            says_tokens (tokens ++ ((h ++ n) ++ t))
+            (ap (λ k. k ++ t) (append_assoc tokens h n) ∙ append_assoc tokens (h ++ n) t)
+            (says_text (text ++ text_of (((start.piece ∷ []) ++ node.pieces) ++ end.piece ∷ []))
+            (more_text text ((start.piece ∷ []) ++ node.pieces) (end.piece ∷ [])
+            ∙ ap (λ u. u ++ text_of (end.piece ∷ [])) (more_text text (start.piece ∷ []) node.pieces)
+            ∙ ap (λ u. ((text ++ text_of (start.piece ∷ [])) ++ text_of node.pieces) ++ u) (end_text x.end_implicit node.standing))
+            all);
+        mark = end_mark x.end_implicit node.standing after.mark;
+      }
+    where
+      end_text : (implicit : Bool) (standing : Standing)
+          → text_of ((document_end_piece implicit standing).piece ∷ []) ≡ (document_end_piece implicit standing).piece.lead
+      end_text true standing = lead_text (document_end_piece true standing).piece.lead
+      end_text false standing = lead_text (document_end_piece false standing).piece.lead
+
+  documents_say : (x : Documents) (text : Text) (tokens : List Token) (standing : Standing) → Says breaks12 anything text tokens
+      → standing.mark ≡ 0 → DocumentsOk x
+      → Between breaks12 text (tokens ++ documents_tokens s.portable x) (left_open x) (documents_laid (in_canonical s) x standing)
+  documents_say no_documents text tokens standing says e ok = record {
+    says = says_text (text ++ []) (append-nil text) (says_tokens (tokens ++ []) (sym (append-nil tokens)) says);
+    mark = e;
+  }
+  documents_say (documents_and before last) text tokens standing says e ok =
+      let front = documents_laid (in_canonical s) before standing in
+      let said = documents_say before text tokens standing says e ok.0 in
+      let back = document_laid (in_canonical s) (has_no_documents before) last front.standing in
+      let more = document_says last (has_no_documents before) (left_open before) (text ++ text_of front.pieces)
+      (tokens ++ documents_tokens s.portable before) front.standing said.says said.mark ok.1 in
+      record {
+        says =
+            says_tokens (tokens ++ documents_tokens s.portable (documents_and before last))
+            (append_assoc tokens (documents_tokens s.portable before) (document_tokens s.portable (left_open before) last))
+            (says_text (text ++ text_of (front.pieces ++ back.pieces)) (more_text text front.pieces back.pieces) more.says);
+        mark = more.mark;
+      }
+
+  -- The text of a stream says its documents.
+  pub stream_says : (stream : Stream) → DocumentsOk stream.documents
+      → Says breaks12 anything (text_of (layout (in_canonical s) stream)) (documents_tokens s.portable stream.documents)
+  stream_says stream ok =
+      let start = stream_start_piece first_standing in
+      let inner = documents_laid (in_canonical s) stream.documents start.standing in
+      let said = documents_say stream.documents [] [] start.standing (says_nothing breaks12) refl ok in
+      let end = stream_end_piece inner.standing in
+      let none : text_of (end.piece ∷ []) ≡ [] =
+      lead_text end.piece.lead ∙ ap (λ b. (laid_if b closing_mark_laid inner.standing.cursor).text)
+      (mark_kept inner.standing.mark (left_open stream.documents) said.mark) in
+      says_text (text_of (((start.piece ∷ []) ++ inner.pieces) ++ end.piece ∷ []))
+      (more_text [] ((start.piece ∷ []) ++ inner.pieces) (end.piece ∷ []) ∙ ap (λ u. text_of inner.pieces ++ u) none ∙ append-nil (text_of inner.pieces))
+      said.says

@@ -1,0 +1,30 @@
+use Rattle.std.proofs.Common.{◌∙◌, ap, subst, sym, List}
+use Rattle.yaml_base.specs.Event.{Event}
+use Rattle.yaml_base.specs.Settings.{Settings}
+use Rattle.yaml_pen.specs.Page.{Page, all_taken}
+use Rattle.yaml_emitter.specs.Inside.{IsEmitter, state_of}
+use Rattle.yaml_emitter.specs.State.{State, with_all_taken}
+use Rattle.yaml_emitter.specs.StandsAfter.{StandsAfter}
+use Rattle.yaml_emitter.proofs.standing.Promising.{promised}
+use Rattle.yaml_emitter.proofs.standing.Taking.{kept_taken, stands_taken}
+use Rattle.yaml_emitter.proofs.emit.yaml_emitter_take_output.Goals as goal
+
+pub invariant_of-emitter : goal.invariant_of-emitter
+invariant_of-emitter g c =
+    subst (λ (pen : Page). IsEmitter (record c.emitter.inside { pen = pen })) (sym c.take_output.ensures.taken) (kept_taken c.emitter.inside c.emitter.invariant)
+
+pub returns-clause-taken : goal.returns-clause-taken
+returns-clause-taken g c =
+    ap (λ (pen : Page). state_of (record c.emitter.inside { pen = pen })) c.take_output.ensures.taken ∙ ap with_all_taken c.emitter.view_is
+
+stood : (g : _) (c : goal.After-take_output g) (given : Settings) (all : List Event) → StandsAfter given all c.args.emitter.now
+    → StandsAfter given all (state_of (record c.emitter.inside { pen = c.take_output.new.self }))
+stood g c given all stands =
+    subst (λ (pen : Page). StandsAfter given all (state_of (record c.emitter.inside { pen = pen }))) (sym c.take_output.ensures.taken)
+    (stands_taken given all (state_of c.emitter.inside) (subst (λ (s : State). StandsAfter given all s) (sym c.emitter.view_is) stands))
+
+pub returns-clause-stands : goal.returns-clause-stands
+returns-clause-stands g c given all stands = stood g c given all stands
+
+pub returns-clause-promised : goal.returns-clause-promised
+returns-clause-promised g c given all stands = promised given all _ (stood g c given all stands)

@@ -1,0 +1,254 @@
+-- The work of a collection's start and end, as a step of the emitter.
+use Rattle.std.proofs.Common.{◌≡◌, ℕ, Bool, true, false, not, ◌&&◌, Option, None, Some, Result, Ok, Err, List, ◌∷◌, refl, sym, ap, subst, ◌∙◌}
+use Rattle.std.specs.Option.{option_or}
+use Rattle.std.specs.Prelude.{nat_lt, length}
+use Rattle.yaml_base.specs.Cursor.{Cursor}
+use Rattle.yaml_base.specs.Settings.{Effective}
+use Rattle.yaml_base.specs.Event.{TagDirective, Collection, CollectionStyle}
+use Rattle.yaml_base.specs.Layout.{Place, Brackets, is_key, is_simple_collection, start_piece, end_piece, is_written_in_flow, entry_place, entries_column}
+use Rattle.yaml_base.specs.Refusal.{name_or_tag_fault, fault_if, expected_node, too_deep, most_open}
+use Rattle.yaml_base.specs.Output.{hands_out}
+use Rattle.yaml_base.specs.Steps.{Frame, Stage, at_node, next_place, stage_after, stage_refusal, step, node_allowed, is_first}
+use Rattle.yaml_base.specs.declared.errors.yaml_error_t.{yaml_error_t}
+use Rattle.yaml_pen.specs.Page.{Page}
+use Rattle.yaml_pen.specs.Wrote.{Wrote}
+use Rattle.yaml_emitter.specs.State.{State}
+use Rattle.yaml_emitter.specs.NodeEvents.{start_event, end_event, brackets_of, first_entry, is_undented}
+use Rattle.yaml_emitter.specs.WrittenPieces.{piece_at}
+use Rattle.yaml_emitter.specs.Processing.{Processed}
+use Rattle.yaml_pen.specs.Page.{encoded, told}
+use Rattle.yaml_base.specs.declared.errors.yaml_error_t.TheVariants.{ExpectedNode, TooDeep, Memory}
+use Rattle.yaml_emitter.proofs.events_done.ProcessedBy.{IsInStream, processed_after_writing, processed_cut_at, processed_refused_at, processed_written_at}
+
+-- Starts of collections
+
+pub room_here : (room full : Bool) → full ≡ not room → full ≡ false → room ≡ true
+room_here true full is answered = refl
+room_here false full is answered = cc
+
+pub full_here : (room full : Bool) → full ≡ not room → full ≡ true → room ≡ false
+full_here true full is answered = cc
+full_here false full is answered = refl
+
+-- a collection's style is no fault
+pub of_any_style : (canonical mapping : Bool) (start : Collection) (style : CollectionStyle) → name_or_tag_fault canonical (start_event mapping start) ≡ None
+    → name_or_tag_fault canonical (start_event mapping (record start { style = style })) ≡ None
+of_any_style canonical true start style none = none
+of_any_style canonical false start style none = none
+
+abbrev start_simple : Effective → List TagDirective → Collection → (empty : Bool) → Place → Bool
+start_simple s directives start empty place = is_key place.role && (not s.canonical && is_simple_collection s.canonical directives start empty)
+
+start_refusal : (canonical : Bool) (directives : List TagDirective) (frames : List Frame) (mapping : Bool) (start : Collection) (room : Bool)
+    → name_or_tag_fault canonical (start_event mapping start) ≡ None
+    → nat_lt (length frames) most_open ≡ room
+    → stage_refusal canonical (at_node directives frames) (start_event mapping start) ≡ fault_if (not room) too_deep
+start_refusal canonical directives frames true start room none is =
+    ap (λ (o : Option ℕ). option_or o (fault_if (not (nat_lt (length frames) most_open)) too_deep)) none ∙ ap (λ (b : Bool). fault_if (not b) too_deep) is
+start_refusal canonical directives frames false start room none is =
+    ap (λ (o : Option ℕ). option_or o (fault_if (not (nat_lt (length frames) most_open)) too_deep)) none ∙ ap (λ (b : Bool). fault_if (not b) too_deep) is
+
+pub start_refused : (before : State) (directives : List TagDirective) (frames : List Frame) (mapping : Bool) (start : Collection) (empty : Bool)
+    → before.stage ≡ at_node directives frames
+    → name_or_tag_fault before.given.canonical (start_event mapping start) ≡ None → nat_lt (length frames) most_open ≡ false
+    → Processed (start_event mapping start) empty before before (Err TooDeep)
+start_refused before directives frames mapping start empty at none full =
+    processed_refused_at (start_event mapping start) empty before (at_node directives frames) TooDeep at tt
+    (start_refusal before.given.canonical directives frames mapping start false none full)
+
+start_wrote : (before : State) (directives : List TagDirective) (frames : List Frame) (mapping : Bool) (start : Collection) (empty simple : Bool)
+    (place : Place) (page : Page) (answer : Result (Unit {0}) yaml_error_t)
+    → place ≡ next_place frames → simple ≡ start_simple before.settings directives start empty place
+    → Wrote (piece_at (start_piece before.settings directives place simple start) before.mark) before.page page answer
+    → Wrote (piece_at (λ standing. (step before.settings (at_node directives frames) (start_event mapping start) empty standing).laid) before.mark) before.page
+    page answer
+start_wrote before directives frames mapping start empty simple place page answer place_is simple_is wrote =
+    by mapping
+    (subst (λ (p : Place). Wrote (piece_at (start_piece before.settings directives p (start_simple before.settings directives start empty p) start) before.mark)
+    before.page page answer) place_is
+    (subst (λ (b : Bool). Wrote (piece_at (start_piece before.settings directives place b start) before.mark) before.page page answer) simple_is wrote))
+  where
+    by : (mapping : Bool) → Wrote (piece_at
+        (start_piece before.settings directives (next_place frames) (start_simple before.settings directives start empty (next_place frames)) start)
+        before.mark) before.page page answer
+        → Wrote (piece_at (λ standing. (step before.settings (at_node directives frames) (start_event mapping start) empty standing).laid) before.mark)
+        before.page page answer
+    by true w = w
+    by false w = w
+
+pub start_cut : (before : State) (directives : List TagDirective) (frames : List Frame) (mapping : Bool) (start : Collection) (empty simple : Bool)
+    (place : Place) (page : Page) (error : yaml_error_t)
+    → before.stage ≡ at_node directives frames → name_or_tag_fault before.given.canonical (start_event mapping start) ≡ None
+    → nat_lt (length frames) most_open ≡ true
+    → place ≡ next_place frames → simple ≡ start_simple before.settings directives start empty place
+    → Wrote (piece_at (start_piece before.settings directives place simple start) before.mark) before.page page (Err error)
+    → Processed (start_event mapping start) empty before (record before { page = page }) (Err error)
+start_cut before directives frames mapping start empty simple place page error at none room place_is simple_is wrote =
+    processed_cut_at (start_event mapping start) empty before (record before { page = page }) (at_node directives frames) error at refl refl
+    (start_refusal before.given.canonical directives frames mapping start true none room)
+    (start_wrote before directives frames mapping start empty simple place page (Err error) place_is simple_is wrote)
+
+told_well : (given : Option yaml_error_t) → Ok tt ≡ told given → given ≡ None
+told_well None is = refl
+told_well (Some other) is = cc
+
+-- want of memory for what is open, after the start was written
+pub start_unkept : (before : State) (directives : List TagDirective) (frames : List Frame) (mapping : Bool) (start : Collection) (empty simple : Bool)
+    (place : Place) (after : Stage) (page : Page)
+    → before.stage ≡ at_node directives frames → name_or_tag_fault before.given.canonical (start_event mapping start) ≡ None
+    → nat_lt (length frames) most_open ≡ true
+    → place ≡ next_place frames → simple ≡ start_simple before.settings directives start empty place
+    → Wrote (piece_at (start_piece before.settings directives place simple start) before.mark) before.page page (Ok tt)
+    → Processed (start_event mapping start) empty before (record before { stage = after; page = page }) (Err Memory)
+start_unkept before directives frames mapping start empty simple place after page at none room place_is simple_is wrote =
+    let well = told_well page.error wrote.answered in
+    processed_after_writing (start_event mapping start) empty before (record before { stage = after; page = page }) (at_node directives frames) at refl refl
+    (start_refusal before.given.canonical directives frames mapping start true none room) well
+    (start_wrote before directives frames mapping start empty simple place page (Ok tt) place_is simple_is wrote)
+
+abbrev pub opened : Effective → (mapping in_flow simple : Bool) → Place → Cursor → Frame
+opened s mapping in_flow simple place cursor =
+    record {
+      place = entry_place in_flow (first_entry mapping) (entries_column in_flow (is_undented mapping place.role) s.indent place.column cursor);
+      simple = simple;
+    }
+
+pub start_written : (before : State) (directives : List TagDirective) (frames : List Frame) (mapping : Bool) (start : Collection) (empty simple in_flow : Bool)
+    (place : Place) (frame : Frame) (after : Stage) (page : Page)
+    → before.stage ≡ at_node directives frames → name_or_tag_fault before.given.canonical (start_event mapping start) ≡ None
+    → nat_lt (length frames) most_open ≡ true
+    → place ≡ next_place frames → simple ≡ start_simple before.settings directives start empty place
+    → in_flow ≡ is_written_in_flow before.settings place start empty
+    → frame ≡ opened before.settings mapping in_flow simple place page.cursor
+    → after ≡ at_node directives (frame ∷ frames)
+    → Wrote (piece_at (start_piece before.settings directives place simple start) before.mark) before.page page (Ok tt)
+    → Processed (start_event mapping start) empty before (record before { stage = after; page = page }) (Ok tt)
+start_written before directives frames mapping start empty simple in_flow place frame after page at none room place_is simple_is in_flow_is frame_is after_is
+    wrote =
+    let s = before.settings in
+    let whole = start_wrote before directives frames mapping start empty simple place page (Ok tt) place_is simple_is wrote in
+    let framed = frame_is
+    ∙ ap (λ (b : Bool). opened s mapping b simple place page.cursor) in_flow_is
+    ∙ ap (λ (b : Bool). opened s mapping (is_written_in_flow s place start empty) b place page.cursor) simple_is
+    ∙ ap (λ (p : Place). opened s mapping (is_written_in_flow s p start empty) (start_simple s directives start empty p) p page.cursor) place_is
+    ∙ ap (λ (c : Cursor). opened s mapping (is_written_in_flow s (next_place frames) start empty) (start_simple s directives start empty (next_place frames))
+    (next_place frames) c) (whole.all (told_well page.error whole.answered)).cursor in
+    processed_written_at (start_event mapping start) empty before (record before { stage = after; page = page }) (at_node directives frames) at
+    (in_stream mapping) refl
+    (start_refusal before.given.canonical directives frames mapping start true none room) refl
+    (after_is ∙ ap (λ (f : Frame). at_node directives (f ∷ frames)) framed ∙ stage_by mapping) (mark_by mapping) whole (hands mapping)
+  where
+    in_stream : (mapping : Bool) → IsInStream (start_event mapping start)
+    in_stream true = tt
+    in_stream false = tt
+
+    hands : (mapping : Bool) → hands_out (start_event mapping start) ≡ true → page.output ≡ encoded page
+    hands true is = cc
+    hands false is = cc
+
+    mark_by : (mapping : Bool) → before.mark
+        ≡ (step before.settings (at_node directives frames) (start_event mapping start) empty
+        (record { cursor = before.page.cursor; mark = before.mark })).laid.standing.mark
+    mark_by true = refl
+    mark_by false = refl
+
+    stage_by : (mapping : Bool) → at_node directives
+        (opened before.settings mapping (is_written_in_flow before.settings (next_place frames) start empty)
+        (start_simple before.settings directives start empty (next_place frames)) (next_place frames)
+        (step before.settings (at_node directives frames) (start_event mapping start) empty
+        (record { cursor = before.page.cursor; mark = before.mark })).laid.standing.cursor ∷ frames)
+        ≡ (step before.settings (at_node directives frames) (start_event mapping start) empty
+        (record { cursor = before.page.cursor; mark = before.mark })).stage
+    stage_by true = refl
+    stage_by false = refl
+
+-- Ends of collections
+
+pub may_end_here : (frames : List Frame) (frame : Frame) (outer : List Frame) (mapping may : Bool) → frames ≡ frame ∷ outer
+    → may ≡ node_allowed frames (end_event mapping) → may ≡ true → node_allowed (frame ∷ outer) (end_event mapping) ≡ true
+may_end_here frames frame outer mapping true parts is answered = sym (is ∙ ap (λ (f : List Frame). node_allowed f (end_event mapping)) parts)
+may_end_here frames frame outer mapping false parts is answered = cc
+
+pub end_wrote : (s : Effective) (brackets : Brackets) (mapping in_flow empty first : Bool) (column : Option ℕ) (mark : ℕ) (before after : Page)
+    (answer : Result (Unit {0}) yaml_error_t)
+    → brackets_of mapping ≡ brackets → empty ≡ first → Wrote (piece_at (end_piece s brackets in_flow empty column) mark) before after answer
+    → Wrote (piece_at (end_piece s (brackets_of mapping) in_flow first column) mark) before after answer
+end_wrote s brackets mapping in_flow empty first column mark before after answer brackets_are first_is wrote =
+    subst (λ (b : Brackets). Wrote (piece_at (end_piece s b in_flow first column) mark) before after answer) (sym brackets_are)
+    (subst (λ (b : Bool). Wrote (piece_at (end_piece s brackets in_flow b column) mark) before after answer) first_is wrote)
+
+end_refusal : (canonical : Bool) (directives : List TagDirective) (frames : List Frame) (mapping allowed : Bool)
+    → node_allowed frames (end_event mapping) ≡ allowed
+    → stage_refusal canonical (at_node directives frames) (end_event mapping) ≡ option_or (fault_if (not allowed) expected_node) None
+end_refusal canonical directives frames true allowed is = ap (λ (b : Bool). option_or (fault_if (not b) expected_node) None) is
+end_refusal canonical directives frames false allowed is = ap (λ (b : Bool). option_or (fault_if (not b) expected_node) None) is
+
+pub end_refused : (before : State) (directives : List TagDirective) (frames : List Frame) (mapping empty : Bool) → before.stage ≡ at_node directives frames
+    → node_allowed frames (end_event mapping) ≡ false → Processed (end_event mapping) empty before before (Err ExpectedNode)
+end_refused before directives frames mapping empty at allowed =
+    processed_refused_at (end_event mapping) empty before (at_node directives frames) ExpectedNode at tt
+    (end_refusal before.given.canonical directives frames mapping false allowed)
+
+end_wrote_at : (before : State) (directives : List TagDirective) (frame : Frame) (outer : List Frame) (mapping empty : Bool) (column : Option ℕ) (page : Page)
+    (answer : Result (Unit {0}) yaml_error_t)
+    → column ≡ (next_place outer).column
+    → Wrote (piece_at (end_piece before.settings (brackets_of mapping) frame.place.in_flow (is_first frame.place.role) column) before.mark) before.page page
+    answer
+    → Wrote (piece_at (λ standing. (step before.settings (at_node directives (frame ∷ outer)) (end_event mapping) empty standing).laid) before.mark) before.page
+    page answer
+end_wrote_at before directives frame outer mapping empty column page answer column_is wrote =
+    by mapping (subst (λ (c : Option ℕ).
+    Wrote (piece_at (end_piece before.settings (brackets_of mapping) frame.place.in_flow (is_first frame.place.role) c) before.mark) before.page page
+    answer) column_is wrote)
+  where
+    by : (mapping : Bool) → Wrote (piece_at
+        (end_piece before.settings (brackets_of mapping) frame.place.in_flow (is_first frame.place.role) (next_place outer).column) before.mark) before.page
+        page answer
+        → Wrote (piece_at (λ standing. (step before.settings (at_node directives (frame ∷ outer)) (end_event mapping) empty standing).laid) before.mark)
+        before.page page answer
+    by true w = w
+    by false w = w
+
+pub end_cut : (before : State) (directives : List TagDirective) (frame : Frame) (outer : List Frame) (mapping empty : Bool) (column : Option ℕ) (after : Stage)
+    (page : Page) (error : yaml_error_t)
+    → before.stage ≡ at_node directives (frame ∷ outer) → node_allowed (frame ∷ outer) (end_event mapping) ≡ true → column ≡ (next_place outer).column
+    → Wrote (piece_at (end_piece before.settings (brackets_of mapping) frame.place.in_flow (is_first frame.place.role) column) before.mark) before.page page
+    (Err error)
+    → Processed (end_event mapping) empty before (record before { stage = after; page = page }) (Err error)
+end_cut before directives frame outer mapping empty column after page error at allowed column_is wrote =
+    processed_cut_at (end_event mapping) empty before (record before { stage = after; page = page }) (at_node directives (frame ∷ outer)) error at refl refl
+    (end_refusal before.given.canonical directives (frame ∷ outer) mapping true allowed)
+    (end_wrote_at before directives frame outer mapping empty column page (Err error) column_is wrote)
+
+pub end_written : (before : State) (directives : List TagDirective) (frame : Frame) (outer : List Frame) (mapping empty : Bool) (column : Option ℕ)
+    (after : Stage) (page : Page)
+    → before.stage ≡ at_node directives (frame ∷ outer) → node_allowed (frame ∷ outer) (end_event mapping) ≡ true → column ≡ (next_place outer).column
+    → after ≡ stage_after directives outer frame.simple
+    → Wrote (piece_at (end_piece before.settings (brackets_of mapping) frame.place.in_flow (is_first frame.place.role) column) before.mark) before.page page
+    (Ok tt)
+    → Processed (end_event mapping) empty before (record before { stage = after; page = page }) (Ok tt)
+end_written before directives frame outer mapping empty column after page at allowed column_is after_is wrote =
+    processed_written_at (end_event mapping) empty before (record before { stage = after; page = page }) (at_node directives (frame ∷ outer)) at
+    (in_stream mapping) refl
+    (end_refusal before.given.canonical directives (frame ∷ outer) mapping true allowed) refl (after_is ∙ stage_by mapping) (mark_by mapping)
+    (end_wrote_at before directives frame outer mapping empty column page (Ok tt) column_is wrote) (hands mapping)
+  where
+    in_stream : (mapping : Bool) → IsInStream (end_event mapping)
+    in_stream true = tt
+    in_stream false = tt
+
+    hands : (mapping : Bool) → hands_out (end_event mapping) ≡ true → page.output ≡ encoded page
+    hands true is = cc
+    hands false is = cc
+
+    mark_by : (mapping : Bool) → before.mark
+        ≡ (step before.settings (at_node directives (frame ∷ outer)) (end_event mapping) empty
+        (record { cursor = before.page.cursor; mark = before.mark })).laid.standing.mark
+    mark_by true = refl
+    mark_by false = refl
+
+    stage_by : (mapping : Bool) → stage_after directives outer frame.simple
+        ≡ (step before.settings (at_node directives (frame ∷ outer)) (end_event mapping) empty
+        (record { cursor = before.page.cursor; mark = before.mark })).stage
+    stage_by true = refl
+    stage_by false = refl

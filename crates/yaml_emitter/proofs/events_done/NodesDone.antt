@@ -1,0 +1,212 @@
+-- Each event's work within a document, as a step of the emitter.
+use Rattle.std.proofs.Common.{◌≡◌, ℕ, Bool, true, false, not, ◌&&◌, Option, None, Some, Result, Ok, Err, List, [], ◌∷◌, refl, sym, ap, subst, ◌∙◌}
+use Rattle.std.specs.Option.{option_or}
+use Rattle.yaml_base.specs.Characters.{Text}
+use Rattle.std.specs.Prelude.{is_some, option_and_then}
+use Rattle.yaml_base.specs.Settings.{Effective}
+use Rattle.yaml_base.specs.Event.{Event, TagDirective, Scalar, Collection, alias, scalar}
+use Rattle.yaml_base.specs.Layout.{Place, is_key, is_simple_alias, is_simple_scalar, alias_piece, scalar_piece}
+use Rattle.yaml_base.specs.Refusal.{name_or_tag_fault, scalar_tag, collection_tag, fault_if, no_tag_nor_implicit}
+use Rattle.yaml_base.specs.Style.{lacks_tag_and_flags}
+use Rattle.yaml_base.specs.Tags.{alias_fault, anchor_fault, tag_fault}
+use Rattle.yaml_base.specs.Steps.{Frame, Stage, at_node, next_place, stage_after, stage_refusal}
+use Rattle.yaml_base.specs.declared.errors.yaml_error_t.{yaml_error_t}
+use Rattle.yaml_pen.specs.Page.{Page, IsReady}
+use Rattle.yaml_pen.specs.Wrote.{Wrote}
+use Rattle.yaml_emitter.specs.State.{State, FitsPage, is_at_stream}
+use Rattle.yaml_emitter.specs.Stages.{seen_stage}
+use Rattle.yaml_emitter.specs.Inside.{IsEmitter, state_of}
+use Rattle.yaml_emitter.specs.NodeEvents.{is_at_node, start_event}
+use Rattle.yaml_emitter.specs.Signs.{name_breaks}
+use Rattle.yaml_emitter.specs.WrittenPieces.{piece_at}
+use Rattle.yaml_emitter.specs.Processing.{Processed}
+use Rattle.yaml_emitter.specs.declared.stage.Stage as stage
+use Rattle.yaml_emitter.specs.declared.stage.Stage.TheVariants.{Stream, Document, Node, DocumentEnd, Nothing}
+use Rattle.yaml_base.specs.declared.errors.yaml_error_t.TheVariants.{NoTagNorImplicit}
+use Rattle.yaml_emitter.specs.declared.writing.marks.OpenMark.{OpenMark}
+use Rattle.yaml_emitter.specs.declared.emitter.yaml_emitter_t.TheInside.{Inside}
+use Rattle.yaml_emitter.proofs.events_done.KeptInside.{kept_writing, fits_ready}
+use Rattle.yaml_emitter.proofs.events_done.ProcessedBy.{processed_cut_at, processed_refused_at, processed_written_at}
+use Rattle.yaml_emitter.proofs.pieces.WritingNames.{sound_anchor}
+
+-- The stage within a document
+
+is_node : (st : stage.Stage) (directives : List TagDirective) (frames : List Frame) → is_at_node (seen_stage st directives frames) ≡ true → st ≡ Node
+is_node Stream directives frames is = cc
+is_node (Document first) directives frames is = cc
+is_node Node directives frames is = refl
+is_node DocumentEnd directives frames is = cc
+is_node Nothing directives frames is = cc
+
+pub at_node_inside : {A : Type 0} (e : Inside A) {seen : State} → state_of e ≡ seen → is_at_node seen.stage ≡ true → e.stage ≡ Node
+at_node_inside e is at = is_node e.stage e.directives e.frames (ap (λ (s : State). is_at_node s.stage) is ∙ at)
+
+pub seen_at_node : {A : Type 0} (e : Inside A) → e.stage ≡ Node → (state_of e).stage ≡ at_node e.directives e.frames
+seen_at_node e at = ap (λ (st : stage.Stage). seen_stage st e.directives e.frames) at
+
+pub ready_inside : {A : Type 0} (e : Inside A) → IsEmitter e → e.stage ≡ Node → IsReady e.pen
+ready_inside e kept at = subst (λ (st : stage.Stage). FitsPage (seen_stage st e.directives e.frames) e.pen) at kept.page
+
+pub output_at_node : {A : Type 0} (e : Inside A) → IsEmitter e → e.stage ≡ Node → e.has_output ≡ true
+output_at_node e kept at = kept.begun (ap (λ (st : stage.Stage). is_at_stream (seen_stage st e.directives e.frames)) at)
+
+pub names_inside : {A : Type 0} (e : Inside A) {seen : State} → state_of e ≡ seen → (event : Event) → name_or_tag_fault seen.given.canonical event ≡ None
+    → name_or_tag_fault (state_of e).given.canonical event ≡ None
+names_inside e is event none = ap (λ (s : State). name_or_tag_fault s.given.canonical event) is ∙ none
+
+pub pushed_at_node : {A : Type 0} (e : Inside A) (frames : List Frame) (frame : Frame) → e.stage ≡ Node → frames ≡ frame ∷ e.frames
+    → seen_stage e.stage e.directives frames ≡ at_node e.directives (frame ∷ e.frames)
+pushed_at_node e frames frame at pushed =
+    ap (λ (st : stage.Stage). seen_stage st e.directives frames) at ∙ ap (at_node e.directives) pushed
+
+-- what is kept while the stage stays
+pub kept_at_node : {A : Type 0} (e : Inside A) (pen : Page) (frames : List Frame) (mark : OpenMark) → IsEmitter e → e.has_output ≡ true
+    → e.stage ≡ Node → IsReady pen → IsEmitter (record e { pen = pen; frames = frames; mark = mark })
+kept_at_node e pen frames mark kept output at ready =
+    kept_writing e pen e.stage frames mark kept output
+    (subst (λ (st : stage.Stage). FitsPage (seen_stage st e.directives frames) pen) (sym at) ready)
+
+after_is_behind : (directives : List TagDirective) (frames : List Frame) (simple : Bool) → is_at_stream (stage_after directives frames simple) ≡ false
+after_is_behind directives [] simple = refl
+after_is_behind directives (frame ∷ outer) simple = refl
+
+-- what is kept after a node
+pub kept_advancing : {A : Type 0} (e : Inside A) (pen : Page) (after : stage.Stage) (frames around : List Frame) (simple : Bool) (mark : OpenMark) → IsEmitter e
+    → e.has_output ≡ true
+    → seen_stage after e.directives frames ≡ stage_after e.directives around simple → IsReady pen
+    → IsEmitter (record e { pen = pen; stage = after; frames = frames; mark = mark })
+kept_advancing e pen after frames around simple mark kept output is ready =
+    kept_writing e pen after frames mark kept output
+    (fits_ready (seen_stage after e.directives frames) pen (ap is_at_stream is ∙ after_is_behind e.directives around simple) ready)
+
+-- Aliases
+
+alias_accepted : (canonical : Bool) (directives : List TagDirective) (frames : List Frame) (name : Text) → alias_fault name ≡ None
+    → stage_refusal canonical (at_node directives frames) (alias name) ≡ None
+alias_accepted canonical directives frames name none = ap (λ (o : Option ℕ). option_or o None) none
+
+alias_wrote : (before : State) (frames : List Frame) (name : Text) (simple : Bool) (place : Place) (page : Page) (answer : Result (Unit {0}) yaml_error_t)
+    → place ≡ next_place frames → simple ≡ (is_key place.role && (not before.settings.canonical && is_simple_alias name))
+    → Wrote (piece_at (alias_piece before.settings place simple name) before.mark) before.page page answer
+    → Wrote (piece_at (alias_piece before.settings (next_place frames)
+    (is_key (next_place frames).role && (not before.settings.canonical && is_simple_alias name)) name) before.mark) before.page page answer
+alias_wrote before frames name simple place page answer place_is simple_is wrote =
+    let at_place = subst (λ (b : Bool). Wrote (piece_at (alias_piece before.settings place b name) before.mark) before.page page answer) simple_is wrote in
+    subst (λ (p : Place). Wrote (piece_at
+    (alias_piece before.settings p (is_key p.role && (not before.settings.canonical && is_simple_alias name)) name) before.mark) before.page page answer)
+    place_is at_place
+
+pub alias_cut : (before : State) (directives : List TagDirective) (frames : List Frame) (name : Text) (empty simple : Bool) (place : Place) (page : Page)
+    (error : yaml_error_t)
+    → before.stage ≡ at_node directives frames → alias_fault name ≡ None
+    → place ≡ next_place frames → simple ≡ (is_key place.role && (not before.settings.canonical && is_simple_alias name))
+    → Wrote (piece_at (alias_piece before.settings place simple name) before.mark) before.page page (Err error)
+    → Processed (alias name) empty before (record before { page = page }) (Err error)
+alias_cut before directives frames name empty simple place page error at none place_is simple_is wrote =
+    processed_cut_at (alias name) empty before (record before { page = page }) (at_node directives frames) error at refl refl
+    (alias_accepted before.given.canonical directives frames name none)
+    (alias_wrote before frames name simple place page (Err error) place_is simple_is wrote)
+
+pub alias_written : (before : State) (directives : List TagDirective) (frames : List Frame) (name : Text) (empty simple : Bool) (place : Place) (after : Stage)
+    (page : Page)
+    → before.stage ≡ at_node directives frames → alias_fault name ≡ None
+    → place ≡ next_place frames → simple ≡ (is_key place.role && (not before.settings.canonical && is_simple_alias name))
+    → after ≡ stage_after directives frames simple
+    → Wrote (piece_at (alias_piece before.settings place simple name) before.mark) before.page page (Ok tt)
+    → Processed (alias name) empty before (record before { stage = after; page = page }) (Ok tt)
+alias_written before directives frames name empty simple place after page at none place_is simple_is after_is wrote =
+    let here = simple_is ∙ ap (λ (p : Place). is_key p.role && (not before.settings.canonical && is_simple_alias name)) place_is in
+    processed_written_at (alias name) empty before (record before { stage = after; page = page }) (at_node directives frames) at tt refl
+    (alias_accepted before.given.canonical directives frames name none) refl
+    (after_is ∙ ap (λ (b : Bool). stage_after directives frames b) here) refl
+    (alias_wrote before frames name simple place page (Ok tt) place_is simple_is wrote) (λ hands. cc)
+
+-- Scalars
+
+abbrev scalar_simple : Effective → List TagDirective → Scalar → Place → Bool
+scalar_simple s directives content place = is_key place.role && (not s.canonical && is_simple_scalar s.canonical directives content)
+
+-- the canonical setting in force is the given one
+pub lacks_given : (content : Scalar) (lacks canonical given : Bool) (answer : Bool) → canonical ≡ given → lacks ≡ answer
+    → lacks ≡ lacks_tag_and_flags (is_some (scalar_tag canonical content)) content.plain_implicit content.quoted_implicit
+    → lacks_tag_and_flags (is_some (scalar_tag given content)) content.plain_implicit content.quoted_implicit ≡ answer
+lacks_given content lacks canonical given answer same answered is =
+    sym (is ∙ ap (λ (b : Bool). lacks_tag_and_flags (is_some (scalar_tag b content)) content.plain_implicit content.quoted_implicit) same) ∙ answered
+
+scalar_refusal : (canonical : Bool) (directives : List TagDirective) (frames : List Frame) (content : Scalar) (lacks : Bool)
+    → name_or_tag_fault canonical (scalar content) ≡ None
+    → lacks_tag_and_flags (is_some (scalar_tag canonical content)) content.plain_implicit content.quoted_implicit ≡ lacks
+    → stage_refusal canonical (at_node directives frames) (scalar content) ≡ option_or (fault_if lacks no_tag_nor_implicit) None
+scalar_refusal canonical directives frames content lacks none is =
+    ap (λ (o : Option ℕ). option_or o
+    (option_or (fault_if (lacks_tag_and_flags (is_some (scalar_tag canonical content)) content.plain_implicit content.quoted_implicit) no_tag_nor_implicit)
+    None)) none
+    ∙ ap (λ (b : Bool). option_or (fault_if b no_tag_nor_implicit) None) is
+
+pub scalar_refused : (before : State) (directives : List TagDirective) (frames : List Frame) (content : Scalar) (empty : Bool)
+    → before.stage ≡ at_node directives frames
+    → name_or_tag_fault before.given.canonical (scalar content) ≡ None
+    → lacks_tag_and_flags (is_some (scalar_tag before.given.canonical content)) content.plain_implicit content.quoted_implicit ≡ true
+    → Processed (scalar content) empty before before (Err NoTagNorImplicit)
+scalar_refused before directives frames content empty at none lacks =
+    processed_refused_at (scalar content) empty before (at_node directives frames) NoTagNorImplicit at tt
+    (scalar_refusal before.given.canonical directives frames content true none lacks)
+
+scalar_wrote : (before : State) (directives : List TagDirective) (frames : List Frame) (content : Scalar) (simple : Bool) (place : Place) (page : Page)
+    (answer : Result (Unit {0}) yaml_error_t)
+    → place ≡ next_place frames → simple ≡ scalar_simple before.settings directives content place
+    → Wrote (piece_at (scalar_piece before.settings directives place simple content) before.mark) before.page page answer
+    → Wrote (piece_at (scalar_piece before.settings directives (next_place frames)
+    (scalar_simple before.settings directives content (next_place frames)) content) before.mark) before.page page answer
+scalar_wrote before directives frames content simple place page answer place_is simple_is wrote =
+    let at_place = subst (λ (b : Bool). Wrote (piece_at (scalar_piece before.settings directives place b content) before.mark) before.page page answer)
+    simple_is wrote in
+    subst (λ (p : Place). Wrote (piece_at (scalar_piece before.settings directives p (scalar_simple before.settings directives content p) content) before.mark)
+    before.page page answer) place_is at_place
+
+pub scalar_cut : (before : State) (directives : List TagDirective) (frames : List Frame) (content : Scalar) (empty simple : Bool) (place : Place) (page : Page)
+    (error : yaml_error_t)
+    → before.stage ≡ at_node directives frames → name_or_tag_fault before.given.canonical (scalar content) ≡ None
+    → lacks_tag_and_flags (is_some (scalar_tag before.given.canonical content)) content.plain_implicit content.quoted_implicit ≡ false
+    → place ≡ next_place frames → simple ≡ scalar_simple before.settings directives content place
+    → Wrote (piece_at (scalar_piece before.settings directives place simple content) before.mark) before.page page (Err error)
+    → Processed (scalar content) empty before (record before { page = page }) (Err error)
+scalar_cut before directives frames content empty simple place page error at none lacks place_is simple_is wrote =
+    processed_cut_at (scalar content) empty before (record before { page = page }) (at_node directives frames) error at refl refl
+    (scalar_refusal before.given.canonical directives frames content false none lacks)
+    (scalar_wrote before directives frames content simple place page (Err error) place_is simple_is wrote)
+
+pub scalar_written : (before : State) (directives : List TagDirective) (frames : List Frame) (content : Scalar) (empty simple : Bool) (place : Place)
+    (after : Stage) (mark : ℕ) (page : Page)
+    → before.stage ≡ at_node directives frames → name_or_tag_fault before.given.canonical (scalar content) ≡ None
+    → lacks_tag_and_flags (is_some (scalar_tag before.given.canonical content)) content.plain_implicit content.quoted_implicit ≡ false
+    → place ≡ next_place frames → simple ≡ scalar_simple before.settings directives content place
+    → after ≡ stage_after directives frames simple
+    → mark ≡ (scalar_piece before.settings directives place simple content (record { cursor = before.page.cursor; mark = before.mark })).standing.mark
+    → Wrote (piece_at (scalar_piece before.settings directives place simple content) before.mark) before.page page (Ok tt)
+    → Processed (scalar content) empty before (record before { stage = after; mark = mark; page = page }) (Ok tt)
+scalar_written before directives frames content empty simple place after mark page at none lacks place_is simple_is after_is mark_is wrote =
+    let marked = λ (p : Place) (b : Bool).
+    (scalar_piece before.settings directives p b content (record { cursor = before.page.cursor; mark = before.mark })).standing.mark in
+    let here = simple_is ∙ ap (scalar_simple before.settings directives content) place_is in
+    processed_written_at (scalar content) empty before (record before { stage = after; mark = mark; page = page }) (at_node directives frames) at tt refl
+    (scalar_refusal before.given.canonical directives frames content false none lacks) refl
+    (after_is ∙ ap (λ (b : Bool). stage_after directives frames b) here)
+    (mark_is ∙ ap (λ (b : Bool). marked place b) simple_is ∙ ap (λ (p : Place). marked p (scalar_simple before.settings directives content p)) place_is)
+    (scalar_wrote before directives frames content simple place page (Ok tt) place_is simple_is wrote) (λ hands. cc)
+
+first_none : (a b : Option ℕ) → option_or a b ≡ None → a ≡ None
+first_none None b none = refl
+first_none (Some n) b none = cc
+
+-- an anchor of an event that isn't refused
+pub scalar_anchor : (canonical : Bool) (content : Scalar) → name_or_tag_fault canonical (scalar content) ≡ None → name_breaks content.anchor ≡ false
+scalar_anchor canonical content none =
+    sound_anchor content.anchor (first_none (option_and_then anchor_fault content.anchor) (option_and_then tag_fault (scalar_tag canonical content)) none)
+
+pub collection_anchor : (canonical mapping : Bool) (start : Collection) → name_or_tag_fault canonical (start_event mapping start) ≡ None
+    → name_breaks start.anchor ≡ false
+collection_anchor canonical true start none =
+    sound_anchor start.anchor (first_none (option_and_then anchor_fault start.anchor) (option_and_then tag_fault (collection_tag canonical start)) none)
+collection_anchor canonical false start none =
+    sound_anchor start.anchor (first_none (option_and_then anchor_fault start.anchor) (option_and_then tag_fault (collection_tag canonical start)) none)

@@ -1,0 +1,9 @@
+pub mod MeaningStyles
+pub mod MeaningBodies
+pub mod Meaning
+pub mod SparingPlaces
+pub mod SparingSteps
+pub mod RawTexts
+pub mod TidyStreams
+pub mod StreamsReadBack
+pub mod StreamOutput

@@ -1,0 +1,70 @@
+-- A body that stands in a layout reads as its value.
+use Rattle.std.proofs.Common.{◌≡◌, ◌≤◌, refl, arith}
+use Rattle.std.specs.Prelude.{ℕ, Bool, true, false, Option, None, Some}
+use Rattle.std.specs.Str.{all_scalars}
+use Rattle.yaml_base.specs.Analysis.{Charset, allowances, allows_plain}
+use Rattle.yaml_base.specs.BlockHeader.{Encloses}
+use Rattle.yaml_base.specs.Characters.{Text}
+use Rattle.yaml_base.specs.Cursor.{Cursor}
+use Rattle.yaml_base.specs.Event.{ScalarStyle, any_style, plain, single_quoted, double_quoted, literal, folded}
+use Rattle.yaml_base.specs.Meaning.{BodyMeans}
+use Rattle.yaml_base.specs.Places.{Place, deeper}
+use Rattle.yaml_base.specs.NodeLayout.{body_at, body_laid}
+use Rattle.yaml_base.specs.Settings.{Effective}
+use Rattle.yaml_scalar.proofs.PlainReads.{plain-reads, plain-indented}
+use Rattle.yaml_scalar.proofs.SingleReads.{single-reads, single-indented}
+use Rattle.yaml_scalar.proofs.DoubleReads.{double-reads, double-indented}
+use Rattle.yaml_scalar.proofs.BlockLines.{literal-kept, folded-kept}
+use Rattle.yaml_emitter.proofs.layouts.MeaningStyles.{Allows}
+
+-- an indent that settings come to
+pub record IsIndent (indent : ℕ) : Type 0 where
+  pub low : 2 ≤ indent
+  pub high : indent ≤ 9
+
+abbrev pub charset_of : Effective → Charset
+charset_of s = record { unicode = s.unicode; breaks12 = s.breaks12 }
+
+-- a scalar is indented from the entries around it by the indent
+encloses : (indent : ℕ) (column : Option ℕ) → Encloses (deeper indent column) indent column
+encloses indent None = omega arith
+encloses indent (Some column) = refl
+
+pub plain_context : (charset : Charset) (flow : Bool) (value : Text)
+    → Allows (allowances charset value) flow plain → allows_plain charset flow value ≡ true
+plain_context charset true value h = h
+plain_context charset false value h = h
+
+pub body_means : (s : Effective) (place : Place) (style : ScalarStyle) (limit : Option ℕ) (value : Text) (cursor : Cursor)
+    → IsIndent s.indent → all_scalars value ≡ true → Allows (allowances (charset_of s) value) place.in_flow style
+    → BodyMeans s (body_at place style value (body_laid style s limit (deeper s.indent place.column) value cursor))
+body_means s place any_style limit value cursor is scalars h = absurd h
+body_means s place plain limit value cursor is scalars h =
+    let low : 2 ≤ deeper s.indent place.column = omega (arith, is.low) in
+    let allowed = plain_context (charset_of s) place.in_flow value h in
+    record {
+      reads = plain-reads (charset_of s) place.in_flow limit (deeper s.indent place.column) value cursor s.line_break allowed;
+      indented = plain-indented limit (deeper s.indent place.column) value cursor s.line_break low;
+    }
+body_means s place single_quoted limit value cursor is scalars h =
+    let low : 2 ≤ deeper s.indent place.column = omega (arith, is.low) in
+    record {
+      reads = single-reads (charset_of s) limit (deeper s.indent place.column) value cursor s.line_break h;
+      indented = single-indented limit (deeper s.indent place.column) value cursor s.line_break low;
+    }
+body_means s place double_quoted limit value cursor is scalars h =
+    let low : 2 ≤ deeper s.indent place.column = omega (arith, is.low) in
+    record {
+      reads = double-reads s.breaks12 s.unicode limit (deeper s.indent place.column) value cursor s.line_break low scalars;
+      indented = double-indented s.unicode limit (deeper s.indent place.column) value cursor s.line_break low scalars;
+    }
+body_means s place literal limit value cursor is scalars h =
+    let above : s.indent ≤ deeper s.indent place.column = omega arith in
+    let kept = literal-kept (charset_of s) value h (deeper s.indent place.column) s.indent is.low is.high above cursor place.column
+    (encloses s.indent place.column) s.line_break in
+    record { reads = kept.reads; indented = kept.indented }
+body_means s place folded limit value cursor is scalars h =
+    let above : s.indent ≤ deeper s.indent place.column = omega arith in
+    let kept = folded-kept (charset_of s) value h (deeper s.indent place.column) s.indent is.low is.high above cursor limit place.column
+    (encloses s.indent place.column) s.line_break in
+    record { reads = kept.reads; indented = kept.indented }

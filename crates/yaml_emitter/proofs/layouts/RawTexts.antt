@@ -1,0 +1,209 @@
+-- What stands raw in the text of an accepted list: no special character, and so what `HoldsRaw` says.
+use Rattle.std.proofs.Common.{◌≡◌, refl, sym, ap, ◌∙◌, ℕ, [], ◌∷◌, Bool, true, false, arith}
+use Rattle.std.proofs.lemmas.Bool.{and_from, and_parts, not-false, or_left, or_parts, false≢true}
+use Rattle.std.proofs.lemmas.Bool.Decides.{nat_tests}
+use Rattle.std.proofs.Math.Utf8.{scalar}
+use Rattle.std.specs.Prelude.{Option, List, ◌==◌, ◌&&◌, ◌||◌, not, if◌then◌else◌}
+use Rattle.std.specs.List.{list_all, list_any}
+use Rattle.std.specs.Str.{all_scalars}
+use Rattle.yaml_base.specs.Analysis.{Charset, allowances, is_special}
+use Rattle.yaml_base.specs.Characters.{Text, carriage_return, is_ascii, is_printable, line_feed, line_separator, next_line, paragraph_separator, space}
+use Rattle.yaml_base.specs.Cursor.{Cursor}
+use Rattle.yaml_base.specs.DoubleQuoted.{backslash, needs_escape, quote}
+use Rattle.yaml_base.specs.Event.{Event, ScalarStyle, any_style, plain, single_quoted, double_quoted, literal, folded}
+use Rattle.yaml_base.specs.Layout.{Place, deeper, body_laid, first_standing, text_of, Piece}
+use Rattle.yaml_base.specs.LineBreaks.{with_breaks_written, break_text}
+use Rattle.yaml_base.specs.Output.{encoding_asked}
+use Rattle.yaml_base.specs.Pieces.{list_layout}
+use Rattle.yaml_base.specs.Refusal.{IsAccepted}
+use Rattle.yaml_base.specs.Settings.{Effective, LineBreak, carriage_return_break, line_feed_break, both_break, effective}
+use Rattle.yaml_base.specs.Steps.{at_stream}
+use Rattle.yaml_base.specs.WrittenTexts.{is_separator, may_stand_raw, HoldsRaw, TextsHoldRaw, StreamsAgree}
+use Rattle.yaml_base.proofs.CallerLaws.{encodings_agree}
+use Rattle.yaml_base.proofs.PieceLaws.{list_layout_steps}
+use Rattle.yaml_base.proofs.Trees.{stream_pushed}
+use Rattle.yaml_base.specs.Grammar.{partial_of}
+use Rattle.yaml_scalar.proofs.LineTexts.{any_both, any_one}
+use Rattle.yaml_scalar.proofs.Sparing.{Spares, is_graph, lacks_plain, lacks_single, lacks_double}
+use Rattle.yaml_scalar.proofs.SparingBlocks.{lacks_literal, lacks_folded, plain_unspecial, single_unspecial, block_unspecial}
+use Rattle.yaml_emitter.proofs.layouts.Meaning.{is_indent}
+use Rattle.yaml_emitter.proofs.layouts.MeaningBodies.{IsIndent, charset_of, plain_context}
+use Rattle.yaml_emitter.proofs.layouts.MeaningStyles.{Allows}
+use Rattle.yaml_emitter.proofs.layouts.SparingSteps.{Spared, lacks_steps}
+
+-- No printable character of ASCII is special, nor LF, nor one that stands raw in double quotes.
+
+-- printable ASCII is printable, of ASCII, and no separator
+graph_parts : (c : ℕ) → is_graph c ≡ true
+    → (is_printable c ≡ true) × (is_ascii c ≡ true) × ((c == line_separator) ≡ false) × ((c == paragraph_separator) ≡ false)
+graph_parts c h = (grind (arith, nat_tests), grind (arith, nat_tests), grind (arith, nat_tests), grind (arith, nat_tests))
+
+-- what is so isn't special
+special_from : (charset : Charset) (c : ℕ) → is_printable c ≡ true → is_ascii c ≡ true → (c == line_separator) ≡ false → (c == paragraph_separator) ≡ false
+    → is_special charset c ≡ false
+special_from charset c p a l s = by charset.unicode charset.breaks12
+  where
+    by : (unicode breaks12 : Bool)
+        → (not (is_printable c) || (not unicode && not (is_ascii c)) || (breaks12 && (c == line_separator || c == paragraph_separator))) ≡ false
+    by true true = simp (p, l, s)
+    by true false = simp p
+    by false true = simp (p, a, l, s)
+    by false false = simp (p, a)
+
+-- being special spares printable ASCII and LF
+pub special_spares : (charset : Charset) → Spares (is_special charset)
+special_spares charset = record {
+  graph = λ c h. let p = graph_parts c h in special_from charset c p.0 p.1 p.2 p.3;
+  blank = special_from charset space refl refl refl refl;
+  feed = special_from charset line_feed refl refl refl refl;
+}
+
+-- what the test for an escape says of a character that needs none
+raw_parts : (p u b1 b2 b3 s1 s2 q k : Bool) → (not p || u || (b1 || b2 || b3 || s1 || s2) || q || k) ≡ false
+    → (p ≡ true) × (u ≡ false) × (s1 ≡ false) × (s2 ≡ false)
+raw_parts p u b1 b2 b3 s1 s2 q k h =
+    let outer = or_parts (not p || u || (b1 || b2 || b3 || s1 || s2)) q (or_parts _ k h).0 in
+    let first = or_parts (not p || u) (b1 || b2 || b3 || s1 || s2) outer.0 in
+    let breaks = or_parts (b1 || b2 || b3 || s1) s2 first.1 in
+    let own = or_parts (not p) u first.0 in
+    (not-false p own.0, own.1, (or_parts (b1 || b2 || b3) s1 breaks.0).1, breaks.1)
+
+-- such a character isn't special
+special_raw : (breaks12 unicode : Bool) (c : ℕ) → needs_escape unicode c ≡ false → is_special (record { unicode = unicode; breaks12 = breaks12 }) c ≡ false
+special_raw breaks12 unicode c h =
+    let parts = raw_parts (is_printable c) (not unicode && not (is_ascii c)) (c == line_feed) (c == carriage_return) (c == next_line) (c == line_separator)
+    (c == paragraph_separator) (c == quote) (c == backslash) h in
+    by breaks12 parts
+  where
+    by : (breaks12 : Bool)
+        → (is_printable c ≡ true) × ((not unicode && not (is_ascii c)) ≡ false) × ((c == line_separator) ≡ false) × ((c == paragraph_separator) ≡ false)
+        → (not (is_printable c) || (not unicode && not (is_ascii c)) || (breaks12 && (c == line_separator || c == paragraph_separator))) ≡ false
+    by true p = simp (p.0, p.1, p.2, p.3)
+    by false p = simp (p.0, p.1)
+
+-- No body holds a special character.
+special_bodies : (s : Effective) → IsIndent s.indent → (place : Place) (style : ScalarStyle) (limit : Option ℕ) (value : Text) (cursor : Cursor)
+    → Allows (allowances (charset_of s) value) place.in_flow style
+    → list_any (is_special (charset_of s)) (body_laid style s limit (deeper s.indent place.column) value cursor).text ≡ false
+special_bodies s is place any_style limit value cursor h = absurd h
+special_bodies s is place plain limit value cursor h =
+    lacks_plain (is_special (charset_of s)) (special_spares (charset_of s)) limit (deeper s.indent place.column) value cursor
+    (plain_unspecial (charset_of s) place.in_flow value (plain_context (charset_of s) place.in_flow value h))
+special_bodies s is place single_quoted limit value cursor h =
+    lacks_single (is_special (charset_of s)) (special_spares (charset_of s)) limit (deeper s.indent place.column) value cursor
+    (single_unspecial (charset_of s) value h)
+special_bodies s is place double_quoted limit value cursor h =
+    lacks_double (is_special (charset_of s)) (special_spares (charset_of s)) s.unicode (special_raw s.breaks12 s.unicode) limit
+    (deeper s.indent place.column) value cursor
+special_bodies s is place literal limit value cursor h =
+    lacks_literal (is_special (charset_of s)) (special_spares (charset_of s)) (deeper s.indent place.column) s.indent value cursor is.high
+    (block_unspecial (charset_of s) value h)
+special_bodies s is place folded limit value cursor h =
+    lacks_folded (is_special (charset_of s)) (special_spares (charset_of s)) limit (deeper s.indent place.column) s.indent value cursor is.high
+    (block_unspecial (charset_of s) value h)
+
+-- and no body meets it
+pub special_spared : (s : Effective) → IsIndent s.indent → Spared s (is_special (charset_of s))
+special_spared s is = record { spares = special_spares (charset_of s); bodies = special_bodies s is }
+
+-- the text of an accepted list holds none
+pub special_list : (s : Effective) (canonical : Bool) (events : List Event) → IsIndent s.indent → IsAccepted canonical events
+    → list_any (is_special (charset_of s)) (text_of (list_layout s events)) ≡ false
+special_list s canonical events is accepted =
+    let pushes = ap partial_of (sym accepted.is_stream) ∙ stream_pushed accepted.stream in
+    ap (λ (pieces : List Piece). list_any (is_special (charset_of s)) (text_of pieces)) (list_layout_steps events accepted.stream s pushes)
+    ∙ lacks_steps s (is_special (charset_of s)) (special_spared s is) canonical events false at_stream first_standing tt accepted.sound
+
+-- From special characters to what stands raw.
+
+-- a test that is met by fewer characters
+pub lacks_fewer : (test fewer : ℕ → Bool) → ((c : ℕ) → test c ≡ false → fewer c ≡ false) → (text : Text) → list_any test text ≡ false
+    → list_any fewer text ≡ false
+lacks_fewer test fewer implies [] h = refl
+lacks_fewer test fewer implies (c ∷ rest) h =
+    let p = or_parts (test c) (list_any test rest) h in
+    any_one fewer c rest (implies c p.0) (lacks_fewer test fewer implies rest p.1)
+
+-- where no character fails a test, all meet it
+pub all_meet : (test : ℕ → Bool) (text : Text) → list_any (λ c. not (test c)) text ≡ false → list_all test text ≡ true
+all_meet test [] h = refl
+all_meet test (c ∷ rest) h =
+    let p = or_parts (not (test c)) (list_any (λ c. not (test c)) rest) h in
+    and_from _ _ (not-false (test c) p.0) (all_meet test rest p.1)
+
+-- as line breaks are written
+lacks_break : (test : ℕ → Bool) (setting : LineBreak) → test carriage_return ≡ false → test line_feed ≡ false → list_any test (break_text setting) ≡ false
+lacks_break test carriage_return_break return feed = any_one test carriage_return [] return refl
+lacks_break test line_feed_break return feed = any_one test line_feed [] feed refl
+lacks_break test both_break return feed = any_one test carriage_return (line_feed ∷ []) return (any_one test line_feed [] feed refl)
+
+-- a text as its line breaks are written
+lacks_written : (test : ℕ → Bool) (setting : LineBreak) → test carriage_return ≡ false → test line_feed ≡ false → (text : Text)
+    → list_any test text ≡ false → list_any test (with_breaks_written setting text) ≡ false
+lacks_written test setting return feed [] h = refl
+lacks_written test setting return feed (c ∷ rest) h =
+    let p = or_parts (test c) (list_any test rest) h in
+    any_both test (if c == line_feed then break_text setting else c ∷ []) _ (by (c == line_feed) p.0)
+    (lacks_written test setting return feed rest p.1)
+  where
+    by : (b : Bool) → test c ≡ false → list_any test (if b then break_text setting else c ∷ []) ≡ false
+    by true own = lacks_break test setting return feed
+    by false own = any_one test c [] own refl
+
+-- scalar values one by one are a text of them
+scalars_all : (text : Text) → list_all scalar text ≡ true → all_scalars text ≡ true
+scalars_all [] h = refl
+scalars_all (c ∷ rest) h = let p = and_parts (scalar c) (list_all scalar rest) h in and_from _ _ p.0 (scalars_all rest p.1)
+
+-- a printable character is a scalar value
+printable_scalar : (c : ℕ) → is_printable c ≡ true → scalar c ≡ true
+printable_scalar c h = grind (arith, nat_tests)
+
+-- a character that isn't special
+pub special_printable : (charset : Charset) (c : ℕ) → is_special charset c ≡ false → is_printable c ≡ true
+special_printable charset c h = not-false _ (or_parts _ _ (or_parts _ _ h).0).0
+
+-- what fails where its condition holds
+then_false : (a b : Bool) → a ≡ true → (a && b) ≡ false → b ≡ false
+then_false true b is h = h
+then_false false b is h = absurd (false≢true is)
+
+-- with unicode off it is of ASCII
+special_ascii : (charset : Charset) (c : ℕ) → charset.unicode ≡ false → is_special charset c ≡ false → is_ascii c ≡ true
+special_ascii charset c off h =
+    not-false _ (then_false (not charset.unicode) (not (is_ascii c)) (ap not off) (or_parts (not (is_printable c)) _ (or_parts _ _ h).0).1)
+
+-- with the line breaks of YAML 1.2 it is no separator
+special_separator : (charset : Charset) (c : ℕ) → charset.breaks12 ≡ true → is_special charset c ≡ false → is_separator c ≡ false
+special_separator charset c on h = then_false charset.breaks12 (is_separator c) on (or_parts _ (charset.breaks12 && is_separator c) h).1
+
+-- a text without special characters, as its line breaks are written
+pub raw_held : (s : Effective) (text : Text) → list_any (is_special (charset_of s)) text ≡ false → HoldsRaw s (with_breaks_written s.line_break text)
+raw_held s text h =
+    let special = is_special (charset_of s) in
+    let written = with_breaks_written s.line_break text in
+    record {
+      printable = all_meet may_stand_raw written
+          (lacks_written (λ c. not (may_stand_raw c)) s.line_break refl refl text
+          (lacks_fewer special (λ c. not (may_stand_raw c))
+          (λ c e. ap not (or_left (is_printable c) (c == carriage_return) (special_printable (charset_of s) c e))) text h));
+      scalars = scalars_all written (all_meet scalar written
+          (lacks_written (λ c. not (scalar c)) s.line_break refl refl text
+          (lacks_fewer special (λ c. not (scalar c)) (λ c e. ap not (printable_scalar c (special_printable (charset_of s) c e))) text h)));
+      ascii = λ off. all_meet is_ascii written
+          (lacks_written (λ c. not (is_ascii c)) s.line_break refl refl text
+          (lacks_fewer special (λ c. not (is_ascii c)) (λ c e. ap not (special_ascii (charset_of s) c off e)) text h));
+      no_separators = λ on. lacks_written is_separator s.line_break refl refl text
+          (lacks_fewer special is_separator (λ c e. special_separator (charset_of s) c on e) text h);
+    }
+
+-- What stands raw in the text of every accepted list.
+pub texts_hold_raw : TextsHoldRaw
+texts_hold_raw given encoding events accepted =
+    let s = effective given encoding in
+    raw_held s (text_of (list_layout s events)) (special_list s given.canonical events (is_indent given.indent) accepted)
+
+-- In any encoding the bytes of an accepted list are one text.
+pub streams_agree : StreamsAgree
+streams_agree given encoding events accepted =
+    encodings_agree given encoding events (texts_hold_raw given (encoding_asked events) events accepted).scalars

@@ -1,0 +1,199 @@
+-- The pieces of a stream's events hold no character that meets a test which spares printable ASCII and LF, where no body that a
+-- value allows does.
+use Rattle.std.proofs.Common.{◌≡◌, refl, ℕ, [], ◌∷◌, ◌++◌, Bool, true, false}
+use Rattle.std.proofs.lemmas.Bool.{and_parts}
+use Rattle.std.specs.Prelude.{Option, None, List, ◌==◌, ◌&&◌, not, is_some, option_and_then, if◌then◌else◌}
+use Rattle.std.specs.List.{list_all, list_any}
+use Rattle.yaml_base.specs.Analysis.{allowances, is_empty}
+use Rattle.yaml_base.specs.Characters.{Text, is_alpha}
+use Rattle.yaml_base.specs.Cursor.{Cursor, Laid, then_laid, new_line}
+use Rattle.yaml_base.specs.Event.{ScalarStyle, TagDirective, Scalar, Collection, Event, stream_start, stream_end, document_start, document_end, alias, scalar, sequence_start, sequence_end, mapping_start, mapping_end}
+use Rattle.yaml_base.specs.Layout.{Place, Piece, piece_text, text_of, Standing, deeper, body_laid, choice_of, scalar_lead, scalar_piece, place_laid, properties_laid, separation_laid, alias_laid, start_piece, Brackets, square, curly, end_laid, end_piece, laid_if, closing_mark_laid, is_key, is_simple_alias, document_start_laid, document_end_piece}
+use Rattle.yaml_base.specs.Refusal.{is_sound, name_or_tag_fault, content_fault, scalar_tag, collection_tag}
+use Rattle.yaml_base.specs.Settings.{Effective}
+use Rattle.yaml_base.specs.Steps.{Frame, Stage, at_stream, at_document, at_node, at_document_end, next_place, stage_after, is_first, step, node_step, ends_next, steps}
+use Rattle.yaml_base.specs.Tags.{alias_empty, alias_alphabet, version_fault, directives_fault}
+use Rattle.yaml_base.proofs.TagForms.{AreFound, in_force_found}
+use Rattle.yaml_scalar.proofs.LineTexts.{any_both}
+use Rattle.yaml_scalar.proofs.Sparing.{Spares, lacks_line}
+use Rattle.yaml_emitter.proofs.canonical.CanonicalPlaces.{AnchorOk}
+use Rattle.yaml_emitter.proofs.canonical.CanonicalSound.{anchor_is, name_is}
+use Rattle.yaml_base.proofs.NoFaults.{neither, is_none_none}
+use Rattle.yaml_emitter.proofs.layouts.MeaningBodies.{charset_of}
+use Rattle.yaml_emitter.proofs.layouts.MeaningStyles.{Allows, chosen_allowed}
+use Rattle.yaml_emitter.proofs.layouts.SparingPlaces.{Lacks, lacks_alias, lacks_closing, lacks_document, lacks_end, lacks_if, lacks_place, lacks_properties, lacks_separation, lacks_then}
+
+-- the names of an event are of the anchor alphabet, and no directive of it is refused
+abbrev pub NamesOk : Event → Type 0
+NamesOk (alias name) = list_all is_alpha name ≡ true
+NamesOk (scalar content) = AnchorOk content.anchor
+NamesOk (sequence_start start) = AnchorOk start.anchor
+NamesOk (mapping_start start) = AnchorOk start.anchor
+NamesOk (document_start start) = directives_fault start.directives ≡ None
+NamesOk _ = Unit {0}
+
+-- so it is with sound events
+pub names_ok : (canonical : Bool) (event : Event) → is_sound canonical event ≡ true → NamesOk event
+names_ok canonical event h = by event (neither (name_or_tag_fault canonical event) (content_fault canonical event) (is_none_none _ h))
+  where
+    by : (event : Event) → (name_or_tag_fault canonical event ≡ None) × (content_fault canonical event ≡ None) → NamesOk event
+    by (alias name) p = (name_is alias_empty alias_alphabet name p.0).alphas
+    by (scalar content) p = anchor_is content.anchor (scalar_tag canonical content) p.0
+    by (sequence_start start) p = anchor_is start.anchor (collection_tag canonical start) p.0
+    by (mapping_start start) p = anchor_is start.anchor (collection_tag canonical start) p.0
+    by (document_start start) p = (neither (option_and_then version_fault start.version) (directives_fault start.directives) p.1).1
+    by _ p = tt
+
+-- the directives of a stage are found by their handles
+abbrev pub StageFound : Stage → Type 0
+StageFound (at_node directives frames) = (own : List TagDirective) × AreFound own directives
+StageFound _ = Unit {0}
+
+-- after a node
+found_after : (directives : List TagDirective) (frames : List Frame) (simple : Bool) → (own : List TagDirective) × AreFound own directives
+    → StageFound (stage_after directives frames simple)
+found_after directives [] simple found = tt
+found_after directives (frame ∷ outer) simple found = found
+
+-- they stay so
+node_step_found : (s : Effective) (directives : List TagDirective) (frames : List Frame) (event : Event) (empty : Bool) (standing : Standing)
+    → (own : List TagDirective) × AreFound own directives → StageFound (node_step s directives frames event empty standing).stage
+node_step_found s directives frames (alias name) empty standing found = found_after directives frames _ found
+node_step_found s directives frames (scalar content) empty standing found = found_after directives frames _ found
+node_step_found s directives frames (sequence_start start) empty standing found = found
+node_step_found s directives frames (mapping_start start) empty standing found = found
+node_step_found s directives [] sequence_end empty standing found = tt
+node_step_found s directives (frame ∷ outer) sequence_end empty standing found = found_after directives outer frame.simple found
+node_step_found s directives [] mapping_end empty standing found = tt
+node_step_found s directives (frame ∷ outer) mapping_end empty standing found = found_after directives outer frame.simple found
+node_step_found s directives frames _ empty standing found = tt
+
+-- at any stage
+pub step_found : (s : Effective) (stage : Stage) (event : Event) (empty : Bool) (standing : Standing) → StageFound stage → NamesOk event
+    → StageFound (step s stage event empty standing).stage
+step_found s (at_node directives frames) event empty standing found ok = node_step_found s directives frames event empty standing found
+step_found s at_stream (stream_start encoding) empty standing found ok = tt
+step_found s (at_document first) (document_start start) empty standing found ok = (start.directives, in_force_found start.directives ok)
+step_found s (at_document first) stream_end empty standing found ok = tt
+step_found s at_document_end (document_end implicit) empty standing found ok = tt
+step_found s _ event empty standing found ok = tt
+
+-- a document's own directives are among those in force
+front_found : (own front rest : List TagDirective) → AreFound own (front ++ rest) → AreFound own front
+front_found own [] rest found = tt
+front_found own (directive ∷ front) rest found = (found.0, found.1, front_found own front rest found.2)
+
+-- directives that none is refused of are found
+own_found : (own : List TagDirective) → directives_fault own ≡ None → AreFound own own
+own_found own h = front_found own own _ (in_force_found own h)
+
+-- what a test has to meet: it spares printable ASCII and LF, and no body that a value allows holds a character of it
+pub record Spared (s : Effective) (test : ℕ → Bool) : Type 0 where
+  pub spares : Spares test
+  pub bodies : (place : Place) (style : ScalarStyle) (limit : Option ℕ) (value : Text) (cursor : Cursor)
+      → Allows (allowances (charset_of s) value) place.in_flow style
+      → list_any test (body_laid style s limit (deeper s.indent place.column) value cursor).text ≡ false
+
+module _ (s : Effective) (test : ℕ → Bool) (spared : Spared s test) where
+  -- a piece's text holds no character that meets the test
+  abbrev LacksPiece : Piece → Type 0
+  LacksPiece piece = list_any test (piece_text piece) ≡ false
+
+  -- a piece without a body
+  lacks_alone : (laid : Laid) → Lacks test spared.spares laid → list_any test (laid.text ++ []) ≡ false
+  lacks_alone laid h = any_both test laid.text [] h refl
+
+  -- a scalar's piece
+  lacks_scalar : (directives : List TagDirective) (place : Place) (simple : Bool) (content : Scalar) (standing : Standing)
+      → (own : List TagDirective) × AreFound own directives → AnchorOk content.anchor
+      → LacksPiece (scalar_piece s directives place simple content standing).piece
+  lacks_scalar directives place simple content standing found ok =
+      let choice = choice_of s place simple content in
+      let tag = scalar_tag s.canonical content in
+      let placed = place_laid s place simple standing.cursor in
+      let named = then_laid placed (properties_laid s.portable directives content.anchor tag choice.bare) in
+      let lead = scalar_lead s directives place simple choice content standing.cursor in
+      any_both test lead.text _
+      (lacks_then test spared.spares named (separation_laid choice.style place.in_flow content.value)
+      (lacks_then test spared.spares placed (properties_laid s.portable directives content.anchor tag choice.bare)
+      (lacks_place test spared.spares s place simple standing.cursor)
+      (λ after. lacks_properties test spared.spares s.portable found.0 directives content.anchor tag choice.bare after found.1 ok))
+      (λ after. lacks_separation test spared.spares choice.style place.in_flow content.value after))
+      (spared.bodies place choice.style (if simple then None else s.width) content.value lead.cursor
+      (chosen_allowed (allowances (charset_of s) content.value) content.style (is_empty content.value) (is_some tag)
+      content.plain_implicit content.quoted_implicit place.in_flow simple s.canonical))
+
+  -- a collection's start
+  lacks_start : (directives : List TagDirective) (place : Place) (simple : Bool) (start : Collection) (standing : Standing)
+      → (own : List TagDirective) × AreFound own directives → AnchorOk start.anchor → LacksPiece (start_piece s directives place simple start standing).piece
+  lacks_start directives place simple start standing found ok =
+      let placed = place_laid s place simple standing.cursor in
+      let tag = collection_tag s.canonical start in
+      lacks_alone (then_laid placed (properties_laid s.portable directives start.anchor tag false))
+      (lacks_then test spared.spares placed (properties_laid s.portable directives start.anchor tag false)
+      (lacks_place test spared.spares s place simple standing.cursor)
+      (λ after. lacks_properties test spared.spares s.portable found.0 directives start.anchor tag false after found.1 ok))
+
+  -- a collection's end
+  lacks_closed : (brackets : Brackets) (in_flow empty : Bool) (column : Option ℕ) (standing : Standing)
+      → Lacks test spared.spares (end_laid s brackets in_flow empty column standing.cursor)
+      → LacksPiece (end_piece s brackets in_flow empty column standing).piece
+  lacks_closed brackets in_flow empty column standing h = lacks_alone (end_laid s brackets in_flow empty column standing.cursor) h
+
+  -- an event within a document
+  lacks_node_step : (directives : List TagDirective) (frames : List Frame) (event : Event) (empty : Bool) (standing : Standing)
+      → (own : List TagDirective) × AreFound own directives → NamesOk event → LacksPiece (node_step s directives frames event empty standing).laid.piece
+  lacks_node_step directives frames (alias name) empty standing found ok =
+      let place = next_place frames in
+      let simple = is_key place.role && (not s.canonical && is_simple_alias name) in
+      lacks_alone (then_laid (place_laid s place simple standing.cursor) (alias_laid name simple))
+      (lacks_then test spared.spares (place_laid s place simple standing.cursor) (alias_laid name simple)
+      (lacks_place test spared.spares s place simple standing.cursor)
+      (λ after. lacks_alias test spared.spares name simple after ok))
+  lacks_node_step directives frames (scalar content) empty standing found ok = lacks_scalar directives (next_place frames) _ content standing found ok
+  lacks_node_step directives frames (sequence_start start) empty standing found ok = lacks_start directives (next_place frames) _ start standing found ok
+  lacks_node_step directives frames (mapping_start start) empty standing found ok = lacks_start directives (next_place frames) _ start standing found ok
+  lacks_node_step directives [] sequence_end empty standing found ok = refl
+  lacks_node_step directives (frame ∷ outer) sequence_end empty standing found ok =
+      lacks_closed square frame.place.in_flow (is_first frame.place.role) (next_place outer).column standing
+      (lacks_end test spared.spares s square frame.place.in_flow (is_first frame.place.role) (next_place outer).column standing.cursor refl refl)
+  lacks_node_step directives [] mapping_end empty standing found ok = refl
+  lacks_node_step directives (frame ∷ outer) mapping_end empty standing found ok =
+      lacks_closed curly frame.place.in_flow (is_first frame.place.role) (next_place outer).column standing
+      (lacks_end test spared.spares s curly frame.place.in_flow (is_first frame.place.role) (next_place outer).column standing.cursor refl refl)
+  lacks_node_step directives frames _ empty standing found ok = refl
+
+  -- a document's end
+  lacks_document_end : (implicit : Bool) (standing : Standing) → LacksPiece (document_end_piece implicit standing).piece
+  lacks_document_end true standing = lacks_alone (new_line 0 standing.cursor) (lacks_line test spared.spares 0 standing.cursor)
+  lacks_document_end false standing =
+      lacks_alone (then_laid (new_line 0 standing.cursor) closing_mark_laid)
+      (lacks_then test spared.spares (new_line 0 standing.cursor) closing_mark_laid (lacks_line test spared.spares 0 standing.cursor)
+      (lacks_closing test spared.spares))
+
+  -- an event at any stage
+  lacks_step : (stage : Stage) (event : Event) (empty : Bool) (standing : Standing) → StageFound stage → NamesOk event
+      → LacksPiece (step s stage event empty standing).laid.piece
+  lacks_step (at_node directives frames) event empty standing found ok = lacks_node_step directives frames event empty standing found ok
+  lacks_step at_stream (stream_start encoding) empty standing found ok = refl
+  lacks_step (at_document first) (document_start start) empty standing found ok =
+      lacks_alone (document_start_laid s first start standing)
+      (lacks_document test spared.spares s first start.directives start standing (own_found start.directives ok))
+  lacks_step (at_document first) stream_end empty standing found ok =
+      lacks_alone (laid_if (standing.mark == 2) closing_mark_laid standing.cursor)
+      (lacks_if test spared.spares (standing.mark == 2) closing_mark_laid standing.cursor (lacks_closing test spared.spares standing.cursor))
+  lacks_step at_document_end (document_end implicit) empty standing found ok = lacks_document_end implicit standing
+  lacks_step _ event empty standing found ok = refl
+
+  -- the text of sound events holds no such character
+  pub lacks_steps : (canonical : Bool) (events : List Event) (follows : Bool) (stage : Stage) (standing : Standing) → StageFound stage
+      → list_all (is_sound canonical) events ≡ true → list_any test (text_of (steps s follows events stage standing).pieces) ≡ false
+  lacks_steps canonical [] follows stage standing found sound = refl
+  lacks_steps canonical (event ∷ rest) follows stage standing found sound =
+      let parts : (is_sound canonical event ≡ true) × (list_all (is_sound canonical) rest ≡ true) = and_parts _ _ sound in
+      let ok = names_ok canonical event parts.0 in
+      let stepped = step s stage event (ends_next rest follows) standing in
+      any_both test (piece_text stepped.laid.piece) _
+      (lacks_step stage event (ends_next rest follows) standing found ok)
+      (lacks_steps canonical rest follows stepped.stage stepped.laid.standing
+      (step_found s stage event (ends_next rest follows) standing found ok) parts.1)

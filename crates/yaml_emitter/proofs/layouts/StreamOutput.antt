@@ -1,0 +1,31 @@
+-- The output of an accepted list in any mode, where no limit cuts it, reads as documents that agree with it.
+use Rattle.std.proofs.Common.{◌≡◌, ap, ◌∙◌}
+use Rattle.std.proofs.lemmas.Bool.{false≢true}
+use Rattle.std.proofs.lemmas.List.{take_all}
+use Rattle.std.specs.Prelude.{ℕ, Bool, true, Option, None, Some, List}
+use Rattle.yaml_base.specs.Settings.{Settings}
+use Rattle.yaml_base.specs.Event.{Event}
+use Rattle.yaml_base.specs.Pieces.{list_layout}
+use Rattle.yaml_base.specs.Output.{encoding_asked, settings_for, bytes_written, output_of}
+use Rattle.yaml_base.specs.StreamContent.{DocumentTree, agrees}
+use Rattle.yaml_base.specs.StreamReader.{stream_trees}
+use Rattle.yaml_emitter.specs.Uncut.{OutputReadsBack, OutputTellsContent, HaveSameContent}
+use Rattle.yaml_emitter.proofs.layouts.StreamsReadBack.{stream_reads_back}
+
+-- the output is all bytes, which read back
+pub output_reads_back : (given : Settings) (events : List Event) → OutputReadsBack given events
+output_reads_back given events readable =
+    let bytes = bytes_written (settings_for given events) (list_layout (settings_for given events) events) in
+    ap (λ (output : List ℕ). agrees given.canonical events (stream_trees given.breaks12 output)) (take_all given.limit bytes readable.uncut)
+    ∙ stream_reads_back given (encoding_asked events) events readable.accepted readable.scalars readable.portable
+
+-- what agrees with both is what was read of either
+same_content : (canonical : Bool) (first second : List Event) (read : Option (List DocumentTree)) → agrees canonical first read ≡ true
+    → agrees canonical second read ≡ true → HaveSameContent canonical first second
+same_content canonical first second None one other = absurd (false≢true one)
+same_content canonical first second (Some documents) one other = record { documents = documents; first_agrees = one; second_agrees = other }
+
+pub output_tells_content : (given : Settings) (first second : List Event) → OutputTellsContent given first second
+output_tells_content given first second one other same =
+    same_content given.canonical first second (stream_trees given.breaks12 (output_of given first)) (output_reads_back given first one)
+    (ap (λ (output : List ℕ). agrees given.canonical second (stream_trees given.breaks12 output)) same ∙ output_reads_back given second other)

@@ -1,0 +1,55 @@
+-- Every stream reads back, in every mode.
+use Rattle.std.proofs.Common.{◌≡◌, ap}
+use Rattle.std.specs.List.{list_all}
+use Rattle.std.specs.Prelude.{true, Option, Some, List, not}
+use Rattle.yaml_base.specs.Characters.{is_printable}
+use Rattle.yaml_base.specs.Analysis.{is_special}
+use Rattle.yaml_base.specs.Settings.{Encoding, Settings, effective}
+use Rattle.yaml_base.specs.Event.{Event}
+use Rattle.yaml_base.specs.Layout.{text_of}
+use Rattle.yaml_base.specs.Meaning.{has_scalar_texts}
+use Rattle.yaml_base.specs.Pieces.{list_layout}
+use Rattle.yaml_base.specs.Output.{bytes_written, text_written}
+use Rattle.yaml_base.specs.Refusal.{IsAccepted}
+use Rattle.yaml_base.specs.StreamLaw.{StreamReadsBack, is_portable}
+use Rattle.yaml_base.specs.StreamReader.{stream_trees}
+use Rattle.yaml_base.proofs.stream_documents.StreamAllStand.{LayoutsArePrintable, LayoutsAreRead, StreamsStand, streams_read_back, streams_stand}
+use Rattle.yaml_base.proofs.stream_documents.StreamLawStands.{stream_read_back}
+use Rattle.yaml_base.proofs.stream_documents.StreamWholeReads.{document_trees}
+use Rattle.yaml_emitter.proofs.layouts.MeaningBodies.{charset_of}
+use Rattle.yaml_emitter.proofs.layouts.Meaning.{is_indent, meaning_is_kept}
+use Rattle.yaml_emitter.proofs.layouts.TidyStreams.{bodies_are_tidy}
+use Rattle.yaml_emitter.proofs.layouts.RawTexts.{special_list, lacks_fewer, all_meet, special_printable, texts_hold_raw}
+use Rattle.yaml_emitter.proofs.canonical.CanonicalBytes.{characters_back}
+use Rattle.yaml_emitter.proofs.events_done.SeenTexts.{values_of_texts}
+
+-- the text of an accepted list is printable
+layouts_are_printable : LayoutsArePrintable
+layouts_are_printable given encoding events accepted =
+    let s = effective given encoding in
+    let text = text_of (list_layout s events) in
+    all_meet is_printable text
+    (lacks_fewer (is_special (charset_of s)) (λ c. not (is_printable c)) (λ c e. ap not (special_printable (charset_of s) c e)) text
+    (special_list s given.canonical events (is_indent given.indent) accepted))
+
+-- and is read from its bytes
+layouts_are_read : LayoutsAreRead
+layouts_are_read given encoding events accepted =
+    let s = effective given encoding in
+    characters_back s.encoding (text_written s (list_layout s events)) (texts_hold_raw given encoding events accepted).scalars
+
+-- every stream stands
+stand : StreamsStand
+stand = streams_stand bodies_are_tidy meaning_is_kept values_of_texts layouts_are_printable layouts_are_read
+
+-- every stream reads back
+pub stream_reads_back : StreamReadsBack
+stream_reads_back = streams_read_back stand
+
+-- what is read are its documents' trees
+pub stream_found : (given : Settings) (encoding : Option Encoding) (events : List Event) (accepted : IsAccepted given.canonical events)
+    → list_all has_scalar_texts events ≡ true → is_portable given.portable given.canonical events ≡ true
+    → stream_trees given.breaks12 (bytes_written (effective given encoding) (list_layout (effective given encoding) events))
+    ≡ Some (document_trees (effective given encoding) accepted.stream.documents)
+stream_found given encoding events accepted texts portable =
+    stream_read_back given encoding events accepted portable (stand given encoding events accepted texts portable)

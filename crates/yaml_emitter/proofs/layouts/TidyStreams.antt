@@ -1,0 +1,89 @@
+-- The bodies of every accepted list's layout are tidy.
+use Rattle.std.proofs.Common.{◌≡◌, ◌≤◌, refl, ap, arith}
+use Rattle.std.proofs.lemmas.Bool.{and_from}
+use Rattle.std.specs.Prelude.{ℕ, suc, true, Option, List, [], ◌∷◌, not, unwrap_or}
+use Rattle.std.specs.List.{list_all}
+use Rattle.yaml_base.specs.Analysis.{allowances, is_special}
+use Rattle.yaml_base.specs.Characters.{Text, is_printable}
+use Rattle.yaml_base.specs.Cursor.{Cursor}
+use Rattle.yaml_base.specs.Event.{ScalarStyle, any_style, plain, single_quoted, double_quoted, literal, folded, Event}
+use Rattle.yaml_base.specs.NodeLayout.{body_at, body_laid}
+use Rattle.yaml_base.specs.Places.{Place, deeper}
+use Rattle.yaml_base.specs.Settings.{Effective, effective}
+use Rattle.yaml_base.specs.TidyBodies.{IsTidy, has_deep_lines, is_tidy_style}
+use Rattle.yaml_base.specs.WrittenTexts.{BodiesAreTidy}
+use Rattle.yaml_scalar.proofs.TidyLines.{plain_even, plain_edges, single_even}
+use Rattle.yaml_scalar.proofs.TidyQuoted.{double_even}
+use Rattle.yaml_scalar.proofs.TidyBlocks.{literal_deep, folded_deep}
+use Rattle.yaml_emitter.proofs.layouts.Meaning.{is_indent, list_holds}
+use Rattle.yaml_emitter.proofs.layouts.MeaningBodies.{IsIndent, charset_of, plain_context}
+use Rattle.yaml_emitter.proofs.layouts.MeaningStyles.{Allows}
+use Rattle.yaml_emitter.proofs.layouts.RawTexts.{all_meet, lacks_fewer, special_printable, special_spared}
+
+-- one column deeper than the entries around a scalar
+abbrev depth_of : Option ℕ → ℕ
+depth_of column = suc (unwrap_or column 0)
+
+module _ (s : Effective) (is : IsIndent s.indent) (place : Place) where
+  -- a scalar's indentation is that deep
+  enough : depth_of place.column ≤ deeper s.indent place.column
+  enough = omega (arith, is.low)
+
+  -- a body's characters are printable
+  printable : (style : ScalarStyle) (limit : Option ℕ) (value : Text) (cursor : Cursor) → Allows (allowances (charset_of s) value) place.in_flow style
+      → list_all is_printable (body_laid style s limit (deeper s.indent place.column) value cursor).text ≡ true
+  printable style limit value cursor allowed =
+      let text = (body_laid style s limit (deeper s.indent place.column) value cursor).text in
+      all_meet is_printable text
+      (lacks_fewer (is_special (charset_of s)) (λ c. not (is_printable c)) (λ c e. ap not (special_printable (charset_of s) c e)) text
+      ((special_spared s is).bodies place style limit value cursor allowed))
+
+  -- what else a tidy body keeps to
+  record KeepsTo (style : ScalarStyle) (text : Text) : Type 0 where
+    pub deep : has_deep_lines s.breaks12 (depth_of place.column) text ≡ true
+    pub tidy : is_tidy_style style s.breaks12 text ≡ true
+
+  -- so does a body that a value allows
+  keeps_to : (style : ScalarStyle) (limit : Option ℕ) (value : Text) (cursor : Cursor) → Allows (allowances (charset_of s) value) place.in_flow style
+      → KeepsTo style (body_laid style s limit (deeper s.indent place.column) value cursor).text
+  keeps_to any_style limit value cursor allowed = absurd allowed
+  keeps_to plain limit value cursor allowed =
+      let context = plain_context (charset_of s) place.in_flow value allowed in
+      let even = plain_even (charset_of s) place.in_flow (depth_of place.column) limit (deeper s.indent place.column) value cursor enough context in
+      let edges = plain_edges (charset_of s) place.in_flow limit (deeper s.indent place.column) value cursor context in
+      record { deep = even.deep; tidy = and_from _ _ even.even edges }
+  keeps_to single_quoted limit value cursor allowed =
+      let even = single_even (charset_of s) (depth_of place.column) limit (deeper s.indent place.column) value cursor enough allowed in
+      record { deep = even.deep; tidy = even.even }
+  keeps_to double_quoted limit value cursor allowed =
+      let even = double_even s.breaks12 s.unicode (depth_of place.column) limit (deeper s.indent place.column) value cursor enough in
+      record { deep = even.deep; tidy = even.even }
+  keeps_to literal limit value cursor allowed = record {
+    deep = literal_deep (charset_of s) (depth_of place.column) (deeper s.indent place.column) s.indent value cursor enough is.high allowed;
+    tidy = refl;
+  }
+  keeps_to folded limit value cursor allowed = record {
+    deep = folded_deep (charset_of s) (depth_of place.column) limit (deeper s.indent place.column) s.indent value cursor enough is.high allowed;
+    tidy = refl;
+  }
+
+  -- a body that a value allows is tidy
+  pub body_tidy : (style : ScalarStyle) (limit : Option ℕ) (value : Text) (cursor : Cursor) → Allows (allowances (charset_of s) value) place.in_flow style
+      → IsTidy s (body_at place style value (body_laid style s limit (deeper s.indent place.column) value cursor))
+  body_tidy style limit value cursor allowed =
+      let keeps = keeps_to style limit value cursor allowed in
+      and_from _ _ (and_from _ _ (printable style limit value cursor allowed) keeps.deep) keeps.tidy
+
+-- whatever the events hold
+all_good : (events : List Event) → list_all (λ (event : Event). true) events ≡ true
+all_good [] = refl
+all_good (event ∷ rest) = all_good rest
+
+-- The bodies of every accepted list are tidy.
+pub bodies_are_tidy : BodiesAreTidy
+bodies_are_tidy given encoding events accepted =
+    let s = effective given encoding in
+    let is = is_indent given.indent in
+    list_holds s (IsTidy s) (λ (event : Event). true)
+    (λ place style limit content cursor good allowed. body_tidy s is place style limit content.value cursor allowed)
+    given.canonical events accepted (all_good events)

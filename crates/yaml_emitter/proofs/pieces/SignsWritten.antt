@@ -1,0 +1,86 @@
+-- Signs that are written are what the definitions lay.
+use Rattle.std.proofs.Common.{◌≡◌, ℕ, Bool, true, false, Option, None, Some, List, Result, refl, sym, ap, ◌∙◌, append-nil, if◌then◌else◌}
+use Rattle.std.specs.Prelude.{option_map, is_some, ◌++◌}
+use Rattle.yaml_base.specs.Characters.{Text}
+use Rattle.yaml_base.specs.Cursor.{Cursor, Laid, nothing_laid, then_laid}
+use Rattle.yaml_base.specs.Event.{TagDirective}
+use Rattle.yaml_base.specs.Layout.{Place, Brackets, flow_place_laid, block_place_laid, place_laid, anchor_laid, tag_laid, properties_laid, end_laid, end_piece, tag_count}
+use Rattle.yaml_base.specs.Settings.{Effective}
+use Rattle.yaml_base.specs.Tags.{Spelling, spelling}
+use Rattle.yaml_base.specs.declared.errors.yaml_error_t.{yaml_error_t}
+use Rattle.yaml_pen.specs.Page.{Page}
+use Rattle.yaml_pen.specs.Wrote.{Wrote}
+use Rattle.yaml_pen.proofs.Composing.{wrote_as}
+use Rattle.yaml_emitter.specs.WrittenPieces.{piece_at}
+use Rattle.yaml_emitter.specs.WrittenSigns.{seen_tag, spelled_tag_laid, spelled_count}
+use Rattle.yaml_emitter.specs.declared.writing.spelling.SpelledTag.{SpelledTag}
+use Rattle.yaml_emitter.proofs.pieces.WritingPieces.{wrote_lead}
+
+-- a place in flow, and one in a block
+pub flow_here : (s : Effective) (place : Place) (simple : Bool) (cursor : Cursor) → place.in_flow ≡ true
+    → flow_place_laid s place.role simple place.column cursor ≡ place_laid s place simple cursor
+flow_here s place simple cursor is =
+    sym (ap (λ (b : Bool). if b then flow_place_laid s place.role simple place.column cursor else block_place_laid place.role simple place.column cursor) is)
+
+pub block_here : (s : Effective) (place : Place) (simple : Bool) (cursor : Cursor) → place.in_flow ≡ false
+    → block_place_laid place.role simple place.column cursor ≡ place_laid s place simple cursor
+block_here s place simple cursor is =
+    sym (ap (λ (b : Bool). if b then flow_place_laid s place.role simple place.column cursor else block_place_laid place.role simple place.column cursor) is)
+
+-- the bytes of a tag are those of its spelling
+pub tag_count-spelled : (directives : List TagDirective) (tag : Option Text) → spelled_count (option_map (spelling directives) tag) ≡ tag_count directives tag
+tag_count-spelled directives None = refl
+tag_count-spelled directives (Some tag) = refl
+
+-- a tag is written where its spelling is
+pub written_is_some : (directives : List TagDirective) (text : Option Text) (tag : Option SpelledTag) → seen_tag tag ≡ option_map (spelling directives) text
+    → is_some tag ≡ is_some text
+written_is_some directives None None is = refl
+written_is_some directives None (Some tag) is = cc
+written_is_some directives (Some text) None is = cc
+written_is_some directives (Some text) (Some tag) is = refl
+
+tag-spelled : (portable : Bool) (directives : List TagDirective) (tag : Option Text) (bare : Bool) (cursor : Cursor)
+    → spelled_tag_laid portable (option_map (spelling directives) tag) bare cursor ≡ tag_laid portable directives tag bare cursor
+tag-spelled portable directives (Some tag) bare cursor = refl
+tag-spelled portable directives None true cursor = refl
+tag-spelled portable directives None false cursor = refl
+
+-- what stands before a node, with its tag as it is spelled
+pub lead-spelled : (s : Effective) (directives : List TagDirective) (place : Place) (simple : Bool) (anchor tag : Option Text) (spelled : Option Spelling)
+    (bare : Bool) (cursor : Cursor)
+    → spelled ≡ option_map (spelling directives) tag
+    → then_laid (place_laid s place simple cursor) (λ between. then_laid (anchor_laid anchor between) (spelled_tag_laid s.portable spelled bare))
+    ≡ then_laid (place_laid s place simple cursor) (properties_laid s.portable directives anchor tag bare)
+lead-spelled s directives place simple anchor tag spelled bare cursor is =
+    let here = place_laid s place simple cursor in
+    let named = anchor_laid anchor here.cursor in
+    ap (λ (o : Option Spelling). then_laid here (λ between. then_laid (anchor_laid anchor between) (spelled_tag_laid s.portable o bare))) is
+    ∙ ap (λ (last : Laid). let l : Laid = record { text = here.text ++ (named.text ++ last.text); cursor = last.cursor } in l)
+    (tag-spelled s.portable directives tag bare named.cursor)
+
+-- where nothing comes after it, what is laid is all
+pub laid_alone : (lay next : Cursor → Laid) (cursor : Cursor) → ((after : Cursor) → next after ≡ nothing_laid after) → lay cursor ≡ then_laid (lay cursor) next
+laid_alone lay next cursor none =
+    let here = lay cursor in
+    ap (λ (text : Text). let l : Laid = record { text = text; cursor = here.cursor } in l) (sym (append-nil here.text))
+    ∙ ap (λ (last : Laid). let l : Laid = record { text = here.text ++ last.text; cursor = last.cursor } in l) (sym (none here.cursor))
+
+-- an end in flow, and one in a block
+pub end_in_flow : (s : Effective) (brackets : Brackets) (in_flow empty other : Bool) (column : Option ℕ) (mark : ℕ)
+    (lay : Cursor → Laid) {before after : Page} {answer : Result (Unit {0}) yaml_error_t}
+    → ((cursor : Cursor) → lay cursor ≡ end_laid s brackets true other column cursor) → other ≡ empty → in_flow ≡ true → Wrote lay before after answer
+    → Wrote (piece_at (end_piece s brackets in_flow empty column) mark) before after answer
+end_in_flow s brackets in_flow empty other column mark lay {before} same other_is flow wrote =
+    wrote_lead (end_laid s brackets in_flow empty column) mark
+    (wrote_as (end_laid s brackets in_flow empty column)
+    (same before.cursor ∙ ap (λ (b : Bool). end_laid s brackets true b column before.cursor) other_is
+    ∙ ap (λ (b : Bool). end_laid s brackets b empty column before.cursor) (sym flow)) wrote)
+
+pub end_in_block : (s : Effective) (brackets : Brackets) (in_flow empty : Bool) (column : Option ℕ)
+    (mark : ℕ) {before after : Page} {answer : Result (Unit {0}) yaml_error_t}
+    → in_flow ≡ false → Wrote nothing_laid before after answer
+    → Wrote (piece_at (end_piece s brackets in_flow empty column) mark) before after answer
+end_in_block s brackets in_flow empty column mark {before} flow wrote =
+    wrote_lead (end_laid s brackets in_flow empty column) mark
+    (wrote_as (end_laid s brackets in_flow empty column) (ap (λ (b : Bool). end_laid s brackets b empty column before.cursor) (sym flow)) wrote)

@@ -1,0 +1,110 @@
+-- Names and handles that aren't refused hold no break.
+use Rattle.std.proofs.Common.{◌≡◌, ℕ, Bool, true, false, not, ◌||◌, ◌==◌, cond, Option, None, Some, List, [], ◌∷◌, ◌++◌, refl, ap, ◌∙◌, arith, filter, if◌then◌else◌}
+use Rattle.std.proofs.lemmas.Bool.{and_parts, or_parts, eqb-true}
+use Rattle.std.proofs.lemmas.Bool.Decides.{nat_tests}
+use Rattle.std.specs.List.{list_any, list_all}
+use Rattle.std.specs.Option.{option_or}
+use Rattle.std.specs.Prelude.{option_and_then}
+use Rattle.yaml_base.specs.Characters.{Text, is_alpha, is_break}
+use Rattle.yaml_base.specs.Event.{TagDirective}
+use Rattle.yaml_base.specs.Tags.{name_fault, anchor_fault, alias_fault, handle_fault, directive_fault, next_directive_fault, directives_fault, directives_fault_after, gives_handle, default_directives, directives_in_force, tag_mark, last_from, without_last, anchor_empty, anchor_alphabet, alias_empty, alias_alphabet, prefix_fault, tag_handle_start, tag_handle_end, tag_handle_alphabet}
+use Rattle.yaml_base.proofs.TagForms.{front_and_last}
+use Rattle.yaml_emitter.specs.Signs.{name_breaks, some_handle_breaks}
+
+letter_is_no_break : (c : ℕ) → is_alpha c ≡ true → is_break c ≡ false
+letter_is_no_break c letter = grind (arith, nat_tests)
+
+either_false : (a b : Bool) → a ≡ false → b ≡ false → (a || b) ≡ false
+either_false a b here there = ap (λ x. x || b) here ∙ there
+
+letters_no_break : (text : Text) → list_all is_alpha text ≡ true → list_any is_break text ≡ false
+letters_no_break [] letters = refl
+letters_no_break (c ∷ rest) letters =
+    let parts = and_parts (is_alpha c) (list_all is_alpha rest) letters in
+    either_false (is_break c) (list_any is_break rest) (letter_is_no_break c parts.0) (letters_no_break rest parts.1)
+
+none_where : (n : ℕ) (test : Bool) → (if test then None else Some n) ≡ None → test ≡ true
+none_where n true none = refl
+none_where n false none = cc
+
+-- a name that isn't refused holds no break
+pub sound_name : (if_empty if_other : ℕ) (name : Text) → name_fault if_empty if_other name ≡ None → list_any is_break name ≡ false
+sound_name if_empty if_other [] none = refl
+sound_name if_empty if_other (c ∷ rest) none = letters_no_break (c ∷ rest) (none_where if_other (list_all is_alpha (c ∷ rest)) none)
+
+pub sound_alias : (name : Text) → alias_fault name ≡ None → list_any is_break name ≡ false
+sound_alias name none = sound_name alias_empty alias_alphabet name none
+
+-- an anchor, where there is one
+pub sound_anchor : (anchor : Option Text) → option_and_then anchor_fault anchor ≡ None → name_breaks anchor ≡ false
+sound_anchor None none = refl
+sound_anchor (Some name) none = sound_name anchor_empty anchor_alphabet name none
+
+any-append : {T : Type 0} (p : T → Bool) (xs ys : List T) → list_any p xs ≡ false → list_any p ys ≡ false → list_any p (xs ++ ys) ≡ false
+any-append p [] ys here there = there
+any-append p (x ∷ xs) ys here there =
+    let parts = or_parts (p x) (list_any p xs) here in
+    either_false (p x) (list_any p (xs ++ ys)) parts.0 (any-append p xs ys parts.1 there)
+
+three_tests : (m n k : ℕ) (a b t : Bool) → (if a then Some m else (if b then Some n else (if t then None else Some k))) ≡ None
+    → (a ≡ false) × (b ≡ false) × (t ≡ true)
+three_tests m n k true b t none = cc
+three_tests m n k false true t none = cc
+three_tests m n k false false true none = (refl, refl, refl)
+three_tests m n k false false false none = cc
+
+is_true : (b : Bool) → not b ≡ false → b ≡ true
+is_true true is = refl
+is_true false is = cc
+
+mark_is_no_break : (c : ℕ) → (c == tag_mark) ≡ true → is_break c ≡ false
+mark_is_no_break c is = ap is_break (eqb-true c tag_mark is)
+
+-- a handle that isn't refused holds no break
+pub sound_handle : (handle : Text) → handle_fault handle ≡ None → list_any is_break handle ≡ false
+sound_handle [] none = refl
+sound_handle (c ∷ []) none =
+    let tests = three_tests tag_handle_start tag_handle_end tag_handle_alphabet (not (c == tag_mark)) (not (c == tag_mark)) true none in
+    either_false (is_break c) false (mark_is_no_break c (is_true (c == tag_mark) tests.0)) refl
+sound_handle (c ∷ d ∷ rest) none =
+    let last = last_from c (d ∷ rest) in
+    let tests = three_tests tag_handle_start tag_handle_end tag_handle_alphabet (not (c == tag_mark)) (not (last == tag_mark))
+    (list_all is_alpha (without_last (d ∷ rest))) none in
+    let ends = either_false (is_break last) false (mark_is_no_break last (is_true (last == tag_mark) tests.1)) refl in
+    either_false (is_break c) (list_any is_break (d ∷ rest)) (mark_is_no_break c (is_true (c == tag_mark) tests.0))
+    (ap (list_any is_break) (front_and_last c d rest)
+    ∙ any-append is_break (without_last (d ∷ rest)) (last ∷ []) (letters_no_break (without_last (d ∷ rest)) tests.2) ends)
+
+first_none : (a b : Option ℕ) → option_or a b ≡ None → (a ≡ None) × (b ≡ None)
+first_none None b none = (refl, none)
+first_none (Some n) b none = cc
+
+handles_after : (before directives : List TagDirective) → directives_fault_after before directives ≡ None → some_handle_breaks directives ≡ false
+handles_after before [] none = refl
+handles_after before (directive ∷ rest) none =
+    let one = first_none (next_directive_fault before directive) (directives_fault_after (before ++ directive ∷ []) rest) none in
+    let own = first_none (directive_fault directive) _ one.0 in
+    let handle = first_none (handle_fault directive.handle) (prefix_fault directive.prefix) own.0 in
+    either_false (list_any is_break directive.handle) (some_handle_breaks rest) (sound_handle directive.handle handle.0)
+    (handles_after (before ++ directive ∷ []) rest one.1)
+
+-- directives that aren't refused
+pub sound_handles : (own : List TagDirective) → directives_fault own ≡ None → some_handle_breaks own ≡ false
+sound_handles own none = handles_after [] own none
+
+some_kept : (keeps : TagDirective → Bool) (directives : List TagDirective) → some_handle_breaks directives ≡ false
+    → some_handle_breaks (filter keeps directives) ≡ false
+some_kept keeps [] none = refl
+some_kept keeps (directive ∷ rest) none =
+    let parts = or_parts (list_any is_break directive.handle) (some_handle_breaks rest) none in
+    elim (keeps directive) as (λ (b : Bool). some_handle_breaks (cond b (directive ∷ filter keeps rest) (filter keeps rest)) ≡ false) [
+      | true ↦ either_false (list_any is_break directive.handle) (some_handle_breaks (filter keeps rest)) parts.0 (some_kept keeps rest parts.1)
+      | false ↦ some_kept keeps rest parts.1
+    ]
+
+-- the directives in force are a document's own and defaults
+pub sound_in_force : (own : List TagDirective) → some_handle_breaks own ≡ false → some_handle_breaks (directives_in_force own) ≡ false
+sound_in_force own none =
+    any-append (λ (directive : TagDirective). list_any is_break directive.handle) own
+    (filter (λ directive. not (gives_handle directive.handle own)) default_directives) none
+    (some_kept (λ directive. not (gives_handle directive.handle own)) default_directives refl)

@@ -1,0 +1,205 @@
+-- Scalars: what the writers of the styles write is the text that the layout puts there, and with what stands before it
+-- the scalar's piece.
+use Rattle.std.proofs.Common.{◌≡◌, ℕ, ℤ, pos, negsuc, ◌≤ℤ◌, Bool, true, false, ◌||◌, ◌&&◌, not, ◌==◌, inl, inr, length, Option, None, Result, Ok, Err, IsErr, IsErrAnd, List, refl, sym, ap, ◌∙◌, subst, append_assoc, if◌then◌else◌, arith}
+use Rattle.std.proofs.lemmas.Int.{ints}
+use Rattle.std.specs.Str.{chars, IsUtf8}
+use Rattle.std.specs.Result.{IfOk, MatchResult}
+use Rattle.std.specs.Prelude.{option_map}
+use Rattle.std.proofs.lemmas.Bool.{and_parts, cases_Bool}
+use Rattle.std.proofs.lemmas.Result.{err_from_is_err_and}
+use Rattle.yaml_base.specs.Analysis.{Allowances, is_empty, allows_block, somewhere, bars_block, allowances, Charset}
+use Rattle.yaml_base.specs.Characters.{Text}
+use Rattle.yaml_base.specs.Cursor.{Cursor, Laid, then_laid}
+use Rattle.yaml_base.specs.DoubleQuoted.{double_quoted_laid}
+use Rattle.yaml_base.specs.Event.{ScalarStyle, any_style, plain, single_quoted, double_quoted, literal, folded, Scalar, TagDirective}
+use Rattle.yaml_base.specs.Folded.{folded_laid}
+use Rattle.yaml_base.specs.Layout.{Place, anchor_laid, place_laid, properties_laid, choice_of, deeper, scalar_piece, separation_laid, body_laid}
+use Rattle.yaml_base.specs.Plain.{plain_laid}
+use Rattle.yaml_base.specs.Refusal.{scalar_tag}
+use Rattle.yaml_base.specs.Settings.{Effective}
+use Rattle.yaml_base.specs.SingleQuoted.{single_quoted_laid}
+use Rattle.yaml_base.specs.Style.{Choice, chosen, fits_plain, is_plain, style_asked, style_fitting, style_quoted}
+use Rattle.yaml_base.specs.Tags.{Spelling, spelling}
+use Rattle.yaml_base.specs.declared.errors.yaml_error_t.{yaml_error_t}
+use Rattle.yaml_pen.specs.Page.{Page, natural}
+use Rattle.yaml_pen.specs.Wrote.{Wrote}
+use Rattle.yaml_pen.proofs.Composing.{wrote_as}
+use Rattle.yaml_mark.proofs.HandleFacts.{no_characters, characters_begin}
+use Rattle.yaml_scalar.specs.Width.{limit_of, limit_where}
+use Rattle.yaml_emitter.specs.declared.effective.EffectiveSettings.{EffectiveSettings}
+use Rattle.yaml_emitter.specs.Given.{seen_effective, seen_width}
+use Rattle.yaml_emitter.specs.ScalarTexts.{scalar_text_laid, style_fits, without_answer}
+use Rattle.yaml_emitter.specs.WrittenPieces.{piece_at}
+use Rattle.yaml_emitter.specs.WrittenSigns.{spelled_tag_laid}
+use Rattle.yaml_emitter.proofs.pieces.SignsWritten.{lead-spelled}
+
+-- the exit of a `?` tells the error of the call that failed
+pub wrote_exit_from : {T : Type 0} {lay : Cursor → Laid} {before after : Page} {error : yaml_error_t} (answer : Result T yaml_error_t)
+    → IsErr answer × IsErrAnd answer (λ told. told ≡ error) → Wrote lay before after (Err error) → Wrote lay before after (without_answer answer)
+wrote_exit_from {T} {lay} {before} {after} {error} answer is wrote =
+    let p = err_from_is_err_and answer is.1 in
+    subst (λ (r : Result T yaml_error_t). Wrote lay before after (without_answer r))
+    (sym (p.1 ∙ ap (λ (e : yaml_error_t). let r : Result T yaml_error_t = Err e in r) p.2)) wrote
+
+-- a width that isn't negative limits lines as the settings say
+width_limit : (width : ℤ) → pos 0 ≤ℤ width → limit_of width ≡ seen_width width
+width_limit (pos n) low = refl
+width_limit (negsuc n) low = absurd (omega (arith, ints, low))
+
+line_limit : (simple : Bool) (width : ℤ) → pos 0 ≤ℤ width → limit_where (not simple) width ≡ (if simple then None else seen_width width)
+line_limit true width low = refl
+line_limit false width low = width_limit width low
+
+module _ (settings : EffectiveSettings) (in_flow simple : Bool) (value : Text) {indent width : ℤ} {column : ℕ} (is : indent ≡ pos column)
+    (width_is : width ≡ settings.width) (low : pos 0 ≤ℤ settings.width) where
+  limit_is : limit_where (not simple) width ≡ (if simple then None else seen_width settings.width)
+  limit_is = ap (limit_where (not simple)) width_is ∙ line_limit simple settings.width low
+
+  abbrev text : ScalarStyle → Cursor → Laid
+  text style = scalar_text_laid style (seen_effective settings) in_flow simple column value
+
+  pub wrote_plain : {before after : Page} {answer : Result (Unit {0}) yaml_error_t}
+      → Wrote (plain_laid in_flow (limit_where (not simple) width) (natural indent) value) before after answer
+      → Wrote (scalar_text_laid plain (seen_effective settings) in_flow simple column value) before after answer
+  wrote_plain {before} wrote =
+      wrote_as (text plain)
+      (ap (λ (l : Option ℕ). plain_laid in_flow l (natural indent) value before.cursor) limit_is
+      ∙ ap (λ (i : ℤ). plain_laid in_flow (if simple then None else seen_width settings.width) (natural i) value before.cursor) is)
+      wrote
+
+  pub wrote_single : {before after : Page} {answer : Result (Unit {0}) yaml_error_t}
+      → Wrote (single_quoted_laid (limit_where (not simple) width) (natural indent) value) before after answer
+      → Wrote (scalar_text_laid single_quoted (seen_effective settings) in_flow simple column value) before after answer
+  wrote_single {before} wrote =
+      wrote_as (text single_quoted)
+      (ap (λ (l : Option ℕ). single_quoted_laid l (natural indent) value before.cursor) limit_is
+      ∙ ap (λ (i : ℤ). single_quoted_laid (if simple then None else seen_width settings.width) (natural i) value before.cursor) is)
+      wrote
+
+  pub wrote_double : {before after : Page} {answer : Result (Unit {0}) yaml_error_t}
+      → Wrote (double_quoted_laid settings.unicode (limit_where (not simple) width) (natural indent) value) before after answer
+      → Wrote (scalar_text_laid double_quoted (seen_effective settings) in_flow simple column value) before after answer
+  wrote_double {before} wrote =
+      wrote_as (text double_quoted)
+      (ap (λ (l : Option ℕ). double_quoted_laid settings.unicode l (natural indent) value before.cursor) limit_is
+      ∙ ap (λ (i : ℤ). double_quoted_laid settings.unicode (if simple then None else seen_width settings.width) (natural i) value before.cursor) is)
+      wrote
+
+  pub wrote_folded : {best : ℤ} → best ≡ pos settings.indent → simple ≡ false → {before after : Page} {answer : Result (Unit {0}) yaml_error_t}
+      → Wrote (folded_laid (limit_of width) (natural indent) (natural best) value) before after answer
+      → Wrote (scalar_text_laid folded (seen_effective settings) in_flow simple column value) before after answer
+  wrote_folded {best} best_is long {before} wrote =
+      wrote_as (text folded)
+      (ap (λ (l : Option ℕ). folded_laid l (natural indent) (natural best) value before.cursor) (ap limit_of width_is ∙ width_limit settings.width low)
+      ∙ ap (λ (i : ℤ). folded_laid (seen_width settings.width) (natural i) (natural best) value before.cursor) is
+      ∙ ap (λ (i : ℤ). folded_laid (seen_width settings.width) column (natural i) value before.cursor) best_is
+      ∙ ap (λ (b : Bool). folded_laid (if b then None else seen_width settings.width) column settings.indent value before.cursor) (sym long))
+      wrote
+
+quoted_fits : (allowed : Allowances) (value : Text) (simple : Bool) → style_fits (style_quoted allowed) value simple ≡ true
+quoted_fits allowed value simple =
+    elim allowed.single_quoted as (λ (b : Bool). style_fits (if b then single_quoted else double_quoted) value simple ≡ true) [ true ↦ refl | false ↦ refl ]
+
+block_or_double : (style : ScalarStyle) (fits : Bool) (value : Text) (simple : Bool)
+    → style_fits style value simple ≡ (not (is_empty value) && not simple)
+    → (fits ≡ true → (not (is_empty value) && not simple) ≡ true)
+    → style_fits (if fits then style else double_quoted) value simple ≡ true
+block_or_double style true value simple is holds = is ∙ holds refl
+block_or_double style false value simple is holds = refl
+
+fitting_fits : (allowed : Allowances) (plain_fits block_fits : Bool) (asked : ScalarStyle) (value : Text) (simple : Bool)
+    → (block_fits ≡ true → (not (is_empty value) && not simple) ≡ true)
+    → style_fits (style_fitting allowed plain_fits block_fits asked) value simple ≡ true
+fitting_fits allowed true block_fits plain value simple holds = refl
+fitting_fits allowed false block_fits plain value simple holds = quoted_fits allowed value simple
+fitting_fits allowed plain_fits block_fits single_quoted value simple holds = quoted_fits allowed value simple
+fitting_fits allowed plain_fits block_fits literal value simple holds = block_or_double literal block_fits value simple refl holds
+fitting_fits allowed plain_fits block_fits folded value simple holds = block_or_double folded block_fits value simple refl holds
+fitting_fits allowed plain_fits block_fits any_style value simple holds = refl
+fitting_fits allowed plain_fits block_fits double_quoted value simple holds = refl
+
+not_either : (a b : Bool) → not (a || b) ≡ true → not a ≡ true
+not_either true b is = cc
+not_either false b is = refl
+
+both : (a b c : Bool) (d : Bool) → (a && b && c) ≡ true → (a ≡ true → d ≡ true) → (d && c) ≡ true
+both a b c d is holds =
+    let outer = and_parts (a && b) c is in
+    ap (λ x. x && c) (holds (and_parts a b outer.0).0) ∙ outer.1
+
+-- the style that is chosen fits
+pub chosen_fits : (s : Effective) (place : Place) (simple : Bool) (content : Scalar)
+    → style_fits (choice_of s place simple content).style content.value simple ≡ true
+chosen_fits s place simple content =
+    let charset : Charset = record { unicode = s.unicode; breaks12 = s.breaks12 } in
+    fitting_fits (allowances charset content.value) _ _ _ content.value simple
+    (λ fits. both (allows_block charset content.value) (not place.in_flow) (not simple) (not (is_empty content.value)) fits
+    (not_either (is_empty content.value) (somewhere (bars_block charset) content.value)))
+
+-- where double quotes are asked for in any case, they are chosen, whatever the value allows
+surely_asked : (canonical other : Bool) (asked : ScalarStyle) → style_asked canonical asked ≡ double_quoted → style_asked (canonical || other) asked ≡ double_quoted
+surely_asked true other asked h = h
+surely_asked false true asked h = refl
+surely_asked false false asked h = h
+
+bare_in_quotes : (tag_written quoted_implicit : Bool)
+    → (not tag_written && not quoted_implicit && not (is_plain double_quoted)) ≡ (not tag_written && not quoted_implicit)
+bare_in_quotes true true = refl
+bare_in_quotes true false = refl
+bare_in_quotes false true = refl
+bare_in_quotes false false = refl
+
+pub chosen_surely : (allowed : Allowances) (asked : ScalarStyle) (empty tag_written plain_implicit quoted_implicit flow simple canonical : Bool)
+    → style_asked canonical asked ≡ double_quoted
+    → chosen allowed asked empty tag_written plain_implicit quoted_implicit flow simple canonical
+    ≡ record { style = double_quoted; bare = not tag_written && not quoted_implicit }
+chosen_surely allowed asked empty tag_written plain_implicit quoted_implicit flow simple canonical h =
+    let whole : ScalarStyle → Choice = λ style. record { style = style; bare = not tag_written && not quoted_implicit && not (is_plain style) } in
+    let quotes : Bool → Choice = λ bare. record { style = double_quoted; bare = bare } in
+    ap whole
+    (ap (style_fitting allowed (fits_plain allowed empty tag_written plain_implicit flow simple) (allowed.block && not flow && not simple))
+    (surely_asked canonical (simple && allowed.multiline) asked h))
+    ∙ ap quotes (bare_in_quotes tag_written quoted_implicit)
+
+module _ (s : Effective) (directives : List TagDirective) (place : Place) (simple : Bool) (content : Scalar) where
+  -- what stands before a scalar's text, its tag as it is spelled, and the text
+  abbrev pub scalar_laid : Choice → Option Spelling → Cursor → Laid
+  scalar_laid choice tag cursor =
+      then_laid
+      (then_laid (place_laid s place simple cursor) (λ between. then_laid (anchor_laid content.anchor between) (spelled_tag_laid s.portable tag choice.bare)))
+      (scalar_text_laid choice.style s place.in_flow simple (deeper s.indent place.column) content.value)
+
+  whole_laid : (mark : ℕ) (tag : Option Spelling) (cursor : Cursor) → tag ≡ option_map (spelling directives) (scalar_tag s.canonical content)
+      → scalar_laid (choice_of s place simple content) tag cursor ≡ piece_at (scalar_piece s directives place simple content) mark cursor
+  whole_laid mark tag cursor is =
+      let choice = choice_of s place simple content in
+      let text = scalar_text_laid choice.style s place.in_flow simple (deeper s.indent place.column) content.value in
+      let whole = piece_at (scalar_piece s directives place simple content) mark cursor in
+      let lead = then_laid (place_laid s place simple cursor)
+      (properties_laid s.portable directives content.anchor (scalar_tag s.canonical content) choice.bare) in
+      let separation = separation_laid choice.style place.in_flow content.value lead.cursor in
+      let body = body_laid choice.style s (if simple then None else s.width) (deeper s.indent place.column) content.value separation.cursor in
+      ap (λ (l : Laid). then_laid l text) (lead-spelled s directives place simple content.anchor (scalar_tag s.canonical content) tag choice.bare cursor is)
+      ∙ ap (λ (text : Text). let l : Laid = record { text = text; cursor = whole.cursor } in l) (sym (append_assoc lead.text separation.text body.text))
+
+  pub wrote_scalar : (mark : ℕ) {choice : Choice} {tag : Option Spelling} {before after : Page} {answer : Result (Unit {0}) yaml_error_t}
+      → choice ≡ choice_of s place simple content → tag ≡ option_map (spelling directives) (scalar_tag s.canonical content)
+      → Wrote (scalar_laid choice tag) before after answer
+      → Wrote (piece_at (scalar_piece s directives place simple content) mark) before after answer
+  wrote_scalar mark {choice} {tag} {before} is tag_is wrote =
+      wrote_as (piece_at (scalar_piece s directives place simple content) mark)
+      (ap (λ (c : Choice). scalar_laid c tag before.cursor) is ∙ whole_laid mark tag before.cursor tag_is)
+      wrote
+
+-- what holds of an answer by its kind holds where it is Ok
+pub if_ok_from : {T E : Type 0} (P P' : T → Type 0) (Q : E → Type 0) (r : Result T E) → ((x : T) → P x → P' x) → MatchResult r P Q → IfOk r P'
+if_ok_from P P' Q (Ok x) holds h = holds x h
+if_ok_from P P' Q (Err e) holds h = tt
+
+-- a text without bytes is one without characters
+pub empty_value : (bytes : List ℕ) → IsUtf8 bytes → (length bytes == 0) ≡ is_empty (chars bytes)
+empty_value bytes text =
+    elim (cases_Bool (length bytes == 0)) as (λ _. (length bytes == 0) ≡ is_empty (chars bytes)) [
+      | inl none ↦ none ∙ ap is_empty (sym (no_characters bytes none))
+      | inr some ↦ let first = characters_begin bytes text some in some ∙ ap is_empty (sym first.2)
+    ]

@@ -1,0 +1,17 @@
+pub mod Fronts
+pub mod Standing
+pub mod StandingSteps
+pub mod StandingFailed
+pub mod StandingMore
+pub mod StandingTexts
+pub mod StandingPromises
+pub mod StandingFull
+pub mod StandingEnds
+pub mod HandingOut
+pub mod Emitting
+pub mod StandingSet
+pub mod Promising
+pub mod KeepsSet
+pub mod Growing
+pub mod StandingMarked
+pub mod Taking

@@ -1,0 +1,156 @@
+-- What an emitter that stands promises where the output's limit was passed.
+use Rattle.std.proofs.Common.{◌≡◌, refl, sym, ap, ◌∙◌, subst, arith, append_assoc, inl, inr}
+use Rattle.std.proofs.lemmas.List.{take-append-drop}
+use Rattle.std.specs.Prelude.{ℕ, ◌<◌, Bool, true, false, Some, List, [], ◌∷◌, ◌++◌, length, take, drop}
+use Rattle.yaml_base.specs.Settings.{Settings, Effective}
+use Rattle.yaml_base.specs.Encoding.{cut}
+use Rattle.yaml_base.specs.Prefix.{IsPrefix}
+use Rattle.yaml_base.specs.Event.{Event, sequence_start, mapping_start}
+use Rattle.yaml_base.specs.Grammar.{Partial, before_stream, after_stream, partial_of}
+use Rattle.yaml_base.specs.Refusal.{begins_collection, IsAccepted}
+use Rattle.yaml_base.specs.Ready.{is_ready, written}
+use Rattle.yaml_base.specs.Layout.{first_standing}
+use Rattle.yaml_base.specs.Steps.{Steps, at_stream, ends_next, steps}
+use Rattle.yaml_base.specs.Pieces.{list_layout, pieces, begins_last, ends_first}
+use Rattle.yaml_base.specs.Pieces as closes
+use Rattle.yaml_base.specs.Output.{settings_for, text_written, bytes_written}
+use Rattle.yaml_base.specs.declared.errors.yaml_error_t.TheVariants.{WriteError, Memory}
+use Rattle.yaml_base.proofs.Completions.{front_begins}
+use Rattle.yaml_base.proofs.Prefixes.{prefix_same}
+use Rattle.yaml_base.proofs.Trees.{stream_pushed}
+use Rattle.yaml_base.proofs.PieceLaws.{steps_same, front_layout, list_layout_steps}
+use Rattle.yaml_base.proofs.QueueLaws.{open_at_written}
+use Rattle.yaml_pen.specs.Page.{Page, encoded, IsHandedOut}
+use Rattle.yaml_emitter.specs.State.{State}
+use Rattle.yaml_emitter.specs.Processing.{closes_at_once}
+use Rattle.yaml_emitter.specs.StandsAfter.{HoldsPiecesWith, holds_before, holds_part, StandsCut, StandsUnflushed, StandsSo}
+use Rattle.yaml_emitter.specs.Promises.{FillsLimit}
+use Rattle.yaml_emitter.proofs.standing.Standing.{own_end, settings_grown}
+use Rattle.yaml_emitter.proofs.standing.StandingSteps.{closes_last-append}
+use Rattle.yaml_emitter.proofs.standing.StandingMore.{ready_at, settings_failed}
+use Rattle.yaml_emitter.proofs.standing.StandingTexts.{begin_taken, front_longer, output_fills}
+use Rattle.yaml_emitter.proofs.standing.StandingPromises.{stands_failed, steps_begin}
+
+-- The output's limit.
+not_memory : WriteError ≡ Memory → ⊥
+not_memory wrong = cc
+
+pub drop-all : (events : List Event) → drop (length events) events ≡ []
+drop-all [] = refl
+drop-all (x ∷ events) = drop-all events
+
+pub take-length : (events : List Event) → take (length events) events ≡ events
+take-length [] = refl
+take-length (x ∷ events) = ap (λ l. x ∷ l) (take-length events)
+
+no_start_alone : (event : Event) → is_ready event [] ≡ true → begins_collection event ≡ false
+no_start_alone (sequence_start c) ready = cc
+no_start_alone (mapping_start c) ready = cc
+no_start_alone event ready = refl
+
+begins_last-append : (front : List Event) (event : Event) → begins_last (front ++ event ∷ []) ≡ begins_collection event
+begins_last-append [] event = refl
+begins_last-append (x ∷ []) event = refl
+begins_last-append (x ∷ y ∷ more) event = begins_last-append (y ∷ more) event
+
+follows_ready : (front rest more : List Event) (event : Event) (s : Effective) (last : Bool) → begins_collection event ≡ last → is_ready event rest ≡ true
+    → (q : Partial) → partial_of (((front ++ event ∷ []) ++ rest) ++ more) ≡ Some q
+    → (steps s (ends_next (rest ++ more) false) (front ++ event ∷ []) at_stream first_standing).pieces
+    ≡ (steps s (closes_at_once event rest) (front ++ event ∷ []) at_stream first_standing).pieces
+follows_ready front rest more event s false is ready q h =
+    ap (λ (made : Steps). made.pieces)
+    (steps_same (front ++ event ∷ []) s (ends_next (rest ++ more) false) (closes_at_once event rest) at_stream first_standing
+    (begins_last-append front event ∙ is))
+follows_ready front [] more event s true is ready q h = let no : begins_collection event ≡ false = no_start_alone event ready in cc
+follows_ready front (next ∷ rest) more event s true is ready q h =
+    let longer = front ++ event ∷ [] in
+    let begun = front_begins (longer ++ next ∷ []) (rest ++ more) q
+    (ap partial_of (append_assoc longer (next ∷ []) (rest ++ more) ∙ sym (append_assoc longer (next ∷ rest) more)) ∙ h) in
+    ap (λ follows. (steps s follows longer at_stream first_standing).pieces)
+    (sym (own_end longer next rest before_stream begun.0 begun.1 (begins_last-append front event ∙ is)) ∙ closes_last-append front (next ∷ rest) event)
+
+layout_begins : (canonical : Bool) (s : Effective) (front rest : List Event) → IsAccepted canonical (front ++ rest)
+    → IsPrefix (steps s (ends_next rest false) front at_stream first_standing).pieces (list_layout s (front ++ rest))
+layout_begins canonical s front rest accepted =
+    subst (IsPrefix (steps s (ends_next rest false) front at_stream first_standing).pieces)
+    (sym (list_layout_steps (front ++ rest) accepted.stream s (ap partial_of (sym accepted.is_stream) ∙ stream_pushed accepted.stream)))
+    (steps_begin front rest s false)
+
+passes : (limit : ℕ) (page : Page) → page.limit ≡ limit → page.limit < length (encoded page) → limit < length (encoded page)
+passes limit page is h = subst (λ limit. limit < length (encoded page)) is h
+
+cut_fills : (given : Settings) (all : List Event) (state : State) → StandsCut given all WriteError state → FillsLimit given all state
+cut_fills given all state h =
+    let s = settings_for given all in
+    let longer = h.front ++ h.event ∷ [] in
+    let empty = closes_at_once h.event h.later in
+    let begun_pieces = (steps s empty longer at_stream first_standing).pieces in
+    let parts : longer ++ h.later ≡ all = append_assoc h.front (h.event ∷ []) h.later ∙ h.failed.parts in
+    let ready = ready_at h.front h.event h.later (subst (λ events. length h.front < written events) (sym h.failed.parts) h.failed.became_ready) in
+    elim h.page [
+      | holds_before memory page ↦ absurd (not_memory memory)
+      | holds_part begun page told least most ↦
+          let failed = told refl in
+          record {
+            passed = passes given.limit state.page page.limit (page.handed.full failed).0;
+            full = (output_fills s state.page begun_pieces page most failed).0;
+            output = (λ more accepted.
+                let whole : longer ++ (h.later ++ more) ≡ all ++ more = sym (append_assoc longer h.later more) ∙ ap (λ events. events ++ more) parts in
+                let pushes : partial_of ((longer ++ h.later) ++ more) ≡ Some (after_stream accepted.stream) =
+                ap (λ events. partial_of (events ++ more)) parts ∙ ap partial_of (sym accepted.is_stream) ∙ stream_pushed accepted.stream in
+                let same : (steps s (ends_next (h.later ++ more) false) longer at_stream first_standing).pieces ≡ begun_pieces =
+                follows_ready h.front h.later more h.event s (begins_collection h.event) refl ready (after_stream accepted.stream) pushes in
+                let begins : IsPrefix begun_pieces (list_layout s (all ++ more)) =
+                subst (λ pieces. IsPrefix pieces (list_layout s (all ++ more))) same
+                (subst (λ events. IsPrefix (steps s (ends_next (h.later ++ more) false) longer at_stream first_standing).pieces (list_layout s events)) whole
+                (layout_begins given.canonical s longer (h.later ++ more) (subst (IsAccepted given.canonical) (sym whole) accepted))) in
+                (output_fills s state.page (list_layout s (all ++ more)) page
+                (front_longer s state.page.text begun_pieces (list_layout s (all ++ more)) most begins) failed).1
+                ∙ ap (λ (s : Effective). cut s.limit (bytes_written s (list_layout s (all ++ more))))
+                (sym (settings_failed h.front given all h.event h.later more h.failed.parts)));
+          }
+    ]
+
+between_fills : (front rest : List Event) (given : Settings) (all : List Event) (state : State) → front ++ rest ≡ all
+    → HoldsPiecesWith (Some WriteError) (settings_for given all) front (steps (settings_for given all) false front at_stream first_standing).pieces state.page
+    → IsHandedOut (encoded state.page) state.page.output state.page.limit state.page.error
+    → ((more : List Event) → closes.closes_at_once front (rest ++ more) ≡ false)
+    → FillsLimit given all state
+between_fills [] rest given all state parts h handed opens =
+    let full = handed.full (ap (λ (p : Page). p.error) h) in
+    let none : length (encoded state.page) ≡ 0 = ap (λ (p : Page). length (encoded p)) h in
+    absurd (omega (arith, full.0, none))
+between_fills (x ∷ front) rest given all state parts h handed opens =
+    let s = settings_for given all in
+    let begun_pieces = (steps s false (x ∷ front) at_stream first_standing).pieces in
+    let text = prefix_same state.page.text (text_written s begun_pieces) h.1 in
+    record {
+      passed = passes given.limit state.page h.0.limit (h.0.handed.full h.2).0;
+      full = (output_fills s state.page begun_pieces h.0 text h.2).0;
+      output = (λ more accepted.
+          let whole : (x ∷ front) ++ (rest ++ more) ≡ all ++ more = sym (append_assoc (x ∷ front) rest more) ∙ ap (λ events. events ++ more) parts in
+          let pushes : partial_of ((x ∷ front) ++ (rest ++ more)) ≡ Some (after_stream accepted.stream) =
+          ap partial_of whole ∙ ap partial_of (sym accepted.is_stream) ∙ stream_pushed accepted.stream in
+          let begins : IsPrefix begun_pieces (list_layout s (all ++ more)) =
+          subst (λ events. IsPrefix begun_pieces (list_layout s events)) whole
+          (begin_taken (length (x ∷ front)) begun_pieces (list_layout s ((x ∷ front) ++ (rest ++ more)))
+          (front_layout (x ∷ front) (rest ++ more) accepted.stream s pushes (opens more))) in
+          (output_fills s state.page (list_layout s (all ++ more)) h.0
+          (front_longer s state.page.text begun_pieces (list_layout s (all ++ more)) text begins) h.2).1
+          ∙ ap (λ (s : Effective). cut s.limit (bytes_written s (list_layout s (all ++ more)))) (sym (settings_grown given x front rest all more parts)));
+    }
+
+unflushed_fills : (given : Settings) (all : List Event) (state : State) → StandsUnflushed given all WriteError state → FillsLimit given all state
+unflushed_fills given all state h =
+    let front = take (written h.before) h.before in
+    let rest = drop (written h.before) h.before in
+    between_fills front (rest ++ h.later) given all state
+    (sym (append_assoc front rest h.later) ∙ ap (λ events. events ++ h.later) (take-append-drop (written h.before) h.before) ∙ h.parts)
+    h.page h.handed
+    (λ more. ap (λ events. closes.closes_at_once front events) (append_assoc rest h.later more) ∙ open_at_written h.before (h.later ++ more))
+
+-- After the output's limit was passed the output is full.
+pub promises_full : (given : Settings) (all : List Event) (state : State) → StandsSo given all state → state.error ≡ Some WriteError
+    → FillsLimit given all state
+promises_full given all state h failed =
+    elim (stands_failed given all state WriteError h failed) [ inl cut ↦ cut_fills given all state cut | inr other ↦ unflushed_fills given all state other ]

@@ -1,0 +1,302 @@
+-- What an emitter that stands promises its caller.
+use Rattle.std.proofs.Common.{◌≡◌, refl, sym, ap, ◌∙◌, subst, arith, append_assoc, inl, inr}
+use Rattle.std.proofs.lemmas.List.{take-append-drop, length-take-le}
+use Rattle.std.proofs.lemmas.Bool.{false≢true}
+use Rattle.std.specs.Prelude.{◌≤◌, Bool, true, false, ◌&&◌, Option, None, Some, List, [], ◌∷◌, ◌++◌, length, take, drop, option_and_then}
+use Rattle.yaml_base.specs.Settings.{Settings, Effective}
+use Rattle.yaml_base.specs.Encoding.{cut}
+use Rattle.yaml_base.specs.Prefix.{IsPrefix}
+use Rattle.yaml_base.specs.Event.{Event, document_start, sequence_start, sequence_end, mapping_start, mapping_end}
+use Rattle.yaml_base.specs.Grammar.{before_stream}
+use Rattle.yaml_base.specs.Refusal.{ends_collection, IsAccepted, BeginsAccepted, refusal_at, refusal}
+use Rattle.yaml_base.specs.Ready.{is_ready, written, held_back}
+use Rattle.yaml_base.specs.Layout.{Piece, first_standing}
+use Rattle.yaml_base.specs.Steps.{Steps, at_stream, ends_next, steps}
+use Rattle.yaml_base.specs.Pieces.{list_layout, pieces, begins_last}
+use Rattle.yaml_base.specs.Output.{settings_for, text_written}
+use Rattle.yaml_base.specs.declared.errors.yaml_error_t.{yaml_error_t}
+use Rattle.yaml_base.specs.declared.errors.yaml_error_t.TheVariants.{WriteError, Memory}
+use Rattle.yaml_base.proofs.Accepted.{stands_from_begins, refused_exactly}
+use Rattle.yaml_base.proofs.Prefixes.{prefix_same, prefix_then}
+use Rattle.yaml_base.proofs.PieceLaws.{steps_count, steps-append}
+use Rattle.yaml_base.proofs.Progress.{progress_pieces}
+use Rattle.yaml_base.proofs.QueueLaws.{held_is_short, held_waits, written_within}
+use Rattle.yaml_pen.specs.Page.{Page}
+use Rattle.yaml_emitter.specs.State.{State}
+use Rattle.yaml_emitter.specs.Queue.{is_head_ready}
+use Rattle.yaml_emitter.specs.Processing.{closes_at_once}
+use Rattle.yaml_emitter.specs.StandsAfter.{HoldsPiecesWith, StandsWell, closes_last, StandsRefused, holds_before, holds_part, StandsCut, StandsUnflushed, StandsStopped, StandsFailed, StandsBy, StandsSo}
+use Rattle.yaml_emitter.specs.Promises.{HasText, begins_with_start, most_held, HoldsWaiting, RefusedAt, BeginsOutput, StopsWriting, stops_before, stops_within, OutputBegins, IsRefusal}
+use Rattle.yaml_emitter.proofs.standing.Standing.{open_last, end_next}
+use Rattle.yaml_emitter.proofs.standing.StandingSteps.{awaits_few, closes_last-append}
+use Rattle.yaml_emitter.proofs.standing.StandingFailed.{own_accepted}
+use Rattle.yaml_emitter.proofs.standing.StandingTexts.{holds_text, pieces_front, begin_take, front_longer, GoesOn, goes_on, output_begins, holds_output}
+
+pub stands_well : (given : Settings) (all : List Event) (state : State) → StandsSo given all state → state.error ≡ None → StandsWell given all state
+stands_well given all state h none = subst (λ e. StandsBy given all e state) none h
+
+pub stands_failed : (given : Settings) (all : List Event) (state : State) (error : yaml_error_t) → StandsSo given all state → state.error ≡ Some error
+    → StandsFailed given all error state
+stands_failed given all state error h is = (subst (λ e. StandsBy given all e state) is h).1
+
+-- Without an error the text is that of the ready events' pieces.
+pub promises_text : (given : Settings) (all : List Event) (state : State) → StandsSo given all state → state.error ≡ None
+    → HasText given all (written all) state
+promises_text given all state h none =
+    let s = settings_for given all in
+    let front = take (written all) all in
+    let well = stands_well given all state h none in
+    let stands = stands_from_begins given.canonical front well.taken.stands in
+    holds_text front s false None state.page well.taken.page
+    ∙ ap (text_written s) (sym (progress_pieces all stands.partial s stands.is_partial))
+
+-- The events that wait.
+starts_if : (event : Event) (rest : List Event) → is_ready event rest ≡ false → begins_with_start (event ∷ rest) ≡ true
+starts_if (document_start start) rest h = refl
+starts_if (sequence_start start) rest h = refl
+starts_if (mapping_start start) rest h = refl
+starts_if event rest h = cc
+
+waiting : (held : List Event) → ((event : Event) (rest : List Event) → held ≡ event ∷ rest → is_ready event rest ≡ false) → (is_head_ready held ≡ false)
+    × (begins_with_start held ≡ true)
+waiting [] h = (refl, refl)
+waiting (event ∷ rest) h = let waits : is_ready event rest ≡ false = h event rest refl in (waits, starts_if event rest waits)
+
+held_few : (held : List Event) → is_head_ready held ≡ false → length held ≤ most_held held
+held_few [] h = omega arith
+held_few (event ∷ rest) h = held_is_short event rest h
+
+pub most_few : (held : List Event) → most_held held ≤ 3
+most_few [] = omega arith
+most_few (event ∷ rest) = awaits_few event
+
+pub promises_held : (given : Settings) (all : List Event) (state : State) → StandsSo given all state → state.error ≡ None → HoldsWaiting all state
+promises_held given all state h none =
+    let well = stands_well given all state h none in
+    let waits = waiting (held_back all) (held_waits all) in
+    record {
+      held = well.held;
+      few = subst (λ held. length held ≤ most_held held) (sym well.held) (held_few (held_back all) waits.0);
+      starts = ap begins_with_start well.held ∙ waits.1;
+    }
+
+-- A refusal.
+refused_at : (given : Settings) (all : List Event) (state : State) (error : yaml_error_t) → StandsRefused given all error state
+    → RefusedAt given all error state
+refused_at given all state error h =
+    let s = settings_for given all in
+    let stands = stands_from_begins given.canonical h.front h.taken.stands in
+    record {
+      front = h.front;
+      event = h.event;
+      later = h.later;
+      parts = h.failed.parts;
+      became_ready = h.failed.became_ready;
+      refusal = h.refusal;
+      begins = h.taken.stands;
+      ends = (λ more. let none : refusal given.canonical h.front h.event
+          ≡ None = (refused_exactly given.canonical h.front h.event h.taken.stands).1 more in cc);
+      text =
+          holds_text h.front s false None state.page h.taken.page
+          ∙ ap (text_written s) (sym (pieces_front h.front (h.event ∷ h.later) all s stands.partial h.failed.parts stands.is_partial));
+    }
+
+refused_by : (error : yaml_error_t) (given : Settings) (all : List Event) (state : State) → IsRefusal error → StandsFailed given all error state
+    → StandsRefused given all error state
+refused_by WriteError given all state is h = absurd is
+refused_by Memory given all state is h = absurd is
+refused_by error given all state is h = h
+
+pub promises_refusal : (given : Settings) (all : List Event) (state : State) (error : yaml_error_t) → StandsSo given all state → state.error ≡ Some error
+    → IsRefusal error → RefusedAt given all error state
+promises_refusal given all state error h failed is =
+    refused_at given all state error (refused_by error given all state is (stands_failed given all state error h failed))
+
+-- The output begins that of an accepted list.
+output_by_pieces : (given : Settings) (all front later : List Event) (follows : Bool) (error : Option yaml_error_t) (state : State) → front ++ later ≡ all
+    → HoldsPiecesWith error (settings_for given all) front (steps (settings_for given all) follows front at_stream first_standing).pieces state.page
+    → GoesOn given.canonical (settings_for given all) front (steps (settings_for given all) follows front at_stream first_standing).pieces
+    → BeginsOutput given all front (length front) state
+output_by_pieces given all front later follows error state parts h on =
+    let s = settings_for given all in
+    let begun = (steps s follows front at_stream first_standing).pieces in
+    let whole = list_layout s (front ++ on.more) in
+    let first : take (length front) whole ≡ begun = begin_take (length front) begun whole on.begins (steps_count front s follows at_stream first_standing) in
+    let text : state.page.text ≡ text_written s (take (length front) whole) = holds_text front s follows error state.page h ∙ ap (text_written s) (sym first) in
+    record {
+      later = later;
+      parts = parts;
+      more = on.more;
+      accepted = on.accepted;
+      least = prefix_same (text_written s (take (length front) whole)) state.page.text (sym text);
+      most = prefix_same state.page.text (text_written s (take (length front) whole)) text;
+      output = holds_output front s follows error state.page whole h on.begins;
+    }
+
+output_from : (given : Settings) (all front later : List Event) (error : Option yaml_error_t) (state : State) → front ++ later ≡ all
+    → BeginsAccepted given.canonical front
+    → HoldsPiecesWith error (settings_for given all) front (steps (settings_for given all) false front at_stream first_standing).pieces state.page
+    → BeginsOutput given all front (length front) state
+output_from given all front later error state parts begins h =
+    output_by_pieces given all front later false error state parts h (goes_on given.canonical (settings_for given all) front begins)
+
+-- The steps of a front begin those of the whole.
+pub steps_begin : (front rest : List Event) (s : Effective) (follows : Bool)
+    → IsPrefix (steps s (ends_next rest follows) front at_stream first_standing).pieces (steps s follows (front ++ rest) at_stream first_standing).pieces
+steps_begin front rest s follows =
+    let before = steps s (ends_next rest follows) front at_stream first_standing in
+    record {
+      rest = (steps s follows rest before.stage before.standing).pieces;
+      parts = sym (ap (λ (all : Steps). all.pieces) (steps-append front rest s follows at_stream first_standing));
+    }
+
+-- What closes a collection is its end.
+ends_one : (event next : Event) (later : List Event) → closes_at_once event (next ∷ later) ≡ true → ends_collection next ≡ true
+ends_one (sequence_start c) sequence_end later h = refl
+ends_one (mapping_start c) mapping_end later h = refl
+ends_one event next later h = cc
+
+ends_if : (front : List Event) (next : Event) (later : List Event) → closes_last front (next ∷ later) ≡ true → ends_collection next ≡ true
+ends_if [] next later h = cc
+ends_if (event ∷ []) next later h = ends_one event next later h
+ends_if (event ∷ other ∷ more) next later h = ends_if (other ∷ more) next later h
+
+and_right_false : (b : Bool) → b && false ≡ false
+and_right_false true = refl
+and_right_false false = refl
+
+-- A front whose last event may be closed at once by the next: both ways a list goes on.
+closing_more : (canonical : Bool) (s : Effective) (front later : List Event) (closes : Bool) → closes_last front later ≡ closes → BeginsAccepted canonical front
+    → GoesOn canonical s front (steps s (closes_last front later) front at_stream first_standing).pieces
+closing_more canonical s front later false is begins =
+    subst (λ follows. GoesOn canonical s front (steps s follows front at_stream first_standing).pieces) (sym is) (goes_on canonical s front begins)
+closing_more canonical s front [] true is begins = absurd (false≢true (sym (open_last front [] (and_right_false (begins_last front))) ∙ is))
+closing_more canonical s front (next ∷ later) true is begins =
+    let stands = stands_from_begins canonical front begins in
+    let none : refusal canonical front next ≡ None =
+    ap (λ o. option_and_then (λ q. refusal_at canonical q next) o) stands.is_partial
+    ∙ own_accepted front next later canonical before_stream stands.partial stands.is_partial is in
+    let longer = (refused_exactly canonical front next begins).0 none in
+    let on = goes_on canonical s (front ++ next ∷ []) longer in
+    let ends : ends_collection next ≡ closes_last front (next ∷ later) = ends_if front next later is ∙ sym is in
+    let first : IsPrefix (steps s (ends_collection next) front at_stream first_standing).pieces
+    (steps s false (front ++ next ∷ []) at_stream first_standing).pieces =
+    steps_begin front (next ∷ []) s false in
+    let same = append_assoc front (next ∷ []) on.more in
+    record {
+      more = next ∷ on.more;
+      accepted = subst (IsAccepted canonical) same on.accepted;
+      begins =
+          subst (λ follows. IsPrefix (steps s follows front at_stream first_standing).pieces (list_layout s (front ++ next ∷ on.more))) ends
+          (subst (λ events. IsPrefix (steps s (ends_collection next) front at_stream first_standing).pieces (list_layout s events)) same
+          (prefix_then first on.begins));
+    }
+
+-- After an error.
+cut_output : (given : Settings) (all : List Event) (error : yaml_error_t) (state : State) → StandsCut given all error state → StopsWriting given all state
+cut_output given all error state h =
+    let s = settings_for given all in
+    elim h.page [
+      | holds_before memory page ↦
+          let follows = closes_last h.front (h.event ∷ h.later) in
+          stops_before h.front
+          (output_by_pieces given all h.front (h.event ∷ h.later) follows None state h.failed.parts page
+          (closing_more given.canonical s h.front (h.event ∷ h.later) follows refl h.stands))
+      | holds_part begun page failed least most ↦
+          let longer = h.front ++ h.event ∷ [] in
+          let empty = closes_at_once h.event h.later in
+          let pieces = (steps s empty longer at_stream first_standing).pieces in
+          let last = closes_last-append h.front h.later h.event in
+          let on : GoesOn given.canonical s longer pieces =
+          subst (λ follows. GoesOn given.canonical s longer (steps s follows longer at_stream first_standing).pieces) last
+          (closing_more given.canonical s longer h.later (closes_last longer h.later) refl begun) in
+          let whole = list_layout s (longer ++ on.more) in
+          let stands = stands_from_begins given.canonical longer begun in
+          let shorter = (steps s (ends_collection h.event) h.front at_stream first_standing).pieces in
+          let first : take (length h.front) whole ≡ shorter =
+          begin_take (length h.front) shorter whole (prefix_then (steps_begin h.front (h.event ∷ []) s empty) on.begins)
+          (steps_count h.front s (ends_collection h.event) at_stream first_standing) in
+          let same : take (length h.front) whole ≡ (steps s (closes_last h.front (h.event ∷ h.later)) h.front at_stream first_standing).pieces =
+          first ∙ ap (λ (made : Steps). made.pieces) (end_next h.front h.later h.event stands.partial s (begins_last h.front) refl stands.is_partial) in
+          stops_within h.front h.event
+          (record {
+            later = h.later;
+            parts = append_assoc h.front (h.event ∷ []) h.later ∙ h.failed.parts;
+            more = on.more;
+            accepted = on.accepted;
+            least = subst (λ pieces. IsPrefix (text_written s pieces) state.page.text) (sym same) least;
+            most = subst (λ pieces. IsPrefix state.page.text (text_written s pieces))
+                (sym (begin_take (length longer) pieces whole on.begins (steps_count longer s empty at_stream first_standing))) most;
+            output = output_begins s state.page whole page (front_longer s state.page.text pieces whole most on.begins);
+          })
+    ]
+
+unflushed_output : (given : Settings) (all : List Event) (error : yaml_error_t) (state : State) → StandsUnflushed given all error state
+    → StopsWriting given all state
+unflushed_output given all error state h =
+    let front = take (written h.before) h.before in
+    let rest = drop (written h.before) h.before in
+    let whole : front ++ (rest ++ h.later) ≡ all =
+    sym (append_assoc front rest h.later) ∙ ap (λ events. events ++ h.later) (take-append-drop (written h.before) h.before) ∙ h.parts in
+    stops_before front (output_from given all front (rest ++ h.later) (Some error) state whole h.stands h.page)
+
+refused_output : (given : Settings) (all : List Event) (error : yaml_error_t) (state : State) → StandsRefused given all error state
+    → StopsWriting given all state
+refused_output given all error state h =
+    stops_before h.front (output_from given all h.front (h.event ∷ h.later) None state h.failed.parts h.taken.stands h.taken.page)
+
+stopped_output : (given : Settings) (all : List Event) (error : yaml_error_t) (state : State) → StandsStopped given all error state
+    → StopsWriting given all state
+stopped_output given all error state h = elim h [ inl cut ↦ cut_output given all error state cut | inr other ↦ unflushed_output given all error state other ]
+
+failed_output : (error : yaml_error_t) (given : Settings) (all : List Event) (state : State) → StandsFailed given all error state → StopsWriting given all state
+failed_output WriteError given all state h = stopped_output given all WriteError state h
+failed_output Memory given all state h = stopped_output given all Memory state h
+failed_output error given all state h = refused_output given all error state h
+
+output_by : (error : Option yaml_error_t) (given : Settings) (all : List Event) (state : State) → StandsBy given all error state
+    → OutputBegins given all error state
+output_by None given all state h =
+    subst (λ count. BeginsOutput given all (take (written all) all) count state) (length-take-le (written all) all (written_within all))
+    (output_from given all (take (written all) all) (held_back all) None state (take-append-drop (written all) all) h.taken.stands h.taken.page)
+output_by (Some error) given all state h = failed_output error given all state h.1
+
+-- After every call the output begins that of an accepted list, which begins with the events written so far.
+pub promises_output : (given : Settings) (all : List Event) (state : State) → StandsSo given all state → OutputBegins given all state.error state
+promises_output given all state h = output_by state.error given all state h
+
+-- The output is within its limit.
+holds_within : (front : List Event) (s : Effective) (pieces : List Piece) (error : Option yaml_error_t) (page : Page)
+    → HoldsPiecesWith error s front pieces page → length page.output ≤ s.limit
+holds_within [] s pieces error page h = omega (arith, ap (λ (p : Page). length p.output) h)
+holds_within (x ∷ front) s pieces error page h = omega (arith, h.0.handed.within, h.0.limit)
+
+cut_within : (given : Settings) (all : List Event) (error : yaml_error_t) (state : State) → StandsCut given all error state
+    → length state.page.output ≤ given.limit
+cut_within given all error state h =
+    elim h.page [
+      | holds_before memory page ↦ holds_within h.front (settings_for given all) _ None state.page page
+      | holds_part begun page failed least most ↦ omega (arith, page.handed.within, page.limit)
+    ]
+
+stopped_within : (given : Settings) (all : List Event) (error : yaml_error_t) (state : State) → StandsStopped given all error state
+    → length state.page.output ≤ given.limit
+stopped_within given all error state h =
+    elim h [
+      | inl cut ↦ cut_within given all error state cut
+      | inr other ↦ holds_within (take (written other.before) other.before) (settings_for given all) _ (Some error) state.page other.page
+    ]
+
+failed_within : (error : yaml_error_t) (given : Settings) (all : List Event) (state : State) → StandsFailed given all error state
+    → length state.page.output ≤ given.limit
+failed_within WriteError given all state h = stopped_within given all WriteError state h
+failed_within Memory given all state h = stopped_within given all Memory state h
+failed_within error given all state h = holds_within h.front (settings_for given all) _ None state.page h.taken.page
+
+within_by : (error : Option yaml_error_t) (given : Settings) (all : List Event) (state : State) → StandsBy given all error state
+    → length state.page.output ≤ given.limit
+within_by None given all state h = holds_within (take (written all) all) (settings_for given all) _ None state.page h.taken.page
+within_by (Some error) given all state h = failed_within error given all state h.1
+
+pub promises_within : (given : Settings) (all : List Event) (state : State) → StandsSo given all state → length state.page.output ≤ given.limit
+promises_within given all state h = within_by state.error given all state h

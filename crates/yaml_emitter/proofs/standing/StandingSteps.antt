@@ -1,0 +1,163 @@
+-- An emitter stands as each event that is ready is written, and when no more is.
+use Rattle.std.proofs.Common.{◌≡◌, refl, sym, ap, ◌∙◌, subst, arith, append_assoc}
+use Rattle.std.proofs.lemmas.List.{length-append, take_at, drop_at}
+use Rattle.std.specs.Prelude.{suc, ◌+◌, ◌≤◌, Bool, true, false, ◌&&◌, Some, Ok, List, [], ◌∷◌, ◌++◌, length, take, drop, option_and_then, if◌then◌else◌}
+use Rattle.yaml_base.specs.Settings.{Settings}
+use Rattle.yaml_base.specs.Event.{Event, document_start, sequence_start, mapping_start}
+use Rattle.yaml_base.specs.Grammar.{Partial, before_stream, pushed, partial_of}
+use Rattle.yaml_base.specs.Refusal.{BeginsAccepted}
+use Rattle.yaml_base.specs.Ready.{is_ready, written, awaited, held_back}
+use Rattle.yaml_base.specs.Layout.{Standing, first_standing}
+use Rattle.yaml_base.specs.Steps.{at_stream, step, steps}
+use Rattle.yaml_base.specs.Pieces.{begins_last, ends_first}
+use Rattle.yaml_base.specs.Output.{settings_for, hands_out, hands_out_last}
+use Rattle.yaml_base.proofs.Accepted.{stands_from_begins}
+use Rattle.yaml_base.proofs.Completions.{pushed-append}
+use Rattle.yaml_base.proofs.QueueLaws.{no_end_held, held_is_short}
+use Rattle.yaml_pen.proofs.Composing.{wrote_all}
+use Rattle.yaml_emitter.specs.State.{State, standing_of}
+use Rattle.yaml_emitter.specs.Queue.{is_head_ready}
+use Rattle.yaml_emitter.specs.Processing.{closes_at_once, event_stepped, event_laid, Written, Processed}
+use Rattle.yaml_emitter.specs.StandsAfter.{HasTaken, StandsWell, closes_last, Reached}
+use Rattle.yaml_emitter.proofs.standing.Standing.{open_last, taken_same, IsLater, starts_only, not_begun, pushes_later, one_more, next_steps, accepted_next, page_more, writes_later, taken_first}
+
+-- Any later event: its piece is the next.
+pub stepped_steps : (given : Settings) (all : List Event) (x : Event) (front rest : List Event) (event : Event) (q : Partial) (before : State)
+    → HasTaken given all (x ∷ front) (steps (settings_for given all) (closes_last (x ∷ front) (event ∷ rest)) (x ∷ front) at_stream first_standing) before
+    → partial_of ((x ∷ front) ++ event ∷ []) ≡ Some q
+    → steps (settings_for given all) (closes_at_once event rest) ((x ∷ front) ++ event ∷ []) at_stream first_standing
+    ≡ one_more (steps (settings_for given all) (closes_last (x ∷ front) (event ∷ rest)) (x ∷ front) at_stream first_standing)
+    (event_stepped before event (closes_at_once event rest))
+stepped_steps given all x front rest event q before h pushes =
+    let s = settings_for given all in
+    let empty = closes_at_once event rest in
+    let taken = steps s (closes_last (x ∷ front) (event ∷ rest)) (x ∷ front) at_stream first_standing in
+    let same : event_stepped before event empty ≡ step s taken.stage event empty taken.standing =
+    ap (λ settings. step settings before.stage event empty (standing_of before)) h.settled
+    ∙ ap (λ stage. step s stage event empty (standing_of before)) h.stage
+    ∙ ap (λ standing. step s taken.stage event empty standing) h.standing in
+    next_steps (x ∷ front) rest event q s empty pushes ∙ ap (one_more taken) (sym same)
+
+hands_out_last-append : (front : List Event) (event : Event) → hands_out_last (front ++ event ∷ []) ≡ hands_out event
+hands_out_last-append [] event = refl
+hands_out_last-append (x ∷ []) event = refl
+hands_out_last-append (x ∷ y ∷ more) event = hands_out_last-append (y ∷ more) event
+
+taken_later : (given : Settings) (all : List Event) (x : Event) (front rest : List Event) (event : Event) (q : Partial) (before after : State)
+    → IsLater event
+    → HasTaken given all (x ∷ front) (steps (settings_for given all) (closes_last (x ∷ front) (event ∷ rest)) (x ∷ front) at_stream first_standing) before
+    → partial_of ((x ∷ front) ++ event ∷ []) ≡ Some q
+    → BeginsAccepted given.canonical ((x ∷ front) ++ event ∷ [])
+    → Written event (closes_at_once event rest) before after
+    → HasTaken given all ((x ∷ front) ++ event ∷ [])
+    (steps (settings_for given all) (closes_at_once event rest) ((x ∷ front) ++ event ∷ []) at_stream first_standing) after
+taken_later given all x front rest event q before after later h pushes begun done =
+    let s = settings_for given all in
+    let empty = closes_at_once event rest in
+    let taken = steps s (closes_last (x ∷ front) (event ∷ rest)) (x ∷ front) at_stream first_standing in
+    let stepped = event_stepped before event empty in
+    let wrote = writes_later event empty before after later done.page in
+    let whole : steps s empty ((x ∷ front) ++ event ∷ []) at_stream first_standing ≡ one_more taken stepped =
+    stepped_steps given all x front rest event q before h pushes in
+    subst (λ steps. HasTaken given all ((x ∷ front) ++ event ∷ []) steps after) (sym whole)
+    (record {
+      given_kept = ap (λ (s : State). s.given) done.kept ∙ h.given_kept;
+      settled = wrote.0 ∙ h.settled;
+      stands = begun;
+      stage = done.stage;
+      standing =
+          ap (λ cursor. let made : Standing = record { cursor = cursor; mark = after.mark } in made) (wrote_all wrote.1).cursor
+          ∙ ap (λ mark. let made : Standing = record { cursor = stepped.laid.standing.cursor; mark = mark } in made) done.mark;
+      page = page_more s x front taken.pieces stepped.laid.piece (event_laid before event empty) before.page after.page h.page wrote.1 refl;
+      handed_out = λ hands. done.handed_out (sym (hands_out_last-append (x ∷ front) event) ∙ hands);
+    })
+
+taken_next : (front rest : List Event) (given : Settings) (all : List Event) (event : Event) (q : Partial) (before after : State) → front ++ event ∷ rest ≡ all
+    → HasTaken given all front (steps (settings_for given all) (closes_last front (event ∷ rest)) front at_stream first_standing) before
+    → partial_of (front ++ event ∷ []) ≡ Some q
+    → BeginsAccepted given.canonical (front ++ event ∷ [])
+    → Written event (closes_at_once event rest) before after
+    → HasTaken given all (front ++ event ∷ []) (steps (settings_for given all) (closes_at_once event rest) (front ++ event ∷ []) at_stream first_standing) after
+taken_next [] rest given all event q before after parts h pushes begun done =
+    let empty = closes_at_once event rest in
+    subst (λ all. HasTaken given all (event ∷ []) (steps (settings_for given all) empty (event ∷ []) at_stream first_standing) after) parts
+    (taken_first event rest given empty before after (starts_only event q pushes)
+    (subst (λ all. HasTaken given all [] (steps (settings_for given all) false [] at_stream first_standing) before) (sym parts) h)
+    begun done)
+taken_next (x ∷ front) rest given all event q before after parts h pushes begun done =
+    let stands = stands_from_begins given.canonical (x ∷ front) h.stands in
+    let one : pushed stands.partial (event ∷ []) ≡ Some q =
+    ap (λ o. option_and_then (λ r. pushed r (event ∷ [])) o) (sym stands.is_partial)
+    ∙ sym (pushed-append (x ∷ front) (event ∷ []) before_stream)
+    ∙ pushes in
+    let begins : stands.partial ≡ before_stream → ⊥ = (λ same. not_begun x front (stands.is_partial ∙ ap (λ p. Some p) same)) in
+    taken_later given all x front rest event q before after (pushes_later event stands.partial q begins one) h pushes begun done
+
+pub closes_last-append : (front rest : List Event) (event : Event) → closes_last (front ++ event ∷ []) rest ≡ closes_at_once event rest
+closes_last-append [] rest event = refl
+closes_last-append (x ∷ []) rest event = refl
+closes_last-append (x ∷ y ∷ more) rest event = closes_last-append (y ∷ more) rest event
+
+-- A ready event is written.
+pub reached_next : (given : Settings) (all front rest : List Event) (event : Event) (before after : State) → Reached given all front (event ∷ rest) before
+    → is_ready event rest ≡ true
+    → Processed event (closes_at_once event rest) (record before { held = rest }) after (Ok tt)
+    → Reached given all (front ++ event ∷ []) rest after
+reached_next given all front rest event before after h is done =
+    let s = settings_for given all in
+    let now = record before { held = rest } in
+    let follows = closes_last front (event ∷ rest) in
+    let taken = taken_same given all front (steps s follows front at_stream first_standing) before now refl refl refl refl refl h.taken in
+    let begun = accepted_next given all front event follows s now taken done.accepted in
+    let stands = stands_from_begins given.canonical (front ++ event ∷ []) begun in
+    let count : written (event ∷ rest) ≡ suc (written rest) = ap (λ b. if b then suc (written rest) else 0) is in
+    record {
+      parts = append_assoc front (event ∷ []) rest ∙ h.parts;
+      held = ap (λ (s : State). s.held) done.kept;
+      no_error = ap (λ (s : State). s.error) done.kept ∙ h.no_error;
+      ready = omega (arith, h.ready, count, length-append front (event ∷ []));
+      taken =
+          subst (λ follows. HasTaken given all (front ++ event ∷ []) (steps s follows (front ++ event ∷ []) at_stream first_standing) after)
+          (sym (closes_last-append front rest event))
+          (taken_next front rest given all event stands.partial now after h.parts taken stands.is_partial begun done);
+    }
+
+-- No more is ready.
+pub none_ready : (rest : List Event) → is_head_ready rest ≡ false → written rest ≡ 0
+none_ready [] h = refl
+none_ready (event ∷ rest) h = ap (λ b. if b then suc (written rest) else 0) h
+
+none_ends : (rest : List Event) → is_head_ready rest ≡ false → ends_first rest ≡ false
+none_ends [] h = refl
+none_ends (event ∷ rest) h = no_end_held event rest h
+
+pub awaits_few : (event : Event) → awaited event ≤ 3
+awaits_few (document_start start) = omega arith
+awaits_few (sequence_start start) = omega arith
+awaits_few (mapping_start start) = omega arith
+awaits_few event = omega arith
+
+pub few_held : (rest : List Event) → is_head_ready rest ≡ false → length rest ≤ 3
+few_held [] h = omega arith
+few_held (event ∷ rest) h = omega (arith, held_is_short event rest h, awaits_few event)
+
+and_left_false : (a b : Bool) → b ≡ false → a && b ≡ false
+and_left_false true b h = h
+and_left_false false b h = refl
+
+pub reached_end : (given : Settings) (all front rest : List Event) (state : State) → Reached given all front rest state → is_head_ready rest ≡ false
+    → StandsWell given all state
+reached_end given all front rest state h none =
+    let s = settings_for given all in
+    let count : written all ≡ length front = h.ready ∙ ap (λ n. length front + n) (none_ready rest none) ∙ omega arith in
+    let begins : take (written all) all ≡ front =
+    ap (λ n. take n all) count ∙ ap (take (length front)) (sym h.parts) ∙ take_at front rest (length front) refl in
+    let holds : held_back all ≡ rest =
+    ap (λ n. drop n all) count ∙ ap (drop (length front)) (sym h.parts) ∙ drop_at front rest (length front) refl in
+    let opens : closes_last front rest ≡ false = open_last front rest (and_left_false (begins_last front) (ends_first rest) (none_ends rest none)) in
+    record {
+      taken =
+          subst (λ front. HasTaken given all front (steps s false front at_stream first_standing) state) (sym begins)
+          (subst (λ follows. HasTaken given all front (steps s follows front at_stream first_standing) state) opens h.taken);
+      held = h.held ∙ sym holds;
+    }

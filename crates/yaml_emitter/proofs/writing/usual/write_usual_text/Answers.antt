@@ -1,0 +1,15 @@
+use Rattle.std.proofs.Common.{rules, ◌∙◌, w32}
+use Rattle.std.specs.Str.{chars}
+use Rattle.std.proofs.lemmas.Int.{to_z-of_z}
+use mir.Val.{SFits}
+use Rattle.yaml_emitter.proofs.pieces.WritingScalars.{wrote_plain}
+use Rattle.yaml_emitter.proofs.writing.usual.write_usual_text.Goals as goal
+
+pub returns : goal.returns
+returns g c =
+    let fits : SFits w32 c.args.site.now.settings.now.width = search rules in
+    let indent_fits : SFits w32 c.line_indent-indent.result = search rules in
+    wrote_plain c.args.site.now.settings.now c.args.site.now.place.in_flow c.args.site.now.simple (chars c.args.value.now)
+    (to_z-of_z w32 c.line_indent-indent.result indent_fits ∙ c.line_indent-indent.ensures.value)
+    (to_z-of_z w32 c.args.site.now.settings.now.width fits) c.args.site.now.settings.now.counts
+    c.write_usual_scalar.ensures

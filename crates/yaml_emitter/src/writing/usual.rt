@@ -1,0 +1,114 @@
+//! Scalars that stand plain as they are, known by their values without an analysis (YAML 1.1, section 9.1.3).
+
+ghost use Rattle.std.specs.Prelude.{◌≡◌, List, true, not, IfOk, chars, is_some};
+ghost use Rattle.yaml_base.specs.Event.{TagDirective, plain};
+ghost use Rattle.yaml_base.specs.Layout.{choice_of, mark_after, scalar_piece};
+ghost use Rattle.yaml_base.specs.Seen.{seen_scalar_style};
+ghost use Rattle.yaml_pen.specs.Page.{IsReady};
+ghost use Rattle.yaml_pen.specs.Wrote.{Wrote};
+ghost use Rattle.yaml_scalar.specs.UsualTexts.{IsUsual};
+ghost use Rattle.yaml_emitter.specs.BorrowedTexts.{seen_name, seen_scalar};
+ghost use Rattle.yaml_emitter.specs.Given.{seen_effective};
+ghost use Rattle.yaml_emitter.specs.Places.{seen_place};
+ghost use Rattle.yaml_emitter.specs.ScalarTexts.{text_at, without_answer};
+ghost use Rattle.yaml_emitter.specs.UsualScalars.{StandsPlain, asks_plain, is_asked_plain};
+ghost use Rattle.yaml_emitter.specs.WrittenPieces.{piece_at, seen_mark};
+
+use crate::effective::EffectiveSettings;
+use crate::writing::contents::ScalarContent;
+use crate::writing::marks::OpenMark;
+use crate::writing::nodes::write_lead;
+use crate::writing::site::Site;
+use crate::writing::styles::line_indent;
+use std::alloc::Allocator;
+use yaml_base::{
+    YAML_ANY_SCALAR_STYLE, YAML_PLAIN_SCALAR_STYLE, yaml_error_t, yaml_scalar_style_t,
+};
+use yaml_pen::Pen;
+use yaml_scalar::{is_usual, write_usual_scalar};
+
+/// A scalar is known to stand plain as it is: it has no anchor, its tag is left out, and its value is usual.
+#[inline(always)]
+pub(crate) fn stands_plain(settings: &EffectiveSettings, content: &ScalarContent) -> bool
+    ensures { result ≡ true → StandsPlain settings.now.canonical content.now }
+{
+    is_asked_plain(settings.canonical, content) && is_usual(content.value)
+}
+
+/// Nothing but its value is against plain.
+#[inline(always)]
+fn is_asked_plain(canonical: bool, content: &ScalarContent) -> bool
+    ensures { result ≡ is_asked_plain canonical content.now }
+{
+    !canonical
+        && content.plain_implicit
+        && asks_plain(content.style)
+        && lacks_anchor(content.anchor)
+}
+
+#[inline(always)]
+fn asks_plain(style: yaml_scalar_style_t) -> bool
+    ensures { result ≡ asks_plain (seen_scalar_style style) }
+{
+    matches!(style, YAML_ANY_SCALAR_STYLE | YAML_PLAIN_SCALAR_STYLE)
+}
+
+#[inline(always)]
+fn lacks_anchor(anchor: Option<&str>) -> bool
+    ensures { result ≡ not (is_some (seen_name anchor.entry)) }
+{
+    match anchor {
+        Some(_) => false,
+        None => true,
+    }
+}
+
+/// Writes a scalar that stands plain as it is, and returns the open mark that it leaves.
+#[inline(always)]
+pub(crate) fn write_usual<A: Allocator>(
+    pen: &mut Pen<A>,
+    site: &Site,
+    content: &ScalarContent,
+    mark: OpenMark,
+) -> Result<OpenMark, yaml_error_t>
+    requires ready { IsReady pen.old }
+    requires plain { StandsPlain site.now.settings.now.canonical content.now }
+    ensures written { (directives : List TagDirective)
+        → Wrote
+        (piece_at
+        (scalar_piece (seen_effective site.now.settings.now) directives (seen_place site.now.place) site.now.simple (seen_scalar content.now))
+        (seen_mark mark))
+        pen.old pen.new (without_answer result) }
+    ensures ready { IsReady pen.new }
+    ensures mark { IfOk result (λ after.
+        seen_mark after
+        ≡ mark_after (choice_of (seen_effective site.now.settings.now) (seen_place site.now.place) site.now.simple (seen_scalar content.now)).style
+        (chars content.now.value.now) (seen_mark mark)) }
+{
+    write_lead(pen, site, None, None, false)?;
+    write_usual_text(pen, site, content.value)?;
+    Ok(mark)
+}
+
+fn write_usual_text<A: Allocator>(
+    pen: &mut Pen<A>,
+    site: &Site,
+    value: &str,
+) -> Result<(), yaml_error_t>
+    requires ready { IsReady pen.old }
+    requires usual { IsUsual value.now }
+    ensures { Wrote
+        (text_at plain (seen_effective site.now.settings.now) (seen_place site.now.place) site.now.simple (chars value.now))
+        pen.old pen.new result }
+{
+    let settings = site.settings;
+    let indent = line_indent(settings, &site.place);
+    write_usual_scalar(
+        pen,
+        value,
+        !site.simple,
+        site.place.in_flow,
+        indent,
+        settings.width,
+    )
+}

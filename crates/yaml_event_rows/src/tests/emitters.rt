@@ -1,0 +1,128 @@
+//! Emitters from outside, call by call: what waits, what is handed out meanwhile, growths that are refused.
+mod depth;
+mod memory;
+mod streams;
+mod taking;
+mod waiting;
+
+use crate::tests::equal;
+use std::alloc::Allocator;
+use std::process::Abort;
+use std::test::Fail;
+use streams::{Given, event};
+use yaml_base::{
+    YAML_ANY_ENCODING, YAML_STREAM_END_EVENT, yaml_encoding_t, yaml_error_t, yaml_event_t,
+};
+use yaml_emitter::{
+    yaml_emitter_emit, yaml_emitter_flush, yaml_emitter_initialize, yaml_emitter_set_canonical,
+    yaml_emitter_set_encoding, yaml_emitter_set_output_string, yaml_emitter_set_width,
+    yaml_emitter_t,
+};
+
+/// What is set before a stream.
+#[derive(Clone, Copy)]
+struct Setting {
+    limit: usize,
+    encoding: yaml_encoding_t,
+    canonical: bool,
+    width: i32,
+}
+
+/// An output with room, and the width that is taken where none is set.
+const UNSET: Setting = Setting {
+    limit: usize::MAX,
+    encoding: YAML_ANY_ENCODING,
+    canonical: false,
+    width: 80,
+};
+
+/// An emitter before its stream.
+fn begun<A: Allocator + Copy>(
+    alloc: A,
+    setting: &Setting,
+) -> Result<yaml_emitter_t<A>, yaml_error_t> {
+    let mut emitter = yaml_emitter_initialize(alloc)?;
+    yaml_emitter_set_output_string(&mut emitter, setting.limit);
+    yaml_emitter_set_encoding(&mut emitter, setting.encoding);
+    yaml_emitter_set_canonical(&mut emitter, setting.canonical);
+    yaml_emitter_set_width(&mut emitter, setting.width);
+    Ok(emitter)
+}
+
+/// Emits an event: an output is set.
+fn give<A: Allocator + Copy>(
+    rt: &impl Abort,
+    emitter: &mut yaml_emitter_t<A>,
+    next: yaml_event_t<A>,
+) -> Result<(), yaml_error_t> {
+    assert!(rt; emitter.has_output());
+    yaml_emitter_emit(emitter, next)
+}
+
+/// A flush, where the encoding is known.
+fn flush_if_known<A: Allocator + Copy>(
+    rt: &impl Abort,
+    emitter: &mut yaml_emitter_t<A>,
+) -> Result<(), yaml_error_t> {
+    assert!(rt; emitter.has_output());
+    if emitter.encoding_known() {
+        return yaml_emitter_flush(emitter);
+    }
+    Ok(())
+}
+
+/// Emits all events, none of which is refused.
+fn emit_all<A: Allocator + Copy>(
+    rt: &impl Abort,
+    alloc: A,
+    emitter: &mut yaml_emitter_t<A>,
+    events: &[Given],
+) -> Result<(), Fail> {
+    for given in events {
+        equal(rt, &give(rt, emitter, event(alloc, given)?), &Ok(()));
+    }
+    Ok(())
+}
+
+// The error is kept, and nothing waits.
+fn check_kept<A: Allocator>(rt: &impl Abort, emitter: &yaml_emitter_t<A>, error: yaml_error_t) {
+    equal(rt, &emitter.error(), &Some(error));
+    equal(rt, &emitter.held(), &0);
+}
+
+// An event that is refused by this error hands out nothing.
+fn check_refused<A: Allocator + Copy>(
+    rt: &impl Abort,
+    emitter: &mut yaml_emitter_t<A>,
+    next: yaml_event_t<A>,
+    error: yaml_error_t,
+) {
+    let length = emitter.output().len();
+    equal(rt, &give(rt, emitter, next), &Err(error));
+    equal(rt, &emitter.output().len(), &length);
+}
+
+// So does a flush.
+fn check_flush_refused<A: Allocator + Copy>(
+    rt: &impl Abort,
+    emitter: &mut yaml_emitter_t<A>,
+    error: yaml_error_t,
+) {
+    if emitter.encoding_known() {
+        let length = emitter.output().len();
+        equal(rt, &flush_if_known(rt, emitter), &Err(error));
+        equal(rt, &emitter.output().len(), &length);
+    }
+}
+
+/// After an error each call answers it; nothing waits, and nothing more is handed out.
+fn check_failed<A: Allocator + Copy>(
+    rt: &impl Abort,
+    emitter: &mut yaml_emitter_t<A>,
+    error: yaml_error_t,
+) {
+    check_kept(rt, emitter, error);
+    check_refused(rt, emitter, YAML_STREAM_END_EVENT, error);
+    check_flush_refused(rt, emitter, error);
+    check_kept(rt, emitter, error);
+}

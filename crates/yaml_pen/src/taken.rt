@@ -1,0 +1,32 @@
+//! The bytes of the output that the caller has taken. They exist only in proofs.
+ghost use Rattle.std.specs.Prelude.{◌≡◌, ℕ, List, [], ◌++◌};
+ghost use Rattle.std.specs.Borrow.{ftrue};
+
+use std::marker::Model;
+
+/// It takes no memory, and its calls do nothing at run time.
+#[derive(Drop)]
+pub(crate) struct TakenBytes {
+    pub(crate) ghost bytes: { List ℕ },
+}
+
+impl Model for TakenBytes {
+    ghost also_owns = { λ _. ftrue };
+}
+
+impl TakenBytes {
+    /// Nothing is taken yet.
+    pub(crate) fn new() -> TakenBytes
+        ensures { result.bytes ≡ [] }
+    {
+        TakenBytes {}
+    }
+
+    /// More bytes are taken.
+    #[inline(always)]
+    pub(crate) fn with(&self, _more: &[u8]) -> TakenBytes
+        ensures { result.bytes ≡ self.now.bytes ++ _more.now }
+    {
+        TakenBytes {}
+    }
+}

@@ -1,0 +1,72 @@
+//! Growths that are refused.
+ghost use Rattle.yaml_pen.specs.Page.{IsReady};
+
+use super::{IN_UTF8, begun, check_bytes, check_run_refused, put_letters, write_long_run};
+use crate::tests::equal;
+use linked_list_allocator::LocalHeap;
+use std::alloc::{Allocator, Global};
+use std::process::Abort;
+use std::test::Fail;
+use yaml_base::{YAML_UTF8_ENCODING, yaml_error_t};
+use yaml_pen::Pen;
+
+// Letters find no room, and then nothing does; so many of them were handed out.
+fn check_full<A: Allocator>(rt: &impl Abort, pen: &mut Pen<A>, handed_out: usize)
+    requires { IsReady pen.old }
+{
+    let refused = Err(yaml_error_t::Memory);
+    equal(rt, &pen.flush(), &Ok(()));
+    equal(rt, &put_letters(pen, 100_000), &refused);
+    equal(rt, &pen.put(b'a'), &refused);
+    equal(rt, &pen.flush(), &refused);
+    equal(rt, &pen.error(), &Some(yaml_error_t::Memory));
+    equal(rt, &pen.output().len(), &handed_out);
+    assert!(rt; pen.output().iter().all(|byte| *byte == b'x'));
+}
+
+fn check_heap(rt: &impl Abort, heap: &LocalHeap, made: bool, handed_out: usize) {
+    match begun(heap, usize::MAX, YAML_UTF8_ENCODING) {
+        Err(error) => {
+            equal(rt, &error, &yaml_error_t::Memory);
+            equal(rt, &made, &false);
+        }
+        Ok(mut pen) => {
+            equal(rt, &made, &true);
+            check_full(rt, &mut pen, handed_out);
+        }
+    }
+}
+
+// The buffer takes 16,384 bytes and a little; the output's first flush asks for as many, its second
+// for more than that again.
+#[test]
+fn refused_growths_leave_the_output(rt: HostRuntime) -> Result<(), Fail> {
+    check_heap(&rt, &LocalHeap::new(rt.alloc(), 1_000)?, false, 0);
+    check_heap(&rt, &LocalHeap::new(rt.alloc(), 20_000)?, true, 0);
+    check_heap(&rt, &LocalHeap::new(rt.alloc(), 50_000)?, true, 16_384);
+    Ok(())
+}
+
+fn check_run_full(
+    rt: &impl Abort,
+    alloc: Global,
+    heap: &LocalHeap,
+    handed_out: usize,
+) -> Result<(), Fail> {
+    let error = yaml_error_t::Memory;
+    let mut pen = begun(heap, usize::MAX, YAML_UTF8_ENCODING)?;
+    equal(rt, &write_long_run(&mut pen, alloc, 10_000), &Err(error));
+    check_run_refused(rt, &mut pen, alloc, error);
+    check_bytes(rt, pen.output(), handed_out, IN_UTF8);
+    Ok(())
+}
+
+// A run is refused where its own flush finds no room; the first piece of this one has 16,383 bytes, as a
+// character stands across the buffer's end.
+#[test]
+fn refused_growths_end_a_run(rt: HostRuntime) -> Result<(), Fail> {
+    let small = LocalHeap::new(rt.alloc(), 20_000)?;
+    check_run_full(&rt, rt.alloc(), &small, 0)?;
+    let larger = LocalHeap::new(rt.alloc(), 50_000)?;
+    check_run_full(&rt, rt.alloc(), &larger, 16_383)
+}

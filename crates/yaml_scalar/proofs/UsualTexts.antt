@@ -1,0 +1,81 @@
+-- Usual texts: every style may hold them.
+use Rattle.std.proofs.Common.{◌≡◌, ◌∙◌, refl, ap, arith, subst, sym, append-nil, true≢false}
+use Rattle.std.proofs.lemmas.Bool.{and_parts, not-true}
+use Rattle.std.proofs.lemmas.Str.{chars-nil}
+use Rattle.std.specs.List.{list_all}
+use Rattle.std.specs.Prelude.{ℕ, Bool, true, false, Option, List, [], ◌∷◌, ◌==◌, ◌-◌, ◌<◌, ◌&&◌, not, length, slice_index, if◌then◌else◌}
+use Rattle.yaml_base.specs.Analysis.{Allowances, Charset, allowances, begins_with}
+use Rattle.yaml_base.specs.Characters.{Text, is_space, space}
+use Rattle.yaml_base.specs.Cursor.{Cursor}
+use Rattle.yaml_scalar.specs.Barred.{Barred, allowed_by, barred_by, barred_in, either, is_ordinary, is_quiet, none_barred}
+use Rattle.yaml_scalar.specs.ByteClasses.{Tells}
+use Rattle.yaml_scalar.specs.EscapeBytes.{is_plain}
+use Rattle.yaml_scalar.specs.ShortRuns.{IsShortLine, IsShortRun}
+use Rattle.yaml_scalar.specs.UsualTexts.{IsUsual, all_allowed, has_usual_ends}
+use Rattle.yaml_scalar.specs.WholeRuns.{HasRoom, last_from, stays_in_line}
+use Rattle.yaml_scalar.proofs.Barred.{quiet_run}
+use Rattle.yaml_scalar.proofs.ByteRuns.{ascii_only_tells}
+use Rattle.yaml_scalar.proofs.Choices.{allowed_whole}
+use Rattle.yaml_scalar.proofs.FirstCharacters.{ordinary_plain}
+
+-- the last byte is the one at the last place
+pub last_at : (before first : ℕ) (rest : List ℕ) → last_from before (first ∷ rest) ≡ slice_index (first ∷ rest) (length rest)
+last_at before first [] = refl
+last_at before first (second ∷ rest) = last_at first second rest
+
+pub usual_ends : (bytes : List ℕ) → is_ordinary (slice_index bytes 0) ≡ true
+    → not (slice_index bytes (length bytes - 1) == 32) ≡ has_usual_ends bytes
+usual_ends [] ordinary = cc
+usual_ends (first ∷ rest) ordinary =
+    let at : length (first ∷ rest) - 1 ≡ length rest = omega arith in
+    ap (λ n. not (slice_index (first ∷ rest) n == 32)) at
+    ∙ ap (λ c. not (is_space c)) (sym (last_at 0 first rest))
+    ∙ sym (ap (λ b. b && not (is_space (last_from 0 (first ∷ rest)))) ordinary)
+
+-- what the classes of bytes that no usual text holds say of characters
+quiet_tells : (unicode breaks12 : Bool) → Tells 57 (is_quiet (record { unicode = unicode; breaks12 = breaks12 }))
+quiet_tells true true = ascii_only_tells 57 (is_quiet (record { unicode = true; breaks12 = true })) refl refl
+quiet_tells true false = ascii_only_tells 57 (is_quiet (record { unicode = true; breaks12 = false })) refl refl
+quiet_tells false true = ascii_only_tells 57 (is_quiet (record { unicode = false; breaks12 = true })) refl refl
+quiet_tells false false = ascii_only_tells 57 (is_quiet (record { unicode = false; breaks12 = false })) refl refl
+
+-- a quiet text that doesn't end with a space bars nothing
+bars_none : (charset : Charset) (text : Text) → list_all (is_quiet charset) text ≡ true → is_space (last_from 0 text) ≡ false
+    → barred_in charset text ≡ none_barred
+bars_none charset text all last =
+    ap (barred_in charset) (sym (append-nil text))
+    ∙ quiet_run charset text [] all
+    ∙ ap (λ b. either (if b then barred_by charset space [] else none_barred) none_barred) last
+
+-- so every style may hold it where it begins with a letter or a digit
+none_allowed : (text : Text) → begins_with is_ordinary text ≡ true → allowed_by none_barred text ≡ all_allowed
+none_allowed [] first = cc
+none_allowed (c ∷ rest) first = rw (ordinary_plain c rest first) refl
+
+pub usual : {text : List ℕ} → has_usual_ends text ≡ true
+    → ((test : ℕ → Bool) → Tells 57 is_plain → Tells 57 test → IsShortRun test text) → IsUsual text
+usual {text} ends run =
+    let p = and_parts (begins_with is_ordinary text) (not (is_space (last_from 0 text))) ends in
+    let told = ascii_only_tells 57 is_plain refl refl in
+    record {
+      allows = λ charset.
+          let quiet = run (is_quiet charset) told (quiet_tells charset.unicode charset.breaks12) in
+          ap (allowances charset) quiet.same
+          ∙ allowed_whole charset text
+          ∙ ap (λ (b : Barred). allowed_by b text) (bars_none charset text quiet.all (not-true _ p.1))
+          ∙ none_allowed text p.0;
+      line = run (stays_in_line false false) told (ascii_only_tells 57 (stays_in_line false false) refl refl);
+    }
+
+-- such a text isn't empty
+pub usual_some : {text : List ℕ} → IsUsual text → 0 < length text
+usual_some {text = []} is =
+    let charset : Charset = record { unicode = true; breaks12 = true } in
+    absurd (true≢false (sym (ap (λ (a : Allowances). a.flow_plain) (sym (ap (allowances charset) chars-nil) ∙ is.allows charset))))
+usual_some {text = first ∷ rest} is = omega arith
+
+-- it is a line where there is room for it
+pub usual_line : {quoted : Bool} {text : List ℕ} (limit : Option ℕ) (cursor : Cursor) → quoted ≡ false → IsUsual text → HasRoom limit cursor.column (length text)
+    → IsShortLine limit quoted cursor text
+usual_line {quoted} {text} limit cursor plain is room =
+    record { run = subst (λ (q : Bool). IsShortRun (stays_in_line false q) text) (sym plain) is.line; room = room }

@@ -1,0 +1,36 @@
+use Rattle.std.proofs.Common.{arith, chars, length}
+use Rattle.yaml_base.specs.Plain.{spaces}
+use Rattle.yaml_pen.proofs.Composing.{wrote_as}
+use Rattle.yaml_scalar.specs.LineSteps.{steps_laid, written_as}
+use Rattle.yaml_scalar.specs.Width.{limit_where}
+use Rattle.yaml_scalar.proofs.LinesWritten.{wrote_runs, wrote_unquoted}
+use Rattle.yaml_scalar.proofs.ShortRuns.{short_line_laid}
+use Rattle.yaml_scalar.proofs.StaysInLine.{room_less}
+use Rattle.yaml_scalar.proofs.UsualTexts.{usual_line, usual_some}
+use Rattle.yaml_scalar.proofs.usual.write_line.Goals as goal
+
+pub write_short_run-requires-clause-few : goal.write_short_run-requires-clause-few
+write_short_run-requires-clause-few g c = c.requires.usual.line.few
+
+pub write_short_run-requires-clause-plain : goal.write_short_run-requires-clause-plain
+write_short_run-requires-clause-plain g c = c.requires.usual.line.plain
+
+pub returns-then-value-line_room : goal.returns-then-value-line_room
+returns-then-value-line_room g c =
+    let lines = c.args.lines in
+    let limit = limit_where lines.allow_breaks lines.width in
+    let cursor = c.args.pen.now.cursor in
+    let some = usual_some c.requires.usual in
+    let room =
+    room_less limit cursor.column c.line_room.result (length c.args.value.now) (omega (arith, c.if-value-line_room.true))
+    (c.line_room.ensures (omega (arith, some, c.if-value-line_room.true))) in
+    wrote_unquoted lines.quoted limit lines.indent (chars c.args.value.now) c.requires.plain
+    (wrote_runs lines.quoted limit lines.indent (chars c.args.value.now)
+    (wrote_as (steps_laid (written_as lines.quoted) limit lines.indent spaces (chars c.args.value.now))
+    (short_line_laid lines.quoted limit lines.indent cursor (usual_line limit cursor c.requires.plain c.requires.usual room))
+    c.write_short_run.ensures))
+
+pub returns-else-value-line_room : goal.returns-else-value-line_room
+returns-else-value-line_room g c =
+    let lines = c.args.lines in
+    wrote_unquoted lines.quoted (limit_where lines.allow_breaks lines.width) lines.indent (chars c.args.value.now) c.requires.plain c.write_runs.ensures

@@ -1,0 +1,21 @@
+-- Usual texts: short, one line, and free in every style.
+use Rattle.std.specs.Prelude.{◌≡◌, ℕ, Bool, true, false, List, ◌&&◌, not}
+use Rattle.std.specs.Str.{chars}
+use Rattle.yaml_base.specs.Analysis.{Allowances, Charset, allowances, begins_with}
+use Rattle.yaml_base.specs.Characters.{is_space}
+use Rattle.yaml_scalar.specs.Barred.{is_ordinary}
+use Rattle.yaml_scalar.specs.ShortRuns.{IsShortRun}
+use Rattle.yaml_scalar.specs.WholeRuns.{last_from, stays_in_line}
+
+-- one line, which every style may hold
+abbrev pub all_allowed : Allowances
+all_allowed = record { multiline = false; flow_plain = true; block_plain = true; single_quoted = true; block = true }
+
+-- a short text of ASCII that is one line, and allowed in every style whatever may stand as itself
+pub record IsUsual (text : List ℕ) : Type 0 where
+  pub allows : (charset : Charset) → allowances charset (chars text) ≡ all_allowed
+  pub line : IsShortRun (stays_in_line false false) text
+
+-- it begins with a letter or a digit, and doesn't end with a space
+abbrev pub has_usual_ends : List ℕ → Bool
+has_usual_ends text = begins_with is_ordinary text && not (is_space (last_from 0 text))

@@ -1,0 +1,120 @@
+//! Usual scalars: short texts of one line that every style may hold, of which no character needs a look at what
+//! follows it.
+ghost use Rattle.std.specs.Prelude.{◌≡◌, pos, ◌≤ℤ◌, true, false};
+ghost use Rattle.std.specs.Str.{chars};
+ghost use Rattle.yaml_base.specs.Plain.{plain_body, plain_laid, runs, runs_laid};
+ghost use Rattle.yaml_pen.specs.Page.{IsReady, natural};
+ghost use Rattle.yaml_pen.specs.Wrote.{Wrote};
+ghost use Rattle.yaml_scalar.specs.Barred.{is_ordinary};
+ghost use Rattle.yaml_scalar.specs.UsualTexts.{IsUsual, has_usual_ends};
+ghost use Rattle.yaml_scalar.specs.Width.{limit_where};
+
+use crate::classes::{BREAK, SIGN, UNPRINTABLE, WIDE};
+use crate::lines::{Lines, line_room, separate, write_runs};
+use crate::plain::needs_space;
+use crate::short_runs::{is_short_run, write_short_run};
+use std::alloc::Allocator;
+use yaml_base::yaml_error_t;
+use yaml_pen::Pen;
+
+/// The classes of bytes that no usual text holds.
+const UNUSUAL: u8 = BREAK | UNPRINTABLE | SIGN | WIDE;
+
+/// A text is known to be usual: at most 512 bytes of ASCII, a letter or a digit first and no space last, without
+/// a break, a control character, `#`, `:`, `?` and the signs of flow collections. Every style may hold it.
+#[inline]
+pub fn is_usual(text: &str) -> bool
+    ensures { result ≡ true → IsUsual text.now }
+{
+    has_usual_ends(text.as_bytes()) && is_short_run(text, UNUSUAL)
+}
+
+/// A letter or a digit first, and no space last.
+#[inline(always)]
+fn has_usual_ends(bytes: &[u8]) -> bool
+    ensures { result ≡ has_usual_ends bytes.now }
+{
+    match bytes.len() {
+        0 => false,
+        count => is_ordinary_byte(bytes[0]) && bytes[count - 1] != b' ',
+    }
+}
+
+/// A letter or a digit.
+#[inline(always)]
+fn is_ordinary_byte(byte: u8) -> bool
+    ensures { result ≡ is_ordinary byte }
+{
+    matches!(byte, b'a'..=b'z' | b'A'..=b'Z' | b'0'..=b'9')
+}
+
+/// Writes a usual text as a plain scalar: as `write_plain_scalar` does, without looking at its characters again.
+///
+/// Answers `WriteError` where the output's limit is passed, `Memory` where the output finds no room, and
+/// the pen's error where it failed before.
+pub fn write_usual_scalar<A: Allocator>(
+    pen: &mut Pen<A>,
+    value: &str,
+    allow_breaks: bool,
+    flow: bool,
+    indent: i32,
+    width: i32,
+) -> Result<(), yaml_error_t>
+    requires ready { IsReady pen.old }
+    requires usual { IsUsual value.now }
+    requires indented { pos 2 ≤ℤ indent }
+    ensures { Wrote (plain_laid flow (limit_where allow_breaks width) (natural indent) (chars value.now)) pen.old pen.new result }
+{
+    write_laid(
+        pen,
+        value,
+        flow,
+        Lines {
+            quoted: false,
+            allow_breaks,
+            indent: indent as u32,
+            width,
+        },
+    )
+}
+
+fn write_laid<A: Allocator>(
+    pen: &mut Pen<A>,
+    value: &str,
+    flow: bool,
+    lines: Lines,
+) -> Result<(), yaml_error_t>
+    requires ready { IsReady pen.old }
+    requires usual { IsUsual value.now }
+    requires plain { lines.quoted ≡ false }
+    ensures { Wrote (plain_laid flow (limit_where lines.allow_breaks lines.width) lines.indent (chars value.now)) pen.old pen.new result }
+{
+    separate(pen, needs_space(flow, value))?;
+    write_body(pen, value, lines)
+}
+
+fn write_body<A: Allocator>(pen: &mut Pen<A>, value: &str, lines: Lines) -> Result<(), yaml_error_t>
+    requires ready { IsReady pen.old }
+    requires usual { IsUsual value.now }
+    requires plain { lines.quoted ≡ false }
+    ensures { Wrote (plain_body (limit_where lines.allow_breaks lines.width) lines.indent (chars value.now)) pen.old pen.new result }
+{
+    write_line(pen, value, lines)?;
+    pen.set_whitespace(false);
+    pen.set_indention(false);
+    Ok(())
+}
+
+/// At once where the width isn't passed.
+fn write_line<A: Allocator>(pen: &mut Pen<A>, value: &str, lines: Lines) -> Result<(), yaml_error_t>
+    requires ready { IsReady pen.old }
+    requires usual { IsUsual value.now }
+    requires plain { lines.quoted ≡ false }
+    ensures { Wrote (runs_laid (λ text. text) (limit_where lines.allow_breaks lines.width) lines.indent true (runs (chars value.now))) pen.old pen.new result }
+{
+    if value.len() <= line_room(pen, lines) {
+        write_short_run(pen, value)
+    } else {
+        write_runs(pen, value, lines)
+    }
+}

@@ -1,0 +1,130 @@
+//! How documents and streams begin and end, and the encodings of a stream.
+use super::{Rows, check_bytes, check_streams};
+use std::alloc::{AllocError, Global};
+use std::process::Abort;
+use std::test::Fail;
+
+#[test]
+fn marks_stand_where_they_are_needed(rt: HostRuntime) -> Result<(), Fail> {
+    let rows: Rows = &[
+        (
+            r#"
++STR any
++DOC 0 -
+=VAL any 1 1 - - "foo"
+-DOC 0
+-STR"#,
+            "--- foo\n...\n",
+        ),
+        (
+            r#"
++STR any
++DOC 1 1.1
+=VAL any 1 1 - - "foo"
+-DOC 1
+-STR"#,
+            "%YAML 1.1\n--- foo\n",
+        ),
+        (
+            r#"
++STR any
++DOC 1 -
+=VAL any 1 1 - - "a"
+-DOC 1
++DOC 1 - "!e!" "tag:e.com,2000:"
+=VAL any 0 0 - "tag:e.com,2000:t" "x"
+-DOC 1
+-STR"#,
+            "a\n...\n%TAG !e! tag:e.com,2000:\n--- !e!t x\n",
+        ),
+        (
+            r#"
++STR any
++DOC 1 -
+=VAL literal 1 1 - - "a\n\n"
+-DOC 1
++DOC 1 -
+=VAL any 1 1 - - "b"
+-DOC 1
+-STR"#,
+            "|+\n  a\n\n--- b\n",
+        ),
+    ];
+    check_streams(&rt, rt.alloc(), "", rows)
+}
+
+/// A document with this value.
+fn of_value(alloc: Global, value: &str) -> Result<String, AllocError> {
+    format!(in alloc; "+DOC 1 -\n=VAL any 1 1 - - \"{value}\"\n-DOC 1\n")
+}
+
+/// Settings, an encoding, and documents.
+type Stream<'a> = (&'a str, &'a str, &'a str);
+
+// The encoding is set before the stream, or asked for by its start.
+fn check_encoded(
+    rt: &impl Abort,
+    alloc: Global,
+    stream: Stream,
+    expected: &[u8],
+) -> Result<(), Fail> {
+    let (settings, encoding, documents) = stream;
+    let set = format!(in alloc; "{settings}encoding {encoding}\n+STR any\n{documents}-STR\n")?;
+    check_bytes(rt, alloc, set.as_str(), expected)?;
+    let asked = format!(in alloc; "{settings}+STR {encoding}\n{documents}-STR\n")?;
+    check_bytes(rt, alloc, asked.as_str(), expected)
+}
+
+#[test]
+fn a_stream_without_documents_has_only_its_mark(rt: HostRuntime) -> Result<(), Fail> {
+    let alloc = rt.alloc();
+    check_encoded(&rt, alloc, ("", "utf8", ""), b"")?;
+    check_encoded(&rt, alloc, ("", "utf16be", ""), b"\xFE\xFF")?;
+    check_encoded(&rt, alloc, ("", "utf16le", ""), b"\xFF\xFE")
+}
+
+const CANONICAL: &str = "canonical on\nwidth -1\n";
+
+#[test]
+fn characters_become_units_of_two_bytes(rt: HostRuntime) -> Result<(), Fail> {
+    let alloc = rt.alloc();
+    let letter = of_value(alloc, "a")?;
+    let bytes = b"\xFE\xFF\0-\0-\0-\0\n\0\"\0a\0\"\0\n";
+    check_encoded(&rt, alloc, (CANONICAL, "utf16be", letter.as_str()), bytes)
+}
+
+#[test]
+fn a_character_past_two_bytes_becomes_two_units(rt: HostRuntime) -> Result<(), Fail> {
+    let alloc = rt.alloc();
+    let face = of_value(alloc, "\u{1F600}")?;
+    let bytes = b"\xFF\xFE\x3D\xD8\x00\xDE\x0A\x00";
+    check_encoded(
+        &rt,
+        alloc,
+        ("unicode on\n", "utf16le", face.as_str()),
+        bytes,
+    )?;
+    let settings = format!(in alloc; "{CANONICAL}unicode on\n")?;
+    let bytes = b"\xFF\xFE-\0-\0-\0\n\0\"\0\x3D\xD8\x00\xDE\"\0\n\0";
+    check_encoded(
+        &rt,
+        alloc,
+        (settings.as_str(), "utf16le", face.as_str()),
+        bytes,
+    )
+}
+
+// What is set goes before what the stream's start asks for.
+#[test]
+fn the_emitters_encoding_is_taken_first(rt: HostRuntime) -> Result<(), Fail> {
+    let rows: Rows = &[(
+        r#"
++STR utf16be
++DOC 1 -
+=VAL any 1 1 - - "a"
+-DOC 1
+-STR"#,
+        "a\n",
+    )];
+    check_streams(&rt, rt.alloc(), "encoding utf8\n", rows)
+}

@@ -1,0 +1,69 @@
+//! The layers below the emitter, each used by itself.
+use crate::tests::{equal, same};
+use std::alloc::{AllocError, Global};
+use std::test::Fail;
+use yaml_dump::{
+    Directives, Pen, YAML_ANY_SCALAR_STYLE, YAML_LN_BREAK, YAML_SINGLE_QUOTED_SCALAR_STYLE,
+    YAML_UTF8_ENCODING, analyze_anchor, analyze_scalar, analyze_tag, select_scalar_style,
+    write_double_quoted_scalar, yaml_error_t, yaml_scalar_style_t, yaml_tag_directive_t,
+};
+
+/// A value between double quotes, without folds, as UTF-8.
+fn quoted(alloc: Global, value: &str) -> Result<Vec<u8>, yaml_error_t> {
+    let mut pen = Pen::new(alloc)?;
+    pen.begin(YAML_UTF8_ENCODING, YAML_LN_BREAK);
+    write_double_quoted_scalar(&mut pen, value, false, true, 2, i32::MAX)?;
+    pen.flush()?;
+    Vec::from_slice(alloc, pen.output()).map_err(|_| yaml_error_t::Memory)
+}
+
+/// The style that a value takes as the root of a document, where none is asked for.
+fn root_style(value: &str) -> Result<yaml_scalar_style_t, yaml_error_t> {
+    let allowed = analyze_scalar(value, true, false);
+    let empty = value.is_empty();
+    let style = YAML_ANY_SCALAR_STYLE;
+    let (style, _bare) = select_scalar_style(
+        style, &allowed, empty, false, true, true, false, false, false,
+    )?;
+    Ok(style)
+}
+
+/// Directives that shorten tags with this prefix.
+fn shortening(alloc: Global, handle: &str, prefix: &str) -> Result<Directives<Global>, AllocError> {
+    let mut directives = Directives::new(alloc);
+    let directive = yaml_tag_directive_t {
+        handle: String::from_str(alloc, handle)?,
+        prefix: String::from_str(alloc, prefix)?,
+    };
+    directives
+        .append(&directive, false)
+        .map_err(|_| AllocError)?;
+    Ok(directives)
+}
+
+#[test]
+fn a_pen_takes_the_text_of_a_writer(rt: HostRuntime) -> Result<(), Fail> {
+    let yaml = quoted(rt.alloc(), "say \"hi\"\n")?;
+    same(&rt, yaml.as_slice(), b"\"say \\\"hi\\\"\\n\"");
+    Ok(())
+}
+
+#[test]
+fn a_style_is_chosen(rt: HostRuntime) -> Result<(), Fail> {
+    assert!(rt; root_style("a: b")? == YAML_SINGLE_QUOTED_SCALAR_STYLE);
+    Ok(())
+}
+
+#[test]
+fn a_tag_is_cut_after_its_prefix(rt: HostRuntime) -> Result<(), Fail> {
+    let directives = shortening(rt.alloc(), "!e!", "tag:e.com,2000:")?;
+    let cut = analyze_tag("tag:e.com,2000:note", &directives)?;
+    equal(&rt, &cut.directive, &Some(0));
+    equal(&rt, &cut.prefix_length, &15);
+    equal(
+        &rt,
+        &analyze_anchor("a b", false),
+        &Err(yaml_error_t::AnchorAlphabet),
+    );
+    Ok(())
+}

@@ -1,0 +1,47 @@
+//! Emitters, made and set.
+use crate::tests::{equal, same};
+use std::alloc::Global;
+use std::process::Abort;
+use std::test::Fail;
+use yaml_dump::{
+    YAML_CRLN_BREAK, YAML_UTF16LE_ENCODING, yaml_emitter_delete, yaml_emitter_initialize,
+    yaml_emitter_set_break, yaml_emitter_set_canonical, yaml_emitter_set_encoding,
+    yaml_emitter_set_indent, yaml_emitter_set_line_breaks_1_2, yaml_emitter_set_output_string,
+    yaml_emitter_set_portable, yaml_emitter_set_unicode, yaml_emitter_set_width, yaml_emitter_t,
+    yaml_error_t,
+};
+
+/// An emitter with every setting set, for a stream of at most `limit` bytes.
+fn emitter_of(alloc: Global, limit: usize) -> Result<yaml_emitter_t<Global>, yaml_error_t> {
+    let mut emitter = yaml_emitter_initialize(alloc)?;
+    yaml_emitter_set_output_string(&mut emitter, limit);
+    yaml_emitter_set_encoding(&mut emitter, YAML_UTF16LE_ENCODING);
+    yaml_emitter_set_canonical(&mut emitter, false);
+    yaml_emitter_set_unicode(&mut emitter, true);
+    yaml_emitter_set_indent(&mut emitter, 4);
+    yaml_emitter_set_width(&mut emitter, 120);
+    yaml_emitter_set_break(&mut emitter, YAML_CRLN_BREAK);
+    yaml_emitter_set_line_breaks_1_2(&mut emitter, true);
+    yaml_emitter_set_portable(&mut emitter, true);
+    Ok(emitter)
+}
+
+// Nothing was begun, and nothing is queued.
+fn check_unstarted(rt: &impl Abort, emitter: &yaml_emitter_t<Global>) {
+    assert!(rt; emitter.has_output());
+    assert!(rt; emitter.encoding_known());
+    assert!(rt; !emitter.is_started());
+    assert!(rt; !emitter.is_opened());
+    assert!(rt; !emitter.is_closed());
+    same(rt, emitter.output(), b"");
+    equal(rt, &emitter.error(), &None);
+    equal(rt, &emitter.held(), &0);
+}
+
+#[test]
+fn an_emitter_is_set_before_its_stream(rt: HostRuntime) -> Result<(), Fail> {
+    let emitter = emitter_of(rt.alloc(), 1_000)?;
+    check_unstarted(&rt, &emitter);
+    yaml_emitter_delete(emitter);
+    Ok(())
+}
