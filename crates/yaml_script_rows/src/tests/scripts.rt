@@ -7,7 +7,7 @@ use yaml_base::{
     YAML_ANY_BREAK, YAML_ANY_ENCODING, YAML_ANY_SCALAR_STYLE, YAML_DOCUMENT_END_EVENT,
     YAML_DOCUMENT_START_EVENT, YAML_FLOW_SEQUENCE_STYLE, YAML_FOLDED_SCALAR_STYLE,
     YAML_SCALAR_EVENT, YAML_SEQUENCE_START_EVENT, YAML_STREAM_END_EVENT, YAML_STREAM_START_EVENT,
-    YAML_UTF16BE_ENCODING, yaml_error_t, yaml_event_t, yaml_tag_directive_t,
+    YAML_UTF16BE_ENCODING, yaml_encoding_t, yaml_error_t, yaml_event_t, yaml_tag_directive_t,
     yaml_version_directive_t,
 };
 use yaml_tool::{
@@ -16,6 +16,92 @@ use yaml_tool::{
 
 fn text(alloc: Global, s: &str) -> Result<String, AllocError> {
     String::from_str(alloc, s)
+}
+
+// The event at this place of the script, and its line.
+fn check_event(
+    rt: &impl Abort,
+    events: &[NumberedEvent<Global>],
+    place: usize,
+    line: u64,
+    event: &yaml_event_t<Global>,
+) {
+    match events.get(place) {
+        Some(numbered) => {
+            equal(rt, &numbered.line, &line);
+            assert!(rt; numbered.event == *event);
+        }
+        None => assert!(rt; false, "no event at place {place}"),
+    }
+}
+
+fn stream_start(encoding: yaml_encoding_t) -> yaml_event_t<Global> {
+    YAML_STREAM_START_EVENT { encoding }
+}
+
+fn plain_start(alloc: Global) -> yaml_event_t<Global> {
+    YAML_DOCUMENT_START_EVENT {
+        version_directive: None,
+        tag_directives: Vec::new(alloc),
+        implicit: true,
+    }
+}
+
+fn plain_scalar(value: String) -> yaml_event_t<Global> {
+    YAML_SCALAR_EVENT {
+        anchor: None,
+        tag: None,
+        value,
+        plain_implicit: true,
+        quoted_implicit: true,
+        style: YAML_ANY_SCALAR_STYLE,
+    }
+}
+
+fn directive(
+    alloc: Global,
+    handle: &str,
+    prefix: &str,
+) -> Result<yaml_tag_directive_t<Global>, AllocError> {
+    Ok(yaml_tag_directive_t {
+        handle: text(alloc, handle)?,
+        prefix: text(alloc, prefix)?,
+    })
+}
+
+fn tag_directives(alloc: Global) -> Result<Vec<yaml_tag_directive_t<Global>>, Fail> {
+    let mut directives = Vec::new(alloc);
+    directives.push(directive(alloc, "!", "!a b")?)?;
+    directives.push(directive(alloc, "!e!", "")?)?;
+    Ok(directives)
+}
+
+fn full_start(tag_directives: Vec<yaml_tag_directive_t<Global>>) -> yaml_event_t<Global> {
+    YAML_DOCUMENT_START_EVENT {
+        version_directive: Some(yaml_version_directive_t { major: 1, minor: 2 }),
+        tag_directives,
+        implicit: false,
+    }
+}
+
+fn flow_start(anchor: String, tag: String) -> yaml_event_t<Global> {
+    YAML_SEQUENCE_START_EVENT {
+        anchor: Some(anchor),
+        tag: Some(tag),
+        implicit: false,
+        style: YAML_FLOW_SEQUENCE_STYLE,
+    }
+}
+
+fn folded_scalar(anchor: String, value: String) -> yaml_event_t<Global> {
+    YAML_SCALAR_EVENT {
+        anchor: Some(anchor),
+        tag: None,
+        value,
+        plain_implicit: false,
+        quoted_implicit: true,
+        style: YAML_FOLDED_SCALAR_STYLE,
+    }
 }
 
 #[test]
@@ -37,41 +123,19 @@ fn a_script_is_understood(rt: HostRuntime) -> Result<(), Fail> {
         portable: false,
     };
     assert!(rt; script.settings == expected);
-    let mut events = Vec::new(alloc);
-    events.push(NumberedEvent {
-        line: 5,
-        event: YAML_STREAM_START_EVENT {
-            encoding: YAML_ANY_ENCODING,
-        },
-    })?;
-    events.push(NumberedEvent {
-        line: 6,
-        event: YAML_DOCUMENT_START_EVENT {
-            version_directive: None,
-            tag_directives: Vec::new(alloc),
-            implicit: true,
-        },
-    })?;
-    events.push(NumberedEvent {
-        line: 7,
-        event: YAML_SCALAR_EVENT {
-            anchor: None,
-            tag: None,
-            value: text(alloc, "a")?,
-            plain_implicit: true,
-            quoted_implicit: true,
-            style: YAML_ANY_SCALAR_STYLE,
-        },
-    })?;
-    events.push(NumberedEvent {
-        line: 8,
-        event: YAML_DOCUMENT_END_EVENT { implicit: true },
-    })?;
-    events.push(NumberedEvent {
-        line: 9,
-        event: YAML_STREAM_END_EVENT,
-    })?;
-    assert!(rt; script.events == events);
+    let events = script.events.as_slice();
+    equal(&rt, &events.len(), &5);
+    check_event(&rt, events, 0, 5, &stream_start(YAML_ANY_ENCODING));
+    check_event(&rt, events, 1, 6, &plain_start(alloc));
+    check_event(&rt, events, 2, 7, &plain_scalar(text(alloc, "a")?));
+    check_event(
+        &rt,
+        events,
+        3,
+        8,
+        &YAML_DOCUMENT_END_EVENT { implicit: true },
+    );
+    check_event(&rt, events, 4, 9, &YAML_STREAM_END_EVENT);
     Ok(())
 }
 
@@ -82,43 +146,24 @@ fn every_part_of_a_line_is_read(rt: HostRuntime) -> Result<(), Fail> {
         alloc,
         b"+STR utf16be\n+DOC 0 1.02 \"!\" \"!a b\" \"!e!\" \"\"\n+SEQ flow 0 \"x\" \"-\"\n=VAL folded 0 1 \"a\" - \"\\u{1f600}\\n\\\\\\\"\"",
     )?;
-    let mut tag_directives = Vec::new(alloc);
-    tag_directives.push(yaml_tag_directive_t {
-        handle: text(alloc, "!")?,
-        prefix: text(alloc, "!a b")?,
-    })?;
-    tag_directives.push(yaml_tag_directive_t {
-        handle: text(alloc, "!e!")?,
-        prefix: text(alloc, "")?,
-    })?;
-    let expected: [yaml_event_t<_>; 4] = [
-        YAML_STREAM_START_EVENT {
-            encoding: YAML_UTF16BE_ENCODING,
-        },
-        YAML_DOCUMENT_START_EVENT {
-            version_directive: Some(yaml_version_directive_t { major: 1, minor: 2 }),
-            tag_directives,
-            implicit: false,
-        },
-        YAML_SEQUENCE_START_EVENT {
-            anchor: Some(text(alloc, "x")?),
-            tag: Some(text(alloc, "-")?),
-            implicit: false,
-            style: YAML_FLOW_SEQUENCE_STYLE,
-        },
-        YAML_SCALAR_EVENT {
-            anchor: Some(text(alloc, "a")?),
-            tag: None,
-            value: text(alloc, "\u{1F600}\n\\\"")?,
-            plain_implicit: false,
-            quoted_implicit: true,
-            style: YAML_FOLDED_SCALAR_STYLE,
-        },
-    ];
-    equal(&rt, &script.events.len(), &4);
-    for (numbered, event) in script.events.iter().zip(expected.iter()) {
-        assert!(rt; numbered.event == *event);
-    }
+    let events = script.events.as_slice();
+    equal(&rt, &events.len(), &4);
+    check_event(&rt, events, 0, 1, &stream_start(YAML_UTF16BE_ENCODING));
+    check_event(&rt, events, 1, 2, &full_start(tag_directives(alloc)?));
+    check_event(
+        &rt,
+        events,
+        2,
+        3,
+        &flow_start(text(alloc, "x")?, text(alloc, "-")?),
+    );
+    check_event(
+        &rt,
+        events,
+        3,
+        4,
+        &folded_scalar(text(alloc, "a")?, text(alloc, "\u{1F600}\n\\\"")?),
+    );
     Ok(())
 }
 
