@@ -9,9 +9,8 @@ use Rattle.yaml_base.specs.Settings.{Settings}
 use Rattle.yaml_base.specs.TypedValues.{null_tag}
 use Rattle.yaml_base.specs.declared.errors.yaml_error_t.{yaml_error_t}
 use Rattle.yaml_emitter.specs.State.{State}
-use Rattle.yaml_emitter.specs.StandsAfter.{StandsAfter}
 use Rattle.yaml_writer.specs.Given.{default_settings}
-use Rattle.yaml_writer.specs.Writing.{WriterState, Gave, Ended, EndsInnermost, Finishes, closing, end_event, entered, null_event, opening, sequence_event, tag_or, text_event, text_style}
+use Rattle.yaml_writer.specs.Writing.{WriterState, AddsAll, Gave, Ended, EndsInnermost, Finishes, StandsTaken, closing, end_event, entered, null_event, opening, sequence_event, tag_or, text_event, text_style}
 use Rattle.yaml_writer.specs.declared.kinds.CollectionKind.{CollectionKind}
 use Rattle.yaml_writer.specs.declared.kinds.CollectionKind.TheVariants.{Mapping, Sequence}
 
@@ -83,36 +82,37 @@ only_one (first ∷ outer) kind is = absurd (none_more outer kind (ap rest_of is
 
 -- a sequence alone was open, and was ended
 ended_sequence : (before after : WriterState) → before.levels ≡ Sequence ∷ [] → EndsInnermost before (Ok tt) after
-    → (given : Settings) (all : List Event) → StandsAfter given all before.emitter → StandsAfter given (all ++ sequence_end ∷ []) after.emitter
+    → AddsAll before.emitter (sequence_end ∷ []) after.emitter
 ended_sequence before after levels (inl none) = absurd (apart (sym none.0 ∙ levels))
   where
     apart : [] ≡ Sequence ∷ [] → ⊥
     apart is = cc
-ended_sequence before after levels (inr ended) = λ given all stands.
-    subst (λ (kind : CollectionKind). StandsAfter given (all ++ end_event kind ∷ []) after.emitter)
-    (only_one ended.outer ended.kind (sym ended.levels ∙ levels)) (ended.adds given all stands)
+ended_sequence before after levels (inr ended) = λ given all sent stands.
+    subst (λ (kind : CollectionKind). StandsTaken given (all ++ end_event kind ∷ []) sent after.emitter)
+    (only_one ended.outer ended.kind (sym ended.levels ∙ levels)) (ended.adds given all sent stands)
 
 -- ---- all
 
 pub list_bytes : (given : Settings) (first begun said noted ended : WriterState) (text : Text) (bytes : List ℕ) → given ≡ default_settings → text ≡ codes "no"
-    → StandsAfter given opening first.emitter → first.canonical ≡ false → first.levels ≡ [] → (first.anchor ≡ None) × (first.tag ≡ None)
+    → StandsTaken given opening [] first.emitter → first.canonical ≡ false → first.levels ≡ [] → (first.anchor ≡ None) × (first.tag ≡ None)
     → Gave (entered first Sequence) (sequence_event first block) None begun
     → Gave begun (text_event begun text) None said → Gave said (null_event said) None noted → EndsInnermost noted (Ok tt) ended
     → Finishes ended.emitter bytes → bytes ≡ codes "---\n- 'no'\n- null\n"
 list_bytes given first begun said noted ended text bytes is_default is_no stands canonical levels bare begins says notes ends finishes =
-    let stands_first = subst (λ (g : Settings). StandsAfter g opening first.emitter) is_default stands in
+    let stands_first = subst (λ (g : Settings). StandsTaken g opening [] first.emitter) is_default stands in
     let stands_begun =
-    subst (λ (event : Event). StandsAfter default_settings (opening ++ event ∷ []) begun.emitter) (sequence_is first bare.0 bare.1)
-    (begins.adds default_settings opening stands_first) in
+    subst (λ (event : Event). StandsTaken default_settings (opening ++ event ∷ []) [] begun.emitter) (sequence_is first bare.0 bare.1)
+    (begins.adds default_settings opening [] stands_first) in
     let stands_said =
-    subst (λ (event : Event). StandsAfter default_settings (after_begin ++ event ∷ []) said.emitter) (text_is begun text is_no begins.no_anchor begins.no_tag)
-    (says.adds default_settings after_begin stands_begun) in
+    subst (λ (event : Event). StandsTaken default_settings (after_begin ++ event ∷ []) [] said.emitter) (text_is begun text is_no begins.no_anchor begins.no_tag)
+    (says.adds default_settings after_begin [] stands_begun) in
     let stands_noted =
-    subst (λ (event : Event). StandsAfter default_settings (after_text ++ event ∷ []) noted.emitter)
-    (null_is said says.no_anchor says.no_tag (says.canonical ∙ begins.canonical ∙ canonical)) (notes.adds default_settings after_text stands_said) in
+    subst (λ (event : Event). StandsTaken default_settings (after_text ++ event ∷ []) [] noted.emitter)
+    (null_is said says.no_anchor says.no_tag (says.canonical ∙ begins.canonical ∙ canonical)) (notes.adds default_settings after_text [] stands_said) in
     let one : noted.levels ≡ Sequence ∷ [] = notes.levels ∙ says.levels ∙ begins.levels ∙ ap (λ (kinds : List CollectionKind). kinds ++ Sequence ∷ []) levels in
-    let stands_ended : StandsAfter default_settings listed ended.emitter = ended_sequence noted ended one ends default_settings after_null stands_noted in
-    let stream = finishes default_settings listed stands_ended in
+    let stands_ended : StandsTaken default_settings listed [] ended.emitter =
+    ended_sequence noted ended one ends default_settings after_null [] stands_noted in
+    let stream = finishes default_settings listed [] stands_ended in
     stream.output ∙ stream.written.output ∙ row
 
 -- where all calls succeeded

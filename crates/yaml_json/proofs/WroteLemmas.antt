@@ -5,11 +5,10 @@ use Rattle.yaml_base.specs.Characters.{Text}
 use Rattle.yaml_base.specs.Event.{CollectionStyle, Event, ScalarStyle, plain, scalar, sequence_start, mapping_start}
 use Rattle.yaml_base.specs.JsonNumbers.{JsonNumber, yaml_number}
 use Rattle.yaml_emitter.specs.State.{State}
-use Rattle.yaml_emitter.specs.StandsAfter.{StandsAfter}
 use Rattle.yaml_writer.proofs.Finishing.{nothing_awaited}
 use Rattle.yaml_writer.proofs.PartLemmas.{number_found}
 use Rattle.yaml_writer.specs.NumberParts.{IsNumber, number_in}
-use Rattle.yaml_writer.specs.Writing.{WriterState, AddsAll, Gave, awaits_node, end_event, entered, mapping_event, number_event, number_tag, sequence_event, tag_or, text_event, text_style, word_event}
+use Rattle.yaml_writer.specs.Writing.{WriterState, AddsAll, Gave, StandsTaken, awaits_node, end_event, entered, mapping_event, number_event, number_tag, sequence_event, tag_or, text_event, text_style, word_event}
 use Rattle.yaml_writer.specs.declared.kinds.CollectionKind.{CollectionKind}
 use Rattle.yaml_json.specs.JsonEvents.{collection_in, number_content, style_of, text_content, word_content}
 use Rattle.yaml_json.specs.Wrote.{Ends, IsBare, Wrote, WroteEvent}
@@ -29,7 +28,7 @@ on_ok (Err error) follows held = tt
 pub wrote_nothing : (writer : WriterState) → IsBare writer → Wrote writer [] writer
 wrote_nothing writer bare =
     record {
-      adds = λ given all stands. subst (λ (events : List Event). StandsAfter given events writer.emitter) (sym (append-nil all)) stands;
+      adds = λ given all sent stands. subst (λ (events : List Event). StandsTaken given events sent writer.emitter) (sym (append-nil all)) stands;
       canonical = refl;
       levels = refl;
       bare = bare;
@@ -38,8 +37,9 @@ wrote_nothing writer bare =
 -- some events, and then others
 pub adds_then : (before between after : State) (first second : List Event) → AddsAll before first between → AddsAll between second after
     → AddsAll before (first ++ second) after
-adds_then before between after first second one other = λ given all stands.
-    subst (λ (events : List Event). StandsAfter given events after) (append_assoc all first second) (other given (all ++ first) (one given all stands))
+adds_then before between after first second one other = λ given all sent stands.
+    subst (λ (events : List Event). StandsTaken given events sent after) (append_assoc all first second)
+    (other given (all ++ first) sent (one given all sent stands))
 
 pub wrote_then : (before between after : WriterState) (first second : List Event) → Wrote before first between → Wrote between second after
     → Wrote before (first ++ second) after
@@ -59,7 +59,7 @@ wrote_same before after events same is = subst (λ (e : List Event). Wrote befor
 pub wrote_event : (before after : WriterState) (event same : Event) → event ≡ same → Gave before event None after → WroteEvent before same after
 wrote_event before after event same is gave =
     record {
-      adds = λ given all stands. subst (λ (e : Event). StandsAfter given (all ++ e ∷ []) after.emitter) is (gave.adds given all stands);
+      adds = λ given all sent stands. subst (λ (e : Event). StandsTaken given (all ++ e ∷ []) sent after.emitter) is (gave.adds given all sent stands);
       canonical = gave.canonical;
       levels = gave.levels;
       bare = (gave.no_anchor, gave.no_tag);
@@ -126,8 +126,8 @@ pub ended : (outer : List CollectionKind) (kind : CollectionKind) (before after 
 ended outer kind before after levels bare (inl none) = absurd (none_more outer kind (sym levels ∙ none.0))
 ended outer kind before after levels bare (inr end) =
     let same = same_last end.outer outer end.kind kind (sym end.levels ∙ levels) in (
-      λ given all stands.
-          subst (λ (k : CollectionKind). StandsAfter given (all ++ end_event k ∷ []) after.emitter) same.1 (end.adds given all stands),
+      λ given all sent stands.
+          subst (λ (k : CollectionKind). StandsTaken given (all ++ end_event k ∷ []) sent after.emitter) same.1 (end.adds given all sent stands),
       ap (λ (w : WriterState). w.canonical) end.rest,
       ap (λ (w : WriterState). w.levels) end.rest ∙ same.0,
       (ap (λ (w : WriterState). w.anchor) end.rest ∙ bare.0, ap (λ (w : WriterState). w.tag) end.rest ∙ bare.1),
@@ -140,7 +140,7 @@ pub wrote_collection : (before begun filled after : WriterState) (kind : Collect
 wrote_collection before begun filled after kind event start inner is gave fills ends =
     let end = ended before.levels kind filled after (fills.levels ∙ gave.levels) fills.bare ends in
     let starts : AddsAll before.emitter (start ∷ []) begun.emitter =
-    λ given all stands. subst (λ (e : Event). StandsAfter given (all ++ e ∷ []) begun.emitter) is (gave.adds given all stands) in
+    λ given all sent stands. subst (λ (e : Event). StandsTaken given (all ++ e ∷ []) sent begun.emitter) is (gave.adds given all sent stands) in
     record {
       adds = adds_then before.emitter filled.emitter after.emitter (start ∷ inner) (end_event kind ∷ [])
           (adds_then before.emitter begun.emitter filled.emitter (start ∷ []) inner starts fills.adds) end.0;

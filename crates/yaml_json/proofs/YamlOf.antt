@@ -11,8 +11,7 @@ use Rattle.json.specs.Tree.{HasNumbers}
 use Rattle.yaml_base.specs.Event.{Event}
 use Rattle.yaml_base.specs.Meaning.{has_scalar_texts}
 use Rattle.yaml_base.specs.Settings.{Settings}
-use Rattle.yaml_emitter.specs.StandsAfter.{StandsAfter}
-use Rattle.yaml_writer.specs.Writing.{Finishes, WriterState, closing, opening}
+use Rattle.yaml_writer.specs.Writing.{Finishes, StandsTaken, WriterState, closing, opening}
 use Rattle.yaml_json.specs.JsonEvents.{json_events}
 use Rattle.yaml_json.specs.Wrote.{AreJson, IsYamlOf, ReadsTexts, Wrote, WroteText, parts_events}
 use Rattle.yaml_json.proofs.JsonReads.{HaveNumbers, reads_as_json, reads_as_values}
@@ -29,20 +28,20 @@ texts_closed events texts =
     ∙ and_from (list_all has_scalar_texts events) (list_all has_scalar_texts closing) texts refl
 
 -- a writer at the start of its first document was given a text's events, and was finished
-pub yaml_of : (given : Settings) (in_flow : Bool) (depth : ℕ) (text bytes : List ℕ) (first filled : WriterState) → StandsAfter given opening first.emitter
+pub yaml_of : (given : Settings) (in_flow : Bool) (depth : ℕ) (text bytes : List ℕ) (first filled : WriterState) → StandsTaken given opening [] first.emitter
     → first.canonical ≡ given.canonical → WroteText depth in_flow text first filled → Finishes filled.emitter bytes
     → IsYamlOf given in_flow depth text bytes
 yaml_of given in_flow depth text bytes first filled stands canonical wrote finishes =
     let events = opening ++ json_events given.canonical in_flow wrote.json in
-    let stood = subst (λ (c : Bool). StandsAfter given (opening ++ json_events c in_flow wrote.json) filled.emitter) canonical
-    (wrote.wrote.adds given opening stands) in
-    let stream = finishes given events stood in
+    let stood = subst (λ (c : Bool). StandsTaken given (opening ++ json_events c in_flow wrote.json) [] filled.emitter) canonical
+    (wrote.wrote.adds given opening [] stands) in
+    let stream = finishes given events [] stood in
     record {
       json = wrote.json;
       read = wrote.read;
       stream = stream;
       reads = reads_as_json given in_flow text wrote.json bytes (text_has_numbers depth text wrote.json wrote.read)
-          (texts_closed events stood.texts) stream;
+          (texts_closed events stood.stands.texts) stream;
     }
 
 -- Several texts
@@ -55,17 +54,18 @@ all_have_numbers depth (part ∷ parts) each = (text_has_numbers depth part.0 pa
 pub yaml_of_texts : (depth : ℕ) (in_flow : Bool) (text : List ℕ) (was now : WriterState) (part : List ℕ × Json) (rest : List (List ℕ × Json))
     → flat_map (λ part. part.0) (part ∷ rest) ≡ text → AreJson depth (part ∷ rest) → Wrote was (parts_events was.canonical in_flow (part ∷ rest)) now
     → ReadsTexts depth in_flow text was now
-yaml_of_texts depth in_flow text was now part rest joined each wrote given bytes stands canonical finishes =
+yaml_of_texts depth in_flow text was now part rest joined each wrote given sent bytes stands canonical finishes =
     let events = opening ++ parts_events given.canonical in_flow (part ∷ rest) in
-    let stood = subst (λ (c : Bool). StandsAfter given (opening ++ parts_events c in_flow (part ∷ rest)) now.emitter) canonical
-    (wrote.adds given opening stands) in
-    let stream = finishes given events stood in
+    let stood = subst (λ (c : Bool). StandsTaken given (opening ++ parts_events c in_flow (part ∷ rest)) sent now.emitter) canonical
+    (wrote.adds given opening sent stands) in
+    let stream = finishes given events sent stood in
     record {
       parts = part ∷ rest;
       joined = joined;
       each = each;
       stream = stream;
-      reads = reads_as_values given in_flow part rest bytes (all_have_numbers depth (part ∷ rest) each) (texts_closed events stood.texts) stream;
+      reads = reads_as_values given in_flow part rest (sent ++ bytes) (all_have_numbers depth (part ∷ rest) each)
+          (texts_closed events stood.stands.texts) stream;
     }
 
 -- the last of them is one

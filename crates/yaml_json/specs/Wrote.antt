@@ -6,8 +6,7 @@ use Rattle.json.specs.Lex.{tokens}
 use Rattle.json.specs.Json.{Json, Items, Members, items, members, value}
 use Rattle.yaml_base.specs.Event.{Event, document_end, scalar}
 use Rattle.yaml_base.specs.Settings.{Settings}
-use Rattle.yaml_emitter.specs.StandsAfter.{StandsAfter}
-use Rattle.yaml_writer.specs.Writing.{AddsAll, EndsInnermost, Finishes, IsStream, WriterState, closing, opening, plain_start}
+use Rattle.yaml_writer.specs.Writing.{AddsAll, EndsInnermost, Finishes, IsStream, StandsTaken, WriterState, closing, opening, plain_start}
 use Rattle.yaml_json.specs.JsonEvents.{json_events, items_events, members_events, text_content}
 use Rattle.yaml_json.specs.Means.{ReadsAsJson, ReadsAsValues}
 
@@ -93,11 +92,12 @@ pub record IsYamlOfTexts (given : Settings) (in_flow : Bool) (depth : ℕ) (text
   pub stream : IsStream given (opening ++ parts_events given.canonical in_flow parts ++ closing) bytes
   pub reads : ReadsAsValues given.breaks12 bytes (map (λ part. part.1) parts)
 
--- where the writer was at the start of its first document, the stream that it then finishes is read as the values of the text
+-- where the writer was at the start of its first document, the stream that it then finishes, with what was taken of it before,
+-- is read as the values of the text
 abbrev pub ReadsTexts : (depth : ℕ) → (in_flow : Bool) → (text : List ℕ) → WriterState → WriterState → Type 0
 ReadsTexts depth in_flow text was now =
-    (given : Settings) (bytes : List ℕ) → StandsAfter given opening was.emitter → was.canonical ≡ given.canonical → Finishes now.emitter bytes
-    → IsYamlOfTexts given in_flow depth text bytes
+    (given : Settings) (sent bytes : List ℕ) → StandsTaken given opening sent was.emitter → was.canonical ≡ given.canonical → Finishes now.emitter bytes
+    → IsYamlOfTexts given in_flow depth text (sent ++ bytes)
 
 -- the text is JSON nested at most so deep, the bytes are the stream of its one document, and both schemas read them as its value
 pub record IsYamlOf (given : Settings) (in_flow : Bool) (depth : ℕ) (text bytes : List ℕ) : Type 0 where

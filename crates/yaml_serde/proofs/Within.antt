@@ -10,17 +10,16 @@ use Rattle.yaml_base.specs.Settings.{Settings}
 use Rattle.yaml_base.specs.declared.errors.yaml_error_t.{yaml_error_t}
 use Rattle.yaml_base.specs.declared.errors.yaml_error_t.TheVariants.{Memory}
 use Rattle.yaml_emitter.specs.State.{State}
-use Rattle.yaml_emitter.specs.StandsAfter.{StandsAfter}
-use Rattle.yaml_writer.specs.Writing.{WriterState, Adds, Gave, Failed, EndsInnermost, Finishes, IsStream, NodeExpected, awaits_node, closing, end_event, opening}
+use Rattle.yaml_writer.specs.Writing.{WriterState, Adds, Gave, Failed, EndsInnermost, Finishes, IsStream, NodeExpected, StandsTaken, awaits_node, closing, end_event, opening}
 use Rattle.yaml_serde.specs.Documents.{IsCall, IsWithin, IsDocument, end_call}
 
 module _ (given : Settings) where
   -- the events so far of a document
   abbrev Begun : State → Type 0
-  Begun emitter = (events : List Event) × All IsCall events × StandsAfter given (opening ++ events) emitter
+  Begun emitter = (events : List Event) × All IsCall events × StandsTaken given (opening ++ events) [] emitter
 
   -- a new writer has given the start of a document
-  pub within_new : (emitter : State) → StandsAfter given opening emitter → IsWithin given emitter
+  pub within_new : (emitter : State) → StandsTaken given opening [] emitter → IsWithin given emitter
   within_new emitter stands = ∣ begun ∣₁
     where
       begun : Begun emitter
@@ -33,7 +32,7 @@ module _ (given : Settings) where
       more : Begun before → Begun after
       more begun =
           let one = All-cons IsCall event [] call (All-nil IsCall) in
-          (begun.0 ++ event ∷ [], All-append IsCall begun.0 (event ∷ []) begun.1 one, adds given (opening ++ begun.0) begun.2)
+          (begun.0 ++ event ∷ [], All-append IsCall begun.0 (event ∷ []) begun.1 one, adds given (opening ++ begun.0) [] begun.2)
 
   -- the same state is as good
   within_same : (before after : WriterState) → after ≡ before → IsWithin given before.emitter → IsWithin given after.emitter
@@ -87,7 +86,7 @@ module _ (given : Settings) where
   finished emitter bytes within finishes = ∥∥₁_map within whole
     where
       whole : Begun emitter → (events : List Event) × All IsCall events × IsStream given (opening ++ events ++ closing) bytes
-      whole begun = (begun.0, begun.1, finishes given (opening ++ begun.0) begun.2)
+      whole begun = (begun.0, begun.1, finishes given (opening ++ begun.0) [] begun.2)
 
   pub finished_ok : {A E : Type 0} (answer : Result (Vec ℕ A) E) (emitter : State) → IsWithin given emitter
       → IfOk answer (λ bytes. Finishes emitter bytes.items) → IfOk answer (λ bytes. IsDocument given bytes.items)

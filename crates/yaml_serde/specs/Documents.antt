@@ -1,14 +1,13 @@
 -- Documents, as they are written and when they are finished.
-use Rattle.std.specs.Prelude.{◌≡◌, ℕ, ℤ, Bool, true, List, ◌++◌}
+use Rattle.std.specs.Prelude.{◌≡◌, ℕ, ℤ, Bool, true, List, [], ◌++◌}
 use Rattle.std.specs.List.{All}
 use Rattle.yaml_base.specs.Characters.{Text}
 use Rattle.yaml_base.specs.Event.{Event, block}
 use Rattle.yaml_base.specs.JsonNumbers.{JsonNumber, is_json_number}
 use Rattle.yaml_base.specs.Settings.{Settings}
 use Rattle.yaml_emitter.specs.State.{State}
-use Rattle.yaml_emitter.specs.StandsAfter.{StandsAfter}
 use Rattle.yaml_writer.specs.Floats.{special_event}
-use Rattle.yaml_writer.specs.Writing.{WriterState, IsStream, bool_event, closing, end_event, int_event, mapping_event, null_event, number_event, opening, sequence_event, text_event}
+use Rattle.yaml_writer.specs.Writing.{WriterState, IsStream, StandsTaken, bool_event, closing, end_event, int_event, mapping_event, null_event, number_event, opening, sequence_event, text_event}
 use Rattle.yaml_writer.specs.declared.floats.SpecialFloat.{SpecialFloat}
 use Rattle.yaml_writer.specs.declared.kinds.CollectionKind.{CollectionKind}
 
@@ -25,9 +24,9 @@ pub data IsCall : Event → Type 0 where
   sequence_call : (writer : WriterState) → IsCall (sequence_event writer block)
   end_call : (kind : CollectionKind) → IsCall (end_event kind)
 
--- under these settings an emitter was given the start of a document and the events of some calls
+-- under these settings an emitter was given the start of a document and the events of some calls; nothing of its output is taken
 abbrev pub IsWithin : Settings → State → Type 0
-IsWithin given emitter = ∥ ((events : List Event) × All IsCall events × StandsAfter given (opening ++ events) emitter) ∥₁
+IsWithin given emitter = ∥ ((events : List Event) × All IsCall events × StandsTaken given (opening ++ events) [] emitter) ∥₁
 
 -- bytes are the output of a stream that begins and ends a document round the events of some calls: well-formed, written whole
 -- under these settings, and read back as those events

@@ -1,19 +1,21 @@
 -- What it comes to that a document and its stream are ended.
 use Rattle.std.proofs.Common.{◌≡◌, refl, sym, ap, ap₂, ◌∙◌, arith, subst, append_assoc, inl, inr}
 use Rattle.std.proofs.lemmas.List.{nil_from_length}
-use Rattle.std.specs.Prelude.{ℕ, ◌<◌, ◌≤◌, true, false, ◌||◌, Option, None, Some, IsSome, is_some, unwrap_or, List, [], ◌∷◌, ◌++◌, length, Result, Ok, Err, Vec, IfOk, IfErr}
+use Rattle.std.specs.Prelude.{ℕ, ◌<◌, ◌≤◌, true, false, ◌||◌, Option, None, Some, IsSome, is_some, unwrap_or, List, [], ◌∷◌, ◌++◌, length}
 use Rattle.yaml_base.specs.Characters.{Text}
 use Rattle.yaml_base.specs.Event.{Event, stream_end, document_end}
 use Rattle.yaml_base.specs.Refusal.{IsAccepted}
 use Rattle.yaml_base.specs.Settings.{Settings}
 use Rattle.yaml_base.specs.declared.errors.yaml_error_t.{yaml_error_t}
-use Rattle.yaml_base.specs.declared.errors.yaml_error_t.TheVariants.{ExpectedNode, WriteError, Memory}
+use Rattle.yaml_base.specs.declared.errors.yaml_error_t.TheVariants.{ExpectedNode, WriteError}
+use Rattle.yaml_pen.specs.Page.{output_left}
 use Rattle.yaml_emitter.specs.State.{State}
 use Rattle.yaml_emitter.specs.StandsAfter.{StandsAfter}
 use Rattle.yaml_emitter.specs.Promises.{Promised, RefusedAt, HasRoom, IsRefusal, ends_stream}
 use Rattle.yaml_writer.specs.Unfinished.{IsUnfinished, RefusesOne}
-use Rattle.yaml_writer.specs.Writing.{IsStream, Finishes, WriterState, awaits_node, closing, plain_start}
+use Rattle.yaml_writer.specs.Writing.{IsStream, StandsTaken, WriterState, awaits_node, closing, plain_start}
 use Rattle.yaml_writer.proofs.Overflow.{overflowed}
+use Rattle.yaml_writer.proofs.Taken.{taken_and_left}
 
 -- no node is awaited where there is neither an anchor nor a tag
 pub nothing_awaited : (writer : WriterState) → writer.anchor ≡ None → writer.tag ≡ None → awaits_node writer ≡ false
@@ -41,7 +43,7 @@ closed_stands given all state =
     subst (λ (events : List Event). StandsAfter given events state) (append_assoc all (document_end true ∷ []) (stream_end ∷ []))
 
 -- without an error and an event that waits, the output is that of a stream
-pub stream_finished : (given : Settings) (all : List Event) (state : State) → Promised given (all ++ closing) state → state.error ≡ None → state.held ≡ []
+stream_finished : (given : Settings) (all : List Event) (state : State) → Promised given (all ++ closing) state → state.error ≡ None → state.held ≡ []
     → IsStream given (all ++ closing) state.page.output
 stream_finished given all state promised none held =
     let room : HasRoom state.error = subst HasRoom (sym none) tt in
@@ -85,13 +87,6 @@ error_kept before after error kept is = ap (λ (s : State). s.error) (kept (ap i
 pub same_error : (a b : yaml_error_t) → Some a ≡ Some b → a ≡ b
 same_error a b is = ap (λ o. unwrap_or o a) is
 
-pub none_before : (before after : Option yaml_error_t) → ((error : yaml_error_t) → before ≡ Some error → after ≡ Some error) → after ≡ None → before ≡ None
-none_before None after stays none = refl
-none_before (Some error) after stays none = absurd (apart (sym none ∙ stays error refl))
-  where
-    apart : None ≡ Some error → ⊥
-    apart is = cc
-
 -- All
 
 -- what an error of the emitter comes to, once document and stream were ended
@@ -131,31 +126,6 @@ waiting_unfinished before after stays ends none some = record {
     other : ExpectedNode ≡ WriteError → ⊥
     other is = cc
 
--- a copy of the output
-pub copy_finishes : {A E : Type 0} (answer : Result (Vec ℕ A) E) (emitter : State) (output : List ℕ) → Finishes emitter output
-    → IfOk answer (λ copy. copy.items ≡ output) → IfOk answer (λ copy. Finishes emitter copy.items)
-copy_finishes (Ok copy) emitter output finishes same = subst (Finishes emitter) (sym same) finishes
-copy_finishes (Err error) emitter output finishes same = tt
-
--- where nothing failed before, an error of memory tells of no event
-memory_alone : (emitter : State) → emitter.error ≡ None → IsUnfinished emitter Memory
-memory_alone emitter none = record {
-  first = λ earlier was. absurd (apart earlier (sym none ∙ was));
-  full = λ is. absurd (other is);
-  refused = λ refusal. absurd refusal;
-}
-  where
-    apart : (earlier : yaml_error_t) → None ≡ Some earlier → ⊥
-    apart earlier is = cc
-
-    other : Memory ≡ WriteError → ⊥
-    other is = cc
-
-pub memory_unfinished : {T : Type 0} (answer : Result T yaml_error_t) (emitter : State) → emitter.error ≡ None → IfErr answer (λ error. error ≡ Memory)
-    → IfErr answer (λ error. IsUnfinished emitter error)
-memory_unfinished (Ok value) emitter none memory = tt
-memory_unfinished (Err error) emitter none memory = subst (IsUnfinished emitter) (sym memory) (memory_alone emitter none)
-
 -- what the number of events that wait says
 pub some_waits : (count : ℕ) (held : List Event) → 0 < count → count ≡ length held → held ≡ [] → ⊥
 some_waits count held some is none = let empty = ap length none in omega (arith, some, is, empty)
@@ -164,8 +134,16 @@ pub none_waits : (count : ℕ) (held : List Event) → count ≤ 0 → count ≡
 none_waits count held none is = nil_from_length held (omega (arith, none, is))
 
 -- a document was ended and the next begun, one event after the other
-pub next_stands : (given : Settings) (all : List Event) (start : Event) (state : State) → start ≡ plain_start
-    → StandsAfter given ((all ++ document_end true ∷ []) ++ start ∷ []) state → StandsAfter given (all ++ document_end true ∷ plain_start ∷ []) state
-next_stands given all start state is stands =
-    subst (λ (events : List Event). StandsAfter given events state)
+pub next_stands : (given : Settings) (all : List Event) (sent : List ℕ) (start : Event) (state : State) → start ≡ plain_start
+    → StandsTaken given ((all ++ document_end true ∷ []) ++ start ∷ []) sent state
+    → StandsTaken given (all ++ document_end true ∷ plain_start ∷ []) sent state
+next_stands given all sent start state is stands =
+    subst (λ (events : List Event). StandsTaken given events sent state)
     (ap (λ event. (all ++ document_end true ∷ []) ++ event ∷ []) is ∙ append_assoc all (document_end true ∷ []) (plain_start ∷ [])) stands
+
+-- what was taken and what is left then are the stream
+pub rest_finished : (given : Settings) (all more : List Event) (sent : List ℕ) (state : State) → StandsTaken given more sent state
+    → Promised given (all ++ closing) state → state.error ≡ None → state.held ≡ []
+    → IsStream given (all ++ closing) (sent ++ output_left state.page)
+rest_finished given all more sent state stands promised none held =
+    subst (IsStream given (all ++ closing)) (sym (taken_and_left given more sent state stands)) (stream_finished given all state promised none held)

@@ -4,6 +4,7 @@ pub mod PartLemmas
 pub mod SpellingLemmas
 pub mod UnchangedSpellings
 pub mod Overflow
+pub mod Taken
 pub mod Finishing
 pub mod Digits
 pub mod PlainLemmas

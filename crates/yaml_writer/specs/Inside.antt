@@ -15,6 +15,6 @@ state_of w =
       tag = option_map seen_text w.tag;
     }
 
--- there is an output, of which nothing is taken
+-- there is an output
 abbrev pub IsWriter : {A : Type 0} → Inside A → Type 0
-IsWriter w = (w.emitter.has_output ≡ true) × (w.emitter.page.taken ≡ 0)
+IsWriter w = w.emitter.has_output ≡ true

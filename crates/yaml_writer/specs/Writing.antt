@@ -1,10 +1,11 @@
 -- What the calls of a writer give to its emitter.
-use Rattle.std.specs.Prelude.{◌≡◌, ◌⊎◌, ℕ, ℤ, Bool, true, Option, None, Some, Result, Err, List, [], ◌∷◌, ◌++◌, ◌||◌, codes, is_none, is_some, if◌then◌else◌}
+use Rattle.std.specs.Prelude.{◌≡◌, ◌⊎◌, ℕ, ℤ, Bool, true, Option, None, Some, Result, Err, List, [], ◌∷◌, ◌++◌, ◌||◌, codes, is_none, is_some, length, if◌then◌else◌}
 use Rattle.std.specs.Fmt.{signed_decimal}
 use Rattle.std.specs.List.{list_any}
 use Rattle.yaml_base.specs.Characters.{Text, is_break}
 use Rattle.yaml_base.specs.Event.{Collection, CollectionStyle, Event, ScalarStyle, any_style, plain, single_quoted, literal, stream_start, stream_end, document_start, document_end, scalar, sequence_start, sequence_end, mapping_start, mapping_end}
 use Rattle.yaml_base.specs.JsonNumbers.{JsonNumber, is_json_integer, yaml_number}
+use Rattle.yaml_base.specs.Prefix.{IsPrefix}
 use Rattle.yaml_base.specs.Refusal.{IsAccepted}
 use Rattle.yaml_base.specs.Settings.{Settings}
 use Rattle.yaml_base.specs.SurelyText.{is_surely_text}
@@ -119,15 +120,25 @@ awaits_node writer = is_some writer.anchor || is_some writer.tag
 abbrev pub NodeExpected : WriterState → Result (Unit {0}) yaml_error_t → WriterState → Type 0
 NodeExpected before answer after = (answer ≡ Err ExpectedNode) × (after ≡ before)
 
--- wherever the emitter stood, it stands after one more event
-abbrev pub Adds : State → Event → State → Type 0
-Adds before event after =
-    (given : Settings) (all : List Event) → StandsAfter given all before → StandsAfter given (all ++ event ∷ []) after
+-- the emitter stands after these events, and its caller has taken these bytes, with which the output begins
+pub record StandsTaken (given : Settings) (all : List Event) (sent : List ℕ) (emitter : State) : Type 0 where
+  pub stands : StandsAfter given all emitter
+  pub taken : emitter.page.taken ≡ length sent
+  pub begins : IsPrefix sent emitter.page.output
 
--- wherever the emitter stood, it stands after these events more
+-- wherever the emitter stood, it stands after these events more; what was taken stays taken
 abbrev pub AddsAll : State → List Event → State → Type 0
 AddsAll before events after =
-    (given : Settings) (all : List Event) → StandsAfter given all before → StandsAfter given (all ++ events) after
+    (given : Settings) (all : List Event) (sent : List ℕ) → StandsTaken given all sent before → StandsTaken given (all ++ events) sent after
+
+-- the same of one event
+abbrev pub Adds : State → Event → State → Type 0
+Adds before event after = AddsAll before (event ∷ []) after
+
+-- wherever the emitter stood, it stands there still, and these bytes are taken more
+abbrev pub Takes : State → List ℕ → State → Type 0
+Takes before bytes after =
+    (given : Settings) (all : List Event) (sent : List ℕ) → StandsTaken given all sent before → StandsTaken given all (sent ++ bytes) after
 
 -- these events were given to the emitter, whose error is told; nothing else changes
 pub record Passed (before : WriterState) (events : List Event) (answer : Result (Unit {0}) yaml_error_t) (after : WriterState) : Type 0 where
@@ -169,6 +180,7 @@ pub record IsStream (given : Settings) (all : List Event) (bytes : List ℕ) : T
   pub written : IsWritten given all state
   pub output : bytes ≡ state.page.output
 
--- wherever the emitter stood, the bytes are the output of its events and the stream's end
+-- wherever the emitter stood, what was taken and then these bytes are the output of its events and the stream's end
 abbrev pub Finishes : State → List ℕ → Type 0
-Finishes emitter bytes = (given : Settings) (all : List Event) → StandsAfter given all emitter → IsStream given (all ++ closing) bytes
+Finishes emitter bytes =
+    (given : Settings) (all : List Event) (sent : List ℕ) → StandsTaken given all sent emitter → IsStream given (all ++ closing) (sent ++ bytes)

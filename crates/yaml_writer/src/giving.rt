@@ -1,12 +1,11 @@
 //! Events given to an emitter.
-ghost use Rattle.std.specs.Prelude.{◌≡◌, IfOk, IfErr, OnOk, [], ◌∷◌, ◌++◌, true, None, List, is_none, option_map};
+ghost use Rattle.std.specs.Prelude.{◌≡◌, IfOk, IfErr, OnOk, [], ◌∷◌, true, None, is_none, option_map};
 ghost use Rattle.yaml_base.specs.Event.{Event, alias, document_end, mapping_start, scalar, sequence_start};
 ghost use Rattle.yaml_base.specs.Seen.{seen_event, seen_mapping_style, seen_scalar_style, seen_sequence_style, seen_text};
 ghost use Rattle.yaml_base.specs.Settings.{Settings};
-ghost use Rattle.yaml_emitter.specs.StandsAfter.{StandsAfter};
-ghost use Rattle.yaml_pen.specs.Page.{told};
+ghost use Rattle.yaml_pen.specs.Page.{output_left, told};
 ghost use Rattle.yaml_writer.specs.Unfinished.{IsUnfinished};
-ghost use Rattle.yaml_writer.specs.Writing.{Adds, AddsAll, Finishes, end_event, opening, plain_start as document_begins};
+ghost use Rattle.yaml_writer.specs.Writing.{Adds, AddsAll, Finishes, StandsTaken, end_event, opening, plain_start as document_begins};
 
 use crate::kinds::CollectionKind;
 use std::alloc::Allocator;
@@ -16,7 +15,7 @@ use yaml_base::{
     YAML_SEQUENCE_START_EVENT, YAML_STREAM_END_EVENT, YAML_STREAM_START_EVENT, yaml_error_t,
     yaml_event_t, yaml_mapping_style_t, yaml_scalar_style_t, yaml_sequence_style_t,
 };
-use yaml_emitter::{yaml_emitter_emit, yaml_emitter_t};
+use yaml_emitter::{yaml_emitter_emit, yaml_emitter_t, yaml_emitter_take_output};
 
 /// The start of a document without directives.
 pub(crate) fn plain_start<A: Allocator>(alloc: A) -> yaml_event_t<A>
@@ -29,20 +28,33 @@ pub(crate) fn plain_start<A: Allocator>(alloc: A) -> yaml_event_t<A>
     }
 }
 
+/// Gives an event.
+#[inline(always)]
+fn give<A: Allocator + Copy>(
+    emitter: &mut yaml_emitter_t<A>,
+    event: yaml_event_t<A>,
+) -> Result<(), yaml_error_t>
+    requires output { emitter.old.has_output ≡ true }
+    ensures adds { Adds emitter.old (seen_event event) emitter.new }
+    ensures answered { result ≡ told emitter.new.error }
+    ensures output { emitter.new.has_output ≡ true }
+{
+    yaml_emitter_emit(emitter, event)
+}
+
 /// Gives the starts of the stream and of its first document. An error stays with the emitter.
 pub(crate) fn begin<A: Allocator + Copy>(alloc: A, emitter: &mut yaml_emitter_t<A>)
     requires output { emitter.old.has_output ≡ true }
-    ensures stands { (given : Settings) → StandsAfter given [] emitter.old → StandsAfter given opening emitter.new }
+    ensures stands { (given : Settings) → StandsTaken given [] [] emitter.old → StandsTaken given opening [] emitter.new }
     ensures output { emitter.new.has_output ≡ true }
-    ensures taken { emitter.new.page.taken ≡ emitter.old.page.taken }
 {
-    let _ = yaml_emitter_emit(
+    let _ = give(
         emitter,
         YAML_STREAM_START_EVENT {
             encoding: YAML_ANY_ENCODING,
         },
     );
-    let _ = yaml_emitter_emit(emitter, plain_start(alloc));
+    let _ = give(emitter, plain_start(alloc));
 }
 
 /// Gives a scalar; where it has no tag, none need be written.
@@ -66,10 +78,9 @@ pub(crate) fn give_scalar<A: Allocator + Copy>(
         emitter.new }
     ensures answered { result ≡ told emitter.new.error }
     ensures output { emitter.new.has_output ≡ true }
-    ensures taken { emitter.new.page.taken ≡ emitter.old.page.taken }
 {
     let implicit = tag.is_none();
-    yaml_emitter_emit(
+    give(
         emitter,
         YAML_SCALAR_EVENT {
             anchor,
@@ -95,10 +106,9 @@ pub(crate) fn give_mapping<A: Allocator + Copy>(
         emitter.new }
     ensures answered { result ≡ told emitter.new.error }
     ensures output { emitter.new.has_output ≡ true }
-    ensures taken { emitter.new.page.taken ≡ emitter.old.page.taken }
 {
     let implicit = tag.is_none();
-    yaml_emitter_emit(
+    give(
         emitter,
         YAML_MAPPING_START_EVENT {
             anchor,
@@ -122,10 +132,9 @@ pub(crate) fn give_sequence<A: Allocator + Copy>(
         emitter.new }
     ensures answered { result ≡ told emitter.new.error }
     ensures output { emitter.new.has_output ≡ true }
-    ensures taken { emitter.new.page.taken ≡ emitter.old.page.taken }
 {
     let implicit = tag.is_none();
-    yaml_emitter_emit(
+    give(
         emitter,
         YAML_SEQUENCE_START_EVENT {
             anchor,
@@ -145,13 +154,12 @@ pub(crate) fn give_end<A: Allocator + Copy>(
     ensures adds { Adds emitter.old (end_event kind) emitter.new }
     ensures answered { result ≡ told emitter.new.error }
     ensures output { emitter.new.has_output ≡ true }
-    ensures taken { emitter.new.page.taken ≡ emitter.old.page.taken }
 {
     let event = match kind {
         CollectionKind::Mapping => YAML_MAPPING_END_EVENT,
         CollectionKind::Sequence => YAML_SEQUENCE_END_EVENT,
     };
-    yaml_emitter_emit(emitter, event)
+    give(emitter, event)
 }
 
 /// Gives an alias.
@@ -163,9 +171,8 @@ pub(crate) fn give_alias<A: Allocator + Copy>(
     ensures adds { AddsAll emitter.old (alias (seen_text anchor) ∷ []) emitter.new }
     ensures answered { result ≡ told emitter.new.error }
     ensures output { emitter.new.has_output ≡ true }
-    ensures taken { emitter.new.page.taken ≡ emitter.old.page.taken }
 {
-    yaml_emitter_emit(emitter, YAML_ALIAS_EVENT { anchor })
+    give(emitter, YAML_ALIAS_EVENT { anchor })
 }
 
 /// Gives the end of a document and the start of the next. The error of the first is the second's.
@@ -177,18 +184,15 @@ pub(crate) fn give_next<A: Allocator + Copy>(
     ensures adds { AddsAll emitter.old (document_end true ∷ document_begins ∷ []) emitter.new }
     ensures answered { result ≡ told emitter.new.error }
     ensures output { emitter.new.has_output ≡ true }
-    ensures taken { emitter.new.page.taken ≡ emitter.old.page.taken }
 {
-    let _ = yaml_emitter_emit(emitter, YAML_DOCUMENT_END_EVENT { implicit: true });
-    yaml_emitter_emit(emitter, plain_start(alloc))
+    let _ = give(emitter, YAML_DOCUMENT_END_EVENT { implicit: true });
+    give(emitter, plain_start(alloc))
 }
 
 /// Ends the document and the stream. An error that was there before stays.
 fn end_stream<A: Allocator + Copy>(emitter: &mut yaml_emitter_t<A>) -> Result<(), yaml_error_t>
     requires output { emitter.old.has_output ≡ true }
-    ensures clean { OnOk result (emitter.old.error ≡ None) }
-    ensures finishes { OnOk result (Finishes emitter.old emitter.new.page.output) }
-    ensures taken { emitter.new.page.taken ≡ emitter.old.page.taken }
+    ensures finishes { OnOk result (Finishes emitter.old (output_left emitter.new.page)) }
     ensures unfinished { IfErr result (λ error. IsUnfinished emitter.old error) }
 {
     let _ = yaml_emitter_emit(emitter, YAML_DOCUMENT_END_EVENT { implicit: true });
@@ -201,29 +205,16 @@ fn end_stream<A: Allocator + Copy>(emitter: &mut yaml_emitter_t<A>) -> Result<()
     Ok(())
 }
 
-/// Ends the document and the stream, and hands out the bytes.
+/// Ends the document and the stream, and hands out the bytes that weren't taken before.
 pub(crate) fn finished<A: Allocator + Copy>(
-    alloc: A,
     emitter: &mut yaml_emitter_t<A>,
 ) -> Result<Vec<u8, A>, yaml_error_t>
     requires output { emitter.old.has_output ≡ true }
-    requires untaken { emitter.old.page.taken ≡ 0 }
     ensures finishes { IfOk result (λ bytes. Finishes emitter.old bytes.items) }
     ensures unfinished { IfErr result (λ error. IsUnfinished emitter.old error) }
 {
     if let Err(error) = end_stream(emitter) {
         return Err(error);
     }
-    copied(alloc, emitter.output())
-}
-
-/// Bytes of its own.
-fn copied<A: Allocator>(alloc: A, bytes: &[u8]) -> Result<Vec<u8, A>, yaml_error_t>
-    ensures bytes { IfOk result (λ copy. copy.items ≡ bytes.now) }
-    ensures memory { IfErr result (λ error. error ≡ yaml_error_t.Memory) }
-{
-    let mut copy = Vec::new(alloc);
-    copy.extend_from_slice(bytes)
-        .map_err(|_| yaml_error_t::Memory)?;
-    Ok(copy)
+    Ok(yaml_emitter_take_output(emitter))
 }

@@ -2,10 +2,11 @@
 ghost use Rattle.std.specs.Prelude.{◌≡◌, IfOk, IfErr, OnOk, [], None, Some, Err, true, false, option_map};
 ghost use Rattle.yaml_base.specs.Seen.{seen_scalar_style, seen_text};
 ghost use Rattle.std.specs.Option.{option_or};
-ghost use Rattle.yaml_emitter.specs.StandsAfter.{StandsAfter};
+ghost use Rattle.yaml_emitter.specs.State.{with_all_taken};
+ghost use Rattle.yaml_pen.specs.Page.{output_left};
 ghost use Rattle.yaml_writer.specs.Given.{seen_settings};
 ghost use Rattle.yaml_writer.specs.Unfinished.{IsUnfinished};
-ghost use Rattle.yaml_writer.specs.Writing.{Finishes, Gave, awaits_node, opening, scalar_event};
+ghost use Rattle.yaml_writer.specs.Writing.{Finishes, Gave, StandsTaken, Takes, awaits_node, opening, scalar_event};
 
 use crate::giving::{begin, finished, give_scalar};
 use crate::kinds::CollectionKind;
@@ -13,7 +14,7 @@ use crate::settings::{Settings, emitter_of};
 use std::alloc::Allocator;
 use std::marker::Model;
 use yaml_base::{yaml_error_t, yaml_scalar_style_t};
-use yaml_emitter::yaml_emitter_t;
+use yaml_emitter::{yaml_emitter_t, yaml_emitter_take_output};
 
 /// Writes values, one call each, into a vector of bytes.
 #[derive(Drop)]
@@ -44,7 +45,7 @@ impl<A: Allocator + Copy> Writer<A> {
     /// # Errors
     /// `Memory` where an allocation of the writer fails. An error of its emitter comes with the next call.
     pub fn new(alloc: A, settings: Settings) -> Result<Self, yaml_error_t>
-        ensures stands { IfOk result (λ writer. StandsAfter (seen_settings settings) opening writer.emitter) }
+        ensures stands { IfOk result (λ writer. StandsTaken (seen_settings settings) opening [] writer.emitter) }
         ensures canonical { IfOk result (λ writer. writer.canonical ≡ settings.canonical) }
         ensures levels { IfOk result (λ writer. writer.levels ≡ []) }
         ensures bare { IfOk result (λ writer. (writer.anchor ≡ None) × (writer.tag ≡ None)) }
@@ -86,8 +87,22 @@ impl<A: Allocator + Copy> Writer<A> {
         self.anchor.is_some() || self.tag.is_some()
     }
 
-    /// The bytes of the stream: ends the document and the stream. A stream of more documents than one comes by
-    /// `next_document`.
+    /// The bytes of the stream that were handed out so far and not taken before, so that a stream of any length can be sent
+    /// onwards while it is written: what these calls return, one after another, and then `finish`, is together the stream.
+    /// A document's bytes are handed out at its end at the latest, by `next_document` or `finish`.
+    ///
+    /// It may be called at any time, also after an error, and takes no memory. All else stays: the collections that are open,
+    /// the anchor and the tag of the next node, and the emitter's error. The limit counts what was taken, too.
+    pub fn take_output(&mut self) -> Vec<u8, A>
+        ensures takes { Takes self.old.emitter result.items self.new.emitter }
+        ensures left { result.items ≡ output_left self.old.emitter.page }
+        ensures kept { self.new ≡ record self.old { emitter = with_all_taken self.old.emitter } }
+    {
+        yaml_emitter_take_output(&mut self.emitter)
+    }
+
+    /// The bytes of the stream that weren't taken before: ends the document and the stream. A stream of more documents than
+    /// one comes by `next_document`.
     ///
     /// # Errors
     /// `ExpectedNode` where an anchor or a tag awaits its node. Else the first error of the emitter, as `ExpectedNode` where a
@@ -101,6 +116,6 @@ impl<A: Allocator + Copy> Writer<A> {
         if self.awaits_node() {
             return Err(yaml_error_t::ExpectedNode);
         }
-        finished(self.alloc, &mut self.emitter)
+        finished(&mut self.emitter)
     }
 }

@@ -172,6 +172,57 @@ fn documents_follow_one_another(rt: HostRuntime) -> Result<(), Fail> {
     Ok(())
 }
 
+/// A document of one text, and the start of the next.
+fn give_document(writer: &mut Writer<Global>, item: &str) -> Result<(), yaml_error_t> {
+    give_texts(writer, &[item])?;
+    writer.next_document()
+}
+
+/// The same; the bytes that came are added to these.
+fn take_document(
+    writer: &mut Writer<Global>,
+    item: &str,
+    sent: &mut Vec<u8>,
+) -> Result<(), yaml_error_t> {
+    give_document(writer, item)?;
+    let part = writer.take_output();
+    sent.extend_from_slice(part.as_slice())
+        .map_err(|_| yaml_error_t::Memory)
+}
+
+/// Three documents, whose stream is the text below.
+const THREE: &[u8] = b"---\n- a\n---\n- 'no'\n---\n- c\n";
+
+fn check_three_whole(rt: &impl Abort, mut writer: Writer<Global>) -> Result<(), Fail> {
+    give_document(&mut writer, "a")?;
+    give_document(&mut writer, "no")?;
+    give_texts(&mut writer, &["c"])?;
+    same(rt, writer.finish()?.as_slice(), THREE);
+    Ok(())
+}
+
+fn check_three_in_parts(
+    rt: &impl Abort,
+    alloc: Global,
+    mut writer: Writer<Global>,
+) -> Result<(), Fail> {
+    let mut sent = Vec::new(alloc);
+    take_document(&mut writer, "a", &mut sent)?;
+    same(rt, sent.as_slice(), b"---\n- a\n");
+    take_document(&mut writer, "no", &mut sent)?;
+    same(rt, sent.as_slice(), b"---\n- a\n---\n- 'no'\n");
+    give_texts(&mut writer, &["c"])?;
+    sent.extend_from_slice(writer.finish()?.as_slice())?;
+    same(rt, sent.as_slice(), THREE);
+    Ok(())
+}
+
+#[test]
+fn parts_that_are_taken_make_the_stream(rt: HostRuntime) -> Result<(), Fail> {
+    check_three_whole(&rt, writer(rt.alloc())?)?;
+    check_three_in_parts(&rt, rt.alloc(), writer(rt.alloc())?)
+}
+
 /// Null, and a text that looks like another value.
 fn give_null_and_text(writer: &mut Writer<Global>) -> Result<(), yaml_error_t> {
     writer.begin_sequence(YAML_BLOCK_SEQUENCE_STYLE)?;
@@ -256,6 +307,22 @@ fn the_limit_gives_out_where_the_bytes_pass_it(rt: HostRuntime) -> Result<(), Fa
     same(&rt, enough.finish()?.as_slice(), b"---\n- a\n");
     let mut less = limited(rt.alloc(), 7)?;
     give_letter(&mut less)?;
+    equal(&rt, &less.finish().err(), &Some(yaml_error_t::WriteError));
+    Ok(())
+}
+
+/// One document is taken, and the next is begun whole.
+fn take_and_give(writer: &mut Writer<Global>, sent: &mut Vec<u8>) -> Result<(), yaml_error_t> {
+    take_document(writer, "a", sent)?;
+    give_letter(writer)
+}
+
+#[test]
+fn the_limit_counts_what_was_taken(rt: HostRuntime) -> Result<(), Fail> {
+    let mut sent = Vec::new(rt.alloc());
+    let mut less = limited(rt.alloc(), 15)?;
+    take_and_give(&mut less, &mut sent)?;
+    same(&rt, sent.as_slice(), b"---\n- a\n");
     equal(&rt, &less.finish().err(), &Some(yaml_error_t::WriteError));
     Ok(())
 }

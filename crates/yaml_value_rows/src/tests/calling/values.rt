@@ -22,9 +22,34 @@ fn values(alloc: Global) -> Result<Vec<u8>, yaml_error_t> {
     writer.finish()
 }
 
+/// Ends a document, begins the next, and sends what was handed out since the last call.
+fn send_document(writer: &mut Writer<Global>, sent: &mut Vec<u8>) -> Result<(), yaml_error_t> {
+    writer.next_document()?;
+    let part = writer.take_output();
+    sent.extend_from_slice(part.as_slice())
+        .map_err(|_| yaml_error_t::Memory)
+}
+
 #[test]
 fn values_are_written(rt: HostRuntime) -> Result<(), Fail> {
     let expected = "---\ncountry: 'no'\nvalues: [-5, true, null]\n";
     same(&rt, values(rt.alloc())?.as_slice(), expected.as_bytes());
+    Ok(())
+}
+
+/// A document of one text is sent, and a second begun.
+fn send_text(writer: &mut Writer<Global>, sent: &mut Vec<u8>) -> Result<(), yaml_error_t> {
+    writer.text("a")?;
+    send_document(writer, sent)?;
+    writer.text("b")
+}
+
+#[test]
+fn documents_are_sent_one_by_one(rt: HostRuntime) -> Result<(), Fail> {
+    let mut sent = Vec::new(rt.alloc());
+    let mut writer = Writer::new(rt.alloc(), Settings::default())?;
+    send_text(&mut writer, &mut sent)?;
+    same(&rt, sent.as_slice(), b"--- a\n");
+    same(&rt, writer.finish()?.as_slice(), b"--- b\n");
     Ok(())
 }

@@ -1,8 +1,9 @@
 use Rattle.std.proofs.Common.{[], ◌∷◌, ◌++◌, true}
-use Rattle.yaml_base.specs.Event.{document_end}
+use Rattle.yaml_base.specs.Event.{document_end, stream_end}
 use Rattle.yaml_emitter.proofs.standing.StandingMore.{some_from_told}
 use Rattle.yaml_pen.proofs.Writing.{none_from_told}
-use Rattle.yaml_writer.proofs.Finishing.{closed, closed_stands, error_kept, failed_unfinished, none_before, none_waits, some_waits, stream_finished, waiting_unfinished}
+use Rattle.yaml_writer.proofs.Finishing.{closed, closed_stands, error_kept, failed_unfinished, none_waits, rest_finished, some_waits, waiting_unfinished}
+use Rattle.yaml_writer.proofs.Taken.{still_taken}
 use Rattle.yaml_writer.proofs.giving.end_stream.Goals as goal
 
 pub returns-in-Err-clause-unfinished : goal.returns-in-Err-clause-unfinished
@@ -35,20 +36,18 @@ returns-then-held-gt0-clause-unfinished g c =
     (some_waits c.held.result after.held c.if-held-gt0.true c.held.ensures)
 
 pub returns-clause-finishes : goal.returns-clause-finishes
-returns-clause-finishes g c given all stands =
-    let state = c.yaml_emitter_emit-2.new.emitter in
-    stream_finished given all state
-    (closed given all state
-    (c.yaml_emitter_emit-2.ensures.promised given (all ++ document_end true ∷ []) (c.yaml_emitter_emit.ensures.stands given all stands)))
-    (none_from_told state.error c.in_default.ensures.answered)
-    (none_waits c.held.result state.held c.if-held-gt0.false c.held.ensures)
-
-pub returns-clause-clean : goal.returns-clause-clean
-returns-clause-clean g c =
+returns-clause-finishes g c given all sent stands =
     let before = c.args.emitter.now in
     let between = c.yaml_emitter_emit.new.emitter in
     let after = c.yaml_emitter_emit-2.new.emitter in
-    none_before before.error after.error
-    (λ error is.
-    error_kept between after error c.yaml_emitter_emit-2.ensures.kept (error_kept before between error c.yaml_emitter_emit.ensures.kept is))
+    let with_end = all ++ document_end true ∷ [] in
+    let with_both = with_end ++ stream_end ∷ [] in
+    let ended =
+    still_taken given all with_end sent before between stands c.yaml_emitter_emit.ensures.set c.yaml_emitter_emit.ensures.grows
+    (c.yaml_emitter_emit.ensures.stands given all stands.stands) in
+    let closes =
+    still_taken given with_end with_both sent between after ended c.yaml_emitter_emit-2.ensures.set c.yaml_emitter_emit-2.ensures.grows
+    (c.yaml_emitter_emit-2.ensures.stands given with_end ended.stands) in
+    rest_finished given all with_both sent after closes (closed given all after (c.yaml_emitter_emit-2.ensures.promised given with_end ended.stands))
     (none_from_told after.error c.in_default.ensures.answered)
+    (none_waits c.held.result after.held c.if-held-gt0.false c.held.ensures)

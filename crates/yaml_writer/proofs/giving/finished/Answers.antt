@@ -1,11 +1,6 @@
-use Rattle.std.proofs.Common.{◌≡◌, ◌∙◌, ℕ, List, IfOk, subst}
-use Rattle.yaml_writer.proofs.Finishing.{copy_finishes, memory_unfinished}
+use Rattle.std.proofs.Common.{sym, subst}
+use Rattle.yaml_writer.specs.Writing.{Finishes}
 use Rattle.yaml_writer.proofs.giving.finished.Goals as goal
 
 pub returns-clause-finishes : goal.returns-clause-finishes
-returns-clause-finishes g c =
-    copy_finishes c.copied.result c.args.emitter.now c.end_stream.new.emitter.page.output c.in_default.ensures.finishes
-    (subst (λ (bytes : List ℕ). IfOk c.copied.result (λ copy. copy.items ≡ bytes)) (c.output.ensures.untaken (c.end_stream.ensures.taken ∙ c.requires.untaken)) c.copied.ensures.bytes)
-
-pub returns-clause-unfinished : goal.returns-clause-unfinished
-returns-clause-unfinished g c = memory_unfinished c.copied.result c.args.emitter.now c.in_default.ensures.clean c.copied.ensures.memory
+returns-clause-finishes g c = subst (Finishes c.args.emitter.now) (sym c.yaml_emitter_take_output.ensures.rest) c.in_default.ensures.finishes

@@ -5,6 +5,6 @@ use Rattle.yaml_writer.proofs.Finishing.{next_stands}
 use Rattle.yaml_writer.proofs.giving.give_next.Goals as goal
 
 pub returns-clause-adds : goal.returns-clause-adds
-returns-clause-adds g c given all stands =
-    next_stands given all (seen_event c.plain_start.result) c.yaml_emitter_emit-2.new.emitter c.plain_start.ensures
-    (c.yaml_emitter_emit-2.ensures.stands given (all ++ document_end true ∷ []) (c.yaml_emitter_emit.ensures.stands given all stands))
+returns-clause-adds g c given all sent stands =
+    next_stands given all sent (seen_event c.plain_start.result) c.give-2.new.emitter c.plain_start.ensures
+    (c.give-2.ensures.adds given (all ++ document_end true ∷ []) sent (c.give.ensures.adds given all sent stands))

@@ -1,0 +1,95 @@
+-- What the calls of a writer come to for what its caller has taken, and what is left.
+use Rattle.std.proofs.Common.{◌≡◌, refl, sym, ap, ◌∙◌, subst}
+use Rattle.std.specs.Prelude.{ℕ, true, Option, None, Some, List, [], ◌∷◌, ◌++◌, Result, Ok, Err, OnOk, IfErr, drop, length}
+use Rattle.yaml_base.proofs.Prefixes.{prefix_same, prefix_then}
+use Rattle.yaml_base.specs.Characters.{Text}
+use Rattle.yaml_base.specs.Event.{Event}
+use Rattle.yaml_base.specs.Settings.{Settings}
+use Rattle.yaml_base.specs.declared.errors.yaml_error_t.{yaml_error_t}
+use Rattle.yaml_pen.proofs.Writing.{none_from_told}
+use Rattle.yaml_pen.specs.Page.{output_left, told}
+use Rattle.yaml_pen.specs.Wrote.{Grows}
+use Rattle.yaml_emitter.proofs.standing.StandingMore.{some_from_told}
+use Rattle.yaml_emitter.specs.State.{KeepsSet, State, with_all_taken}
+use Rattle.yaml_emitter.specs.StandsAfter.{StandsAfter}
+use Rattle.yaml_writer.specs.Writing.{Adds, AddsAll, Gave, Passed, StandsTaken, WriterState}
+
+-- at first nothing is taken
+pub none_taken : (given : Settings) (all : List Event) (state : State) → StandsAfter given all state → state.page.taken ≡ 0 → StandsTaken given all [] state
+none_taken given all state stands none = record { stands = stands; taken = none; begins = record { rest = state.page.output; parts = refl } }
+
+-- a call of the emitter keeps what was taken
+pub still_taken : (given : Settings) (all more : List Event) (sent : List ℕ) (before after : State) → StandsTaken given all sent before
+    → KeepsSet (record before { started = true }) after → Grows before.page after.page → StandsAfter given more after
+    → StandsTaken given more sent after
+still_taken given all more sent before after was set grows stands =
+    record { stands = stands; taken = set.taken ∙ was.taken; begins = prefix_then was.begins grows.output }
+
+-- past a list's own elements stands what follows it
+drop_past : {A : Type 0} (first rest : List A) → drop (length first) (first ++ rest) ≡ rest
+drop_past [] rest = refl
+drop_past (x ∷ first) rest = drop_past first rest
+
+-- what was taken and what is left are the output
+pub taken_and_left : (given : Settings) (all : List Event) (sent : List ℕ) (state : State) → StandsTaken given all sent state
+    → sent ++ output_left state.page ≡ state.page.output
+taken_and_left given all sent state was =
+    ap (λ (left : List ℕ). sent ++ left)
+    (ap (λ count. drop count state.page.output) was.taken ∙ ap (λ (output : List ℕ). drop (length sent) output) (sym was.begins.parts)
+    ∙ drop_past sent was.begins.rest)
+    ∙ was.begins.parts
+
+-- and then all is taken
+pub left_taken : (given : Settings) (all : List Event) (sent bytes : List ℕ) (before after : State) → StandsTaken given all sent before
+    → bytes ≡ output_left before.page → after ≡ with_all_taken before → StandsAfter given all after
+    → StandsTaken given all (sent ++ bytes) after
+left_taken given all sent bytes before after was left now stands =
+    let whole : sent ++ bytes ≡ before.page.output =
+    ap (λ (rest : List ℕ). sent ++ rest) left ∙ taken_and_left given all sent before was in
+    record {
+      stands = stands;
+      taken = ap (λ (s : State). s.page.taken) now ∙ ap length (sym whole);
+      begins = prefix_same (sent ++ bytes) after.page.output (whole ∙ sym (ap (λ (s : State). s.page.output) now));
+    }
+
+-- Calls that pass events on
+
+pub passed : (inside before : WriterState) (events : List Event) (answer : Result (Unit {0}) yaml_error_t) (emitter : State) → inside ≡ before
+    → AddsAll inside.emitter events emitter → answer ≡ told emitter.error
+    → Passed before events answer (record inside { emitter = emitter })
+passed inside before events answer emitter is adds answered =
+    subst (λ (writer : WriterState). Passed writer events answer (record inside { emitter = emitter })) is
+    (record { adds = adds; answered = answered; rest = refl })
+
+-- Calls that give an event with the properties of the next node
+
+module _ (inside before : WriterState) (emitter : State) (anchor tag : Option Text) (given event : Event) (answer : Result (Unit {0}) yaml_error_t)
+    (view : inside ≡ before) (is : given ≡ event) (adds : Adds inside.emitter given emitter) (answered : answer ≡ told emitter.error)
+    (no_anchor : anchor ≡ None) (no_tag : tag ≡ None) where
+  abbrev after : WriterState
+  after = record inside { emitter = emitter; anchor = anchor; tag = tag }
+
+  gave : (error : Option yaml_error_t) → emitter.error ≡ error → Gave before event error after
+  gave error error_is =
+      record {
+        adds = subst (λ (w : WriterState). Adds w.emitter event emitter) view (subst (λ (e : Event). Adds inside.emitter e emitter) is adds);
+        error_is = error_is;
+        canonical = ap (λ (w : WriterState). w.canonical) view;
+        levels = ap (λ (w : WriterState). w.levels) view;
+        no_anchor = no_anchor;
+        no_tag = no_tag;
+      }
+
+  by_ok : (told_so : Result (Unit {0}) yaml_error_t) → told_so ≡ told emitter.error → OnOk told_so (Gave before event None after)
+  by_ok (Ok done) so = gave None (none_from_told emitter.error so)
+  by_ok (Err error) so = tt
+
+  by_failed : (told_so : Result (Unit {0}) yaml_error_t) → told_so ≡ told emitter.error → IfErr told_so (λ error. Gave before event (Some error) after)
+  by_failed (Ok done) so = tt
+  by_failed (Err error) so = gave (Some error) (some_from_told emitter.error error so)
+
+  pub gave_ok : OnOk answer (Gave before event None after)
+  gave_ok = by_ok answer answered
+
+  pub gave_failed : IfErr answer (λ error. Gave before event (Some error) after)
+  gave_failed = by_failed answer answered

@@ -1,0 +1,9 @@
+use Rattle.std.proofs.Common.{[], ◌∷◌, ◌++◌}
+use Rattle.yaml_base.specs.Seen.{seen_event}
+use Rattle.yaml_writer.proofs.Taken.{still_taken}
+use Rattle.yaml_writer.proofs.giving.give.Goals as goal
+
+pub returns-clause-adds : goal.returns-clause-adds
+returns-clause-adds g c given all sent stands =
+    still_taken given all (all ++ seen_event c.args.event ∷ []) sent c.args.emitter.now c.yaml_emitter_emit.new.emitter stands
+    c.yaml_emitter_emit.ensures.set c.yaml_emitter_emit.ensures.grows (c.yaml_emitter_emit.ensures.stands given all stands.stands)

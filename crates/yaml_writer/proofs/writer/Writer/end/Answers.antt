@@ -1,0 +1,15 @@
+use Rattle.std.proofs.Common.{inr, rules, subst}
+use Rattle.yaml_writer.specs.Writing.{Adds, WriterState, end_event}
+use Rattle.yaml_writer.proofs.writer.Writer.end.Goals as goal
+
+pub returns-in-Some-clause-ended : goal.returns-in-Some-clause-ended
+returns-in-Some-clause-ended g c none =
+    inr
+    (record {
+      outer = c.pop.new.self.items;
+      kind = c.in-Some.kind;
+      levels = search rules;
+      adds = subst (λ (writer : WriterState). Adds writer.emitter (end_event c.in-Some.kind) c.give_end.new.emitter) c.self.view_is c.give_end.ensures.adds;
+      answered = c.give_end.ensures.answered;
+      rest = search rules;
+    })

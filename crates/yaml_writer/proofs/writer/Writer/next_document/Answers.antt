@@ -1,0 +1,11 @@
+use Rattle.std.proofs.Common.{[], ◌∷◌, true}
+use Rattle.yaml_base.specs.Event.{document_end}
+use Rattle.yaml_writer.specs.Inside.{state_of}
+use Rattle.yaml_writer.specs.Writing.{plain_start}
+use Rattle.yaml_writer.proofs.Taken.{passed}
+use Rattle.yaml_writer.proofs.writer.Writer.next_document.Goals as goal
+
+pub returns-else-awaits_node-clause-passed : goal.returns-else-awaits_node-clause-passed
+returns-else-awaits_node-clause-passed g c none =
+    passed (state_of c.self.inside) c.args.self.now (document_end true ∷ plain_start ∷ []) c.give_next.result c.give_next.new.emitter c.self.view_is
+    c.give_next.ensures.adds c.give_next.ensures.answered
