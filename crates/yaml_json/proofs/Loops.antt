@@ -9,7 +9,7 @@ use Rattle.yaml_base.specs.Event.{CollectionStyle, Event, scalar, sequence_start
 use Rattle.yaml_writer.specs.Writing.{WriterState, Gave, entered, mapping_event, sequence_event}
 use Rattle.yaml_writer.specs.declared.kinds.CollectionKind.TheVariants.{Mapping, Sequence}
 use Rattle.yaml_json.specs.JsonEvents.{collection_in, items_events, json_events, members_events, style_of, text_content}
-use Rattle.yaml_json.specs.Wrote.{Ends, IsBare, Wrote, WroteItems, WroteMember, WroteMembers, WroteValue}
+use Rattle.yaml_json.specs.Wrote.{Ends, IsBare, Wrote, WroteEvent, WroteItems, WroteMember, WroteMembers, WroteValue}
 use Rattle.yaml_json.proofs.WroteLemmas.{mapping_is, sequence_is, wrote_collection, wrote_nothing, wrote_same, wrote_then}
 
 -- a parse that is passed on is the same parse
@@ -88,6 +88,18 @@ items_refused depth in_flow start was ahead now so_far unclosed none =
     so_far.read ∙ ap (parse_map so_far.with_rest) (items_fail (value depth) so_far.most ahead unclosed none)
 
 -- Members
+
+-- a key, and then its value
+pub wrote_member : (depth : ℕ) (in_flow : Bool) (key : List ℕ) (start rest : List Token) (before named after : WriterState)
+    → WroteEvent before (scalar (text_content (chars key))) named → WroteValue depth in_flow start named rest after
+    → WroteMember depth in_flow key start before rest after
+wrote_member depth in_flow key start rest before named after one written =
+    let events = subst (λ (canonical : Bool). Wrote named (json_events canonical in_flow written.json) after) one.canonical written.wrote in
+    record {
+      json = written.json;
+      read = written.read;
+      wrote = wrote_then before named after (scalar (text_content (chars key)) ∷ []) (json_events before.canonical in_flow written.json) one events;
+    }
 
 -- some members were read and written, at most so many are to come
 pub record MembersSoFar (depth : ℕ) (in_flow : Bool) (start : List Token) (was : WriterState) (ahead : List Token) (now : WriterState) : Type 0 where

@@ -10,7 +10,7 @@ use Rattle.json.proofs.Grammar.{read_key-shorter, value_is}
 use Rattle.yaml_base.specs.Seen.{seen_mapping_style, seen_sequence_style}
 use Rattle.yaml_writer.specs.NumberParts.{number_in}
 use Rattle.yaml_json.proofs.ByToken.{no_token, wrote_boolean, wrote_null, wrote_number, wrote_string}
-use Rattle.yaml_json.proofs.Loops.{array_refused, array_too_deep, items_begin, items_done, items_go_on, items_refused, members_begin, members_done, members_go_on, members_refused, members_unnamed, object_refused, object_too_deep, value_takes, wrote_array, wrote_object}
+use Rattle.yaml_json.proofs.Loops.{array_refused, array_too_deep, items_begin, items_done, items_go_on, items_refused, members_begin, members_done, members_go_on, members_refused, members_unnamed, object_refused, object_too_deep, value_takes, wrote_array, wrote_member, wrote_object}
 use Rattle.yaml_json.proofs.NumberBridge.{number_is}
 use Rattle.yaml_json.proofs.WroteLemmas.{on_ok}
 use Rattle.yaml_json.specs.Wrote.{WroteValue}
@@ -129,6 +129,13 @@ write_object-returns-clause-written g t c =
     c.end.ensures.ended
 
 -- Members
+
+pub write_member-returns-clause-written : goal.write_member-returns-clause-written
+write_member-returns-clause-written g t c =
+    on_ok c.write_value.result
+    (wrote_member c.args.depth c.args.in_flow c.args.key.now c.args.reader.now c.write_value.new.reader c.args.writer.now c.write_text.new.writer
+    c.write_value.new.writer c.in_default.ensures.written)
+    c.write_value.ensures.written
 
 pub write_members-each_member-init : goal.write_members-each_member-init
 write_members-each_member-init g t c = members_begin c.args.depth c.args.in_flow c.args.reader.now c.args.writer.now c.requires
