@@ -1,16 +1,15 @@
 -- What the promises of a writer come to for a list of a word and of nothing.
 use Rattle.std.proofs.Common.{◌≡◌, inl, inr, refl, sym, ap, ap₂, ◌∙◌, subst}
 use Rattle.std.specs.Char.{encode_utf8}
-use Rattle.std.specs.Prelude.{ℕ, Bool, true, false, Option, None, Some, List, [], ◌∷◌, ◌++◌, codes, Result, Ok, Err, is_none, IfOk, Vec}
+use Rattle.std.specs.Prelude.{ℕ, Bool, true, false, Option, None, List, [], ◌∷◌, ◌++◌, codes, Result, Ok, Err, is_none, IfOk, Vec}
 use Rattle.yaml_base.specs.Characters.{Text}
 use Rattle.yaml_base.specs.Event.{Event, ScalarStyle, block, plain, single_quoted, scalar, sequence_start, sequence_end}
 use Rattle.yaml_base.specs.Output.{output_of}
 use Rattle.yaml_base.specs.Settings.{Settings}
 use Rattle.yaml_base.specs.TypedValues.{null_tag}
-use Rattle.yaml_base.specs.declared.errors.yaml_error_t.{yaml_error_t}
 use Rattle.yaml_emitter.specs.State.{State}
 use Rattle.yaml_writer.specs.Given.{default_settings}
-use Rattle.yaml_writer.specs.Writing.{WriterState, AddsAll, Gave, Ended, EndsInnermost, Finishes, StandsTaken, closing, end_event, entered, null_event, opening, sequence_event, tag_or, text_event, text_style}
+use Rattle.yaml_writer.specs.Writing.{WriterState, AddsAll, Gave, EndsInnermost, Finishes, StandsTaken, closing, end_event, entered, null_event, opening, sequence_event, tag_or, text_event, text_style}
 use Rattle.yaml_writer.specs.declared.kinds.CollectionKind.{CollectionKind}
 use Rattle.yaml_writer.specs.declared.kinds.CollectionKind.TheVariants.{Mapping, Sequence}
 
