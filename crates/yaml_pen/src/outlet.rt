@@ -4,19 +4,16 @@ ghost use Rattle.yaml_base.specs.Prefix.{IsPrefix};
 ghost use Rattle.yaml_pen.specs.Page.{buffer_size};
 ghost use Rattle.yaml_pen.specs.Outlet.{Appended, Emptied, HandsOut, IsSound, whole_output};
 
+use crate::buffer::Buffer;
 use crate::taken::TakenBytes;
-use arrayvec::ArrayVec;
 use std::alloc::{AllocError, Allocator};
 use std::marker::Model;
 use std::mem;
 use yaml_base::yaml_error_t;
 
-/// The bytes that the buffer holds.
-pub(crate) const BUFFER_SIZE: usize = 16_384;
-
 #[derive(Drop)]
 pub(crate) struct Outlet<A: Allocator> {
-    buffer: Box<ArrayVec<u8, BUFFER_SIZE>, A>,
+    buffer: Box<Buffer, A>,
     // What the caller hasn't taken.
     output: Vec<u8, A>,
     taken: TakenBytes,
@@ -32,9 +29,9 @@ impl<A: Allocator> Model for Outlet<A> {
 
     ghost Value = { Bytes };
 
-    ghost view = { λ o. bytes_of o.kept o.buffer.value.items o.taken.bytes o.output.items o.limit o.error };
+    ghost view = { λ o. bytes_of o.kept o.buffer.value o.taken.bytes o.output.items o.limit o.error };
 
-    ghost invariant = { λ o. IsOutlet o.kept o.taken_count o.buffer.value.items o.taken.bytes o.output.items o.limit o.error };
+    ghost invariant = { λ o. IsOutlet o.kept o.taken_count o.buffer.value o.taken.bytes o.output.items o.limit o.error };
 }
 
 impl<A: Allocator> Outlet<A> {
@@ -44,7 +41,7 @@ impl<A: Allocator> Outlet<A> {
         A: Copy,
         ensures { IfOk result (λ o. o ≡ record { all = []; output = []; taken = 0; limit = usize.MAX; error = None }) }
     {
-        let buffer = Box::new(alloc, ArrayVec::new()).map_err(|_| AllocError)?;
+        let buffer = Box::new(alloc, Buffer::new()).map_err(|_| AllocError)?;
         Ok(Outlet {
             buffer,
             output: Vec::new(alloc),
@@ -73,7 +70,7 @@ impl<A: Allocator> Outlet<A> {
         ensures bytes { self.new ≡ record self.old { all = bytes.now } }
         ensures sound { IsSound self.new }
     {
-        let _ = self.buffer.try_extend_from_slice(bytes);
+        self.buffer.append(bytes);
     }
 
     /// Empties the buffer into the output.
@@ -161,10 +158,10 @@ impl<A: Allocator> Outlet<A> {
             Some(error) => return Err(error),
             None => {}
         }
-        if self.buffer.remaining_capacity() < bytes.len() {
+        if self.buffer.room() < bytes.len() {
             self.flush()?;
         }
-        let _ = self.buffer.try_extend_from_slice(bytes);
+        self.buffer.append(bytes);
         Ok(())
     }
 
@@ -177,10 +174,10 @@ impl<A: Allocator> Outlet<A> {
             Some(error) => return Err(error),
             None => {}
         }
-        if self.buffer.is_full() {
+        if self.buffer.room() == 0 {
             self.flush()?;
         }
-        let _ = self.buffer.try_push(byte);
+        self.buffer.push(byte);
         Ok(())
     }
 }

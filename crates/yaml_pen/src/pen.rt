@@ -11,9 +11,10 @@ ghost use Rattle.yaml_pen.specs.Page.{buffer_size, Page, IsUntouched, IsReady, I
 ghost use Rattle.yaml_pen.specs.Wrote.{Wrote, Flushed};
 ghost use Rattle.yaml_pen.specs.Lines.{line_begun, line_break_laid, spaces_to};
 
+use crate::buffer::BUFFER_SIZE;
 use crate::counting::{character_count, next_column};
 use crate::encoded::{encoded_break, encoded_character};
-use crate::outlet::{BUFFER_SIZE, Outlet};
+use crate::outlet::Outlet;
 use std::alloc::Allocator;
 use std::marker::Model;
 use yaml_base::{yaml_break_t, yaml_encoding_t, yaml_error_t};

@@ -1,0 +1,83 @@
+//! A buffer of bytes, emptied by forgetting its length.
+ghost use Rattle.std.specs.Prelude.{◌≡◌, List, ℕ, ◌==◌, ◌+◌, ◌<◌, ◌≤◌, ◌++◌, [], ◌∷◌, length, take};
+
+use std::marker::Model;
+
+/// The bytes that the buffer holds.
+pub(crate) const BUFFER_SIZE: usize = 16_384;
+
+#[derive(Drop)]
+pub(crate) struct Buffer {
+    // Those from the length on were flushed, or never written.
+    bytes: [u8; BUFFER_SIZE],
+    len: usize,
+}
+
+impl Model for Buffer {
+    ghost Value = { List ℕ };
+
+    ghost view = { λ b. take b.len b.bytes };
+
+    ghost invariant = { λ b. b.len ≤ 16384 };
+}
+
+impl Buffer {
+    pub(crate) fn new() -> Buffer
+        ensures { result ≡ [] }
+    {
+        Buffer {
+            bytes: [0; BUFFER_SIZE],
+            len: 0,
+        }
+    }
+
+    #[inline]
+    pub(crate) fn is_empty(&self) -> bool
+        ensures { result ≡ (length self.now == 0) }
+    {
+        self.len == 0
+    }
+
+    /// How many bytes more it has room for.
+    #[inline]
+    pub(crate) fn room(&self) -> usize
+        ensures { result + length self.now ≡ 16384 }
+    {
+        BUFFER_SIZE - self.len
+    }
+
+    #[inline]
+    pub(crate) fn as_slice(&self) -> &[u8]
+        ensures { result.now ≡ self.now }
+    {
+        &self.bytes[..self.len]
+    }
+
+    #[inline]
+    pub(crate) fn clear(&mut self)
+        ensures { self.new ≡ [] }
+    {
+        self.len = 0;
+    }
+
+    /// Appends a byte.
+    #[inline]
+    pub(crate) fn push(&mut self, byte: u8)
+        requires { length self.old < 16384 }
+        ensures { self.new ≡ self.old ++ byte ∷ [] }
+    {
+        self.bytes[self.len] = byte;
+        self.len += 1;
+    }
+
+    /// Appends bytes.
+    #[inline]
+    pub(crate) fn append(&mut self, more: &[u8])
+        requires { length self.old + length more.now ≤ 16384 }
+        ensures { self.new ≡ self.old ++ more.now }
+    {
+        let end = self.len + more.len();
+        self.bytes[self.len..end].copy_from_slice(more);
+        self.len = end;
+    }
+}
