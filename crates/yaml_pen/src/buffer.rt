@@ -1,5 +1,6 @@
 //! A buffer of bytes, emptied by forgetting its length.
 ghost use Rattle.std.specs.Prelude.{◌≡◌, List, ℕ, ◌==◌, ◌+◌, ◌<◌, ◌≤◌, ◌++◌, [], ◌∷◌, length, take};
+ghost use Rattle.yaml_pen.specs.Page.{buffer_size};
 
 use std::marker::Model;
 
@@ -18,7 +19,7 @@ impl Model for Buffer {
 
     ghost view = { λ b. take b.len b.bytes };
 
-    ghost invariant = { λ b. b.len ≤ 16384 };
+    ghost invariant = { λ b. b.len ≤ buffer_size };
 }
 
 impl Buffer {
@@ -41,7 +42,7 @@ impl Buffer {
     /// How many bytes more it has room for.
     #[inline]
     pub(crate) fn room(&self) -> usize
-        ensures { result + length self.now ≡ 16384 }
+        ensures { result + length self.now ≡ buffer_size }
     {
         BUFFER_SIZE - self.len
     }
@@ -63,7 +64,7 @@ impl Buffer {
     /// Appends a byte.
     #[inline]
     pub(crate) fn push(&mut self, byte: u8)
-        requires { length self.old < 16384 }
+        requires { length self.old < buffer_size }
         ensures { self.new ≡ self.old ++ byte ∷ [] }
     {
         self.bytes[self.len] = byte;
@@ -73,7 +74,7 @@ impl Buffer {
     /// Appends bytes.
     #[inline]
     pub(crate) fn append(&mut self, more: &[u8])
-        requires { length self.old + length more.now ≤ 16384 }
+        requires { length self.old + length more.now ≤ buffer_size }
         ensures { self.new ≡ self.old ++ more.now }
     {
         let end = self.len + more.len();

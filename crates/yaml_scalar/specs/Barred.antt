@@ -3,7 +3,7 @@ use Rattle.std.specs.Prelude.{ℕ, Bool, true, false, ◌==◌, ◌||◌, ◌&&�
 use Rattle.std.specs.List.{list_any}
 use Rattle.yaml_base.specs.Analysis.{Allowances, Charset, bars_block, bars_plain, bars_single_quoted, begins_unlike_plain, is_empty, is_special, somewhere}
 use Rattle.yaml_base.specs.Characters.{Text, is_among, is_between, is_break, is_space, space, tab}
-use Rattle.yaml_scalar.specs.declared.analysis.barred_t.{barred_t}
+use Rattle.yaml_scalar.specs.declared.analysis.BarredStyles.{BarredStyles}
 
 -- whether there is a break, and a character that no text of a kind holds
 pub record Barred : Type 0 where
@@ -14,7 +14,7 @@ pub record Barred : Type 0 where
   pub block : Bool
 
 -- what a loop has found
-abbrev pub seen_barred : barred_t → Barred
+abbrev pub seen_barred : BarredStyles → Barred
 seen_barred found =
     record {
       multiline = found.multiline;

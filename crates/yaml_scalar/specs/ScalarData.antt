@@ -6,7 +6,7 @@ use Rattle.yaml_base.specs.Seen.{seen_scalar_style}
 use Rattle.yaml_base.specs.Style.{Choice, chosen}
 use Rattle.yaml_base.specs.declared.styles.yaml_scalar_style_t.{yaml_scalar_style_t}
 use Rattle.yaml_scalar.specs.declared.analysis.scalar_data_t.{scalar_data_t}
-use Rattle.yaml_scalar.specs.declared.analysis.charset_t.{charset_t}
+use Rattle.yaml_scalar.specs.declared.analysis.CharacterSet.{CharacterSet}
 
 -- the styles that an analysis allows
 abbrev pub seen_data : scalar_data_t → Allowances
@@ -20,7 +20,7 @@ seen_data given =
     }
 
 -- what may stand as itself
-abbrev pub seen_charset : charset_t → Charset
+abbrev pub seen_charset : CharacterSet → Charset
 seen_charset given = record { unicode = given.unicode; breaks12 = given.breaks12 }
 
 -- a style and whether the bare tag is written

@@ -28,14 +28,14 @@ pub struct scalar_data_t {
 
 /// What may stand as itself.
 #[derive(Clone, Copy)]
-struct charset_t {
+struct CharacterSet {
     unicode: bool,
     breaks12: bool,
 }
 
 /// Whether some character that was read is a break, or one that no text of a kind holds.
 #[derive(Clone, Copy)]
-struct barred_t {
+struct BarredStyles {
     multiline: bool,
     flow_plain: bool,
     block_plain: bool,
@@ -43,7 +43,7 @@ struct barred_t {
     block: bool,
 }
 
-const NOTHING_BARRED: barred_t = barred_t {
+const NOTHING_BARRED: BarredStyles = BarredStyles {
     multiline: false,
     flow_plain: false,
     block_plain: false,
@@ -56,7 +56,7 @@ const NOTHING_BARRED: barred_t = barred_t {
 pub fn analyze_scalar(value: &str, unicode: bool, breaks12: bool) -> scalar_data_t
     ensures { seen_data result ≡ spec.allowances (record { unicode = unicode; breaks12 = breaks12 }) (chars value.now) }
 {
-    let (barred, rest) = barred_before(value, charset_t { unicode, breaks12 });
+    let (barred, rest) = barred_before(value, CharacterSet { unicode, breaks12 });
     data_of(value, with_break(barred, rest))
 }
 
@@ -65,12 +65,12 @@ pub fn analyze_scalar(value: &str, unicode: bool, breaks12: bool) -> scalar_data
 pub fn analyze_for_style(value: &str, unicode: bool, breaks12: bool) -> scalar_data_t
     ensures { ChooseAlike (seen_data result) (spec.allowances (record { unicode = unicode; breaks12 = breaks12 }) (chars value.now)) }
 {
-    let (barred, _) = barred_before(value, charset_t { unicode, breaks12 });
+    let (barred, _) = barred_before(value, CharacterSet { unicode, breaks12 });
     data_of(value, barred)
 }
 
 /// What a value allows, by what its characters bar.
-fn data_of(value: &str, barred: barred_t) -> scalar_data_t
+fn data_of(value: &str, barred: BarredStyles) -> scalar_data_t
     ensures { seen_data result ≡ allowed_by (seen_barred barred) (chars value.now) }
 {
     let is_empty = is_at_end(value);
@@ -112,7 +112,7 @@ fn begins_with_break(rest: &str) -> bool
 }
 
 /// Cannot stand as itself: only double quotes can write it.
-fn is_special(c: char, charset: charset_t) -> bool
+fn is_special(c: char, charset: CharacterSet) -> bool
     ensures { result ≡ spec.is_special (seen_charset charset) c }
 {
     !is_printable(c)
@@ -227,7 +227,7 @@ pub(crate) fn begins_with_space(rest: &str) -> bool
 }
 
 /// A character that no plain text holds, seen with what follows it.
-fn bars_plain(c: char, rest: &str, charset: charset_t, flow: bool) -> bool
+fn bars_plain(c: char, rest: &str, charset: CharacterSet, flow: bool) -> bool
     ensures { result ≡ spec.bars_plain (seen_charset charset) flow c (chars rest.now) }
 {
     is_special(c, charset)
@@ -245,14 +245,14 @@ fn is_trailing_space(c: char, rest: &str) -> bool
 }
 
 /// A character that no single-quoted text holds, seen with what follows it.
-fn bars_single_quoted(c: char, rest: &str, charset: charset_t) -> bool
+fn bars_single_quoted(c: char, rest: &str, charset: CharacterSet) -> bool
     ensures { result ≡ spec.bars_single_quoted (seen_charset charset) c (chars rest.now) }
 {
     is_special(c, charset) || is_trailing_space(c, rest) || (is_break(c) && begins_with_space(rest))
 }
 
 /// A character that no block text holds, seen with what follows it.
-fn bars_block(c: char, rest: &str, charset: charset_t) -> bool
+fn bars_block(c: char, rest: &str, charset: CharacterSet) -> bool
     ensures { result ≡ spec.bars_block (seen_charset charset) c (chars rest.now) }
 {
     is_special(c, charset) || is_trailing_space(c, rest) || (is_space(c) && is_at_end(rest))
@@ -267,13 +267,13 @@ fn is_ordinary(c: char) -> bool
 
 /// What was read, and the next character, seen with what follows it.
 #[inline(always)]
-fn with_next(barred: barred_t, c: char, rest: &str, charset: charset_t) -> barred_t
+fn with_next(barred: BarredStyles, c: char, rest: &str, charset: CharacterSet) -> BarredStyles
     ensures { seen_barred result ≡ either (seen_barred barred) (barred_by (seen_charset charset) c (chars rest.now)) }
 {
     if is_ordinary(c) {
         return barred;
     }
-    barred_t {
+    BarredStyles {
         multiline: barred.multiline || is_break(c),
         flow_plain: barred.flow_plain || bars_plain(c, rest, charset, true),
         block_plain: barred.block_plain || bars_plain(c, rest, charset, false),
@@ -283,7 +283,7 @@ fn with_next(barred: barred_t, c: char, rest: &str, charset: charset_t) -> barre
 }
 
 /// The classes of bytes at which a value is looked at closely.
-fn loud_classes(charset: charset_t) -> u8
+fn loud_classes(charset: CharacterSet) -> u8
     ensures { Tells result (is_quiet (seen_charset charset)) }
 {
     if charset.unicode {
@@ -295,7 +295,7 @@ fn loud_classes(charset: charset_t) -> u8
 
 /// What was read, and a space, if this is one, before the rest.
 #[inline(always)]
-fn with_space(barred: barred_t, last: char, rest: &str, charset: charset_t) -> barred_t
+fn with_space(barred: BarredStyles, last: char, rest: &str, charset: CharacterSet) -> BarredStyles
     ensures { seen_barred result ≡ either (seen_barred barred) (barred_by_space (seen_charset charset) last (chars rest.now)) }
 {
     if is_space(last) {
@@ -308,7 +308,7 @@ fn with_space(barred: barred_t, last: char, rest: &str, charset: charset_t) -> b
 /// What was read, and the next characters that bar nothing, unless the last of them is a space; and what
 /// follows them.
 #[inline(always)]
-fn past_quiet(barred: barred_t, text: &str, charset: charset_t) -> (barred_t, &str)
+fn past_quiet(barred: BarredStyles, text: &str, charset: CharacterSet) -> (BarredStyles, &str)
     ensures same { either (seen_barred barred) (barred_in (seen_charset charset) (chars text.now))
         ≡ either (seen_barred result.0) (barred_in (seen_charset charset) (chars result.1.now)) }
     ensures is_text { IsUtf8 result.1.now }
@@ -322,7 +322,7 @@ fn past_quiet(barred: barred_t, text: &str, charset: charset_t) -> (barred_t, &s
 }
 
 /// Only double quotes can write what was read.
-fn bars_all(barred: barred_t) -> bool
+fn bars_all(barred: BarredStyles) -> bool
     ensures { result ≡ all_styles (seen_barred barred) }
 {
     barred.flow_plain && barred.block_plain && barred.single_quoted && barred.block
@@ -352,10 +352,10 @@ pub fn holds_break(text: &str) -> bool
 }
 
 /// What was read, which bars all, and whether a break follows.
-fn with_break(barred: barred_t, rest: &str) -> barred_t
+fn with_break(barred: BarredStyles, rest: &str) -> BarredStyles
     ensures { seen_barred result ≡ record (seen_barred barred) { multiline = barred.multiline || list_any class.is_break (chars rest.now) } }
 {
-    barred_t {
+    BarredStyles {
         multiline: barred.multiline || holds_break(rest),
         ..barred
     }
@@ -363,7 +363,7 @@ fn with_break(barred: barred_t, rest: &str) -> barred_t
 
 /// What the characters of a value bar, as far as it was read, and the rest: none unless all is barred.
 #[inline(always)]
-fn barred_before(value: &str, charset: charset_t) -> (barred_t, &str)
+fn barred_before(value: &str, charset: CharacterSet) -> (BarredStyles, &str)
     ensures same { record (seen_barred result.0) { multiline = result.0.multiline || list_any class.is_break (chars result.1.now) }
         ≡ barred_in (seen_charset charset) (chars value.now) }
     ensures rest { all_styles (seen_barred result.0) ≡ false → chars result.1.now ≡ [] }

@@ -8,7 +8,6 @@ ghost use Rattle.yaml_pen.specs.Wrote.{Wrote};
 ghost use Rattle.yaml_scalar.specs.BlockCode.{seen_ending, without_mark};
 ghost use Rattle.yaml_scalar.specs.BlockSteps as step;
 
-use crate::steps::go_on;
 use std::alloc::Allocator;
 use yaml_base::{is_break, is_space, yaml_error_t};
 use yaml_pen::Pen;
@@ -109,7 +108,7 @@ fn write_indentation_hint<A: Allocator>(
     if begins_blank(value) {
         write_hint(pen, b'0' + best_indent as u8)
     } else {
-        go_on(pen)
+        pen.write_nothing()
     }
 }
 
@@ -119,7 +118,7 @@ fn write_ending_hint<A: Allocator>(pen: &mut Pen<A>, ending: Ending) -> Result<(
 {
     match ending {
         Ending::WithoutBreak => write_hint(pen, b'-'),
-        Ending::OneBreak => go_on(pen),
+        Ending::OneBreak => pen.write_nothing(),
         Ending::MoreBreaks => write_hint(pen, b'+'),
     }
 }

@@ -15,7 +15,7 @@ ghost use Rattle.yaml_scalar.specs.Width.{limit_of};
 
 use crate::analysis::begins_with_space;
 use crate::runs::{Run, RunEnds, line_run_after};
-use crate::steps::{go_on, has_limit};
+use crate::steps::has_limit;
 use crate::width::is_past_width;
 use std::alloc::Allocator;
 use yaml_base::{is_break, is_space, yaml_error_t};
@@ -53,7 +53,7 @@ pub(crate) fn write_lines<A: Allocator>(
         pen.write_run(front)?;
         characters = after.chars();
     }
-    go_on(pen)
+    pen.write_nothing()
 }
 
 fn write_step<A: Allocator>(

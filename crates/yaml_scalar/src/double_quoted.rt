@@ -22,14 +22,14 @@ use crate::escapes::{Escape, escape_of, needs_escape};
 use crate::gathered::{GatheredBytes, gather};
 use crate::runs::{Run, run_up_to};
 use crate::short_runs::{is_short_run, write_short_run};
-use crate::steps::{go_on, has_limit, may_fold_here};
+use crate::steps::{has_limit, may_fold_here};
 use std::alloc::Allocator;
 use yaml_base::{is_space, yaml_error_t};
 use yaml_pen::Pen;
 
 /// How a double-quoted scalar is laid out.
 #[derive(Clone, Copy)]
-struct quoting_t {
+struct Quoting {
     allow_breaks: bool,
     unicode: bool,
     indent: i32,
@@ -62,7 +62,7 @@ pub fn write_double_quoted_scalar<A: Allocator>(
     write_quoted(
         pen,
         value,
-        quoting_t {
+        Quoting {
             allow_breaks,
             unicode,
             indent,
@@ -75,7 +75,7 @@ pub fn write_double_quoted_scalar<A: Allocator>(
 fn write_quoted<A: Allocator>(
     pen: &mut Pen<A>,
     value: &str,
-    quoting: quoting_t,
+    quoting: Quoting,
 ) -> Result<(), yaml_error_t>
     requires ready { IsReady pen.old }
     requires not_negative { pos 0 ≤ℤ quoting.indent }
@@ -153,7 +153,7 @@ fn folds<A: Allocator>(
     before: Option<char>,
     c: char,
     rest: &str,
-    quoting: quoting_t,
+    quoting: Quoting,
 ) -> bool
     ensures { result ≡ (is_space c && spec.may_fold before (chars rest.now) && is_past_width (limit_where quoting.allow_breaks quoting.width) pen.now.cursor) }
 {
@@ -167,7 +167,7 @@ fn write_kept<A: Allocator>(pen: &mut Pen<A>, rest: &str) -> Result<(), yaml_err
 {
     match rest.chars().next() {
         Some(c) if is_space(c) => pen.put(b'\\'),
-        _ => go_on(pen),
+        _ => pen.write_nothing(),
     }
 }
 
@@ -187,7 +187,7 @@ fn write_next<A: Allocator>(
     before: Option<char>,
     c: char,
     rest: &str,
-    quoting: quoting_t,
+    quoting: Quoting,
 ) -> Result<(), yaml_error_t>
     requires ready { IsReady pen.old }
     requires not_negative { pos 0 ≤ℤ quoting.indent }
@@ -221,14 +221,14 @@ fn run_where(before: char, text: &str, unicode: bool, folds: bool) -> Run
 }
 
 /// A space may become a fold, since there is a width.
-fn has_folds(quoting: quoting_t) -> bool
+fn has_folds(quoting: Quoting) -> bool
     ensures { result ≡ has_limit (limit_where quoting.allow_breaks quoting.width) }
 {
     has_limit(quoting.allow_breaks, quoting.width)
 }
 
 /// The same, where a space may become a fold if there is a width.
-fn run_after(before: char, text: &str, quoting: quoting_t) -> Run
+fn run_after(before: char, text: &str, quoting: Quoting) -> Run
     ensures { IsRun (stays quoting.unicode (limit_where quoting.allow_breaks quoting.width)) before text.now result.length result.last }
 {
     let folds = has_folds(quoting);
@@ -247,7 +247,7 @@ fn write_gathered<A: Allocator>(pen: &mut Pen<A>, bytes: &GatheredBytes) -> Resu
 
 /// A value is short and stands as it is, wherever its line ends.
 #[inline(always)]
-fn is_short(value: &str, quoting: quoting_t) -> bool
+fn is_short(value: &str, quoting: Quoting) -> bool
     ensures { result ≡ true → IsShortRun (stays quoting.unicode (limit_where quoting.allow_breaks quoting.width)) value.now }
 {
     let folds = has_folds(quoting);
@@ -258,7 +258,7 @@ fn is_short(value: &str, quoting: quoting_t) -> bool
 fn write_value<A: Allocator>(
     pen: &mut Pen<A>,
     value: &str,
-    quoting: quoting_t,
+    quoting: Quoting,
 ) -> Result<(), yaml_error_t>
     requires ready { IsReady pen.old }
     requires not_negative { pos 0 ≤ℤ quoting.indent }
@@ -317,7 +317,7 @@ fn write_next_escapes<'a, A: Allocator>(
     if begins_with_escape(text, unicode) {
         write_escapes(pen, before, text, unicode)
     } else {
-        go_on(pen)?;
+        pen.write_nothing()?;
         Ok((before, text))
     }
 }
@@ -327,7 +327,7 @@ fn write_next_escapes<'a, A: Allocator>(
 fn write_inside<A: Allocator>(
     pen: &mut Pen<A>,
     value: &str,
-    quoting: quoting_t,
+    quoting: Quoting,
 ) -> Result<(), yaml_error_t>
     requires ready { IsReady pen.old }
     requires not_negative { pos 0 ≤ℤ quoting.indent }
@@ -346,5 +346,5 @@ fn write_inside<A: Allocator>(
         before = Some(last);
         chars = left.chars();
     }
-    go_on(pen)
+    pen.write_nothing()
 }

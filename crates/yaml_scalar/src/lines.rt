@@ -4,7 +4,7 @@ ghost use Rattle.std.specs.Str.{chars};
 ghost use Rattle.yaml_base.specs.Analysis as analysis;
 ghost use Rattle.yaml_base.specs.Characters as class;
 ghost use Rattle.yaml_base.specs.Cursor as cursor;
-ghost use Rattle.yaml_base.specs.Cursor.{text_laid, space_if};
+ghost use Rattle.yaml_base.specs.Cursor.{text_laid};
 ghost use Rattle.yaml_base.specs.Plain as layout;
 ghost use Rattle.yaml_pen.specs.Page.{IsReady};
 ghost use Rattle.yaml_pen.specs.Wrote.{Wrote};
@@ -16,7 +16,7 @@ ghost use Rattle.yaml_scalar.specs.Width.{limit_where};
 use crate::analysis::is_at_end;
 use crate::runs::{Run, line_run_within, short_classes};
 use crate::short_runs::{is_short_run, write_short_run};
-use crate::steps::{go_on, may_fold_here, room_in_line};
+use crate::steps::{may_fold_here, room_in_line};
 use std::alloc::Allocator;
 use yaml_base::{is_break, is_space, yaml_error_t};
 use yaml_pen::Pen;
@@ -71,23 +71,11 @@ fn begins_kind(kind: CharacterKind, rest: &str) -> bool
     }
 }
 
-/// Writes a space, where one is needed and none stands there.
-pub(crate) fn separate<A: Allocator>(pen: &mut Pen<A>, need: bool) -> Result<(), yaml_error_t>
-    requires { IsReady pen.old }
-    ensures { Wrote (λ cursor. text_laid (space_if need cursor) cursor) pen.old pen.new result }
-{
-    if need && !pen.whitespace() {
-        pen.put(b' ')
-    } else {
-        go_on(pen)
-    }
-}
-
 fn write_indentation<A: Allocator>(pen: &mut Pen<A>, indent: u32) -> Result<(), yaml_error_t>
     requires { IsReady pen.old }
     ensures { Wrote (text_laid (layout.indentation indent)) pen.old pen.new result }
 {
-    go_on(pen)?;
+    pen.write_nothing()?;
     for written in 0..indent {
         pen.put(b' ')?;
     }
@@ -117,7 +105,11 @@ fn write_extra_break<A: Allocator>(pen: &mut Pen<A>, needed: bool) -> Result<(),
     requires { IsReady pen.old }
     ensures { Wrote (text_laid (if needed then class.line_feed ∷ [] else [])) pen.old pen.new result }
 {
-    if needed { pen.put_break() } else { go_on(pen) }
+    if needed {
+        pen.put_break()
+    } else {
+        pen.write_nothing()
+    }
 }
 
 fn write_line_start<A: Allocator>(
@@ -129,7 +121,7 @@ fn write_line_start<A: Allocator>(
     ensures { Wrote (text_laid (if goes_on then [] else layout.indentation indent)) pen.old pen.new result }
 {
     if goes_on {
-        go_on(pen)
+        pen.write_nothing()
     } else {
         write_indentation(pen, indent)
     }
@@ -164,7 +156,11 @@ fn write_extra_quote<A: Allocator>(pen: &mut Pen<A>, needed: bool) -> Result<(),
     requires { IsReady pen.old }
     ensures { Wrote (text_laid (if needed then 39 ∷ [] else [])) pen.old pen.new result }
 {
-    if needed { pen.put(b'\'') } else { go_on(pen) }
+    if needed {
+        pen.put(b'\'')
+    } else {
+        pen.write_nothing()
+    }
 }
 
 fn write_other<A: Allocator>(
@@ -310,5 +306,5 @@ fn write_from<A: Allocator>(
         before = kind_of(run.last);
         characters = after.chars();
     }
-    go_on(pen)
+    pen.write_nothing()
 }

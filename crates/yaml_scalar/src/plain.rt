@@ -10,7 +10,7 @@ ghost use Rattle.yaml_scalar.specs.ReadsBack.{ReadsBack};
 ghost use Rattle.yaml_scalar.specs.Width.{limit_where};
 
 use crate::analysis::is_at_end;
-use crate::lines::{Lines, separate, write_lines};
+use crate::lines::{Lines, write_lines};
 use std::alloc::Allocator;
 use yaml_base::yaml_error_t;
 use yaml_pen::Pen;
@@ -60,7 +60,7 @@ fn write_laid<A: Allocator>(
     requires plain { lines.quoted ≡ false }
     ensures { Wrote (plain_laid flow (limit_where lines.allow_breaks lines.width) lines.indent (chars value.now)) pen.old pen.new result }
 {
-    separate(pen, needs_space(flow, value))?;
+    pen.separate(needs_space(flow, value))?;
     write_body(pen, value, lines)
 }
 

@@ -1,14 +1,11 @@
 //! Steps that the writers of scalars share.
 ghost use Rattle.std.specs.Prelude.{◌≡◌, ◌<◌, ◌≤◌, ◌+◌};
-ghost use Rattle.yaml_base.specs.Cursor.{is_past_width, nothing_laid};
-ghost use Rattle.yaml_pen.specs.Page.{IsReady};
-ghost use Rattle.yaml_pen.specs.Wrote.{Wrote};
+ghost use Rattle.yaml_base.specs.Cursor.{is_past_width};
 ghost use Rattle.yaml_scalar.specs.WholeRuns.{HasRoom, has_limit};
 ghost use Rattle.yaml_scalar.specs.Width.{limit_where};
 
 use crate::width;
 use std::alloc::Allocator;
-use yaml_base::yaml_error_t;
 use yaml_pen::Pen;
 
 /// The column is past the width, and folds are allowed.
@@ -23,17 +20,6 @@ pub(crate) fn has_limit(allow_breaks: bool, width: i32) -> bool
     ensures { result ≡ has_limit (limit_where allow_breaks width) }
 {
     allow_breaks && width != i32::MAX
-}
-
-/// Nothing is written; the error of a pen that failed is told.
-pub(crate) fn go_on<A: Allocator>(pen: &Pen<A>) -> Result<(), yaml_error_t>
-    requires { IsReady pen.now }
-    ensures { Wrote nothing_laid pen.now pen.now result }
-{
-    match pen.error() {
-        Some(error) => Err(error),
-        None => Ok(()),
-    }
 }
 
 /// How many columns follow before one that is past the width, if any.

@@ -10,7 +10,7 @@ ghost use Rattle.yaml_scalar.specs.UsualTexts.{IsUsual, has_usual_ends};
 ghost use Rattle.yaml_scalar.specs.Width.{limit_where};
 
 use crate::classes::{BREAK, SIGN, UNPRINTABLE, WIDE};
-use crate::lines::{Lines, line_room, separate, write_runs};
+use crate::lines::{Lines, line_room, write_runs};
 use crate::plain::needs_space;
 use crate::short_runs::{is_short_run, write_short_run};
 use std::alloc::Allocator;
@@ -89,7 +89,7 @@ fn write_laid<A: Allocator>(
     requires plain { lines.quoted ≡ false }
     ensures { Wrote (plain_laid flow (limit_where lines.allow_breaks lines.width) lines.indent (chars value.now)) pen.old pen.new result }
 {
-    separate(pen, needs_space(flow, value))?;
+    pen.separate(needs_space(flow, value))?;
     write_body(pen, value, lines)
 }
 

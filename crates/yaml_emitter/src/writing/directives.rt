@@ -20,7 +20,7 @@ use crate::writing::documents::{
 };
 use crate::writing::indicators::Indicator;
 use crate::writing::marks::OpenMark;
-use crate::writing::signs::{Sign, Signs, write_nothing};
+use crate::writing::signs::{Sign, Signs};
 use std::alloc::Allocator;
 use yaml_base::{yaml_error_t, yaml_tag_directive_t, yaml_version_directive_t};
 use yaml_pen::Pen;
@@ -111,7 +111,7 @@ fn write_tag_directives<A: Allocator>(
     requires handles { some_handle_breaks (map seen_directive directives.now) ≡ false }
     ensures { Wrote (tag_directives_laid settings.now.portable (map seen_directive directives.now)) pen.old pen.new result }
 {
-    write_nothing(pen)?;
+    pen.write_nothing()?;
     for directive in directives {
         write_tag_directive(pen, settings, directive)?;
     }

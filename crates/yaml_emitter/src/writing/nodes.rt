@@ -25,7 +25,7 @@ use crate::place::{Frame, Place};
 use crate::writing::contents::CollectionContent;
 use crate::writing::places::{flow_end_signs, write_place};
 use crate::writing::properties::{alias_signs, has_properties, write_properties};
-use crate::writing::signs::{write_nothing, write_signs};
+use crate::writing::signs::write_signs;
 use crate::writing::site::Site;
 use crate::writing::spelling::SpelledTag;
 use std::alloc::Allocator;
@@ -143,6 +143,6 @@ pub(crate) fn write_collection_end<A: Allocator>(
             flow_end_signs(mapping, empty, outer.settings.canonical),
         )
     } else {
-        write_nothing(pen)
+        pen.write_nothing()
     }
 }

@@ -16,7 +16,7 @@ ghost use Rattle.yaml_emitter.specs.WrittenSigns.{seen_indicator, signs_laid, so
 use crate::effective::EffectiveSettings;
 use crate::place::{Place, Role};
 use crate::writing::indicators::{Indicator, write_indicator};
-use crate::writing::signs::{Sign, Signs, write_flow_line, write_line, write_nothing};
+use crate::writing::signs::{Sign, Signs, write_flow_line, write_line};
 use crate::writing::site::Site;
 use std::alloc::Allocator;
 use yaml_base::yaml_error_t;
@@ -47,7 +47,7 @@ fn write_flow_place<A: Allocator>(
 {
     use Indicator::*;
     match (place.role, simple) {
-        (Role::Root, _) => write_nothing(pen),
+        (Role::Root, _) => pen.write_nothing(),
         (Role::Item { first: true }, _) => write_entry(pen, settings, place, FlowSequenceStart),
         (Role::Item { first: false }, _) => write_entry(pen, settings, place, FlowEntry),
         (Role::Key { first: true }, true) => write_simple_key(
@@ -142,7 +142,7 @@ fn write_block_place<A: Allocator>(
 {
     use Indicator::*;
     match (place.role, simple) {
-        (Role::Root, _) => write_nothing(pen),
+        (Role::Root, _) => pen.write_nothing(),
         (Role::Item { .. }, _) => write_on_line(pen, place, BlockEntry),
         (Role::Key { .. }, true) => write_line_alone(pen, place),
         (Role::Key { .. }, false) => write_on_line(pen, place, BlockKey),

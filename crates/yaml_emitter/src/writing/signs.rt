@@ -2,7 +2,7 @@
 
 ghost use Rattle.std.specs.Prelude.{◌≡◌, ◌≤ℤ◌, pos, false, ◌||◌};
 ghost use Rattle.yaml_base.specs.Cursor as layout;
-ghost use Rattle.yaml_base.specs.Cursor.{nothing_laid, new_line};
+ghost use Rattle.yaml_base.specs.Cursor.{new_line};
 ghost use Rattle.yaml_base.specs.Layout.{flow_break, line_column};
 ghost use Rattle.yaml_pen.specs.Page.{IsReady};
 ghost use Rattle.yaml_pen.specs.Wrote.{Wrote};
@@ -67,7 +67,7 @@ fn write_sign<A: Allocator>(pen: &mut Pen<A>, site: &Site, sign: Sign) -> Result
     ensures { Wrote (sign_laid (seen_effective site.now.settings.now) (seen_place site.now.place) sign.entry) pen.old pen.new result }
 {
     match sign {
-        Sign::Nothing => write_nothing(pen),
+        Sign::Nothing => pen.write_nothing(),
         Sign::Mark(indicator) => write_indicator(pen, indicator),
         Sign::Line => write_line(pen, &site.place),
         Sign::FlowLine => write_flow_line(pen, site.settings, &site.place),
@@ -99,7 +99,7 @@ pub(crate) fn write_flow_line<A: Allocator>(
     if needs_flow_line(pen, settings) {
         write_line(pen, place)
     } else {
-        write_nothing(pen)
+        pen.write_nothing()
     }
 }
 
@@ -115,15 +115,4 @@ fn is_line_full<A: Allocator>(pen: &Pen<A>, width: i32) -> bool
     ensures { result ≡ layout.is_past_width (seen_width width) pen.now.cursor }
 {
     width != i32::MAX && pen.column() > width
-}
-
-/// Writes nothing, and returns the error of a pen that failed.
-pub(crate) fn write_nothing<A: Allocator>(pen: &Pen<A>) -> Result<(), yaml_error_t>
-    requires { IsReady pen.now }
-    ensures { Wrote nothing_laid pen.now pen.now result }
-{
-    match pen.error() {
-        Some(error) => Err(error),
-        None => Ok(()),
-    }
 }

@@ -91,4 +91,4 @@ returns g c =
     let wide : SFits w32 c.args.width = c.ranges.width in
     let left = simp to_z-of_z at c.loop-character.invariant.0 in
     (end_still (lines_from c.args.folded (limit_of c.args.width) (natural c.args.indent) c.loop-character.place) _ c.in_default.ensures.steps.0.0 left).writes _
-    _ c.go_on.ensures
+    _ c.write_nothing.ensures

@@ -86,4 +86,4 @@ pub returns : goal.returns
 returns g c =
     let quoting = c.args.quoting in
     (end_still (double_inside quoting.unicode (limit_where quoting.allow_breaks quoting.width) (natural quoting.indent) c.loop-c.before) _
-    c.in_default.ensures.steps.0.0 c.loop-c.invariant.still).writes _ _ c.go_on.ensures
+    c.in_default.ensures.steps.0.0 c.loop-c.invariant.still).writes _ _ c.write_nothing.ensures

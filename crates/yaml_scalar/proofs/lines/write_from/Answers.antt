@@ -74,4 +74,4 @@ returns g c =
     let lines = c.args.lines in
     let limit = limit_where lines.allow_breaks lines.width in
     (end_still (steps_laid (written_as lines.quoted) limit lines.indent (seen_kind c.loop-character.before)) _
-    c.in_default.ensures.steps.0.0 c.loop-character.invariant.still).writes _ _ c.go_on.ensures
+    c.in_default.ensures.steps.0.0 c.loop-character.invariant.still).writes _ _ c.write_nothing.ensures

@@ -10,12 +10,12 @@ pub returns-in_err-separate : goal.returns-in_err-separate
 returns-in_err-separate g c =
     let limit = limit_where c.args.lines.allow_breaks c.args.lines.width in
     let lead = subst (λ (need : Bool).
-    Wrote (λ cursor. text_laid (space_if need cursor) cursor) c.args.pen.now c.separate.new.pen (Err c.in_err-separate.field-0.0))
-    c.needs_space.ensures c.in_err-separate.ensures in
+    Wrote (λ cursor. text_laid (space_if need cursor) cursor) c.args.pen.now c.separate.new.self (Err c.in_err-separate.field-0.0))
+    c.needs_space.ensures c.in_err-separate.ensures.written in
     wrote_exit c.from_residual.ensures (wrote_failed (plain_body limit c.args.lines.indent (chars c.args.value.now)) lead)
 
 pub returns : goal.returns
 returns g c =
-    let lead = subst (λ (need : Bool). Wrote (λ cursor. text_laid (space_if need cursor) cursor) c.args.pen.now c.separate.new.pen (Ok tt))
-    c.needs_space.ensures c.in_ok-separate.ensures in
+    let lead = subst (λ (need : Bool). Wrote (λ cursor. text_laid (space_if need cursor) cursor) c.args.pen.now c.separate.new.self (Ok tt))
+    c.needs_space.ensures c.in_ok-separate.ensures.written in
     wrote_then lead c.write_body.ensures

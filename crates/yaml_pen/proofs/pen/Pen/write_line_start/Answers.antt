@@ -5,7 +5,7 @@ use Rattle.yaml_base.specs.Cursor.{column_after, text_laid}
 use Rattle.yaml_base.specs.Decode.{decode}
 use Rattle.yaml_base.specs.Seen.{seen_encoding}
 use Rattle.yaml_base.specs.Settings.{utf8}
-use Rattle.yaml_pen.specs.declared.pen.TheConstants.{LINE_START}
+use Rattle.yaml_pen.specs.declared.pen.new_lines.TheConstants.{LINE_START}
 use Rattle.yaml_pen.specs.Lines.{line_begun}
 use Rattle.yaml_pen.specs.Page.{Page, IsReady, has_mark}
 use Rattle.yaml_pen.proofs.Composing.{wrote_as}

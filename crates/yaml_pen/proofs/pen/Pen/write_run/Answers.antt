@@ -11,4 +11,4 @@ pub returns-then-is_empty-clause-written : goal.returns-then-is_empty-clause-wri
 returns-then-is_empty-clause-written g c =
     let none : length c.args.text.now ≡ 0 = eqb-true _ 0 (sym c.is_empty.ensures ∙ c.if-is_empty.true) in
     let empty : chars c.args.text.now ≡ [] = ap chars (nil_from_length c.args.text.now none) ∙ chars-nil in
-    wrote_as (text_laid (chars c.args.text.now)) (ap (λ t. text_laid t c.args.self.now.cursor) (sym empty)) c.go_on.ensures
+    wrote_as (text_laid (chars c.args.text.now)) (ap (λ t. text_laid t c.args.self.now.cursor) (sym empty)) c.write_nothing.ensures

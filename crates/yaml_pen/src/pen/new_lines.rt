@@ -1,0 +1,176 @@
+//! New lines, and the spaces that they begin with.
+ghost use Rattle.std.specs.Prelude.{◌≡◌, pos, ◌≤ℤ◌, ◌<◌, ◌≤◌, false, true, IsSome, unwrap_or, replicate};
+ghost use Rattle.yaml_base.specs.Characters.{space};
+ghost use Rattle.yaml_base.specs.Cursor.{text_laid, breaks_line, new_line};
+ghost use Rattle.yaml_base.specs.Settings.{line_feed_break};
+ghost use Rattle.yaml_base.specs.Seen.{seen_break};
+ghost use Rattle.yaml_pen.specs.Page.{IsReady, has_mark, natural};
+ghost use Rattle.yaml_pen.specs.Wrote.{Wrote};
+ghost use Rattle.yaml_pen.specs.Lines.{line_begun, line_break_laid, spaces_to};
+
+use crate::pen::{Pen, has_mark};
+use std::alloc::Allocator;
+use yaml_base::{yaml_break_t, yaml_error_t};
+
+/// So many spaces are written at once.
+const MOST_SPACES: u32 = 64;
+/// LF, and as many spaces.
+static LINE_START: [u8; 65] =
+    *b"\n                                                                ";
+
+impl<A: Allocator> Pen<A> {
+    /// Begins a new line at a column, counted in characters: breaks the line unless the cursor stands
+    /// before or at that column, free to go on, and writes spaces up to it.
+    pub fn write_indent(&mut self, indent: i32) -> Result<(), yaml_error_t>
+        requires ready { IsReady self.old }
+        requires not_negative { pos 0 ≤ℤ indent }
+        ensures written { Wrote (new_line (natural indent)) self.old self.new result }
+        ensures stays { IsSome self.old.error → self.new ≡ self.old }
+    {
+        self.begin_line(indent as u32)
+    }
+
+    fn begin_line(&mut self, at: u32) -> Result<(), yaml_error_t>
+        requires ready { IsReady self.old }
+        requires below { at < 2147483648 }
+        ensures written { Wrote (new_line at) self.old self.new result }
+        ensures stays { IsSome self.old.error → self.new ≡ self.old }
+    {
+        self.go_to_line(at)?;
+        self.set_whitespace(true);
+        self.set_indention(true);
+        Ok(())
+    }
+
+    // The line's start, the cursor's flags left as they are.
+    #[inline(always)]
+    fn go_to_line(&mut self, at: u32) -> Result<(), yaml_error_t>
+        requires ready { IsReady self.old }
+        requires below { at < 2147483648 }
+        ensures written { Wrote (line_begun at) self.old self.new result }
+        ensures stays { IsSome self.old.error → self.new ≡ self.old }
+    {
+        if self.starts_at_once(at) {
+            self.write_line_start(at)
+        } else {
+            self.break_and_indent(at)
+        }
+    }
+
+    // A break is needed, and it is one byte as the spaces are.
+    #[inline(always)]
+    fn starts_at_once(&self, at: u32) -> bool
+        requires { at < 2147483648 }
+        ensures breaks { result ≡ true → breaks_line at self.now.cursor ≡ true }
+        ensures few { result ≡ true → at ≤ 64 }
+        ensures unmarked { result ≡ true → has_mark self.now.encoding ≡ false }
+        ensures line_feed { result ≡ true → self.now.line_break ≡ line_feed_break }
+    {
+        at <= MOST_SPACES
+            && self.breaks_line(at)
+            && !has_mark(self.encoding)
+            && is_line_feed(self.line_break)
+    }
+
+    fn write_line_start(&mut self, at: u32) -> Result<(), yaml_error_t>
+        requires ready { IsReady self.old }
+        requires breaks { breaks_line at self.old.cursor ≡ true }
+        requires few { at ≤ 64 }
+        requires unmarked { has_mark self.old.encoding ≡ false }
+        requires line_feed { self.old.line_break ≡ line_feed_break }
+        ensures written { Wrote (line_begun at) self.old self.new result }
+        ensures stays { IsSome self.old.error → self.new ≡ self.old }
+    {
+        self.outlet.append(&LINE_START[..at as usize + 1])?;
+        self.column = at;
+        Ok(())
+    }
+
+    #[inline(never)]
+    fn break_and_indent(&mut self, at: u32) -> Result<(), yaml_error_t>
+        requires ready { IsReady self.old }
+        requires below { at < 2147483648 }
+        ensures written { Wrote (line_begun at) self.old self.new result }
+        ensures stays { IsSome self.old.error → self.new ≡ self.old }
+    {
+        self.break_line(at)?;
+        self.write_spaces_to(at)
+    }
+
+    // Breaks the line where a new line at this column needs it.
+    fn break_line(&mut self, at: u32) -> Result<(), yaml_error_t>
+        requires ready { IsReady self.old }
+        requires below { at < 2147483648 }
+        ensures written { Wrote (line_break_laid at) self.old self.new result }
+        ensures stays { IsSome self.old.error → self.new ≡ self.old }
+    {
+        if self.breaks_line(at) {
+            self.put_break()
+        } else {
+            self.write_nothing()
+        }
+    }
+
+    fn breaks_line(&self, at: u32) -> bool
+        requires { at < 2147483648 }
+        ensures { result ≡ breaks_line at self.now.cursor }
+    {
+        !self.indention || self.column > at || (self.column == at && !self.whitespace)
+    }
+
+    fn write_spaces_to(&mut self, at: u32) -> Result<(), yaml_error_t>
+        requires ready { IsReady self.old }
+        requires below { at < 2147483648 }
+        ensures written { Wrote (spaces_to at) self.old self.new result }
+        ensures stays { IsSome self.old.error → self.new ≡ self.old }
+    {
+        let missing = at.saturating_sub(self.column);
+        self.write_spaces(missing)
+    }
+
+    fn write_spaces(&mut self, count: u32) -> Result<(), yaml_error_t>
+        requires ready { IsReady self.old }
+        ensures written { Wrote (text_laid (replicate count space)) self.old self.new result }
+        ensures stays { IsSome self.old.error → self.new ≡ self.old }
+    {
+        if count <= MOST_SPACES {
+            self.write_few_spaces(count)
+        } else {
+            self.write_many_spaces(count)
+        }
+    }
+
+    fn write_few_spaces(&mut self, count: u32) -> Result<(), yaml_error_t>
+        requires ready { IsReady self.old }
+        requires few { count ≤ 64 }
+        ensures written { Wrote (text_laid (replicate count space)) self.old self.new result }
+        ensures stays { IsSome self.old.error → self.new ≡ self.old }
+    {
+        let spaces = [b' '; 64];
+        self.write_ascii(&spaces[..count as usize])
+    }
+
+    // One space after another.
+    #[inline(never)]
+    fn write_many_spaces(&mut self, count: u32) -> Result<(), yaml_error_t>
+        requires ready { IsReady self.old }
+        ensures written { Wrote (text_laid (replicate count space)) self.old self.new result }
+        ensures stays { IsSome self.old.error → self.new ≡ self.old }
+    {
+        self.write_nothing()?;
+        for written in 0..count {
+            self.write_character(' ')?;
+        }
+        Ok(())
+    }
+}
+
+/// A break is written as LF; a setting of ANY is taken for LF.
+fn is_line_feed(line_break: yaml_break_t) -> bool
+    ensures { result ≡ true → unwrap_or (seen_break line_break) line_feed_break ≡ line_feed_break }
+{
+    !matches!(
+        line_break,
+        yaml_break_t::YAML_CR_BREAK | yaml_break_t::YAML_CRLN_BREAK
+    )
+}
