@@ -1,10 +1,18 @@
 -- Places and open collections, as the definitions see them.
+use Rattle.std.specs.Prelude.{Bool, true, false}
 use Rattle.yaml_base.specs.Layout.{Role, as_root, as_item, as_key, as_value, Place}
 use Rattle.yaml_base.specs.Steps.{Frame}
 use Rattle.yaml_emitter.specs.declared.place.Role as role
 use Rattle.yaml_emitter.specs.declared.place.Role.TheVariants.{Root, Item, Key, Value}
+use Rattle.yaml_emitter.specs.declared.place.CollectionKind.{CollectionKind}
+use Rattle.yaml_emitter.specs.declared.place.CollectionKind.TheVariants.{Sequence, Mapping}
 use Rattle.yaml_emitter.specs.declared.place.Place as place
 use Rattle.yaml_emitter.specs.declared.place.Frame as frame
+
+-- a mapping, or a sequence
+abbrev pub is_mapping : CollectionKind → Bool
+is_mapping Sequence = false
+is_mapping Mapping = true
 
 -- an entry's role
 abbrev pub seen_role : role.Role → Role

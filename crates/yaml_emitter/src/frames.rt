@@ -4,13 +4,13 @@ ghost use Rattle.std.specs.Prelude.{◌≡◌, ◌∷◌, [], ◌<◌, ◌≤◌
 ghost use Rattle.yaml_base.specs.Event.{TagDirective};
 ghost use Rattle.yaml_base.specs.Layout.{line_column};
 ghost use Rattle.yaml_base.specs.Steps as steps;
-ghost use Rattle.yaml_emitter.specs.Places.{seen_frame, seen_place};
+ghost use Rattle.yaml_emitter.specs.Places.{is_mapping, seen_frame, seen_place};
 ghost use Rattle.yaml_base.specs.Refusal.{most_open};
 ghost use Rattle.yaml_emitter.specs.Nesting.{advanced};
 ghost use Rattle.yaml_emitter.specs.NodeEvents.{end_event};
 ghost use Rattle.yaml_emitter.specs.Stages.{seen_stage};
 
-use crate::place::{Frame, Place};
+use crate::place::{CollectionKind, Frame, Place};
 use crate::stage::Stage;
 use std::alloc::Allocator;
 use std::marker::Model;
@@ -77,12 +77,12 @@ impl<A: Allocator> Frames<A> {
     }
 
     /// The end of a mapping, or of a sequence, may come next.
-    pub(crate) fn may_end(&self, mapping: bool) -> bool
-        ensures { result ≡ steps.node_allowed self.now (end_event mapping) }
+    pub(crate) fn may_end(&self, kind: CollectionKind) -> bool
+        ensures { result ≡ steps.node_allowed self.now (end_event (is_mapping kind)) }
     {
         match self.innermost {
             None => false,
-            Some(frame) => frame.place.role.may_end(mapping),
+            Some(frame) => frame.place.role.may_end(kind),
         }
     }
 

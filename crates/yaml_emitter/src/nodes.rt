@@ -13,14 +13,15 @@ ghost use Rattle.yaml_pen.specs.Wrote.{Wrote};
 ghost use Rattle.yaml_emitter.specs.BorrowedTexts.{seen_collection, seen_scalar};
 ghost use Rattle.yaml_emitter.specs.Given.{seen_effective};
 ghost use Rattle.yaml_emitter.specs.NodeEvents.{brackets_of, end_event, first_entry, is_at_node, is_undented, start_event};
-ghost use Rattle.yaml_emitter.specs.Places.{seen_frame, seen_place, seen_role};
+ghost use Rattle.yaml_emitter.specs.Places.{is_mapping, seen_frame, seen_place, seen_role};
 ghost use Rattle.yaml_emitter.specs.Processing.{Processed};
 ghost use Rattle.yaml_emitter.specs.Reach.{most_column};
 ghost use Rattle.yaml_emitter.specs.UsualScalars.{StandsPlain};
 ghost use Rattle.yaml_emitter.specs.WrittenPieces.{piece_at};
 
 use crate::emitter::yaml_emitter_t;
-use crate::place::{Frame, Place, Role};
+use crate::place::CollectionKind::{Mapping, Sequence};
+use crate::place::{CollectionKind, Frame, Place, Role};
 use crate::writing::{
     CollectionContent, ScalarContent, Site, borrowed_text, entries_column, is_simple_alias_key,
     is_simple_collection_key, is_simple_scalar_key, is_simple_usual_key, is_written_in_flow, spell,
@@ -71,7 +72,7 @@ impl<A: Allocator + Copy> yaml_emitter_t<A> {
                 style,
             } => {
                 let content = collection_content(anchor, tag, *implicit);
-                self.start_collection(&content, false, is_flow_sequence(*style), empty)
+                self.start_collection(&content, Sequence, is_flow_sequence(*style), empty)
             }
             YAML_MAPPING_START_EVENT {
                 anchor,
@@ -80,10 +81,10 @@ impl<A: Allocator + Copy> yaml_emitter_t<A> {
                 style,
             } => {
                 let content = collection_content(anchor, tag, *implicit);
-                self.start_collection(&content, true, is_flow_mapping(*style), empty)
+                self.start_collection(&content, Mapping, is_flow_mapping(*style), empty)
             }
-            YAML_SEQUENCE_END_EVENT => self.end_collection(false),
-            YAML_MAPPING_END_EVENT => self.end_collection(true),
+            YAML_SEQUENCE_END_EVENT => self.end_collection(Sequence),
+            YAML_MAPPING_END_EVENT => self.end_collection(Mapping),
             _ => Err(yaml_error_t::ExpectedNode),
         }
     }
@@ -167,30 +168,30 @@ impl<A: Allocator + Copy> yaml_emitter_t<A> {
     fn start_collection(
         &mut self,
         content: &CollectionContent,
-        mapping: bool,
+        kind: CollectionKind,
         flow_asked: bool,
         empty: bool,
     ) -> Result<(), yaml_error_t>
         requires stage { is_at_node self.old.stage ≡ true }
-        requires names { name_or_tag_fault self.old.given.canonical (start_event mapping (seen_collection content.now any_layout)) ≡ None }
+        requires names { name_or_tag_fault self.old.given.canonical (start_event (is_mapping kind) (seen_collection content.now any_layout)) ≡ None }
         ensures { (style : CollectionStyle) → asks_flow style ≡ flow_asked
-            → Processed (start_event mapping (seen_collection content.now style)) empty self.old self.new result }
+            → Processed (start_event (is_mapping kind) (seen_collection content.now style)) empty self.old self.new result }
     {
         self.frames.make_room()?;
-        self.open_collection(content, mapping, flow_asked, empty)
+        self.open_collection(content, kind, flow_asked, empty)
     }
 
     fn open_collection(
         &mut self,
         content: &CollectionContent,
-        mapping: bool,
+        kind: CollectionKind,
         flow_asked: bool,
         empty: bool,
     ) -> Result<(), yaml_error_t>
         requires stage { is_at_node self.old.stage ≡ true }
-        requires names { name_or_tag_fault self.old.given.canonical (start_event mapping (seen_collection content.now any_layout)) ≡ None }
+        requires names { name_or_tag_fault self.old.given.canonical (start_event (is_mapping kind) (seen_collection content.now any_layout)) ≡ None }
         ensures { (style : CollectionStyle) → asks_flow style ≡ flow_asked
-            → Processed (start_event mapping (seen_collection content.now style)) empty self.old self.new result }
+            → Processed (start_event (is_mapping kind) (seen_collection content.now style)) empty self.old self.new result }
     {
         if self.frames.is_full() {
             return Err(yaml_error_t::TooDeep);
@@ -206,17 +207,17 @@ impl<A: Allocator + Copy> yaml_emitter_t<A> {
         };
         write_collection_start(&mut self.pen, &site, content, tag)?;
         let in_flow = is_written_in_flow(&site, flow_asked, empty);
-        let frame = opened_frame(&self.pen, &site, mapping, in_flow);
+        let frame = opened_frame(&self.pen, &site, kind, in_flow);
         self.frames.push(frame)?;
         Ok(())
     }
 
     #[inline(never)]
-    fn end_collection(&mut self, mapping: bool) -> Result<(), yaml_error_t>
+    fn end_collection(&mut self, kind: CollectionKind) -> Result<(), yaml_error_t>
         requires stage { is_at_node self.old.stage ≡ true }
-        ensures { (empty : Bool) → Processed (end_event mapping) empty self.old self.new result }
+        ensures { (empty : Bool) → Processed (end_event (is_mapping kind)) empty self.old self.new result }
     {
-        if !self.frames.may_end(mapping) {
+        if !self.frames.may_end(kind) {
             return Err(yaml_error_t::ExpectedNode);
         }
         match self.frames.pop() {
@@ -228,7 +229,7 @@ impl<A: Allocator + Copy> yaml_emitter_t<A> {
                     place: around,
                     simple: frame.simple,
                 };
-                write_collection_end(&mut self.pen, &outer, &frame, mapping)?;
+                write_collection_end(&mut self.pen, &outer, &frame, kind)?;
                 self.stage = self.frames.advance(frame.simple);
                 Ok(())
             }
@@ -308,35 +309,39 @@ fn collection_content<'a, A: Allocator>(
 }
 
 /// The frame of a collection whose start is written.
-fn opened_frame<A: Allocator>(pen: &Pen<A>, site: &Site, mapping: bool, in_flow: bool) -> Frame
+fn opened_frame<A: Allocator>(
+    pen: &Pen<A>,
+    site: &Site,
+    kind: CollectionKind,
+    in_flow: bool,
+) -> Frame
     requires { line_column site.now.place.column + 9 ≤ most_column }
     ensures frame { seen_frame result
         ≡ record {
-          place = entry_place in_flow (first_entry mapping)
-              (layout.entries_column in_flow (is_undented mapping (seen_role site.now.place.role)) site.now.settings.now.indent site.now.place.column
+          place = entry_place in_flow (first_entry (is_mapping kind))
+              (layout.entries_column in_flow (is_undented (is_mapping kind) (seen_role site.now.place.role)) site.now.settings.now.indent site.now.place.column
               pen.now.cursor);
           simple = site.now.simple;
         } }
     ensures nested { line_column (seen_frame result).place.column ≤ line_column site.now.place.column + 9 }
 {
-    let undented = !mapping && site.place.role.is_in_mapping();
+    let undented = !kind.is_mapping() && site.place.role.is_in_mapping();
     let column = entries_column(pen, site.settings, &site.place, in_flow, undented);
     Frame {
         place: Place {
             in_flow,
-            role: first_entry(mapping),
+            role: first_entry(kind),
             column: Some(column),
         },
         simple: site.simple,
     }
 }
 
-fn first_entry(mapping: bool) -> Role
-    ensures { seen_role result ≡ first_entry mapping }
+fn first_entry(kind: CollectionKind) -> Role
+    ensures { seen_role result ≡ first_entry (is_mapping kind) }
 {
-    if mapping {
-        Role::Key { first: true }
-    } else {
-        Role::Item { first: true }
+    match kind {
+        Sequence => Role::Item { first: true },
+        Mapping => Role::Key { first: true },
     }
 }

@@ -12,6 +12,13 @@ pub(crate) enum Role {
     Value { simple: bool },
 }
 
+/// The kinds of collections.
+#[derive(Clone, Copy)]
+pub(crate) enum CollectionKind {
+    Sequence,
+    Mapping,
+}
+
 /// Where a node stands: in flow or in block, as what, and the column of the entries around it.
 #[derive(Clone, Copy)]
 pub(crate) struct Place {
@@ -29,11 +36,22 @@ pub(crate) struct Frame {
     pub simple: bool,
 }
 
+impl CollectionKind {
+    ghost use Rattle.std.specs.Prelude.{◌≡◌};
+    ghost use Rattle.yaml_emitter.specs.Places.{is_mapping};
+
+    pub(crate) fn is_mapping(self) -> bool
+        ensures { result ≡ is_mapping self }
+    {
+        matches!(self, CollectionKind::Mapping)
+    }
+}
+
 impl Role {
     ghost use Rattle.std.specs.Prelude.{◌≡◌, if◌then◌else◌};
     ghost use Rattle.yaml_base.specs.Layout.{is_in_mapping, is_key};
     ghost use Rattle.yaml_base.specs.Steps.{is_first, is_item, role_after};
-    ghost use Rattle.yaml_emitter.specs.Places.{seen_role};
+    ghost use Rattle.yaml_emitter.specs.Places.{is_mapping, seen_role};
 
     pub(crate) fn is_key(self) -> bool
         ensures { result ≡ is_key (seen_role self) }
@@ -48,12 +66,12 @@ impl Role {
     }
 
     /// A mapping ends in place of a key, a sequence in place of an item.
-    pub(crate) fn may_end(self, mapping: bool) -> bool
-        ensures { result ≡ (if mapping then is_key (seen_role self) else is_item (seen_role self)) }
+    pub(crate) fn may_end(self, kind: CollectionKind) -> bool
+        ensures { result ≡ (if is_mapping kind then is_key (seen_role self) else is_item (seen_role self)) }
     {
         match self {
-            Role::Item { .. } => !mapping,
-            Role::Key { .. } => mapping,
+            Role::Item { .. } => !kind.is_mapping(),
+            Role::Key { .. } => kind.is_mapping(),
             _ => false,
         }
     }

@@ -15,13 +15,13 @@ ghost use Rattle.yaml_pen.specs.Wrote.{Wrote};
 ghost use Rattle.yaml_emitter.specs.BorrowedTexts.{seen_name, seen_collection};
 ghost use Rattle.yaml_emitter.specs.Given.{seen_effective};
 ghost use Rattle.yaml_emitter.specs.NodeEvents.{brackets_of};
-ghost use Rattle.yaml_emitter.specs.Places.{seen_place, seen_role};
+ghost use Rattle.yaml_emitter.specs.Places.{is_mapping, seen_place, seen_role};
 ghost use Rattle.yaml_emitter.specs.Signs.{name_breaks};
 ghost use Rattle.yaml_emitter.specs.WrittenPieces.{piece_at};
 ghost use Rattle.yaml_emitter.specs.WrittenSigns.{seen_tag, spelled_tag_laid, spelling_breaks};
 
 use crate::effective::EffectiveSettings;
-use crate::place::{Frame, Place};
+use crate::place::{CollectionKind, Frame, Place};
 use crate::writing::contents::CollectionContent;
 use crate::writing::places::{flow_end_signs, write_place};
 use crate::writing::properties::{alias_signs, has_properties, write_properties};
@@ -128,11 +128,11 @@ pub(crate) fn write_collection_end<A: Allocator>(
     pen: &mut Pen<A>,
     outer: &Site,
     frame: &Frame,
-    mapping: bool,
+    kind: CollectionKind,
 ) -> Result<(), yaml_error_t>
     requires { IsReady pen.old }
     ensures { (mark : ℕ) → Wrote (piece_at
-        (end_piece (seen_effective outer.now.settings.now) (brackets_of mapping) frame.now.place.in_flow
+        (end_piece (seen_effective outer.now.settings.now) (brackets_of (is_mapping kind)) frame.now.place.in_flow
         (is_first (seen_role frame.now.place.role)) outer.now.place.column) mark) pen.old pen.new result }
 {
     let empty = frame.place.role.is_first();
@@ -140,7 +140,7 @@ pub(crate) fn write_collection_end<A: Allocator>(
         write_signs(
             pen,
             outer,
-            flow_end_signs(mapping, empty, outer.settings.canonical),
+            flow_end_signs(kind, empty, outer.settings.canonical),
         )
     } else {
         pen.write_nothing()

@@ -10,11 +10,11 @@ ghost use Rattle.yaml_pen.specs.Page.{IsReady};
 ghost use Rattle.yaml_pen.specs.Wrote.{Wrote};
 ghost use Rattle.yaml_emitter.specs.Given.{seen_effective};
 ghost use Rattle.yaml_emitter.specs.NodeEvents.{brackets_of};
-ghost use Rattle.yaml_emitter.specs.Places.{seen_role, seen_place};
+ghost use Rattle.yaml_emitter.specs.Places.{is_mapping, seen_role, seen_place};
 ghost use Rattle.yaml_emitter.specs.WrittenSigns.{seen_indicator, signs_laid, some_sign_breaks};
 
 use crate::effective::EffectiveSettings;
-use crate::place::{Place, Role};
+use crate::place::{CollectionKind, Place, Role};
 use crate::writing::indicators::{Indicator, write_indicator};
 use crate::writing::signs::{Sign, Signs, write_flow_line, write_line};
 use crate::writing::site::Site;
@@ -174,19 +174,20 @@ fn write_line_alone<A: Allocator>(pen: &mut Pen<A>, place: &Place) -> Result<(),
 
 /// The signs of the end of a collection in flow: where nothing stands between the brackets, the opening one comes
 /// first; in canonical mode a comma and a new line.
-pub(crate) fn flow_end_signs(mapping: bool, empty: bool, canonical: bool) -> Signs<'static>
+pub(crate) fn flow_end_signs(kind: CollectionKind, empty: bool, canonical: bool) -> Signs<'static>
     ensures whole { some_sign_breaks result ≡ false }
     ensures laid { (s : Effective) (place : layout.Place) (cursor : Cursor) → s.canonical ≡ canonical
-        → signs_laid s place result cursor ≡ end_laid s (brackets_of mapping) true empty place.column cursor }
+        → signs_laid s place result cursor ≡ end_laid s (brackets_of (is_mapping kind)) true empty place.column cursor }
 {
+    use CollectionKind::*;
     use Indicator::*;
     use Sign::*;
-    match (mapping, empty, canonical) {
-        (false, true, _) => (Nothing, Mark(FlowSequenceStart), Mark(FlowSequenceEnd)),
-        (true, true, _) => (Nothing, Mark(FlowMappingStart), Mark(FlowMappingEnd)),
-        (false, false, true) => (Mark(FlowEntry), Line, Mark(FlowSequenceEnd)),
-        (true, false, true) => (Mark(FlowEntry), Line, Mark(FlowMappingEnd)),
-        (false, false, false) => (Nothing, Nothing, Mark(FlowSequenceEnd)),
-        (true, false, false) => (Nothing, Nothing, Mark(FlowMappingEnd)),
+    match (kind, empty, canonical) {
+        (Sequence, true, _) => (Nothing, Mark(FlowSequenceStart), Mark(FlowSequenceEnd)),
+        (Mapping, true, _) => (Nothing, Mark(FlowMappingStart), Mark(FlowMappingEnd)),
+        (Sequence, false, true) => (Mark(FlowEntry), Line, Mark(FlowSequenceEnd)),
+        (Mapping, false, true) => (Mark(FlowEntry), Line, Mark(FlowMappingEnd)),
+        (Sequence, false, false) => (Nothing, Nothing, Mark(FlowSequenceEnd)),
+        (Mapping, false, false) => (Nothing, Nothing, Mark(FlowMappingEnd)),
     }
 }

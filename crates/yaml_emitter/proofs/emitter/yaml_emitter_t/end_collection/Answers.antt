@@ -3,7 +3,7 @@ use Rattle.yaml_base.specs.Layout.{Place}
 use Rattle.yaml_base.specs.Steps.{at_node}
 use Rattle.yaml_emitter.specs.Inside.{state_of}
 use Rattle.yaml_emitter.specs.NodeEvents.{end_event}
-use Rattle.yaml_emitter.specs.Places.{seen_frame}
+use Rattle.yaml_emitter.specs.Places.{is_mapping, seen_frame}
 use Rattle.yaml_emitter.specs.Stages.{seen_stage}
 use Rattle.yaml_emitter.proofs.events_done.ProcessedBy.{processed_exit}
 use Rattle.yaml_emitter.proofs.events_done.NodesDone.{at_node_inside, output_at_node, seen_at_node, ready_inside, kept_at_node, kept_advancing}
@@ -23,14 +23,14 @@ invariant_of-self-in_err-write_collection_end-in-Some g c =
 pub returns-in_err-write_collection_end-in-Some : goal.returns-in_err-write_collection_end-in-Some
 returns-in_err-write_collection_end-in-Some g c = λ empty.
     rw (← c.self.view_is)
-    (processed_exit (end_event c.args.mapping) empty
+    (processed_exit (end_event (is_mapping c.args.kind)) empty
     (state_of c.self.inside) _ c.in_err-write_collection_end-in-Some.field-0.0 c.from_residual.result c.from_residual.ensures
     (end_cut (state_of c.self.inside) c.self.inside.directives
-    (seen_frame c.in-Some.frame) c.pop.new.self c.args.mapping empty c.next_place-around.result.column
+    (seen_frame c.in-Some.frame) c.pop.new.self (is_mapping c.args.kind) empty c.next_place-around.result.column
     (seen_stage c.self.inside.stage c.self.inside.directives c.pop.new.self) c.write_collection_end.new.pen c.in_err-write_collection_end-in-Some.field-0.0
     ((seen_at_node c.self.inside (at_node_inside c.self.inside c.self.view_is c.requires.stage)) ∙ ap (at_node c.self.inside.directives) c.in-Some.ensures)
     (may_end_here c.self.inside.frames
-    (seen_frame c.in-Some.frame) c.pop.new.self c.args.mapping c.may_end.result c.in-Some.ensures c.may_end.ensures c.if-not-may_end.false)
+    (seen_frame c.in-Some.frame) c.pop.new.self (is_mapping c.args.kind) c.may_end.result c.in-Some.ensures c.may_end.ensures c.if-not-may_end.false)
     (ap (λ (p : Place). p.column) c.next_place-around.ensures.place)
     (c.in_err-write_collection_end-in-Some.ensures (state_of c.self.inside).mark)))
 
@@ -45,10 +45,10 @@ pub returns-in_ok-write_collection_end-in-Some : goal.returns-in_ok-write_collec
 returns-in_ok-write_collection_end-in-Some g c = λ empty.
     rw (← c.self.view_is)
     (end_written (state_of c.self.inside) c.self.inside.directives
-    (seen_frame c.in-Some.frame) c.pop.new.self c.args.mapping empty c.next_place-around.result.column _ c.write_collection_end.new.pen
+    (seen_frame c.in-Some.frame) c.pop.new.self (is_mapping c.args.kind) empty c.next_place-around.result.column _ c.write_collection_end.new.pen
     ((seen_at_node c.self.inside (at_node_inside c.self.inside c.self.view_is c.requires.stage)) ∙ ap (at_node c.self.inside.directives) c.in-Some.ensures)
     (may_end_here c.self.inside.frames
-    (seen_frame c.in-Some.frame) c.pop.new.self c.args.mapping c.may_end.result c.in-Some.ensures c.may_end.ensures c.if-not-may_end.false)
+    (seen_frame c.in-Some.frame) c.pop.new.self (is_mapping c.args.kind) c.may_end.result c.in-Some.ensures c.may_end.ensures c.if-not-may_end.false)
     (ap (λ (p : Place). p.column) c.next_place-around.ensures.place)
     (c.advance-self-inside.ensures.stage c.self.inside.directives)
     (c.in_ok-write_collection_end-in-Some.ensures (state_of c.self.inside).mark))

@@ -9,7 +9,7 @@ use Rattle.yaml_base.specs.declared.errors.yaml_error_t.TheVariants.{Memory}
 use Rattle.yaml_emitter.specs.BorrowedTexts.{seen_collection}
 use Rattle.yaml_emitter.specs.Inside.{state_of}
 use Rattle.yaml_emitter.specs.NodeEvents.{start_event}
-use Rattle.yaml_emitter.specs.Places.{seen_frame, seen_place}
+use Rattle.yaml_emitter.specs.Places.{is_mapping, seen_frame, seen_place}
 use Rattle.yaml_emitter.specs.Stages.{seen_stage}
 use Rattle.yaml_emitter.proofs.events_done.ProcessedBy.{exit_by_memory, processed_exit}
 use Rattle.yaml_emitter.proofs.events_done.NodesDone.{at_node_inside, ready_inside, output_at_node, seen_at_node, kept_at_node, names_inside, collection_anchor, pushed_at_node}
@@ -19,10 +19,11 @@ use Rattle.yaml_emitter.proofs.emitter.yaml_emitter_t.open_collection.Goals as g
 pub returns-then-is_full : goal.returns-then-is_full
 returns-then-is_full g c = λ style asked.
     rw (← c.self.view_is)
-    (start_refused (state_of c.self.inside) c.self.inside.directives c.self.inside.frames c.args.mapping (seen_collection c.args.content.now style) c.args.empty
+    (start_refused (state_of c.self.inside) c.self.inside.directives c.self.inside.frames (is_mapping c.args.kind)
+    (seen_collection c.args.content.now style) c.args.empty
     (seen_at_node c.self.inside (at_node_inside c.self.inside c.self.view_is c.requires.stage))
-    (of_any_style c.self.inside.given.canonical c.args.mapping (seen_collection c.args.content.now any_layout) style
-    (names_inside c.self.inside c.self.view_is (start_event c.args.mapping (seen_collection c.args.content.now any_layout)) c.requires.names))
+    (of_any_style c.self.inside.given.canonical (is_mapping c.args.kind) (seen_collection c.args.content.now any_layout) style
+    (names_inside c.self.inside c.self.view_is (start_event (is_mapping c.args.kind) (seen_collection c.args.content.now any_layout)) c.requires.names))
     (full_here (nat_lt (length c.self.inside.frames) most_open) c.is_full.result c.is_full.ensures c.if-is_full.true))
 
 pub write_collection_start-requires-clause-ready : goal.write_collection_start-requires-clause-ready
@@ -36,7 +37,7 @@ write_collection_start-requires-clause-handle g c =
     ∙ ap (option_map (spelling c.self.inside.directives)) (c.written_collection_tag-written.ensures any_layout)) c.self.invariant.handles
 
 pub write_collection_start-requires-clause-anchor : goal.write_collection_start-requires-clause-anchor
-write_collection_start-requires-clause-anchor g c = collection_anchor c.args.self.now.given.canonical c.args.mapping
+write_collection_start-requires-clause-anchor g c = collection_anchor c.args.self.now.given.canonical (is_mapping c.args.kind)
     (seen_collection c.args.content.now any_layout) c.requires.names
 
 pub invariant_of-self : goal.invariant_of-self
@@ -48,14 +49,14 @@ invariant_of-self g c =
 pub returns-in_err-write_collection_start : goal.returns-in_err-write_collection_start
 returns-in_err-write_collection_start g c = λ style asked.
     rw (← c.self.view_is)
-    (processed_exit (start_event c.args.mapping (seen_collection c.args.content.now style)) c.args.empty
+    (processed_exit (start_event (is_mapping c.args.kind) (seen_collection c.args.content.now style)) c.args.empty
     (state_of c.self.inside) _ c.in_err-write_collection_start.field-0.0 c.from_residual.result c.from_residual.ensures
-    (start_cut (state_of c.self.inside) c.self.inside.directives c.self.inside.frames c.args.mapping
+    (start_cut (state_of c.self.inside) c.self.inside.directives c.self.inside.frames (is_mapping c.args.kind)
     (seen_collection c.args.content.now style) c.args.empty c.is_simple_collection_key-simple.result
     (seen_place c.next_place-place.result) c.write_collection_start.new.pen c.in_err-write_collection_start.field-0.0
     (seen_at_node c.self.inside (at_node_inside c.self.inside c.self.view_is c.requires.stage))
-    (of_any_style c.self.inside.given.canonical c.args.mapping (seen_collection c.args.content.now any_layout) style
-    (names_inside c.self.inside c.self.view_is (start_event c.args.mapping (seen_collection c.args.content.now any_layout)) c.requires.names))
+    (of_any_style c.self.inside.given.canonical (is_mapping c.args.kind) (seen_collection c.args.content.now any_layout) style
+    (names_inside c.self.inside c.self.view_is (start_event (is_mapping c.args.kind) (seen_collection c.args.content.now any_layout)) c.requires.names))
     (room_here (nat_lt (length c.self.inside.frames) most_open) c.is_full.result c.is_full.ensures c.if-is_full.false)
     c.next_place-place.ensures.place
     (c.is_simple_collection_key-simple.ensures c.self.inside.directives style
@@ -72,15 +73,15 @@ invariant_of-self-in_err-push g c =
 pub returns-in_err-push : goal.returns-in_err-push
 returns-in_err-push g c = λ style asked.
     rw (← c.self.view_is)
-    (processed_exit (start_event c.args.mapping (seen_collection c.args.content.now style)) c.args.empty
+    (processed_exit (start_event (is_mapping c.args.kind) (seen_collection c.args.content.now style)) c.args.empty
     (state_of c.self.inside) _ Memory c.from_residual-in_err-push.result
     (exit_by_memory c.in_err-push.field-0.0 c.from_residual-in_err-push.result c.in_err-push.ensures.memory c.from_residual-in_err-push.ensures)
-    (start_unkept (state_of c.self.inside) c.self.inside.directives c.self.inside.frames c.args.mapping
+    (start_unkept (state_of c.self.inside) c.self.inside.directives c.self.inside.frames (is_mapping c.args.kind)
     (seen_collection c.args.content.now style) c.args.empty c.is_simple_collection_key-simple.result (seen_place c.next_place-place.result)
     (seen_stage c.self.inside.stage c.self.inside.directives c.push.new.self) c.write_collection_start.new.pen
     (seen_at_node c.self.inside (at_node_inside c.self.inside c.self.view_is c.requires.stage))
-    (of_any_style c.self.inside.given.canonical c.args.mapping (seen_collection c.args.content.now any_layout) style
-    (names_inside c.self.inside c.self.view_is (start_event c.args.mapping (seen_collection c.args.content.now any_layout)) c.requires.names))
+    (of_any_style c.self.inside.given.canonical (is_mapping c.args.kind) (seen_collection c.args.content.now any_layout) style
+    (names_inside c.self.inside c.self.view_is (start_event (is_mapping c.args.kind) (seen_collection c.args.content.now any_layout)) c.requires.names))
     (room_here (nat_lt (length c.self.inside.frames) most_open) c.is_full.result c.is_full.ensures c.if-is_full.false)
     c.next_place-place.ensures.place
     (c.is_simple_collection_key-simple.ensures c.self.inside.directives style
@@ -97,12 +98,12 @@ invariant_of-self-2 g c =
 pub returns : goal.returns
 returns g c = λ style asked.
     rw (← c.self.view_is)
-    (start_written (state_of c.self.inside) c.self.inside.directives c.self.inside.frames c.args.mapping
+    (start_written (state_of c.self.inside) c.self.inside.directives c.self.inside.frames (is_mapping c.args.kind)
     (seen_collection c.args.content.now style) c.args.empty c.is_simple_collection_key-simple.result c.is_written_in_flow-in_flow.result
     (seen_place c.next_place-place.result) (seen_frame c.opened_frame-frame.result) _ c.write_collection_start.new.pen
     (seen_at_node c.self.inside (at_node_inside c.self.inside c.self.view_is c.requires.stage))
-    (of_any_style c.self.inside.given.canonical c.args.mapping (seen_collection c.args.content.now any_layout) style
-    (names_inside c.self.inside c.self.view_is (start_event c.args.mapping (seen_collection c.args.content.now any_layout)) c.requires.names))
+    (of_any_style c.self.inside.given.canonical (is_mapping c.args.kind) (seen_collection c.args.content.now any_layout) style
+    (names_inside c.self.inside c.self.view_is (start_event (is_mapping c.args.kind) (seen_collection c.args.content.now any_layout)) c.requires.names))
     (room_here (nat_lt (length c.self.inside.frames) most_open) c.is_full.result c.is_full.ensures c.if-is_full.false)
     c.next_place-place.ensures.place
     (c.is_simple_collection_key-simple.ensures c.self.inside.directives style
