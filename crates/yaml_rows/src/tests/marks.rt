@@ -20,20 +20,37 @@ fn directive<A: Allocator + Copy>(
     })
 }
 
+fn append(
+    alloc: Global,
+    directives: &mut Directives<Global>,
+    given: &(&str, &str),
+    as_default: bool,
+) -> Result<(), yaml_error_t> {
+    match directive(alloc, given.0, given.1) {
+        Ok(given) => directives.append(&given, as_default),
+        Err(_) => Err(yaml_error_t::Memory),
+    }
+}
+
+fn append_all(
+    alloc: Global,
+    directives: &mut Directives<Global>,
+    given: &[(&str, &str)],
+    as_default: bool,
+) -> Result<(), yaml_error_t> {
+    for each in given {
+        append(alloc, directives, each, as_default)?;
+    }
+    Ok(())
+}
+
+const DEFAULTS: &[(&str, &str)] = &[("!", "!"), ("!!", "tag:yaml.org,2002:")];
+
 // The directives in force in a document that gives these.
-fn in_force<A: Allocator + Copy>(
-    alloc: A,
-    own: &[(&str, &str)],
-) -> Result<Directives<A>, yaml_error_t> {
+fn in_force(alloc: Global, own: &[(&str, &str)]) -> Result<Directives<Global>, yaml_error_t> {
     let mut directives = Directives::new(alloc);
-    for (handle, prefix) in own {
-        let given = directive(alloc, handle, prefix).map_err(|_| yaml_error_t::Memory)?;
-        directives.append(&given, false)?;
-    }
-    for (handle, prefix) in [("!", "!"), ("!!", "tag:yaml.org,2002:")] {
-        let default = directive(alloc, handle, prefix).map_err(|_| yaml_error_t::Memory)?;
-        directives.append(&default, true)?;
-    }
+    append_all(alloc, &mut directives, own, false)?;
+    append_all(alloc, &mut directives, DEFAULTS, true)?;
     Ok(directives)
 }
 
@@ -50,61 +67,85 @@ fn holds<A: Allocator>(
 
 type Answer = Result<(), yaml_error_t>;
 
-fn check_version(rt: &impl Abort, major: i32, minor: i32, answer: Answer) {
-    equal(
-        rt,
-        &analyze_version(yaml_version_directive_t { major, minor }),
-        &answer,
-    );
+/// A major and a minor version, and what is said of them.
+type Version = (i32, i32, Answer);
+
+fn check_versions(rt: &impl Abort, rows: &[Version]) {
+    for row in rows {
+        let version = yaml_version_directive_t {
+            major: row.0,
+            minor: row.1,
+        };
+        equal(rt, &analyze_version(version), &row.2);
+    }
 }
+
+const OTHER: Answer = Err(yaml_error_t::IncompatibleVersion);
+
+const VERSIONS: &[Version] = &[
+    (1, 1, Ok(())),
+    (1, 2, Ok(())),
+    (1, 0, OTHER),
+    (1, 3, OTHER),
+    (2, 1, OTHER),
+    (-1, 1, OTHER),
+];
 
 #[test]
 fn versions_are_1_1_and_1_2(rt: HostRuntime) {
-    let refused = Err(yaml_error_t::IncompatibleVersion);
-    check_version(&rt, 1, 1, Ok(()));
-    check_version(&rt, 1, 2, Ok(()));
-    check_version(&rt, 1, 0, refused);
-    check_version(&rt, 1, 3, refused);
-    check_version(&rt, 2, 1, refused);
-    check_version(&rt, -1, 1, refused);
+    check_versions(&rt, VERSIONS);
 }
 
-// A name as an anchor, and as an alias.
-fn check_name(rt: &impl Abort, name: &str, anchor: Answer, alias: Answer) {
-    equal(rt, &analyze_anchor(name, false), &anchor);
-    equal(rt, &analyze_anchor(name, true), &alias);
+/// A name, and what is said of it as an anchor, and as an alias.
+type Name<'a> = (&'a str, Answer, Answer);
+
+fn check_names(rt: &impl Abort, rows: &[Name]) {
+    for row in rows {
+        equal(rt, &analyze_anchor(row.0, false), &row.1);
+        equal(rt, &analyze_anchor(row.0, true), &row.2);
+    }
 }
 
-#[test]
-fn anchors_and_aliases_are_names(rt: HostRuntime) {
-    let anchor = Err(yaml_error_t::AnchorAlphabet);
-    let alias = Err(yaml_error_t::AliasAlphabet);
-    check_name(&rt, "id001", Ok(()), Ok(()));
-    check_name(&rt, "_-9", Ok(()), Ok(()));
-    check_name(
-        &rt,
+const ANCHOR: Answer = Err(yaml_error_t::AnchorAlphabet);
+
+const ALIAS: Answer = Err(yaml_error_t::AliasAlphabet);
+
+const NAMES: &[Name] = &[
+    ("id001", Ok(()), Ok(())),
+    ("_-9", Ok(()), Ok(())),
+    (
         "",
         Err(yaml_error_t::AnchorEmpty),
         Err(yaml_error_t::AliasEmpty),
-    );
-    check_name(&rt, "a b", anchor, alias);
-    check_name(&rt, "\u{E9}", anchor, alias);
-    check_name(&rt, "a\0", anchor, alias);
+    ),
+    ("a b", ANCHOR, ALIAS),
+    ("\u{E9}", ANCHOR, ALIAS),
+    ("a\0", ANCHOR, ALIAS),
+];
+
+#[test]
+fn anchors_and_aliases_are_names(rt: HostRuntime) {
+    check_names(&rt, NAMES);
 }
 
 /// A handle, a prefix, and what is said of them.
 type Row<'a> = (&'a str, &'a str, Answer);
 
-fn check_directives(rt: &impl Abort, alloc: Global, rows: &[Row]) -> Result<(), Fail> {
-    for (handle, prefix, answer) in rows {
-        let given = directive(alloc, handle, prefix)?;
-        equal(rt, &analyze_tag_directive(&given), answer);
+fn analyzed(alloc: Global, row: &Row) -> Answer {
+    match directive(alloc, row.0, row.1) {
+        Ok(given) => analyze_tag_directive(&given),
+        Err(_) => Err(yaml_error_t::Memory),
     }
-    Ok(())
+}
+
+fn check_directives(rt: &impl Abort, alloc: Global, rows: &[Row]) {
+    for row in rows {
+        equal(rt, &analyzed(alloc, row), &row.2);
+    }
 }
 
 #[test]
-fn directives_are_refused_in_order(rt: HostRuntime) -> Result<(), Fail> {
+fn directives_are_refused_in_order(rt: HostRuntime) {
     let rows: &[Row] = &[
         ("!", "x", Ok(())),
         ("!!", "x", Ok(())),
@@ -117,7 +158,7 @@ fn directives_are_refused_in_order(rt: HostRuntime) -> Result<(), Fail> {
         ("!!!", "x", Err(yaml_error_t::TagHandleAlphabet)),
         ("!e!", "", Err(yaml_error_t::TagPrefixEmpty)),
     ];
-    check_directives(&rt, rt.alloc(), rows)
+    check_directives(&rt, rt.alloc(), rows);
 }
 
 // A directive is added, and then so many are in force; or it is refused.
@@ -179,18 +220,21 @@ fn a_handle_is_given_once(rt: HostRuntime) -> Result<(), Fail> {
 type Cut<'a> = (&'a str, Option<usize>, usize);
 
 fn check_cuts(rt: &impl Abort, directives: &Directives<Global>, rows: &[Cut]) {
-    for (tag, directive, prefix_length) in rows {
+    for row in rows {
         let wanted = tag_t {
-            directive: *directive,
-            prefix_length: *prefix_length,
+            directive: row.1,
+            prefix_length: row.2,
         };
-        assert!(rt; analyze_tag(tag, directives) == Ok(wanted), "{tag}");
+        equal(
+            rt,
+            &(row.0, analyze_tag(row.0, directives)),
+            &(row.0, Ok(wanted)),
+        );
     }
 }
 
 #[test]
 fn tags_are_cut_at_the_first_prefix(rt: HostRuntime) -> Result<(), Fail> {
-    let defaults = in_force(rt.alloc(), &[])?;
     let rows: &[Cut] = &[
         ("!", None, 0),
         ("!foo", Some(0), 1),
@@ -199,15 +243,24 @@ fn tags_are_cut_at_the_first_prefix(rt: HostRuntime) -> Result<(), Fail> {
         ("tag:yaml.org,2002:", None, 0),
         ("tag:yaml.org,2002", None, 0),
     ];
-    check_cuts(&rt, &defaults, rows);
-    assert!(rt; analyze_tag("", &defaults) == Err(yaml_error_t::TagEmpty));
+    check_cuts(&rt, &in_force(rt.alloc(), &[])?, rows);
+    Ok(())
+}
+
+#[test]
+fn an_empty_tag_is_refused(rt: HostRuntime) -> Result<(), Fail> {
+    let defaults = in_force(rt.alloc(), &[])?;
+    equal(
+        &rt,
+        &analyze_tag("", &defaults),
+        &Err(yaml_error_t::TagEmpty),
+    );
     Ok(())
 }
 
 #[test]
 fn tags_are_cut_at_a_documents_own_prefix(rt: HostRuntime) -> Result<(), Fail> {
     let given: &[(&str, &str)] = &[("!e!", "!x"), ("!!", "tag:e.com,2000:"), ("!f!", "!xy")];
-    let own = in_force(rt.alloc(), given)?;
     let rows: &[Cut] = &[
         ("!xy", Some(0), 2),
         ("!xyz", Some(0), 2),
@@ -215,7 +268,7 @@ fn tags_are_cut_at_a_documents_own_prefix(rt: HostRuntime) -> Result<(), Fail> {
         ("tag:e.com,2000:t", Some(1), 15),
         ("tag:yaml.org,2002:str", None, 0),
     ];
-    check_cuts(&rt, &own, rows);
+    check_cuts(&rt, &in_force(rt.alloc(), given)?, rows);
     Ok(())
 }
 
@@ -236,31 +289,51 @@ fn is_added<'a>(
     false
 }
 
+// Whether the second of two directives is added.
+fn is_second_appended<'a>(
+    rt: &impl Abort,
+    heap: &'a LocalHeap,
+    first: &yaml_tag_directive_t<&'a LocalHeap>,
+    second: &yaml_tag_directive_t<&'a LocalHeap>,
+) -> bool {
+    let mut directives = Directives::new(heap);
+    let is_first = is_added(rt, &mut directives, first);
+    let is_second = is_added(rt, &mut directives, second);
+    equal(rt, &holds(&directives, 0, first), &is_first);
+    is_second
+}
+
 // Two directives on a heap: whether the second is added; nothing where they themselves find no room.
 fn is_second_added(rt: &impl Abort, heap: &LocalHeap) -> Result<bool, AllocError> {
     let first = directive(heap, "!first!", "p")?;
     let second = directive(heap, "!second-of-them!", "tag:a-long-prefix.example,2000:")?;
-    let mut directives = Directives::new(heap);
-    let is_first = is_added(rt, &mut directives, &first);
-    let is_second = is_added(rt, &mut directives, &second);
-    equal(rt, &holds(&directives, 0, &first), &is_first);
-    Ok(is_second)
+    Ok(is_second_appended(rt, heap, &first, &second))
+}
+
+/// How many heaps refused the second directive, and how many took it.
+type Counts = (u8, u8);
+
+fn count(rt: &impl Abort, heap: &LocalHeap, counts: &mut Counts) {
+    match is_second_added(rt, heap) {
+        Ok(true) => counts.1 = counts.1.saturating_add(1),
+        Ok(false) => counts.0 = counts.0.saturating_add(1),
+        Err(_) => {}
+    }
 }
 
 // A heap of each size.
+fn counted(rt: &impl Abort, alloc: Global) -> Result<Counts, AllocError> {
+    let mut counts = (0, 0);
+    for blocks in 0..64 {
+        count(rt, &LocalHeap::new(alloc, blocks * 16)?, &mut counts);
+    }
+    Ok(counts)
+}
+
 #[test]
 fn refused_growths_change_nothing(rt: HostRuntime) -> Result<(), Fail> {
-    let mut refused: u8 = 0;
-    let mut added: u8 = 0;
-    for blocks in 0..64 {
-        let heap = LocalHeap::new(rt.alloc(), blocks * 16)?;
-        match is_second_added(&rt, &heap) {
-            Ok(true) => added = added.saturating_add(1),
-            Ok(false) => refused = refused.saturating_add(1),
-            Err(_) => {}
-        }
-    }
-    assert!(rt; refused >= 3);
-    assert!(rt; added >= 1);
+    let counts = counted(&rt, rt.alloc())?;
+    assert!(rt; counts.0 >= 3);
+    assert!(rt; counts.1 >= 1);
     Ok(())
 }

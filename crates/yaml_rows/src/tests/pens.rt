@@ -7,6 +7,7 @@ ghost use Rattle.yaml_base.specs.Characters.{is_break};
 ghost use Rattle.yaml_pen.specs.Page.{IsReady};
 
 mod memory;
+mod runs;
 
 use super::{equal, same};
 use std::alloc::{AllocError, Allocator, Global};
@@ -91,30 +92,24 @@ fn write_long_run<A: Allocator, B: Allocator>(
 }
 
 /// The column, and whether both flags of the cursor are on, or both off.
-fn check_cursor<A: Allocator>(rt: &impl Abort, pen: &Pen<A>, column: i32, flags: bool) {
-    equal(rt, &pen.column(), &column);
-    equal(rt, &pen.whitespace(), &flags);
-    equal(rt, &pen.indention(), &flags);
+fn check_cursor(rt: &impl Abort, pen: &Pen<Global>, column: i32, flags: bool) {
+    let cursor = (pen.column(), pen.whitespace(), pen.indention());
+    equal(rt, &cursor, &(column, flags, flags));
 }
 
 // Nothing was handed out before the flush, and this is after it.
-fn check_flushed<A: Allocator>(
-    rt: &impl Abort,
-    pen: &mut Pen<A>,
-    expected: &[u8],
-) -> Result<(), yaml_error_t>
+fn check_flushed(rt: &impl Abort, pen: &mut Pen<Global>, expected: &[u8])
     requires { IsReady pen.old }
 {
     same(rt, pen.output(), b"");
-    pen.flush()?;
+    equal(rt, &pen.flush(), &Ok(()));
     same(rt, pen.output(), expected);
     equal(rt, &pen.error(), &None);
-    Ok(())
 }
 
 // An indicator, a character outside ASCII, and a new line.
 #[tactic(auto, using(yaml_base::proofs::Literals::literal_unbroken))]
-fn write_line<A: Allocator>(rt: &impl Abort, pen: &mut Pen<A>) -> Result<(), yaml_error_t>
+fn write_line(rt: &impl Abort, pen: &mut Pen<Global>) -> Result<(), yaml_error_t>
     requires { IsReady pen.old }
     ensures { IsReady pen.new }
 {
@@ -128,7 +123,7 @@ fn write_line<A: Allocator>(rt: &impl Abort, pen: &mut Pen<A>) -> Result<(), yam
 }
 
 // A letter, the setting's line break, and a separator of lines.
-fn end_line<A: Allocator>(rt: &impl Abort, pen: &mut Pen<A>) -> Result<(), yaml_error_t>
+fn end_line(rt: &impl Abort, pen: &mut Pen<Global>) -> Result<(), yaml_error_t>
     requires { IsReady pen.old }
     ensures { IsReady pen.new }
 {
@@ -142,14 +137,21 @@ fn end_line<A: Allocator>(rt: &impl Abort, pen: &mut Pen<A>) -> Result<(), yaml_
     Ok(())
 }
 
+fn write_all(rt: &impl Abort, pen: &mut Pen<Global>) -> Result<(), yaml_error_t>
+    requires { IsReady pen.old }
+    ensures { IsReady pen.new }
+{
+    write_line(rt, pen)?;
+    end_line(rt, pen)
+}
+
 /// An encoding, and what is written in it.
 type Written<'a> = (yaml_encoding_t, &'a [u8]);
 
 fn check_calls(rt: &impl Abort, alloc: Global, row: &Written) -> Result<(), Fail> {
     let mut pen = begun(alloc, usize::MAX, row.0)?;
-    write_line(rt, &mut pen)?;
-    end_line(rt, &mut pen)?;
-    check_flushed(rt, &mut pen, row.1)?;
+    equal(rt, &write_all(rt, &mut pen), &Ok(()));
+    check_flushed(rt, &mut pen, row.1);
     Ok(())
 }
 
@@ -164,7 +166,7 @@ fn each_call_writes(rt: HostRuntime) -> Result<(), Fail> {
 }
 
 // The setting's line break, and two that are written as given.
-fn write_breaks<A: Allocator>(pen: &mut Pen<A>) -> Result<(), yaml_error_t>
+fn write_breaks(pen: &mut Pen<Global>) -> Result<(), yaml_error_t>
     requires { IsReady pen.old }
     ensures { IsReady pen.new }
 {
@@ -175,7 +177,7 @@ fn write_breaks<A: Allocator>(pen: &mut Pen<A>) -> Result<(), yaml_error_t>
 }
 
 #[tactic(auto, using(yaml_base::proofs::Literals::literal_unbroken))]
-fn write_indicators<A: Allocator>(pen: &mut Pen<A>) -> Result<(), yaml_error_t>
+fn write_indicators(pen: &mut Pen<Global>) -> Result<(), yaml_error_t>
     requires { IsReady pen.old }
     ensures { IsReady pen.new }
 {
@@ -188,14 +190,14 @@ fn write_indicators<A: Allocator>(pen: &mut Pen<A>) -> Result<(), yaml_error_t>
 fn line_breaks_are_those_of_the_setting(rt: HostRuntime) -> Result<(), Fail> {
     let mut pen = Pen::new(rt.alloc())?;
     pen.begin(YAML_UTF8_ENCODING, YAML_CRLN_BREAK);
-    write_breaks(&mut pen)?;
-    write_indicators(&mut pen)?;
-    check_flushed(&rt, &mut pen, b"a\r\n\r\n\r-b c")?;
+    equal(&rt, &write_breaks(&mut pen), &Ok(()));
+    equal(&rt, &write_indicators(&mut pen), &Ok(()));
+    check_flushed(&rt, &mut pen, b"a\r\n\r\n\r-b c");
     Ok(())
 }
 
 // The flush hands out what the limit leaves, and each call after it is refused.
-fn check_cut<A: Allocator>(rt: &impl Abort, pen: &mut Pen<A>, cut: &[u8])
+fn check_cut(rt: &impl Abort, pen: &mut Pen<Global>, cut: &[u8])
     requires { IsReady pen.old }
 {
     let refused = Err(yaml_error_t::WriteError);
@@ -207,14 +209,28 @@ fn check_cut<A: Allocator>(rt: &impl Abort, pen: &mut Pen<A>, cut: &[u8])
     same(rt, pen.output(), cut);
 }
 
+fn write_face(pen: &mut Pen<Global>) -> Result<(), yaml_error_t>
+    requires { IsReady pen.old }
+    ensures { IsReady pen.new }
+{
+    pen.write_char('\u{1F600}')?;
+    pen.put_break()
+}
+
+// The text is cut where the limit leaves less, and else whole.
+fn check_text(rt: &impl Abort, pen: &mut Pen<Global>, text: &[u8], limit: usize)
+    requires { IsReady pen.old }
+{
+    match text.get(..limit) {
+        Some(cut) if limit < text.len() => check_cut(rt, pen, cut),
+        _ => check_flushed(rt, pen, text),
+    }
+}
+
 fn check_limit(rt: &impl Abort, alloc: Global, row: &Written, limit: usize) -> Result<(), Fail> {
     let mut pen = begun(alloc, limit, row.0)?;
-    pen.write_char('\u{1F600}')?;
-    pen.put_break()?;
-    match row.1.get(..limit) {
-        Some(cut) if limit < row.1.len() => check_cut(rt, &mut pen, cut),
-        _ => check_flushed(rt, &mut pen, row.1)?,
-    }
+    equal(rt, &write_face(&mut pen), &Ok(()));
+    check_text(rt, &mut pen, row.1, limit);
     Ok(())
 }
 
@@ -260,13 +276,22 @@ fn start_of(encoding: yaml_encoding_t, ahead: usize) -> usize {
     }
 }
 
+fn write_cycles_after(pen: &mut Pen<Global>, ahead: usize) -> Result<(), yaml_error_t>
+    requires { IsReady pen.old }
+{
+    put_letters(pen, ahead)?;
+    write_cycles(pen, 10_000)?;
+    pen.flush()
+}
+
+fn check_rest(rt: &impl Abort, output: &[u8], start: usize, count: usize, cycle: &[u8; 10]) {
+    check_bytes(rt, output.get(start..).unwrap_or(b""), count, cycle);
+}
+
 fn check_cycles(rt: &impl Abort, alloc: Global, row: &Cycle, ahead: usize) -> Result<(), Fail> {
     let mut pen = begun(alloc, usize::MAX, row.0)?;
-    put_letters(&mut pen, ahead)?;
-    write_cycles(&mut pen, 10_000)?;
-    pen.flush()?;
-    let rest = pen.output().get(start_of(row.0, ahead)..).unwrap_or(b"");
-    check_bytes(rt, rest, 100_000, row.1);
+    equal(rt, &write_cycles_after(&mut pen, ahead), &Ok(()));
+    check_rest(rt, pen.output(), start_of(row.0, ahead), 100_000, row.1);
     Ok(())
 }
 
@@ -283,83 +308,4 @@ fn characters_stay_whole_across_the_buffer(rt: HostRuntime) -> Result<(), Fail> 
     check_each_cycle(&rt, rt.alloc(), &(YAML_UTF8_ENCODING, IN_UTF8))?;
     check_each_cycle(&rt, rt.alloc(), &(YAML_UTF16LE_ENCODING, IN_UTF16LE))?;
     check_each_cycle(&rt, rt.alloc(), &(YAML_UTF16BE_ENCODING, IN_UTF16BE))
-}
-
-// A run that is longer than six buffers, one of nothing, and a short one, after so many letters.
-fn write_runs(
-    rt: &impl Abort,
-    pen: &mut Pen<Global>,
-    alloc: Global,
-    ahead: i32,
-) -> Result<(), yaml_error_t>
-    requires { IsReady pen.old }
-    ensures { IsReady pen.new }
-{
-    write_long_run(pen, alloc, 10_000)?;
-    equal(rt, &pen.column(), &ahead.saturating_add(40_000));
-    write_long_run(pen, alloc, 0)?;
-    write_long_run(pen, alloc, 1)?;
-    equal(rt, &pen.column(), &ahead.saturating_add(40_004));
-    Ok(())
-}
-
-fn check_runs(rt: &impl Abort, alloc: Global, row: &Cycle, ahead: u8) -> Result<(), Fail> {
-    let mut pen = begun(alloc, usize::MAX, row.0)?;
-    put_letters(&mut pen, usize::from(ahead))?;
-    write_runs(rt, &mut pen, alloc, i32::from(ahead))?;
-    pen.flush()?;
-    let rest = pen
-        .output()
-        .get(start_of(row.0, usize::from(ahead))..)
-        .unwrap_or(b"");
-    check_bytes(rt, rest, 100_010, row.1);
-    Ok(())
-}
-
-// The same ten bytes, written as runs.
-#[test]
-fn runs_stay_whole_across_the_buffer(rt: HostRuntime) -> Result<(), Fail> {
-    for ahead in 0..10 {
-        check_runs(&rt, rt.alloc(), &(YAML_UTF8_ENCODING, IN_UTF8), ahead)?;
-        check_runs(&rt, rt.alloc(), &(YAML_UTF16LE_ENCODING, IN_UTF16LE), ahead)?;
-    }
-    Ok(())
-}
-
-// After a refusal a run is refused by the same error, and hands out nothing.
-fn check_run_refused<A: Allocator>(
-    rt: &impl Abort,
-    pen: &mut Pen<A>,
-    alloc: Global,
-    error: yaml_error_t,
-)
-    requires { IsReady pen.old }
-    ensures { IsReady pen.new }
-{
-    let length = pen.output().len();
-    equal(rt, &write_long_run(pen, alloc, 1), &Err(error));
-    equal(rt, &pen.error(), &Some(error));
-    equal(rt, &pen.output().len(), &length);
-}
-
-fn check_run_limit(rt: &impl Abort, alloc: Global, limit: usize) -> Result<(), Fail> {
-    let error = yaml_error_t::WriteError;
-    let mut pen = begun(alloc, limit, YAML_UTF8_ENCODING)?;
-    let written = write_long_run(&mut pen, alloc, 5_000);
-    assert!(rt; written.is_ok() || written == Err(error));
-    equal(rt, &pen.flush().is_ok(), &(limit == 50_000));
-    check_bytes(rt, pen.output(), limit, IN_UTF8);
-    if limit < 50_000 {
-        check_run_refused(rt, &mut pen, alloc, error);
-    }
-    Ok(())
-}
-
-#[test]
-fn a_limit_cuts_a_run_at_any_byte(rt: HostRuntime) -> Result<(), Fail> {
-    let limits: &[usize] = &[0, 1, 16_383, 16_384, 16_385, 33_333, 49_999, 50_000];
-    for limit in limits {
-        check_run_limit(&rt, rt.alloc(), *limit)?;
-    }
-    Ok(())
 }

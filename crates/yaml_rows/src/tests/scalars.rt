@@ -13,20 +13,20 @@ mod single_quoted;
 mod styles;
 
 use super::{equal, same};
-use std::alloc::Allocator;
+use std::alloc::Global;
 use std::process::Abort;
 use yaml_base::{YAML_CR_BREAK, YAML_CRLN_BREAK, YAML_LN_BREAK, YAML_UTF8_ENCODING, yaml_error_t};
 use yaml_pen::Pen;
 
 /// A pen at the start of a text in UTF-8 whose lines end in LF.
-fn begun<A: Allocator + Copy>(alloc: A) -> Result<Pen<A>, yaml_error_t>
+fn begun(alloc: Global) -> Result<Pen<Global>, yaml_error_t>
     ensures { IfOk result (λ pen. IsReady pen) }
 {
     begun_within(alloc, usize::MAX)
 }
 
 /// The same, with a limit on the output's bytes.
-fn begun_within<A: Allocator + Copy>(alloc: A, limit: usize) -> Result<Pen<A>, yaml_error_t>
+fn begun_within(alloc: Global, limit: usize) -> Result<Pen<Global>, yaml_error_t>
     ensures { IfOk result (λ pen. IsReady pen) }
 {
     let mut pen = Pen::new(alloc)?;
@@ -36,10 +36,7 @@ fn begun_within<A: Allocator + Copy>(alloc: A, limit: usize) -> Result<Pen<A>, y
 }
 
 /// The same, with lines that end in CR, or in CR LF.
-fn begun_with_returns<A: Allocator + Copy>(
-    alloc: A,
-    line_feed_too: bool,
-) -> Result<Pen<A>, yaml_error_t>
+fn begun_with_returns(alloc: Global, line_feed_too: bool) -> Result<Pen<Global>, yaml_error_t>
     ensures { IfOk result (λ pen. IsReady pen) }
 {
     let mut pen = Pen::new(alloc)?;
@@ -52,7 +49,7 @@ fn begun_with_returns<A: Allocator + Copy>(
 }
 
 /// What was written.
-fn finished<A: Allocator + Copy>(alloc: A, pen: &mut Pen<A>) -> Result<Vec<u8, A>, yaml_error_t>
+fn finished(alloc: Global, pen: &mut Pen<Global>) -> Result<Vec<u8>, yaml_error_t>
     requires { IsReady pen.old }
 {
     pen.flush()?;
@@ -60,7 +57,7 @@ fn finished<A: Allocator + Copy>(alloc: A, pen: &mut Pen<A>) -> Result<Vec<u8, A
 }
 
 /// The flush is refused, and hands out this.
-fn check_cut<A: Allocator>(rt: &impl Abort, pen: &mut Pen<A>, cut: &[u8])
+fn check_cut(rt: &impl Abort, pen: &mut Pen<Global>, cut: &[u8])
     requires { IsReady pen.old }
     ensures { IsReady pen.new }
 {
@@ -68,17 +65,66 @@ fn check_cut<A: Allocator>(rt: &impl Abort, pen: &mut Pen<A>, cut: &[u8])
     same(rt, pen.output(), cut);
 }
 
+/// The answer was good, and this was written.
+fn check_written(
+    rt: &impl Abort,
+    pen: &mut Pen<Global>,
+    answer: Result<(), yaml_error_t>,
+    wanted: &str,
+)
+    requires { IsReady pen.old }
+{
+    equal(rt, &answer, &Ok(()));
+    equal(rt, &pen.flush(), &Ok(()));
+    same(rt, pen.output(), wanted.as_bytes());
+}
+
+/// The same, where the answer is an open mark.
+fn check_marked(
+    rt: &impl Abort,
+    pen: &mut Pen<Global>,
+    answer: Result<i32, yaml_error_t>,
+    wanted: (&str, i32),
+)
+    requires { IsReady pen.old }
+{
+    equal(rt, &answer, &Ok(wanted.1));
+    equal(rt, &pen.flush(), &Ok(()));
+    same(rt, pen.output(), wanted.0.as_bytes());
+}
+
+/// A row of a table.
+trait Row {
+    /// A pen at the start of a text writes what the row says.
+    fn check(&self, rt: &impl Abort, pen: &mut Pen<Global>)
+        requires { IsReady pen.old };
+}
+
+fn check_row<R: Row>(rt: &impl Abort, alloc: Global, row: &R) {
+    match begun(alloc) {
+        Ok(mut pen) => row.check(rt, &mut pen),
+        Err(error) => equal(rt, &Some(error), &None),
+    }
+}
+
+/// Each row has a pen of its own.
+fn check_rows<R: Row>(rt: &impl Abort, alloc: Global, rows: &[R]) {
+    for row in rows {
+        check_row(rt, alloc, row);
+    }
+}
+
 /// A sign `-`, which a space must follow.
 #[tactic(auto, using(yaml_base::proofs::Literals::literal_unbroken))]
-fn write_sign<A: Allocator>(pen: &mut Pen<A>) -> Result<(), yaml_error_t>
+fn write_sign(pen: &mut Pen<Global>) -> Result<(), yaml_error_t>
     requires { IsReady pen.old }
-    ensures { IfOk result (λ _. IsReady pen.new) }
+    ensures { IsReady pen.new }
 {
     pen.write_indicator("-", true, false, true)
 }
 
 /// The column; both flags of the cursor are off.
-fn check_column<A: Allocator>(rt: &impl Abort, pen: &Pen<A>, column: i32) {
+fn check_column(rt: &impl Abort, pen: &Pen<Global>, column: i32) {
     equal(rt, &pen.column(), &column);
     equal(rt, &pen.whitespace(), &false);
     equal(rt, &pen.indention(), &false);

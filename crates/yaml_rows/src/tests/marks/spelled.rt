@@ -5,7 +5,7 @@ ghost use Rattle.yaml_base.specs.Characters as class;
 ghost use Rattle.yaml_pen.specs.Page.{IsReady};
 
 use super::in_force;
-use crate::tests::same;
+use crate::tests::{equal, same};
 use std::alloc::{Allocator, Global};
 use std::process::Abort;
 use std::test::Fail;
@@ -24,12 +24,18 @@ fn begun(alloc: Global) -> Result<Pen<Global>, yaml_error_t>
     Ok(pen)
 }
 
-// What was written.
-fn finished(alloc: Global, pen: &mut Pen<Global>) -> Result<Vec<u8>, yaml_error_t>
+// The answer was good, and this was written.
+fn check_written(
+    rt: &impl Abort,
+    pen: &mut Pen<Global>,
+    answer: Result<(), yaml_error_t>,
+    wanted: &[u8],
+)
     requires { IsReady pen.old }
 {
-    pen.flush()?;
-    Vec::from_slice(alloc, pen.output()).map_err(|_| yaml_error_t::Memory)
+    equal(rt, &answer, &Ok(()));
+    equal(rt, &pen.flush(), &Ok(()));
+    same(rt, pen.output(), wanted);
 }
 
 fn has_break(text: &str) -> bool
@@ -45,7 +51,7 @@ fn write_short<A: Allocator>(
     suffix: &str,
 ) -> Result<(), yaml_error_t>
     requires { IsReady pen.old }
-    ensures { IfOk result (λ _. IsReady pen.new) }
+    ensures { IsReady pen.new }
 {
     let handle = directive.handle.as_str();
     if has_break(handle) {
@@ -58,7 +64,7 @@ fn write_short<A: Allocator>(
 #[tactic(auto, using(yaml_base::proofs::Literals::literal_unbroken))]
 fn write_whole(pen: &mut Pen<Global>, tag: &str) -> Result<(), yaml_error_t>
     requires { IsReady pen.old }
-    ensures { IfOk result (λ _. IsReady pen.new) }
+    ensures { IsReady pen.new }
 {
     pen.write_indicator("!<", true, false, false)?;
     write_tag_content(pen, tag, false)?;
@@ -71,7 +77,7 @@ fn write_tag(
     directives: &Directives<Global>,
 ) -> Result<(), yaml_error_t>
     requires { IsReady pen.old }
-    ensures { IfOk result (λ _. IsReady pen.new) }
+    ensures { IsReady pen.new }
 {
     let cut = analyze_tag(tag, directives)?;
     let Some(number) = cut.directive else {
@@ -87,48 +93,67 @@ fn write_tag(
 #[tactic(auto, using(yaml_base::proofs::Literals::literal_unbroken))]
 fn write_property(pen: &mut Pen<Global>) -> Result<(), yaml_error_t>
     requires { IsReady pen.old }
-    ensures { IfOk result (λ _. IsReady pen.new) }
+    ensures { IsReady pen.new }
 {
     pen.write_indicator("&", true, false, false)?;
     write_anchor(pen, "a")
 }
 
-// The tag as it is written, `&a` before it.
-fn spelled(
-    alloc: Global,
+// The tag, `&a` before it.
+fn write_both(
+    pen: &mut Pen<Global>,
     tag: &str,
     directives: &Directives<Global>,
-) -> Result<Vec<u8>, yaml_error_t> {
-    let mut pen = begun(alloc)?;
-    write_property(&mut pen)?;
-    write_tag(&mut pen, tag, directives)?;
-    finished(alloc, &mut pen)
+) -> Result<(), yaml_error_t>
+    requires { IsReady pen.old }
+    ensures { IsReady pen.new }
+{
+    write_property(pen)?;
+    write_tag(pen, tag, directives)
 }
 
-/// Tags, each with what is written.
-type Rows<'a> = &'a [(&'a str, &'a str)];
+/// A tag, and what is written.
+type Tag<'a> = (&'a str, &'a str);
+
+fn check_tag(
+    rt: &impl Abort,
+    alloc: Global,
+    directives: &Directives<Global>,
+    row: &Tag,
+) -> Result<(), yaml_error_t> {
+    let mut pen = begun(alloc)?;
+    let answer = write_both(&mut pen, row.0, directives);
+    check_written(rt, &mut pen, answer, row.1.as_bytes());
+    Ok(())
+}
+
+fn check_each_tag(
+    rt: &impl Abort,
+    alloc: Global,
+    directives: &Directives<Global>,
+    rows: &[Tag],
+) -> Result<(), yaml_error_t> {
+    for row in rows {
+        check_tag(rt, alloc, directives, row)?;
+    }
+    Ok(())
+}
 
 // Where a document gives these directives.
 fn check_tags(
     rt: &impl Abort,
     alloc: Global,
     own: &[(&str, &str)],
-    rows: Rows,
+    rows: &[Tag],
 ) -> Result<(), Fail> {
     let directives = in_force(alloc, own)?;
-    for (tag, written) in rows {
-        same(
-            rt,
-            spelled(alloc, tag, &directives)?.as_slice(),
-            written.as_bytes(),
-        );
-    }
+    check_each_tag(rt, alloc, &directives, rows)?;
     Ok(())
 }
 
 #[test]
 fn tags_are_written_by_their_spelling(rt: HostRuntime) -> Result<(), Fail> {
-    let rows: Rows = &[
+    let rows: &[Tag] = &[
         ("!", "&a !<%21>"),
         ("!foo", "&a !foo"),
         ("!a!b", "&a !a%21b"),
@@ -146,15 +171,19 @@ fn tags_are_written_by_their_spelling(rt: HostRuntime) -> Result<(), Fail> {
 #[test]
 fn tags_are_written_by_a_documents_own_handles(rt: HostRuntime) -> Result<(), Fail> {
     let own: &[(&str, &str)] = &[("!e!", "!x"), ("!!", "tag:e.com,2000:")];
-    let rows: Rows = &[
+    let rows: &[Tag] = &[
         ("!xy", "&a !e!y"),
         ("!x", "&a !x"),
         ("tag:e.com,2000:t", "&a !!t"),
         ("tag:yaml.org,2002:str", "&a !<tag:yaml.org,2002:str>"),
     ];
-    check_tags(&rt, rt.alloc(), own, rows)?;
+    check_tags(&rt, rt.alloc(), own, rows)
+}
+
+#[test]
+fn tags_are_written_by_handles_that_replace_the_defaults(rt: HostRuntime) -> Result<(), Fail> {
     let replaced: &[(&str, &str)] = &[("!", "tag:e.com,2000:")];
-    let rows: Rows = &[
+    let rows: &[Tag] = &[
         ("tag:e.com,2000:t", "&a !t"),
         ("!t", "&a !<%21t>"),
         ("tag:yaml.org,2002:str", "&a !!str"),
@@ -162,45 +191,64 @@ fn tags_are_written_by_a_documents_own_handles(rt: HostRuntime) -> Result<(), Fa
     check_tags(&rt, rt.alloc(), replaced, rows)
 }
 
-// What `write_tag_content` writes of a text.
-fn content(alloc: Global, text: &str) -> Result<Vec<u8>, yaml_error_t> {
-    let mut pen = begun(alloc)?;
-    write_tag_content(&mut pen, text, false)?;
-    finished(alloc, &mut pen)
-}
-
 /// The characters that stand for themselves.
 const KEPT: &str =
     "0123456789ABCDEFGHIJKLMNOPQRSTUVWXYZabcdefghijklmnopqrstuvwxyz_-;/?:@&=+$,.~*'()[]";
+
+fn push_escaped(alloc: Global, forms: &mut String, byte: u8) -> Result<(), Fail> {
+    forms.push_str(format!(in alloc; "%{:02X}", byte)?.as_str())?;
+    Ok(())
+}
 
 // The percent forms of a text's bytes.
 fn escaped(alloc: Global, text: &str) -> Result<String, Fail> {
     let mut forms = String::new(alloc);
     for byte in text.as_bytes() {
-        forms.push_str(format!(in alloc; "%{:02X}", *byte)?.as_str())?;
+        push_escaped(alloc, &mut forms, *byte)?;
     }
     Ok(forms)
+}
+
+fn check_content(
+    rt: &impl Abort,
+    alloc: Global,
+    text: &str,
+    written: &str,
+) -> Result<(), yaml_error_t> {
+    let mut pen = begun(alloc)?;
+    let answer = write_tag_content(&mut pen, text, false);
+    check_written(rt, &mut pen, answer, written.as_bytes());
+    Ok(())
+}
+
+fn check_escaped(rt: &impl Abort, alloc: Global, text: &str) -> Result<(), Fail> {
+    let forms = escaped(alloc, text)?;
+    check_content(rt, alloc, text, forms.as_str())?;
+    Ok(())
 }
 
 fn check_character(rt: &impl Abort, alloc: Global, character: char) -> Result<(), Fail> {
     let mut text = String::new(alloc);
     text.push(character)?;
-    let written = content(alloc, text.as_str())?;
     if KEPT.contains(character) {
-        same(rt, written.as_slice(), text.as_str().as_bytes());
-    } else {
-        let forms = escaped(alloc, text.as_str())?;
-        same(rt, written.as_slice(), forms.as_str().as_bytes());
+        check_content(rt, alloc, text.as_str(), text.as_str())?;
+        return Ok(());
     }
-    Ok(())
+    check_escaped(rt, alloc, text.as_str())
 }
 
-// Each character up to U+00FF, and the first and last of each longer form of UTF-8.
+// Each character up to U+00FF.
 #[test]
 fn every_byte_is_kept_or_escaped(rt: HostRuntime) -> Result<(), Fail> {
     for character in '\0'..='\u{FF}' {
         check_character(&rt, rt.alloc(), character)?;
     }
+    Ok(())
+}
+
+// The first and last of each longer form of UTF-8.
+#[test]
+fn longer_characters_are_escaped(rt: HostRuntime) -> Result<(), Fail> {
     for character in "\u{7FF}\u{800}\u{FFFF}\u{10000}\u{10FFFF}".chars() {
         check_character(&rt, rt.alloc(), character)?;
     }
@@ -210,7 +258,7 @@ fn every_byte_is_kept_or_escaped(rt: HostRuntime) -> Result<(), Fail> {
 #[tactic(auto, using(yaml_base::proofs::Literals::literal_unbroken))]
 fn write_directive(pen: &mut Pen<Global>) -> Result<(), yaml_error_t>
     requires { IsReady pen.old }
-    ensures { IfOk result (λ _. IsReady pen.new) }
+    ensures { IsReady pen.new }
 {
     pen.write_indicator("%TAG", true, false, false)?;
     write_tag_handle(pen, "!e!")?;
@@ -220,35 +268,41 @@ fn write_directive(pen: &mut Pen<Global>) -> Result<(), yaml_error_t>
 #[test]
 fn a_directive_line_is_separated(rt: HostRuntime) -> Result<(), Fail> {
     let mut pen = begun(rt.alloc())?;
-    write_directive(&mut pen)?;
-    assert!(rt; !pen.whitespace() && !pen.indention());
-    let written = finished(rt.alloc(), &mut pen)?;
-    same(&rt, written.as_slice(), b"%TAG !e! %21x");
+    let answer = write_directive(&mut pen);
+    equal(&rt, &(pen.whitespace(), pen.indention()), &(false, false));
+    check_written(&rt, &mut pen, answer, b"%TAG !e! %21x");
     Ok(())
 }
 
 // A text as a prefix, and then as what stands after a handle.
-fn both(alloc: Global, text: &str, portable: bool) -> Result<Vec<u8>, yaml_error_t> {
-    let mut pen = begun(alloc)?;
-    write_tag_prefix(&mut pen, text, portable)?;
-    write_tag_suffix(&mut pen, text, portable)?;
-    finished(alloc, &mut pen)
+fn write_ends(pen: &mut Pen<Global>, text: &str, portable: bool) -> Result<(), yaml_error_t>
+    requires { IsReady pen.old }
+    ensures { IsReady pen.new }
+{
+    write_tag_prefix(pen, text, portable)?;
+    write_tag_suffix(pen, text, portable)
 }
 
-fn check_both(rt: &impl Abort, alloc: Global, rows: &[(&str, bool, &str)]) -> Result<(), Fail> {
-    for (text, portable, written) in rows {
-        same(
-            rt,
-            both(alloc, text, *portable)?.as_slice(),
-            written.as_bytes(),
-        );
+/// A text, whether it is to be portable, and what is written.
+type Ends<'a> = (&'a str, bool, &'a str);
+
+fn check_ends(rt: &impl Abort, alloc: Global, row: &Ends) -> Result<(), yaml_error_t> {
+    let mut pen = begun(alloc)?;
+    let answer = write_ends(&mut pen, row.0, row.1);
+    check_written(rt, &mut pen, answer, row.2.as_bytes());
+    Ok(())
+}
+
+fn check_each_end(rt: &impl Abort, alloc: Global, rows: &[Ends]) -> Result<(), Fail> {
+    for row in rows {
+        check_ends(rt, alloc, row)?;
     }
     Ok(())
 }
 
 #[test]
 fn prefixes_and_suffixes_are_portable_where_asked(rt: HostRuntime) -> Result<(), Fail> {
-    let rows: &[(&str, bool, &str)] = &[
+    let rows: &[Ends] = &[
         (";,[]", false, ";,[];,[]"),
         (";,[]", true, ";,[];%2C%5B%5D"),
         ("!x!", false, "%21x%21%21x%21"),
@@ -256,5 +310,5 @@ fn prefixes_and_suffixes_are_portable_where_asked(rt: HostRuntime) -> Result<(),
         ("!", true, "!%21"),
         ("\u{E9}!", true, "%C3%A9%21%C3%A9%21"),
     ];
-    check_both(&rt, rt.alloc(), rows)
+    check_each_end(&rt, rt.alloc(), rows)
 }

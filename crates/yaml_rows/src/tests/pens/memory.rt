@@ -1,7 +1,8 @@
 //! Growths that are refused.
 ghost use Rattle.yaml_pen.specs.Page.{IsReady};
 
-use super::{IN_UTF8, begun, check_bytes, check_run_refused, put_letters, write_long_run};
+use super::runs::check_run_refused;
+use super::{IN_UTF8, begun, check_bytes, put_letters, write_long_run};
 use crate::tests::equal;
 use linked_list_allocator::LocalHeap;
 use std::alloc::{Allocator, Global};
@@ -9,6 +10,12 @@ use std::process::Abort;
 use std::test::Fail;
 use yaml_base::{YAML_UTF8_ENCODING, yaml_error_t};
 use yaml_pen::Pen;
+
+// So many letters, and nothing else.
+fn check_letters(rt: &impl Abort, output: &[u8], count: usize) {
+    equal(rt, &output.len(), &count);
+    equal(rt, &output.iter().all(|byte| *byte == b'x'), &true);
+}
 
 // Letters find no room, and then nothing does; so many of them were handed out.
 fn check_full<A: Allocator>(rt: &impl Abort, pen: &mut Pen<A>, handed_out: usize)
@@ -20,8 +27,7 @@ fn check_full<A: Allocator>(rt: &impl Abort, pen: &mut Pen<A>, handed_out: usize
     equal(rt, &pen.put(b'a'), &refused);
     equal(rt, &pen.flush(), &refused);
     equal(rt, &pen.error(), &Some(yaml_error_t::Memory));
-    equal(rt, &pen.output().len(), &handed_out);
-    assert!(rt; pen.output().iter().all(|byte| *byte == b'x'));
+    check_letters(rt, pen.output(), handed_out);
 }
 
 fn check_heap(rt: &impl Abort, heap: &LocalHeap, made: bool, handed_out: usize) {
@@ -47,17 +53,28 @@ fn refused_growths_leave_the_output(rt: HostRuntime) -> Result<(), Fail> {
     Ok(())
 }
 
+fn check_run_stops<A: Allocator>(
+    rt: &impl Abort,
+    alloc: Global,
+    pen: &mut Pen<A>,
+    handed_out: usize,
+)
+    requires { IsReady pen.old }
+{
+    let error = yaml_error_t::Memory;
+    equal(rt, &write_long_run(pen, alloc, 10_000), &Err(error));
+    check_run_refused(rt, pen, alloc, error);
+    check_bytes(rt, pen.output(), handed_out, IN_UTF8);
+}
+
 fn check_run_full(
     rt: &impl Abort,
     alloc: Global,
     heap: &LocalHeap,
     handed_out: usize,
 ) -> Result<(), Fail> {
-    let error = yaml_error_t::Memory;
     let mut pen = begun(heap, usize::MAX, YAML_UTF8_ENCODING)?;
-    equal(rt, &write_long_run(&mut pen, alloc, 10_000), &Err(error));
-    check_run_refused(rt, &mut pen, alloc, error);
-    check_bytes(rt, pen.output(), handed_out, IN_UTF8);
+    check_run_stops(rt, alloc, &mut pen, handed_out);
     Ok(())
 }
 

@@ -5,9 +5,10 @@ ghost use Rattle.yaml_base.specs.Analysis.{is_empty};
 ghost use Rattle.yaml_pen.specs.Page.{IsReady};
 
 use super::{
-    begun, begun_with_returns, begun_within, check_cut, equal, finished, same, write_sign,
+    Row, begun, begun_with_returns, begun_within, check_cut, check_marked, check_rows,
+    check_written, equal, finished, same, write_sign,
 };
-use std::alloc::{Allocator, Global};
+use std::alloc::Global;
 use std::process::Abort;
 use std::test::Fail;
 use yaml_base::yaml_error_t;
@@ -24,8 +25,8 @@ pub(super) fn is_allowed(value: &str) -> bool
 }
 
 // A literal value where it is allowed; the open mark, or -1.
-fn write_literal<A: Allocator>(
-    pen: &mut Pen<A>,
+fn write_literal(
+    pen: &mut Pen<Global>,
     value: &str,
     indent: i32,
     best_indent: i32,
@@ -43,8 +44,8 @@ fn write_literal<A: Allocator>(
 }
 
 // A folded value where it is allowed; the open mark, or -1.
-fn write_folded<A: Allocator>(
-    pen: &mut Pen<A>,
+fn write_folded(
+    pen: &mut Pen<Global>,
     value: &str,
     indent: i32,
     best_indent: i32,
@@ -80,115 +81,123 @@ pub(super) fn folded(
     Ok((finished(alloc, &mut pen)?, mark))
 }
 
-/// Values, each at a width, and what is written.
-type Rows<'a> = &'a [(&'a str, i32, &'a str)];
+/// A value, at a width, and what is written.
+#[derive(Drop)]
+struct FoldedRow(&'static str, i32, &'static str);
 
-fn check_folded(rt: &impl Abort, alloc: Global, rows: Rows) -> Result<(), Fail> {
-    for (value, width, text) in rows {
-        same(
-            rt,
-            folded(alloc, value, *width)?.0.as_slice(),
-            text.as_bytes(),
-        );
+impl Row for FoldedRow {
+    fn check(&self, rt: &impl Abort, pen: &mut Pen<Global>) {
+        match write_folded(pen, self.0, 2, 2, self.1) {
+            Ok(_) => check_written(rt, pen, Ok(()), self.2),
+            Err(error) => check_written(rt, pen, Err(error), self.2),
+        }
     }
-    Ok(())
 }
 
+const FOLDED: &[FoldedRow] = &[
+    FoldedRow("a\nb\n\n c\n", 80, ">\n  a\n\n  b\n\n   c\n"),
+    FoldedRow(" aaaaaa b", 5, ">2-\n   aaaaaa b"),
+    FoldedRow("aaaaaa  b", 5, ">-\n  aaaaaa \n  b"),
+    FoldedRow("aaa b", 5, ">-\n  aaa b"),
+    FoldedRow("aaaa b", 5, ">-\n  aaaa\n  b"),
+    FoldedRow("aaaa b", i32::MAX, ">-\n  aaaa b"),
+    FoldedRow("a b\nc d", -1, ">-\n  a\n  b\n\n  c\n  d"),
+    FoldedRow("a\u{2028}b", 80, ">-\n  a\u{2028}  b"),
+];
+
 #[test]
-fn long_lines_are_folded_past_the_width(rt: HostRuntime) -> Result<(), Fail> {
-    let rows: Rows = &[
-        ("a\nb\n\n c\n", 80, ">\n  a\n\n  b\n\n   c\n"),
-        (" aaaaaa b", 5, ">2-\n   aaaaaa b"),
-        ("aaaaaa  b", 5, ">-\n  aaaaaa \n  b"),
-        ("aaa b", 5, ">-\n  aaa b"),
-        ("aaaa b", 5, ">-\n  aaaa\n  b"),
-        ("aaaa b", i32::MAX, ">-\n  aaaa b"),
-        ("a b\nc d", -1, ">-\n  a\n  b\n\n  c\n  d"),
-        ("a\u{2028}b", 80, ">-\n  a\u{2028}  b"),
-    ];
-    check_folded(&rt, rt.alloc(), rows)
+fn long_lines_are_folded_past_the_width(rt: HostRuntime) {
+    check_rows(&rt, rt.alloc(), FOLDED);
+}
+
+fn write_items(pen: &mut Pen<Global>) -> Result<(i32, i32), yaml_error_t>
+    requires { IsReady pen.old }
+    ensures { IsReady pen.new }
+{
+    write_sign(pen)?;
+    let first = write_literal(pen, " a\n b", 6, 3)?;
+    let second = write_folded(pen, " a\n b", 6, 3, 80)?;
+    Ok((first, second))
 }
 
 #[test]
 fn items_stand_at_their_indentation(rt: HostRuntime) -> Result<(), Fail> {
     let mut pen = begun(rt.alloc())?;
-    write_sign(&mut pen)?;
-    equal(&rt, &write_literal(&mut pen, " a\n b", 6, 3)?, &0);
-    equal(&rt, &write_folded(&mut pen, " a\n b", 6, 3, 80)?, &0);
-    let written = finished(rt.alloc(), &mut pen)?;
-    same(
-        &rt,
-        written.as_slice(),
-        b"- |3-\n       a\n       b>3-\n       a\n       b",
-    );
+    equal(&rt, &write_items(&mut pen), &Ok((0, 0)));
+    let written = "- |3-\n       a\n       b>3-\n       a\n       b";
+    check_written(&rt, &mut pen, Ok(()), written);
     Ok(())
+}
+
+fn write_item(pen: &mut Pen<Global>) -> Result<i32, yaml_error_t>
+    requires { IsReady pen.old }
+    ensures { IsReady pen.new }
+{
+    pen.put(b'-')?;
+    pen.set_whitespace(false);
+    write_literal(pen, " a", 2, 2)
 }
 
 #[test]
 fn an_item_follows_its_sign(rt: HostRuntime) -> Result<(), Fail> {
     let mut pen = begun(rt.alloc())?;
-    pen.put(b'-')?;
-    pen.set_whitespace(false);
-    equal(&rt, &write_literal(&mut pen, " a", 2, 2)?, &0);
-    same(
-        &rt,
-        finished(rt.alloc(), &mut pen)?.as_slice(),
-        b"- |2-\n   a",
-    );
+    let answer = write_item(&mut pen);
+    check_marked(&rt, &mut pen, answer, ("- |2-\n   a", 0));
     Ok(())
 }
 
-// The header of a value, and the open mark; nothing and -1 where no setting indents so.
-fn header(alloc: Global, value: &str, best_indent: i32) -> Result<(Vec<u8>, i32), yaml_error_t> {
-    let mut pen = begun(alloc)?;
-    if best_indent < 2 || best_indent > 9 {
-        return Ok((finished(alloc, &mut pen)?, -1));
+/// A value, at an indent, its header, and the open mark.
+#[derive(Drop)]
+struct Header(&'static str, i32, &'static str, i32);
+
+// The open mark; -1 where no setting indents so.
+fn write_header(pen: &mut Pen<Global>, row: &Header) -> Result<i32, yaml_error_t>
+    requires { IsReady pen.old }
+    ensures { IsReady pen.new }
+{
+    if row.1 < 2 || row.1 > 9 {
+        return Ok(-1);
     }
-    let mark = write_block_scalar_hints(&mut pen, value, best_indent)?;
-    Ok((finished(alloc, &mut pen)?, mark))
+    write_block_scalar_hints(pen, row.0, row.1)
 }
 
-/// Values, each at an indent, with their header and the open mark.
-type Headers<'a> = &'a [(&'a str, i32, &'a str, i32)];
-
-fn check_headers(rt: &impl Abort, alloc: Global, rows: Headers) -> Result<(), Fail> {
-    for (value, best_indent, hints, mark) in rows {
-        let written = header(alloc, value, *best_indent)?;
-        same(rt, written.0.as_slice(), hints.as_bytes());
-        equal(rt, &written.1, mark);
+impl Row for Header {
+    fn check(&self, rt: &impl Abort, pen: &mut Pen<Global>) {
+        let answer = write_header(pen, self);
+        check_marked(rt, pen, answer, (self.2, self.3));
     }
-    Ok(())
 }
+
+const HEADERS: &[Header] = &[
+    Header("a", 2, "-", 0),
+    Header("a\n", 2, "", 0),
+    Header("a\n\n", 2, "+", 2),
+    Header(" a", 9, "9-", 0),
+    Header("\na\n", 4, "4", 0),
+    Header("\u{2028}", 3, "3+", 2),
+];
 
 #[test]
-fn hints_stand_alone(rt: HostRuntime) -> Result<(), Fail> {
-    let rows: Headers = &[
-        ("a", 2, "-", 0),
-        ("a\n", 2, "", 0),
-        ("a\n\n", 2, "+", 2),
-        (" a", 9, "9-", 0),
-        ("\na\n", 4, "4", 0),
-        ("\u{2028}", 3, "3+", 2),
-    ];
-    check_headers(&rt, rt.alloc(), rows)
+fn hints_stand_alone(rt: HostRuntime) {
+    check_rows(&rt, rt.alloc(), HEADERS);
 }
 
 fn check_breaks(
     rt: &impl Abort,
     alloc: Global,
     line_feed_too: bool,
-    text: &[u8],
+    text: &str,
 ) -> Result<(), Fail> {
     let mut pen = begun_with_returns(alloc, line_feed_too)?;
-    write_literal(&mut pen, "a\n", 2, 2)?;
-    same(rt, finished(alloc, &mut pen)?.as_slice(), text);
+    let answer = write_literal(&mut pen, "a\n", 2, 2);
+    check_marked(rt, &mut pen, answer, (text, 0));
     Ok(())
 }
 
 #[test]
 fn line_breaks_are_those_of_the_setting(rt: HostRuntime) -> Result<(), Fail> {
-    check_breaks(&rt, rt.alloc(), true, b"|\r\n  a\r\n")?;
-    check_breaks(&rt, rt.alloc(), false, b"|\r  a\r")
+    check_breaks(&rt, rt.alloc(), true, "|\r\n  a\r\n")?;
+    check_breaks(&rt, rt.alloc(), false, "|\r  a\r")
 }
 
 // The flush was refused, and each writer is.
@@ -201,23 +210,30 @@ fn check_stopped(rt: &impl Abort, pen: &mut Pen<Global>)
     equal(rt, &write_block_scalar_hints(pen, "a\n", 2), &refused);
 }
 
-fn check_limit(rt: &impl Abort, alloc: Global, limit: usize, text: &[u8]) -> Result<(), Fail> {
-    let mut pen = begun_within(alloc, limit)?;
-    equal(rt, &write_folded(&mut pen, "\na b", 2, 2, 2)?, &0);
-    match text.get(..limit) {
+// The flush hands out what the limit leaves; with room for all it is whole.
+fn check_cut_text(rt: &impl Abort, pen: &mut Pen<Global>, limit: usize, text: &str)
+    requires { IsReady pen.old }
+{
+    match text.as_bytes().get(..limit) {
         Some(cut) if limit < text.len() => {
-            check_cut(rt, &mut pen, cut);
-            check_stopped(rt, &mut pen);
+            check_cut(rt, pen, cut);
+            check_stopped(rt, pen);
             same(rt, pen.output(), cut);
         }
-        _ => same(rt, finished(alloc, &mut pen)?.as_slice(), text),
+        _ => check_written(rt, pen, Ok(()), text),
     }
+}
+
+fn check_limit(rt: &impl Abort, alloc: Global, limit: usize, text: &str) -> Result<(), Fail> {
+    let mut pen = begun_within(alloc, limit)?;
+    equal(rt, &write_folded(&mut pen, "\na b", 2, 2, 2), &Ok(0));
+    check_cut_text(rt, &mut pen, limit, text);
     Ok(())
 }
 
 #[test]
 fn a_limit_cuts_and_stops(rt: HostRuntime) -> Result<(), Fail> {
-    let whole = b">2-\n\n  a\n  b".as_slice();
+    let whole = ">2-\n\n  a\n  b";
     for limit in 0..whole.len().saturating_add(1) {
         check_limit(&rt, rt.alloc(), limit, whole)?;
     }

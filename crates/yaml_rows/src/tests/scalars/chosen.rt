@@ -1,12 +1,10 @@
 //! Roots whose style is chosen after their analysis, without tag and with both flags on.
-ghost use Rattle.std.specs.Prelude.{IfOk};
 ghost use Rattle.yaml_pen.specs.Page.{IsReady};
 
 use super::block::is_allowed;
-use super::{begun, equal, finished, same};
-use std::alloc::{Allocator, Global};
+use super::{Row, check_marked, check_rows, equal};
+use std::alloc::Global;
 use std::process::Abort;
-use std::test::Fail;
 use yaml_base::{
     YAML_ANY_SCALAR_STYLE, YAML_DOUBLE_QUOTED_SCALAR_STYLE, YAML_FOLDED_SCALAR_STYLE,
     YAML_LITERAL_SCALAR_STYLE, YAML_PLAIN_SCALAR_STYLE, YAML_SINGLE_QUOTED_SCALAR_STYLE,
@@ -19,15 +17,15 @@ use yaml_scalar::{
 };
 
 // Writes in one style; answers the open mark.
-fn write_in<A: Allocator>(
-    pen: &mut Pen<A>,
+fn write_in(
+    pen: &mut Pen<Global>,
     style: yaml_scalar_style_t,
     value: &str,
     unicode: bool,
     width: i32,
 ) -> Result<i32, yaml_error_t>
     requires { IsReady pen.old }
-    ensures { IfOk result (λ _. IsReady pen.new) }
+    ensures { IsReady pen.new }
 {
     match style {
         YAML_PLAIN_SCALAR_STYLE => write_plain_scalar(pen, value, true, false, 2, width)?,
@@ -57,121 +55,121 @@ fn chosen(
     Ok(style)
 }
 
-// The text of a root in the style that is chosen where one is asked for, and the open mark.
-fn root(
-    alloc: Global,
-    value: &str,
-    asked: yaml_scalar_style_t,
-    unicode: bool,
-    width: i32,
-) -> Result<(Vec<u8>, i32), yaml_error_t> {
-    let style = chosen(value, asked, unicode)?;
-    let mut pen = begun(alloc)?;
-    let mark = write_in(&mut pen, style, value, unicode, width)?;
-    Ok((finished(alloc, &mut pen)?, mark))
-}
-
 /// A value, the style asked for, whether unicode is on, the width; what is written, and the open mark.
-type Row<'a> = (&'a str, yaml_scalar_style_t, bool, i32, &'a str, i32);
+#[derive(Drop)]
+struct Root(
+    &'static str,
+    yaml_scalar_style_t,
+    bool,
+    i32,
+    &'static str,
+    i32,
+);
 
-fn check_roots(rt: &impl Abort, alloc: Global, rows: &[Row]) -> Result<(), Fail> {
-    for (value, asked, unicode, width, text, mark) in rows {
-        let written = root(alloc, value, *asked, *unicode, *width)?;
-        same(rt, written.0.as_slice(), text.as_bytes());
-        equal(rt, &written.1, mark);
+impl Row for Root {
+    fn check(&self, rt: &impl Abort, pen: &mut Pen<Global>) {
+        match chosen(self.0, self.1, self.2) {
+            Ok(style) => {
+                let answer = write_in(pen, style, self.0, self.2, self.3);
+                check_marked(rt, pen, answer, (self.4, self.5));
+            }
+            Err(error) => equal(rt, &Some(error), &None),
+        }
     }
-    Ok(())
 }
 
 const ANY: yaml_scalar_style_t = YAML_ANY_SCALAR_STYLE;
 
+const CHOSEN: &[Root] = &[
+    Root("", ANY, false, 80, "", 0),
+    Root("foo", ANY, false, 80, "foo", 0),
+    Root("a:", ANY, false, 80, "'a:'", 0),
+    Root("- x", ANY, false, 80, "'- x'", 0),
+    Root(" ", ANY, false, 80, "' '", 0),
+    Root("'", ANY, false, 80, "''''", 0),
+    Root("aaaaaa b", ANY, false, 5, "aaaaaa\n  b", 0),
+    Root("\u{E9}", ANY, false, 80, r#""\xE9""#, 0),
+    Root(
+        "\u{E9}\u{E9}\u{E9}\u{E9} b c",
+        ANY,
+        true,
+        5,
+        "\u{E9}\u{E9}\u{E9}\u{E9} b\n  c",
+        0,
+    ),
+    Root(
+        "\0\u{7}\"\\\u{85}\u{7F}",
+        ANY,
+        false,
+        80,
+        r#""\0\a\"\\\N\x7F""#,
+        0,
+    ),
+    Root("\u{1F600}", ANY, false, 80, r#""\U0001F600""#, 0),
+    Root("\u{1F600}", ANY, true, 80, "\u{1F600}", 0),
+];
+
 #[test]
-fn any_style_is_plain_or_quoted(rt: HostRuntime) -> Result<(), Fail> {
-    let rows: &[Row] = &[
-        ("", ANY, false, 80, "", 0),
-        ("foo", ANY, false, 80, "foo", 0),
-        ("a:", ANY, false, 80, "'a:'", 0),
-        ("- x", ANY, false, 80, "'- x'", 0),
-        (" ", ANY, false, 80, "' '", 0),
-        ("'", ANY, false, 80, "''''", 0),
-        ("aaaaaa b", ANY, false, 5, "aaaaaa\n  b", 0),
-        ("\u{E9}", ANY, false, 80, r#""\xE9""#, 0),
-        (
-            "\u{E9}\u{E9}\u{E9}\u{E9} b c",
-            ANY,
-            true,
-            5,
-            "\u{E9}\u{E9}\u{E9}\u{E9} b\n  c",
-            0,
-        ),
-        (
-            "\0\u{7}\"\\\u{85}\u{7F}",
-            ANY,
-            false,
-            80,
-            r#""\0\a\"\\\N\x7F""#,
-            0,
-        ),
-        ("\u{1F600}", ANY, false, 80, r#""\U0001F600""#, 0),
-        ("\u{1F600}", ANY, true, 80, "\u{1F600}", 0),
-    ];
-    check_roots(&rt, rt.alloc(), rows)
+fn any_style_is_plain_or_quoted(rt: HostRuntime) {
+    check_rows(&rt, rt.alloc(), CHOSEN);
 }
 
 const SINGLE: yaml_scalar_style_t = YAML_SINGLE_QUOTED_SCALAR_STYLE;
 
+const QUOTED: &[Root] = &[
+    Root(
+        "aaaaaa  b",
+        YAML_DOUBLE_QUOTED_SCALAR_STYLE,
+        false,
+        5,
+        "\"aaaaaa\n  \\ b\"",
+        0,
+    ),
+    Root("a\nb", SINGLE, false, 80, "'a\n\n  b'", 0),
+    Root("\n", SINGLE, false, 80, "'\n\n  '", 0),
+    Root(" \n", SINGLE, false, 80, "\" \\n\"", 0),
+    Root("a\u{2028}b", SINGLE, true, 80, "'a\u{2028}  b'", 0),
+    Root("a\n\u{2028}b", SINGLE, true, 80, "'a\n\n\u{2028}  b'", 0),
+    Root("a\u{2028}\nb", SINGLE, true, 80, "'a\u{2028}\n  b'", 0),
+];
+
 #[test]
-fn quotes_asked_for_are_written(rt: HostRuntime) -> Result<(), Fail> {
-    let rows: &[Row] = &[
-        (
-            "aaaaaa  b",
-            YAML_DOUBLE_QUOTED_SCALAR_STYLE,
-            false,
-            5,
-            "\"aaaaaa\n  \\ b\"",
-            0,
-        ),
-        ("a\nb", SINGLE, false, 80, "'a\n\n  b'", 0),
-        ("\n", SINGLE, false, 80, "'\n\n  '", 0),
-        (" \n", SINGLE, false, 80, "\" \\n\"", 0),
-        ("a\u{2028}b", SINGLE, true, 80, "'a\u{2028}  b'", 0),
-        ("a\n\u{2028}b", SINGLE, true, 80, "'a\n\n\u{2028}  b'", 0),
-        ("a\u{2028}\nb", SINGLE, true, 80, "'a\u{2028}\n  b'", 0),
-    ];
-    check_roots(&rt, rt.alloc(), rows)
+fn quotes_asked_for_are_written(rt: HostRuntime) {
+    check_rows(&rt, rt.alloc(), QUOTED);
 }
 
 const LITERAL: yaml_scalar_style_t = YAML_LITERAL_SCALAR_STYLE;
 
 const FOLDED: yaml_scalar_style_t = YAML_FOLDED_SCALAR_STYLE;
 
+const IN_LINES: &[Root] = &[
+    Root("a\n\n", LITERAL, false, 80, "|+\n  a\n\n", 2),
+    Root("\n", LITERAL, false, 80, "|2+\n\n", 2),
+    Root(" ", LITERAL, false, 80, "\" \"", 0),
+    Root(
+        "a\nb\n\n c\n",
+        FOLDED,
+        false,
+        80,
+        ">\n  a\n\n  b\n\n   c\n",
+        0,
+    ),
+    Root(" aaaaaa b", FOLDED, false, 5, ">2-\n   aaaaaa b", 0),
+    Root(
+        "a\n\u{2028}b",
+        FOLDED,
+        true,
+        80,
+        ">-\n  a\n\n\u{2028}  b",
+        0,
+    ),
+    Root("a\u{2028}\nb", FOLDED, true, 80, ">-\n  a\u{2028}\n  b", 0),
+    Root("\n\n", FOLDED, false, 80, ">2+\n\n\n", 2),
+    Root("\n a", FOLDED, false, 80, ">2-\n\n   a", 0),
+    Root("aaaaaa  b", FOLDED, false, 5, ">-\n  aaaaaa \n  b", 0),
+];
+
 #[test]
-fn block_styles_asked_for_are_written(rt: HostRuntime) -> Result<(), Fail> {
-    let rows: &[Row] = &[
-        ("a\n\n", LITERAL, false, 80, "|+\n  a\n\n", 2),
-        ("\n", LITERAL, false, 80, "|2+\n\n", 2),
-        (" ", LITERAL, false, 80, "\" \"", 0),
-        (
-            "a\nb\n\n c\n",
-            FOLDED,
-            false,
-            80,
-            ">\n  a\n\n  b\n\n   c\n",
-            0,
-        ),
-        (" aaaaaa b", FOLDED, false, 5, ">2-\n   aaaaaa b", 0),
-        (
-            "a\n\u{2028}b",
-            FOLDED,
-            true,
-            80,
-            ">-\n  a\n\n\u{2028}  b",
-            0,
-        ),
-        ("a\u{2028}\nb", FOLDED, true, 80, ">-\n  a\u{2028}\n  b", 0),
-        ("\n\n", FOLDED, false, 80, ">2+\n\n\n", 2),
-        ("\n a", FOLDED, false, 80, ">2-\n\n   a", 0),
-        ("aaaaaa  b", FOLDED, false, 5, ">-\n  aaaaaa \n  b", 0),
-    ];
-    check_roots(&rt, rt.alloc(), rows)
+fn block_styles_asked_for_are_written(rt: HostRuntime) {
+    check_rows(&rt, rt.alloc(), IN_LINES);
 }

@@ -1,0 +1,112 @@
+//! Runs of characters: across the buffer's end, cut by a limit, and refused.
+ghost use Rattle.yaml_pen.specs.Page.{IsReady};
+
+use super::{
+    Cycle, IN_UTF8, IN_UTF16LE, begun, check_bytes, check_rest, put_letters, start_of,
+    write_long_run,
+};
+use crate::tests::equal;
+use std::alloc::{Allocator, Global};
+use std::process::Abort;
+use std::test::Fail;
+use yaml_base::{YAML_UTF8_ENCODING, YAML_UTF16LE_ENCODING, yaml_error_t};
+use yaml_pen::Pen;
+
+// A run that is longer than six buffers, one of nothing, and a short one, after so many letters.
+fn write_runs(
+    rt: &impl Abort,
+    pen: &mut Pen<Global>,
+    alloc: Global,
+    ahead: i32,
+) -> Result<(), yaml_error_t>
+    requires { IsReady pen.old }
+    ensures { IsReady pen.new }
+{
+    write_long_run(pen, alloc, 10_000)?;
+    equal(rt, &pen.column(), &ahead.saturating_add(40_000));
+    write_long_run(pen, alloc, 0)?;
+    write_long_run(pen, alloc, 1)?;
+    equal(rt, &pen.column(), &ahead.saturating_add(40_004));
+    Ok(())
+}
+
+fn write_runs_after(
+    rt: &impl Abort,
+    pen: &mut Pen<Global>,
+    alloc: Global,
+    ahead: u8,
+) -> Result<(), yaml_error_t>
+    requires { IsReady pen.old }
+{
+    put_letters(pen, usize::from(ahead))?;
+    write_runs(rt, pen, alloc, i32::from(ahead))?;
+    pen.flush()
+}
+
+fn check_runs(rt: &impl Abort, alloc: Global, row: &Cycle, ahead: u8) -> Result<(), Fail> {
+    let mut pen = begun(alloc, usize::MAX, row.0)?;
+    equal(rt, &write_runs_after(rt, &mut pen, alloc, ahead), &Ok(()));
+    let start = start_of(row.0, usize::from(ahead));
+    check_rest(rt, pen.output(), start, 100_010, row.1);
+    Ok(())
+}
+
+// The same ten bytes, written as runs.
+#[test]
+fn runs_stay_whole_across_the_buffer(rt: HostRuntime) -> Result<(), Fail> {
+    for ahead in 0..10 {
+        check_runs(&rt, rt.alloc(), &(YAML_UTF8_ENCODING, IN_UTF8), ahead)?;
+        check_runs(&rt, rt.alloc(), &(YAML_UTF16LE_ENCODING, IN_UTF16LE), ahead)?;
+    }
+    Ok(())
+}
+
+// After a refusal a run is refused by the same error, and hands out nothing.
+pub(super) fn check_run_refused<A: Allocator>(
+    rt: &impl Abort,
+    pen: &mut Pen<A>,
+    alloc: Global,
+    error: yaml_error_t,
+)
+    requires { IsReady pen.old }
+    ensures { IsReady pen.new }
+{
+    let length = pen.output().len();
+    equal(rt, &write_long_run(pen, alloc, 1), &Err(error));
+    equal(rt, &pen.error(), &Some(error));
+    equal(rt, &pen.output().len(), &length);
+}
+
+fn is_good_or_cut(answer: Result<(), yaml_error_t>) -> bool {
+    answer.is_ok() || answer == Err(yaml_error_t::WriteError)
+}
+
+fn check_run_cut(rt: &impl Abort, pen: &mut Pen<Global>, alloc: Global, limit: usize)
+    requires { IsReady pen.old }
+{
+    equal(
+        rt,
+        &is_good_or_cut(write_long_run(pen, alloc, 5_000)),
+        &true,
+    );
+    equal(rt, &pen.flush().is_ok(), &(limit == 50_000));
+    check_bytes(rt, pen.output(), limit, IN_UTF8);
+    if limit < 50_000 {
+        check_run_refused(rt, pen, alloc, yaml_error_t::WriteError);
+    }
+}
+
+fn check_run_limit(rt: &impl Abort, alloc: Global, limit: usize) -> Result<(), Fail> {
+    let mut pen = begun(alloc, limit, YAML_UTF8_ENCODING)?;
+    check_run_cut(rt, &mut pen, alloc, limit);
+    Ok(())
+}
+
+#[test]
+fn a_limit_cuts_a_run_at_any_byte(rt: HostRuntime) -> Result<(), Fail> {
+    let limits: &[usize] = &[0, 1, 16_383, 16_384, 16_385, 33_333, 49_999, 50_000];
+    for limit in limits {
+        check_run_limit(&rt, rt.alloc(), *limit)?;
+    }
+    Ok(())
+}
