@@ -6,6 +6,7 @@ pub mod BlockReads
 pub mod BlockLines
 pub mod EscapesRead
 pub mod EscapeBytes
+pub mod EscapedBytes
 pub mod Unbroken
 pub mod DoubleReads
 pub mod LineTexts

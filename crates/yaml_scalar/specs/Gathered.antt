@@ -13,7 +13,7 @@ use Rattle.yaml_scalar.specs.WholeRuns.{last_from}
 
 -- so many bytes are gathered at most
 abbrev pub most_bytes : ℕ
-most_bytes = 128
+most_bytes = 256
 
 -- the bytes of the longest escape
 abbrev pub longest_escape : ℕ

@@ -43,7 +43,7 @@ static CLASSES: [u8; 256] = [
 
 /// A byte is of none of these classes.
 #[inline(always)]
-fn is_free(byte: u8, classes: u8) -> bool
+pub(crate) fn is_free(byte: u8, classes: u8) -> bool
     ensures { result ≡ is_free classes byte }
 {
     CLASSES[byte as usize] & classes == 0

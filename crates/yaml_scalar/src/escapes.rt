@@ -1,9 +1,10 @@
 //! The escapes of characters between double quotes (YAML 1.1, section 5.6).
-ghost use Rattle.std.specs.Prelude.{◌≡◌, ◌∷◌, ◌%◌, None};
+ghost use Rattle.std.specs.Prelude.{◌≡◌, ◌∷◌, ◌%◌, ◌<◌, Bool, None};
 ghost use Rattle.yaml_base.specs.Characters as class;
 ghost use Rattle.yaml_base.specs.DoubleQuoted as spec;
 ghost use Rattle.yaml_scalar.specs.EscapeBytes.{escape_bytes};
 
+use crate::classes::{BREAK, ESCAPED, UNPRINTABLE, is_free};
 use yaml_base::{hex_digit, is_ascii, is_break, is_printable};
 
 /// An escape, by how many characters it has, all of ASCII.
@@ -20,14 +21,24 @@ pub(crate) enum Escape {
 }
 
 /// Unprintable, past ASCII where that isn't kept, a break, the quote or the backslash.
-#[inline]
+#[inline(always)]
 pub(crate) fn needs_escape(c: char, unicode: bool) -> bool
     ensures { result ≡ spec.needs_escape unicode c }
 {
-    if !unicode && !is_ascii(c) {
-        return true;
+    if is_ascii(c) {
+        is_escaped_byte(c as u8)
+    } else {
+        !unicode || !is_printable(c) || is_break(c)
     }
-    !is_printable(c) || is_break(c) || c == '"' || c == '\\'
+}
+
+/// Of ASCII, and unprintable, a break, the quote or the backslash.
+#[inline(always)]
+fn is_escaped_byte(byte: u8) -> bool
+    requires { byte < 128 }
+    ensures { (unicode : Bool) → result ≡ spec.needs_escape unicode byte }
+{
+    !is_free(byte, BREAK | UNPRINTABLE | ESCAPED)
 }
 
 /// A backslash, and a letter where there is one for the character, else its number.

@@ -9,7 +9,7 @@ use arrayvec::ArrayVec;
 use yaml_base::{is_ascii, is_space};
 
 /// So many bytes are gathered at most.
-const MOST_BYTES: usize = 128;
+const MOST_BYTES: usize = 256;
 /// The bytes of the longest escape.
 const LONGEST_ESCAPE: usize = 10;
 

@@ -1,0 +1,7 @@
+use Rattle.std.proofs.Common.{◌∙◌, ap}
+use Rattle.std.specs.Prelude.{not}
+use Rattle.yaml_scalar.proofs.EscapedBytes.{escaped_below}
+use Rattle.yaml_scalar.proofs.escapes.is_escaped_byte.Goals as goal
+
+pub returns : goal.returns
+returns c unicode = ap not c.is_free.ensures ∙ escaped_below unicode c.args.byte c.requires
