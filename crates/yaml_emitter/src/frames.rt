@@ -92,9 +92,9 @@ impl<A: Allocator> Frames<A> {
         ensures frames { self.new ≡ advanced simple self.old }
         ensures stage { (directives : List TagDirective) → seen_stage result directives self.new ≡ steps.stage_after directives self.old simple }
     {
-        match self.innermost {
+        match &mut self.innermost {
             Some(frame) => {
-                self.innermost = Some(frame.after(simple));
+                frame.place.role = frame.place.role.after(simple);
                 Stage::Node
             }
             None => Stage::DocumentEnd,

@@ -121,6 +121,7 @@ impl<A: Allocator + Copy> yaml_emitter_t<A> {
     }
 
     /// A scalar that stands plain as it is.
+    #[inline(always)]
     fn put_usual(&mut self, content: &ScalarContent) -> Result<(), yaml_error_t>
         requires stage { is_at_node self.old.stage ≡ true }
         requires names { name_or_tag_fault self.old.given.canonical (scalar (seen_scalar content.now)) ≡ None }

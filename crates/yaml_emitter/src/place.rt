@@ -132,23 +132,3 @@ impl Place {
         self.line_column() + indent
     }
 }
-
-impl Frame {
-    ghost use Rattle.std.specs.Prelude.{◌≡◌};
-    ghost use Rattle.yaml_base.specs.Steps.{place_after};
-    ghost use Rattle.yaml_emitter.specs.Places.{seen_frame};
-
-    /// After a node of the collection, which may have been a simple key.
-    pub(crate) fn after(self, simple: bool) -> Frame
-        ensures { seen_frame result ≡ record (seen_frame self) { place = place_after (seen_frame self).place simple } }
-    {
-        Frame {
-            place: Place {
-                in_flow: self.place.in_flow,
-                role: self.place.role.after(simple),
-                column: self.place.column,
-            },
-            simple: self.simple,
-        }
-    }
-}

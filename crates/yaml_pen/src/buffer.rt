@@ -81,4 +81,15 @@ impl Buffer {
         self.bytes[self.len..end].copy_from_slice(more);
         self.len = end;
     }
+    /// Appends the first few of 32 bytes. All are copied; those past the length mean nothing.
+    #[inline(always)]
+    pub(crate) fn append_front(&mut self, piece: &[u8; 32], count: usize)
+        requires few { count ≤ 32 }
+        requires room { length self.old + 32 ≤ buffer_size }
+        ensures { self.new ≡ self.old ++ take count piece.now }
+    {
+        let start = self.len;
+        self.bytes[start..start + 32].copy_from_slice(piece.as_slice());
+        self.len = start + count;
+    }
 }

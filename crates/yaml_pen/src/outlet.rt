@@ -1,5 +1,5 @@
 //! Bytes on their way out: a buffer, and the output that it is flushed to, within a limit.
-ghost use Rattle.std.specs.Prelude.{◌≡◌, ◌≤◌, [], ◌∷◌, ◌+◌, length, drop, IfOk};
+ghost use Rattle.std.specs.Prelude.{◌≡◌, ◌≤◌, [], ◌∷◌, ◌+◌, length, take, drop, IfOk};
 ghost use Rattle.yaml_base.specs.Prefix.{IsPrefix};
 ghost use Rattle.yaml_pen.specs.Page.{buffer_size};
 ghost use Rattle.yaml_pen.specs.Outlet.{Appended, Emptied, HandsOut, IsSound, whole_output};
@@ -162,6 +162,27 @@ impl<A: Allocator> Outlet<A> {
             self.flush()?;
         }
         self.buffer.append(bytes);
+        Ok(())
+    }
+
+    /// Appends the first few of 32 bytes, likewise.
+    #[inline(always)]
+    pub(crate) fn append_front(
+        &mut self,
+        piece: &[u8; 32],
+        count: usize,
+    ) -> Result<(), yaml_error_t>
+        requires { count ≤ 32 }
+        ensures { Appended (take count piece.now) self.old self.new result }
+    {
+        match self.error {
+            Some(error) => return Err(error),
+            None => {}
+        }
+        if self.buffer.room() < 32 {
+            self.flush()?;
+        }
+        self.buffer.append_front(piece, count);
         Ok(())
     }
 

@@ -22,7 +22,7 @@ const UNUSUAL: u8 = BREAK | UNPRINTABLE | SIGN | WIDE;
 
 /// A text is known to be usual: at most 512 bytes of ASCII, a letter or a digit first and no space last, without
 /// a break, a control character, `#`, `:`, `?` and the signs of flow collections. Every style may hold it.
-#[inline]
+#[inline(always)]
 pub fn is_usual(text: &str) -> bool
     ensures { result ≡ true → IsUsual text.now }
 {

@@ -26,7 +26,7 @@ impl<A: Allocator> Pen<A> {
     }
 
     /// Writes a character of ASCII that is no break.
-    #[inline]
+    #[inline(always)]
     pub fn put(&mut self, character: u8) -> Result<(), yaml_error_t>
         requires ready { IsReady self.old }
         requires ascii { character < 128 }

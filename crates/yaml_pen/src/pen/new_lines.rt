@@ -14,13 +14,15 @@ use yaml_base::{yaml_break_t, yaml_error_t};
 
 /// So many spaces are written at once.
 const MOST_SPACES: u32 = 64;
+/// So many spaces are written at once with the break before them.
+const MOST_BEGUN: u32 = 31;
 /// LF, and as many spaces.
-static LINE_START: [u8; 65] =
-    *b"\n                                                                ";
+static LINE_START: [u8; 32] = *b"\n                               ";
 
 impl<A: Allocator> Pen<A> {
     /// Begins a new line at a column, counted in characters: breaks the line unless the cursor stands
     /// before or at that column, free to go on, and writes spaces up to it.
+    #[inline(always)]
     pub fn write_indent(&mut self, indent: i32) -> Result<(), yaml_error_t>
         requires ready { IsReady self.old }
         requires not_negative { pos 0 ≤ℤ indent }
@@ -30,6 +32,7 @@ impl<A: Allocator> Pen<A> {
         self.begin_line(indent as u32)
     }
 
+    #[inline(always)]
     fn begin_line(&mut self, at: u32) -> Result<(), yaml_error_t>
         requires ready { IsReady self.old }
         requires below { at < 2147483648 }
@@ -62,26 +65,27 @@ impl<A: Allocator> Pen<A> {
     fn starts_at_once(&self, at: u32) -> bool
         requires { at < 2147483648 }
         ensures breaks { result ≡ true → breaks_line at self.now.cursor ≡ true }
-        ensures few { result ≡ true → at ≤ 64 }
+        ensures few { result ≡ true → at ≤ 31 }
         ensures unmarked { result ≡ true → has_mark self.now.encoding ≡ false }
         ensures line_feed { result ≡ true → self.now.line_break ≡ line_feed_break }
     {
-        at <= MOST_SPACES
+        at <= MOST_BEGUN
             && self.breaks_line(at)
             && !has_mark(self.encoding)
             && is_line_feed(self.line_break)
     }
 
+    #[inline(always)]
     fn write_line_start(&mut self, at: u32) -> Result<(), yaml_error_t>
         requires ready { IsReady self.old }
         requires breaks { breaks_line at self.old.cursor ≡ true }
-        requires few { at ≤ 64 }
+        requires few { at ≤ 31 }
         requires unmarked { has_mark self.old.encoding ≡ false }
         requires line_feed { self.old.line_break ≡ line_feed_break }
         ensures written { Wrote (line_begun at) self.old self.new result }
         ensures stays { IsSome self.old.error → self.new ≡ self.old }
     {
-        self.outlet.append(&LINE_START[..at as usize + 1])?;
+        self.outlet.append_front(&LINE_START, at as usize + 1)?;
         self.column = at;
         Ok(())
     }
