@@ -7,8 +7,10 @@ mod serialized;
 mod values;
 mod writers;
 
+use std::alloc::Allocator;
 use std::fmt::Debug;
 use std::process::Abort;
+use yaml_base::yaml_error_t;
 
 /// The two are equal. (A comparison in a function of its own is proved once.)
 fn equal<T: PartialEq + Debug>(rt: &impl Abort, got: &T, wanted: &T) {
@@ -18,4 +20,27 @@ fn equal<T: PartialEq + Debug>(rt: &impl Abort, got: &T, wanted: &T) {
 /// This was written.
 fn same(rt: &impl Abort, got: &[u8], wanted: &[u8]) {
     assert_eq!(rt; got, wanted);
+}
+
+/// What a call that writes gives: bytes, or why there are none.
+type Answer<'a> = Result<&'a [u8], yaml_error_t>;
+
+/// These bytes came, and not an error.
+fn came(rt: &impl Abort, bytes: &[u8], wanted: &Answer) {
+    match wanted {
+        Ok(expected) => same(rt, bytes, expected),
+        Err(error) => equal(rt, &None, &Some(*error)),
+    }
+}
+
+/// The call gave this.
+fn answers<A: Allocator>(
+    rt: &impl Abort,
+    answer: Result<Vec<u8, A>, yaml_error_t>,
+    wanted: &Answer,
+) {
+    match answer {
+        Ok(bytes) => came(rt, bytes.as_slice(), wanted),
+        Err(error) => equal(rt, &Some(error), &wanted.err()),
+    }
 }

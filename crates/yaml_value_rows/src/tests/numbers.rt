@@ -1,39 +1,37 @@
 //! Numbers of JSON with their spellings, and texts that are none.
 use crate::tests::equal;
-use std::alloc::{AllocError, Global};
+use std::alloc::Global;
 use std::process::Abort;
-use std::test::Fail;
 use yaml_writer::{Spelling, number_of, number_spelling};
 
-fn spelled(
-    rt: &impl Abort,
-    alloc: Global,
-    text: &str,
-    wanted: Option<&str>,
-) -> Result<(), AllocError> {
-    let found = number_spelling(alloc, text)?;
-    equal(
-        rt,
-        &found.as_ref().map(|spelling| spelling.as_str()),
-        &wanted,
-    );
-    Ok(())
+/// A text, and its spelling; none where it is no number.
+type Row<'a> = (&'a str, Option<&'a str>);
+
+/// A text is a number, and is spelled so.
+fn check_number(rt: &impl Abort, spelling: &str, wanted: Option<&str>) {
+    match wanted {
+        Some(wanted) => equal(rt, &spelling, &wanted),
+        None => equal(rt, &spelling, &"no number"),
+    }
 }
 
-fn check_spellings(
-    rt: &impl Abort,
-    alloc: Global,
-    rows: &[(&str, Option<&str>)],
-) -> Result<(), Fail> {
-    for (text, wanted) in rows {
-        spelled(rt, alloc, text, *wanted)?;
+fn check_spelling(rt: &impl Abort, alloc: Global, row: &Row) {
+    match number_spelling(alloc, row.0) {
+        Ok(Some(spelling)) => check_number(rt, spelling.as_str(), row.1),
+        Ok(None) => equal(rt, &row.1, &None),
+        Err(_) => equal(rt, &row.1, &Some("no memory")),
     }
-    Ok(())
+}
+
+fn check_spellings(rt: &impl Abort, alloc: Global, rows: &[Row]) {
+    for row in rows {
+        check_spelling(rt, alloc, row);
+    }
 }
 
 #[test]
-fn numbers_are_spelled(rt: HostRuntime) -> Result<(), Fail> {
-    let rows: &[(&str, Option<&str>)] = &[
+fn numbers_are_spelled(rt: HostRuntime) {
+    let rows: &[Row] = &[
         ("0", Some("0")),
         ("-0", Some("-0.0")),
         ("-120", Some("-120")),
@@ -46,12 +44,12 @@ fn numbers_are_spelled(rt: HostRuntime) -> Result<(), Fail> {
         ("1.5e-3", Some("1.5e-3")),
         ("-0e0", Some("-0.0e+0")),
     ];
-    check_spellings(&rt, rt.alloc(), rows)
+    check_spellings(&rt, rt.alloc(), rows);
 }
 
 #[test]
-fn other_texts_are_no_numbers(rt: HostRuntime) -> Result<(), Fail> {
-    let rows: &[(&str, Option<&str>)] = &[
+fn other_texts_are_no_numbers(rt: HostRuntime) {
+    let rows: &[Row] = &[
         ("", None),
         ("-", None),
         ("+1", None),
@@ -68,33 +66,57 @@ fn other_texts_are_no_numbers(rt: HostRuntime) -> Result<(), Fail> {
         ("1 ", None),
         ("é", None),
     ];
-    check_spellings(&rt, rt.alloc(), rows)
+    check_spellings(&rt, rt.alloc(), rows);
 }
 
-#[test]
-fn what_is_spelled_so_stays(rt: HostRuntime) -> Result<(), Fail> {
-    let integer = number_spelling(rt.alloc(), "12")?;
-    assert!(rt; matches!(integer, Some(Spelling::Unchanged("12"))));
-    let power = number_spelling(rt.alloc(), "1e5")?;
-    assert!(rt; matches!(power, Some(Spelling::Changed(_))));
-    Ok(())
-}
-
-/// Whether a number keeps its text, and is an integer as told.
-fn is_so(text: &str, integer: bool) -> bool {
-    match number_of(text) {
-        None => false,
-        Some(number) => number.as_str() == text && number.is_integer() == integer,
+/// A spelling that is the text itself.
+fn unchanged(alloc: Global, text: &str) -> Option<&str> {
+    match number_spelling(alloc, text) {
+        Ok(Some(Spelling::Unchanged(same))) => Some(same),
+        _ => None,
     }
 }
 
+fn is_changed(alloc: Global, text: &str) -> bool {
+    matches!(number_spelling(alloc, text), Ok(Some(Spelling::Changed(_))))
+}
+
 #[test]
-fn numbers_keep_their_texts(rt: HostRuntime) -> Result<(), Fail> {
-    assert!(rt; is_so("-120", true));
-    assert!(rt; is_so("0", true));
-    assert!(rt; is_so("-0", false));
-    assert!(rt; is_so("1E5", false));
-    assert!(rt; is_so("2.50", false));
-    assert!(rt; number_of("01").is_none());
-    Ok(())
+fn what_is_spelled_so_stays(rt: HostRuntime) {
+    equal(&rt, &unchanged(rt.alloc(), "12"), &Some("12"));
+    equal(&rt, &is_changed(rt.alloc(), "1e5"), &true);
+}
+
+/// A text, and whether it is an integer; none where it is no number.
+type Kind<'a> = (&'a str, Option<bool>);
+
+/// Whether a number, which keeps its text, is an integer.
+fn is_integer(rt: &impl Abort, text: &str) -> Option<bool> {
+    match number_of(text) {
+        None => None,
+        Some(number) => {
+            equal(rt, &number.as_str(), &text);
+            Some(number.is_integer())
+        }
+    }
+}
+
+fn check_kinds(rt: &impl Abort, rows: &[Kind]) {
+    for row in rows {
+        equal(rt, &is_integer(rt, row.0), &row.1);
+    }
+}
+
+const KINDS: &[Kind] = &[
+    ("-120", Some(true)),
+    ("0", Some(true)),
+    ("-0", Some(false)),
+    ("1E5", Some(false)),
+    ("2.50", Some(false)),
+    ("01", None),
+];
+
+#[test]
+fn numbers_keep_their_texts(rt: HostRuntime) {
+    check_kinds(&rt, KINDS);
 }

@@ -1,25 +1,67 @@
 //! Values of each kind, against YAML written by hand: what serde_yaml 0.9 writes, with `---`, with texts in quotes where a
 //! schema could read something else, and with floats as both schemas want them.
-use crate::tests::same;
+use crate::tests::{equal, same};
 use serde::{Case, Described, Serialize, Serializer};
-use std::alloc::Global;
+use std::alloc::{AllocError, Global};
 use std::collections::BTreeMap;
 use std::process::Abort;
-use std::test::Fail;
 use yaml_serde::{Error, to_string, to_vec, yaml_error_t};
 
-fn check_text<T: Serialize>(
+/// The error has these words.
+fn check_words(rt: &impl Abort, alloc: Global, error: &Error, wanted: &str) {
+    match error.to_string(alloc) {
+        Ok(words) => equal(rt, &words.as_str(), &wanted),
+        Err(_) => equal(rt, &"no memory", &wanted),
+    }
+}
+
+fn check_string<T: Serialize>(rt: &impl Abort, alloc: Global, value: &T, expected: &str) {
+    match to_string(alloc, value) {
+        Ok(text) => equal(rt, &text.as_str(), &expected),
+        Err(error) => check_words(rt, alloc, &error, expected),
+    }
+}
+
+fn check_bytes<T: Serialize>(rt: &impl Abort, alloc: Global, value: &T, expected: &str) {
+    match to_vec(alloc, value) {
+        Ok(bytes) => same(rt, bytes.as_slice(), expected.as_bytes()),
+        Err(error) => check_words(rt, alloc, &error, expected),
+    }
+}
+
+/// The value gives this text, as characters and as bytes.
+fn check_text<T: Serialize>(rt: &impl Abort, alloc: Global, value: &T, expected: &str) {
+    check_string(rt, alloc, value, expected);
+    check_bytes(rt, alloc, value, expected);
+}
+
+/// The same of a value that takes memory.
+fn check_made<T: Serialize + Drop>(
     rt: &impl Abort,
     alloc: Global,
-    value: &T,
+    made: Result<T, AllocError>,
     expected: &str,
-) -> Result<(), Fail> {
-    same(
-        rt,
-        to_string(alloc, value)?.as_str().as_bytes(),
-        expected.as_bytes(),
-    );
-    Ok(())
+) {
+    match made {
+        Ok(value) => check_text(rt, alloc, &value, expected),
+        Err(_) => equal(rt, &"no memory", &expected),
+    }
+}
+
+fn has_two_tags<T: Serialize + Drop>(alloc: Global, value: T) -> bool {
+    matches!(to_string(alloc, &value), Err(Error::TwoTags))
+}
+
+fn is_wrongly_flattened<T: Serialize>(alloc: Global, value: &T) -> bool {
+    matches!(to_string(alloc, value), Err(Error::Flattened))
+}
+
+/// What the emitter says of a value; nothing where another says something, or the value is written.
+fn emitter_error<T: Serialize>(alloc: Global, value: &T) -> Option<yaml_error_t> {
+    match to_string(alloc, value) {
+        Err(Error::Emitter(error)) => Some(error),
+        _ => None,
+    }
 }
 
 #[derive(Drop, Serialize)]
@@ -31,43 +73,35 @@ struct Server<'a> {
     weights: (i8, &'a str),
 }
 
-#[test]
-fn structs_are_mappings_in_the_order_of_their_fields(rt: HostRuntime) -> Result<(), Fail> {
-    let server = Server {
+fn alpha(alloc: Global) -> Result<Server<'static>, AllocError> {
+    Ok(Server {
         name: "alpha",
-        ports: vec![in rt.alloc(); 80, 443]?,
+        ports: vec![in alloc; 80, 443]?,
         limit: None,
         backup: Some(false),
         weights: (-1, "yes"),
-    };
+    })
+}
+
+#[test]
+fn structs_are_mappings_in_the_order_of_their_fields(rt: HostRuntime) {
     let expected =
         "---\nname: alpha\nports:\n- 80\n- 443\nlimit: null\nbackup: false\nweights:\n- -1\n- 'yes'\n";
-    check_text(&rt, rt.alloc(), &server, expected)?;
-    same(
-        &rt,
-        to_vec(rt.alloc(), &server)?.as_slice(),
-        expected.as_bytes(),
-    );
-    Ok(())
+    check_made(&rt, rt.alloc(), alpha(rt.alloc()), expected);
 }
 
 #[test]
-fn texts_are_read_as_texts(rt: HostRuntime) -> Result<(), Fail> {
+fn texts_are_read_as_texts(rt: HostRuntime) {
     let texts = ["plain", "no", "1.0", "", "two\nlines\n"];
     let expected = "---\n- plain\n- 'no'\n- '1.0'\n- ''\n- |\n  two\n  lines\n";
-    check_text(&rt, rt.alloc(), &texts, expected)?;
-    check_text(
-        &rt,
-        rt.alloc(),
-        &['a', 'y', '\u{e9}'],
-        "---\n- a\n- 'y'\n- \u{e9}\n",
-    )?;
-    check_text(&rt, rt.alloc(), &(), "--- null\n")?;
-    Ok(())
+    check_text(&rt, rt.alloc(), &texts, expected);
+    let letters = ['a', 'y', '\u{e9}'];
+    check_text(&rt, rt.alloc(), &letters, "---\n- a\n- 'y'\n- \u{e9}\n");
+    check_text(&rt, rt.alloc(), &(), "--- null\n");
 }
 
 #[test]
-fn floats_are_spelled_for_both_schemas(rt: HostRuntime) -> Result<(), Fail> {
+fn floats_are_spelled_for_both_schemas(rt: HostRuntime) {
     let floats = [
         1.0f64,
         0.1,
@@ -79,30 +113,22 @@ fn floats_are_spelled_for_both_schemas(rt: HostRuntime) -> Result<(), Fail> {
         f64::NAN,
     ];
     let expected = "---\n- 1.0\n- 0.1\n- -0.0\n- 1.0e+16\n- 1.5e-7\n- .inf\n- -.inf\n- .nan\n";
-    check_text(&rt, rt.alloc(), &floats, expected)?;
+    check_text(&rt, rt.alloc(), &floats, expected);
     let singles = [0.1f32, 16777216.0, f32::NEG_INFINITY, f32::NAN];
-    check_text(
-        &rt,
-        rt.alloc(),
-        &singles,
-        "---\n- 0.1\n- 16777216.0\n- -.inf\n- .nan\n",
-    )?;
-    Ok(())
+    let expected = "---\n- 0.1\n- 16777216.0\n- -.inf\n- .nan\n";
+    check_text(&rt, rt.alloc(), &singles, expected);
 }
 
 #[test]
-fn integers_have_up_to_128_bits(rt: HostRuntime) -> Result<(), Fail> {
+fn integers_have_up_to_128_bits(rt: HostRuntime) {
     let signed = [i128::MIN, -1, 0, i128::MAX];
     let expected =
         "---\n- -170141183460469231731687303715884105728\n- -1\n- 0\n- 170141183460469231731687303715884105727\n";
-    check_text(&rt, rt.alloc(), &signed, expected)?;
-    check_text(
-        &rt,
-        rt.alloc(),
-        &(u128::MAX, i64::MIN, u64::MAX),
-        "---\n- 340282366920938463463374607431768211455\n- -9223372036854775808\n- 18446744073709551615\n",
-    )?;
-    Ok(())
+    check_text(&rt, rt.alloc(), &signed, expected);
+    let unsigned = (u128::MAX, i64::MIN, u64::MAX);
+    let expected =
+        "---\n- 340282366920938463463374607431768211455\n- -9223372036854775808\n- 18446744073709551615\n";
+    check_text(&rt, rt.alloc(), &unsigned, expected);
 }
 
 #[derive(Drop, Serialize)]
@@ -115,15 +141,10 @@ struct Meters(f64);
 struct Point(i8, isize);
 
 #[test]
-fn structs_without_names_are_null_their_value_or_a_sequence(rt: HostRuntime) -> Result<(), Fail> {
-    let expected = "---\n- null\n- 1.5\n- - 1\n  - -2\n";
+fn structs_without_names_are_null_their_value_or_a_sequence(rt: HostRuntime) {
     let structs = (Nothing, Meters(1.5), Point(1, -2));
-    same(
-        &rt,
-        to_string(rt.alloc(), &structs)?.as_str().as_bytes(),
-        expected.as_bytes(),
-    );
-    Ok(())
+    let expected = "---\n- null\n- 1.5\n- - 1\n  - -2\n";
+    check_text(&rt, rt.alloc(), &structs, expected);
 }
 
 #[derive(Drop, Serialize)]
@@ -144,43 +165,61 @@ enum Color {
     Grey(u8),
 }
 
-fn shapes(alloc: Global) -> Result<Vec<Shape>, Fail> {
+fn counted(alloc: Global) -> Result<BTreeMap<u8, bool>, AllocError> {
     let mut counted = BTreeMap::new(alloc);
     counted.insert(5, true)?;
-    let mut shapes = Vec::new(alloc);
-    shapes.push(Shape::Empty)?;
-    shapes.push(Shape::Circle(1.5))?;
-    shapes.push(Shape::Rectangle(1, 2))?;
-    shapes.push(Shape::Named { id: 7 })?;
-    shapes.push(Shape::Maybe(None))?;
-    shapes.push(Shape::Colored(Color::DarkRed))?;
-    shapes.push(Shape::Counted(counted))?;
-    Ok(shapes)
+    Ok(counted)
+}
+
+fn shapes(alloc: Global) -> Result<[Shape; 7], AllocError> {
+    let counted = counted(alloc)?;
+    Ok([
+        Shape::Empty,
+        Shape::Circle(1.5),
+        Shape::Rectangle(1, 2),
+        Shape::Named { id: 7 },
+        Shape::Maybe(None),
+        Shape::Colored(Color::DarkRed),
+        Shape::Counted(counted),
+    ])
 }
 
 #[test]
-fn variants_with_data_have_tags(rt: HostRuntime) -> Result<(), Fail> {
-    let shapes = shapes(rt.alloc())?;
+fn variants_with_data_have_tags(rt: HostRuntime) {
     let expected =
         "---\n- Empty\n- !Circle 1.5\n- !Rectangle\n  - 1\n  - 2\n- !Named\n  id: 7\n- !Maybe null\n- !Colored dark-red\n- !Counted\n  5: true\n";
-    check_text(&rt, rt.alloc(), &shapes, expected)?;
-    check_text(&rt, rt.alloc(), &Color::Grey(3), "--- !grey 3\n")?;
+    check_made(&rt, rt.alloc(), shapes(rt.alloc()), expected);
+    check_text(&rt, rt.alloc(), &Color::Grey(3), "--- !grey 3\n");
     let nested = Shape::Colored(Color::Grey(3));
-    assert!(rt; matches!(to_string(rt.alloc(), &nested), Err(Error::TwoTags)));
-    Ok(())
+    equal(&rt, &has_two_tags(rt.alloc(), nested), &true);
+}
+
+/// The key is a pair.
+fn pair_key(alloc: Global) -> Result<BTreeMap<(u8, u8), &'static str>, AllocError> {
+    let mut pairs = BTreeMap::new(alloc);
+    pairs.insert((1, 2), "a")?;
+    Ok(pairs)
+}
+
+/// The keys are words.
+fn words(alloc: Global) -> Result<BTreeMap<&'static str, Option<u8>>, AllocError> {
+    let mut words = BTreeMap::new(alloc);
+    words.insert("no", Some(1))?;
+    words.insert("none", None)?;
+    Ok(words)
+}
+
+/// A map without keys.
+fn no_pairs(alloc: Global) -> BTreeMap<(u8, u8), &'static str> {
+    BTreeMap::new(alloc)
 }
 
 #[test]
-fn keys_may_be_any_values(rt: HostRuntime) -> Result<(), Fail> {
-    let mut pairs = BTreeMap::new(rt.alloc());
-    check_text(&rt, rt.alloc(), &pairs, "--- {}\n")?;
-    pairs.insert((1u8, 2u8), "a")?;
-    check_text(&rt, rt.alloc(), &pairs, "---\n? - 1\n  - 2\n: a\n")?;
-    let mut words = BTreeMap::new(rt.alloc());
-    words.insert("no", Some(1u8))?;
-    words.insert("none", None)?;
-    check_text(&rt, rt.alloc(), &words, "---\n'no': 1\nnone: null\n")?;
-    Ok(())
+fn keys_may_be_any_values(rt: HostRuntime) {
+    let alloc = rt.alloc();
+    check_made(&rt, alloc, Ok(no_pairs(alloc)), "--- {}\n");
+    check_made(&rt, alloc, pair_key(alloc), "---\n? - 1\n  - 2\n: a\n");
+    check_made(&rt, alloc, words(alloc), "---\n'no': 1\nnone: null\n");
 }
 
 /// Bytes as they are, where std's types are sequences.
@@ -201,17 +240,12 @@ enum Packet<'a> {
 }
 
 #[test]
-fn bytes_are_base64(rt: HostRuntime) -> Result<(), Fail> {
+fn bytes_are_base64(rt: HostRuntime) {
     let raw = [Raw(b"hello"), Raw(b""), Raw(b"\xd7m\xf8")];
     let expected = "---\n- !!binary aGVsbG8=\n- !!binary ''\n- !!binary '1234'\n";
-    check_text(&rt, rt.alloc(), &raw, expected)?;
-    assert!(rt;
-        matches!(
-            to_string(rt.alloc(), &Packet::Data(Raw(b"x"))),
-            Err(Error::TwoTags)
-        )
-    );
-    Ok(())
+    check_text(&rt, rt.alloc(), &raw, expected);
+    let packet = Packet::Data(Raw(b"x"));
+    equal(&rt, &has_two_tags(rt.alloc(), packet), &true);
 }
 
 #[derive(Drop, Serialize)]
@@ -236,20 +270,15 @@ struct Wrong {
 }
 
 #[test]
-fn flattened_members_go_into_the_map_around_them(rt: HostRuntime) -> Result<(), Fail> {
+fn flattened_members_go_into_the_map_around_them(rt: HostRuntime) {
     let outer = Outer {
         first_name: 1,
         inner: Inner { depth: 2 },
         none: None,
     };
-    check_text(&rt, rt.alloc(), &outer, "---\nfirstName: 1\ndepth: 2\n")?;
-    assert!(rt;
-        matches!(
-            to_string(rt.alloc(), &Wrong { number: 1 }),
-            Err(Error::Flattened)
-        )
-    );
-    Ok(())
+    check_text(&rt, rt.alloc(), &outer, "---\nfirstName: 1\ndepth: 2\n");
+    let is_told = is_wrongly_flattened(rt.alloc(), &Wrong { number: 1 });
+    equal(&rt, &is_told, &true);
 }
 
 /// The name of a variant with data, and no data.
@@ -267,12 +296,10 @@ impl Serialize for Named {
 }
 
 #[test]
-fn a_variant_without_its_data_is_refused(rt: HostRuntime) -> Result<(), Fail> {
-    let alone = to_string(rt.alloc(), &Named);
-    assert!(rt; matches!(alone, Err(Error::Emitter(yaml_error_t::ExpectedNode))));
-    let listed = to_string(rt.alloc(), &[Named]);
-    assert!(rt; matches!(listed, Err(Error::Emitter(yaml_error_t::ExpectedNode))));
-    Ok(())
+fn a_variant_without_its_data_is_refused(rt: HostRuntime) {
+    let error = Some(yaml_error_t::ExpectedNode);
+    equal(&rt, &emitter_error(rt.alloc(), &Named), &error);
+    equal(&rt, &emitter_error(rt.alloc(), &[Named]), &error);
 }
 
 /// So many values, and then a complaint or none.
@@ -293,19 +320,18 @@ impl Serialize for Values {
     }
 }
 
+fn check_complaint(rt: &impl Abort, alloc: Global, value: &Values, wanted: &str) {
+    match to_string(alloc, value) {
+        Ok(_) => equal(rt, &"no error", &wanted),
+        Err(error) => check_words(rt, alloc, &error, wanted),
+    }
+}
+
 #[test]
-fn what_is_no_value_is_refused(rt: HostRuntime) -> Result<(), Fail> {
-    let none = to_string(rt.alloc(), &Values(0, None));
-    assert!(rt; matches!(none, Err(Error::Emitter(yaml_error_t::ExpectedNode))));
-    let two = to_string(rt.alloc(), &Values(2, None));
-    assert!(rt; matches!(two, Err(Error::Emitter(yaml_error_t::ExpectedDocumentEnd))));
-    let Err(error) = to_string(rt.alloc(), &Values(1, Some("not today"))) else {
-        return Err(Fail::new("no error came"));
-    };
-    same(
-        &rt,
-        error.to_string(rt.alloc())?.as_str().as_bytes(),
-        b"not today",
-    );
-    Ok(())
+fn what_is_no_value_is_refused(rt: HostRuntime) {
+    let none = emitter_error(rt.alloc(), &Values(0, None));
+    equal(&rt, &none, &Some(yaml_error_t::ExpectedNode));
+    let two = emitter_error(rt.alloc(), &Values(2, None));
+    equal(&rt, &two, &Some(yaml_error_t::ExpectedDocumentEnd));
+    check_complaint(&rt, rt.alloc(), &Values(1, Some("not today")), "not today");
 }

@@ -1,69 +1,53 @@
 //! Values whose canonical form was written out by hand.
-use super::memory::writes;
-use super::{mixed, text};
-use std::test::Fail;
+use super::Example;
+use super::memory::{Row, check_rows};
 use yaml_test_allocator::Refusing;
-use yaml_value::{Value, equal_bytes_equal_values};
+use yaml_value::equal_bytes_equal_values;
+
+const SCALARS: &[Row] = &[
+    (Example::Null, "---\n!!null \"null\"\n"),
+    (Example::Bool(true), "---\n!!bool \"true\"\n"),
+    (Example::Bool(false), "---\n!!bool \"false\"\n"),
+    (Example::Int(0), "---\n!!int \"0\"\n"),
+    (Example::Int(-1), "---\n!!int \"-1\"\n"),
+    (
+        Example::Int(i64::MIN),
+        "---\n!!int \"-9223372036854775808\"\n",
+    ),
+    (
+        Example::Int(i64::MAX),
+        "---\n!!int \"9223372036854775807\"\n",
+    ),
+    (Example::Text(""), "---\n!!str \"\"\n"),
+    (Example::Text("a\nb"), "---\n!!str \"a\\nb\"\n"),
+    (Example::Text("é"), "---\n!!str \"é\"\n"),
+];
 
 #[test]
-fn scalars_are_written_with_their_tags(rt: HostRuntime) -> Result<(), Fail> {
-    let heap = Refusing::new(rt.alloc());
-    let alloc = &heap;
-    writes(&rt, alloc, Value::Null, "---\n!!null \"null\"\n");
-    writes(&rt, alloc, Value::Bool(true), "---\n!!bool \"true\"\n");
-    writes(&rt, alloc, Value::Bool(false), "---\n!!bool \"false\"\n");
-    writes(&rt, alloc, Value::Int(0), "---\n!!int \"0\"\n");
-    writes(&rt, alloc, Value::Int(-1), "---\n!!int \"-1\"\n");
-    writes(
-        &rt,
-        alloc,
-        Value::Int(i64::MIN),
-        "---\n!!int \"-9223372036854775808\"\n",
-    );
-    writes(
-        &rt,
-        alloc,
-        Value::Int(i64::MAX),
-        "---\n!!int \"9223372036854775807\"\n",
-    );
-    writes(&rt, alloc, text(alloc, "")?, "---\n!!str \"\"\n");
-    writes(&rt, alloc, text(alloc, "a\nb")?, "---\n!!str \"a\\nb\"\n");
-    writes(&rt, alloc, text(alloc, "é")?, "---\n!!str \"é\"\n");
-    Ok(())
+fn scalars_are_written_with_their_tags(rt: HostRuntime) {
+    check_rows(&rt, &Refusing::new(rt.alloc()), SCALARS);
 }
 
-#[test]
-fn collections_are_written_with_their_tags(rt: HostRuntime) -> Result<(), Fail> {
-    let heap = Refusing::new(rt.alloc());
-    let alloc = &heap;
-    writes(&rt, alloc, Value::List(Vec::new(alloc)), "---\n!!seq []\n");
-    writes(&rt, alloc, Value::Map(Vec::new(alloc)), "---\n!!map {}\n");
-    let mut items = Vec::new(alloc);
-    items.push(Value::Int(5))?;
-    items.push(text(alloc, "a")?)?;
-    let list = Value::List(items);
-    writes(
-        &rt,
-        alloc,
-        list,
+const COLLECTIONS: &[Row] = &[
+    (Example::EmptyList, "---\n!!seq []\n"),
+    (Example::EmptyMap, "---\n!!map {}\n"),
+    (
+        Example::List,
         "---\n!!seq [\n  !!int \"5\",\n  !!str \"a\",\n]\n",
-    );
-    let mut pairs = Vec::new(alloc);
-    pairs.push((text(alloc, "k")?, Value::Bool(false)))?;
-    let map = Value::Map(pairs);
-    writes(
-        &rt,
-        alloc,
-        map,
+    ),
+    (
+        Example::Map,
         "---\n!!map {\n  ? !!str \"k\"\n  : !!bool \"false\",\n}\n",
-    );
-    writes(
-        &rt,
-        alloc,
-        mixed(alloc)?,
+    ),
+    (
+        Example::Mixed,
         "---\n!!seq [\n  !!int \"5\",\n  !!str \"a\",\n  !!map {\n    ? !!str \"k\"\n    : !!bool \"false\",\n  },\n]\n",
-    );
-    Ok(())
+    ),
+];
+
+#[test]
+fn collections_are_written_with_their_tags(rt: HostRuntime) {
+    check_rows(&rt, &Refusing::new(rt.alloc()), COLLECTIONS);
 }
 
 // A law, which is called once.

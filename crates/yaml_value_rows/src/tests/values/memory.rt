@@ -1,9 +1,7 @@
 //! Values written where memory is refused.
-use super::nested_lists;
-use crate::tests::equal;
-use std::alloc::Global;
+use super::{Example, Heap, made};
+use crate::tests::{answers, equal};
 use std::process::Abort;
-use std::test::Fail;
 use yaml_base::yaml_error_t;
 use yaml_test_allocator::Refusing;
 use yaml_value::{Value, write_canonical};
@@ -12,47 +10,66 @@ use yaml_value::{Value, write_canonical};
 // written as ever.
 fn is_told<'a>(
     rt: &impl Abort,
-    heap: &'a Refusing<Global>,
-    value: &Value<&'a Refusing<Global>>,
-    expected: &str,
+    heap: Heap<'a>,
+    value: &Value<Heap<'a>>,
+    expected: &[u8],
     number: usize,
 ) -> bool {
     heap.refuse(number);
     let answer = write_canonical(heap, value);
     let is_met = heap.left() == 0;
     heap.refuse(0);
-    if is_met {
-        equal(rt, &answer.err(), &Some(yaml_error_t::Memory));
-        let again = write_canonical(heap, value);
-        assert!(rt; again.is_ok_and(|bytes| bytes.as_slice() == expected.as_bytes()));
+    let wanted = if is_met {
+        Err(yaml_error_t::Memory)
     } else {
-        assert!(rt; answer.is_ok_and(|bytes| bytes.as_slice() == expected.as_bytes()));
-    }
+        Ok(expected)
+    };
+    answers(rt, answer, &wanted);
+    answers(rt, write_canonical(heap, value), &Ok(expected));
     is_met
 }
 
-/// A value gives this text, and each growth that it takes is refused in turn.
-pub(super) fn writes<'a>(
-    rt: &impl Abort,
-    heap: &'a Refusing<Global>,
-    value: Value<&'a Refusing<Global>>,
-    expected: &str,
-) {
+// A value gives this text, and each growth that it takes is refused in turn.
+fn writes<'a>(rt: &impl Abort, heap: Heap<'a>, value: &Value<Heap<'a>>, expected: &[u8]) {
     for number in 1..usize::MAX {
-        if !is_told(rt, heap, &value, expected, number) {
+        if !is_told(rt, heap, value, expected, number) {
             return;
         }
     }
 }
 
+/// A value, and what is written.
+pub(super) type Row<'a> = (Example, &'a str);
+
+fn check_row(rt: &impl Abort, heap: Heap<'_>, row: &Row) {
+    match made(heap, &row.0) {
+        Ok(value) => writes(rt, heap, &value, row.1.as_bytes()),
+        Err(_) => equal(rt, &"no memory", &row.1),
+    }
+}
+
+pub(super) fn check_rows(rt: &impl Abort, heap: Heap<'_>, rows: &[Row]) {
+    for row in rows {
+        check_row(rt, heap, row);
+    }
+}
+
+fn check_too_deep<'a>(rt: &impl Abort, heap: Heap<'a>, value: &Value<Heap<'a>>) {
+    heap.refuse(1);
+    let answer = write_canonical(heap, value);
+    equal(rt, &answer.err(), &Some(yaml_error_t::TooDeep));
+    equal(rt, &heap.left(), &1);
+}
+
+fn check_depth(rt: &impl Abort, heap: Heap<'_>, depth: u32) {
+    match made(heap, &Example::Nested(depth)) {
+        Ok(value) => check_too_deep(rt, heap, &value),
+        Err(_) => equal(rt, &"no memory", &"a value"),
+    }
+}
+
 // A value that is nested too deep is refused before anything is allocated.
 #[test]
-fn too_deep_needs_no_memory(rt: HostRuntime) -> Result<(), Fail> {
-    let heap = Refusing::new(rt.alloc());
-    let value = nested_lists(&heap, 1_001)?;
-    heap.refuse(1);
-    let answer = write_canonical(&heap, &value);
-    equal(&rt, &answer.err(), &Some(yaml_error_t::TooDeep));
-    equal(&rt, &heap.left(), &1);
-    Ok(())
+fn too_deep_needs_no_memory(rt: HostRuntime) {
+    check_depth(&rt, &Refusing::new(rt.alloc()), 1_001);
 }

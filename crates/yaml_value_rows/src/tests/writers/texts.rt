@@ -1,0 +1,63 @@
+//! Which texts stand plain, and which in quotes or literally.
+use super::{Call, check_portable};
+
+const WORDS: &[Call] = &[
+    Call::Sequence,
+    Call::Text("no"),
+    Call::Text("NO"),
+    Call::Text("n"),
+    Call::Text("off"),
+    Call::Text("~"),
+    Call::Text(""),
+    Call::Text("="),
+    Call::Text("<<"),
+    Call::Text("null"),
+    Call::Text("True"),
+    Call::End,
+];
+
+#[test]
+fn words_of_a_schema_stand_in_quotes(rt: HostRuntime) {
+    let expected =
+        "---\n- 'no'\n- 'NO'\n- 'n'\n- 'off'\n- '~'\n- ''\n- '='\n- '<<'\n- 'null'\n- 'True'\n";
+    check_portable(&rt, rt.alloc(), WORDS, expected);
+}
+
+const NUMBERS: &[Call] = &[
+    Call::Sequence,
+    Call::Text("1:30"),
+    Call::Text("0o10"),
+    Call::Text("010"),
+    Call::Text("1_000"),
+    Call::Text(".5"),
+    Call::Text("1e5"),
+    Call::Text("2001-12-14"),
+    Call::Text("0x1F"),
+    Call::Text("+1"),
+    Call::Text("-.inf"),
+    Call::End,
+];
+
+#[test]
+fn what_begins_as_a_number_stands_in_quotes(rt: HostRuntime) {
+    let expected =
+        "---\n- '1:30'\n- '0o10'\n- '010'\n- '1_000'\n- '.5'\n- '1e5'\n- '2001-12-14'\n- '0x1F'\n- '+1'\n- '-.inf'\n";
+    check_portable(&rt, rt.alloc(), NUMBERS, expected);
+}
+
+const OTHERS: &[Call] = &[
+    Call::Sequence,
+    Call::Text("none"),
+    Call::Text("null "),
+    Call::Text("a b"),
+    Call::Text("# c"),
+    Call::Text("a\nb\n"),
+    Call::Text("1\n2"),
+    Call::End,
+];
+
+#[test]
+fn other_texts_stand_plain_quoted_or_literally(rt: HostRuntime) {
+    let expected = "---\n- none\n- 'null '\n- a b\n- '# c'\n- |\n  a\n  b\n- |-\n  1\n  2\n";
+    check_portable(&rt, rt.alloc(), OTHERS, expected);
+}
