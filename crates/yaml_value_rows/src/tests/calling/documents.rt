@@ -1,6 +1,7 @@
 //! Documents, from their nodes to bytes.
-use crate::tests::{equal, same};
+use crate::tests::{answers, equal};
 use std::alloc::{AllocError, Global};
+use std::process::Abort;
 use std::test::Fail;
 use yaml_dump::{
     NodeNumber, YAML_ANY_MAPPING_STYLE, YAML_ANY_SCALAR_STYLE, document_events, yaml_document_t,
@@ -70,53 +71,77 @@ fn two_dumps(
     Vec::from_slice(alloc, emitter.output()).map_err(|_| yaml_error_t::Memory)
 }
 
-/// A mapping of one text to the node of this number, and another text.
-fn pair_nodes(alloc: Global, value: i32) -> Result<Vec<yaml_node_t<Global>>, AllocError> {
-    let mut nodes = Vec::new(alloc);
-    nodes.push(pair_node(alloc, value)?)?;
-    nodes.push(text_node(alloc, "name")?)?;
-    nodes.push(text_node(alloc, "beta")?)?;
+/// Nodes, where there was memory for them.
+type Nodes = Result<Vec<yaml_node_t<Global>>, AllocError>;
+
+/// The nodes, and one more.
+fn with(nodes: Nodes, node: Result<yaml_node_t<Global>, AllocError>) -> Nodes {
+    let mut nodes = nodes?;
+    nodes.push(node?)?;
     Ok(nodes)
+}
+
+/// A mapping of one text to the node of this number.
+fn pair_nodes(alloc: Global, key: &str, value: i32) -> Nodes {
+    let nodes = with(Ok(Vec::new(alloc)), pair_node(alloc, value));
+    with(nodes, text_node(alloc, key))
+}
+
+/// The same, and another text.
+fn named_nodes(alloc: Global, value: i32) -> Nodes {
+    with(pair_nodes(alloc, "name", value), text_node(alloc, "beta"))
+}
+
+fn document(alloc: Global, nodes: Nodes) -> Result<yaml_document_t<Global>, Fail> {
+    Ok(document_of(alloc, nodes?)?)
+}
+
+fn check_named(rt: &impl Abort, alloc: Global, document: yaml_document_t<Global>) {
+    equal(rt, &document.node_count(), &3);
+    answers(rt, yaml_of(alloc, document, 100), &Ok(b"name: beta\n"));
 }
 
 #[test]
 fn a_document_is_written(rt: HostRuntime) -> Result<(), Fail> {
     let alloc = rt.alloc();
-    let nodes = pair_nodes(alloc, 3)?;
-    let document = document_of(alloc, nodes)?;
-    equal(&rt, &document.node_count(), &3);
-    let yaml = yaml_of(alloc, document, 100)?;
-    same(&rt, yaml.as_slice(), b"name: beta\n");
+    check_named(&rt, alloc, document(alloc, named_nodes(alloc, 3))?);
     Ok(())
+}
+
+/// The number that names no node.
+fn refused_number(alloc: Global, nodes: Nodes) -> Result<Option<NodeNumber>, AllocError> {
+    Ok(document_of(alloc, nodes?).err())
 }
 
 #[test]
-fn a_number_that_names_no_node_is_returned(rt: HostRuntime) -> Result<(), Fail> {
+fn a_number_that_names_no_node_is_returned(rt: HostRuntime) {
     let alloc = rt.alloc();
-    let nodes = pair_nodes(alloc, 4)?;
-    match document_of(alloc, nodes) {
-        Ok(_) => assert!(rt; false),
-        Err(number) => equal(&rt, &number, &NodeNumber(4)),
-    }
-    Ok(())
+    let number = refused_number(alloc, named_nodes(alloc, 4));
+    equal(&rt, &number, &Ok(Some(NodeNumber(4))));
 }
 
-/// A mapping that is its own value.
-fn circle(alloc: Global) -> Result<Vec<yaml_node_t<Global>>, AllocError> {
-    let mut nodes = Vec::new(alloc);
-    nodes.push(pair_node(alloc, 1)?)?;
-    nodes.push(text_node(alloc, "me")?)?;
-    Ok(nodes)
+fn count_events(alloc: Global, document: &yaml_document_t<Global>) -> Result<usize, yaml_error_t> {
+    Ok(document_events(alloc, document)?.len())
 }
 
+fn check_circle(
+    rt: &impl Abort,
+    alloc: Global,
+    document: yaml_document_t<Global>,
+    empty: yaml_document_t<Global>,
+) {
+    equal(rt, &count_events(alloc, &document), &Ok(6));
+    equal(rt, &empty.is_empty(), &true);
+    let bytes = two_dumps(alloc, document, empty);
+    answers(rt, bytes, &Ok(b"&id001\nme: *id001\n"));
+}
+
+// A mapping that is its own value.
 #[test]
 fn a_node_met_twice_has_an_anchor(rt: HostRuntime) -> Result<(), Fail> {
     let alloc = rt.alloc();
-    let document = document_of(alloc, circle(alloc)?)?;
-    equal(&rt, &document_events(alloc, &document)?.len(), &6);
-    let empty = document_of(alloc, Vec::new(alloc))?;
-    assert!(rt; empty.is_empty());
-    let yaml = two_dumps(alloc, document, empty)?;
-    same(&rt, yaml.as_slice(), b"&id001\nme: *id001\n");
+    let circle = document(alloc, pair_nodes(alloc, "me", 1))?;
+    let empty = document(alloc, Ok(Vec::new(alloc)))?;
+    check_circle(&rt, alloc, circle, empty);
     Ok(())
 }

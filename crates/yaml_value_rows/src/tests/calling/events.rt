@@ -1,5 +1,5 @@
 //! Streams, event by event.
-ghost use Rattle.std.specs.Prelude.{◌≡◌, true};
+ghost use Rattle.std.specs.Prelude.{◌≡◌, IfOk, true};
 
 use crate::tests::{equal, same};
 use std::alloc::{AllocError, Global};
@@ -65,23 +65,39 @@ fn stream_start() -> yaml_event_t<Global> {
     }
 }
 
-/// The start of a flow sequence, and its first item.
-fn started(alloc: Global) -> Result<Vec<yaml_event_t<Global>>, AllocError> {
-    let mut events = Vec::new(alloc);
-    events.push(stream_start())?;
-    events.push(document_start(alloc))?;
-    events.push(flow_sequence())?;
-    events.push(scalar(alloc, "a")?)?;
+/// Events, where there was memory for them.
+type Events = Result<Vec<yaml_event_t<Global>>, AllocError>;
+
+/// The events, and one more.
+fn with(events: Events, event: Result<yaml_event_t<Global>, AllocError>) -> Events {
+    let mut events = events?;
+    events.push(event?)?;
     Ok(events)
 }
 
+/// The start of a flow sequence, and its first item.
+fn started(alloc: Global) -> Events {
+    let stream = with(Ok(Vec::new(alloc)), Ok(stream_start()));
+    let document = with(stream, Ok(document_start(alloc)));
+    with(with(document, Ok(flow_sequence())), scalar(alloc, "a"))
+}
+
 /// Its second item, its end, and that of the document.
-fn rest(alloc: Global) -> Result<Vec<yaml_event_t<Global>>, AllocError> {
-    let mut events = Vec::new(alloc);
-    events.push(scalar(alloc, "b")?)?;
-    events.push(YAML_SEQUENCE_END_EVENT)?;
-    events.push(YAML_DOCUMENT_END_EVENT { implicit: true })?;
-    Ok(events)
+fn rest(alloc: Global) -> Events {
+    let item = with(Ok(Vec::new(alloc)), scalar(alloc, "b"));
+    let end = with(item, Ok(YAML_SEQUENCE_END_EVENT));
+    with(end, Ok(YAML_DOCUMENT_END_EVENT { implicit: true }))
+}
+
+/// Emits the events where there was memory for them.
+fn emit_made(emitter: &mut yaml_emitter_t<Global>, events: Events) -> Result<(), yaml_error_t>
+    requires { emitter.old.has_output ≡ true }
+    ensures { emitter.new.has_output ≡ true }
+{
+    match events {
+        Ok(events) => emit_all(emitter, events),
+        Err(_) => Err(yaml_error_t::Memory),
+    }
 }
 
 fn check_output(rt: &impl Abort, emitter: &yaml_emitter_t<Global>, held: usize, output: &[u8]) {
@@ -89,52 +105,51 @@ fn check_output(rt: &impl Abort, emitter: &yaml_emitter_t<Global>, held: usize, 
     same(rt, emitter.output(), output);
 }
 
-fn give_in_parts(
-    rt: &impl Abort,
-    alloc: Global,
-    emitter: &mut yaml_emitter_t<Global>,
-) -> Result<(), Fail>
+/// An emitter whose output has at most a thousand bytes.
+fn emitter_with_output(alloc: Global) -> Result<yaml_emitter_t<Global>, yaml_error_t>
+    ensures { IfOk result (λ emitter. emitter.has_output ≡ true) }
+{
+    let mut emitter = yaml_emitter_initialize(alloc)?;
+    yaml_emitter_set_output_string(&mut emitter, 1_000);
+    Ok(emitter)
+}
+
+fn give_in_parts(rt: &impl Abort, alloc: Global, emitter: &mut yaml_emitter_t<Global>)
     requires { emitter.old.has_output ≡ true }
 {
-    emit_all(emitter, started(alloc)?)?;
+    equal(rt, &emit_made(emitter, started(alloc)), &Ok(()));
     // The sequence's start is still queued: it awaits one more event.
     check_output(rt, emitter, 2, b"");
-    emit_all(emitter, rest(alloc)?)?;
+    equal(rt, &emit_made(emitter, rest(alloc)), &Ok(()));
     check_output(rt, emitter, 0, b"[a, b]\n");
-    yaml_emitter_emit(emitter, YAML_STREAM_END_EVENT)?;
+    let end = yaml_emitter_emit(emitter, YAML_STREAM_END_EVENT);
+    equal(rt, &end, &Ok(()));
     check_output(rt, emitter, 0, b"[a, b]\n");
-    Ok(())
 }
 
 #[test]
 fn bytes_appear_at_a_documents_end(rt: HostRuntime) -> Result<(), Fail> {
-    let mut emitter = yaml_emitter_initialize(rt.alloc())?;
-    yaml_emitter_set_output_string(&mut emitter, 1_000);
-    give_in_parts(&rt, rt.alloc(), &mut emitter)
+    let mut emitter = emitter_with_output(rt.alloc())?;
+    give_in_parts(&rt, rt.alloc(), &mut emitter);
+    Ok(())
 }
 
-fn give_and_flush(
-    rt: &impl Abort,
-    alloc: Global,
-    emitter: &mut yaml_emitter_t<Global>,
-) -> Result<(), Fail>
+fn give_and_flush(rt: &impl Abort, alloc: Global, emitter: &mut yaml_emitter_t<Global>)
     requires { emitter.old.has_output ≡ true }
 {
-    let mut events = started(alloc)?;
-    events.push(scalar(alloc, "b")?)?;
-    emit_all(emitter, events)?;
+    let events = with(started(alloc), scalar(alloc, "b"));
+    equal(rt, &emit_made(emitter, events), &Ok(()));
     check_output(rt, emitter, 0, b"");
-    assert!(rt; emitter.encoding_known());
-    yaml_emitter_flush(emitter)?;
+    equal(rt, &emitter.encoding_known(), &true);
+    equal(rt, &yaml_emitter_flush(emitter), &Ok(()));
     check_output(rt, emitter, 0, b"[a, b");
-    Ok(())
 }
 
 #[test]
 fn a_flush_writes_what_is_ready(rt: HostRuntime) -> Result<(), Fail> {
-    let mut emitter = yaml_emitter_initialize(rt.alloc())?;
-    yaml_emitter_set_output_string(&mut emitter, 1_000);
-    give_and_flush(&rt, rt.alloc(), &mut emitter)
+    let mut emitter = emitter_with_output(rt.alloc())?;
+    give_and_flush(&rt, rt.alloc(), &mut emitter);
+    Ok(())
 }
 
 /// Sends what was handed out since the last call.
@@ -147,66 +162,58 @@ fn send(emitter: &mut yaml_emitter_t<Global>, sent: &mut Vec<u8>) -> Result<(), 
 }
 
 /// The events of a document, after those that are given.
-fn push_document(
-    events: &mut Vec<yaml_event_t<Global>>,
-    alloc: Global,
-    value: &str,
-) -> Result<(), AllocError> {
-    events.push(document_start(alloc))?;
-    events.push(scalar(alloc, value)?)?;
-    events.push(YAML_DOCUMENT_END_EVENT { implicit: true })?;
-    Ok(())
+fn with_document(events: Events, alloc: Global, value: &str) -> Events {
+    let start = with(events, Ok(document_start(alloc)));
+    let contents = with(start, scalar(alloc, value));
+    with(contents, Ok(YAML_DOCUMENT_END_EVENT { implicit: true }))
 }
 
 fn send_after(
     rt: &impl Abort,
     emitter: &mut yaml_emitter_t<Global>,
-    events: Vec<yaml_event_t<Global>>,
+    events: Events,
     sent: &mut Vec<u8>,
     wanted: &[u8],
-) -> Result<(), Fail>
+)
     requires { emitter.old.has_output ≡ true }
     ensures { emitter.new.has_output ≡ true }
 {
-    emit_all(emitter, events)?;
-    send(emitter, sent)?;
+    equal(rt, &emit_made(emitter, events), &Ok(()));
+    equal(rt, &send(emitter, sent), &Ok(()));
     same(rt, sent.as_slice(), wanted);
     same(rt, emitter.output(), b"");
-    Ok(())
 }
 
 fn send_in_parts(
     rt: &impl Abort,
     alloc: Global,
     emitter: &mut yaml_emitter_t<Global>,
-) -> Result<(), Fail>
+    sent: &mut Vec<u8>,
+)
     requires { emitter.old.has_output ≡ true }
 {
-    let mut sent = Vec::new(alloc);
-    let mut events = Vec::new(alloc);
-    events.push(stream_start())?;
-    push_document(&mut events, alloc, "a")?;
-    send_after(rt, emitter, events, &mut sent, b"a\n")?;
-    let mut rest = Vec::new(alloc);
-    push_document(&mut rest, alloc, "b")?;
-    rest.push(YAML_STREAM_END_EVENT)?;
-    send_after(rt, emitter, rest, &mut sent, b"a\n--- b\n")
+    let start = with(Ok(Vec::new(alloc)), Ok(stream_start()));
+    let first = with_document(start, alloc, "a");
+    send_after(rt, emitter, first, sent, b"a\n");
+    let second = with_document(Ok(Vec::new(alloc)), alloc, "b");
+    let rest = with(second, Ok(YAML_STREAM_END_EVENT));
+    send_after(rt, emitter, rest, sent, b"a\n--- b\n");
 }
 
 #[test]
 fn a_stream_is_sent_in_parts(rt: HostRuntime) -> Result<(), Fail> {
-    let mut emitter = yaml_emitter_initialize(rt.alloc())?;
-    yaml_emitter_set_output_string(&mut emitter, 1_000);
-    send_in_parts(&rt, rt.alloc(), &mut emitter)
+    let mut emitter = emitter_with_output(rt.alloc())?;
+    send_in_parts(&rt, rt.alloc(), &mut emitter, &mut Vec::new(rt.alloc()));
+    Ok(())
 }
 
 fn check_error(rt: &impl Abort, emitter: &yaml_emitter_t<Global>) {
     match emitter.error() {
         Some(error) => {
-            assert!(rt; error.kind() == YAML_EMITTER_ERROR);
+            equal(rt, &error.kind(), &YAML_EMITTER_ERROR);
             same(rt, error.problem().as_bytes(), b"expected STREAM-START");
         }
-        None => assert!(rt; false),
+        None => equal(rt, &"no error", &"an error"),
     }
 }
 
@@ -221,8 +228,7 @@ fn check_refused(rt: &impl Abort, emitter: &mut yaml_emitter_t<Global>, event: y
 
 #[test]
 fn the_first_error_is_sticky(rt: HostRuntime) -> Result<(), Fail> {
-    let mut emitter = yaml_emitter_initialize(rt.alloc())?;
-    yaml_emitter_set_output_string(&mut emitter, 1_000);
+    let mut emitter = emitter_with_output(rt.alloc())?;
     check_refused(&rt, &mut emitter, YAML_STREAM_END_EVENT);
     check_refused(&rt, &mut emitter, stream_start());
     Ok(())
