@@ -29,44 +29,46 @@ fn check_spellings(rt: &impl Abort, alloc: Global, rows: &[Row]) {
     }
 }
 
+const NUMBERS: &[Row] = &[
+    ("0", Some("0")),
+    ("-0", Some("-0.0")),
+    ("-120", Some("-120")),
+    ("18446744073709551616", Some("18446744073709551616")),
+    ("1.50", Some("1.50")),
+    ("1e5", Some("1.0e+5")),
+    ("1E-5", Some("1.0e-5")),
+    ("12.5E+07", Some("12.5e+07")),
+    ("-1.25e10", Some("-1.25e+10")),
+    ("1.5e-3", Some("1.5e-3")),
+    ("-0e0", Some("-0.0e+0")),
+];
+
 #[test]
 fn numbers_are_spelled(rt: HostRuntime) {
-    let rows: &[Row] = &[
-        ("0", Some("0")),
-        ("-0", Some("-0.0")),
-        ("-120", Some("-120")),
-        ("18446744073709551616", Some("18446744073709551616")),
-        ("1.50", Some("1.50")),
-        ("1e5", Some("1.0e+5")),
-        ("1E-5", Some("1.0e-5")),
-        ("12.5E+07", Some("12.5e+07")),
-        ("-1.25e10", Some("-1.25e+10")),
-        ("1.5e-3", Some("1.5e-3")),
-        ("-0e0", Some("-0.0e+0")),
-    ];
-    check_spellings(&rt, rt.alloc(), rows);
+    check_spellings(&rt, rt.alloc(), NUMBERS);
 }
+
+const OTHERS: &[Row] = &[
+    ("", None),
+    ("-", None),
+    ("+1", None),
+    ("01", None),
+    ("1.", None),
+    (".5", None),
+    ("1e", None),
+    ("1e+", None),
+    ("1_0", None),
+    ("0x1", None),
+    ("1.2.3", None),
+    ("1e5e6", None),
+    (" 1", None),
+    ("1 ", None),
+    ("é", None),
+];
 
 #[test]
 fn other_texts_are_no_numbers(rt: HostRuntime) {
-    let rows: &[Row] = &[
-        ("", None),
-        ("-", None),
-        ("+1", None),
-        ("01", None),
-        ("1.", None),
-        (".5", None),
-        ("1e", None),
-        ("1e+", None),
-        ("1_0", None),
-        ("0x1", None),
-        ("1.2.3", None),
-        ("1e5e6", None),
-        (" 1", None),
-        ("1 ", None),
-        ("é", None),
-    ];
-    check_spellings(&rt, rt.alloc(), rows);
+    check_spellings(&rt, rt.alloc(), OTHERS);
 }
 
 /// A spelling that is the text itself.

@@ -7,8 +7,7 @@ use yaml_writer::{
 };
 
 /// A mapping of a text and of a sequence of values.
-fn values(alloc: Global) -> Result<Vec<u8>, yaml_error_t> {
-    let mut writer = Writer::new(alloc, Settings::default())?;
+fn give_values(writer: &mut Writer<Global>) -> Result<(), yaml_error_t> {
     writer.begin_mapping(YAML_BLOCK_MAPPING_STYLE)?;
     writer.text("country")?;
     writer.text("no")?;
@@ -18,7 +17,13 @@ fn values(alloc: Global) -> Result<Vec<u8>, yaml_error_t> {
     writer.bool(true)?;
     writer.null()?;
     writer.end()?;
-    writer.end()?;
+    writer.end()
+}
+
+/// A document of it.
+fn values(alloc: Global) -> Result<Vec<u8>, yaml_error_t> {
+    let mut writer = Writer::new(alloc, Settings::default())?;
+    give_values(&mut writer)?;
     writer.finish()
 }
 

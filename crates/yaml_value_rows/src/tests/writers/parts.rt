@@ -88,12 +88,13 @@ const WHOLE: &[Call] = &[
 
 const THREE: &str = "---\n- a\n---\n- 'no'\n---\n- c\n";
 
+const PARTS: &[Part] = &[(LETTER, "---\n- a\n"), (WORD, "---\n- a\n---\n- 'no'\n")];
+
 #[test]
 fn parts_that_are_taken_make_the_stream(rt: HostRuntime) {
     check_portable(&rt, rt.alloc(), WHOLE, THREE);
-    let parts: &[Part] = &[(LETTER, "---\n- a\n"), (WORD, "---\n- a\n---\n- 'no'\n")];
     let last = (LAST, Ok(THREE.as_bytes()));
-    check_in_parts(&rt, rt.alloc(), usize::MAX, parts, last);
+    check_in_parts(&rt, rt.alloc(), usize::MAX, PARTS, last);
 }
 
 /// A sequence of one letter, of 8 bytes with the start of its document.
