@@ -45,6 +45,10 @@ BREAKS = {"cr": "carriage_return_break", "ln": "line_feed_break", "crln": "both_
           "\r": "carriage_return_break", "\n": "line_feed_break", "\r\n": "both_break"}
 SCALAR = {"any": "any_style", "plain": "plain", "single": "single_quoted", "double": "double_quoted", "literal": "literal", "folded": "folded"}
 COLLECTION = {"any": "any_layout", "block": "block", "flow": "flow"}
+# The errors of refused events; the model numbers them from 1 on.
+ERRORS = ["ExpectedStreamStart", "ExpectedDocumentStart", "ExpectedDocumentEnd", "ExpectedNode", "ExpectedNothing", "IncompatibleVersion", "TagHandleEmpty",
+          "TagHandleStart", "TagHandleEnd", "TagHandleAlphabet", "TagPrefixEmpty", "DuplicateDirective", "AnchorEmpty", "AnchorAlphabet", "AliasEmpty",
+          "AliasAlphabet", "TagEmpty", "NoTagNorImplicit", "TooDeep"]
 
 def named(value, names):
     return "None" if value == "any" else "(Some %s)" % names[value]
@@ -133,7 +137,7 @@ def lemmas_of_list(case, n):
     canonical = flag(case["settings"]["canonical"])
     if "refused" in case:
         at = case["refused"]["at"]
-        yield "refusals", "refusals_after %s [] (take %d %s)" % (canonical, at + 1, events), several(["None"] * at + ["Some %d" % case["refused"]["number"]])
+        yield "refusals", "refusals_after %s [] (take %d %s)" % (canonical, at + 1, events), several(["None"] * at + ["Some " + ERRORS[case["refused"]["number"] - 1]])
         yield "pieces", "texts (%s) (pieces (%s) %s %d)" % (s, s, events, at), several(map(text, case["refused"]["text"]))
         return
     yield "refusals", "refusals_after %s [] %s" % (canonical, events), several(["None"] * len(case["events"]))
@@ -208,8 +212,9 @@ use Rattle.yaml_base.specs.Script.{Script, bad_line, understood, script_of}
 use Rattle.yaml_base.specs.Resolved.{meant_null, meant_boolean, meant_integer, meant_decimal, meant_infinity, meant_nan, meant_timestamp, meant_merge, meant_value, meant_text, meant_by_nobody}
 use Rattle.yaml_base.specs.SchemaOf11.{resolved_by_11}
 use Rattle.yaml_base.specs.SchemaCore.{resolved_by_core}
+use Rattle.yaml_base.specs.declared.errors.yaml_error_t.TheVariants.{%s}
 use Rattle.yaml_base.proofs.ComparedCommon.{written_after_each, refusals_after, texts, bodies, tidy_bodies, read_by, read_back}
-"""
+""" % ", ".join(ERRORS)
 
 def lemma(name, computed, expected):
     return "%s : %s ≡ %s\nunfolding chars is_utf8 encode_utf8 digits decimal_digits\n%s = refl\n" % (name, computed, expected, name)
@@ -235,10 +240,10 @@ def file_of(cases, spoil):
 def spoiler(r):
     """Changes one number, flag or text of an expected value."""
     def spoil(expected):
-        places = [(m.start(), m.end(), m.group()) for m in re.finditer(r'\b(true|false)\b|codes "[a-z]|Some \d|\(pos \d', expected)]
+        places = [(m.start(), m.end(), m.group()) for m in re.finditer(r'\b(true|false)\b|codes "[a-z]|Some \d|\(pos \d|AnchorEmpty|TagEmpty', expected)]
         if not places or r.random() < 0.9: return expected
         start, end, found = r.choice(places)
-        other = {"true": "false", "false": "true"}.get(found) or (found[:-1] + ("7" if found[-1] == "6" else "6") if found[-1].isdigit() else found[:-1] + ("Z" if found[-1] != "Z" else "Y"))
+        other = {"true": "false", "false": "true", "AnchorEmpty": "TagEmpty", "TagEmpty": "AnchorEmpty"}.get(found) or (found[:-1] + ("7" if found[-1] == "6" else "6") if found[-1].isdigit() else found[:-1] + ("Z" if found[-1] != "Z" else "Y"))
         return expected[:start] + other + expected[end:]
     return spoil
 

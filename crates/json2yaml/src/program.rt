@@ -46,6 +46,10 @@ fn fault_of(error: JsonError) -> Fault {
     }
 }
 
+fn emitter_fault(error: yaml_error_t) -> Fault {
+    fault_of(JsonError::Emitter(error))
+}
+
 /// All that a reader has.
 fn bytes_of<R: Read>(alloc: Global, reader: &mut R) -> Result<Vec<u8>, Fault> {
     let mut bytes = Vec::new(alloc);
@@ -85,10 +89,7 @@ fn give_bytes(
     let Ok(text) = str::from_utf8(bytes) else {
         return Err(Fault::NotText);
     };
-    match write_json_texts(alloc, writer, text, settings.flow, settings.depth) {
-        Ok(()) => Ok(()),
-        Err(error) => Err(fault_of(error)),
-    }
+    write_json_texts(alloc, writer, text, settings.flow, settings.depth).map_err(fault_of)
 }
 
 /// Gives a writer the JSON texts of a file, or of standard input.
@@ -101,10 +102,7 @@ fn give_file<R: Runtime + AllocGlobal>(
     requires { IsBare writer.old }
     ensures { OnOk result (IsBare writer.new) }
 {
-    let bytes = match bytes_in(rt, name) {
-        Ok(bytes) => bytes,
-        Err(fault) => return Err(fault),
-    };
+    let bytes = bytes_in(rt, name)?;
     give_bytes(rt.alloc(), writer, bytes.as_slice(), settings)
 }
 
@@ -113,10 +111,7 @@ fn begin_next(writer: &mut Writer<Global>) -> Result<(), Fault>
     requires { IsBare writer.old }
     ensures { IsBare writer.new }
 {
-    match writer.next_document() {
-        Ok(()) => Ok(()),
-        Err(error) => Err(fault_of(JsonError::Emitter(error))),
-    }
+    writer.next_document().map_err(emitter_fault)
 }
 
 /// Gives a writer the JSON texts of some files, a document each. Returns the file at which it failed, and why.
@@ -172,14 +167,12 @@ fn converted<'a, R: Runtime + AllocGlobal>(
 ) -> Result<Vec<u8>, (Option<&'a str>, Fault)> {
     let mut writer = match Writer::new(rt.alloc(), conversion.settings.writer) {
         Ok(writer) => writer,
-        Err(error) => return Err((None, fault_of(JsonError::Emitter(error)))),
+        Err(error) => return Err((None, emitter_fault(error))),
     };
-    if let Err(failure) = give_all(rt, &mut writer, conversion) {
-        return Err(failure);
-    }
+    give_all(rt, &mut writer, conversion)?;
     match writer.finish() {
         Ok(bytes) => Ok(bytes),
-        Err(error) => Err((None, fault_of(JsonError::Emitter(error)))),
+        Err(error) => Err((None, emitter_fault(error))),
     }
 }
 

@@ -8,13 +8,15 @@ use Rattle.std.specs.List.{list_all}
 use Rattle.std.specs.Prelude.{ℕ, ◌+◌, ◌≤◌, ◌<◌, Bool, true, false, cond, not, ◌&&◌, nat_lt, Option, None, Some, List, [], ◌∷◌, ◌++◌, length, count_by, is_none, option_and_then, flat_map}
 use Rattle.yaml_base.specs.Event.{Event, stream_end, document_end, sequence_start, sequence_end, mapping_start, mapping_end}
 use Rattle.yaml_base.specs.Grammar.{no_nodes, nodes_and, no_pairs, pairs_and, Level, at_item, at_key, at_value, Partial, before_stream, between_documents, within_document, after_root, after_stream, push, pushed, partial_of}
-use Rattle.yaml_base.specs.Refusal.{fault_if, too_deep, name_or_tag_fault, content_fault, expected, place_fault, most_open, begins_collection, ends_collection, open_levels, depth_fault, refusal_at, refusal, is_sound, open_count, BeginsAccepted, RefusedExactly}
+use Rattle.yaml_base.specs.Refusal.{fault_if, name_or_tag_fault, content_fault, expected, place_fault, most_open, begins_collection, ends_collection, open_levels, depth_fault, refusal_at, refusal, is_sound, open_count, BeginsAccepted, RefusedExactly}
 use Rattle.yaml_base.specs.Pieces.{empty_scalar, innermost_missing, outer_missing, levels_missing, missing, missing_after, completion}
 use Rattle.yaml_base.proofs.NoFaults.{neither, is_none_none}
 use Rattle.yaml_base.proofs.Trees.{stream_pushed}
 use Rattle.yaml_base.proofs.Pushes.{partial_of_events}
 use Rattle.yaml_base.proofs.Completions.{pushed-append, stream_completed, completion_pushed, front_begins}
 use Rattle.yaml_base.proofs.OpenCounts.{open_count-levels}
+use Rattle.yaml_base.specs.declared.errors.yaml_error_t.TheVariants.{TooDeep}
+use Rattle.yaml_base.specs.declared.errors.yaml_error_t.{yaml_error_t}
 
 -- no front leaves too many collections open
 abbrev IsShallow : List Event → Type 0
@@ -165,10 +167,10 @@ begins_from_stands canonical events stands =
           };
     }
 
-or_none : (a b : Option ℕ) → a ≡ None → b ≡ None → option_or a b ≡ None
+or_none : (a b : Option yaml_error_t) → a ≡ None → b ≡ None → option_or a b ≡ None
 or_none a b h k = ap (λ x. option_or x b) h ∙ k
 
-no_fault : (wrong : Bool) (fault : ℕ) → fault_if wrong fault ≡ None → wrong ≡ false
+no_fault : (wrong : Bool) (fault : yaml_error_t) → fault_if wrong fault ≡ None → wrong ≡ false
 no_fault true fault h = cc
 no_fault false fault h = refl
 
@@ -222,7 +224,7 @@ next_stands canonical before event given accepted =
     let pushes : (q : Partial) × (push p event ≡ Some q) = is_some_value (push p event) (no_fault (is_none (push p event)) (expected p) place_none) in
     let room : begins_collection event ≡ true → length (open_levels p) < most_open =
     (λ begins. ltb-true (length (open_levels p)) most_open
-    (has_room (begins_collection event) (nat_lt (length (open_levels p)) most_open) (no_fault wrong_depth too_deep depth_none) begins)) in
+    (has_room (begins_collection event) (nat_lt (length (open_levels p)) most_open) (no_fault wrong_depth TooDeep depth_none) begins)) in
     let all : open_count before ≤ most_open = given.shallow before [] (append-nil before) in
     record {
       partial = pushes.0;
@@ -270,7 +272,7 @@ not_refused canonical before event given next =
     (room_left before event most_open (length (open_levels p)) (omega arith) (open_count-levels before p given.is_partial) all begins)) in
     or_none names (option_or (place_fault p event) (option_or content (depth_fault p event))) (neither names content own_none).0
     (or_none (place_fault p event) (option_or content (depth_fault p event)) (ap (λ b. fault_if b (expected p)) stands_at)
-    (or_none content (depth_fault p event) (neither names content own_none).1 (ap (λ b. fault_if b too_deep) deep)))
+    (or_none content (depth_fault p event) (neither names content own_none).1 (ap (λ b. fault_if b TooDeep) deep)))
 
 pub refused_exactly : RefusedExactly
 refused_exactly canonical before event begun =

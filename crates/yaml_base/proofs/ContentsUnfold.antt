@@ -6,16 +6,16 @@ use Rattle.std.proofs.lemmas.List.Elements.{All-head, All-tail}
 use Rattle.yaml_base.specs.Characters.{Text}
 use Rattle.yaml_base.specs.Event.{Event, stream_start, stream_end}
 use Rattle.yaml_base.specs.Grammar.{Node, alias_node, scalar_node, sequence_node, mapping_node, Nodes, no_nodes, nodes_and, Pairs, no_pairs, pairs_and, Documents, no_documents, documents_and, Stream, document_events, documents_events, stream_events}
-use Rattle.yaml_base.specs.Content.{DocumentContent, scalar_tag, node_content, nodes_content, pairs_content, document_content, documents_content, content_of}
+use Rattle.yaml_base.specs.Content.{DocumentContent, content_tag, node_content, nodes_content, pairs_content, document_content, documents_content, content_of}
 use Rattle.yaml_base.specs.Meetings.{Graph, GraphNode, Held, scalar_held, sequence_held, mapping_held, node_numbered, document_event_list}
-use Rattle.yaml_base.specs.Unfolding.{Kind, scalar_kind, sequence_kind, mapping_kind, Label, Placed, alias_placed, node_placed, PlacedAll, none_placed, placed_and, kind_held, label_of, tag_told, HasShape, HaveShapes, node_shape_of, nodes_shapes, pairs_shapes, content_shape, contents_shapes, content_pairs_shapes, TreeUnfolds, ContentUnfolds, IsDocument}
+use Rattle.yaml_base.specs.Unfolding.{NodeKind, scalar_kind, sequence_kind, mapping_kind, Label, Placed, alias_placed, node_placed, PlacedAll, none_placed, placed_and, kind_held, label_of, tag_told, HasShape, HaveShapes, node_shape_of, nodes_shapes, pairs_shapes, content_shape, contents_shapes, content_pairs_shapes, TreeUnfolds, ContentUnfolds, IsDocument}
 use Rattle.yaml_base.specs.Dumped.{AreDumped, ContentsUnfold}
 use Rattle.yaml_base.proofs.Trees.{tree_of-stream_events}
 use Rattle.yaml_base.proofs.DocumentsUnfold.{document_unfolds}
 
 -- ---- without styles
 
-abbrev unstyled_kind : Kind → Kind
+abbrev unstyled_kind : NodeKind → NodeKind
 unstyled_kind (scalar_kind value style) = scalar_kind value None
 unstyled_kind (sequence_kind style) = sequence_kind None
 unstyled_kind (mapping_kind style) = mapping_kind None
@@ -30,7 +30,7 @@ kind_unstyled (mapping_held pairs style) = refl
 
 label_unstyled : (found : Option GraphNode) → option_map (label_of false) found ≡ option_map unstyled (option_map (label_of true) found)
 label_unstyled None = refl
-label_unstyled (Some node) = ap (λ (kind : Kind). Some (record { tag = Some node.tag; kind = kind })) (kind_unstyled node.held)
+label_unstyled (Some node) = ap (λ (kind : NodeKind). Some (record { tag = Some node.tag; kind = kind })) (kind_unstyled node.held)
 
 -- a label without its style, from the label
 labels_same : (found : Option GraphNode) (label : Label) → option_map (label_of true) found ≡ Some label
@@ -42,18 +42,18 @@ tag_in : Option Label → Option Text
 tag_in None = None
 tag_in (Some label) = label.tag
 
-told_some : (tag : Option Text) (text : Text) (implicit : Bool) → Some text ≡ tag → tag ≡ tag_told (scalar_tag tag implicit)
+told_some : (tag : Option Text) (text : Text) (implicit : Bool) → Some text ≡ tag → tag ≡ tag_told (content_tag tag implicit)
 told_some None text implicit is = cc
 told_some (Some other) text implicit is = refl
 
 tag_kept : (found : Option GraphNode) (label : Label) (implicit : Bool) → option_map (label_of true) found ≡ Some label
-    → label.tag ≡ tag_told (scalar_tag label.tag implicit)
+    → label.tag ≡ tag_told (content_tag label.tag implicit)
 unfolding tag_in
 tag_kept None label implicit is = cc
 tag_kept (Some node) label implicit is = told_some label.tag node.tag implicit (ap tag_in is)
 
 scalar_label : (found : Option GraphNode) (label : Label) (implicit : Bool) → option_map (label_of true) found ≡ Some label
-    → option_map (label_of false) found ≡ Some (record { tag = tag_told (scalar_tag label.tag implicit); kind = unstyled_kind label.kind })
+    → option_map (label_of false) found ≡ Some (record { tag = tag_told (content_tag label.tag implicit); kind = unstyled_kind label.kind })
 scalar_label found label implicit is =
     labels_same found label is ∙ ap (λ (tag : Option Text). Some (record { tag = tag; kind = unstyled_kind label.kind })) (tag_kept found label implicit is)
 

@@ -12,34 +12,34 @@ use Rattle.yaml_base.specs.Characters.{Text}
 use Rattle.yaml_base.specs.Event.{Event, document_start, document_end}
 use Rattle.yaml_base.specs.Grammar.{node_events}
 use Rattle.yaml_base.specs.Meetings.{Graph, Step, enters, leaves, meets_again, is_entry_of, steps, node_met_again, anchor_of, step_events, document_event_list}
-use Rattle.yaml_base.specs.Unfolding.{Placed, Place, alias_place, node_place, places, carries, is_place_of, IsNamed, AreNamed, IsReached, first_reached, child_reached, TreeUnfolds, IsDocument, EventsUnfold}
+use Rattle.yaml_base.specs.Unfolding.{Placed, Occurrence, alias_occurrence, node_occurrence, occurrences, carries, is_occurrence_of, IsNamed, AreNamed, IsReached, first_reached, child_reached, TreeUnfolds, IsDocument, EventsUnfold}
 use Rattle.yaml_base.proofs.SharedNodes.{has, shared_named, anchors_differ}
 use Rattle.yaml_base.proofs.UnfoldSteps.{FollowEntries, is_meeting_of, IsOrderly, orderly_steps}
 use Rattle.yaml_base.proofs.UnfoldTrees.{placed_steps, Fits, Walks, walk_placed, root_met, children_met, place_of, places_are}
 use Rattle.yaml_base.proofs.UnfoldEvents.{node_at, node_at_events, node_at_shape}
 
--- ---- places are counted as entries
+-- ---- occurrences are counted as entries
 
 count_cons : {X : Type 0} (test : X → Bool) (x : X) (xs : List X) → count_by test (x ∷ xs) ≡ cond (test x) 1 0 + count_by test xs
 count_cons test x xs = sum_by-append (λ y. cond (test y) 1 0) (x ∷ []) xs ∙ omega arith
 
 -- by a test that tells the place of one node
-places_counted : (named : ℕ → Option Text) (test : Place → Bool) (number : ℕ) → ((other : ℕ) → test (node_place (named other) other) ≡ (number == other))
-    → ((name : Text) (other : ℕ) → test (alias_place name other) ≡ false)
+places_counted : (named : ℕ → Option Text) (test : Occurrence → Bool) (number : ℕ) → ((other : ℕ) → test (node_occurrence (named other) other) ≡ (number == other))
+    → ((name : Text) (other : ℕ) → test (alias_occurrence name other) ≡ false)
     → (walk : List Step) → count_by test (filter_map (place_of named) walk) ≡ count_by (is_entry_of number) walk
 places_counted named test number nodes aliases [] = refl
 places_counted named test number nodes aliases (enters other ∷ walk) =
     let rest = places_counted named test number nodes aliases walk in
-    let now : ◌≡◌ {A = ℕ} (cond (test (node_place (named other) other)) 1 0) (cond (number == other) 1 0) = ap {B = ℕ} (λ (b : Bool). cond b 1 0)
+    let now : ◌≡◌ {A = ℕ} (cond (test (node_occurrence (named other) other)) 1 0) (cond (number == other) 1 0) = ap {B = ℕ} (λ (b : Bool). cond b 1 0)
     (nodes other) in
-    count_cons test (node_place (named other) other) (filter_map (place_of named) walk)
+    count_cons test (node_occurrence (named other) other) (filter_map (place_of named) walk)
     ∙ omega (arith, rest, now)
     ∙ sym (count_cons (is_entry_of number) (enters other) walk)
 places_counted named test number nodes aliases (meets_again other ∷ walk) =
     let rest = places_counted named test number nodes aliases walk in
-    let now : ◌≡◌ {A = ℕ} (cond (test (alias_place (unwrap_or (named other) []) other)) 1 0) 0 = ap {B = ℕ} (λ (b : Bool). cond b 1 0)
+    let now : ◌≡◌ {A = ℕ} (cond (test (alias_occurrence (unwrap_or (named other) []) other)) 1 0) 0 = ap {B = ℕ} (λ (b : Bool). cond b 1 0)
     (aliases (unwrap_or (named other) []) other) in
-    count_cons test (alias_place (unwrap_or (named other) []) other) (filter_map (place_of named) walk)
+    count_cons test (alias_occurrence (unwrap_or (named other) []) other) (filter_map (place_of named) walk)
     ∙ omega (arith, rest, now)
     ∙ sym (count_cons (is_entry_of number) (meets_again other) walk)
 places_counted named test number nodes aliases (leaves other ∷ walk) =
@@ -50,7 +50,7 @@ places_counted named test number nodes aliases (leaves other ∷ walk) =
 -- a node's anchor is carried by its place alone
 carried_by : (walk : List Step) (number : ℕ) (name : Text) → anchor_of walk number ≡ Some name → (other : ℕ) (anchor : Option Text)
     → anchor_of walk other ≡ anchor
-    → carries name (node_place anchor other) ≡ (number == other)
+    → carries name (node_occurrence anchor other) ≡ (number == other)
 carried_by walk number name is other None none =
     sym (ne_eqb number other (λ same. let both : Some name ≡ None = sym is ∙ ap (anchor_of walk) same ∙ none in cc))
 carried_by walk number name is other (Some anchor) also =
@@ -107,22 +107,22 @@ names_shared graph walk orderly number again =
 
 -- a node that was entered has its place
 has_place : (named : ℕ → Option Text) (number : ℕ) (walk : List Step) → list_any (is_entry_of number) walk ≡ true
-    → Contains (filter_map (place_of named) walk) (node_place (named number) number)
+    → Contains (filter_map (place_of named) walk) (node_occurrence (named number) number)
 has_place named number [] some = cc
 has_place named number (enters other ∷ walk) some =
     elim (or_cases (number == other) (list_any (is_entry_of number) walk) some) as
-    (λ _. Contains (node_place (named other) other ∷ filter_map (place_of named) walk) (node_place (named number) number)) [
+    (λ _. Contains (node_occurrence (named other) other ∷ filter_map (place_of named) walk) (node_occurrence (named number) number)) [
       | inl now ↦
-          subst (λ (n : ℕ). Contains (node_place (named other) other ∷ filter_map (place_of named) walk) (node_place (named n) n))
+          subst (λ (n : ℕ). Contains (node_occurrence (named other) other ∷ filter_map (place_of named) walk) (node_occurrence (named n) n))
           (sym (eqb-true number other now))
-          (Contains-append_left (node_place (named other) other ∷ []) (filter_map (place_of named) walk) (node_place (named other) other)
+          (Contains-append_left (node_occurrence (named other) other ∷ []) (filter_map (place_of named) walk) (node_occurrence (named other) other)
           (0, omega arith, refl))
-      | inr later ↦ Contains-append_right (node_place (named other) other ∷ []) (filter_map (place_of named) walk) (node_place (named number) number)
+      | inr later ↦ Contains-append_right (node_occurrence (named other) other ∷ []) (filter_map (place_of named) walk) (node_occurrence (named number) number)
           (has_place named number walk later)
     ]
 has_place named number (leaves other ∷ walk) some = has_place named number walk some
 has_place named number (meets_again other ∷ walk) some =
-    Contains-append_right (alias_place (unwrap_or (named other) []) other ∷ []) (filter_map (place_of named) walk) (node_place (named number) number)
+    Contains-append_right (alias_occurrence (unwrap_or (named other) []) other ∷ []) (filter_map (place_of named) walk) (node_occurrence (named number) number)
     (has_place named number walk some)
 
 -- one more place
@@ -130,14 +130,14 @@ place_more : (named : ℕ → Option Text) (before : List Step) (step : Step)
     → filter_map (place_of named) (before ++ step ∷ []) ≡ filter_map (place_of named) before ++ cons_option (place_of named step) []
 place_more named before step = filter_map-append (place_of named) before (step ∷ [])
 
-alias_named : (named : ℕ → Option Text) (before : List Step) (all : List Place) (number : ℕ) (name : Text) → named number ≡ Some name
+alias_named : (named : ℕ → Option Text) (before : List Step) (all : List Occurrence) (number : ℕ) (name : Text) → named number ≡ Some name
     → count_by (carries name) all ≡ 1
-    → list_any (is_entry_of number) before ≡ true → IsNamed all (filter_map (place_of named) before) (alias_place (unwrap_or (named number) []) number)
+    → list_any (is_entry_of number) before ≡ true → IsNamed all (filter_map (place_of named) before) (alias_occurrence (unwrap_or (named number) []) number)
 alias_named named before all number name is once entered =
     let told : unwrap_or (named number) [] ≡ name = ap (λ (o : Option Text). unwrap_or o []) is in
-    subst (λ (alias : Text). IsNamed all (filter_map (place_of named) before) (alias_place alias number)) (sym told) (
+    subst (λ (alias : Text). IsNamed all (filter_map (place_of named) before) (alias_occurrence alias number)) (sym told) (
       once,
-      subst (λ (anchor : Option Text). Contains (filter_map (place_of named) before) (node_place anchor number)) is
+      subst (λ (anchor : Option Text). Contains (filter_map (place_of named) before) (node_occurrence anchor number)) is
           (has_place named number before entered),
     )
 
@@ -147,19 +147,19 @@ all_named walk before [] follow names = tt
 all_named walk before (enters number ∷ rest) follow names =
     let all = filter_map (place_of (anchor_of walk)) walk in (
       tt,
-      subst (λ (earlier : List Place). AreNamed all earlier (filter_map (place_of (anchor_of walk)) rest)) (place_more (anchor_of walk) before (enters number))
+      subst (λ (earlier : List Occurrence). AreNamed all earlier (filter_map (place_of (anchor_of walk)) rest)) (place_more (anchor_of walk) before (enters number))
           (all_named walk (before ++ enters number ∷ []) rest follow.1 names),
     )
 all_named walk before (leaves number ∷ rest) follow names =
     let all = filter_map (place_of (anchor_of walk)) walk in
-    subst (λ (earlier : List Place). AreNamed all earlier (filter_map (place_of (anchor_of walk)) rest))
+    subst (λ (earlier : List Occurrence). AreNamed all earlier (filter_map (place_of (anchor_of walk)) rest))
     (place_more (anchor_of walk) before (leaves number) ∙ append-nil (filter_map (place_of (anchor_of walk)) before))
     (all_named walk (before ++ leaves number ∷ []) rest follow.1 names)
 all_named walk before (meets_again number ∷ rest) follow names =
     let all = filter_map (place_of (anchor_of walk)) walk in
     let has_name = names number (ap (λ (b : Bool). b || list_any (is_again number) rest) ((Decides-eqb number number).1 refl)) in (
       alias_named (anchor_of walk) before all number has_name.name has_name.is has_name.once follow.0,
-      subst (λ (earlier : List Place). AreNamed all earlier (filter_map (place_of (anchor_of walk)) rest))
+      subst (λ (earlier : List Occurrence). AreNamed all earlier (filter_map (place_of (anchor_of walk)) rest))
           (place_more (anchor_of walk) before (meets_again number))
           (all_named walk (before ++ meets_again number ∷ []) rest follow.1
           (λ other later. names other (ap (λ (b : Bool). number == other || b) later ∙ or-true (number == other)))),
@@ -186,18 +186,18 @@ tree_unfolds : (graph : Graph) (walk : List Step) (made : Walks (anchor_of walk)
     → TreeUnfolds graph (node_at graph made.placed)
 tree_unfolds graph walk made orderly =
     let named = anchor_of walk in
-    let at : places made.placed ≡ filter_map (place_of named) walk = places_are named graph made.placed made.fits
+    let at : occurrences made.placed ≡ filter_map (place_of named) walk = places_are named graph made.placed made.fits
     ∙ ap (filter_map (place_of named)) (sym made.adds) in
     let root : list_any (is_meeting_of 1) walk ≡ true =
     ap (list_any (is_meeting_of 1)) made.adds
     ∙ subst (λ (n : ℕ). list_any (is_meeting_of n) (placed_steps made.placed) ≡ true) made.root (root_met made.placed) in
-    let counted = λ (number : ℕ). ap (count_by (is_place_of number)) at
-    ∙ places_counted named (is_place_of number) number (λ other. refl) (λ name other. refl) walk ∙ orderly.once number in
+    let counted = λ (number : ℕ). ap (count_by (is_occurrence_of number)) at
+    ∙ places_counted named (is_occurrence_of number) number (λ other. refl) (λ name other. refl) walk ∙ orderly.once number in
     record {
       placed = made.placed;
       root = made.root;
       fits = node_at_shape named graph made.placed made.fits;
-      named = subst (λ (all : List Place). AreNamed all [] all) (sym at) (all_named walk [] walk orderly.follow (names_shared graph walk orderly));
+      named = subst (λ (all : List Occurrence). AreNamed all [] all) (sym at) (all_named walk [] walk orderly.follow (names_shared graph walk orderly));
       once = λ number reached. counted number
           ∙ ap {B = ℕ} (λ (b : Bool). cond b 1 0) (reached_entered graph walk made.placed orderly made.fits made.adds root reached);
       no_other = λ number unreached.

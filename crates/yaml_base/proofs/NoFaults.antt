@@ -14,6 +14,6 @@ is_none_none None h = refl
 is_none_none (Some x) h = cc
 
 -- a fault that isn't told
-pub not_given : (given : Bool) (number : ℕ) → cond {A = Option ℕ} given (Some number) None ≡ None → given ≡ false
-not_given true number e = absurd (cc)
-not_given false number e = refl
+pub not_given : {A : Type 0} (given : Bool) (fault : A) → cond {A = Option A} given (Some fault) None ≡ None → given ≡ false
+not_given true fault e = absurd (cc)
+not_given false fault e = refl

@@ -5,9 +5,10 @@ use Rattle.std.specs.Prelude.{ℕ, suc, Bool, true, false, not, ◌&&◌, nat_lt
 use Rattle.yaml_base.specs.Settings.{Encoding, Effective}
 use Rattle.yaml_base.specs.Event.{TagDirective, DocumentStart, Event, stream_start, stream_end, document_start, document_end, alias, scalar, sequence_start, sequence_end, mapping_start, mapping_end}
 use Rattle.yaml_base.specs.Grammar.{Node, alias_node, scalar_node, no_nodes, nodes_and, no_pairs, pairs_and, Documents, no_documents, documents_and, Level, at_item, at_key, at_value, Partial, before_stream, between_documents, within_document, after_root, after_stream, with_node, closed, push_within, push, pushed, partial_of}
-use Rattle.yaml_base.specs.Refusal.{fault_if, too_deep, name_or_tag_fault, content_fault, expected, begins_collection, ends_collection, open_levels, most_open, refusal_at, refusal}
+use Rattle.yaml_base.specs.Refusal.{fault_if, name_or_tag_fault, content_fault, expected, begins_collection, ends_collection, open_levels, most_open, refusal_at, refusal}
 use Rattle.yaml_base.specs.Layout.{Standing, Role, as_item, as_key, as_value, is_key, first_standing}
 use Rattle.yaml_base.specs.Steps.{Frame, Stage, at_stream, at_document, at_node, at_document_end, at_nothing, role_after, stage_after, step, ends_next, steps, is_item, node_allowed, stage_allows, stage_expected, open_frames, stage_refusal}
+use Rattle.yaml_base.specs.declared.errors.yaml_error_t.TheVariants.{TooDeep}
 
 -- a frame awaits what a level does
 abbrev Awaits : Level → Role → Type 0
@@ -211,7 +212,7 @@ pub stage_refuses : (canonical : Bool) (p : Partial) (stage : Stage) (event : Ev
 stage_refuses canonical p stage event h =
     let names = name_or_tag_fault canonical event in
     let content = content_fault canonical event in
-    let full = (λ (n : ℕ). fault_if (begins_collection event && not (nat_lt n most_open)) too_deep) in
+    let full = (λ (n : ℕ). fault_if (begins_collection event && not (nat_lt n most_open)) TooDeep) in
     ap (λ b. option_or names (option_or (fault_if b (stage_expected stage)) (option_or content (full (open_frames stage))))) (stage_allowed p stage event h)
     ∙ ap (λ x. option_or names (option_or (fault_if (is_none (push p event)) x) (option_or content (full (open_frames stage))))) (stage_expects p stage h)
     ∙ ap (λ n. option_or names (option_or (fault_if (is_none (push p event)) (expected p)) (option_or content (full n)))) (frames_open p stage h)

@@ -40,7 +40,7 @@ abbrev mutual
   pairs_at graph (placed_and none_placed last) = no_pairs
   pairs_at graph (placed_and (placed_and before key) value) = pairs_and (pairs_at graph before) (node_at graph key) (node_at graph value)
 
--- ---- an even number of places makes pairs
+-- ---- an even number of occurrences makes pairs
 
 abbrev are_pairs : PlacedAll → Bool
 are_pairs none_placed = true
@@ -151,7 +151,7 @@ holding_shape : (anchor : Option Text) (tag : Text) (held : Held) (node : GraphN
     → (are_pairs below ≡ true → HaveShapes true graph below (pairs_shapes (pairs_at graph below)))
     → HasShape true graph (node_placed anchor number below) (node_shape_of (node_holding anchor tag held (items_at graph below) (pairs_at graph below)))
 holding_shape anchor tag (scalar_held value style) node graph number below is all held items pairs =
-    (refl, ap (option_map (label_of true)) is, all, subst (λ (places : PlacedAll). HaveShapes true graph places no_shapes) (sym (none_held below held)) tt)
+    (refl, ap (option_map (label_of true)) is, all, subst (λ (occurrences : PlacedAll). HaveShapes true graph occurrences no_shapes) (sym (none_held below held)) tt)
 holding_shape anchor tag (sequence_held numbers style) node graph number below is all held items pairs = (refl, ap (option_map (label_of true)) is, all, items)
 holding_shape anchor tag (mapping_held numbers style) node graph number below is all held items pairs =
     (refl, ap (option_map (label_of true)) is, all, pairs (held_pairs below numbers held))

@@ -8,7 +8,7 @@ use Rattle.std.proofs.lemmas.List.Elements.{Contains-append_cases, filter_map-ap
 use Rattle.std.proofs.lemmas.List.Folds.{list_any-append}
 use Rattle.yaml_base.specs.Characters.{Text}
 use Rattle.yaml_base.specs.Meetings.{Graph, GraphNode, Step, enters, leaves, meets_again, node_numbered, numbers_held, numbers_in, children, is_entry_of, steps_from, is_whole}
-use Rattle.yaml_base.specs.Unfolding.{Placed, alias_placed, node_placed, PlacedAll, none_placed, placed_and, number_at, numbers_at, Place, alias_place, node_place, places, places_below}
+use Rattle.yaml_base.specs.Unfolding.{Placed, alias_placed, node_placed, PlacedAll, none_placed, placed_and, number_at, numbers_at, Occurrence, alias_occurrence, node_occurrence, occurrences, occurrences_below}
 use Rattle.yaml_base.proofs.UnfoldSteps.{from_node, none_added, is_meeting_of}
 
 -- the steps of the walk over a tree
@@ -172,11 +172,6 @@ all_walk named graph step room each (number ∷ numbers) before from earlier is 
       adds = more.adds;
     }
 
--- the steps from a node by whether it was entered
-by_entry : (depth : ℕ) (graph : Graph) (before : List Step) (number : ℕ) (entered : Bool) → list_any (is_entry_of number) before ≡ entered
-    → steps_from (suc depth) graph before number ≡ from_node depth graph before number entered
-by_entry depth graph before number entered is = ap (λ (b : Bool). from_node depth graph before number b) is
-
 -- the entry, what follows and the end belong together
 regrouped : (before below : List Step) (entry end : Step) → ((before ++ entry ∷ []) ++ below) ++ end ∷ [] ≡ before ++ (entry ∷ (below ++ end ∷ []))
 regrouped before below entry end = append_assoc (before ++ entry ∷ []) below (end ∷ []) ∙ append_assoc before (entry ∷ []) (below ++ end ∷ [])
@@ -276,29 +271,29 @@ mutual
         | inr now ↦ any_right (is_meeting_of child) (below_steps before) (placed_steps last) (children_met named graph last number child fit.1 now within)
       ]
 
--- ---- the places of a tree by its steps
+-- ---- the occurrences of a tree by its steps
 
 -- the place of a step that meets a node
-abbrev pub place_of : (ℕ → Option Text) → Step → Option Place
-place_of named (enters number) = Some (node_place (named number) number)
-place_of named (meets_again number) = Some (alias_place (unwrap_or (named number) []) number)
+abbrev pub place_of : (ℕ → Option Text) → Step → Option Occurrence
+place_of named (enters number) = Some (node_occurrence (named number) number)
+place_of named (meets_again number) = Some (alias_occurrence (unwrap_or (named number) []) number)
 place_of named (leaves number) = None
 
 mutual
   pub places_are : (named : ℕ → Option Text) (graph : Graph) (placed : Placed) → Fits named graph placed
-      → places placed ≡ filter_map (place_of named) (placed_steps placed)
-  places_are named graph (alias_placed name number) fits = ap (λ (told : Text). alias_place told number ∷ []) fits
+      → occurrences placed ≡ filter_map (place_of named) (placed_steps placed)
+  places_are named graph (alias_placed name number) fits = ap (λ (told : Text). alias_occurrence told number ∷ []) fits
   places_are named graph (node_placed anchor number below) fits =
-      ap (λ (told : Option Text). node_place told number ∷ places_below below) fits.0
-      ∙ ap (λ (rest : List Place). node_place (named number) number ∷ rest)
+      ap (λ (told : Option Text). node_occurrence told number ∷ occurrences_below below) fits.0
+      ∙ ap (λ (rest : List Occurrence). node_occurrence (named number) number ∷ rest)
       (places_below_are named graph below fits.3
       ∙ sym (append-nil (filter_map (place_of named) (below_steps below)))
       ∙ sym (filter_map-append (place_of named) (below_steps below) (leaves number ∷ [])))
 
   places_below_are : (named : ℕ → Option Text) (graph : Graph) (below : PlacedAll) → AllFit named graph below
-      → places_below below ≡ filter_map (place_of named) (below_steps below)
+      → occurrences_below below ≡ filter_map (place_of named) (below_steps below)
   places_below_are named graph none_placed fit = refl
   places_below_are named graph (placed_and before last) fit =
-      ap (λ (earlier : List Place). earlier ++ places last) (places_below_are named graph before fit.0)
-      ∙ ap (λ (now : List Place). filter_map (place_of named) (below_steps before) ++ now) (places_are named graph last fit.1)
+      ap (λ (earlier : List Occurrence). earlier ++ occurrences last) (places_below_are named graph before fit.0)
+      ∙ ap (λ (now : List Occurrence). filter_map (place_of named) (below_steps before) ++ now) (places_are named graph last fit.1)
       ∙ sym (filter_map-append (place_of named) (below_steps before) (placed_steps last))

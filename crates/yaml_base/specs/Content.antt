@@ -33,15 +33,15 @@ pub record DocumentContent : Type 0 where
   pub root : Content
 
 -- a scalar with its tag, or one whose flag for quoted styles tells whether the bare tag stands before it
-abbrev pub scalar_tag : Option Text → Bool → ScalarTag
-scalar_tag (Some tag) quoted_implicit = tagged tag
-scalar_tag None quoted_implicit = untagged quoted_implicit
+abbrev pub content_tag : Option Text → Bool → ScalarTag
+content_tag (Some tag) quoted_implicit = tagged tag
+content_tag None quoted_implicit = untagged quoted_implicit
 
 -- the content of a tree
 abbrev mutual
   pub node_content : Node → Content
   node_content (alias_node name) = alias_content name
-  node_content (scalar_node content) = scalar_content content.anchor (scalar_tag content.tag content.quoted_implicit) content.value
+  node_content (scalar_node content) = scalar_content content.anchor (content_tag content.tag content.quoted_implicit) content.value
   node_content (sequence_node start items) = sequence_content start.anchor start.tag (nodes_content items)
   node_content (mapping_node start pairs) = mapping_content start.anchor start.tag (pairs_content pairs)
 

@@ -1,33 +1,9 @@
--- The refusals: their numbers, the layer that each comes from, and their words (libyaml's own texts).
+-- The errors: the layer that each comes from, and their words (libyaml's own texts).
 use Rattle.std.specs.Prelude.{ℕ, List, codes, Option, None, Some, Result, Ok, Err}
 use Rattle.yaml_base.specs.declared.errors.yaml_error_t.{yaml_error_t}
 use Rattle.yaml_base.specs.declared.errors.yaml_error_t.TheVariants.{ExpectedStreamStart, ExpectedDocumentStart, ExpectedDocumentEnd, ExpectedNode, ExpectedNothing, IncompatibleVersion, TagHandleEmpty, TagHandleStart, TagHandleEnd, TagHandleAlphabet, TagPrefixEmpty, DuplicateDirective, AnchorEmpty, AnchorAlphabet, AliasEmpty, AliasAlphabet, TagEmpty, NoTagNorImplicit, TooDeep, WriteError, Memory}
 use Rattle.yaml_base.specs.declared.errors.yaml_error_type_t.{yaml_error_type_t}
 use Rattle.yaml_base.specs.declared.errors.yaml_error_type_t.TheVariants.{YAML_MEMORY_ERROR, YAML_WRITER_ERROR, YAML_EMITTER_ERROR}
-
--- a refusal's number, a line for each: 1 to 19 for events that can't be written, 20 for the output's limit, 21 for memory
-abbrev pub refusal_number : yaml_error_t → ℕ
-refusal_number ExpectedStreamStart = 1
-refusal_number ExpectedDocumentStart = 2
-refusal_number ExpectedDocumentEnd = 3
-refusal_number ExpectedNode = 4
-refusal_number ExpectedNothing = 5
-refusal_number IncompatibleVersion = 6
-refusal_number TagHandleEmpty = 7
-refusal_number TagHandleStart = 8
-refusal_number TagHandleEnd = 9
-refusal_number TagHandleAlphabet = 10
-refusal_number TagPrefixEmpty = 11
-refusal_number DuplicateDirective = 12
-refusal_number AnchorEmpty = 13
-refusal_number AnchorAlphabet = 14
-refusal_number AliasEmpty = 15
-refusal_number AliasAlphabet = 16
-refusal_number TagEmpty = 17
-refusal_number NoTagNorImplicit = 18
-refusal_number TooDeep = 19
-refusal_number WriteError = 20
-refusal_number Memory = 21
 
 -- the layer that a refusal comes from
 abbrev pub kind_of : yaml_error_t → yaml_error_type_t
@@ -64,7 +40,7 @@ abbrev pub display_text : yaml_error_t → List ℕ
 display_text Memory = codes "out of memory"
 display_text error = problem_text error
 
--- the number of the refusal that a call answered; none where it succeeded
-abbrev pub refused : {T : Type 0} → Result T yaml_error_t → Option ℕ
+-- the error of a call; none where it succeeded
+abbrev pub refused : {T : Type 0} → Result T yaml_error_t → Option yaml_error_t
 refused (Ok _) = None
-refused (Err error) = Some (refusal_number error)
+refused (Err error) = Some error

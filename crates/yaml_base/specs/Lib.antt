@@ -36,6 +36,8 @@ pub mod Pieces
 pub mod Output
 pub mod Meaning
 pub mod Content
+pub mod ReadBytes
+pub mod CanonicalTokens
 pub mod CanonicalReader
 pub mod Meetings
 pub mod Unfolding

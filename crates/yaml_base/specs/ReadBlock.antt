@@ -35,12 +35,12 @@ detected [] = 0
 detected (content text ∷ rest) = leading_spaces text
 detected (line_end b ∷ rest) = detected rest
 
--- the indentation: what the digit adds to the column of the enclosing block's entries (the digit itself
+-- the read_indentation: what the digit adds to the column of the enclosing block's entries (the digit itself
 -- at the root), or else what the first content shows
-abbrev pub indentation : (digit column : Option ℕ) → List Element → ℕ
-indentation None column lines = detected lines
-indentation (Some digit) None lines = digit
-indentation (Some digit) (Some column) lines = column + digit
+abbrev pub read_indentation : (digit column : Option ℕ) → List Element → ℕ
+read_indentation None column lines = detected lines
+read_indentation (Some digit) None lines = digit
+read_indentation (Some digit) (Some column) lines = column + digit
 
 -- a text without so many leading spaces; none where it has fewer
 abbrev pub unindented : ℕ → Text → Option Text
@@ -53,7 +53,7 @@ abbrev pub element_unindented : ℕ → Element → Option Element
 element_unindented n (content text) = option_map content (unindented n text)
 element_unindented n (line_end b) = Some (line_end b)
 
--- all contents without the indentation
+-- all contents without the read_indentation
 abbrev pub all_unindented : ℕ → List Element → Option (List Element)
 all_unindented n [] = Some []
 all_unindented n (element ∷ rest) =
@@ -119,7 +119,7 @@ chomped strip content_before ends = []
 chomped clip content_before ends = if content_before then take 1 ends else []
 chomped keep content_before ends = ends
 
--- what lines without their indentation read as: all up to the last content, joined or folded, and what is
+-- what lines without their read_indentation read as: all up to the last content, joined or folded, and what is
 -- kept of the final breaks
 abbrev pub lines_read : (folded : Bool) → Chomping → List Element → Text
 lines_read folded chomping lines =
@@ -154,7 +154,7 @@ after_break breaks12 (c ∷ rest) = if is_read_break breaks12 c then Some rest e
 -- the lines after a header
 abbrev pub read_lines : (folded : Bool) → Chomping → (digit column : Option ℕ) → List Element → Option Text
 read_lines folded chomping digit column lines =
-    option_map (lines_read folded chomping) (all_unindented (indentation digit column lines) lines)
+    option_map (lines_read folded chomping) (all_unindented (read_indentation digit column lines) lines)
 
 -- a block scalar from its sign on: `|` or `>`, a digit or none, a chomping sign or none, a break, lines;
 -- the column is that of the enclosing block's entries, none at the root

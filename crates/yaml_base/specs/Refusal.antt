@@ -8,31 +8,11 @@ use Rattle.yaml_base.specs.Event.{Scalar, Collection, Event, document_start, ali
 use Rattle.yaml_base.specs.Tags.{anchor_fault, alias_fault, tag_fault, version_fault, directives_fault}
 use Rattle.yaml_base.specs.Style.{lacks_tag_and_flags}
 use Rattle.yaml_base.specs.Grammar.{Level, Partial, before_stream, between_documents, within_document, after_root, after_stream, push, partial_of, Stream, stream_events}
-
--- The refusals of this file, by their numbers.
-abbrev pub expected_stream_start : ℕ
-expected_stream_start = 1
-
-abbrev pub expected_document_start : ℕ
-expected_document_start = 2
-
-abbrev pub expected_document_end : ℕ
-expected_document_end = 3
-
-abbrev pub expected_node : ℕ
-expected_node = 4
-
-abbrev pub expected_nothing : ℕ
-expected_nothing = 5
-
-abbrev pub no_tag_nor_implicit : ℕ
-no_tag_nor_implicit = 18
-
-abbrev pub too_deep : ℕ
-too_deep = 19
+use Rattle.yaml_base.specs.declared.errors.yaml_error_t.{yaml_error_t}
+use Rattle.yaml_base.specs.declared.errors.yaml_error_t.TheVariants.{ExpectedStreamStart, ExpectedDocumentStart, ExpectedDocumentEnd, ExpectedNode, ExpectedNothing, NoTagNorImplicit, TooDeep}
 
 -- a fault where the test holds
-abbrev pub fault_if : Bool → ℕ → Option ℕ
+abbrev pub fault_if : Bool → yaml_error_t → Option yaml_error_t
 fault_if wrong fault = if wrong then Some fault else None
 
 -- the tag that a scalar is written with: none where a flag lets it be left out
@@ -45,11 +25,11 @@ abbrev pub collection_tag : Bool → Collection → Option Text
 collection_tag canonical start = if canonical || not start.implicit then start.tag else None
 
 -- the refusal of an anchor and of the tag that is written, where there are any
-abbrev pub properties_fault : Option Text → Option Text → Option ℕ
+abbrev pub properties_fault : Option Text → Option Text → Option yaml_error_t
 properties_fault anchor tag = option_or (option_and_then anchor_fault anchor) (option_and_then tag_fault tag)
 
 -- the anchor's or alias's fault, then that of a tag that is written: both are told before the place
-abbrev pub name_or_tag_fault : Bool → Event → Option ℕ
+abbrev pub name_or_tag_fault : Bool → Event → Option yaml_error_t
 name_or_tag_fault canonical (alias name) = alias_fault name
 name_or_tag_fault canonical (scalar content) =
     properties_fault content.anchor (scalar_tag canonical content)
@@ -60,25 +40,25 @@ name_or_tag_fault canonical (mapping_start start) =
 name_or_tag_fault canonical _ = None
 
 -- what else an event's own content lacks: a scalar without a tag needs a flag
-abbrev pub content_fault : Bool → Event → Option ℕ
+abbrev pub content_fault : Bool → Event → Option yaml_error_t
 content_fault canonical (scalar content) =
     fault_if
     (lacks_tag_and_flags (is_some (scalar_tag canonical content)) content.plain_implicit content.quoted_implicit)
-    no_tag_nor_implicit
+    NoTagNorImplicit
 content_fault canonical (document_start start) =
     option_or (option_and_then version_fault start.version) (directives_fault start.directives)
 content_fault canonical _ = None
 
 -- what must stand next
-abbrev pub expected : Partial → ℕ
-expected before_stream = expected_stream_start
-expected (between_documents encoding before) = expected_document_start
-expected (within_document encoding before start levels) = expected_node
-expected (after_root encoding before start root) = expected_document_end
-expected (after_stream stream) = expected_nothing
+abbrev pub expected : Partial → yaml_error_t
+expected before_stream = ExpectedStreamStart
+expected (between_documents encoding before) = ExpectedDocumentStart
+expected (within_document encoding before start levels) = ExpectedNode
+expected (after_root encoding before start root) = ExpectedDocumentEnd
+expected (after_stream stream) = ExpectedNothing
 
 -- the refusal of an event that may not stand after this partial tree
-abbrev pub place_fault : Partial → Event → Option ℕ
+abbrev pub place_fault : Partial → Event → Option yaml_error_t
 place_fault partial event = fault_if (is_none (push partial event)) (expected partial)
 
 -- so many collections may be open at once (this library's own bound)
@@ -103,19 +83,19 @@ open_levels (within_document encoding before start levels) = levels
 open_levels _ = []
 
 -- the refusal of a collection where too many are open
-abbrev pub depth_fault : Partial → Event → Option ℕ
+abbrev pub depth_fault : Partial → Event → Option yaml_error_t
 depth_fault partial event =
-    fault_if (begins_collection event && not (nat_lt (length (open_levels partial)) most_open)) too_deep
+    fault_if (begins_collection event && not (nat_lt (length (open_levels partial)) most_open)) TooDeep
 
 -- the first fault of an event at a place
-abbrev pub refusal_at : Bool → Partial → Event → Option ℕ
+abbrev pub refusal_at : Bool → Partial → Event → Option yaml_error_t
 refusal_at canonical partial event =
     option_or (name_or_tag_fault canonical event)
     (option_or (place_fault partial event)
     (option_or (content_fault canonical event) (depth_fault partial event)))
 
 -- the fault of an event after a list; none is told after a list that begins no stream
-abbrev pub refusal : Bool → List Event → Event → Option ℕ
+abbrev pub refusal : Bool → List Event → Event → Option yaml_error_t
 refusal canonical before event = option_and_then (λ partial. refusal_at canonical partial event) (partial_of before)
 
 -- an event's own names, tags, versions and directives are in order

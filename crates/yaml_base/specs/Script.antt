@@ -8,7 +8,7 @@ use Rattle.std.specs.Str.{is_utf8}
 use Rattle.yaml_base.specs.Characters.{Text, line_feed, carriage_return}
 use Rattle.yaml_base.specs.Settings.{largest_i32, Settings, Encoding, LineBreak}
 use Rattle.yaml_base.specs.Event.{Event, stream_start, stream_end, document_start, document_end, alias, scalar, sequence_start, sequence_end, mapping_start, mapping_end, ScalarStyle, CollectionStyle, Version, TagDirective, Collection}
-pub use Rattle.yaml_base.specs.ScriptWords.{quotation_mark, number_sign, backslash, is_word, Within, Turn, numbered_turn, turn, text_from, Field, Standing, standing_after, separates, cut_before, cut_from, field_read, field_and, each_field, fields_read, named, flags, switches, encodings, line_breaks, scalar_styles, collection_styles, number_up_to, signed_number, at_character, at_escape, at_brace, at_digits, goes_on, stands_for, ends, fails, bare, quoted, outside, inside, escaped}
+pub use Rattle.yaml_base.specs.ScriptWords.{quotation_mark, number_sign, backslash, is_word, Within, Turn, numbered_turn, turn, text_from, Field, FieldState, state_after, separates, cut_before, pieces_from, field_read, field_and, each_field, fields_read, named, flags, switches, encodings, line_breaks, scalar_styles, collection_styles, number_up_to, signed_number, at_character, at_escape, at_brace, at_digits, goes_on, stands_for, ends, fails, bare, quoted, outside, inside, escaped}
 
 -- ---- what a script says
 

@@ -79,19 +79,19 @@ pub data Field : Type 0 where
   quoted : Text → Field
 
 -- a character of a line stands outside texts, inside one, or after a backslash inside one
-pub data Standing : Type 0 where
-  outside : Standing
-  inside : Standing
-  escaped : Standing
+pub data FieldState : Type 0 where
+  outside : FieldState
+  inside : FieldState
+  escaped : FieldState
 
 -- where the character after this one stands
-abbrev pub standing_after : Standing → ℕ → Standing
-standing_after outside c = if c == quotation_mark then inside else outside
-standing_after inside c = if c == quotation_mark then outside else (if c == backslash then escaped else inside)
-standing_after escaped c = inside
+abbrev pub state_after : FieldState → ℕ → FieldState
+state_after outside c = if c == quotation_mark then inside else outside
+state_after inside c = if c == quotation_mark then outside else (if c == backslash then escaped else inside)
+state_after escaped c = inside
 
 -- a space outside texts separates two fields
-abbrev pub separates : Standing → ℕ → Bool
+abbrev pub separates : FieldState → ℕ → Bool
 separates outside c = c == space
 separates inside c = false
 separates escaped c = false
@@ -102,9 +102,9 @@ cut_before true c pieces = [] ∷ pieces
 cut_before false c pieces = onto_first c pieces
 
 -- a line cut at each separator
-abbrev pub cut_from : Standing → Text → List Text
-cut_from standing [] = [] ∷ []
-cut_from standing (c ∷ rest) = cut_before (separates standing c) c (cut_from (standing_after standing c) rest)
+abbrev pub pieces_from : FieldState → Text → List Text
+pieces_from standing [] = [] ∷ []
+pieces_from standing (c ∷ rest) = cut_before (separates standing c) c (pieces_from (state_after standing c) rest)
 
 -- no field is empty; one that begins with a quotation mark is a text, any other a word
 abbrev pub field_read : Text → Option Field
@@ -124,7 +124,7 @@ each_field (piece ∷ pieces) = field_and (field_read piece) (each_field pieces)
 
 -- the fields of a line: exactly one space stands between two, and none at either end
 abbrev pub fields_read : Text → Option (List Field)
-fields_read line = each_field (cut_from outside line)
+fields_read line = each_field (pieces_from outside line)
 
 -- ---- words and numbers
 

@@ -6,9 +6,11 @@ use Rattle.yaml_base.specs.Settings.{Effective}
 use Rattle.yaml_base.specs.Cursor.{nothing_laid}
 use Rattle.yaml_base.specs.Event.{TagDirective, Collection, Event, stream_start, stream_end, document_start, document_end, alias, scalar, sequence_start, sequence_end, mapping_start, mapping_end}
 use Rattle.yaml_base.specs.Tags.{directives_in_force}
-use Rattle.yaml_base.specs.Refusal.{fault_if, expected_stream_start, expected_document_start, expected_document_end, expected_node, expected_nothing, too_deep, name_or_tag_fault, content_fault, most_open, begins_collection, ends_collection}
+use Rattle.yaml_base.specs.Refusal.{fault_if, name_or_tag_fault, content_fault, most_open, begins_collection, ends_collection}
 use Rattle.yaml_base.specs.Ready.{written}
 use Rattle.yaml_base.specs.Layout.{Piece, Standing, PieceLaid, Role, as_root, as_item, as_key, as_value, Place, is_key, is_in_mapping, entries_column, is_simple_alias, is_simple_scalar, is_simple_collection, lead_alone, scalar_piece, alias_piece, start_piece, is_written_in_flow, Brackets, square, curly, end_piece, entry_place, root_place, document_start_piece, document_end_piece, first_standing, stream_start_piece, stream_end_piece}
+use Rattle.yaml_base.specs.declared.errors.yaml_error_t.TheVariants.{ExpectedStreamStart, ExpectedDocumentStart, ExpectedDocumentEnd, ExpectedNode, ExpectedNothing, TooDeep}
+use Rattle.yaml_base.specs.declared.errors.yaml_error_t.{yaml_error_t}
 
 -- an open collection: where its next entry stands, and whether it is itself a simple key
 pub record Frame : Type 0 where
@@ -183,12 +185,12 @@ stage_allows at_document_end (document_end implicit) = true
 stage_allows _ event = false
 
 -- the refusal of an event that may not stand at a stage
-abbrev pub stage_expected : Stage → ℕ
-stage_expected at_stream = expected_stream_start
-stage_expected (at_document first) = expected_document_start
-stage_expected (at_node directives frames) = expected_node
-stage_expected at_document_end = expected_document_end
-stage_expected at_nothing = expected_nothing
+abbrev pub stage_expected : Stage → yaml_error_t
+stage_expected at_stream = ExpectedStreamStart
+stage_expected (at_document first) = ExpectedDocumentStart
+stage_expected (at_node directives frames) = ExpectedNode
+stage_expected at_document_end = ExpectedDocumentEnd
+stage_expected at_nothing = ExpectedNothing
 
 -- how many collections are open at a stage
 abbrev pub open_frames : Stage → ℕ
@@ -196,12 +198,12 @@ open_frames (at_node directives frames) = length frames
 open_frames _ = 0
 
 -- the refusal of an event at a stage
-abbrev pub stage_refusal : Bool → Stage → Event → Option ℕ
+abbrev pub stage_refusal : Bool → Stage → Event → Option yaml_error_t
 stage_refusal canonical stage event =
     option_or (name_or_tag_fault canonical event)
     (option_or (fault_if (not (stage_allows stage event)) (stage_expected stage))
     (option_or (content_fault canonical event)
-    (fault_if (begins_collection event && not (nat_lt (open_frames stage) most_open)) too_deep)))
+    (fault_if (begins_collection event && not (nat_lt (open_frames stage) most_open)) TooDeep)))
 
 -- Lists with events that wait
 

@@ -8,15 +8,15 @@ use Rattle.yaml_base.specs.Grammar.{Node, alias_node, scalar_node, sequence_node
 use Rattle.yaml_base.specs.Refusal.{scalar_tag, collection_tag}
 
 -- how a scalar without a tag stood: plain, in quotes or a block style, or so after the bare tag `!`
-pub data Standing : Type 0 where
-  stood_plain : Standing
-  stood_quoted : Standing
-  stood_bare : Standing
+pub data Stood : Type 0 where
+  stood_plain : Stood
+  stood_quoted : Stood
+  stood_bare : Stood
 
 -- a scalar has a tag, or stood without one
 pub data Tagging : Type 0 where
   with_tag : Text → Tagging
-  without_tag : Standing → Tagging
+  without_tag : Stood → Tagging
 
 -- a node's tree: its kind, anchor, tag, and value or entries; lists grow at their end
 mutual
@@ -41,7 +41,7 @@ pub record DocumentTree : Type 0 where
   pub root : Tree
 
 -- the flags of a scalar let it stand so without a tag
-abbrev pub may_stand : Scalar → Standing → Bool
+abbrev pub may_stand : Scalar → Stood → Bool
 may_stand content stood_plain = content.plain_implicit
 may_stand content stood_quoted = content.quoted_implicit
 may_stand content stood_bare = content.plain_implicit && not content.quoted_implicit

@@ -6,7 +6,7 @@ use Rattle.std.specs.Prelude.{ℕ, Bool, Option, None, List, ◌==◌, ◌||◌,
 use Rattle.std.specs.List.{list_all}
 use Rattle.yaml_base.specs.Characters.{Text, carriage_return, is_printable}
 use Rattle.yaml_base.specs.LineBreaks.{with_line_breaks_read}
-use Rattle.yaml_base.specs.CanonicalReader.{characters_read}
+use Rattle.yaml_base.specs.ReadBytes.{characters_read}
 use Rattle.yaml_base.specs.StreamContent.{DocumentTree}
 use Rattle.yaml_base.specs.StreamDocuments.{documents_of}
 

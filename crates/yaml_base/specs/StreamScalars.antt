@@ -10,7 +10,7 @@ use Rattle.yaml_base.specs.ReadDouble.{read_double}
 use Rattle.yaml_base.specs.ReadBlock.{read_block}
 use Rattle.yaml_base.specs.ReadTags.{TagSaid, bare_said, name_said, CutText, tag_said}
 use Rattle.yaml_base.specs.TidyBodies.{is_tidy}
-use Rattle.yaml_base.specs.StreamContent.{Standing, stood_plain, stood_quoted, stood_bare, Tagging, with_tag, without_tag, Tree, alias_tree, scalar_tree, sequence_tree, mapping_tree, no_trees, no_tree_pairs}
+use Rattle.yaml_base.specs.StreamContent.{Stood, stood_plain, stood_quoted, stood_bare, Tagging, with_tag, without_tag, Tree, alias_tree, scalar_tree, sequence_tree, mapping_tree, no_trees, no_tree_pairs}
 use Rattle.yaml_base.specs.StreamLines.{spaces, indented}
 
 -- by what a document's text is read: which characters break lines, and its own directives
@@ -90,7 +90,7 @@ collection_tag_said (Some (name_said name)) = Some (Some name)
 collection_tag_said (Some bare_said) = None
 
 -- how a scalar is tagged that stood so: the bare tag stands before none that is plain
-abbrev pub tagging_said : Option TagSaid → Standing → Option Tagging
+abbrev pub tagging_said : Option TagSaid → Stood → Option Tagging
 tagging_said None standing = Some (without_tag standing)
 tagging_said (Some (name_said name)) standing = Some (with_tag name)
 tagging_said (Some bare_said) stood_quoted = Some (without_tag stood_bare)
@@ -114,12 +114,12 @@ value_read any_style breaks12 flow column text = None
 value_read _ breaks12 flow column text = if flow then None else read_block breaks12 column text
 
 -- how a scalar of a style stood
-abbrev pub standing_of : ScalarStyle → Standing
+abbrev pub standing_of : ScalarStyle → Stood
 standing_of plain = stood_plain
 standing_of _ = stood_quoted
 
 -- a scalar after its properties
-abbrev pub scalar_said : Properties → Standing → Option Text → Option Tree
+abbrev pub scalar_said : Properties → Stood → Option Text → Option Tree
 scalar_said properties standing value =
     option_and_then (λ text. option_map (λ tagging. scalar_tree properties.anchor tagging text) (tagging_said properties.tag standing)) value
 

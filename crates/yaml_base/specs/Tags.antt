@@ -6,61 +6,26 @@ use Rattle.std.specs.Option.{option_or}
 use Rattle.yaml_base.specs.Characters.{Text, is_alpha}
 use Rattle.yaml_base.specs.Event.{Version, TagDirective}
 use Rattle.yaml_base.specs.Percent.{percent_escaped, suffix_escaped}
-
--- The refusals of this file, by their numbers.
-abbrev pub incompatible_version : ℕ
-incompatible_version = 6
-
-abbrev pub tag_handle_empty : ℕ
-tag_handle_empty = 7
-
-abbrev pub tag_handle_start : ℕ
-tag_handle_start = 8
-
-abbrev pub tag_handle_end : ℕ
-tag_handle_end = 9
-
-abbrev pub tag_handle_alphabet : ℕ
-tag_handle_alphabet = 10
-
-abbrev pub tag_prefix_empty : ℕ
-tag_prefix_empty = 11
-
-abbrev pub duplicate_directive : ℕ
-duplicate_directive = 12
-
-abbrev pub anchor_empty : ℕ
-anchor_empty = 13
-
-abbrev pub anchor_alphabet : ℕ
-anchor_alphabet = 14
-
-abbrev pub alias_empty : ℕ
-alias_empty = 15
-
-abbrev pub alias_alphabet : ℕ
-alias_alphabet = 16
-
-abbrev pub tag_empty : ℕ
-tag_empty = 17
+use Rattle.yaml_base.specs.declared.errors.yaml_error_t.{yaml_error_t}
+use Rattle.yaml_base.specs.declared.errors.yaml_error_t.TheVariants.{IncompatibleVersion, TagHandleEmpty, TagHandleStart, TagHandleEnd, TagHandleAlphabet, TagPrefixEmpty, DuplicateDirective, AnchorEmpty, AnchorAlphabet, AliasEmpty, AliasAlphabet, TagEmpty}
 
 -- the refusal of a name: it has at least one character, and all of them are of the anchor alphabet (section 8.1.2;
 -- the alphabet is libyaml's)
-abbrev pub name_fault : ℕ → ℕ → Text → Option ℕ
+abbrev pub name_fault : (if_empty if_other : yaml_error_t) → Text → Option yaml_error_t
 name_fault if_empty if_other [] = Some if_empty
 name_fault if_empty if_other (c ∷ rest) = if list_all is_alpha (c ∷ rest) then None else Some if_other
 
 -- the refusal of an anchor's name
-abbrev pub anchor_fault : Text → Option ℕ
-anchor_fault name = name_fault anchor_empty anchor_alphabet name
+abbrev pub anchor_fault : Text → Option yaml_error_t
+anchor_fault name = name_fault AnchorEmpty AnchorAlphabet name
 
 -- the refusal of an alias's name
-abbrev pub alias_fault : Text → Option ℕ
-alias_fault name = name_fault alias_empty alias_alphabet name
+abbrev pub alias_fault : Text → Option yaml_error_t
+alias_fault name = name_fault AliasEmpty AliasAlphabet name
 
 -- the refusal of a tag that is to be written
-abbrev pub tag_fault : Text → Option ℕ
-tag_fault [] = Some tag_empty
+abbrev pub tag_fault : Text → Option yaml_error_t
+tag_fault [] = Some TagEmpty
 tag_fault (_ ∷ _) = None
 
 -- an integer is this number
@@ -69,10 +34,10 @@ is_the_number n (pos m) = n == m
 is_the_number n (negsuc _) = false
 
 -- the refusal of a version: it is 1.1 or 1.2 (section 7.1.1)
-abbrev pub version_fault : Version → Option ℕ
+abbrev pub version_fault : Version → Option yaml_error_t
 version_fault version =
     if is_the_number 1 version.major && (is_the_number 1 version.minor || is_the_number 2 version.minor) then None
-    else Some incompatible_version
+    else Some IncompatibleVersion
 
 -- the sign that begins a tag and stands at both ends of a handle (section 7.1.2.2)
 abbrev pub tag_mark : ℕ
@@ -90,20 +55,20 @@ without_last (c ∷ []) = []
 without_last (c ∷ next ∷ rest) = c ∷ without_last (next ∷ rest)
 
 -- the refusal of a handle: it is `!`, or any number of characters of the anchor alphabet between two `!` (section 7.1.2.2)
-abbrev pub handle_fault : Text → Option ℕ
-handle_fault [] = Some tag_handle_empty
+abbrev pub handle_fault : Text → Option yaml_error_t
+handle_fault [] = Some TagHandleEmpty
 handle_fault (c ∷ rest) =
-    if not (c == tag_mark) then Some tag_handle_start
-    else (if not (last_from c rest == tag_mark) then Some tag_handle_end
-    else (if list_all is_alpha (without_last rest) then None else Some tag_handle_alphabet))
+    if not (c == tag_mark) then Some TagHandleStart
+    else (if not (last_from c rest == tag_mark) then Some TagHandleEnd
+    else (if list_all is_alpha (without_last rest) then None else Some TagHandleAlphabet))
 
 -- the refusal of a prefix: it has at least one character (section 7.1.2.1)
-abbrev pub prefix_fault : Text → Option ℕ
-prefix_fault [] = Some tag_prefix_empty
+abbrev pub prefix_fault : Text → Option yaml_error_t
+prefix_fault [] = Some TagPrefixEmpty
 prefix_fault (_ ∷ _) = None
 
 -- the refusal of a directive by itself
-abbrev pub directive_fault : TagDirective → Option ℕ
+abbrev pub directive_fault : TagDirective → Option yaml_error_t
 directive_fault directive = option_or (handle_fault directive.handle) (prefix_fault directive.prefix)
 
 -- some directive gives this handle
@@ -111,19 +76,19 @@ abbrev pub gives_handle : Text → List TagDirective → Bool
 gives_handle handle directives = list_any (λ directive. bytes_eq directive.handle handle) directives
 
 -- the refusal of a directive after those before it: each handle is given once (section 7.1.2)
-abbrev pub next_directive_fault : List TagDirective → TagDirective → Option ℕ
+abbrev pub next_directive_fault : List TagDirective → TagDirective → Option yaml_error_t
 next_directive_fault before directive =
     option_or (directive_fault directive)
-    (if gives_handle directive.handle before then Some duplicate_directive else None)
+    (if gives_handle directive.handle before then Some DuplicateDirective else None)
 
 -- the first refusal of some directives after those before them
-abbrev pub directives_fault_after : List TagDirective → List TagDirective → Option ℕ
+abbrev pub directives_fault_after : List TagDirective → List TagDirective → Option yaml_error_t
 directives_fault_after before [] = None
 directives_fault_after before (directive ∷ rest) =
     option_or (next_directive_fault before directive) (directives_fault_after (before ++ directive ∷ []) rest)
 
 -- the first refusal of a document's directives, in order
-abbrev pub directives_fault : List TagDirective → Option ℕ
+abbrev pub directives_fault : List TagDirective → Option yaml_error_t
 directives_fault directives = directives_fault_after [] directives
 
 -- `!` stands for itself and `!!` for YAML's own types, where a document doesn't say otherwise (section 7.1.2.2)

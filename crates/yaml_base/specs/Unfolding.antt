@@ -1,5 +1,12 @@
 -- What it means that a tree unfolds a document's graph (YAML 1.1, section 3.2.2, from the graph's side: each alias stands
 -- for the node that carries its anchor).
+--
+-- For example, the graph of three nodes on the left is unfolded by the tree on the right, since its occurrences can be numbered:
+--     1  a sequence of 2 and 3              &id002 [ &id001 a, { *id001 : *id002 } ]
+--     2  the scalar `a`                     1        2         3   2       1
+--     3  a mapping of 2 to 1
+-- Each of the nodes occurs once as a node; each alias has the number of the one node that carries its anchor, which begins
+-- before it; and at each place that isn't an alias the label and the numbers below are those of the graph's node.
 use Rattle.std.specs.Prelude.{◌≡◌, ℕ, Bool, true, false, Option, None, Some, List, [], ◌∷◌, ◌++◌, ◌==◌, Contains, count_by, bytes_eq, option_map, length, ⊤, if◌then◌else◌}
 use Rattle.yaml_base.specs.Characters.{Text}
 use Rattle.yaml_base.specs.Event.{ScalarStyle, CollectionStyle, Event}
@@ -10,15 +17,15 @@ use Rattle.yaml_base.specs.Meetings.{Held, scalar_held, sequence_held, mapping_h
 -- ---- what trees of events and contents have in common
 
 -- a kind, with a style where styles are told
-pub data Kind : Type 0 where
-  scalar_kind : Text → Option ScalarStyle → Kind
-  sequence_kind : Option CollectionStyle → Kind
-  mapping_kind : Option CollectionStyle → Kind
+pub data NodeKind : Type 0 where
+  scalar_kind : Text → Option ScalarStyle → NodeKind
+  sequence_kind : Option CollectionStyle → NodeKind
+  mapping_kind : Option CollectionStyle → NodeKind
 
 -- what a node shows by itself: its tag and its kind
 pub record Label : Type 0 where
   pub tag : Option Text
-  pub kind : Kind
+  pub kind : NodeKind
 
 -- an alias, or a node with its anchor, its label and its children in order; in a mapping a key stands before its value
 mutual
@@ -90,13 +97,13 @@ abbrev pub number_at : Placed → ℕ
 number_at (alias_placed name number) = number
 number_at (node_placed anchor number below) = number
 
--- the numbers of the nodes at some places, in order
+-- the numbers of the nodes at some occurrences, in order
 abbrev pub numbers_at : PlacedAll → List ℕ
 numbers_at none_placed = []
 numbers_at (placed_and before last) = numbers_at before ++ number_at last ∷ []
 
 -- the label of a graph's node, its style told or not
-abbrev pub kind_held : Bool → Held → Kind
+abbrev pub kind_held : Bool → Held → NodeKind
 kind_held styled (scalar_held value style) = scalar_kind value (if styled then Some style else None)
 kind_held styled (sequence_held items style) = sequence_kind (if styled then Some style else None)
 kind_held styled (mapping_held pairs style) = mapping_kind (if styled then Some style else None)
@@ -106,7 +113,7 @@ abbrev pub label_of : Bool → GraphNode → Label
 label_of styled node = record { tag = Some node.tag; kind = kind_held styled node.held }
 
 -- the numbers fit a shape: at each place that isn't an alias the node has the label told there, and its children are
--- those of the places below, in order
+-- those of the occurrences below, in order
 abbrev mutual
   pub HasShape : Bool → Graph → Placed → Shape → Type 0
   HasShape styled graph (alias_placed name number) (alias_shape told) = name ≡ told
@@ -123,43 +130,43 @@ abbrev mutual
       HaveShapes styled graph before shapes × HasShape styled graph last shape
   HaveShapes styled graph _ _ = ⊥
 
--- ---- places in order
+-- ---- occurrences in order
 
--- a place is an alias, or a node with its anchor
-pub data Place : Type 0 where
-  alias_place : Text → ℕ → Place
-  node_place : Option Text → ℕ → Place
+-- an occurrence is an alias, or a node with its anchor, and the number of the graph's node
+pub data Occurrence : Type 0 where
+  alias_occurrence : Text → ℕ → Occurrence
+  node_occurrence : Option Text → ℕ → Occurrence
 
--- the places of a tree in the order in which they begin
+-- the occurrences in a tree, in the order in which they begin
 abbrev mutual
-  pub places : Placed → List Place
-  places (alias_placed name number) = alias_place name number ∷ []
-  places (node_placed anchor number below) = node_place anchor number ∷ places_below below
+  pub occurrences : Placed → List Occurrence
+  occurrences (alias_placed name number) = alias_occurrence name number ∷ []
+  occurrences (node_placed anchor number below) = node_occurrence anchor number ∷ occurrences_below below
 
-  pub places_below : PlacedAll → List Place
-  places_below none_placed = []
-  places_below (placed_and before last) = places_below before ++ places last
+  pub occurrences_below : PlacedAll → List Occurrence
+  occurrences_below none_placed = []
+  occurrences_below (placed_and before last) = occurrences_below before ++ occurrences last
 
--- a place bears this anchor
-abbrev pub carries : Text → Place → Bool
-carries name (node_place (Some anchor) number) = bytes_eq name anchor
+-- a node that carries this anchor
+abbrev pub carries : Text → Occurrence → Bool
+carries name (node_occurrence (Some anchor) number) = bytes_eq name anchor
 carries name _ = false
 
--- a place is that of the node with this number
-abbrev pub is_place_of : ℕ → Place → Bool
-is_place_of number (node_place anchor other) = number == other
-is_place_of number (alias_place name other) = false
+-- the node with this number, and no alias of it
+abbrev pub is_occurrence_of : ℕ → Occurrence → Bool
+is_occurrence_of number (node_occurrence anchor other) = number == other
+is_occurrence_of number (alias_occurrence name other) = false
 
--- an alias has the number of the one place that carries its anchor, which begins before it
-abbrev pub IsNamed : List Place → List Place → Place → Type 0
-IsNamed all before (alias_place name number) =
-    (count_by (carries name) all ≡ 1) × Contains before (node_place (Some name) number)
-IsNamed all before (node_place anchor number) = ⊤
+-- an alias has the number of the one node that carries its anchor, which begins before it
+abbrev pub IsNamed : List Occurrence → List Occurrence → Occurrence → Type 0
+IsNamed all before (alias_occurrence name number) =
+    (count_by (carries name) all ≡ 1) × Contains before (node_occurrence (Some name) number)
+IsNamed all before (node_occurrence anchor number) = ⊤
 
--- each alias of a list of places, after those before it
-abbrev pub AreNamed : List Place → List Place → List Place → Type 0
+-- each alias among some occurrences, after those before them
+abbrev pub AreNamed : List Occurrence → List Occurrence → List Occurrence → Type 0
 AreNamed all before [] = ⊤
-AreNamed all before (place ∷ rest) = IsNamed all before place × AreNamed all (before ++ place ∷ []) rest
+AreNamed all before (first ∷ rest) = IsNamed all before first × AreNamed all (before ++ first ∷ []) rest
 
 -- ---- unfolding
 
@@ -168,15 +175,15 @@ pub data IsReached (graph : Graph) : ℕ → Type 0 where
   first_reached : IsReached graph 1
   child_reached : {number child : ℕ} → IsReached graph number → Contains (children graph number) child → IsReached graph child
 
--- a shape unfolds a graph: each of its places has a number; the root has 1; each node that is reached has exactly one
--- place that isn't an alias, and no other node has any
+-- a shape unfolds a graph: its occurrences are numbered; the root has 1; each node that is reached occurs exactly once but for its
+-- aliases, and no other node does
 pub record Unfolds (styled : Bool) (graph : Graph) (shape : Shape) : Type 0 where
   pub placed : Placed
   pub root : number_at placed ≡ 1
   pub fits : HasShape styled graph placed shape
-  pub named : AreNamed (places placed) [] (places placed)
-  pub once : (number : ℕ) → IsReached graph number → count_by (is_place_of number) (places placed) ≡ 1
-  pub no_other : (number : ℕ) → (IsReached graph number → ⊥) → count_by (is_place_of number) (places placed) ≡ 0
+  pub named : AreNamed (occurrences placed) [] (occurrences placed)
+  pub once : (number : ℕ) → IsReached graph number → count_by (is_occurrence_of number) (occurrences placed) ≡ 1
+  pub no_other : (number : ℕ) → (IsReached graph number → ⊥) → count_by (is_occurrence_of number) (occurrences placed) ≡ 0
 
 -- a tree of events unfolds a graph, styles and all
 abbrev pub TreeUnfolds : Graph → Node → Type 0

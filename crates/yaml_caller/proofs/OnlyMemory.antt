@@ -4,7 +4,6 @@ use Rattle.std.proofs.lemmas.List.{take-append-drop}
 use Rattle.std.proofs.lemmas.List.Sums.{sum_by-append}
 use Rattle.std.specs.Prelude.{ℕ, ◌+◌, ◌-◌, ◌<◌, ◌≤◌, Bool, true, false, cond, ◌&&◌, Option, None, Some, List, [], ◌∷◌, ◌++◌, length, count_by, is_none, codes, Result, Ok, Err, IfErr, IsErr, IsErrAnd, take, drop}
 use Rattle.std.specs.Char.{encode_utf8}
-use Rattle.yaml_base.specs.Errors.{refusal_number}
 use Rattle.yaml_base.specs.Characters.{Text}
 use Rattle.yaml_base.specs.Event.{Event, TagDirective, any_style}
 use Rattle.yaml_base.specs.Grammar.{Stream, no_documents, documents_and, scalar_node}
@@ -31,7 +30,7 @@ and_right : (a b : Bool) → a && b ≡ true → b ≡ true
 and_right true b h = h
 and_right false b h = cc
 
-none_so : (o : Option ℕ) → is_none o ≡ true → o ≡ None
+none_so : (o : Option yaml_error_t) → is_none o ≡ true → o ≡ None
 none_so None h = refl
 none_so (Some n) h = cc
 
@@ -58,10 +57,10 @@ never_refused events all rest error state fits begins refused =
     let whole : refused.front ++ refused.event ∷ (refused.later ++ rest) ≡ events =
     sym (append_assoc refused.front (refused.event ∷ refused.later) rest) ∙ ap (λ given. given ++ rest) refused.parts ∙ begins in
     let none = no_refusal [] refused.front refused.event (refused.later ++ rest) (ap (unrefused []) whole ∙ fits.none_refused) in
-    some_none (refusal_number error) (sym refused.refusal ∙ none)
+    some_none error (sym refused.refusal ∙ none)
   where
-    some_none : (n : ℕ) → Some n ≡ None → ⊥
-    some_none n h = cc
+    some_none : (e : yaml_error_t) → Some e ≡ None → ⊥
+    some_none e h = cc
 
 -- the stream's bytes don't pass the limit
 never_full : (events all rest : List Event) (state : State) → Fits events → all ++ rest ≡ events → FillsLimit letter_settings all state → ⊥

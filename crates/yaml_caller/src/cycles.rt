@@ -14,7 +14,7 @@ use yaml_base::{
     YAML_ANY_SCALAR_STYLE, YAML_BLOCK_MAPPING_STYLE, yaml_document_t, yaml_error_t,
     yaml_node_data_t, yaml_node_pair_t, yaml_node_t,
 };
-use yaml_dump::{yaml_emitter_close, yaml_emitter_dump};
+use yaml_dump::{YAML_MAP_TAG, YAML_STR_TAG, yaml_emitter_close, yaml_emitter_dump};
 use yaml_emitter::yaml_emitter_t;
 
 /// The canonical bytes of a mapping whose one key is the string `k`, and whose value is the mapping itself.
@@ -83,7 +83,7 @@ fn cycle_map<A: Allocator + Copy>(alloc: A) -> Result<yaml_node_t<A>, AllocError
     ensures numbers { IfOk result (λ node. numbers_of node.contents ≡ pos 2 ∷ pos 1 ∷ []) }
 {
     Ok(yaml_node_t {
-        tag: String::from_str(alloc, "tag:yaml.org,2002:map")?,
+        tag: String::from_str(alloc, YAML_MAP_TAG)?,
         contents: yaml_node_data_t::Mapping {
             pairs: vec![in alloc; yaml_node_pair_t { key: 2, value: 1 }]?,
             style: YAML_BLOCK_MAPPING_STYLE,
@@ -96,7 +96,7 @@ fn cycle_key<A: Allocator + Copy>(alloc: A) -> Result<yaml_node_t<A>, AllocError
     ensures numbers { IfOk result (λ node. numbers_of node.contents ≡ []) }
 {
     Ok(yaml_node_t {
-        tag: String::from_str(alloc, "tag:yaml.org,2002:str")?,
+        tag: String::from_str(alloc, YAML_STR_TAG)?,
         contents: yaml_node_data_t::Scalar {
             value: String::from_str(alloc, "k")?,
             style: YAML_ANY_SCALAR_STYLE,

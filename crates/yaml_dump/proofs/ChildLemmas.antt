@@ -8,7 +8,7 @@ use Rattle.yaml_base.specs.Meetings.{Graph, GraphNode, numbers_held, numbers_in,
 use Rattle.yaml_base.specs.SeenNodes.{seen_number, seen_pair}
 use Rattle.yaml_base.specs.declared.nodes.yaml_node_pair_t.{yaml_node_pair_t}
 use Rattle.yaml_base.proofs.UnfoldTrees.{both_true}
-use Rattle.yaml_dump.specs.Standing.{pair_numbers}
+use Rattle.yaml_dump.specs.WalkState.{pair_numbers}
 use Rattle.yaml_dump.specs.Named.{IsNamed}
 
 -- the numbers that are seen in pairs

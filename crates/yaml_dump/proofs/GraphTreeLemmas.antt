@@ -12,9 +12,9 @@ use Rattle.yaml_base.specs.Characters.{Text}
 use Rattle.yaml_base.specs.Event.{Version, TagDirective, Scalar, Event, stream_end, document_start, document_end, scalar, sequence_start, sequence_end, mapping_start, mapping_end}
 use Rattle.yaml_base.specs.Grammar.{Node, alias_node, scalar_node, sequence_node, mapping_node, Nodes, no_nodes, nodes_and, Pairs, no_pairs, pairs_and, Document, Documents, no_documents, documents_and, Stream, node_events, nodes_events, pairs_events, document_events, documents_events, tree_of}
 use Rattle.yaml_base.specs.Refusal.{scalar_tag, collection_tag}
-use Rattle.yaml_base.specs.Content.{scalar_tag as told_tag, node_content, nodes_content, pairs_content, document_content, documents_content}
+use Rattle.yaml_base.specs.Content.{content_tag, node_content, nodes_content, pairs_content, document_content, documents_content}
 use Rattle.yaml_base.specs.Meetings.{Graph, GraphNode, Held, scalar_held, sequence_held, mapping_held, Step, enters, leaves, meets_again, steps, string_tag, sequence_tag, mapping_tag, beginning_of, beginning_events, ending_of, ending_events, step_events, document_event_list}
-use Rattle.yaml_base.specs.Unfolding.{Kind, scalar_kind, sequence_kind, mapping_kind, Shape, alias_shape, node_shape, Shapes, no_shapes, shapes_and, Unfolds, content_shape, contents_shapes, content_pairs_shapes, tag_told}
+use Rattle.yaml_base.specs.Unfolding.{NodeKind, scalar_kind, sequence_kind, mapping_kind, Shape, alias_shape, node_shape, Shapes, no_shapes, shapes_and, Unfolds, content_shape, contents_shapes, content_pairs_shapes, tag_told}
 use Rattle.yaml_base.specs.Dumped.{AreDumped, ContentsUnfold}
 use Rattle.yaml_base.specs.StreamContent.{Tagging, with_tag, without_tag, Tree, alias_tree, scalar_tree, sequence_tree, mapping_tree, Trees, no_trees, trees_and, TreePairs, no_tree_pairs, tree_pairs_and, DocumentTree, is_same_text, tagging_agrees, tree_agrees, trees_agree, tree_pairs_agree, is_same_version, are_same_directives, document_agrees, documents_in_order, documents_agree}
 use Rattle.yaml_base.proofs.Trees.{tree_of-stream_events}
@@ -118,7 +118,7 @@ dumped_keep canonical graphs events dumped =
 
 -- ---- a tree that agrees with a node has the shape of its content
 
-abbrev shape_with : Option Text → Option Text → Kind → Shapes → Shape
+abbrev shape_with : Option Text → Option Text → NodeKind → Shapes → Shape
 shape_with anchor tag kind shapes = node_shape anchor (record { tag = tag; kind = kind }) shapes
 
 same_option : (a b : Option Text) → is_same_text a b ≡ true → a ≡ b
@@ -136,12 +136,12 @@ scalar_tag_is content (Some tag) (with_tag read) is = sym (from_bytes tag read i
 scalar_tag_is content (Some tag) (without_tag standing) is = absurd (false≢true is)
 
 -- a scalar's tag is told
-tag_told_is : (tag : Option Text) (text : Text) (implicit : Bool) → Some text ≡ tag → Some text ≡ tag_told (told_tag tag implicit)
+tag_told_is : (tag : Option Text) (text : Text) (implicit : Bool) → Some text ≡ tag → Some text ≡ tag_told (content_tag tag implicit)
 tag_told_is None text implicit is = cc
 tag_told_is (Some other) text implicit is = is
 
 -- equal parts make equal shapes
-shapes_same : (a b : Option Text) (s t : Option Text) (k l : Kind) (x y : Shapes) → a ≡ b → s ≡ t → k ≡ l → x ≡ y
+shapes_same : (a b : Option Text) (s t : Option Text) (k l : NodeKind) (x y : Shapes) → a ≡ b → s ≡ t → k ≡ l → x ≡ y
     → shape_with a s k x ≡ shape_with b t l y
 shapes_same a b s t k l x y anchors tags kinds below =
     ap (λ a. shape_with a s k x) anchors ∙ ap (λ s. shape_with b s k x) tags ∙ ap (λ k. shape_with b t k x) kinds ∙ ap (shape_with b t l) below
@@ -165,7 +165,7 @@ mutual
       let value_too = and_parts (is_same_text content.anchor anchor && tagging_agrees content written tagging) (bytes_eq content.value value) agree in
       let anchor_too = and_parts (is_same_text content.anchor anchor) (tagging_agrees content written tagging) value_too.0 in
       let kept = same_option (Some (unwrap_or written string_tag)) content.tag (and_parts (keeps_tag written string_tag content.tag) true keep).0 in
-      shapes_same anchor content.anchor (Some (scalar_tag_read tagging)) (tag_told (told_tag content.tag content.quoted_implicit))
+      shapes_same anchor content.anchor (Some (scalar_tag_read tagging)) (tag_told (content_tag content.tag content.quoted_implicit))
       (scalar_kind value None) (scalar_kind content.value None) no_shapes no_shapes
       (sym (same_option content.anchor anchor anchor_too.0))
       (ap (λ tag. Some tag) (scalar_tag_is content written tagging anchor_too.1)

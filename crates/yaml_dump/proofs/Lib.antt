@@ -5,6 +5,5 @@ pub mod EventLemmas
 pub mod GraphTreeLemmas
 pub mod GraphLemmas
 pub mod NameLemmas
-pub mod StandingLemmas
-pub mod TagLemmas
+pub mod WalkStateLemmas
 pub mod WalkLemmas

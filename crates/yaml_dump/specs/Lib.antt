@@ -3,5 +3,5 @@ pub mod Dumps
 pub mod Events
 pub mod GraphTrees
 pub mod Named
-pub mod Standing
+pub mod WalkState
 pub mod Steps

@@ -14,6 +14,7 @@ ghost use Rattle.yaml_base.specs.Settings.{largest_i32};
 
 use crate::anchors::{numbered_name, shared_places};
 use crate::steps::Step;
+use crate::tags::{YAML_MAP_TAG, YAML_SEQ_TAG, YAML_STR_TAG};
 use std::alloc::{AllocError, Allocator};
 use yaml_base::{
     yaml_document_t, yaml_event_t, yaml_mapping_style_t, yaml_node_data_t, yaml_node_t,
@@ -38,7 +39,7 @@ fn scalar_event<A: Allocator + Copy>(
     ensures { IfOk result (λ event. seen_event event
         ≡ meetings.beginning_of (option_map seen_text anchor) (chars tag.now) (meetings.scalar_held (chars value.now) (seen_scalar_style style))) }
 {
-    let implicit = is_tag(tag, "tag:yaml.org,2002:str");
+    let implicit = is_tag(tag, YAML_STR_TAG);
     Ok(yaml_event_t::YAML_SCALAR_EVENT {
         anchor,
         tag: Some(String::from_str(alloc, tag)?),
@@ -66,7 +67,7 @@ fn sequence_start<A: Allocator + Copy>(
     Ok(yaml_event_t::YAML_SEQUENCE_START_EVENT {
         anchor,
         tag: Some(String::from_str(alloc, tag)?),
-        implicit: is_tag(tag, "tag:yaml.org,2002:seq"),
+        implicit: is_tag(tag, YAML_SEQ_TAG),
         style,
     })
 }
@@ -88,7 +89,7 @@ fn mapping_start<A: Allocator + Copy>(
     Ok(yaml_event_t::YAML_MAPPING_START_EVENT {
         anchor,
         tag: Some(String::from_str(alloc, tag)?),
-        implicit: is_tag(tag, "tag:yaml.org,2002:map"),
+        implicit: is_tag(tag, YAML_MAP_TAG),
         style,
     })
 }
@@ -164,10 +165,7 @@ fn ending_at<A: Allocator>(document: &yaml_document_t<A>, number: usize) -> Opti
     requires { number ≤ largest_i32 }
     ensures { seen_events_of result ≡ meetings.ending_events (meetings.node_numbered (graph_of document.now) number) }
 {
-    match node_of(document, number) {
-        Some(node) => ending(&node.contents),
-        None => None,
-    }
+    ending(&node_of(document, number)?.contents)
 }
 
 /// How many nodes there are.

@@ -8,6 +8,7 @@ mod events;
 mod laws;
 mod steps;
 mod streams;
+mod tags;
 mod walk;
 
 pub use dumps::document_events;
@@ -16,6 +17,9 @@ pub use emitting::emit_each;
 pub use laws::dumped_trees_unfold;
 pub use streams::yaml_emitter_close;
 pub use streams::yaml_emitter_open;
+pub use tags::YAML_MAP_TAG;
+pub use tags::YAML_SEQ_TAG;
+pub use tags::YAML_STR_TAG;
 pub use yaml_emitter::Directives;
 pub use yaml_emitter::NodeNumber;
 pub use yaml_emitter::Pen;

@@ -5,7 +5,7 @@ ghost use Rattle.yaml_base.specs.Meetings.{numbers_held};
 ghost use Rattle.yaml_base.specs.SeenNodes.{seen_number, seen_pair, seen_held};
 ghost use Rattle.yaml_base.specs.Documents.{graph_of};
 ghost use Rattle.yaml_dump.specs.Steps.{seen_step};
-ghost use Rattle.yaml_dump.specs.Standing.{pair_numbers, seen_walker, at_start, with_meeting, child_of, with_turn};
+ghost use Rattle.yaml_dump.specs.WalkState.{pair_numbers, seen_walker, at_start, with_meeting, child_of, with_turn};
 ghost use Rattle.yaml_dump.specs.Named.{IsNamed, AreNamed};
 
 use crate::steps::Step;

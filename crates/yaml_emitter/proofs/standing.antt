@@ -15,3 +15,4 @@ pub mod KeepsSet
 pub mod Growing
 pub mod StandingMarked
 pub mod Taking
+pub mod TakenOut

@@ -1,5 +1,5 @@
 -- What an emitter holds, and what contracts see of it.
-use Rattle.std.specs.Prelude.{◌≡◌, ◌≤◌, false, true, vec_capacity}
+use Rattle.std.specs.Prelude.{◌≡◌, ◌≤◌, false, true, None, vec_capacity}
 use Rattle.yaml_base.specs.Seen.{seen_events}
 use Rattle.yaml_pen.specs.Page.{IsUntouched}
 use Rattle.yaml_emitter.specs.Given.{seen_given, seen_effective}
@@ -26,10 +26,10 @@ state_of e =
       error = e.error;
     }
 
--- four events find room, nothing is written, begun or opened before an output is set, no handle in force holds a break,
+-- four events find room unless there was an error, nothing is written, begun or opened before an output is set, no handle in force holds a break,
 -- and the page was begun with the stream
 pub record IsEmitter {A : Type 0} (e : Inside A) : Type 0 where
-  pub room : 4 ≤ vec_capacity e.queue
+  pub room : e.error ≡ None → 4 ≤ vec_capacity e.queue
   pub untouched : e.has_output ≡ false → IsUntouched e.pen
   pub begun : is_at_stream (seen_stage e.stage e.directives e.frames) ≡ false → e.has_output ≡ true
   pub opened : e.opened ≡ true → e.has_output ≡ true

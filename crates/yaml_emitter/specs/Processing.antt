@@ -1,6 +1,5 @@
 -- What one event does to an emitter.
 use Rattle.std.specs.Prelude.{◌≡◌, ℕ, Bool, true, false, Option, None, Some, Result, Ok, Err, List, ◌∷◌}
-use Rattle.yaml_base.specs.Errors.{refusal_number}
 use Rattle.yaml_base.specs.Settings.{effective}
 use Rattle.yaml_base.specs.Cursor.{Cursor, Laid}
 use Rattle.yaml_base.specs.Event.{Event, stream_start, sequence_start, sequence_end, mapping_start, mapping_end}
@@ -39,7 +38,7 @@ event_laid before event empty =
     piece_at (λ standing. (step before.settings before.stage event empty standing).laid) before.mark
 
 -- the refusal of an event where it stands
-abbrev pub refusal_now : State → Event → Option ℕ
+abbrev pub refusal_now : State → Event → Option yaml_error_t
 refusal_now state event = stage_refusal state.given.canonical state.stage event
 
 -- an event changes what is written and what comes next, and nothing that the caller set
@@ -88,7 +87,7 @@ pub record CutShort (error : yaml_error_t) (event : Event) (empty : Bool) (befor
 -- an event that is refused changes nothing
 pub record Refused (error : yaml_error_t) (event : Event) (before after : State) : Type 0 where
   pub kept : after ≡ before
-  pub refusal : refusal_now before event ≡ Some (refusal_number error)
+  pub refusal : refusal_now before event ≡ Some error
 
 -- an event was written, cut short, or refused
 abbrev pub Processed : Event → (empty : Bool) → State → State → Result (Unit {0}) yaml_error_t → Type 0

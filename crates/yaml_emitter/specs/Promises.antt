@@ -1,7 +1,6 @@
 -- What a caller is promised of an emitter that stands after the events that it was given.
 use Rattle.std.specs.Prelude.{◌≡◌, ◌↔◌, ℕ, zero, suc, ◌<◌, ◌≤◌, Bool, true, false, Option, None, Some, IsSome, List, [], ◌∷◌, ◌++◌, length, take}
 use Rattle.std.specs.List.{All}
-use Rattle.yaml_base.specs.Errors.{refusal_number}
 use Rattle.yaml_base.specs.Prefix.{IsPrefix}
 use Rattle.yaml_base.specs.Settings.{Settings}
 use Rattle.yaml_base.specs.Encoding.{cut}
@@ -57,7 +56,7 @@ pub record RefusedAt (given : Settings) (all : List Event) (error : yaml_error_t
   pub later : List Event
   pub parts : front ++ event ∷ later ≡ all
   pub became_ready : length front < written all
-  pub refusal : refusal given.canonical front event ≡ Some (refusal_number error)
+  pub refusal : refusal given.canonical front event ≡ Some error
   pub begins : BeginsAccepted given.canonical front
   pub ends : BeginsAccepted given.canonical (front ++ event ∷ []) → ⊥
   pub text : HasText given all (length front) state

@@ -1,8 +1,7 @@
 -- An emitter stands after the events that it was given: what its state must be, for the proofs. What its caller may rely on
 -- is in `Promises`; of the words here contracts name `StandsAfter` alone.
-use Rattle.std.specs.Prelude.{◌≡◌, ◌⊎◌, ◌+◌, ◌<◌, Bool, true, false, Option, None, Some, Result, List, [], ◌∷◌, ◌++◌, length, take}
+use Rattle.std.specs.Prelude.{◌≡◌, ◌+◌, ◌<◌, ◌≤◌, ℕ, Bool, true, false, Option, None, Some, Result, List, [], ◌∷◌, ◌++◌, length, take, drop}
 use Rattle.std.specs.List.{list_all}
-use Rattle.yaml_base.specs.Errors.{refusal_number}
 use Rattle.yaml_base.specs.Settings.{Settings, Effective}
 use Rattle.yaml_base.specs.Event.{Event}
 use Rattle.yaml_base.specs.Prefix.{IsPrefix}
@@ -17,6 +16,7 @@ use Rattle.yaml_base.specs.declared.errors.yaml_error_t.TheVariants.{WriteError,
 use Rattle.yaml_pen.specs.Page.{Page, new_page, encoded, IsHandedOut}
 use Rattle.yaml_emitter.specs.State.{State, standing_of}
 use Rattle.yaml_emitter.specs.Processing.{Processed, closes_at_once}
+use Rattle.yaml_emitter.specs.Queue.{is_head_ready}
 
 -- a page of a stream that was begun, with its settings, and this text
 pub record IsPage (s : Effective) (page : Page) : Type 0 where
@@ -74,7 +74,7 @@ pub record StandsRefused (given : Settings) (all : List Event) (error : yaml_err
   pub later : List Event
   pub failed : FailedAt all front event later
   pub taken : HasTaken given all front (steps (settings_for given all) false front at_stream first_standing) state
-  pub refusal : refusal given.canonical front event ≡ Some (refusal_number error)
+  pub refusal : refusal given.canonical front event ≡ Some error
 
 -- what a page holds of an event that was cut short, with the steps of the events before it, and with it: the text of
 -- those before, where memory was refused before it; or that text and a prefix of the event's own piece
@@ -116,8 +116,9 @@ pub record StandsUnflushed (given : Settings) (all : List Event) (error : yaml_e
   pub handed : IsHandedOut (encoded state.page) state.page.output state.page.limit state.page.error
 
 -- the output's limit was passed, or memory refused, at an event or between two
-abbrev pub StandsStopped : Settings → List Event → yaml_error_t → State → Type 0
-StandsStopped given all error state = StandsCut given all error state ⊎ StandsUnflushed given all error state
+pub data StandsStopped (given : Settings) (all : List Event) (error : yaml_error_t) (state : State) : Type 0 where
+  at_event : StandsCut given all error state → StandsStopped given all error state
+  between_events : StandsUnflushed given all error state → StandsStopped given all error state
 
 -- memory and the limit stop an emitter; any other error is a refusal
 abbrev pub StandsFailed : Settings → List Event → yaml_error_t → State → Type 0
@@ -156,6 +157,16 @@ abbrev pub ReachedOn : State → State → Type 0
 ReachedOn before after =
     (given : Settings) (all front : List Event) → Reached given all front before.held before
     → (next : List Event) × Reached given all next after.held after
+
+-- an emitter whose queue was taken out, as it is with the queue put back, of which these events are left
+abbrev pub with_waiting : List Event → State → State
+with_waiting held state = record state { held = held; error = None }
+
+-- the first events of a queue that was taken out are written, so many, and the next isn't ready
+pub record WroteFront (waiting : List Event) (count : ℕ) (before after : State) : Type 0 where
+  pub within : count ≤ length waiting
+  pub reached : ReachedOn (with_waiting waiting before) (with_waiting (drop count waiting) after)
+  pub ended : is_head_ready (drop count waiting) ≡ false
 
 -- the first event that waited was taken and processed
 pub record TookFirst (before after : State) (answer : Result (Unit {0}) yaml_error_t) : Type 0 where

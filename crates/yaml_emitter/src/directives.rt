@@ -2,7 +2,7 @@
 
 ghost use Rattle.std.specs.Option.{option_or};
 ghost use Rattle.std.specs.Prelude.{Some, IfOk, option_map, option_and_then, ◌≡◌, ◌≢◌, [], ◌∷◌, ◌++◌, chars, map, Err, IfErr, OnOk, true};
-ghost use Rattle.yaml_base.specs.Errors.{refused, refusal_number};
+ghost use Rattle.yaml_base.specs.Errors.{refused};
 ghost use Rattle.yaml_base.specs.Seen.{seen_directive, seen_version};
 ghost use Rattle.yaml_emitter.specs.InForce.{with_default};
 ghost use Rattle.yaml_base.specs.Tags.{default_directives, directives_fault, directives_in_force, next_directive_fault, version_fault};
@@ -73,7 +73,7 @@ pub(crate) fn directives_for<A: Allocator + Copy>(
     version: Option<yaml_version_directive_t>,
     own: &[yaml_tag_directive_t<A>],
 ) -> Result<Directives<A>, yaml_error_t>
-    ensures refusal { refused result ≢ Some (refusal_number yaml_error_t.Memory)
+    ensures refusal { refused result ≢ Some yaml_error_t.Memory
         → refused result
         ≡ option_or (option_and_then version_fault (option_map seen_version version)) (directives_fault (map seen_directive own.now)) }
     ensures in_force { IfOk result (λ directives. directives ≡ directives_in_force (map seen_directive own.now)) }
@@ -92,7 +92,7 @@ pub(crate) fn next_directives<A: Allocator + Copy>(
     version: Option<yaml_version_directive_t>,
     own: &[yaml_tag_directive_t<A>],
 ) -> Result<Directives<A>, yaml_error_t>
-    ensures refusal { refused result ≢ Some (refusal_number yaml_error_t.Memory)
+    ensures refusal { refused result ≢ Some yaml_error_t.Memory
         → refused result
         ≡ option_or (option_and_then version_fault (option_map seen_version version)) (directives_fault (map seen_directive own.now)) }
     ensures in_force { IfOk result (λ directives. directives ≡ directives_in_force (map seen_directive own.now)) }

@@ -1,8 +1,8 @@
 //! Events that wait are written where they are ready.
 
-ghost use Rattle.std.specs.Prelude.{◌≡◌, ◌≤◌, ◌<◌, true, false, None, List, [], ◌∷◌, ◌++◌, length, OnOk, OnErr, IsOk, IsSome, Err};
+ghost use Rattle.std.specs.Prelude.{◌≡◌, ◌≤◌, true, false, None, List, [], ◌∷◌, ◌++◌, length, drop, vec_capacity, OnOk, IfOk, IfErr, IsOk, IsSome, Err};
 ghost use Rattle.yaml_base.specs.Event.{Event};
-ghost use Rattle.yaml_base.specs.Seen.{seen_event};
+ghost use Rattle.yaml_base.specs.Seen.{seen_event, seen_events};
 ghost use Rattle.yaml_base.specs.Ready.{written};
 ghost use Rattle.yaml_base.specs.Settings.{Settings};
 ghost use Rattle.yaml_pen.specs.Page.{told, encoded, output_left};
@@ -10,11 +10,14 @@ ghost use Rattle.yaml_pen.specs.Wrote.{Grows};
 ghost use Rattle.yaml_emitter.specs.Promises.{HasAllBytes, Promised};
 ghost use Rattle.yaml_emitter.specs.Queue.{is_head_ready};
 ghost use Rattle.yaml_emitter.specs.State.{KeepsSet, with_all_taken};
-ghost use Rattle.yaml_emitter.specs.StandsAfter.{Reached, ReachedOn, StandsAfter, StandsSo, TookFirst, failed_by};
+ghost use Rattle.yaml_emitter.specs.StandsAfter.{Reached, StandsAfter, StandsSo, TookFirst, WroteFront, failed_by, with_waiting};
 
 use crate::emitter::yaml_emitter_t;
-use crate::queue::{closes_at_once, dequeue, is_next_ready, is_ready_alone};
+use crate::queue::{
+    closes_at_once, drop_apart, drop_front, first_and_rest, is_next_ready, is_ready_alone,
+};
 use std::alloc::Allocator;
+use std::mem;
 use yaml_base::{yaml_error_t, yaml_event_t};
 
 /// Takes an event, and writes what can be written now: an event that starts a document or a collection waits
@@ -93,6 +96,7 @@ pub fn yaml_emitter_take_output<A: Allocator + Copy>(emitter: &mut yaml_emitter_
 
 impl<A: Allocator + Copy> yaml_emitter_t<A> {
     /// Writes an event that needn't wait, where none waits. After an error nothing waits.
+    #[inline(always)]
     fn write_at_once(&mut self, event: &yaml_event_t<A>) -> Result<(), yaml_error_t>
         requires output { self.old.has_output ≡ true }
         requires no_error { self.old.error ≡ None }
@@ -126,7 +130,8 @@ impl<A: Allocator + Copy> yaml_emitter_t<A> {
         ensures answered { result ≡ told self.new.error }
         ensures output { self.new.has_output ≡ true }
     {
-        if self.queue.push(event).is_err() {
+        if let Err(full) = self.queue.push(event) {
+            drop_apart(full.value);
             self.fail(yaml_error_t::Memory);
             return Err(yaml_error_t::Memory);
         }
@@ -174,7 +179,7 @@ impl<A: Allocator + Copy> yaml_emitter_t<A> {
         }
     }
 
-    /// The same, where some may be.
+    /// The same, where the first is ready. The queue is taken out meanwhile, so that no event is copied.
     #[inline(never)]
     fn write_each_ready(&mut self) -> Result<(), yaml_error_t>
         requires output { self.old.has_output ≡ true }
@@ -186,28 +191,13 @@ impl<A: Allocator + Copy> yaml_emitter_t<A> {
         ensures answered { result ≡ told self.new.error }
         ensures output { self.new.has_output ≡ true }
     {
-        while is_next_ready(self.queue.as_slice()) {
-            self.write_first()?;
-        }
-        Ok(())
-    }
-
-    /// Writes the first event that waits. After an error nothing waits.
-    fn write_first(&mut self) -> Result<(), yaml_error_t>
-        requires output { self.old.has_output ≡ true }
-        requires no_error { self.old.error ≡ None }
-        requires ready { is_head_ready self.old.held ≡ true }
-        ensures next { OnOk result (ReachedOn self.old self.new) }
-        ensures failed { OnErr result ((given : Settings) (all front : List Event) → Reached given all front self.old.held self.old
-            → StandsSo given all self.new) }
-        ensures grows { Grows self.old.page self.new.page }
-        ensures shorter { OnOk result (length self.new.held < length self.old.held) }
-        ensures set { KeepsSet self.old self.new }
-        ensures answered { result ≡ told self.new.error }
-        ensures output { self.new.has_output ≡ true }
-    {
-        match self.process_first() {
-            Ok(()) => Ok(()),
+        let mut queue = self.take_queue();
+        match self.write_front(queue.as_slice()) {
+            Ok(count) => {
+                drop_front(&mut queue, count);
+                self.put_back(queue);
+                Ok(())
+            }
             Err(error) => {
                 self.fail(error);
                 Err(error)
@@ -215,15 +205,61 @@ impl<A: Allocator + Copy> yaml_emitter_t<A> {
         }
     }
 
-    /// Takes the first event that waits, and processes it.
-    fn process_first(&mut self) -> Result<(), yaml_error_t>
-        requires output { self.old.has_output ≡ true }
-        requires ready { is_head_ready self.old.held ≡ true }
-        ensures { TookFirst self.old self.new result }
+    /// Takes the queue out. Until it is put back no event finds room, so the emitter counts as failed by `Memory`.
+    fn take_queue(&mut self) -> Vec<yaml_event_t<A>, A>
+        requires { self.old.error ≡ None }
+        ensures queue { seen_events result.items ≡ self.old.held }
+        ensures room { 4 ≤ vec_capacity result }
+        ensures taken { self.new ≡ failed_by yaml_error_t.Memory self.old }
     {
-        let event = dequeue(&mut self.queue);
-        let empty = closes_at_once(&event, self.queue.as_slice());
-        self.process(&event, empty)
+        self.error = Some(yaml_error_t::Memory);
+        mem::replace(&mut self.queue, Vec::new(self.alloc))
+    }
+
+    /// Puts the queue back; what stood in its place is empty, so there is no event to drop.
+    fn put_back(&mut self, queue: Vec<yaml_event_t<A>, A>)
+        requires room { 4 ≤ vec_capacity queue }
+        requires empty { self.old.held ≡ [] }
+        ensures { self.new ≡ with_waiting (seen_events queue.items) self.old }
+    {
+        let empty = mem::replace(&mut self.queue, queue);
+        empty.destroy_empty();
+        self.error = None;
+    }
+
+    /// Writes the events of a queue that are ready, in order up to the first error, and answers how many they are.
+    fn write_front(&mut self, waiting: &[yaml_event_t<A>]) -> Result<usize, yaml_error_t>
+        requires output { self.old.has_output ≡ true }
+        ensures written { IfOk result (λ count. WroteFront (seen_events waiting.now) count self.old self.new) }
+        ensures failed { IfErr result (λ error. (given : Settings) (all front : List Event)
+            → Reached given all front (seen_events waiting.now) (with_waiting (seen_events waiting.now) self.old)
+            → StandsSo given all (failed_by error self.new)) }
+        ensures waits { is_head_ready (seen_events waiting.now) ≡ false → IsOk result }
+        ensures held { self.new.held ≡ self.old.held }
+        ensures grows { Grows self.old.page self.new.page }
+        ensures set { KeepsSet self.old self.new }
+    {
+        let mut count = 0usize;
+        'events: while is_next_ready(&waiting[count..]) {
+            match self.write_next(&waiting[count..]) {
+                Ok(()) => count += 1,
+                Err(error) => return Err(error),
+            }
+        }
+        Ok(count)
+    }
+
+    /// Writes the first of the events that wait.
+    #[inline(always)]
+    fn write_next(&mut self, waiting: &[yaml_event_t<A>]) -> Result<(), yaml_error_t>
+        requires output { self.old.has_output ≡ true }
+        requires ready { is_head_ready (seen_events waiting.now) ≡ true }
+        ensures held { self.new.held ≡ self.old.held }
+        ensures took { TookFirst (with_waiting (seen_events waiting.now) self.old) (with_waiting (drop 1 (seen_events waiting.now)) self.new) result }
+    {
+        let (event, rest) = first_and_rest(waiting);
+        let empty = closes_at_once(event, rest);
+        self.process(event, empty)
     }
 
     /// The first error is kept for good, and the events that wait are dropped.

@@ -10,6 +10,7 @@ ghost use Rattle.yaml_base.specs.Steps.{is_first};
 ghost use Rattle.yaml_base.specs.Style as style;
 ghost use Rattle.yaml_pen.specs.Page.{IsReady};
 ghost use Rattle.yaml_pen.specs.Wrote.{Wrote};
+ghost use Rattle.yaml_scalar.specs.UsualTexts.{IsUsual};
 ghost use Rattle.yaml_emitter.specs.BorrowedTexts.{seen_collection, seen_scalar};
 ghost use Rattle.yaml_emitter.specs.Given.{seen_effective};
 ghost use Rattle.yaml_emitter.specs.NodeEvents.{brackets_of, end_event, first_entry, is_at_node, is_undented, start_event};
@@ -114,28 +115,30 @@ impl<A: Allocator + Copy> yaml_emitter_t<A> {
         ensures { (empty : Bool) → Processed (scalar (seen_scalar content.now)) empty self.old self.new result }
     {
         if stands_plain(&self.settings, content) {
-            self.put_usual(content)
+            self.put_usual(content.value)
         } else {
             self.put_chosen(content)
         }
     }
 
-    /// A scalar that stands plain as it is.
-    #[inline(always)]
-    fn put_usual(&mut self, content: &ScalarContent) -> Result<(), yaml_error_t>
+    /// A scalar that stands plain as it is, by its value. Not inlined, so that what it calls has one copy and is inlined
+    /// here.
+    #[inline(never)]
+    fn put_usual(&mut self, value: &str) -> Result<(), yaml_error_t>
         requires stage { is_at_node self.old.stage ≡ true }
-        requires names { name_or_tag_fault self.old.given.canonical (scalar (seen_scalar content.now)) ≡ None }
-        requires plain { StandsPlain self.old.settings.canonical content.now }
-        ensures { (empty : Bool) → Processed (scalar (seen_scalar content.now)) empty self.old self.new result }
+        requires usual { IsUsual value.now }
+        ensures { (content : ScalarContent) → StandsPlain self.old.settings.canonical content → content.value.now ≡ value.now
+            → name_or_tag_fault self.old.given.canonical (scalar (seen_scalar content)) ≡ None
+            → (empty : Bool) → Processed (scalar (seen_scalar content)) empty self.old self.new result }
     {
         let place = self.frames.next_place();
-        let simple = is_simple_usual_key(&place, content);
+        let simple = is_simple_usual_key(&place, value);
         let site = Site {
             settings: &self.settings,
             place,
             simple,
         };
-        self.mark = write_usual(&mut self.pen, &site, content, self.mark)?;
+        write_usual(&mut self.pen, &site, value)?;
         self.stage = self.frames.advance(simple);
         Ok(())
     }

@@ -100,7 +100,7 @@ impl Role {
 }
 
 impl Place {
-    ghost use Rattle.std.specs.Prelude.{◌≡◌, ◌≤◌, ◌+◌};
+    ghost use Rattle.std.specs.Prelude.{◌≡◌, ◌≤◌, ◌+◌, Some};
     ghost use Rattle.yaml_base.specs.Layout.{deeper, line_column, root_place};
     ghost use Rattle.yaml_emitter.specs.Places.{seen_place};
     ghost use Rattle.yaml_emitter.specs.Reach.{most_column};
@@ -121,6 +121,19 @@ impl Place {
         ensures within { result ≤ most_column }
     {
         self.column.unwrap_or(0)
+    }
+
+    /// The same place by its line's column, without what lies between the fields.
+    #[inline(always)]
+    pub(crate) fn at_line(&self) -> Place
+        ensures role { result.role ≡ self.now.role }
+        ensures column { result.column ≡ Some (line_column (seen_place self.now).column) }
+    {
+        Place {
+            in_flow: self.in_flow,
+            role: self.role,
+            column: Some(self.line_column()),
+        }
     }
 
     /// One indent further in.

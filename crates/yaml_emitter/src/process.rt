@@ -33,8 +33,8 @@ use yaml_pen::Pen;
 
 impl<A: Allocator + Copy> yaml_emitter_t<A> {
     /// One event. The most frequent, a usual scalar in a collection, has a copy of the work, in which no test of its
-    /// names and flags is left.
-    #[inline(never)]
+    /// names and flags is left; and where it is called, so that no call is left either.
+    #[inline(always)]
     pub(crate) fn process(
         &mut self,
         event: &yaml_event_t<A>,

@@ -1,6 +1,6 @@
 //! Which events can be written: the head of the queue waits for those that decide how it is written.
 
-ghost use Rattle.std.specs.Prelude.{◌≡◌, ◌==◌, ◌∷◌, [], true, vec_capacity, if◌then◌else◌};
+ghost use Rattle.std.specs.Prelude.{◌≡◌, ◌≤◌, ◌==◌, ◌∷◌, [], true, drop, vec_len, vec_capacity, if◌then◌else◌};
 ghost use Rattle.std.specs.List.{list_any};
 ghost use Rattle.yaml_base.specs.Ready.{is_start, is_end, awaited, is_balanced, fronts, is_ready};
 ghost use Rattle.yaml_base.specs.Seen.{seen_event, seen_events};
@@ -85,7 +85,7 @@ pub(crate) fn is_next_ready<A: Allocator>(events: &[yaml_event_t<A>]) -> bool
     if awaits == 0 || awaits < events.len() {
         return true;
     }
-    closes(events)
+    events.len() > 1 && closes(events)
 }
 
 /// Whether no event waits, and this one can be written whatever follows it.
@@ -141,11 +141,45 @@ fn begins_with_mapping_end<A: Allocator>(rest: &[yaml_event_t<A>]) -> bool
     }
 }
 
-/// Takes the first event out of the queue; its room stays.
-pub(crate) fn dequeue<A: Allocator>(queue: &mut Vec<yaml_event_t<A>, A>) -> yaml_event_t<A>
-    requires { is_head_ready (seen_events queue.old.items) ≡ true }
-    ensures first { seen_events queue.old.items ≡ seen_event result ∷ seen_events queue.new.items }
+/// The first of the events that wait, which is ready, and those behind it.
+#[inline(always)]
+pub(crate) fn first_and_rest<A: Allocator>(
+    waiting: &[yaml_event_t<A>],
+) -> (&yaml_event_t<A>, &[yaml_event_t<A>])
+    requires { is_head_ready (seen_events waiting.now) ≡ true }
+    ensures { seen_events waiting.now ≡ seen_event result.0.now ∷ seen_events result.1.now }
+{
+    (&waiting[0], &waiting[1..])
+}
+
+/// Drops an event that found no room: by a call, so that one that finds room is copied whole.
+#[inline(never)]
+pub(crate) fn drop_apart<A: Allocator>(event: yaml_event_t<A>) {
+    let _ = event;
+}
+
+/// Drops the first events of a queue, so many; its room stays.
+pub(crate) fn drop_front<A: Allocator>(queue: &mut Vec<yaml_event_t<A>, A>, count: usize)
+    requires { count ≤ vec_len queue.old }
+    ensures rest { seen_events queue.new.items ≡ drop count (seen_events queue.old.items) }
     ensures room { vec_capacity queue.new ≡ vec_capacity queue.old }
 {
-    queue.remove(0)
+    if count == queue.len() {
+        queue.clear();
+    } else {
+        drop_one_by_one(queue, count);
+    }
+}
+
+#[inline(never)]
+fn drop_one_by_one<A: Allocator>(queue: &mut Vec<yaml_event_t<A>, A>, count: usize)
+    requires { count ≤ vec_len queue.old }
+    ensures rest { seen_events queue.new.items ≡ drop count (seen_events queue.old.items) }
+    ensures room { vec_capacity queue.new ≡ vec_capacity queue.old }
+{
+    let mut left = count;
+    'events: while left > 0 {
+        let _ = queue.remove(0);
+        left -= 1;
+    }
 }

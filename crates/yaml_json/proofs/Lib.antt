@@ -1,4 +1,6 @@
 pub mod WroteLemmas
+pub mod TokenLemmas
+pub mod Stopping
 pub mod Loops
 pub mod ByToken
 pub mod NumberBridge
@@ -8,3 +10,7 @@ pub mod Portable
 pub mod JsonReads
 pub mod YamlOf
 pub mod TextsInTurn
+pub mod Accepting
+pub mod OnlyDepth
+pub mod Unfailed
+pub mod WhyFailed

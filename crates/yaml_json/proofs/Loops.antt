@@ -1,15 +1,22 @@
 -- The items of an array and the members of an object, one turn of a loop after the other.
-use Rattle.std.proofs.Common.{◌≡◌, ℕ, ◌-◌, ◌<◌, ◌≤◌, refl, sym, ap, ◌∙◌, subst, append_assoc, append-nil, arith}
+use Rattle.std.proofs.Common.{◌≡◌, ℕ, ◌-◌, ◌<◌, ◌≤◌, refl, sym, ap, ap₂, ◌∙◌, subst, append_assoc, append-nil, arith, inl, inr}
 use Rattle.std.specs.Prelude.{Bool, Option, None, Some, List, [], ◌∷◌, ◌++◌, length}
 use Rattle.std.specs.Str.{chars}
 use Rattle.json.specs.Token.{Token, begin_array, begin_object}
-use Rattle.json.specs.Json.{Json, array, object, Items, no_items, item, Members, no_members, member, parse_map, after_end_array, read_key, items, members, value}
-use Rattle.json.proofs.Grammar.{value-begin_array, value-begin_object, items_end, items_fail, items_more, members_end, members_fail, members_more, members_no_key, read_key-shorter, skip_value-shorter, left}
+use Rattle.json.specs.Json.{Json, null, array, object, Items, no_items, item, Members, no_members, member, parse_map, after_end_array, read_key, items, members, value}
+use Rattle.json.proofs.Grammar.{value-begin_array, value-begin_object, items_end, items_fail, items_more, members_end, members_fail, members_more, members_no_key, read_key-shorter, read_key_is, skip_value-shorter, left}
+use Rattle.json.proofs.Nesting.{value-depth}
+use Rattle.json.specs.Tree.{items_depth as items_nesting, members_depth as members_nesting, json_tokens, items_tokens, members_tokens}
 use Rattle.yaml_base.specs.Event.{CollectionStyle, Event, scalar, sequence_start, mapping_start}
-use Rattle.yaml_writer.specs.Writing.{WriterState, Gave, entered, mapping_event, sequence_event}
+use Rattle.yaml_base.specs.declared.errors.yaml_error_t.{yaml_error_t}
+use Rattle.yaml_writer.specs.Writing.{AddsAll, WriterState, Gave, entered, mapping_event, sequence_event}
 use Rattle.yaml_writer.specs.declared.kinds.CollectionKind.TheVariants.{Mapping, Sequence}
+use Rattle.yaml_json.specs.Failing.{BeginsItems, BeginsMember, BeginsMembers, FailedAfter, FailedAt, FailedInItems, FailedInMember, FailedInMembers, FailedInValue}
 use Rattle.yaml_json.specs.JsonEvents.{collection_in, items_events, json_events, members_events, style_of, text_content}
+use Rattle.yaml_json.specs.TokenEvents.{tokens_events}
 use Rattle.yaml_json.specs.Wrote.{Ends, IsBare, Wrote, WroteEvent, WroteItems, WroteMember, WroteMembers, WroteValue}
+use Rattle.yaml_json.proofs.Stopping.{failed_on}
+use Rattle.yaml_json.proofs.TokenLemmas.{some_then, value_given, value_spelled}
 use Rattle.yaml_json.proofs.WroteLemmas.{mapping_is, sequence_is, wrote_collection, wrote_nothing, wrote_same, wrote_then}
 
 -- a parse that is passed on is the same parse
@@ -26,6 +33,24 @@ twice_mapped first second (Some pair) = refl
 pub value_takes : (depth : ℕ) (before after : List Token) (json : Json) → value depth before ≡ Some (json, after) → length after < length before
 value_takes depth before after json read = skip_value-shorter depth before after (ap left read)
 
+-- what was given, and more
+more_given : (canonical in_flow : Bool) (first second : List Token) (given events : List Event) → given ≡ tokens_events canonical in_flow first
+    → events ≡ tokens_events canonical in_flow second → given ++ events ≡ tokens_events canonical in_flow (first ++ second)
+more_given canonical in_flow first second given events one other =
+    ap₂ (λ (a b : List Event). a ++ b) one other ∙ sym (some_then canonical in_flow first second)
+
+-- tokens that begin others, after some, and with what follows
+longer_begins : (before taken rest end whole : List Token) → taken ++ rest ≡ whole → (before ++ taken) ++ (rest ++ end) ≡ before ++ (whole ++ end)
+longer_begins before taken rest end whole parts =
+    append_assoc before taken (rest ++ end)
+    ∙ ap (λ (all : List Token). before ++ all) (sym (append_assoc taken rest end) ∙ ap (λ (all : List Token). all ++ end) parts)
+
+-- the tokens of a key and its value
+member_spelled : (depth : ℕ) (ahead : List Token) (key : List ℕ) (inner after : List Token) (json : Json) → read_key ahead ≡ Some (Some key, inner)
+    → value depth inner ≡ Some (json, after) → ahead ≡ (Token.key key ∷ json_tokens json) ++ after
+member_spelled depth ahead key inner after json named read =
+    read_key_is ahead (Some key) inner named ∙ ap (λ (all : List Token). Token.key key ∷ all) (value_spelled depth inner after json read)
+
 -- Items
 
 -- some items were read and written, at most so many are to come
@@ -38,6 +63,11 @@ pub record ItemsSoFar (depth : ℕ) (in_flow : Bool) (start : List Token) (was :
   pub events : (rest : Items)
       → items_events was.canonical in_flow (with_rest rest) ≡ given ++ items_events was.canonical in_flow rest
   pub wrote : Wrote was given now
+  pub nested : (rest : Items) → items_nesting rest ≤ depth → items_nesting (with_rest rest) ≤ depth
+  pub taken : List Token
+  pub parts : taken ++ ahead ≡ start
+  pub tokens : (rest : Items) → items_tokens (with_rest rest) ≡ taken ++ items_tokens rest
+  pub given_is : given ≡ tokens_events was.canonical in_flow taken
 
 pub items_begin : (depth : ℕ) (in_flow : Bool) (start : List Token) (was : WriterState) → IsBare was → ItemsSoFar depth in_flow start was start was
 items_begin depth in_flow start was bare =
@@ -49,6 +79,11 @@ items_begin depth in_flow start was bare =
       given = [];
       events = λ rest. refl;
       wrote = wrote_nothing was bare;
+      nested = λ rest fits. fits;
+      taken = [];
+      parts = refl;
+      tokens = λ rest. refl;
+      given_is = refl;
     }
 
 pub items_go_on : (depth : ℕ) (in_flow : Bool) (start : List Token) (was : WriterState) (ahead : List Token) (now : WriterState) (after : List Token) (later : WriterState)
@@ -56,6 +91,7 @@ pub items_go_on : (depth : ℕ) (in_flow : Bool) (start : List Token) (was : Wri
     → ItemsSoFar depth in_flow start was after later
 items_go_on depth in_flow start was ahead now after later so_far unclosed one =
     let less = value_takes depth ahead after one.json one.read in
+    let shallow = value-depth depth ahead after one.json one.read in
     let some = so_far.enough in
     let events = json_events was.canonical in_flow one.json in
     record {
@@ -69,6 +105,13 @@ items_go_on depth in_flow start was ahead now after later so_far unclosed one =
       events = λ rest. so_far.events (item one.json rest) ∙ sym (append_assoc so_far.given events (items_events was.canonical in_flow rest));
       wrote = wrote_then was now later so_far.given events so_far.wrote
           (subst (λ (canonical : Bool). Wrote now (json_events canonical in_flow one.json) later) so_far.wrote.canonical one.wrote);
+      nested = λ rest fits. so_far.nested (item one.json rest) (omega (arith, fits, shallow));
+      taken = so_far.taken ++ json_tokens one.json;
+      parts = append_assoc so_far.taken (json_tokens one.json) after
+          ∙ ap (λ (all : List Token). so_far.taken ++ all) (sym (value_spelled depth ahead after one.json one.read)) ∙ so_far.parts;
+      tokens = λ rest. so_far.tokens (item one.json rest) ∙ sym (append_assoc so_far.taken (json_tokens one.json) (items_tokens rest));
+      given_is = more_given was.canonical in_flow so_far.taken (json_tokens one.json) so_far.given events so_far.given_is
+          (sym (value_given one.json was.canonical in_flow));
     }
 
 pub items_done : (depth : ℕ) (in_flow : Bool) (start : List Token) (was : WriterState) (ahead : List Token) (now : WriterState) (after : List Token)
@@ -86,6 +129,27 @@ pub items_refused : (depth : ℕ) (in_flow : Bool) (start : List Token) (was : W
     → items (value depth) (length start) start ≡ None
 items_refused depth in_flow start was ahead now so_far unclosed none =
     so_far.read ∙ ap (parse_map so_far.with_rest) (items_fail (value depth) so_far.most ahead unclosed none)
+
+-- the next value failed
+pub items_failed : (depth : ℕ) (in_flow : Bool) (start : List Token) (was : WriterState) (ahead : List Token) (now later : WriterState)
+    → ItemsSoFar depth in_flow start was ahead now → (error : yaml_error_t) → FailedInValue depth in_flow ahead now error later → FailedInItems depth in_flow start was error later
+items_failed depth in_flow start was ahead now later so_far error (inl memory) = inl memory
+items_failed depth in_flow start was ahead now later so_far error (inr (taken, (failed, inside))) =
+    let few = inside.nested in
+    let gave = subst (λ (events : List Event). AddsAll was.emitter events now.emitter) so_far.given_is so_far.wrote.adds in
+    let whole : FailedAfter in_flow (so_far.taken ++ taken) start was error later =
+    failed_on in_flow so_far.taken taken ahead start was now later error so_far.parts gave so_far.wrote.canonical failed in
+    let begins : BeginsItems depth (so_far.taken ++ taken) =
+    record {
+      json = so_far.with_rest (item inside.json no_items);
+      nested = so_far.nested (item inside.json no_items) (omega (arith, few));
+      begins = record {
+        rest = inside.begins.rest ++ Token.end_array ∷ [];
+        parts = longer_begins so_far.taken taken inside.begins.rest (Token.end_array ∷ []) (json_tokens inside.json) inside.begins.parts
+            ∙ sym (so_far.tokens (item inside.json no_items));
+      };
+    } in
+    inr (so_far.taken ++ taken, (whole, begins))
 
 -- Members
 
@@ -111,6 +175,11 @@ pub record MembersSoFar (depth : ℕ) (in_flow : Bool) (start : List Token) (was
   pub events : (rest : Members)
       → members_events was.canonical in_flow (with_rest rest) ≡ given ++ members_events was.canonical in_flow rest
   pub wrote : Wrote was given now
+  pub nested : (rest : Members) → members_nesting rest ≤ depth → members_nesting (with_rest rest) ≤ depth
+  pub taken : List Token
+  pub parts : taken ++ ahead ≡ start
+  pub tokens : (rest : Members) → members_tokens (with_rest rest) ≡ taken ++ members_tokens rest
+  pub given_is : given ≡ tokens_events was.canonical in_flow taken
 
 pub members_begin : (depth : ℕ) (in_flow : Bool) (start : List Token) (was : WriterState) → IsBare was → MembersSoFar depth in_flow start was start was
 members_begin depth in_flow start was bare =
@@ -122,6 +191,11 @@ members_begin depth in_flow start was bare =
       given = [];
       events = λ rest. refl;
       wrote = wrote_nothing was bare;
+      nested = λ rest fits. fits;
+      taken = [];
+      parts = refl;
+      tokens = λ rest. refl;
+      given_is = refl;
     }
 
 pub members_go_on : (depth : ℕ) (in_flow : Bool) (start : List Token) (was : WriterState) (ahead : List Token) (now : WriterState) (key : List ℕ) (inner after : List Token)
@@ -131,6 +205,8 @@ pub members_go_on : (depth : ℕ) (in_flow : Bool) (start : List Token) (was : W
 members_go_on depth in_flow start was ahead now key inner after later so_far named one =
     let less = value_takes depth inner after one.json one.read in
     let lesser = read_key-shorter ahead (Some key) inner named in
+    let shallow = value-depth depth inner after one.json one.read in
+    let named_tokens = Token.key key ∷ json_tokens one.json in
     let some = so_far.enough in
     let events = scalar (text_content (chars key)) ∷ json_events was.canonical in_flow one.json in
     record {
@@ -144,6 +220,13 @@ members_go_on depth in_flow start was ahead now key inner after later so_far nam
       events = λ rest. so_far.events (member key one.json rest) ∙ sym (append_assoc so_far.given events (members_events was.canonical in_flow rest));
       wrote = wrote_then was now later so_far.given events so_far.wrote
           (subst (λ (canonical : Bool). Wrote now (scalar (text_content (chars key)) ∷ json_events canonical in_flow one.json) later) so_far.wrote.canonical one.wrote);
+      nested = λ rest fits. so_far.nested (member key one.json rest) (omega (arith, fits, shallow));
+      taken = so_far.taken ++ named_tokens;
+      parts = append_assoc so_far.taken named_tokens after
+          ∙ ap (λ (all : List Token). so_far.taken ++ all) (sym (member_spelled depth ahead key inner after one.json named one.read)) ∙ so_far.parts;
+      tokens = λ rest. so_far.tokens (member key one.json rest) ∙ sym (append_assoc so_far.taken named_tokens (members_tokens rest));
+      given_is = more_given was.canonical in_flow so_far.taken named_tokens so_far.given events so_far.given_is
+          (ap (λ (more : List Event). scalar (text_content (chars key)) ∷ more) (sym (value_given one.json was.canonical in_flow)));
     }
 
 pub members_done : (depth : ℕ) (in_flow : Bool) (start : List Token) (was : WriterState) (ahead : List Token) (now : WriterState) (after : List Token)
@@ -166,6 +249,57 @@ pub members_unnamed : (depth : ℕ) (in_flow : Bool) (start : List Token) (was :
     → MembersSoFar depth in_flow start was ahead now → read_key ahead ≡ None → members (value depth) (length start) start ≡ None
 members_unnamed depth in_flow start was ahead now so_far unnamed =
     so_far.read ∙ ap (parse_map so_far.with_rest) (members_no_key (value depth) so_far.most ahead unnamed)
+
+-- the next member failed
+pub members_failed : (depth : ℕ) (in_flow : Bool) (start : List Token) (was : WriterState) (ahead : List Token) (now later : WriterState) (key : List ℕ)
+    (inner : List Token)
+    → MembersSoFar depth in_flow start was ahead now → read_key ahead ≡ Some (Some key, inner) → (error : yaml_error_t)
+    → FailedInMember depth in_flow key inner now error later → FailedInMembers depth in_flow start was error later
+members_failed depth in_flow start was ahead now later key inner so_far named error (inl memory) = inl memory
+members_failed depth in_flow start was ahead now later key inner so_far named error (inr (taken, (failed, inside))) =
+    let few = inside.nested in
+    let gave = subst (λ (events : List Event). AddsAll was.emitter events now.emitter) so_far.given_is so_far.wrote.adds in
+    let there : so_far.taken ++ (Token.key key ∷ inner) ≡ start =
+    ap (λ (all : List Token). so_far.taken ++ all) (sym (read_key_is ahead (Some key) inner named)) ∙ so_far.parts in
+    let whole : FailedAfter in_flow (so_far.taken ++ taken) start was error later =
+    failed_on in_flow so_far.taken taken (Token.key key ∷ inner) start was now later error there gave so_far.wrote.canonical failed in
+    let begins : BeginsMembers depth (so_far.taken ++ taken) =
+    record {
+      json = so_far.with_rest (member key inside.json no_members);
+      nested = so_far.nested (member key inside.json no_members) (omega (arith, few));
+      begins = record {
+        rest = inside.begins.rest ++ Token.end_object ∷ [];
+        parts = longer_begins so_far.taken taken inside.begins.rest (Token.end_object ∷ []) (Token.key key ∷ json_tokens inside.json) inside.begins.parts
+            ∙ sym (so_far.tokens (member key inside.json no_members));
+      };
+    } in
+    inr (so_far.taken ++ taken, (whole, begins))
+
+-- a key failed
+pub key_failed : (depth : ℕ) (in_flow : Bool) (key : List ℕ) (ahead : List Token) (was now : WriterState) (error : yaml_error_t)
+    → FailedAt was (scalar (text_content (chars key))) error now → FailedInMember depth in_flow key ahead was error now
+key_failed depth in_flow key ahead was now error (inl memory) = inl memory
+key_failed depth in_flow key ahead was now error (inr gave) =
+    let failed : FailedAfter in_flow (Token.key key ∷ []) (Token.key key ∷ ahead) was error now = record { left = ahead; parts = refl; gave = gave } in
+    let begins : BeginsMember depth key (Token.key key ∷ []) =
+    record { json = null; nested = omega arith; begins = record { rest = Token.null ∷ []; parts = refl } } in
+    inr (Token.key key ∷ [], (failed, begins))
+
+-- the value of a key failed
+pub named_failed : (depth : ℕ) (in_flow : Bool) (key : List ℕ) (ahead : List Token) (was named now : WriterState)
+    → WroteEvent was (scalar (text_content (chars key))) named → (error : yaml_error_t) → FailedInValue depth in_flow ahead named error now
+    → FailedInMember depth in_flow key ahead was error now
+named_failed depth in_flow key ahead was named now one error (inl memory) = inl memory
+named_failed depth in_flow key ahead was named now one error (inr (taken, (failed, inside))) =
+    let whole : FailedAfter in_flow (Token.key key ∷ taken) (Token.key key ∷ ahead) was error now =
+    failed_on in_flow (Token.key key ∷ []) taken ahead (Token.key key ∷ ahead) was named now error refl one.adds one.canonical failed in
+    let begins : BeginsMember depth key (Token.key key ∷ taken) =
+    record {
+      json = inside.json;
+      nested = inside.nested;
+      begins = record { rest = inside.begins.rest; parts = ap (λ (all : List Token). Token.key key ∷ all) inside.begins.parts };
+    } in
+    inr (Token.key key ∷ taken, (whole, begins))
 
 -- Arrays and objects
 

@@ -19,7 +19,7 @@ use Rattle.yaml_base.specs.Resolved.{Resolved, meant_null, meant_boolean, meant_
 use Rattle.yaml_base.specs.SchemaCore.{resolved_by_core}
 use Rattle.yaml_base.specs.SchemaOf11.{resolved_by_11}
 use Rattle.yaml_base.specs.Settings.{Effective}
-use Rattle.yaml_base.specs.StreamContent.{Standing, stood_plain, stood_quoted, Tagging, with_tag, without_tag, Tree, sequence_tree, mapping_tree}
+use Rattle.yaml_base.specs.StreamContent.{Stood, stood_plain, stood_quoted, Tagging, with_tag, without_tag, Tree, sequence_tree, mapping_tree}
 use Rattle.yaml_base.specs.Style.{Choice, chosen, is_plain}
 use Rattle.yaml_base.specs.TypedValues.{null_tag, bool_tag, int_tag, bool_text}
 use Rattle.yaml_base.proofs.JsonSpelling.{spelling_keeps_value}
@@ -136,7 +136,7 @@ module _ (schema : Schema) (s : Effective) (place : Place) (simple : Bool) where
   word_by own word meant reads is plain_there false =
       ap (λ (x : Bool). scalar_meant schema (without_tag (standing_by x)) word) (plain_there s.unicode s.breaks12 place.in_flow simple) ∙ reads
     where
-      standing_by : Bool → Standing
+      standing_by : Bool → Stood
       standing_by x = if x then stood_plain else stood_quoted
 
   pub word_means : (own word : Text) (meant : Resolved) → schema word ≡ meant → own ≡ tag_of meant → IsPlainWord word

@@ -3,26 +3,22 @@ use Rattle.std.proofs.Common.{◌≡◌, ◌<◌, ◌⊎◌, inl, inr, refl, sym
 use Rattle.std.proofs.lemmas.Bool.{eqb-true, false≢true}
 use Rattle.std.proofs.lemmas.List.{nil_from_length}
 use Rattle.std.proofs.lemmas.List.Concat.{flat_map-append}
-use Rattle.std.specs.Prelude.{ℕ, Bool, true, false, Result, Some, List, [], ◌∷◌, ◌++◌, ◌==◌, flat_map, length}
+use Rattle.std.specs.Prelude.{ℕ, Bool, true, false, Result, Err, Some, List, [], ◌∷◌, ◌++◌, ◌==◌, flat_map, length}
 use Rattle.json.specs.Json.{Json, value}
 use Rattle.json.specs.Lex.{tokens}
-use Rattle.yaml_base.specs.Event.{Event, document_end}
+use Rattle.yaml_base.specs.Event.{Event}
 use Rattle.yaml_base.specs.declared.errors.yaml_error_t.{yaml_error_t}
-use Rattle.yaml_writer.specs.Writing.{Passed, WriterState, plain_start}
+use Rattle.yaml_emitter.proofs.standing.StandingMore.{some_from_told}
+use Rattle.yaml_writer.specs.Writing.{Passed, WriterState}
+use Rattle.yaml_json.specs.Failing.{FailedInText, FailedInTexts, FailedWith, between, started}
 use Rattle.yaml_json.specs.JsonEvents.{json_events}
+use Rattle.yaml_json.specs.TokenEvents.{tokens_events}
 use Rattle.yaml_json.specs.Wrote.{AreJson, IsBare, ReadsTexts, Wrote, WroteText, WroteTexts, parts_events}
+use Rattle.yaml_json.proofs.Stopping.{failed_same, failed_then}
 use Rattle.yaml_json.proofs.WroteLemmas.{wrote_nothing, wrote_same, wrote_then}
 use Rattle.yaml_json.proofs.YamlOf.{last_reads}
 
--- what separates two documents
-abbrev between : List Event
-between = document_end true ∷ plain_start ∷ []
-
--- the events of some texts, after each of which a document begins
-abbrev started : (canonical in_flow : Bool) → List (List ℕ × Json) → List Event
-started canonical in_flow parts = flat_map (λ part. json_events canonical in_flow part.1 ++ between) parts
-
--- and then those of one more, the last
+-- the events of some texts, after each of which a document begins, and then those of one more, the last
 ends_with : (canonical in_flow : Bool) (parts : List (List ℕ × Json)) (last : List ℕ × Json)
     → started canonical in_flow parts ++ json_events canonical in_flow last.1 ≡ parts_events canonical in_flow (parts ++ last ∷ [])
 ends_with canonical in_flow [] last = refl
@@ -83,6 +79,13 @@ module _ (depth : ℕ) (in_flow : Bool) (text : List ℕ) (was : WriterState) (r
   each_done : AreJson depth (so_far.parts ++ (first, one.json) ∷ [])
   each_done = one_more depth so_far.parts (first, one.json) so_far.each one.read
 
+  started_more : started was.canonical in_flow so_far.parts ++ (json_events was.canonical in_flow one.json ++ between)
+      ≡ started was.canonical in_flow (so_far.parts ++ (first, one.json) ∷ [])
+  started_more =
+      ap (λ (events : List Event). started was.canonical in_flow so_far.parts ++ events)
+      (sym (append-nil (json_events was.canonical in_flow one.json ++ between)))
+      ∙ sym (flat_map-append (λ (part : List ℕ × Json). json_events was.canonical in_flow part.1 ++ between) so_far.parts ((first, one.json) ∷ []))
+
   pub texts_go_on : (answer : Result (Unit {0}) yaml_error_t) (after : WriterState) → Passed given between answer after
       → TextsSoFar depth in_flow text was more after
   texts_go_on answer after passed =
@@ -97,13 +100,29 @@ module _ (depth : ℕ) (in_flow : Bool) (text : List ℕ) (was : WriterState) (r
             (wrote_then was now after (started was.canonical in_flow so_far.parts) (events ++ between) so_far.wrote
             (wrote_then now given after events between events_given next));
       }
-    where
-      started_more : started was.canonical in_flow so_far.parts ++ (json_events was.canonical in_flow one.json ++ between)
-          ≡ started was.canonical in_flow (so_far.parts ++ (first, one.json) ∷ [])
-      started_more =
-          ap (λ (events : List Event). started was.canonical in_flow so_far.parts ++ events)
-          (sym (append-nil (json_events was.canonical in_flow one.json ++ between)))
-          ∙ sym (flat_map-append (λ (part : List ℕ × Json). json_events was.canonical in_flow part.1 ++ between) so_far.parts ((first, one.json) ∷ []))
+
+  -- or the writer fails
+  pub next_failed : (after : WriterState) (error : yaml_error_t) → Passed given between (Err error) after → FailedInTexts depth in_flow text was error after
+  next_failed after error passed =
+      let before = started was.canonical in_flow so_far.parts in
+      let all = started was.canonical in_flow (so_far.parts ++ (first, one.json) ∷ []) in
+      let events = json_events was.canonical in_flow one.json in
+      let last : FailedWith given between error after =
+      record { adds = passed.adds; is_error = some_from_told after.emitter.error error passed.answered } in
+      inr
+      (record {
+        parts = so_far.parts ++ (first, one.json) ∷ [];
+        next = [];
+        more = more;
+        joined = joined_now more refl;
+        each = each_done;
+        taken = [];
+        left = tokens [];
+        split = refl;
+        gave = failed_same was after (before ++ (events ++ between)) (all ++ []) error (started_more ∙ sym (append-nil all))
+            (failed_then was now after before (events ++ between) error so_far.wrote.adds
+            (failed_then now given after events between error events_given.adds last));
+      })
 
   -- where nothing follows, all texts are given
   joined_done : more ≡ [] → flat_map (λ part. part.0) (so_far.parts ++ (first, one.json) ∷ []) ≡ text
@@ -134,3 +153,23 @@ pub some_more : (more rest : List ℕ) (empty : Bool) → (more ≡ []) ⊎ (len
     → length more < length rest
 some_more more rest empty (inl none) is h = absurd (false≢true (sym h ∙ is ∙ ap (λ (t : List ℕ). length t == 0) none))
 some_more more rest empty (inr less) is h = less
+
+-- Where the writer fails within a text
+pub texts_failed : (depth : ℕ) (in_flow : Bool) (text : List ℕ) (was : WriterState) (rest first more : List ℕ) (now later : WriterState)
+    → first ++ more ≡ rest → TextsSoFar depth in_flow text was rest now → (error : yaml_error_t) → FailedInText depth in_flow first now error later
+    → FailedInTexts depth in_flow text was error later
+texts_failed depth in_flow text was rest first more now later cut so_far error (inl memory) = inl memory
+texts_failed depth in_flow text was rest first more now later cut so_far error (inr (taken, (failed, begins))) =
+    let gave = subst (λ (canonical : Bool). FailedWith now (tokens_events canonical in_flow taken) error later) so_far.wrote.canonical failed.gave in
+    inr
+    (record {
+      parts = so_far.parts;
+      next = first;
+      more = more;
+      joined = ap (λ (t : List ℕ). flat_map (λ part. part.0) so_far.parts ++ t) cut ∙ so_far.joined;
+      each = so_far.each;
+      taken = taken;
+      left = failed.left;
+      split = failed.parts;
+      gave = failed_then was now later (started was.canonical in_flow so_far.parts) (tokens_events was.canonical in_flow taken) error so_far.wrote.adds gave;
+    })

@@ -100,7 +100,7 @@ mapping_is writer in_flow style is bare =
 -- Collections
 
 -- what is open past the innermost, and the innermost
-none_more : (outer : List CollectionKind) (kind : CollectionKind) → outer ++ kind ∷ [] ≡ [] → ⊥
+pub none_more : (outer : List CollectionKind) (kind : CollectionKind) → outer ++ kind ∷ [] ≡ [] → ⊥
 none_more [] kind is = cc
 none_more (first ∷ outer) kind is = cc
 
@@ -112,7 +112,7 @@ abbrev rest_of : List CollectionKind → List CollectionKind
 rest_of [] = []
 rest_of (kind ∷ kinds) = kinds
 
-same_last : (outer others : List CollectionKind) (kind other : CollectionKind) → outer ++ kind ∷ [] ≡ others ++ other ∷ [] → (outer ≡ others) × (kind ≡ other)
+pub same_last : (outer others : List CollectionKind) (kind other : CollectionKind) → outer ++ kind ∷ [] ≡ others ++ other ∷ [] → (outer ≡ others) × (kind ≡ other)
 same_last [] [] kind other is = (refl, ap (first_of kind) is)
 same_last [] (next ∷ others) kind other is = absurd (none_more others other (sym (ap rest_of is)))
 same_last (first ∷ outer) [] kind other is = absurd (none_more outer kind (ap rest_of is))

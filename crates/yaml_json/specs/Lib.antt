@@ -2,3 +2,5 @@ pub mod JsonEvents
 pub mod Means
 pub mod Wrote
 pub mod Refused
+pub mod TokenEvents
+pub mod Failing

@@ -1,8 +1,10 @@
 //! Scalars of JSON, given to a writer.
-ghost use Rattle.std.specs.Prelude.{◌≡◌, OnOk, chars};
+ghost use Rattle.std.specs.Prelude.{◌≡◌, Err, IfSome, OnOk, chars};
 ghost use Rattle.yaml_base.specs.Event.{scalar};
 ghost use Rattle.yaml_base.specs.Seen.{seen_mapping_style, seen_sequence_style};
 ghost use Rattle.yaml_writer.specs.NumberParts.{IsNoNumber, number_in};
+ghost use Rattle.yaml_writer.specs.Writing.{EndsInnermost};
+ghost use Rattle.yaml_json.specs.Failing.{FailedAt, failure};
 ghost use Rattle.yaml_json.specs.JsonEvents.{bool_content, null_content, number_content, style_of, text_content};
 ghost use Rattle.yaml_json.specs.Refused.{RefusesText};
 ghost use Rattle.yaml_json.specs.Wrote.{Ends, IsBare, WroteEvent};
@@ -38,6 +40,7 @@ pub(crate) fn write_null<A: Allocator + Copy>(writer: &mut Writer<A>) -> Result<
     requires { IsBare writer.old }
     ensures written { OnOk result (WroteEvent writer.old (scalar (null_content writer.old.canonical)) writer.new) }
     ensures failed { RefusesText result → ⊥ }
+    ensures stopped { IfSome (failure result) (λ error. FailedAt writer.old (scalar (null_content writer.old.canonical)) error writer.new) }
 {
     match writer.null() {
         Ok(()) => Ok(()),
@@ -52,6 +55,7 @@ pub(crate) fn write_bool<A: Allocator + Copy>(
     requires { IsBare writer.old }
     ensures written { OnOk result (WroteEvent writer.old (scalar (bool_content writer.old.canonical flag)) writer.new) }
     ensures failed { RefusesText result → ⊥ }
+    ensures stopped { IfSome (failure result) (λ error. FailedAt writer.old (scalar (bool_content writer.old.canonical flag)) error writer.new) }
 {
     match writer.bool(flag) {
         Ok(()) => Ok(()),
@@ -66,6 +70,7 @@ pub(crate) fn write_text<A: Allocator + Copy>(
     requires { IsBare writer.old }
     ensures written { OnOk result (WroteEvent writer.old (scalar (text_content (chars text.now))) writer.new) }
     ensures failed { RefusesText result → ⊥ }
+    ensures stopped { IfSome (failure result) (λ error. FailedAt writer.old (scalar (text_content (chars text.now))) error writer.new) }
 {
     match writer.text(text) {
         Ok(()) => Ok(()),
@@ -82,6 +87,8 @@ pub(crate) fn write_number<A: Allocator + Copy>(
     requires { IsBare writer.old }
     ensures written { OnOk result (WroteEvent writer.old (scalar (number_content writer.old.canonical (number_in text.now))) writer.new) }
     ensures refused { RefusesText result → IsNoNumber text.now }
+    ensures stopped { IfSome (failure result) (λ error. FailedAt writer.old (scalar (number_content writer.old.canonical (number_in text.now))) error
+        writer.new) }
 {
     let Some(number) = number_of(text) else {
         return Err(Stop::NotJson(offset));
@@ -97,6 +104,7 @@ pub(crate) fn end<A: Allocator + Copy>(writer: &mut Writer<A>) -> Result<(), Sto
     requires { IsBare writer.old }
     ensures ended { OnOk result (Ends writer.old writer.new) }
     ensures failed { RefusesText result → ⊥ }
+    ensures stopped { IfSome (failure result) (λ error. EndsInnermost writer.old (Err error) writer.new) }
 {
     match writer.end() {
         Ok(()) => Ok(()),

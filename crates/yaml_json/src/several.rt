@@ -1,5 +1,6 @@
 //! JSON texts that follow one another in a text.
-ghost use Rattle.std.specs.Prelude.{◌≡◌, ◌⊎◌, ◌<◌, ◌++◌, [], length, OnOk};
+ghost use Rattle.std.specs.Prelude.{◌≡◌, ◌⊎◌, ◌<◌, ◌++◌, [], length, IfErr, IfSome, OnOk};
+ghost use Rattle.yaml_json.specs.Failing.{FailedInTexts, writers_error};
 ghost use Rattle.yaml_json.specs.Wrote.{IsBare, ReadsTexts, WroteTexts};
 
 use crate::error::JsonError;
@@ -49,8 +50,8 @@ fn first_cut<'a, A: Allocator>(
 ///
 /// # Errors
 ///
-/// `NotJson` and `TooDeep` where a part of the text isn't JSON nested at most so deep; the errors of the writer. After an
-/// error some of the events may have been given.
+/// `NotJson` and `TooDeep` where a part of the text isn't JSON nested at most so deep. `Emitter` with the error of the writer's
+/// emitter, which has it now, or with `Memory` where an allocation fails. After an error some of the events may have been given.
 pub fn write_json_texts<A: Allocator + Copy>(
     alloc: A,
     writer: &mut Writer<A>,
@@ -61,6 +62,7 @@ pub fn write_json_texts<A: Allocator + Copy>(
     requires { IsBare writer.old }
     ensures written { OnOk result (WroteTexts depth in_flow text.now writer.old writer.new) }
     ensures reads { OnOk result (ReadsTexts depth in_flow text.now writer.old writer.new) }
+    ensures failed { IfErr result (λ error. IfSome (writers_error error) (λ code. FailedInTexts depth in_flow text.now writer.old code writer.new)) }
 {
     let mut scratch = Scratch::new(alloc);
     let mut rest = text;

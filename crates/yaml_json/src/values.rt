@@ -1,7 +1,8 @@
 //! Values of JSON, token by token from a reader to a writer.
-ghost use Rattle.std.specs.Prelude.{◌≡◌, ◌∷◌, length, None, OnOk};
+ghost use Rattle.std.specs.Prelude.{◌≡◌, ◌∷◌, length, IfSome, None, OnOk};
 ghost use Rattle.json.specs.Json.{items, members, value};
 ghost use Rattle.json.specs.Token.{begin_array, begin_object};
+ghost use Rattle.yaml_json.specs.Failing.{FailedInItems, FailedInMember, FailedInMembers, FailedInValue, failure};
 ghost use Rattle.yaml_json.specs.Refused.{IsNoValue, RefusesText};
 ghost use Rattle.yaml_json.specs.Wrote.{IsBare, WroteDocument, WroteItems, WroteMember, WroteMembers, WroteValue};
 
@@ -34,6 +35,7 @@ pub(crate) fn write_value<A: Allocator + Copy>(
     requires { IsBare writer.old }
     ensures written { OnOk result (WroteValue depth in_flow reader.old writer.old reader.new writer.new) }
     ensures refused { RefusesText result → value depth reader.old ≡ None }
+    ensures stopped { IfSome (failure result) (λ error. FailedInValue depth in_flow reader.old writer.old error writer.new) }
 {
     let offset = reader.offset();
     let Some(token) = reader.next() else {
@@ -63,6 +65,7 @@ fn write_array<A: Allocator + Copy>(
     requires { IsBare writer.old }
     ensures written { OnOk result (WroteValue depth in_flow (begin_array ∷ reader.old) writer.old reader.new writer.new) }
     ensures refused { RefusesText result → value depth (begin_array ∷ reader.old) ≡ None }
+    ensures stopped { IfSome (failure result) (λ error. FailedInValue depth in_flow (begin_array ∷ reader.old) writer.old error writer.new) }
 {
     if depth == 0 {
         return Err(Stop::TooDeep);
@@ -87,6 +90,7 @@ fn write_items<A: Allocator + Copy>(
     requires { IsBare writer.old }
     ensures written { OnOk result (WroteItems depth in_flow reader.old writer.old reader.new writer.new) }
     ensures refused { RefusesText result → items (value depth) (length reader.old) reader.old ≡ None }
+    ensures stopped { IfSome (failure result) (λ error. FailedInItems depth in_flow reader.old writer.old error writer.new) }
 {
     'each_item: while !reader.take_end_array() {
         if let Err(stop) = write_value(writer, reader, in_flow, depth) {
@@ -107,6 +111,7 @@ fn write_object<A: Allocator + Copy>(
     requires { IsBare writer.old }
     ensures written { OnOk result (WroteValue depth in_flow (begin_object ∷ reader.old) writer.old reader.new writer.new) }
     ensures refused { RefusesText result → value depth (begin_object ∷ reader.old) ≡ None }
+    ensures stopped { IfSome (failure result) (λ error. FailedInValue depth in_flow (begin_object ∷ reader.old) writer.old error writer.new) }
 {
     if depth == 0 {
         return Err(Stop::TooDeep);
@@ -131,6 +136,7 @@ fn write_members<A: Allocator + Copy>(
     requires { IsBare writer.old }
     ensures written { OnOk result (WroteMembers depth in_flow reader.old writer.old reader.new writer.new) }
     ensures refused { RefusesText result → members (value depth) (length reader.old) reader.old ≡ None }
+    ensures stopped { IfSome (failure result) (λ error. FailedInMembers depth in_flow reader.old writer.old error writer.new) }
 {
     'each_member: loop {
         let offset = reader.offset();
@@ -158,6 +164,7 @@ fn write_member<A: Allocator + Copy>(
     requires { IsBare writer.old }
     ensures written { OnOk result (WroteMember depth in_flow key.now reader.old writer.old reader.new writer.new) }
     ensures refused { RefusesText result → value depth reader.old ≡ None }
+    ensures stopped { IfSome (failure result) (λ error. FailedInMember depth in_flow key.now reader.old writer.old error writer.new) }
 {
     if let Err(stop) = write_text(writer, key) {
         return Err(stop);
@@ -175,6 +182,7 @@ pub(crate) fn write_document<A: Allocator + Copy>(
     requires { IsBare writer.old }
     ensures written { OnOk result (WroteDocument depth in_flow reader.old writer.old writer.new) }
     ensures refused { RefusesText result → IsNoValue depth reader.old }
+    ensures stopped { IfSome (failure result) (λ error. FailedInValue depth in_flow reader.old writer.old error writer.new) }
 {
     if let Err(stop) = write_value(writer, reader, in_flow, depth) {
         return Err(stop);

@@ -186,12 +186,7 @@ module _ (portable : Bool) where
 
 -- A prefix by its bytes.
 
--- a prefix is written as a tag is, but portably
-pub prefix_as_tag : (text : Text) → prefix_escaped false text ≡ percent_escaped text
-prefix_as_tag [] = refl
-prefix_as_tag (c ∷ text) = refl
-
--- portably too where no `!` begins it
+-- a prefix is written as a tag is, portably too where no `!` begins it
 pub prefix_unmarked : (bytes : List ℕ) → IsUtf8 bytes → ((rest : List ℕ) → bytes ≢ tag_mark ∷ rest)
     → prefix_escaped true (chars bytes) ≡ percent_escaped (chars bytes)
 prefix_unmarked bytes u h = by (chars bytes) (encodes-chars bytes u)

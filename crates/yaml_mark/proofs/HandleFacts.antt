@@ -13,6 +13,8 @@ use lib.Utf8.{encode, encodes}
 use Rattle.yaml_base.specs.Characters.{Text, is_alpha}
 use Rattle.yaml_base.specs.Tags.{name_fault, handle_fault, prefix_fault, tag_mark, last_from, without_last}
 use Rattle.yaml_base.proofs.TagForms.{last-append, without_last-append, front_and_last}
+use Rattle.yaml_base.specs.declared.errors.yaml_error_t.TheVariants.{TagHandleEmpty, TagHandleStart, TagHandleEnd, TagHandleAlphabet, TagPrefixEmpty}
+use Rattle.yaml_base.specs.declared.errors.yaml_error_t.{yaml_error_t}
 
 nothing : (bytes : List ℕ) → (length bytes == 0) ≡ true → bytes ≡ []
 nothing [] h = refl
@@ -29,16 +31,16 @@ begins (c ∷ rest) bytes e h = (c, rest, refl)
 pub characters_begin : (bytes : List ℕ) → IsUtf8 bytes → (length bytes == 0) ≡ false → (c : ℕ) × (rest : Text) × (chars bytes ≡ c ∷ rest)
 characters_begin bytes u h = begins (chars bytes) bytes (encodes-chars bytes u) h
 
-pub empty_name : (bytes : List ℕ) (if_empty if_other : ℕ) → (length bytes == 0) ≡ true → Some if_empty ≡ name_fault if_empty if_other (chars bytes)
+pub empty_name : (bytes : List ℕ) (if_empty if_other : yaml_error_t) → (length bytes == 0) ≡ true → Some if_empty ≡ name_fault if_empty if_other (chars bytes)
 empty_name bytes a b h = rw (no_characters bytes h) refl
 
-good : (text : Text) (if_empty if_other c : ℕ) (rest : Text) → text ≡ c ∷ rest → list_all is_alpha text ≡ true → None ≡ name_fault if_empty if_other text
+good : (text : Text) (if_empty if_other : yaml_error_t) (c : ℕ) (rest : Text) → text ≡ c ∷ rest → list_all is_alpha text ≡ true → None ≡ name_fault if_empty if_other text
 good text a b c rest e h =
     let P : Text → Type 0 = λ t. list_all is_alpha t ≡ true → None ≡ name_fault a b t in
     let Q : (list_all is_alpha (c ∷ rest) ≡ true) → None ≡ name_fault a b (c ∷ rest) = λ k. rw k refl in
     subst P (sym e) Q h
 
-pub good_name : (bytes : List ℕ) (if_empty if_other : ℕ) → IsUtf8 bytes → (length bytes == 0) ≡ false → list_all is_alpha (chars bytes) ≡ true
+pub good_name : (bytes : List ℕ) (if_empty if_other : yaml_error_t) → IsUtf8 bytes → (length bytes == 0) ≡ false → list_all is_alpha (chars bytes) ≡ true
     → None ≡ name_fault if_empty if_other (chars bytes)
 good_name bytes a b u n h = let first = characters_begin bytes u n in good (chars bytes) a b first.0 first.1 first.2 h
 
@@ -48,10 +50,10 @@ either_way false h k = k
 
 -- Handles.
 
-pub empty_handle : (bytes : List ℕ) → (length bytes == 0) ≡ true → Some 7 ≡ handle_fault (chars bytes)
+pub empty_handle : (bytes : List ℕ) → (length bytes == 0) ≡ true → Some TagHandleEmpty ≡ handle_fault (chars bytes)
 empty_handle bytes h = rw (no_characters bytes h) refl
 
-started : (c : ℕ) (rest : Text) → (c == tag_mark) ≡ false → Some 8 ≡ handle_fault (c ∷ rest)
+started : (c : ℕ) (rest : Text) → (c == tag_mark) ≡ false → Some TagHandleStart ≡ handle_fault (c ∷ rest)
 started c rest h = rw h refl
 
 begins_otherwise : (bytes : List ℕ) (c : ℕ) (rest : Text) → encodes (c ∷ rest) ≡ bytes → ((more : List ℕ) → bytes ≢ tag_mark ∷ more) → (c == tag_mark) ≡ false
@@ -59,7 +61,7 @@ begins_otherwise bytes c rest e h =
     ne_eqb c tag_mark (λ same. h (encodes rest)
     (sym e ∙ ap (λ x. encode x ++ encodes rest) same ∙ ap (λ x. x ++ encodes rest) (encode_ascii tag_mark (lit< tt))))
 
-pub no_start : (bytes : List ℕ) → IsUtf8 bytes → (length bytes == 0) ≡ false → ((more : List ℕ) → bytes ≢ tag_mark ∷ more) → Some 8 ≡ handle_fault (chars bytes)
+pub no_start : (bytes : List ℕ) → IsUtf8 bytes → (length bytes == 0) ≡ false → ((more : List ℕ) → bytes ≢ tag_mark ∷ more) → Some TagHandleStart ≡ handle_fault (chars bytes)
 no_start bytes u n h =
     let first = characters_begin bytes u n in
     let e : encodes (first.0 ∷ first.1) ≡ bytes = ap encodes (sym first.2) ∙ encodes-chars bytes u in
@@ -86,11 +88,11 @@ ends_otherwise bytes c more e h =
     ∙ ap (λ x. encodes (without_last (c ∷ more)) ++ (encode x ++ [])) same
     ∙ ap (λ x. encodes (without_last (c ∷ more)) ++ (x ++ [])) (encode_ascii tag_mark (lit< tt))))
 
-ended : (c : ℕ) (more : Text) → (last_from tag_mark (c ∷ more) == tag_mark) ≡ false → Some 9 ≡ handle_fault (tag_mark ∷ c ∷ more)
+ended : (c : ℕ) (more : Text) → (last_from tag_mark (c ∷ more) == tag_mark) ≡ false → Some TagHandleEnd ≡ handle_fault (tag_mark ∷ c ∷ more)
 ended c more h = rw h refl
 
 pub no_end : (bytes rest : List ℕ) → IsUtf8 bytes → bytes ≡ tag_mark ∷ rest → (length rest == 0) ≡ false → ((front : List ℕ) → rest ≢ front ++ tag_mark ∷ [])
-    → Some 9 ≡ handle_fault (chars bytes)
+    → Some TagHandleEnd ≡ handle_fault (chars bytes)
 no_end bytes rest u e n h =
     let whole = mark_and bytes rest u e in
     let first = characters_begin rest whole.1 n in
@@ -111,11 +113,11 @@ front_is_text front u =
     (IsUtf8-take (front ++ tag_mark ∷ []) (length front) u
     (IsCharBoundary-before_ascii (front ++ tag_mark ∷ []) (length front) inside byte))
 
-between : (middle : Text) (kept : Bool) → list_all is_alpha middle ≡ kept → cond kept None (Some 10) ≡ handle_fault (tag_mark ∷ (middle ++ tag_mark ∷ []))
+between : (middle : Text) (kept : Bool) → list_all is_alpha middle ≡ kept → cond kept None (Some TagHandleAlphabet) ≡ handle_fault (tag_mark ∷ (middle ++ tag_mark ∷ []))
 between middle kept h = rw (last-append tag_mark middle tag_mark, without_last-append middle tag_mark, h) refl
 
 pub both_marks : (bytes rest middle : List ℕ) (kept : Bool) → IsUtf8 bytes → bytes ≡ tag_mark ∷ rest → rest ≡ middle ++ tag_mark ∷ []
-    → list_all is_alpha (chars middle) ≡ kept → cond kept None (Some 10) ≡ handle_fault (chars bytes)
+    → list_all is_alpha (chars middle) ≡ kept → cond kept None (Some TagHandleAlphabet) ≡ handle_fault (chars bytes)
 both_marks bytes rest middle kept u e f h =
     let whole = mark_and bytes rest u e in
     let P : List ℕ → Type 0 = λ x. IsUtf8 x in
@@ -126,14 +128,14 @@ both_marks bytes rest middle kept u e f h =
 
 -- Prefixes.
 
-pub empty_prefix : (bytes : List ℕ) → (length bytes == 0) ≡ true → Some 11 ≡ prefix_fault (chars bytes)
+pub empty_prefix : (bytes : List ℕ) → (length bytes == 0) ≡ true → Some TagPrefixEmpty ≡ prefix_fault (chars bytes)
 empty_prefix bytes h = rw (no_characters bytes h) refl
 
 pub good_prefix : (bytes : List ℕ) → IsUtf8 bytes → (length bytes == 0) ≡ false → None ≡ prefix_fault (chars bytes)
 good_prefix bytes u h = rw (characters_begin bytes u h).2 refl
 
 -- a directive with a good handle is refused for its prefix alone; its texts are those that a reader of it got
-pub by_prefix : (handle prefix handle_got prefix_got : List ℕ) (fault : Option ℕ) → handle_got ≡ handle → prefix_got ≡ prefix
+pub by_prefix : (handle prefix handle_got prefix_got : List ℕ) (fault : Option yaml_error_t) → handle_got ≡ handle → prefix_got ≡ prefix
     → None ≡ handle_fault (chars handle_got) → fault ≡ prefix_fault (chars prefix_got)
     → fault ≡ option_or (handle_fault (chars handle)) (prefix_fault (chars prefix))
 by_prefix handle prefix handle_got prefix_got fault e f h k =

@@ -21,6 +21,7 @@ use Rattle.yaml_base.specs.Tags.{tag_fault, behind, Spelling, shorthand, verbati
 use Rattle.yaml_base.proofs.TagForms.{behind-whole, behind_begins, scalars_behind}
 use Rattle.yaml_mark.proofs.HandleFacts.{characters_begin, no_characters}
 use Rattle.yaml_mark.specs.Spelled.{fits, begins_and_is_shorter, IsCutAt}
+use Rattle.yaml_base.specs.declared.errors.yaml_error_t.TheVariants.{TagEmpty}
 
 -- By bytes and by characters.
 
@@ -226,7 +227,7 @@ prefix_at list number at directive e k =
     sym (encodes-chars (string_bytes at.prefix) (IsUtf8-string_bytes at.prefix)) ∙ ap (λ d. encodes d.prefix) same
 
 -- The refusal of an empty tag.
-pub empty_tag : (bytes : List ℕ) → (length bytes == 0) ≡ true → Some 17 ≡ tag_fault (chars bytes)
+pub empty_tag : (bytes : List ℕ) → (length bytes == 0) ≡ true → Some TagEmpty ≡ tag_fault (chars bytes)
 empty_tag bytes h = rw (no_characters bytes h) refl
 
 pub good_tag : (bytes : List ℕ) → IsUtf8 bytes → (length bytes == 0) ≡ false → None ≡ tag_fault (chars bytes)

@@ -4,7 +4,7 @@ ghost use Rattle.std.specs.List.{list_any};
 ghost use Rattle.yaml_base.specs.Errors.{refused};
 ghost use Rattle.yaml_base.specs.Event.{TagDirective};
 ghost use Rattle.yaml_base.specs.Seen.{seen_directive};
-ghost use Rattle.yaml_base.specs.Tags.{gives_handle, duplicate_directive};
+ghost use Rattle.yaml_base.specs.Tags.{gives_handle};
 ghost use Rattle.yaml_mark.specs.Spelled.{fits, begins_and_is_shorter};
 
 use std::alloc::{AllocError, Allocator};
@@ -44,7 +44,7 @@ impl<A: Allocator> Directives<A> {
     where
         A: Copy,
         ensures there { gives_handle (seen_directive directive.now).handle self.old ≡ true
-            → (refused result ≡ (if allow_duplicates then None else Some duplicate_directive)) × (self.new ≡ self.old) }
+            → (refused result ≡ (if allow_duplicates then None else Some yaml_error_t.DuplicateDirective)) × (self.new ≡ self.old) }
         ensures added { gives_handle (seen_directive directive.now).handle self.old ≡ false
             → self.new ≡ (if is_ok result then self.old ++ seen_directive directive.now ∷ [] else self.old) }
         ensures memory { gives_handle (seen_directive directive.now).handle self.old ≡ false → IfErr result (λ e. e ≡ yaml_error_t.Memory) }

@@ -14,13 +14,24 @@ use std::alloc::Allocator;
 use yaml_base::{hex_digit, yaml_error_t};
 use yaml_pen::Pen;
 
+/// A space comes before a text where none stands there.
+const SPACED: bool = true;
+/// It follows at once.
+const TIGHT: bool = false;
+/// No white space stands behind it.
+const LEAVES_NO_SPACE: bool = false;
+/// No indentation goes on behind it.
+const ENDS_INDENTION: bool = false;
+/// The signs of flow `,` `[` `]` aren't escaped.
+const FLOW_SIGNS_STAY: bool = false;
+
 /// Writes the name of an anchor or of an alias. `WriteError` and `Memory` as the pen tells them.
 pub fn write_anchor<A: Allocator>(pen: &mut Pen<A>, anchor: &str) -> Result<(), yaml_error_t>
     requires ready { IsReady pen.old }
     requires no_break { list_any is_break (chars anchor.now) ≡ false }
     ensures { Wrote (name_laid (chars anchor.now)) pen.old pen.new result }
 {
-    pen.write_indicator(anchor, false, false, false)
+    pen.write_indicator(anchor, TIGHT, LEAVES_NO_SPACE, ENDS_INDENTION)
 }
 
 /// Writes a tag's handle, or the bare tag, and a space before it where none stands there. `WriteError` and `Memory` as
@@ -30,7 +41,7 @@ pub fn write_tag_handle<A: Allocator>(pen: &mut Pen<A>, handle: &str) -> Result<
     requires no_break { list_any is_break (chars handle.now) ≡ false }
     ensures { Wrote (handle_laid (chars handle.now)) pen.old pen.new result }
 {
-    pen.write_indicator(handle, true, false, false)
+    pen.write_indicator(handle, SPACED, LEAVES_NO_SPACE, ENDS_INDENTION)
 }
 
 /// Writes a tag: what may not stand in one is escaped by percent forms. A space comes before it where one is asked for
@@ -43,7 +54,7 @@ pub fn write_tag_content<A: Allocator>(
     requires ready { IsReady pen.old }
     ensures { Wrote (λ cursor. name_laid (space_if need_whitespace cursor ++ percent.percent_escaped (chars content.now)) cursor) pen.old pen.new result }
 {
-    write_escaped(pen, content, need_whitespace, false)
+    write_escaped(pen, content, need_whitespace, FLOW_SIGNS_STAY)
 }
 
 /// Writes what stands after a tag's handle, escaped as a tag is; `portable` escapes the signs of flow `,` `[` `]` too,
@@ -56,7 +67,7 @@ pub fn write_tag_suffix<A: Allocator>(
     requires ready { IsReady pen.old }
     ensures { Wrote (name_laid (percent.suffix_escaped portable (chars suffix.now))) pen.old pen.new result }
 {
-    write_escaped(pen, suffix, false, portable)
+    write_escaped(pen, suffix, TIGHT, portable)
 }
 
 /// Writes the prefix of a directive, escaped as a tag is, and a space before it where none stands there; `portable`
@@ -71,7 +82,7 @@ pub fn write_tag_prefix<A: Allocator>(
 {
     match after_raw_mark(prefix, portable) {
         Some(rest) => write_local_prefix(pen, rest),
-        None => write_tag_content(pen, prefix, true),
+        None => write_tag_content(pen, prefix, SPACED),
     }
 }
 
@@ -92,9 +103,9 @@ fn write_local_prefix<A: Allocator>(pen: &mut Pen<A>, rest: &str) -> Result<(), 
     requires ready { IsReady pen.old }
     ensures { Wrote (handle_laid (tag_mark ∷ percent.percent_escaped (chars rest.now))) pen.old pen.new result }
 {
-    pen.write_indicator("", true, false, false)?;
+    pen.write_indicator("", SPACED, LEAVES_NO_SPACE, ENDS_INDENTION)?;
     pen.put(b'!')?;
-    write_tag_content(pen, rest, false)
+    write_tag_content(pen, rest, TIGHT)
 }
 
 fn write_escaped<A: Allocator>(
@@ -106,7 +117,7 @@ fn write_escaped<A: Allocator>(
     requires ready { IsReady pen.old }
     ensures { Wrote (λ cursor. name_laid (space_if need_whitespace cursor ++ percent.suffix_escaped portable (chars text.now)) cursor) pen.old pen.new result }
 {
-    pen.write_indicator("", need_whitespace, false, false)?;
+    pen.write_indicator("", need_whitespace, LEAVES_NO_SPACE, ENDS_INDENTION)?;
     let bytes = text.as_bytes();
     for byte in bytes {
         write_byte(pen, *byte, portable)?;

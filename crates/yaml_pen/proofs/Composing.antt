@@ -32,10 +32,6 @@ error_from_told : (error : Option yaml_error_t) (e : yaml_error_t) → Err e ≡
 error_from_told None e is none {P} = cc
 error_from_told (Some error) e is none {P} = cc
 
-failed_has_error : (error : Option yaml_error_t) (e : yaml_error_t) → Err e ≡ told error → IsSome error
-failed_has_error None e is = cc
-failed_has_error (Some error) e is = refl
-
 -- the text of two layouts, one after another
 named_text-then : (first next : Cursor → Laid) (before between : Page) → between.cursor ≡ (first before.cursor).cursor → between.line_break ≡ before.line_break
     → named_text (λ c. then_laid (first c) next) before ≡ named_text first before ++ named_text next between
@@ -117,22 +113,6 @@ wrote_nothing {page} ready none handed =
       stopped = λ _. refl;
     }
 
--- on a pen that failed before nothing is written, whatever was to be
-pub wrote_stopped : (lay : Cursor → Laid) {page : Page} {error : yaml_error_t} → IsReady page → page.error ≡ Some error
-    → IsHandedOut (encoded page) page.output page.limit page.error
-    → Wrote lay page page (Err error)
-wrote_stopped lay {page} {error} ready some handed =
-    record {
-      answered = sym (ap told some);
-      ready = ready;
-      settings = record { encoding = refl; line_break = refl; limit = refl; taken = refl };
-      handed = handed;
-      grew = record { front = []; rest = named_text lay page; parts = refl; grown = sym (append-nil page.text) };
-      output = prefix_itself page.output;
-      all = λ none. error_from_told page.error error (sym (ap told some)) none;
-      stopped = λ _. refl;
-    }
-
 -- what is written depends on what the layout puts at the cursor alone
 pub wrote_as : {lay : Cursor → Laid} (other : Cursor → Laid) {before after : Page} {answer : Result (Unit {0}) yaml_error_t}
     → lay before.cursor ≡ other before.cursor → Wrote lay before after answer → Wrote other before after answer
@@ -173,24 +153,6 @@ wrote_changing {lay} change {before} {between} {after} wrote is =
       stopped = λ some. absurd (false≢true (subst (λ (o : Option yaml_error_t). IsSome o) whole.no_error some));
     } in
     subst P (sym is) changed
-
--- the cursor is changed before what is written
-pub changed_wrote : {lay : Cursor → Laid} (change : Cursor → Cursor) {before between after : Page} {answer : Result (Unit {0}) yaml_error_t}
-    → between ≡ record before { cursor = change before.cursor } → Wrote lay between after answer
-    → Wrote (λ c. lay (change c)) before after answer
-changed_wrote {lay} change {before} {between} {after} {answer} is wrote =
-    let P : Page → Type 0 = λ p. Wrote lay p after answer in
-    let changed : Wrote lay (record before { cursor = change before.cursor }) after answer = subst P is wrote in
-    record {
-      answered = changed.answered;
-      ready = changed.ready;
-      settings = record { encoding = changed.settings.encoding; line_break = changed.settings.line_break; limit = changed.settings.limit; taken = changed.settings.taken };
-      handed = changed.handed;
-      grew = changed.grew;
-      output = changed.output;
-      all = λ none. let whole = changed.all none in record { no_error = whole.no_error; text = whole.text; cursor = whole.cursor };
-      stopped = changed.stopped;
-    }
 
 -- a flush writes nothing
 pub flushed_wrote : {before after : Page} {answer : Result (Unit {0}) yaml_error_t} → IsReady before → Flushed before after answer
@@ -245,11 +207,6 @@ pub wrote_text_failed : {xs : Text} (ys : Text) {before after : Page} {error : y
     → Wrote (text_laid xs) before after (Err error)
     → Wrote (text_laid (xs ++ ys)) before after (Err error)
 wrote_text_failed {xs} ys {before} one = wrote_as (text_laid (xs ++ ys)) (text_laid-append xs ys before.cursor) (wrote_failed (text_laid ys) one)
-
--- no text is written where nothing is
-pub wrote_no_text : {before after : Page} {answer : Result (Unit {0}) yaml_error_t} → Wrote nothing_laid before after answer
-    → Wrote (text_laid []) before after answer
-wrote_no_text wrote = wrote
 
 -- the exit of a `?` tells the error of the call that failed
 pub wrote_exit : {lay : Cursor → Laid} {before after : Page} {error : yaml_error_t} {answer : Result (Unit {0}) yaml_error_t}

@@ -6,7 +6,6 @@ pub mod Composing
 pub mod Fronts
 pub mod Cuts
 pub mod NewLines
-pub mod Columns
 pub mod CharacterStarts
 pub mod AsciiRuns
 pub mod Spaces

@@ -1,6 +1,6 @@
 -- What is handed out of a buffer is added to the output.
-use Rattle.std.proofs.Common.{◌≡◌, refl, sym, ◌∙◌, ap, subst, ℕ, ◌≤◌, ◌<◌, ◌+◌, ◌-◌, Result, Ok, Err, List, [], ◌++◌, length, drop, take, append_assoc, append-nil, arith}
-use Rattle.std.proofs.Math.Seq.{drop-append_seam, take-append-add}
+use Rattle.std.proofs.Common.{◌≡◌, sym, ◌∙◌, ap, subst, ℕ, ◌≤◌, ◌+◌, ◌-◌, Result, Ok, Err, List, ◌++◌, length, take, append_assoc, arith}
+use Rattle.std.proofs.Math.Seq.{take-append-add}
 use Rattle.std.proofs.lemmas.List.{length-append}
 use Rattle.yaml_base.specs.Encoding.{cut}
 use Rattle.yaml_base.specs.Prefix.{IsPrefix}
@@ -17,19 +17,10 @@ hands_out_grows buffer before after limit (Err WriteError) within h = subst (λ 
 hands_out_grows buffer before after limit (Err Memory) within h = prefix_same before after (sym h)
 hands_out_grows buffer before after limit (Err error) within h = absurd h
 
--- what is left of an output, and how long it is
-pub whole_left : (taken left : List ℕ) → drop (length taken) (whole_output taken left) ≡ left
-unfolding whole_output
-whole_left taken left = drop-append_seam taken left
-
+-- how long an output is
 pub whole_length : (taken left : List ℕ) → length (whole_output taken left) ≡ length taken + length left
 unfolding whole_output
 whole_length taken left = length-append taken left
-
--- what is left is taken too
-pub whole_taken : (taken left : List ℕ) → whole_output (taken ++ left) [] ≡ whole_output taken left
-unfolding whole_output
-whole_taken taken left = append-nil (taken ++ left)
 
 whole_append : (taken left more : List ℕ) → whole_output taken (left ++ more) ≡ whole_output taken left ++ more
 unfolding whole_output

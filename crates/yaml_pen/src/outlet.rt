@@ -80,9 +80,8 @@ impl<A: Allocator> Outlet<A> {
         ensures output { IsPrefix self.old.output self.new.output }
         ensures empty { self.old.error ≡ None → self.old.output ≡ self.old.all → self.new ≡ self.old }
     {
-        match self.error {
-            Some(error) => return Err(error),
-            None => {}
+        if let Some(error) = self.error {
+            return Err(error);
         }
         if self.buffer.is_empty() {
             return Ok(());
@@ -154,9 +153,8 @@ impl<A: Allocator> Outlet<A> {
         requires { length bytes.now ≤ buffer_size }
         ensures { Appended bytes.now self.old self.new result }
     {
-        match self.error {
-            Some(error) => return Err(error),
-            None => {}
+        if let Some(error) = self.error {
+            return Err(error);
         }
         if self.buffer.room() < bytes.len() {
             self.flush()?;
@@ -175,9 +173,8 @@ impl<A: Allocator> Outlet<A> {
         requires { count ≤ 32 }
         ensures { Appended (take count piece.now) self.old self.new result }
     {
-        match self.error {
-            Some(error) => return Err(error),
-            None => {}
+        if let Some(error) = self.error {
+            return Err(error);
         }
         if self.buffer.room() < 32 {
             self.flush()?;
@@ -191,9 +188,8 @@ impl<A: Allocator> Outlet<A> {
     fn push(&mut self, byte: u8) -> Result<(), yaml_error_t>
         ensures { Appended (byte ∷ []) self.old self.new result }
     {
-        match self.error {
-            Some(error) => return Err(error),
-            None => {}
+        if let Some(error) = self.error {
+            return Err(error);
         }
         if self.buffer.room() == 0 {
             self.flush()?;

@@ -9,11 +9,6 @@ use Rattle.yaml_base.specs.Folded.{is_past, folds, cut_from, cut_line, next_even
 use Rattle.yaml_base.specs.ReadBlock.{joined, unfolded, has_content, final_ends, is_even, even_next}
 use Rattle.yaml_scalar.proofs.BlockParts.{bare, Clean, IsLine, Ordinary, BeginsBroken, BeginsFlush, clean-begun}
 
--- a line that begins with a space is never folded: at every limit it is laid out whole
-pub spaced-line-whole : (limit : Option ℕ) (indent : ℕ) (after_even : Bool) (text : Text) (rest : List Part)
-    → folded_parts limit indent after_even (line (space ∷ text) ∷ rest) ≡ line (space ∷ text) ∷ folded_parts limit indent false rest
-spaced-line-whole limit indent after_even text rest = refl
-
 -- a line feed is ordinary
 feed-ordinary : (breaks12 : Bool) → Ordinary breaks12 line_feed
 feed-ordinary true = record { same_break = refl; same_blank = refl; no_return = refl; no_next_line = refl }

@@ -9,7 +9,7 @@ use Rattle.yaml_base.specs.Lines.{Part, line, line_break, begun, parts}
 use Rattle.yaml_base.specs.BlockHeader.{Ending, without_break, one_break, more_breaks, ending, begins_blank, indentation_hint, ending_hint, hint_laid, block_body, Encloses}
 use Rattle.yaml_base.specs.Literal.{indented, literal_body}
 use Rattle.yaml_base.specs.Folded.{folded_parts, folded_body}
-use Rattle.yaml_base.specs.ReadBlock.{elements, unfolded, has_content, kept_lines, final_ends, indentation, all_unindented, chomped, lines_read, read_lines, digit_first, after_digit, read_block}
+use Rattle.yaml_base.specs.ReadBlock.{elements, unfolded, has_content, kept_lines, final_ends, read_indentation, all_unindented, chomped, lines_read, read_lines, digit_first, after_digit, read_block}
 use Rattle.yaml_scalar.proofs.BlockParts.{Ordinary, AllOrdinary, Clean, BeginsFlush, bare, shifted, parts-clean, joined-parts, elements-indented, unindented-shifted, detected-shifted}
 use Rattle.yaml_scalar.proofs.BlockFinal.{ends-parts, chomping_of, chomped-ends, joined-kept, unfolded-kept}
 use Rattle.yaml_scalar.proofs.BlockFolds.{folded-clean, folded-content, folded-reads, folded-ends, folded-flush}
@@ -119,16 +119,16 @@ read-header breaks12 false false without_break n column lines low high = refl
 read-header breaks12 false false one_break n column lines low high = refl
 read-header breaks12 false false more_breaks n column lines low high = refl
 
--- the indentation that a digit tells, or that the first line shows, is the lines' own
+-- the read_indentation that a digit tells, or that the first line shows, is the lines' own
 unindented-lines : (blank : Bool) (indent best_indent : ℕ) (column : Option ℕ) (ps : List Part) → Encloses indent best_indent column
     → (blank ≡ false → BeginsFlush ps)
-    → all_unindented (indentation (digit_of blank best_indent) column (shifted indent ps)) (shifted indent ps) ≡ Some (bare ps)
+    → all_unindented (read_indentation (digit_of blank best_indent) column (shifted indent ps)) (shifted indent ps) ≡ Some (bare ps)
 unindented-lines true indent best_indent None ps e f = rw (sym e) (unindented-shifted indent ps)
 unindented-lines true indent best_indent (Some column) ps e f = rw (sym e) (unindented-shifted indent ps)
 unindented-lines false indent best_indent None ps e f = detected-shifted indent ps (f refl)
 unindented-lines false indent best_indent (Some column) ps e f = detected-shifted indent ps (f refl)
 
--- a value's first character says whether its first line shows the indentation
+-- a value's first character says whether its first line shows the read_indentation
 flush-parts : (c : ℕ) (rest : Text) → begins_blank (c ∷ rest) ≡ false → BeginsFlush (parts (c ∷ rest))
 flush-parts c rest h = by (is_break c) refl
   where
@@ -148,7 +148,7 @@ flush-value : (value : Text) → begins_blank value ≡ false → BeginsFlush (p
 flush-value [] h = tt
 flush-value (c ∷ rest) h = flush-parts c rest h
 
--- whatever lines stand under a value's header, they are read without their indentation
+-- whatever lines stand under a value's header, they are read without their read_indentation
 block-reads : (breaks12 folded : Bool) (indent best_indent : ℕ) (column : Option ℕ) (value : Text) (ps : List Part) (cursor : Cursor)
     → 2 ≤ best_indent → best_indent ≤ 9 → 1 ≤ indent → Encloses indent best_indent column
     → Clean breaks12 ps → (begins_blank value ≡ false → BeginsFlush ps)

@@ -3,7 +3,7 @@
 use Rattle.std.proofs.Common.{◌≡◌, ◌≤◌, refl, sym, ap, ◌∙◌, ℕ, zero, suc, [], ◌∷◌, ◌++◌, Bool, true, false, arith}
 use Rattle.std.specs.Prelude.{◌==◌, not, replicate}
 use Rattle.std.proofs.lemmas.Bool.{and_from, eqb-true, false≢true, or_left, or_right}
-use Rattle.yaml_base.specs.Characters.{Text, line_feed, space}
+use Rattle.yaml_base.specs.Characters.{Text, space}
 use Rattle.yaml_base.specs.LineBreaks.{is_read_break}
 use Rattle.yaml_base.specs.TidyBodies.{begins_with_blank_line, begins_with_break, begins_with_deep_line, begins_with_spaces, has_deep_lines, has_no_space_before_break}
 
@@ -31,10 +31,6 @@ Unbroken breaks12 (c ∷ rest) = (is_read_break breaks12 c ≡ false) × Unbroke
 pub space_unbroken : (breaks12 : Bool) → is_read_break breaks12 space ≡ false
 space_unbroken true = refl
 space_unbroken false = refl
-
--- and LF is one
-pub feed_breaks : (breaks12 : Bool) → is_read_break breaks12 line_feed ≡ true
-feed_breaks breaks12 = refl
 
 -- a break is no space
 break_no_space : (breaks12 : Bool) (b : ℕ) → is_read_break breaks12 b ≡ true → (b == space) ≡ false

@@ -14,8 +14,7 @@ use Rattle.yaml_pen.proofs.Composing.{wrote_as}
 use Rattle.yaml_scalar.specs.LineSteps.{begins_kind, step_laid, step_text, steps_laid, written_as}
 use Rattle.yaml_scalar.proofs.StillToWrite.{StillToWrite}
 use Rattle.yaml_scalar.proofs.LineRuns.{WritesEach, runs_by_steps}
-use Rattle.yaml_scalar.proofs.LineFolds.{spaces_only, breaks_only}
-use Rattle.yaml_scalar.proofs.LineIndents.{others_only}
+use Rattle.yaml_scalar.proofs.LineFolds.{spaces_only}
 use Rattle.yaml_scalar.proofs.SingleReads.{doubled_writes}
 use Rattle.yaml_scalar.proofs.PlainReads.{itself_writes}
 
@@ -33,16 +32,9 @@ pub quote_text :
 quote_text true c extra e = rw e (quote_text_by c (c == 39) refl)
 quote_text false c extra e = rw e refl
 
--- the characters of a kind
-
+-- the one character of the kind of spaces
 pub is_space_kind : (c : ℕ) → spaces ≡ kind_of c → c ≡ 32
 is_space_kind c k = eqb-true c 32 (spaces_only (is_space c) (is_break c) (sym k))
-
-pub is_break_kind : (c : ℕ) → breaks ≡ kind_of c → is_break c ≡ true
-is_break_kind c k = breaks_only (is_space c) (is_break c) (sym k)
-
-pub is_other_kind : (c : ℕ) → others ≡ kind_of c → is_break c ≡ false
-is_other_kind c k = others_only (is_space c) (is_break c) (sym k)
 
 -- a step by its kind
 abbrev StepText : (written : Text → Text) (past : Bool) (indent : ℕ) (before : Kind) (c : ℕ) (rest text : Text) → Type 0

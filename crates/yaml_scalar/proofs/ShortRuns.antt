@@ -1,9 +1,9 @@
 -- A short text of ASCII is laid out as it is.
-use Rattle.std.proofs.Common.{◌≡◌, ◌∙◌, refl, ap, arith, subst, sym, append-nil, IsUtf8}
+use Rattle.std.proofs.Common.{◌≡◌, ◌∙◌, ap, sym, append-nil, IsUtf8}
 use Rattle.std.proofs.lemmas.List.{take_all}
 use Rattle.std.proofs.lemmas.Str.{encodes-IsAscii, encodes-chars}
 use Rattle.std.specs.List.{list_all}
-use Rattle.std.specs.Prelude.{◌≤◌, ℕ, Bool, true, false, Option, None, List, [], ◌++◌, length, take}
+use Rattle.std.specs.Prelude.{◌≤◌, ℕ, Bool, true, false, Option, None, List, [], length}
 use Rattle.std.specs.Str.{chars}
 use Rattle.yaml_base.specs.Characters.{Text}
 use Rattle.yaml_base.specs.Cursor.{Cursor, Laid, text_laid}

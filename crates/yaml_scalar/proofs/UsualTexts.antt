@@ -3,8 +3,9 @@ use Rattle.std.proofs.Common.{◌≡◌, ◌∙◌, refl, ap, arith, subst, sym,
 use Rattle.std.proofs.lemmas.Bool.{and_parts, not-true}
 use Rattle.std.proofs.lemmas.Str.{chars-nil}
 use Rattle.std.specs.List.{list_all}
-use Rattle.std.specs.Prelude.{ℕ, Bool, true, false, Option, List, [], ◌∷◌, ◌==◌, ◌-◌, ◌<◌, ◌&&◌, not, length, slice_index, if◌then◌else◌}
-use Rattle.yaml_base.specs.Analysis.{Allowances, Charset, allowances, begins_with}
+use Rattle.std.specs.Str.{chars}
+use Rattle.std.specs.Prelude.{ℕ, Bool, true, false, Option, List, [], ◌∷◌, ◌==◌, ◌-◌, ◌<◌, ◌||◌, ◌&&◌, not, length, slice_index, if◌then◌else◌}
+use Rattle.yaml_base.specs.Analysis.{Allowances, Charset, allowances, begins_with, is_empty}
 use Rattle.yaml_base.specs.Characters.{Text, is_space, space}
 use Rattle.yaml_base.specs.Cursor.{Cursor}
 use Rattle.yaml_scalar.specs.Barred.{Barred, allowed_by, barred_by, barred_in, either, is_ordinary, is_quiet, none_barred}
@@ -73,6 +74,17 @@ usual_some {text = []} is =
     let charset : Charset = record { unicode = true; breaks12 = true } in
     absurd (true≢false (sym (ap (λ (a : Allowances). a.flow_plain) (sym (ap (allowances charset) chars-nil) ∙ is.allows charset))))
 usual_some {text = first ∷ rest} is = omega arith
+
+some_allowed : (charset : Charset) (text : Text) → allowances charset text ≡ all_allowed → is_empty text ≡ false
+some_allowed charset [] is = absurd (true≢false (sym (ap (λ (a : Allowances). a.flow_plain) is)))
+some_allowed charset (c ∷ rest) is = refl
+
+-- so a space is needed before it, in flow or not
+pub usual_spaced : {text : List ℕ} (flow : Bool) → IsUsual text → (flow || not (is_empty (chars text))) ≡ true
+usual_spaced true is = refl
+usual_spaced {text} false is =
+    let charset : Charset = record { unicode = true; breaks12 = true } in
+    ap not (some_allowed charset (chars text) (is.allows charset))
 
 -- it is a line where there is room for it
 pub usual_line : {quoted : Bool} {text : List ℕ} (limit : Option ℕ) (cursor : Cursor) → quoted ≡ false → IsUsual text → HasRoom limit cursor.column (length text)

@@ -51,6 +51,11 @@ const NOTHING_BARRED: BarredStyles = BarredStyles {
     block: false,
 };
 
+/// Plain text stands in a flow collection.
+const IN_FLOW: bool = true;
+/// It stands in a block collection, or as a root.
+const IN_BLOCK: bool = false;
+
 /// Analyses a scalar's value. With `unicode` all printable characters may stand as themselves, else
 /// those of ASCII alone; with `breaks12` U+2028 and U+2029 may not, as YAML 1.2 takes them for no breaks.
 pub fn analyze_scalar(value: &str, unicode: bool, breaks12: bool) -> scalar_data_t
@@ -95,10 +100,7 @@ fn is_gap(c: char) -> bool
 fn ends_word(rest: &str) -> bool
     ensures { result ≡ spec.ends_word (chars rest.now) }
 {
-    match rest.chars().next() {
-        Some(c) => is_gap(c),
-        None => true,
-    }
+    rest.chars().next().is_none_or(is_gap)
 }
 
 /// A break stands here.
@@ -124,10 +126,7 @@ fn is_special(c: char, charset: CharacterSet) -> bool
 pub(crate) fn is_at_end(rest: &str) -> bool
     ensures { result ≡ spec.is_empty (chars rest.now) }
 {
-    match rest.chars().next() {
-        Some(_) => false,
-        None => true,
-    }
+    rest.chars().next().is_none()
 }
 
 /// A first character that means something else to a reader of plain text.
@@ -275,8 +274,8 @@ fn with_next(barred: BarredStyles, c: char, rest: &str, charset: CharacterSet) -
     }
     BarredStyles {
         multiline: barred.multiline || is_break(c),
-        flow_plain: barred.flow_plain || bars_plain(c, rest, charset, true),
-        block_plain: barred.block_plain || bars_plain(c, rest, charset, false),
+        flow_plain: barred.flow_plain || bars_plain(c, rest, charset, IN_FLOW),
+        block_plain: barred.block_plain || bars_plain(c, rest, charset, IN_BLOCK),
         single_quoted: barred.single_quoted || bars_single_quoted(c, rest, charset),
         block: barred.block || bars_block(c, rest, charset),
     }

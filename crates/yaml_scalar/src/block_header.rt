@@ -8,9 +8,15 @@ ghost use Rattle.yaml_pen.specs.Wrote.{Wrote};
 ghost use Rattle.yaml_scalar.specs.BlockCode.{seen_ending, without_mark};
 ghost use Rattle.yaml_scalar.specs.BlockSteps as step;
 
+use crate::steps::{ENDS_INDENTION, LEAVES_NO_SPACE, SPACED};
 use std::alloc::Allocator;
 use yaml_base::{is_break, is_space, yaml_error_t};
 use yaml_pen::Pen;
+
+/// Lines are folded.
+pub(crate) const FOLDED: bool = true;
+/// They stand as they are.
+pub(crate) const LITERAL: bool = false;
 
 /// How a value ends.
 #[derive(Clone, Copy, PartialEq, Eq)]
@@ -24,8 +30,9 @@ enum Ending {
 /// with a space or a break; `-` where the value doesn't end in a break, nothing where it ends in exactly
 /// one after another character, else `+`. Answers the open mark: 2 after `+`, else 0.
 ///
-/// Answers `WriteError` where the output's limit is passed, `Memory` where the output finds no room, and
-/// the pen's error where it failed before.
+/// # Errors
+/// `WriteError` where the output passes its limit, `Memory` where a growth was refused, else the pen's first
+/// error.
 pub fn write_block_scalar_hints<A: Allocator>(
     pen: &mut Pen<A>,
     value: &str,
@@ -53,7 +60,7 @@ pub(crate) fn write_header<A: Allocator>(
     requires most { best_indent ≤ℤ pos 9 }
     ensures { Wrote (step.separated_header folded (natural best_indent) (chars value.now)) pen.old pen.new result }
 {
-    pen.write_indicator(sign(folded), true, false, false)?;
+    pen.write_indicator(sign(folded), SPACED, LEAVES_NO_SPACE, ENDS_INDENTION)?;
     write_hints(pen, value, best_indent)?;
     end_header(pen)
 }

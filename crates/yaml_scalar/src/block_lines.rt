@@ -15,11 +15,14 @@ ghost use Rattle.yaml_scalar.specs.Width.{limit_of};
 
 use crate::analysis::begins_with_space;
 use crate::runs::{Run, RunEnds, line_run_after};
-use crate::steps::has_limit;
+use crate::steps::{BREAKS_ALLOWED, has_limit};
 use crate::width::is_past_width;
 use std::alloc::Allocator;
 use yaml_base::{is_break, is_space, yaml_error_t};
 use yaml_pen::Pen;
+
+/// No space of a line becomes a fold.
+const NO_FOLDS: bool = false;
 
 /// Where a character stands: where a line begins, in a line that may be folded, or in one that may not.
 #[derive(Clone, Copy, PartialEq, Eq)]
@@ -29,26 +32,32 @@ pub(crate) enum Place {
     Fixed,
 }
 
-/// Writes the lines of a value, from the start of a line on: each line after so many spaces; where they
-/// are folded, past the width, except a line that begins with a space.
+/// How the lines of a block scalar are laid: each after so many spaces; where they are folded, past the width, except
+/// a line that begins with a space.
+#[derive(Clone, Copy)]
+pub(crate) struct BlockLines {
+    pub(crate) folded: bool,
+    pub(crate) indent: i32,
+    pub(crate) width: i32,
+}
+
+/// Writes the lines of a value, from the start of a line on.
 pub(crate) fn write_lines<A: Allocator>(
     pen: &mut Pen<A>,
     value: &str,
-    indent: i32,
-    folded: bool,
-    width: i32,
+    lines: BlockLines,
 ) -> Result<(), yaml_error_t>
     requires ready { IsReady pen.old }
-    requires not_negative { pos 0 ≤ℤ indent }
-    ensures { Wrote (step.lines_from folded (limit_of width) (natural indent) LineStart (chars value.now)) pen.old pen.new result }
+    requires not_negative { pos 0 ≤ℤ lines.indent }
+    ensures { Wrote (step.lines_from lines.folded (limit_of lines.width) (natural lines.indent) LineStart (chars value.now)) pen.old pen.new result }
 {
     let mut place = Place::LineStart;
     let mut characters = value.chars();
     while let Some(character) = characters.next() {
         let rest = characters.as_str();
-        write_step(pen, place, character, rest, indent, width)?;
-        place = place_after(folded, place, character);
-        let run = run_after(character, rest, place, width);
+        write_step(pen, lines, place, character, rest)?;
+        place = place_after(lines.folded, place, character);
+        let run = run_after(character, rest, place, lines);
         let (front, after) = rest.split_at(run.length);
         pen.write_run(front)?;
         characters = after.chars();
@@ -58,42 +67,40 @@ pub(crate) fn write_lines<A: Allocator>(
 
 fn write_step<A: Allocator>(
     pen: &mut Pen<A>,
+    lines: BlockLines,
     place: Place,
     character: char,
     rest: &str,
-    indent: i32,
-    width: i32,
 ) -> Result<(), yaml_error_t>
     requires ready { IsReady pen.old }
-    requires not_negative { pos 0 ≤ℤ indent }
-    ensures { Wrote (step.step_laid (limit_of width) (natural indent) place character (chars rest.now)) pen.old pen.new result }
+    requires not_negative { pos 0 ≤ℤ lines.indent }
+    ensures { Wrote (step.step_laid (limit_of lines.width) (natural lines.indent) place character (chars rest.now)) pen.old pen.new result }
 {
     if is_break(character) {
         write_end(pen, is_doubled(place, character, rest), character)
     } else {
-        write_inner(pen, place, character, rest, indent, width)
+        write_inner(pen, lines, place, character, rest)
     }
 }
 
 /// A character of a line.
 fn write_inner<A: Allocator>(
     pen: &mut Pen<A>,
+    lines: BlockLines,
     place: Place,
     character: char,
     rest: &str,
-    indent: i32,
-    width: i32,
 ) -> Result<(), yaml_error_t>
     requires ready { IsReady pen.old }
-    requires not_negative { pos 0 ≤ℤ indent }
+    requires not_negative { pos 0 ≤ℤ lines.indent }
     requires no_break { class.is_break character ≡ false }
-    ensures { Wrote (step.inner_laid (limit_of width) (natural indent) place character (chars rest.now)) pen.old pen.new result }
+    ensures { Wrote (step.inner_laid (limit_of lines.width) (natural lines.indent) place character (chars rest.now)) pen.old pen.new result }
 {
     match place {
-        Place::LineStart => write_first(pen, character, indent),
+        Place::LineStart => write_first(pen, character, lines.indent),
         Place::Folding => {
-            let fold = folds(pen, width, character, rest);
-            write_folding(pen, fold, character, indent)
+            let fold = folds(pen, lines.width, character, rest);
+            write_folding(pen, fold, character, lines.indent)
         }
         Place::Fixed => write_content(pen, character),
     }
@@ -176,16 +183,16 @@ fn entered(folded: bool, first: char) -> Place
 
 /// The run that follows a character, seen from where it stands: none where a line begins; a space ends it
 /// where it may become a fold.
-fn run_after(character: char, rest: &str, place: Place, width: i32) -> Run
-    ensures { IsRun (step.stays_at (limit_of width) place) character rest.now result.length result.last }
+fn run_after(character: char, rest: &str, place: Place, lines: BlockLines) -> Run
+    ensures { IsRun (step.stays_at (limit_of lines.width) place) character rest.now result.length result.last }
 {
     match place {
         Place::LineStart => Run {
             length: 0,
             last: character,
         },
-        Place::Folding => run_within(character, rest, has_limit(true, width)),
-        Place::Fixed => run_within(character, rest, false),
+        Place::Folding => run_within(character, rest, has_limit(BREAKS_ALLOWED, lines.width)),
+        Place::Fixed => run_within(character, rest, NO_FOLDS),
     }
 }
 

@@ -22,10 +22,13 @@ use crate::escapes::{Escape, escape_of, needs_escape};
 use crate::gathered::{GatheredBytes, gather};
 use crate::runs::{Run, run_up_to};
 use crate::short_runs::{is_short_run, write_short_run};
-use crate::steps::{has_limit, may_fold_here};
+use crate::steps::{ENDS_INDENTION, LEAVES_NO_SPACE, SPACED, TIGHT, has_limit, may_fold_here};
 use std::alloc::Allocator;
 use yaml_base::{is_space, yaml_error_t};
 use yaml_pen::Pen;
+
+/// Characters past ASCII don't stand as themselves.
+const ASCII_ALONE: bool = false;
 
 /// How a double-quoted scalar is laid out.
 #[derive(Clone, Copy)]
@@ -82,9 +85,9 @@ fn write_quoted<A: Allocator>(
     ensures { Wrote (spec.double_quoted_laid quoting.unicode (limit_where quoting.allow_breaks quoting.width) (natural quoting.indent) (chars value.now))
         pen.old pen.new result }
 {
-    pen.put_indicator(b'"', true, false, false)?;
+    pen.put_indicator(b'"', SPACED, LEAVES_NO_SPACE, ENDS_INDENTION)?;
     write_value(pen, value, quoting)?;
-    pen.put_indicator(b'"', false, false, false)
+    pen.put_indicator(b'"', TIGHT, LEAVES_NO_SPACE, ENDS_INDENTION)
 }
 
 /// A character as its escape.
@@ -131,10 +134,7 @@ fn write_character<A: Allocator>(
 fn may_fold(before: Option<char>, rest: &str) -> bool
     ensures { result ≡ spec.may_fold before (chars rest.now) }
 {
-    match rest.chars().next() {
-        Some(_) => is_other(before),
-        None => false,
-    }
+    rest.chars().next().is_some() && is_other(before)
 }
 
 /// A character that is no space.
@@ -251,7 +251,7 @@ fn is_short(value: &str, quoting: Quoting) -> bool
     ensures { result ≡ true → IsShortRun (stays quoting.unicode (limit_where quoting.allow_breaks quoting.width)) value.now }
 {
     let folds = has_folds(quoting);
-    is_short_run(value, ending_classes(false, folds))
+    is_short_run(value, ending_classes(ASCII_ALONE, folds))
 }
 
 /// What stands between the quotes.

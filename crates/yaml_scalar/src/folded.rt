@@ -11,8 +11,8 @@ ghost use Rattle.yaml_scalar.specs.BlockCode.{without_mark};
 ghost use Rattle.yaml_scalar.specs.ReadsBack.{ReadsBack};
 ghost use Rattle.yaml_scalar.specs.Width.{limit_of};
 
-use crate::block_header::{open_mark, write_header};
-use crate::block_lines::write_lines;
+use crate::block_header::{FOLDED, open_mark, write_header};
+use crate::block_lines::{BlockLines, write_lines};
 use std::alloc::Allocator;
 use yaml_base::yaml_error_t;
 use yaml_pen::Pen;
@@ -22,8 +22,9 @@ use yaml_pen::Pen;
 /// column counted in characters, in place of the last space of a run; `i32::MAX` is no width. `best_indent`
 /// is what the header's digit says. Answers the open mark: 2 where the header keeps all final breaks, else 0.
 ///
-/// Answers `WriteError` where the output's limit is passed, `Memory` where the output finds no room, and
-/// the pen's error where it failed before.
+/// # Errors
+/// `WriteError` where the output passes its limit, `Memory` where a growth was refused, else the pen's first
+/// error.
 pub fn write_folded_scalar<A: Allocator>(
     pen: &mut Pen<A>,
     value: &str,
@@ -60,6 +61,14 @@ fn write_folded<A: Allocator>(
     requires within { best_indent ≤ℤ indent }
     ensures { Wrote (folded_laid (limit_of width) (natural indent) (natural best_indent) (chars value.now)) pen.old pen.new result }
 {
-    write_header(pen, value, best_indent, true)?;
-    write_lines(pen, value, indent, true, width)
+    write_header(pen, value, best_indent, FOLDED)?;
+    write_lines(
+        pen,
+        value,
+        BlockLines {
+            folded: FOLDED,
+            indent,
+            width,
+        },
+    )
 }

@@ -10,8 +10,8 @@ ghost use Rattle.yaml_pen.specs.Wrote.{Wrote};
 ghost use Rattle.yaml_scalar.specs.BlockCode.{without_mark};
 ghost use Rattle.yaml_scalar.specs.ReadsBack.{ReadsBack};
 
-use crate::block_header::{open_mark, write_header};
-use crate::block_lines::write_lines;
+use crate::block_header::{LITERAL, open_mark, write_header};
+use crate::block_lines::{BlockLines, write_lines};
 use std::alloc::Allocator;
 use yaml_base::yaml_error_t;
 use yaml_pen::Pen;
@@ -20,8 +20,9 @@ use yaml_pen::Pen;
 /// each nonempty line after `indent` spaces. `best_indent` is what the header's digit says. Answers the open
 /// mark: 2 where the header keeps all final breaks, else 0.
 ///
-/// Answers `WriteError` where the output's limit is passed, `Memory` where the output finds no room, and
-/// the pen's error where it failed before.
+/// # Errors
+/// `WriteError` where the output passes its limit, `Memory` where a growth was refused, else the pen's first
+/// error.
 pub fn write_literal_scalar<A: Allocator>(
     pen: &mut Pen<A>,
     value: &str,
@@ -56,6 +57,14 @@ fn write_literal<A: Allocator>(
     requires within { best_indent ≤ℤ indent }
     ensures { Wrote (literal_laid (natural indent) (natural best_indent) (chars value.now)) pen.old pen.new result }
 {
-    write_header(pen, value, best_indent, false)?;
-    write_lines(pen, value, indent, false, i32::MAX)
+    write_header(pen, value, best_indent, LITERAL)?;
+    write_lines(
+        pen,
+        value,
+        BlockLines {
+            folded: LITERAL,
+            indent,
+            width: i32::MAX,
+        },
+    )
 }

@@ -19,8 +19,9 @@ use yaml_pen::Pen;
 /// needs one only in a flow collection. Where breaks are allowed a lone space past the width, a column
 /// counted in characters, becomes a break and the indentation; `i32::MAX` is no width.
 ///
-/// Answers `WriteError` where the output's limit is passed, `Memory` where the output finds no room, and
-/// the pen's error where it failed before.
+/// # Errors
+/// `WriteError` where the output passes its limit, `Memory` where a growth was refused, else the pen's first
+/// error.
 #[inline(always)]
 pub fn write_plain_scalar<A: Allocator>(
     pen: &mut Pen<A>,
@@ -65,7 +66,7 @@ fn write_laid<A: Allocator>(
 }
 
 // The empty value needs none in a block collection or as a root.
-pub(crate) fn needs_space(flow: bool, value: &str) -> bool
+fn needs_space(flow: bool, value: &str) -> bool
     ensures { result ≡ flow || not (is_empty (chars value.now)) }
 {
     flow || !is_at_end(value)

@@ -11,6 +11,7 @@ ghost use Rattle.yaml_scalar.specs.ReadsBack.{ReadsBack};
 ghost use Rattle.yaml_scalar.specs.Width.{limit_where};
 
 use crate::lines::{Lines, write_lines};
+use crate::steps::{ENDS_INDENTION, LEAVES_NO_SPACE, SPACED, TIGHT};
 use std::alloc::Allocator;
 use yaml_base::yaml_error_t;
 use yaml_pen::Pen;
@@ -20,8 +21,9 @@ use yaml_pen::Pen;
 /// Where breaks are allowed a lone space past the width, a column counted in characters, becomes a break
 /// and the indentation, unless it is the value's first or last character; `i32::MAX` is no width.
 ///
-/// Answers `WriteError` where the output's limit is passed, `Memory` where the output finds no room, and
-/// the pen's error where it failed before.
+/// # Errors
+/// `WriteError` where the output passes its limit, `Memory` where a growth was refused, else the pen's first
+/// error.
 pub fn write_single_quoted_scalar<A: Allocator>(
     pen: &mut Pen<A>,
     value: &str,
@@ -52,14 +54,14 @@ fn write_laid<A: Allocator>(pen: &mut Pen<A>, value: &str, lines: Lines) -> Resu
     requires quoted { lines.quoted ≡ true }
     ensures { Wrote (single_quoted_laid (limit_where lines.allow_breaks lines.width) lines.indent (chars value.now)) pen.old pen.new result }
 {
-    write_quote(pen, true)?;
+    write_quote(pen, SPACED)?;
     write_lines(pen, value, lines)?;
-    write_quote(pen, false)
+    write_quote(pen, TIGHT)
 }
 
 fn write_quote<A: Allocator>(pen: &mut Pen<A>, need_whitespace: bool) -> Result<(), yaml_error_t>
     requires { IsReady pen.old }
     ensures { Wrote (indicator (codes "'") need_whitespace false false) pen.old pen.new result }
 {
-    pen.put_indicator(b'\'', need_whitespace, false, false)
+    pen.put_indicator(b'\'', need_whitespace, LEAVES_NO_SPACE, ENDS_INDENTION)
 }

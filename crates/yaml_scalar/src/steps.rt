@@ -8,6 +8,17 @@ use crate::width;
 use std::alloc::Allocator;
 use yaml_pen::Pen;
 
+/// A space comes before an indicator, or before plain text, where none stands there.
+pub(crate) const SPACED: bool = true;
+/// It follows at once.
+pub(crate) const TIGHT: bool = false;
+/// No white space stands behind an indicator.
+pub(crate) const LEAVES_NO_SPACE: bool = false;
+/// No indentation goes on behind it.
+pub(crate) const ENDS_INDENTION: bool = false;
+/// Folds may stand.
+pub(crate) const BREAKS_ALLOWED: bool = true;
+
 /// The column is past the width, and folds are allowed.
 pub(crate) fn may_fold_here<A: Allocator>(pen: &Pen<A>, allow_breaks: bool, width: i32) -> bool
     ensures { result ≡ is_past_width (limit_where allow_breaks width) pen.now.cursor }

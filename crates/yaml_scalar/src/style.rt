@@ -11,6 +11,13 @@ use yaml_base::{
     yaml_error_t, yaml_scalar_style_t,
 };
 
+/// Where a scalar stands.
+#[derive(Clone, Copy)]
+struct Context {
+    flow: bool,
+    simple_key: bool,
+}
+
 /// Chooses a scalar's style, and whether the bare tag `!` stands before it.
 ///
 /// `allowed` is the analysis of the value and `empty` says that the value is; `tag_written` says that a tag
@@ -42,14 +49,8 @@ pub fn select_scalar_style(
     if lacks_tag_and_flags(tag_written, plain_implicit, quoted_implicit) {
         return Err(yaml_error_t::NoTagNorImplicit);
     }
-    let plain_fits = fits_plain(
-        allowed,
-        empty,
-        tag_written,
-        plain_implicit,
-        flow,
-        simple_key,
-    );
+    let context = Context { flow, simple_key };
+    let plain_fits = fits_plain(allowed, empty, tag_written, plain_implicit, context);
     let block_fits = allowed.block_allowed && !flow && !simple_key;
     let must_be_double = canonical || (simple_key && allowed.multiline);
     let asked = style_asked(must_be_double, style);
@@ -70,17 +71,16 @@ fn fits_plain(
     empty: bool,
     tag_written: bool,
     plain_implicit: bool,
-    flow: bool,
-    simple_key: bool,
+    context: Context,
 ) -> bool
-    ensures { result ≡ spec.fits_plain (seen_data allowed.now) empty tag_written plain_implicit flow simple_key }
+    ensures { result ≡ spec.fits_plain (seen_data allowed.now) empty tag_written plain_implicit context.flow context.simple_key }
 {
-    let fits = if flow {
+    let fits = if context.flow {
         allowed.flow_plain_allowed
     } else {
         allowed.block_plain_allowed
     };
-    fits && !(empty && (flow || simple_key)) && (tag_written || plain_implicit)
+    fits && !(empty && (context.flow || context.simple_key)) && (tag_written || plain_implicit)
 }
 
 /// What is asked for.

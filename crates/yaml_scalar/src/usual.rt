@@ -1,6 +1,6 @@
 //! Usual scalars: short texts of one line that every style may hold, of which no character needs a look at what
 //! follows it.
-ghost use Rattle.std.specs.Prelude.{◌≡◌, pos, ◌≤ℤ◌, true, false};
+ghost use Rattle.std.specs.Prelude.{◌≡◌, pos, ◌≤ℤ◌, Bool, true, false};
 ghost use Rattle.std.specs.Str.{chars};
 ghost use Rattle.yaml_base.specs.Plain.{plain_body, plain_laid, runs, runs_laid};
 ghost use Rattle.yaml_pen.specs.Page.{IsReady, natural};
@@ -11,8 +11,8 @@ ghost use Rattle.yaml_scalar.specs.Width.{limit_where};
 
 use crate::classes::{BREAK, SIGN, UNPRINTABLE, WIDE};
 use crate::lines::{Lines, line_room, write_runs};
-use crate::plain::needs_space;
 use crate::short_runs::{is_short_run, write_short_run};
+use crate::steps::SPACED;
 use std::alloc::Allocator;
 use yaml_base::yaml_error_t;
 use yaml_pen::Pen;
@@ -48,27 +48,27 @@ fn is_ordinary_byte(byte: u8) -> bool
     matches!(byte, b'a'..=b'z' | b'A'..=b'Z' | b'0'..=b'9')
 }
 
-/// Writes a usual text as a plain scalar: as `write_plain_scalar` does, without looking at its characters again.
+/// Writes a usual text as a plain scalar: as `write_plain_scalar` does, in flow or not, without looking at its
+/// characters again.
 ///
-/// Answers `WriteError` where the output's limit is passed, `Memory` where the output finds no room, and
-/// the pen's error where it failed before.
+/// # Errors
+/// `WriteError` where the output passes its limit, `Memory` where a growth was refused, else the pen's first
+/// error.
 pub fn write_usual_scalar<A: Allocator>(
     pen: &mut Pen<A>,
     value: &str,
     allow_breaks: bool,
-    flow: bool,
     indent: i32,
     width: i32,
 ) -> Result<(), yaml_error_t>
     requires ready { IsReady pen.old }
     requires usual { IsUsual value.now }
     requires indented { pos 2 ≤ℤ indent }
-    ensures { Wrote (plain_laid flow (limit_where allow_breaks width) (natural indent) (chars value.now)) pen.old pen.new result }
+    ensures { (flow : Bool) → Wrote (plain_laid flow (limit_where allow_breaks width) (natural indent) (chars value.now)) pen.old pen.new result }
 {
     write_laid(
         pen,
         value,
-        flow,
         Lines {
             quoted: false,
             allow_breaks,
@@ -78,18 +78,13 @@ pub fn write_usual_scalar<A: Allocator>(
     )
 }
 
-fn write_laid<A: Allocator>(
-    pen: &mut Pen<A>,
-    value: &str,
-    flow: bool,
-    lines: Lines,
-) -> Result<(), yaml_error_t>
+fn write_laid<A: Allocator>(pen: &mut Pen<A>, value: &str, lines: Lines) -> Result<(), yaml_error_t>
     requires ready { IsReady pen.old }
     requires usual { IsUsual value.now }
     requires plain { lines.quoted ≡ false }
-    ensures { Wrote (plain_laid flow (limit_where lines.allow_breaks lines.width) lines.indent (chars value.now)) pen.old pen.new result }
+    ensures { (flow : Bool) → Wrote (plain_laid flow (limit_where lines.allow_breaks lines.width) lines.indent (chars value.now)) pen.old pen.new result }
 {
-    pen.separate(needs_space(flow, value))?;
+    pen.separate(SPACED)?;
     write_body(pen, value, lines)
 }
 

@@ -12,6 +12,9 @@ use std::alloc::Global;
 use std::fmt::Display;
 use yaml_writer::Settings;
 
+/// The tag of bytes, which stand as base64.
+const BINARY_TAG: &str = "tag:yaml.org,2002:binary";
+
 /// What the next call is about.
 #[derive(Clone, Copy, PartialEq, Eq)]
 enum Next {
@@ -173,7 +176,7 @@ impl<G: Given> Serializer for ValueSerializer<G> {
         }
         self.ready()?;
         let text = STANDARD.encode(self.alloc, v)?;
-        self.document.tagged("tag:yaml.org,2002:binary")?;
+        self.document.tagged(BINARY_TAG)?;
         Ok(self.document.text(text.as_str())?)
     }
 

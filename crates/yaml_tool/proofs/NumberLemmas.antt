@@ -1,13 +1,10 @@
 -- A number is read digit by digit, and no further than its greatest value.
-use Rattle.std.proofs.Common.{◌≡◌, ℕ, length, ◌+◌, ◌*◌, ◌<◌, ◌≤◌, Bool, true, false, ◌&&◌, nat_le, nat_lt, Option, None, Some, List, [], ◌∷◌, refl, sym, subst, arith, if◌then◌else◌}
+use Rattle.std.proofs.Common.{◌≡◌, ℕ, ◌+◌, ◌*◌, ◌<◌, ◌≤◌, Bool, true, false, ◌&&◌, nat_le, nat_lt, Option, None, Some, List, [], ◌∷◌, refl, sym, subst, arith, if◌then◌else◌}
 use Rattle.std.proofs.Math.Nat.{mul-le-mul_left}
 use Rattle.std.proofs.lemmas.Bool.Decides.{nat_tests}
 use Rattle.std.specs.List.{list_all}
 use Rattle.std.specs.Char.{is_digit, digit_value}
-use Rattle.std.specs.Str.{all_scalars}
 use Rattle.std.specs.Str.Parse.{digits_value_after}
-use Rattle.yaml_base.specs.Script as notation
-use Rattle.yaml_base.specs.Script.{stands_for, fails}
 use Rattle.yaml_tool.specs.Numbers.{number_after}
 
 lt_true : (a b : ℕ) → a < b → nat_lt a b ≡ true
@@ -15,9 +12,6 @@ lt_true a b h = grind (arith, nat_tests)
 
 lt_false : (a b : ℕ) → b ≤ a → nat_lt a b ≡ false
 lt_false a b h = grind (arith, nat_tests)
-
-le_true : (a b : ℕ) → a ≤ b → nat_le a b ≡ true
-le_true a b h = grind (arith, nat_tests)
 
 le_false : (a b : ℕ) → b < a → nat_le a b ≡ false
 le_false a b h = grind (arith, nat_tests)
@@ -67,37 +61,3 @@ digit_first radix most number base d c text rest is_base begins is small =
 
 pub no_digit_first : (radix most number c : ℕ) (text rest : List ℕ) → text ≡ c ∷ rest → radix ≤ digit_value c → number_after radix most number text ≡ None
 no_digit_first radix most number c text rest begins is_not = rw begins (no_digit radix most number c rest is_not)
-
--- a word that isn't empty is a number where its digits come to one
-number_of_more : (most c : ℕ) (rest : List ℕ) → notation.number_up_to most (c ∷ rest) ≡ number_after 10 most 0 (c ∷ rest)
-number_of_more most c rest =
-    let whole = digits_value_after 10 0 (c ∷ rest) in
-    taken (nat_le 1 (length (c ∷ rest))) (list_all (λ digit. is_digit digit 10) (c ∷ rest)) (nat_le whole most) (Some whole)
-    (le_true 1 (length (c ∷ rest)) (omega arith))
-
-pub number_of_some : (most c : ℕ) (word rest : List ℕ) → word ≡ c ∷ rest → notation.number_up_to most word ≡ number_after 10 most 0 word
-number_of_some most c word rest is = subst (λ (text : List ℕ). notation.number_up_to most text ≡ number_after 10 most 0 text) (sym is)
-    (number_of_more most c rest)
-
--- the character that a number is, or that there is none
-abbrev pub character_turn : Option ℕ → notation.Turn
-character_turn None = fails
-character_turn (Some number) = if all_scalars (number ∷ []) then stands_for number else fails
-
-no_scalar : (number : ℕ) → 1114111 < number → all_scalars (number ∷ []) ≡ false
-no_scalar number above = grind (arith, nat_tests)
-
-joined : (between digits within : Bool) (number : ℕ) → between ≡ true → (within ≡ false → all_scalars (number ∷ []) ≡ false)
-    → (if (between && digits) && all_scalars (number ∷ []) then stands_for number else fails) ≡ character_turn (if digits && within then Some number else None)
-joined true false within number is past = refl
-joined true true true number is past = refl
-joined true true false number is past = subst (λ (b : Bool). (if (true && true) && b then stands_for number else fails) ≡ fails) (sym (past refl)) refl
-joined false digits within number is past = cc
-
--- one to six hexadecimal digits are the character that they number
-pub character_of_digits : (digits : List ℕ) → 1 ≤ length digits → length digits ≤ 6
-    → notation.numbered_turn digits ≡ character_turn (number_after 16 1114111 0 digits)
-character_of_digits digits some few =
-    let number = digits_value_after 16 0 digits in
-    joined (nat_le 1 (length digits) && nat_le (length digits) 6) (list_all (λ digit. is_digit digit 16) digits) (nat_le number 1114111) number
-    (grind (arith, nat_tests)) (λ past. no_scalar number (grind (arith, nat_tests, past)))

@@ -4,16 +4,16 @@ use Rattle.std.specs.List.{onto_first}
 use Rattle.std.specs.Str.{chars, IsUtf8}
 use Rattle.yaml_base.specs.Characters.{Text, space}
 use Rattle.yaml_base.specs.Script as notation
-use Rattle.yaml_base.specs.Script.{bare, quoted, outside, inside, escaped, cut_from, quotation_mark}
+use Rattle.yaml_base.specs.Script.{bare, quoted, outside, inside, escaped, pieces_from, quotation_mark}
 use Rattle.yaml_tool.specs.Cuts.{EndsIn, front_of}
-use Rattle.yaml_tool.specs.declared.fields.Standing.{Standing}
-use Rattle.yaml_tool.specs.declared.fields.Standing.TheVariants.{Outside, Inside, Escaped}
+use Rattle.yaml_tool.specs.declared.fields.FieldState.{FieldState}
+use Rattle.yaml_tool.specs.declared.fields.FieldState.TheVariants.{Outside, Inside, Escaped}
 
 -- where a character of a line stands
-abbrev pub seen_standing : Standing → notation.Standing
-seen_standing Outside = outside
-seen_standing Inside = inside
-seen_standing Escaped = escaped
+abbrev pub seen_field_state : FieldState → notation.FieldState
+seen_field_state Outside = outside
+seen_field_state Inside = inside
+seen_field_state Escaped = escaped
 
 -- characters before the first piece
 abbrev pub attached : Text → List Text → List Text
@@ -21,17 +21,17 @@ attached [] pieces = pieces
 attached (c ∷ prefix) pieces = onto_first c (attached prefix pieces)
 
 -- the text ends in a text before which no character separates or changes where the next one stands
-pub record RunsTo (standing : notation.Standing) (text end : List ℕ) : Type 0 where
+pub record RunsTo (standing : notation.FieldState) (text end : List ℕ) : Type 0 where
   pub ends : EndsIn text end
   pub is_end : IsUtf8 end
-  pub run : cut_from standing (chars text) ≡ attached (chars (front_of text end)) (cut_from standing (chars end))
+  pub run : pieces_from standing (chars text) ≡ attached (chars (front_of text end)) (pieces_from standing (chars end))
 
 -- ---- the rest of a line
 
 -- the pieces after a piece: none, or those after the separator
 abbrev pub pieces_after : Text → List Text
 pieces_after [] = []
-pieces_after (c ∷ rest) = cut_from outside rest
+pieces_after (c ∷ rest) = pieces_from outside rest
 
 -- the fields after a field: none, or those after the separator
 abbrev pub fields_after : Text → Option (List notation.Field)

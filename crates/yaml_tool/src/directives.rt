@@ -1,25 +1,17 @@
 //! The versions and directives of a script's document starts.
-ghost use Rattle.std.specs.Prelude.{◌≡◌, ◌∷◌, [], map, option_map, option_and_then, pos, IfOk, MatchOption};
+ghost use Rattle.std.specs.Prelude.{◌≡◌, ◌∷◌, [], map, option_map, option_and_then, IfOk, MatchOption};
 ghost use Rattle.std.specs.Str.{chars};
 ghost use Rattle.yaml_base.specs.Script as notation;
 ghost use Rattle.yaml_base.specs.Seen.{seen_version, seen_directive};
 ghost use Rattle.yaml_tool.specs.Cuts.{cut_at};
 ghost use Rattle.yaml_tool.specs.Fields.{fields_after};
-ghost use Rattle.yaml_base.specs.Settings.{largest_i32};
 
 use crate::characters::cut_once;
 use crate::fields::{is_end, text_after};
-use crate::numbers::number_up_to;
+use crate::numbers::natural_number;
 use crate::words::is_word;
 use std::alloc::{AllocError, Allocator};
 use yaml_base::{yaml_tag_directive_t, yaml_version_directive_t};
-
-/// A number of a version.
-fn version_number(word: &str) -> Option<i32>
-    ensures { result ≡ option_map pos (notation.number_up_to largest_i32 (chars word.now)) }
-{
-    number_up_to(2_147_483_647, word).map(|number| number as i32)
-}
 
 /// The texts before and after the only point; none where there is another number of points.
 fn two_parts(word: &str) -> Option<(&str, &str)>
@@ -41,8 +33,8 @@ fn version_of(word: &str) -> Option<yaml_version_directive_t>
 {
     let (major, minor) = two_parts(word)?;
     Some(yaml_version_directive_t {
-        major: version_number(major)?,
-        minor: version_number(minor)?,
+        major: natural_number(major)?,
+        minor: natural_number(minor)?,
     })
 }
 
@@ -53,7 +45,7 @@ pub fn version_or_none(word: &str) -> Option<Option<yaml_version_directive_t>>
     if is_word(word, "-") {
         Some(None)
     } else {
-        version_of(word).map(|version| Some(version))
+        version_of(word).map(Some)
     }
 }
 

@@ -86,28 +86,32 @@ fn alias_of<A: Allocator>(alloc: A, rest: &str) -> Result<Option<yaml_event_t<A>
     }
 }
 
-/// A scalar, where its style and its flags have a reading.
-// A call hands its event over in memory, and most lines give scalars.
-#[inline(always)]
-fn scalar_with<A: Allocator>(
+/// What a scalar's fields say; its style and its flags may have no reading.
+#[derive(Drop)]
+struct ScalarFields<A: Allocator> {
     style: Option<yaml_scalar_style_t>,
     plain_implicit: Option<bool>,
     quoted_implicit: Option<bool>,
     anchor: Option<String<A>>,
     tag: Option<String<A>>,
     value: String<A>,
-) -> Option<yaml_event_t<A>>
+}
+
+/// A scalar, where its style and its flags have a reading.
+// A call hands its event over in memory, and most lines give scalars.
+#[inline(always)]
+fn scalar_with<A: Allocator>(fields: ScalarFields<A>) -> Option<yaml_event_t<A>>
     ensures { option_map seen_event result
-        ≡ notation.scalar_with (option_map seen_scalar_style style) plain_implicit quoted_implicit (Some (option_map seen_text anchor))
-        (Some (option_map seen_text tag)) (seen_text value) }
+        ≡ notation.scalar_with (option_map seen_scalar_style fields.style) fields.plain_implicit fields.quoted_implicit
+        (Some (option_map seen_text fields.anchor)) (Some (option_map seen_text fields.tag)) (seen_text fields.value) }
 {
     Some(yaml_event_t::YAML_SCALAR_EVENT {
-        style: style?,
-        plain_implicit: plain_implicit?,
-        quoted_implicit: quoted_implicit?,
-        anchor,
-        tag,
-        value,
+        style: fields.style?,
+        plain_implicit: fields.plain_implicit?,
+        quoted_implicit: fields.quoted_implicit?,
+        anchor: fields.anchor,
+        tag: fields.tag,
+        value: fields.value,
     })
 }
 
@@ -138,7 +142,14 @@ fn styled_scalar<A: Allocator>(
         (option_and_then the_text (text_begun (chars behind.now)))) }
 {
     match whole_text(alloc, behind)? {
-        Some(value) => Ok(scalar_with(style, Some(true), Some(true), None, None, value)),
+        Some(value) => Ok(scalar_with(ScalarFields {
+            style,
+            plain_implicit: Some(true),
+            quoted_implicit: Some(true),
+            anchor: None,
+            tag: None,
+            value,
+        })),
         None => Ok(None),
     }
 }
@@ -172,14 +183,14 @@ fn scalar_of<A: Allocator + Copy>(
     let Some(value) = last_text(alloc, rest)? else {
         return Ok(None);
     };
-    Ok(scalar_with(
-        scalar_style_named(style),
-        flag_named(plain_implicit),
-        flag_named(quoted_implicit),
+    Ok(scalar_with(ScalarFields {
+        style: scalar_style_named(style),
+        plain_implicit: flag_named(plain_implicit),
+        quoted_implicit: flag_named(quoted_implicit),
         anchor,
         tag,
         value,
-    ))
+    }))
 }
 
 /// The fields of a collection's start; its words are not yet understood.

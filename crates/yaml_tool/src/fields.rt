@@ -3,7 +3,7 @@ ghost use Rattle.std.specs.Prelude.{◌≡◌, ◌<◌, ◌≤◌, true, false, 
 ghost use Rattle.std.specs.Str.{chars, IsUtf8};
 ghost use Rattle.yaml_base.specs.Script as notation;
 ghost use Rattle.yaml_base.specs.Seen.{seen_text};
-ghost use Rattle.yaml_tool.specs.Fields.{seen_standing, RunsTo, pieces_after, fields_after, text_begun, led_by, no_text, field_of, the_word, the_text, HasField, HasNoField, HasNoWord, HasNoText, HasNoDash, HasNoChoice};
+ghost use Rattle.yaml_tool.specs.Fields.{seen_field_state, RunsTo, pieces_after, fields_after, text_begun, led_by, no_text, field_of, the_word, the_text, HasField, HasNoField, HasNoWord, HasNoText, HasNoDash, HasNoChoice};
 
 use crate::characters::{first_character, from_near_sign, from_sign, front_before};
 use crate::texts::text_behind;
@@ -12,7 +12,7 @@ use std::alloc::{AllocError, Allocator};
 
 /// Where a character of a line stands.
 #[derive(Clone, Copy)]
-enum Standing {
+enum FieldState {
     /// Outside texts.
     Outside,
     /// In a text.
@@ -21,43 +21,43 @@ enum Standing {
     Escaped,
 }
 
-impl Standing {
+impl FieldState {
     /// Whether a character that stands there separates two fields.
     fn separates(self, character: char) -> bool
-        ensures { result ≡ notation.separates (seen_standing self) character }
+        ensures { result ≡ notation.separates (seen_field_state self) character }
     {
-        matches!(self, Standing::Outside) && character == ' '
+        matches!(self, FieldState::Outside) && character == ' '
     }
 
     /// The text after the longest run that contains no separator and leaves the lexer state unchanged.
     fn past_run(self, text: &str) -> &str
-        ensures { RunsTo (seen_standing self) text.now result.now }
+        ensures { RunsTo (seen_field_state self) text.now result.now }
     {
         match self {
-            Standing::Outside => from_near_sign(b' ', b'"', text),
-            Standing::Inside => from_sign(b'"', b'\\', text),
-            Standing::Escaped => text,
+            FieldState::Outside => from_near_sign(b' ', b'"', text),
+            FieldState::Inside => from_sign(b'"', b'\\', text),
+            FieldState::Escaped => text,
         }
     }
 
     /// Where the next character stands.
-    fn after(self, character: char) -> Standing
-        ensures { seen_standing result ≡ notation.standing_after (seen_standing self) character }
+    fn after(self, character: char) -> FieldState
+        ensures { seen_field_state result ≡ notation.state_after (seen_field_state self) character }
     {
         match (self, character) {
-            (Standing::Outside, '"') => Standing::Inside,
-            (Standing::Outside, _) => Standing::Outside,
-            (Standing::Inside, '"') => Standing::Outside,
-            (Standing::Inside, '\\') => Standing::Escaped,
-            (Standing::Inside | Standing::Escaped, _) => Standing::Inside,
+            (FieldState::Outside, '"') => FieldState::Inside,
+            (FieldState::Outside, _) => FieldState::Outside,
+            (FieldState::Inside, '"') => FieldState::Outside,
+            (FieldState::Inside, '\\') => FieldState::Escaped,
+            (FieldState::Inside | FieldState::Escaped, _) => FieldState::Inside,
         }
     }
 }
 
 /// The first piece of a text that stands there, and what follows it: nothing, or a separator and other pieces.
 #[inline(always)]
-fn first_piece(start: Standing, text: &str) -> (&str, &str)
-    ensures cut { notation.cut_from (seen_standing start) (chars text.now) ≡ chars result.0.now ∷ pieces_after (chars result.1.now) }
+fn first_piece(start: FieldState, text: &str) -> (&str, &str)
+    ensures cut { notation.pieces_from (seen_field_state start) (chars text.now) ≡ chars result.0.now ∷ pieces_after (chars result.1.now) }
     ensures after { notation.each_field (pieces_after (chars result.1.now)) ≡ fields_after (chars result.1.now) }
     ensures within { length result.1.now ≤ length text.now }
     ensures utf8 { IsUtf8 result.1.now }
@@ -101,7 +101,7 @@ pub fn first_word(line: &str) -> Option<(&str, &str)>
     ensures { MatchOption result (HasNoWord (notation.fields_read (chars line.now)))
         (λ parts. notation.fields_read (chars line.now) ≡ led_by (notation.bare (chars parts.0.now)) (fields_after (chars parts.1.now))) }
 {
-    let (piece, rest) = first_piece(Standing::Outside, line);
+    let (piece, rest) = first_piece(FieldState::Outside, line);
     match first_character(piece) {
         Some(('"', _)) | None => None,
         Some(_) => Some((piece, rest)),
@@ -135,7 +135,7 @@ fn escaped_text<A: Allocator>(
     ensures within { IfOk result (λ text. IfSome text (λ parts. length parts.1.now ≤ length behind.now)) }
     ensures utf8 { IfOk result (λ text. IfSome text (λ parts. IsUtf8 parts.1.now)) }
 {
-    let (piece, rest) = first_piece(Standing::Inside, behind);
+    let (piece, rest) = first_piece(FieldState::Inside, behind);
     match text_behind(alloc, piece)? {
         Some(text) => Ok(Some((text, rest))),
         None => Ok(None),

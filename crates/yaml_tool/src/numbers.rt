@@ -1,7 +1,8 @@
 //! Decimal numbers of a script's lines. Leading zeros are accepted.
-ghost use Rattle.std.specs.Prelude.{◌≡◌, ◌≤◌, pos, neg_ℤ};
+ghost use Rattle.std.specs.Prelude.{◌≡◌, ◌≤◌, pos, neg_ℤ, option_map};
 ghost use Rattle.std.specs.Str.{chars};
 ghost use Rattle.yaml_base.specs.Script as notation;
+ghost use Rattle.yaml_base.specs.Settings.{largest_i32};
 ghost use Rattle.yaml_tool.specs.Numbers.{number_after};
 
 use crate::characters::first_character;
@@ -37,6 +38,16 @@ pub fn number_up_to(most: u32, word: &str) -> Option<u32>
     }
 }
 
+/// The greatest number of 32 bits with a sign.
+const GREATEST: u32 = 2_147_483_647;
+
+/// A number from 0 to the greatest of 32 bits with a sign.
+pub fn natural_number(word: &str) -> Option<i32>
+    ensures { result ≡ option_map pos (notation.number_up_to largest_i32 (chars word.now)) }
+{
+    number_up_to(GREATEST, word).map(|number| number as i32)
+}
+
 fn negative(number: u32) -> i32
     requires { number ≤ 2147483648 }
     ensures { result ≡ neg_ℤ (pos number) }
@@ -50,7 +61,7 @@ pub fn signed_number(word: &str) -> Option<i32>
 {
     match first_character(word) {
         None => None,
-        Some(('-', rest)) => number_up_to(2_147_483_648, rest).map(negative),
-        Some(_) => number_up_to(2_147_483_647, word).map(|number| number as i32),
+        Some(('-', rest)) => number_up_to(GREATEST + 1, rest).map(negative),
+        Some(_) => natural_number(word),
     }
 }

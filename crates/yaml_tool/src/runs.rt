@@ -107,9 +107,8 @@ fn set_indent<A: Allocator>(indent: Option<i32>, emitter: &mut yaml_emitter_t<A>
     ensures set { emitter.new ≡ record emitter.old { given = record emitter.old.given { indent = indent } } }
     ensures stands { StandsAfter emitter.old.given [] emitter.old → StandsAfter emitter.new.given [] emitter.new }
 {
-    match indent {
-        Some(indent) => yaml_emitter_set_indent(emitter, indent),
-        None => {}
+    if let Some(indent) = indent {
+        yaml_emitter_set_indent(emitter, indent);
     }
 }
 
@@ -120,9 +119,8 @@ fn set_width<A: Allocator>(width: Option<i32>, emitter: &mut yaml_emitter_t<A>)
     ensures set { emitter.new ≡ record emitter.old { given = record emitter.old.given { width = width } } }
     ensures stands { StandsAfter emitter.old.given [] emitter.old → StandsAfter emitter.new.given [] emitter.new }
 {
-    match width {
-        Some(width) => yaml_emitter_set_width(emitter, width),
-        None => {}
+    if let Some(width) = width {
+        yaml_emitter_set_width(emitter, width);
     }
 }
 

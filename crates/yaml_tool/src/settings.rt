@@ -68,23 +68,23 @@ pub fn setting_of(name: &str, value: &str) -> Option<Setting>
     ensures { option_map seen_setting result ≡ notation.setting_of (chars name.now) (chars value.now) }
 {
     if is_word(name, "limit") {
-        number_up_to(4_294_967_295, value).map(|bytes| Setting::Limit(bytes))
+        number_up_to(u32::MAX, value).map(Setting::Limit)
     } else if is_word(name, "encoding") {
-        encoding_named(value).map(|encoding| Setting::Encoding(encoding))
+        encoding_named(value).map(Setting::Encoding)
     } else if is_word(name, "canonical") {
-        switch_named(value).map(|on| Setting::Canonical(on))
+        switch_named(value).map(Setting::Canonical)
     } else if is_word(name, "unicode") {
-        switch_named(value).map(|on| Setting::Unicode(on))
+        switch_named(value).map(Setting::Unicode)
     } else if is_word(name, "indent") {
-        signed_number(value).map(|indent| Setting::Indent(indent))
+        signed_number(value).map(Setting::Indent)
     } else if is_word(name, "width") {
-        signed_number(value).map(|width| Setting::Width(width))
+        signed_number(value).map(Setting::Width)
     } else if is_word(name, "break") {
-        break_named(value).map(|line_break| Setting::LineBreak(line_break))
+        break_named(value).map(Setting::LineBreak)
     } else if is_word(name, "breaks12") {
-        switch_named(value).map(|on| Setting::Breaks12(on))
+        switch_named(value).map(Setting::Breaks12)
     } else if is_word(name, "portable") {
-        switch_named(value).map(|on| Setting::Portable(on))
+        switch_named(value).map(Setting::Portable)
     } else {
         None
     }

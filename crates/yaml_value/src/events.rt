@@ -10,6 +10,7 @@ ghost use Rattle.yaml_base.specs.TypedValues as typed;
 ghost use Rattle.yaml_base.specs.TypedValues.{Has64Bits, Have64Bits, PairsHave64Bits, tagged_node, value_node, value_pairs};
 ghost use Rattle.yaml_value.specs.SeenValues.{seen_value, seen_values, seen_pairs};
 
+use crate::tags::{YAML_BOOL_TAG, YAML_INT_TAG, YAML_NULL_TAG};
 use crate::value::Value;
 use std::alloc::{AllocError, Allocator};
 use yaml_base::{
@@ -19,6 +20,7 @@ use yaml_base::{
     YAML_SEQUENCE_START_EVENT, YAML_STREAM_END_EVENT, YAML_STREAM_START_EVENT, yaml_error_t,
     yaml_event_t,
 };
+use yaml_dump::{YAML_MAP_TAG, YAML_SEQ_TAG, YAML_STR_TAG};
 
 /// The events of a stream of one document that holds the value.
 pub(crate) fn events_of<A: Allocator + Copy>(
@@ -132,7 +134,7 @@ fn push_list_start<A: Allocator + Copy>(
 {
     events.push(YAML_SEQUENCE_START_EVENT {
         anchor: None,
-        tag: Some(String::from_str(alloc, "tag:yaml.org,2002:seq")?),
+        tag: Some(String::from_str(alloc, YAML_SEQ_TAG)?),
         implicit: false,
         style: YAML_ANY_SEQUENCE_STYLE,
     })?;
@@ -147,7 +149,7 @@ fn push_map_start<A: Allocator + Copy>(
 {
     events.push(YAML_MAPPING_START_EVENT {
         anchor: None,
-        tag: Some(String::from_str(alloc, "tag:yaml.org,2002:map")?),
+        tag: Some(String::from_str(alloc, YAML_MAP_TAG)?),
         implicit: false,
         style: YAML_ANY_MAPPING_STYLE,
     })?;
@@ -160,7 +162,7 @@ fn push_null<A: Allocator + Copy>(
 ) -> Result<(), AllocError>
     ensures { OnOk result (seen_events events.new.items ≡ seen_events events.old.items ++ node_events (value_node typed.null_value)) }
 {
-    push_scalar(alloc, events, "tag:yaml.org,2002:null", "null")
+    push_scalar(alloc, events, YAML_NULL_TAG, "null")
 }
 
 fn push_bool<A: Allocator + Copy>(
@@ -171,9 +173,9 @@ fn push_bool<A: Allocator + Copy>(
     ensures { OnOk result (seen_events events.new.items ≡ seen_events events.old.items ++ node_events (value_node (typed.bool_value value))) }
 {
     if value {
-        push_scalar(alloc, events, "tag:yaml.org,2002:bool", "true")
+        push_scalar(alloc, events, YAML_BOOL_TAG, "true")
     } else {
-        push_scalar(alloc, events, "tag:yaml.org,2002:bool", "false")
+        push_scalar(alloc, events, YAML_BOOL_TAG, "false")
     }
 }
 
@@ -186,7 +188,7 @@ fn push_integer<A: Allocator + Copy>(
     ensures bits { mag value < 2 ^ 63 }
 {
     let digits = format!(in alloc; "{value}")?;
-    push_scalar(alloc, events, "tag:yaml.org,2002:int", digits.as_str())
+    push_scalar(alloc, events, YAML_INT_TAG, digits.as_str())
 }
 
 fn push_text<A: Allocator + Copy>(
@@ -196,7 +198,7 @@ fn push_text<A: Allocator + Copy>(
 ) -> Result<(), AllocError>
     ensures { OnOk result (seen_events events.new.items ≡ seen_events events.old.items ++ node_events (value_node (typed.text_value (chars value.now)))) }
 {
-    push_scalar(alloc, events, "tag:yaml.org,2002:str", value)
+    push_scalar(alloc, events, YAML_STR_TAG, value)
 }
 
 /// A scalar with a tag, after others.

@@ -4,6 +4,7 @@
 mod events;
 mod laws;
 mod size;
+mod tags;
 mod value;
 mod writing;
 
@@ -32,14 +33,17 @@ pub use yaml_dump::YAML_FLOW_SEQUENCE_STYLE;
 pub use yaml_dump::YAML_FOLDED_SCALAR_STYLE;
 pub use yaml_dump::YAML_LITERAL_SCALAR_STYLE;
 pub use yaml_dump::YAML_LN_BREAK;
+pub use yaml_dump::YAML_MAP_TAG;
 pub use yaml_dump::YAML_MAPPING_END_EVENT;
 pub use yaml_dump::YAML_MAPPING_START_EVENT;
 pub use yaml_dump::YAML_MEMORY_ERROR;
 pub use yaml_dump::YAML_PLAIN_SCALAR_STYLE;
 pub use yaml_dump::YAML_SCALAR_EVENT;
+pub use yaml_dump::YAML_SEQ_TAG;
 pub use yaml_dump::YAML_SEQUENCE_END_EVENT;
 pub use yaml_dump::YAML_SEQUENCE_START_EVENT;
 pub use yaml_dump::YAML_SINGLE_QUOTED_SCALAR_STYLE;
+pub use yaml_dump::YAML_STR_TAG;
 pub use yaml_dump::YAML_STREAM_END_EVENT;
 pub use yaml_dump::YAML_STREAM_START_EVENT;
 pub use yaml_dump::YAML_UTF8_ENCODING;

@@ -98,7 +98,7 @@ failed_unfinished before after error stays ends is = record {
   first = λ earlier was. same_error error earlier (sym is ∙ stays earlier was);
   full = λ full given all stands.
       let ended = ends given all stands in
-      overflowed given (all ++ closing) after ended.0 ended.1 (is ∙ ap (λ (e : yaml_error_t). Some e) full);
+      overflowed given (all ++ closing) after ended.0.so (is ∙ ap (λ (e : yaml_error_t). Some e) full);
   refused = λ refusal given all stands.
       let ended = ends given all stands in
       record {

@@ -1,5 +1,5 @@
 -- The limit gives out only where the bytes of the events pass it.
-use Rattle.std.proofs.Common.{◌≡◌, refl, sym, ap, ◌∙◌, arith, subst, append_assoc, inl, inr}
+use Rattle.std.proofs.Common.{◌≡◌, refl, sym, ap, ◌∙◌, arith, subst, append_assoc}
 use Rattle.std.proofs.lemmas.List.{length-append, take-append-drop}
 use Rattle.std.specs.Prelude.{ℕ, ◌<◌, ◌≤◌, Bool, false, Option, Some, List, [], ◌∷◌, ◌++◌, length, take, drop}
 use Rattle.yaml_base.proofs.Completions.{front_begins}
@@ -23,12 +23,13 @@ use Rattle.yaml_base.specs.declared.errors.yaml_error_t.TheVariants.{WriteError,
 use Rattle.yaml_pen.proofs.Adding.{encode-append}
 use Rattle.yaml_pen.specs.Page.{Page, encoded}
 use Rattle.yaml_emitter.proofs.standing.Standing.{end_next}
-use Rattle.yaml_emitter.proofs.standing.StandingPromises.{stands_failed, steps_begin}
+use Rattle.yaml_emitter.proofs.standing.StandingFull.{promises_full}
+use Rattle.yaml_emitter.proofs.standing.StandingPromises.{promises_output, stands_failed, steps_begin}
 use Rattle.yaml_emitter.proofs.standing.StandingSteps.{closes_last-append}
 use Rattle.yaml_emitter.proofs.standing.StandingTexts.{begin_taken, front_longer, holds_text}
 use Rattle.yaml_emitter.specs.Processing.{closes_at_once}
-use Rattle.yaml_emitter.specs.Promises.{BeginsOutput, OutputBegins, Promised, StopsWriting, stops_before, stops_within}
-use Rattle.yaml_emitter.specs.StandsAfter.{HoldsPiecesWith, StandsAfter, StandsCut, StandsStopped, StandsUnflushed, holds_before, holds_part}
+use Rattle.yaml_emitter.specs.Promises.{BeginsOutput, OutputBegins, StopsWriting, stops_before, stops_within}
+use Rattle.yaml_emitter.specs.StandsAfter.{HoldsPiecesWith, StandsCut, StandsSo, StandsStopped, StandsUnflushed, holds_before, holds_part, at_event, between_events}
 use Rattle.yaml_emitter.specs.State.{State}
 use Rattle.yaml_emitter.specs.Uncut.{IsUncut}
 use Rattle.yaml_writer.specs.Unfinished.{PassesLimit}
@@ -51,8 +52,8 @@ cut_encoding given all state h =
 
 stopped_encoding : (given : Settings) (all : List Event) (state : State) → StandsStopped given all WriteError state → 0 < length (encoded state.page)
     → state.page.encoding ≡ Some (settings_for given all).encoding
-stopped_encoding given all state (inl cut) some = cut_encoding given all state cut
-stopped_encoding given all state (inr other) some =
+stopped_encoding given all state (at_event cut) some = cut_encoding given all state cut
+stopped_encoding given all state (between_events other) some =
     held_encoding (take (written other.before) other.before) (settings_for given all) _ (Some WriteError) state.page other.page some
 
 -- The text of a page is a prefix of the whole stream's
@@ -127,8 +128,8 @@ unflushed_text given all state h accepted =
 
 stopped_text : (given : Settings) (all : List Event) (state : State) → StandsStopped given all WriteError state → IsAccepted given.canonical all
     → IsPrefix state.page.text (text_written (settings_for given all) (list_layout (settings_for given all) all))
-stopped_text given all state (inl cut) accepted = cut_text given all state cut accepted
-stopped_text given all state (inr other) accepted = unflushed_text given all state other accepted
+stopped_text given all state (at_event cut) accepted = cut_text given all state cut accepted
+stopped_text given all state (between_events other) accepted = unflushed_text given all state other accepted
 
 -- Bytes
 
@@ -165,20 +166,19 @@ stopped_by given all state is passes whole (stops_within front event begun) =
     passed_by given all (front ++ event ∷ []) (length front) state is passes whole begun
 
 -- an emitter that answers the write error was given events whose bytes pass the limit
-pub overflowed : (given : Settings) (all : List Event) (state : State) → StandsAfter given all state → Promised given all state
-    → state.error ≡ Some WriteError → PassesLimit given all
-overflowed given all state stands promised is =
+pub overflowed : (given : Settings) (all : List Event) (state : State) → StandsSo given all state → state.error ≡ Some WriteError → PassesLimit given all
+overflowed given all state stands is =
     stopped_by given all state encoding passes
     (λ accepted uncut.
     let more = more_bytes (settings_for given all) state.page (list_layout (settings_for given all) all) encoding (stopped_text given all state stopped accepted) in
     omega (arith, passes, uncut, more))
-    (subst (λ (error : Option yaml_error_t). OutputBegins given all error state) is promised.output)
+    (subst (λ (error : Option yaml_error_t). OutputBegins given all error state) is (promises_output given all state stands))
   where
     stopped : StandsStopped given all WriteError state
-    stopped = stands_failed given all state WriteError stands.so is
+    stopped = stands_failed given all state WriteError stands is
 
     passes : given.limit < length (encoded state.page)
-    passes = (promised.full is).passed
+    passes = (promises_full given all state stands is).passed
 
     encoding : state.page.encoding ≡ Some (settings_for given all).encoding
     encoding = stopped_encoding given all state stopped (omega (arith, passes))

@@ -14,10 +14,6 @@ use Rattle.yaml_emitter.specs.State.{KeepsSet, State, with_all_taken}
 use Rattle.yaml_emitter.specs.StandsAfter.{StandsAfter}
 use Rattle.yaml_writer.specs.Writing.{Adds, AddsAll, Gave, Passed, StandsTaken, WriterState}
 
--- at first nothing is taken
-pub none_taken : (given : Settings) (all : List Event) (state : State) → StandsAfter given all state → state.page.taken ≡ 0 → StandsTaken given all [] state
-none_taken given all state stands none = record { stands = stands; taken = none; begins = record { rest = state.page.output; parts = refl } }
-
 -- a call of the emitter keeps what was taken
 pub still_taken : (given : Settings) (all more : List Event) (sent : List ℕ) (before after : State) → StandsTaken given all sent before
     → KeepsSet (record before { started = true }) after → Grows before.page after.page → StandsAfter given more after

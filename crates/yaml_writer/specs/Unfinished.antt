@@ -1,6 +1,5 @@
 -- Why a stream couldn't be finished.
 use Rattle.std.specs.Prelude.{◌≡◌, ◌⊎◌, ◌<◌, Bool, Some, List, ◌∷◌, ◌++◌, length, take}
-use Rattle.yaml_base.specs.Errors.{refusal_number}
 use Rattle.yaml_base.specs.Event.{Event}
 use Rattle.yaml_base.specs.Output.{settings_for, bytes_written}
 use Rattle.yaml_base.specs.Pieces.{list_layout}
@@ -21,7 +20,7 @@ pub record RefusesOne (canonical : Bool) (all : List Event) (error : yaml_error_
   pub later : List Event
   pub parts : front ++ event ∷ later ≡ all
   pub begins : BeginsAccepted canonical front
-  pub refusal : refusal canonical front event ≡ Some (refusal_number error)
+  pub refusal : refusal canonical front event ≡ Some error
 
 -- the events are no stream: one of them is refused with this error, or a start still waits for a node
 pub record IsNoStream (canonical : Bool) (all : List Event) (error : yaml_error_t) : Type 0 where

@@ -20,9 +20,7 @@ impl<A: Allocator + Copy> Writer<A> {
         ensures failed { IfErr result (λ error. Gave (entered self.old Mapping) (mapping_event self.old (seen_mapping_style style)) (Some error) self.new
             ⊎ ((error ≡ yaml_error_t.Memory) × (self.new ≡ self.old))) }
     {
-        if let Err(error) = self.enter(CollectionKind::Mapping) {
-            return Err(error);
-        }
+        self.enter(CollectionKind::Mapping)?;
         self.mapping(style)
     }
 
@@ -35,9 +33,7 @@ impl<A: Allocator + Copy> Writer<A> {
         ensures failed { IfErr result (λ error. Gave (entered self.old Sequence) (sequence_event self.old (seen_sequence_style style)) (Some error) self.new
             ⊎ ((error ≡ yaml_error_t.Memory) × (self.new ≡ self.old))) }
     {
-        if let Err(error) = self.enter(CollectionKind::Sequence) {
-            return Err(error);
-        }
+        self.enter(CollectionKind::Sequence)?;
         self.sequence(style)
     }
 

@@ -3,6 +3,7 @@ ghost use Rattle.std.specs.Prelude.{◌≡◌, IfErr, None, OnOk, chars};
 ghost use Rattle.yaml_writer.specs.Floats.{special_event, special_text};
 ghost use Rattle.yaml_writer.specs.Writing.{Failed, Gave};
 
+use crate::tags::YAML_FLOAT_TAG;
 use crate::writer::Writer;
 use std::alloc::Allocator;
 use yaml_base::yaml_error_t;
@@ -35,6 +36,6 @@ impl<A: Allocator + Copy> Writer<A> {
         ensures given { OnOk result (Gave self.old (special_event self.old value) None self.new) }
         ensures failed { IfErr result (λ error. Failed self.old (special_event self.old value) error self.new) }
     {
-        self.word("tag:yaml.org,2002:float", special_word(value))
+        self.word(YAML_FLOAT_TAG, special_word(value))
     }
 }

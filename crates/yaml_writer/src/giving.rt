@@ -196,9 +196,7 @@ fn end_stream<A: Allocator + Copy>(emitter: &mut yaml_emitter_t<A>) -> Result<()
     ensures unfinished { IfErr result (λ error. IsUnfinished emitter.old error) }
 {
     let _ = yaml_emitter_emit(emitter, YAML_DOCUMENT_END_EVENT { implicit: true });
-    if let Err(error) = yaml_emitter_emit(emitter, YAML_STREAM_END_EVENT) {
-        return Err(error);
-    }
+    yaml_emitter_emit(emitter, YAML_STREAM_END_EVENT)?;
     if emitter.held() > 0 {
         return Err(yaml_error_t::ExpectedNode);
     }
@@ -213,8 +211,6 @@ pub(crate) fn finished<A: Allocator + Copy>(
     ensures finishes { IfOk result (λ bytes. Finishes emitter.old bytes.items) }
     ensures unfinished { IfErr result (λ error. IsUnfinished emitter.old error) }
 {
-    if let Err(error) = end_stream(emitter) {
-        return Err(error);
-    }
+    end_stream(emitter)?;
     Ok(yaml_emitter_take_output(emitter))
 }

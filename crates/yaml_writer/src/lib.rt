@@ -11,6 +11,7 @@ mod properties;
 mod scalars;
 mod settings;
 mod spelling;
+mod tags;
 mod texts;
 mod words;
 mod writer;

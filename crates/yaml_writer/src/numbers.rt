@@ -137,10 +137,7 @@ fn is_digits(text: &str) -> bool
 fn begins_with_zero(text: &str) -> bool
     ensures { result ≡ schema.first_is (λ c. c == 0x30) text.now }
 {
-    match text.as_bytes().first() {
-        None => false,
-        Some(first) => *first == b'0',
-    }
+    text.as_bytes().first().is_some_and(|first| *first == b'0')
 }
 
 /// Whether a text is `0`, or digits of which the first isn't 0.
@@ -153,19 +150,13 @@ fn is_whole(text: &str) -> bool
 fn is_fraction(fraction: Option<&str>) -> bool
     ensures { result ≡ parts.is_fraction (option_map (λ digits. digits.now) fraction.entry) }
 {
-    match fraction {
-        None => true,
-        Some(digits) => is_digits(digits),
-    }
+    fraction.is_none_or(is_digits)
 }
 
 fn is_exponent(exponent: Option<Exponent<'_>>) -> bool
     ensures { result ≡ parts.is_exponent (option_map seen_exponent exponent.entry) }
 {
-    match exponent {
-        None => true,
-        Some(exponent) => is_digits(exponent.digits),
-    }
+    exponent.is_none_or(|exponent| is_digits(exponent.digits))
 }
 
 impl Parts<'_> {
@@ -173,13 +164,7 @@ impl Parts<'_> {
     fn is_valid(&self) -> bool
         ensures { result ≡ json.is_json_number (seen_parts self.now) }
     {
-        if !is_whole(self.whole) {
-            return false;
-        }
-        if !is_fraction(self.fraction) {
-            return false;
-        }
-        is_exponent(self.exponent)
+        is_whole(self.whole) && is_fraction(self.fraction) && is_exponent(self.exponent)
     }
 }
 

@@ -18,13 +18,8 @@ impl<A: Allocator + Copy> Writer<A> {
         ensures named { OnOk result (self.new ≡ record self.old { anchor = Some (chars name.now) }) }
         ensures memory { IfErr result (λ error. (error ≡ yaml_error_t.Memory) × (self.new ≡ self.old)) }
     {
-        match text_of(self.alloc, name) {
-            Ok(name) => {
-                self.anchor = Some(name);
-                Ok(())
-            }
-            Err(error) => Err(error),
-        }
+        self.anchor = Some(text_of(self.alloc, name)?);
+        Ok(())
     }
 
     /// Gives the next node a tag, which is written.
@@ -35,13 +30,8 @@ impl<A: Allocator + Copy> Writer<A> {
         ensures tagged { OnOk result (self.new ≡ record self.old { tag = Some (chars tag.now) }) }
         ensures memory { IfErr result (λ error. (error ≡ yaml_error_t.Memory) × (self.new ≡ self.old)) }
     {
-        match text_of(self.alloc, tag) {
-            Ok(tag) => {
-                self.tag = Some(tag);
-                Ok(())
-            }
-            Err(error) => Err(error),
-        }
+        self.tag = Some(text_of(self.alloc, tag)?);
+        Ok(())
     }
 
     /// Writes an alias, which stands for the node of this name.
@@ -57,10 +47,8 @@ impl<A: Allocator + Copy> Writer<A> {
         if self.awaits_node() {
             return Err(yaml_error_t::ExpectedNode);
         }
-        match text_of(self.alloc, name) {
-            Ok(name) => give_alias(&mut self.emitter, name),
-            Err(error) => Err(error),
-        }
+        let name = text_of(self.alloc, name)?;
+        give_alias(&mut self.emitter, name)
     }
 
     /// Ends the document, and begins another.

@@ -6,6 +6,7 @@ ghost use Rattle.yaml_base.specs.TypedValues.{bool_text};
 ghost use Rattle.yaml_writer.specs.Writing.{Failed, Gave, bool_event, int_event, null_event, number_event, number_tag, tag_or, text_event, text_style, word_event};
 
 use crate::numbers::Number;
+use crate::tags::{YAML_BOOL_TAG, YAML_FLOAT_TAG, YAML_INT_TAG, YAML_NULL_TAG};
 use crate::texts::is_surely_text;
 use crate::writer::Writer;
 use std::alloc::{AllocError, Allocator};
@@ -67,9 +68,9 @@ fn tag_of_number(number: &Number<'_>) -> &'static str
     ensures { chars result.now ≡ number_tag number.now }
 {
     if number.is_integer() {
-        "tag:yaml.org,2002:int"
+        YAML_INT_TAG
     } else {
-        "tag:yaml.org,2002:float"
+        YAML_FLOAT_TAG
     }
 }
 
@@ -95,7 +96,7 @@ impl<A: Allocator + Copy> Writer<A> {
         ensures given { OnOk result (Gave self.old (null_event self.old) None self.new) }
         ensures failed { IfErr result (λ error. Failed self.old (null_event self.old) error self.new) }
     {
-        self.word("tag:yaml.org,2002:null", "null")
+        self.word(YAML_NULL_TAG, "null")
     }
 
     /// Writes `true` or `false`.
@@ -106,7 +107,7 @@ impl<A: Allocator + Copy> Writer<A> {
         ensures given { OnOk result (Gave self.old (bool_event self.old value) None self.new) }
         ensures failed { IfErr result (λ error. Failed self.old (bool_event self.old value) error self.new) }
     {
-        self.word("tag:yaml.org,2002:bool", word_of(value))
+        self.word(YAML_BOOL_TAG, word_of(value))
     }
 
     /// Writes an integer in decimal digits.
@@ -118,7 +119,7 @@ impl<A: Allocator + Copy> Writer<A> {
         ensures failed { IfErr result (λ error. Failed self.old (int_event self.old value) error self.new) }
     {
         match digits_of(self.alloc, value) {
-            Ok(digits) => self.word("tag:yaml.org,2002:int", digits.as_str()),
+            Ok(digits) => self.word(YAML_INT_TAG, digits.as_str()),
             Err(_) => Err(yaml_error_t::Memory),
         }
     }
@@ -132,7 +133,7 @@ impl<A: Allocator + Copy> Writer<A> {
         ensures failed { IfErr result (λ error. Failed self.old (int_event self.old (pos value)) error self.new) }
     {
         match digits_of_unsigned(self.alloc, value) {
-            Ok(digits) => self.word("tag:yaml.org,2002:int", digits.as_str()),
+            Ok(digits) => self.word(YAML_INT_TAG, digits.as_str()),
             Err(_) => Err(yaml_error_t::Memory),
         }
     }

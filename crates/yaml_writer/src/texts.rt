@@ -20,10 +20,7 @@ fn begins_number(character: char) -> bool
 fn first_begins_number(text: &str) -> bool
     ensures { result ≡ schema.first_is surely.begins_number (chars text.now) }
 {
-    match text.chars().next() {
-        None => false,
-        Some(first) => begins_number(first),
-    }
+    text.chars().next().is_some_and(begins_number)
 }
 
 /// Whether a text begins with a digit or a point, past a sign.

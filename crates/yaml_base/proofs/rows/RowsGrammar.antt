@@ -3,9 +3,10 @@ use Rattle.std.proofs.Common.{◌≡◌, ℕ, Bool, true, false, List, [], ◌�
 use Rattle.yaml_base.specs.Characters.{Text}
 use Rattle.yaml_base.specs.Event.{any_style, any_layout, flow, Version, TagDirective, DocumentStart, Collection, Event, stream_start, stream_end, document_start, document_end, alias, scalar, sequence_start, sequence_end, mapping_start, mapping_end}
 use Rattle.yaml_base.specs.Grammar.{Level, within_document, no_documents}
-use Rattle.yaml_base.specs.Refusal.{refusal, refusal_at, fault_if, expected_stream_start, expected_document_start, expected_document_end, expected_node, expected_nothing, no_tag_nor_implicit, too_deep}
-use Rattle.yaml_base.specs.Tags.{incompatible_version, tag_handle_empty, tag_handle_start, tag_handle_end, tag_handle_alphabet, tag_prefix_empty, duplicate_directive, anchor_empty, anchor_alphabet, alias_empty, alias_alphabet, tag_empty}
+use Rattle.yaml_base.specs.Refusal.{refusal, refusal_at, fault_if}
 use Rattle.yaml_base.specs.Ready.{written}
+use Rattle.yaml_base.specs.declared.errors.yaml_error_t.TheVariants.{ExpectedStreamStart, ExpectedDocumentStart, ExpectedDocumentEnd, ExpectedNode, ExpectedNothing, IncompatibleVersion, TagHandleEmpty, TagHandleStart, TagHandleEnd, TagHandleAlphabet, TagPrefixEmpty, DuplicateDirective, AnchorEmpty, AnchorAlphabet, AliasEmpty, AliasAlphabet, TagEmpty, NoTagNorImplicit, TooDeep}
+use Rattle.yaml_base.specs.declared.errors.yaml_error_t.{yaml_error_t}
 
 abbrev plain_start : DocumentStart
 plain_start = record { version = None; directives = []; implicit = true }
@@ -22,7 +23,7 @@ kinds =
     stream_start None ∷ stream_end ∷ document_start plain_start ∷ document_end true ∷ alias (codes "a") ∷ a_scalar
     ∷ sequence_start a_collection ∷ sequence_end ∷ mapping_start a_collection ∷ mapping_end ∷ []
 
-abbrev refusals_after : List Event → List (Option ℕ)
+abbrev refusals_after : List Event → List (Option yaml_error_t)
 refusals_after before = map (refusal false before) kinds
 
 abbrev opened : List Event
@@ -30,42 +31,42 @@ opened = stream_start None ∷ document_start plain_start ∷ []
 
 new_emitter :
     refusals_after []
-    ≡ None ∷ replicate 9 (Some expected_stream_start)
+    ≡ None ∷ replicate 9 (Some ExpectedStreamStart)
 new_emitter = refl
 
 between_documents :
     refusals_after (stream_start None ∷ [])
-    ≡ Some expected_document_start ∷ None ∷ None ∷ replicate 7 (Some expected_document_start)
+    ≡ Some ExpectedDocumentStart ∷ None ∷ None ∷ replicate 7 (Some ExpectedDocumentStart)
 between_documents = refl
 
 at_root :
     refusals_after opened
-    ≡ replicate 4 (Some expected_node) ++ (None ∷ None ∷ None ∷ Some expected_node ∷ None ∷ Some expected_node ∷ [])
+    ≡ replicate 4 (Some ExpectedNode) ++ (None ∷ None ∷ None ∷ Some ExpectedNode ∷ None ∷ Some ExpectedNode ∷ [])
 at_root = refl
 
 at_item :
     refusals_after (opened ++ sequence_start a_collection ∷ [])
-    ≡ replicate 4 (Some expected_node) ++ (None ∷ None ∷ None ∷ None ∷ None ∷ Some expected_node ∷ [])
+    ≡ replicate 4 (Some ExpectedNode) ++ (None ∷ None ∷ None ∷ None ∷ None ∷ Some ExpectedNode ∷ [])
 at_item = refl
 
 at_key :
     refusals_after (opened ++ mapping_start a_collection ∷ [])
-    ≡ replicate 4 (Some expected_node) ++ (None ∷ None ∷ None ∷ Some expected_node ∷ None ∷ None ∷ [])
+    ≡ replicate 4 (Some ExpectedNode) ++ (None ∷ None ∷ None ∷ Some ExpectedNode ∷ None ∷ None ∷ [])
 at_key = refl
 
 at_value :
     refusals_after (opened ++ mapping_start a_collection ∷ a_scalar ∷ [])
-    ≡ replicate 4 (Some expected_node) ++ (None ∷ None ∷ None ∷ Some expected_node ∷ None ∷ Some expected_node ∷ [])
+    ≡ replicate 4 (Some ExpectedNode) ++ (None ∷ None ∷ None ∷ Some ExpectedNode ∷ None ∷ Some ExpectedNode ∷ [])
 at_value = refl
 
 after_root :
     refusals_after (opened ++ a_scalar ∷ [])
-    ≡ replicate 3 (Some expected_document_end) ++ (None ∷ replicate 6 (Some expected_document_end))
+    ≡ replicate 3 (Some ExpectedDocumentEnd) ++ (None ∷ replicate 6 (Some ExpectedDocumentEnd))
 after_root = refl
 
 after_stream :
     refusals_after (stream_start None ∷ stream_end ∷ [])
-    ≡ replicate 10 (Some expected_nothing)
+    ≡ replicate 10 (Some ExpectedNothing)
 after_stream = refl
 
 abbrev directed : Option Version → List TagDirective → Event
@@ -78,34 +79,34 @@ abbrev directive : Text → Text → TagDirective
 directive handle prefix = record { handle = handle; prefix = prefix }
 
 version_1_3 :
-    refusal false between (directed (Some (record { major = pos 1; minor = pos 3 })) []) ≡ Some incompatible_version
+    refusal false between (directed (Some (record { major = pos 1; minor = pos 3 })) []) ≡ Some IncompatibleVersion
 version_1_3 = refl
 
 version_1_2 : refusal false between (directed (Some (record { major = pos 1; minor = pos 2 })) []) ≡ None
 version_1_2 = refl
 
-empty_handle : refusal false between (directed None (directive [] (codes "p") ∷ [])) ≡ Some tag_handle_empty
+empty_handle : refusal false between (directed None (directive [] (codes "p") ∷ [])) ≡ Some TagHandleEmpty
 empty_handle = refl
 
 handle_without_first_mark :
-    refusal false between (directed None (directive (codes "e!") (codes "p") ∷ [])) ≡ Some tag_handle_start
+    refusal false between (directed None (directive (codes "e!") (codes "p") ∷ [])) ≡ Some TagHandleStart
 handle_without_first_mark = refl
 
 handle_without_last_mark :
-    refusal false between (directed None (directive (codes "!e") (codes "p") ∷ [])) ≡ Some tag_handle_end
+    refusal false between (directed None (directive (codes "!e") (codes "p") ∷ [])) ≡ Some TagHandleEnd
 handle_without_last_mark = refl
 
 handle_with_a_dot :
-    refusal false between (directed None (directive (codes "!.!") (codes "p") ∷ [])) ≡ Some tag_handle_alphabet
+    refusal false between (directed None (directive (codes "!.!") (codes "p") ∷ [])) ≡ Some TagHandleAlphabet
 handle_with_a_dot = refl
 
-empty_prefix : refusal false between (directed None (directive (codes "!e!") [] ∷ [])) ≡ Some tag_prefix_empty
+empty_prefix : refusal false between (directed None (directive (codes "!e!") [] ∷ [])) ≡ Some TagPrefixEmpty
 empty_prefix = refl
 
 handle_twice :
     refusal false between
     (directed None (directive (codes "!e!") (codes "p") ∷ directive (codes "!") (codes "r") ∷ directive (codes "!e!") (codes "q") ∷ []))
-    ≡ Some duplicate_directive
+    ≡ Some DuplicateDirective
 handle_twice = refl
 
 default_handles_given :
@@ -116,37 +117,37 @@ abbrev named : Option Text → Option Text → Bool → Bool → Event
 named anchor tag plain_implicit quoted_implicit =
     scalar (record { anchor = anchor; tag = tag; value = codes "a"; plain_implicit = plain_implicit; quoted_implicit = quoted_implicit; style = any_style })
 
-empty_anchor : refusal false opened (named (Some []) None true true) ≡ Some anchor_empty
+empty_anchor : refusal false opened (named (Some []) None true true) ≡ Some AnchorEmpty
 empty_anchor = refl
 
-anchor_with_a_dot : refusal false opened (named (Some (codes "a.b")) None true true) ≡ Some anchor_alphabet
+anchor_with_a_dot : refusal false opened (named (Some (codes "a.b")) None true true) ≡ Some AnchorAlphabet
 anchor_with_a_dot = refl
 
-empty_alias : refusal false opened (alias []) ≡ Some alias_empty
+empty_alias : refusal false opened (alias []) ≡ Some AliasEmpty
 empty_alias = refl
 
-alias_with_a_space : refusal false opened (alias (codes "a b")) ≡ Some alias_alphabet
+alias_with_a_space : refusal false opened (alias (codes "a b")) ≡ Some AliasAlphabet
 alias_with_a_space = refl
 
 -- names are looked at before the place, also at the very first event
-empty_alias_first : refusal false [] (alias []) ≡ Some alias_empty
+empty_alias_first : refusal false [] (alias []) ≡ Some AliasEmpty
 empty_alias_first = refl
 
-empty_tag : refusal false opened (named None (Some []) false false) ≡ Some tag_empty
+empty_tag : refusal false opened (named None (Some []) false false) ≡ Some TagEmpty
 empty_tag = refl
 
 empty_tag_with_a_flag : refusal false opened (named None (Some []) true false) ≡ None
 empty_tag_with_a_flag = refl
 
-empty_tag_in_canonical_mode : refusal true opened (named None (Some []) true false) ≡ Some tag_empty
+empty_tag_in_canonical_mode : refusal true opened (named None (Some []) true false) ≡ Some TagEmpty
 empty_tag_in_canonical_mode = refl
 
 empty_collection_tag :
     refusal false opened (sequence_start (record { anchor = None; tag = Some []; implicit = false; style = any_layout }))
-    ≡ Some tag_empty
+    ≡ Some TagEmpty
 empty_collection_tag = refl
 
-no_tag_and_no_flag : refusal false opened (named None None false false) ≡ Some no_tag_nor_implicit
+no_tag_and_no_flag : refusal false opened (named None None false false) ≡ Some NoTagNorImplicit
 no_tag_and_no_flag = refl
 
 no_collection_tag :
@@ -155,13 +156,13 @@ no_collection_tag = refl
 
 nested_too_deep :
     (levels : List Level) → length levels ≡ 1000000
-    → refusal_at false (within_document None no_documents plain_start levels) (sequence_start a_collection) ≡ Some too_deep
-nested_too_deep levels full = ap (λ count. fault_if (not (nat_lt count 1000000)) too_deep) full
+    → refusal_at false (within_document None no_documents plain_start levels) (sequence_start a_collection) ≡ Some TooDeep
+nested_too_deep levels full = ap (λ count. fault_if (not (nat_lt count 1000000)) TooDeep) full
 
 nested_just_enough :
     (levels : List Level) → length levels ≡ 999999
     → refusal_at false (within_document None no_documents plain_start levels) (sequence_start a_collection) ≡ None
-nested_just_enough levels full = ap (λ count. fault_if (not (nat_lt count 1000000)) too_deep) full
+nested_just_enough levels full = ap (λ count. fault_if (not (nat_lt count 1000000)) TooDeep) full
 
 abbrev flow_sequence : Option Text → Event
 flow_sequence anchor = sequence_start (record { anchor = anchor; tag = None; implicit = true; style = flow })

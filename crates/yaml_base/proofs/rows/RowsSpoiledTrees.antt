@@ -6,7 +6,7 @@ use Rattle.yaml_base.specs.Characters.{Text}
 use Rattle.yaml_base.specs.Event.{ScalarStyle, any_style, double_quoted, block}
 use Rattle.yaml_base.specs.Grammar.{Node, alias_node, scalar_node, sequence_node, no_nodes, nodes_and}
 use Rattle.yaml_base.specs.Meetings.{Graph, GraphNode, scalar_held, sequence_held, string_tag, sequence_tag, node_numbered, children}
-use Rattle.yaml_base.specs.Unfolding.{TreeUnfolds, HasShape, node_shape_of, Label, Kind, scalar_kind, sequence_kind, mapping_kind, label_of, AreNamed, Place, alias_place, node_place, carries, is_place_of, number_at, places, IsReached, first_reached, child_reached, Placed, alias_placed, node_placed, none_placed, placed_and}
+use Rattle.yaml_base.specs.Unfolding.{TreeUnfolds, HasShape, node_shape_of, Label, NodeKind, scalar_kind, sequence_kind, mapping_kind, label_of, AreNamed, Occurrence, alias_occurrence, node_occurrence, carries, is_occurrence_of, number_at, occurrences, IsReached, first_reached, child_reached, Placed, alias_placed, node_placed, none_placed, placed_and}
 
 abbrev string_of : Text → GraphNode
 string_of value = record { tag = string_tag; held = scalar_held value any_style }
@@ -33,16 +33,16 @@ shared = graph_of (sequence_of (2 ∷ 2 ∷ []) ∷ string_of (codes "a") ∷ []
 abbrev alias_first : Node
 alias_first = a_sequence None (alias_node (codes "id001")) (a_string (Some (codes "id001")) (codes "a") any_style)
 
-abbrev anchor_told : Place → Option Text
-anchor_told (alias_place name number) = None
-anchor_told (node_place anchor number) = anchor
+abbrev anchor_told : Occurrence → Option Text
+anchor_told (alias_occurrence name number) = None
+anchor_told (node_occurrence anchor number) = anchor
 
-not_before : (anchor : Option Text) (number other : ℕ) (name : Text) → anchor ≡ None → Contains (node_place anchor number ∷ []) (node_place (Some name) other)
+not_before : (anchor : Option Text) (number other : ℕ) (name : Text) → anchor ≡ None → Contains (node_occurrence anchor number ∷ []) (node_occurrence (Some name) other)
     → ⊥
 not_before anchor number other name none (zero, within, is) = let both : None ≡ Some name = sym none ∙ ap anchor_told is in cc
 not_before anchor number other name none (suc k, within, is) = omega (arith, within)
 
-alias_first_fails : (p : Placed) → HasShape true shared p (node_shape_of alias_first) → AreNamed (places p) [] (places p) → ⊥
+alias_first_fails : (p : Placed) → HasShape true shared p (node_shape_of alias_first) → AreNamed (occurrences p) [] (occurrences p) → ⊥
 alias_first_fails (node_placed anchor number (placed_and (placed_and none_placed (alias_placed name first)) (node_placed given second none_placed))) fits
     named =
     not_before anchor number first name fits.0 named.1.0.1
@@ -59,7 +59,7 @@ two_strings = graph_of (sequence_of (2 ∷ 3 ∷ []) ∷ string_of (codes "a") �
 abbrev exchanged : Node
 exchanged = a_sequence None (a_string None (codes "b") any_style) (a_string None (codes "a") any_style)
 
-abbrev value_in : Kind → Text
+abbrev value_in : NodeKind → Text
 value_in (scalar_kind value style) = value
 value_in (sequence_kind style) = []
 value_in (mapping_kind style) = []
@@ -97,7 +97,7 @@ abbrev is_quoted : Option ScalarStyle → Bool
 is_quoted (Some double_quoted) = true
 is_quoted _ = false
 
-abbrev quotes_in : Kind → Bool
+abbrev quotes_in : NodeKind → Bool
 quotes_in (scalar_kind value style) = is_quoted style
 quotes_in _ = false
 
@@ -128,14 +128,14 @@ abbrev without_anchor : Node
 without_anchor = a_sequence_of_one (a_sequence None (a_string None (codes "a") any_style) (alias_node []))
 
 none_carries : (a b c : Option Text) (w x y z : ℕ) (name : Text) → a ≡ None → b ≡ None → c ≡ None
-    → count_by (carries name) (node_place a w ∷ node_place b x ∷ node_place c y ∷ alias_place name z ∷ []) ≡ 1 → ⊥
+    → count_by (carries name) (node_occurrence a w ∷ node_occurrence b x ∷ node_occurrence c y ∷ alias_occurrence name z ∷ []) ≡ 1 → ⊥
 none_carries a b c w x y z name is_a is_b is_c counted =
-    let one = subst (λ o. count_by (carries name) (node_place o w ∷ node_place b x ∷ node_place c y ∷ alias_place name z ∷ []) ≡ 1) is_a counted in
-    let two = subst (λ o. count_by (carries name) (node_place None w ∷ node_place o x ∷ node_place c y ∷ alias_place name z ∷ []) ≡ 1) is_b one in
-    let three : 0 ≡ 1 = subst (λ o. count_by (carries name) (node_place None w ∷ node_place None x ∷ node_place o y ∷ alias_place name z ∷ []) ≡ 1) is_c two in
+    let one = subst (λ o. count_by (carries name) (node_occurrence o w ∷ node_occurrence b x ∷ node_occurrence c y ∷ alias_occurrence name z ∷ []) ≡ 1) is_a counted in
+    let two = subst (λ o. count_by (carries name) (node_occurrence None w ∷ node_occurrence o x ∷ node_occurrence c y ∷ alias_occurrence name z ∷ []) ≡ 1) is_b one in
+    let three : 0 ≡ 1 = subst (λ o. count_by (carries name) (node_occurrence None w ∷ node_occurrence None x ∷ node_occurrence o y ∷ alias_occurrence name z ∷ []) ≡ 1) is_c two in
     omega (arith, three)
 
-without_anchor_fails : (p : Placed) → HasShape true shared_below p (node_shape_of without_anchor) → AreNamed (places p) [] (places p) → ⊥
+without_anchor_fails : (p : Placed) → HasShape true shared_below p (node_shape_of without_anchor) → AreNamed (occurrences p) [] (occurrences p) → ⊥
 without_anchor_fails (node_placed a w
     (placed_and none_placed (node_placed b x (placed_and (placed_and none_placed (node_placed c y none_placed)) (alias_placed name z))))) fits named =
     none_carries a b c w x y z name fits.0 fits.3.1.0 fits.3.1.3.0.1.0 named.1.1.1.0.0
@@ -153,17 +153,17 @@ second_reached : IsReached shared 2
 second_reached = child_reached first_reached (0, omega arith, refl)
 
 counted_twice : (a b c : Option Text) (number first second : ℕ) → number ≡ 1 → first ∷ second ∷ [] ≡ children shared number
-    → count_by (is_place_of 2) (node_place a number ∷ node_place b first ∷ node_place c second ∷ []) ≡ 1 → ⊥
+    → count_by (is_occurrence_of 2) (node_occurrence a number ∷ node_occurrence b first ∷ node_occurrence c second ∷ []) ≡ 1 → ⊥
 counted_twice a b c number first second root numbers once =
     let at_root : first ∷ second ∷ [] ≡ 2 ∷ 2 ∷ [] = subst (λ n. first ∷ second ∷ [] ≡ children shared n) root numbers in
-    let one = subst (λ n. count_by (is_place_of 2) (node_place a n ∷ node_place b first ∷ node_place c second ∷ []) ≡ 1) root once in
-    let two = subst (λ n. count_by (is_place_of 2) (node_place a 1 ∷ node_place b n ∷ node_place c second ∷ []) ≡ 1)
+    let one = subst (λ n. count_by (is_occurrence_of 2) (node_occurrence a n ∷ node_occurrence b first ∷ node_occurrence c second ∷ []) ≡ 1) root once in
+    let two = subst (λ n. count_by (is_occurrence_of 2) (node_occurrence a 1 ∷ node_occurrence b n ∷ node_occurrence c second ∷ []) ≡ 1)
     (ap (λ xs. slice_index xs 0) at_root) one in
-    let three : 2 ≡ 1 = subst (λ n. count_by (is_place_of 2) (node_place a 1 ∷ node_place b 2 ∷ node_place c n ∷ []) ≡ 1)
+    let three : 2 ≡ 1 = subst (λ n. count_by (is_occurrence_of 2) (node_occurrence a 1 ∷ node_occurrence b 2 ∷ node_occurrence c n ∷ []) ≡ 1)
     (ap (λ xs. slice_index xs 1) at_root) two in
     omega (arith, three)
 
-written_twice_fails : (p : Placed) → number_at p ≡ 1 → HasShape true shared p (node_shape_of written_twice) → count_by (is_place_of 2) (places p) ≡ 1 → ⊥
+written_twice_fails : (p : Placed) → number_at p ≡ 1 → HasShape true shared p (node_shape_of written_twice) → count_by (is_occurrence_of 2) (occurrences p) ≡ 1 → ⊥
 written_twice_fails (node_placed a number (placed_and (placed_and none_placed (node_placed b first none_placed)) (node_placed c second none_placed))) root fits
     once =
     counted_twice a b c number first second root fits.2 once

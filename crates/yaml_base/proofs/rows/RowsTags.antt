@@ -10,6 +10,8 @@ use Rattle.yaml_base.specs.ReadPercent.{percent_read}
 use Rattle.yaml_base.specs.ReadTags.{bare_said, name_said}
 use Rattle.yaml_base.specs.CanonicalReader.{tag_read}
 use Rattle.yaml_base.specs.Tags.{directives_in_force, spelling, spelled, anchor_fault, alias_fault, version_fault, directives_fault, tag_fault}
+use Rattle.yaml_base.specs.declared.errors.yaml_error_t.TheVariants.{IncompatibleVersion, TagHandleEmpty, TagHandleStart, TagHandleEnd, TagHandleAlphabet, TagPrefixEmpty, DuplicateDirective, AnchorEmpty, AnchorAlphabet, AliasEmpty, AliasAlphabet, TagEmpty}
+use Rattle.yaml_base.specs.declared.errors.yaml_error_t.{yaml_error_t}
 
 abbrev directive : Text → Text → TagDirective
 directive handle prefix = record { handle = handle; prefix = prefix }
@@ -115,33 +117,33 @@ reads_no_unknown_handle = refl
 names : anchor_fault (codes "a-_9Z") ≡ None
 names = refl
 
-no_name : (anchor_fault [] ≡ Some 13) × (alias_fault [] ≡ Some 15)
+no_name : (anchor_fault [] ≡ Some AnchorEmpty) × (alias_fault [] ≡ Some AliasEmpty)
 no_name = (refl, refl)
 
-other_names : (anchor_fault (codes "a b") ≡ Some 14) × (alias_fault (codes "a.b") ≡ Some 16)
+other_names : (anchor_fault (codes "a b") ≡ Some AnchorAlphabet) × (alias_fault (codes "a.b") ≡ Some AliasAlphabet)
 other_names = (refl, refl)
 
-abbrev version : ℕ → ℕ → Option ℕ
+abbrev version : ℕ → ℕ → Option yaml_error_t
 version major minor = version_fault (record { major = pos major; minor = pos minor })
 
-versions : (version 1 1 ≡ None) × (version 1 2 ≡ None) × (version 1 0 ≡ Some 6) × (version 1 3 ≡ Some 6) × (version 2 1 ≡ Some 6)
+versions : (version 1 1 ≡ None) × (version 1 2 ≡ None) × (version 1 0 ≡ Some IncompatibleVersion) × (version 1 3 ≡ Some IncompatibleVersion) × (version 2 1 ≡ Some IncompatibleVersion)
 versions = (refl, refl, refl, refl, refl)
 
-abbrev fault_of : Text → Text → Option ℕ
+abbrev fault_of : Text → Text → Option yaml_error_t
 fault_of handle prefix = directives_fault (directive handle prefix ∷ [])
 
 handles :
-    (fault_of [] (codes "x") ≡ Some 7) × (fault_of (codes "a!") (codes "x") ≡ Some 8)
-    × (fault_of (codes "!a") (codes "x") ≡ Some 9) × (fault_of (codes "!a.b!") (codes "x") ≡ Some 10)
-    × (fault_of (codes "!e!") [] ≡ Some 11) × (fault_of (codes "!e!") (codes "x") ≡ None)
+    (fault_of [] (codes "x") ≡ Some TagHandleEmpty) × (fault_of (codes "a!") (codes "x") ≡ Some TagHandleStart)
+    × (fault_of (codes "!a") (codes "x") ≡ Some TagHandleEnd) × (fault_of (codes "!a.b!") (codes "x") ≡ Some TagHandleAlphabet)
+    × (fault_of (codes "!e!") [] ≡ Some TagPrefixEmpty) × (fault_of (codes "!e!") (codes "x") ≡ None)
     × (fault_of (codes "!") (codes "x") ≡ None) × (fault_of (codes "!!") (codes "x") ≡ None)
 handles = (refl, refl, refl, refl, refl, refl, refl, refl)
 
-given_twice : directives_fault (directive (codes "!!") (codes "a") ∷ directive (codes "!!") (codes "b") ∷ []) ≡ Some 12
+given_twice : directives_fault (directive (codes "!!") (codes "a") ∷ directive (codes "!!") (codes "b") ∷ []) ≡ Some DuplicateDirective
 given_twice = refl
 
-first_fault : directives_fault (directive (codes "!a!") [] ∷ directive [] (codes "b") ∷ []) ≡ Some 11
+first_fault : directives_fault (directive (codes "!a!") [] ∷ directive [] (codes "b") ∷ []) ≡ Some TagPrefixEmpty
 first_fault = refl
 
-no_tag : tag_fault [] ≡ Some 17
+no_tag : tag_fault [] ≡ Some TagEmpty
 no_tag = refl

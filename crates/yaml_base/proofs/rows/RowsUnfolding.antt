@@ -6,7 +6,7 @@ use Rattle.yaml_base.specs.Event.{any_style, block}
 use Rattle.yaml_base.specs.Grammar.{Node, alias_node, scalar_node, sequence_node, mapping_node, no_nodes, nodes_and, no_pairs, pairs_and, document_events}
 use Rattle.yaml_base.specs.Content.{node_content}
 use Rattle.yaml_base.specs.Meetings.{Graph, scalar_held, sequence_held, mapping_held, string_tag, sequence_tag, mapping_tag, children, decimal_digits, document_event_list}
-use Rattle.yaml_base.specs.Unfolding.{TreeUnfolds, ContentUnfolds, HasShape, node_shape_of, number_at, node_place, alias_place, IsReached, first_reached, child_reached, Placed, is_place_of, places, alias_placed, node_placed, none_placed, placed_and}
+use Rattle.yaml_base.specs.Unfolding.{TreeUnfolds, ContentUnfolds, HasShape, node_shape_of, number_at, node_occurrence, alias_occurrence, IsReached, first_reached, child_reached, Placed, is_occurrence_of, occurrences, alias_placed, node_placed, none_placed, placed_and}
 
 -- a mapping whose one key is a string, and whose value is the mapping
 abbrev graph : Graph
@@ -51,10 +51,10 @@ reached (child_reached {number = parent} {child = child} r held) =
 abbrev placed_tree : Placed
 placed_tree = node_placed (Some (codes "id001")) 1 (placed_and (placed_and none_placed (node_placed None 2 none_placed)) (alias_placed (codes "id001") 1))
 
-stands_once : (number : ℕ) → IsReached graph number → count_by (is_place_of number) (places placed_tree) ≡ 1
-stands_once number r = elim (reached r) as (λ _. count_by (is_place_of number) (places placed_tree) ≡ 1) [ inl e ↦ rw e refl | inr e ↦ rw e refl ]
+stands_once : (number : ℕ) → IsReached graph number → count_by (is_occurrence_of number) (occurrences placed_tree) ≡ 1
+stands_once number r = elim (reached r) as (λ _. count_by (is_occurrence_of number) (occurrences placed_tree) ≡ 1) [ inl e ↦ rw e refl | inr e ↦ rw e refl ]
 
-stands_nowhere : (number : ℕ) → (IsReached graph number → ⊥) → count_by (is_place_of number) (places placed_tree) ≡ 0
+stands_nowhere : (number : ℕ) → (IsReached graph number → ⊥) → count_by (is_occurrence_of number) (occurrences placed_tree) ≡ 0
 stands_nowhere zero unreached = refl
 stands_nowhere (suc zero) unreached = absurd (unreached first_reached)
 stands_nowhere (suc (suc zero)) unreached = absurd (unreached (child_reached first_reached (0, omega arith, refl)))
@@ -115,18 +115,18 @@ third_reached = child_reached first_reached (1, omega arith, refl)
 
 -- node 3 would have no place but the alias
 third_missing : (number first second : ℕ) → number ≡ 1 → first ∷ second ∷ [] ≡ children two_equal number
-    → count_by (is_place_of 3) (node_place None number ∷ node_place (Some (codes "id001")) first ∷ alias_place (codes "id001") second ∷ []) ≡ 1 → ⊥
+    → count_by (is_occurrence_of 3) (node_occurrence None number ∷ node_occurrence (Some (codes "id001")) first ∷ alias_occurrence (codes "id001") second ∷ []) ≡ 1 → ⊥
 third_missing number first second root numbers once =
     let at_root : first ∷ second ∷ [] ≡ 2 ∷ 3 ∷ [] = subst (λ n. first ∷ second ∷ [] ≡ children two_equal n) root numbers in
     let first_is : first ≡ 2 = ap (λ xs. slice_index xs 0) at_root in
-    let counted : count_by (is_place_of 3) (node_place None 1 ∷ node_place (Some (codes "id001")) 2 ∷ alias_place (codes "id001") second ∷ []) ≡ 1 =
-    subst (λ m. count_by (is_place_of 3) (node_place None 1 ∷ node_place (Some (codes "id001")) m ∷ alias_place (codes "id001") second ∷ []) ≡ 1) first_is
-    (subst (λ n. count_by (is_place_of 3) (node_place None n ∷ node_place (Some (codes "id001")) first ∷ alias_place (codes "id001") second ∷ []) ≡ 1) root
+    let counted : count_by (is_occurrence_of 3) (node_occurrence None 1 ∷ node_occurrence (Some (codes "id001")) 2 ∷ alias_occurrence (codes "id001") second ∷ []) ≡ 1 =
+    subst (λ m. count_by (is_occurrence_of 3) (node_occurrence None 1 ∷ node_occurrence (Some (codes "id001")) m ∷ alias_occurrence (codes "id001") second ∷ []) ≡ 1) first_is
+    (subst (λ n. count_by (is_occurrence_of 3) (node_occurrence None n ∷ node_occurrence (Some (codes "id001")) first ∷ alias_occurrence (codes "id001") second ∷ []) ≡ 1) root
     once) in
     omega (arith, counted)
 
 refuted : (p : Placed) → number_at p ≡ 1 → HasShape true two_equal p (node_shape_of one_for_two)
-    → ((number : ℕ) → IsReached two_equal number → count_by (is_place_of number) (places p) ≡ 1) → ⊥
+    → ((number : ℕ) → IsReached two_equal number → count_by (is_occurrence_of number) (occurrences p) ≡ 1) → ⊥
 refuted (alias_placed name number) root fits once = fits
 refuted (node_placed anchor number none_placed) root fits once = fits.3
 refuted (node_placed anchor number (placed_and none_placed last)) root fits once = fits.3.0

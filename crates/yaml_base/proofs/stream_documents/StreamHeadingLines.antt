@@ -10,7 +10,7 @@ use Rattle.yaml_base.specs.Settings.{Effective}
 use Rattle.yaml_base.specs.Cursor.{Cursor, Laid, first_cursor, then_laid}
 use Rattle.yaml_base.specs.Event.{Version, TagDirective, DocumentStart}
 use Rattle.yaml_base.specs.Percent.{prefix_escaped}
-use Rattle.yaml_base.specs.Tags.{directives_fault, handle_fault, directives_fault_after, next_directive_fault, directive_fault, gives_handle, duplicate_directive, prefix_fault, version_fault}
+use Rattle.yaml_base.specs.Tags.{directives_fault, handle_fault, directives_fault_after, next_directive_fault, directive_fault, gives_handle, prefix_fault, version_fault}
 use Rattle.yaml_base.specs.Indicators.{indicator_laid, yaml_directive, version_1_1, version_1_2}
 use Rattle.yaml_base.specs.Layout.{line_ended, version_laid, tag_directives_laid}
 use Rattle.yaml_base.specs.Meaning.{directive_scalars}
@@ -26,6 +26,7 @@ use Rattle.yaml_base.proofs.stream_nodes.StreamProperties.{holds_white}
 use Rattle.yaml_base.proofs.stream_documents.StreamRootsStand.{heading_text, HeadingStands}
 use Rattle.yaml_base.proofs.stream_documents.StreamSoFar.{Percents}
 use Rattle.yaml_base.proofs.stream_documents.StreamHeadings.{directive_text, tag_lines, version_lines, heading_lines, prefix_no_white, heading_reads}
+use Rattle.yaml_base.specs.declared.errors.yaml_error_t.TheVariants.{DuplicateDirective}
 
 -- Lines with their breaks
 
@@ -96,7 +97,7 @@ tags_whole : (breaks12 portable : Bool) (before directives : List TagDirective) 
 tags_whole breaks12 portable before [] sound = tt
 tags_whole breaks12 portable before (directive ∷ rest) sound =
     let both = neither (next_directive_fault before directive) (directives_fault_after (before ++ directive ∷ []) rest) sound in
-    let own = neither (directive_fault directive) (if gives_handle directive.handle before then Some duplicate_directive else None) both.0 in
+    let own = neither (directive_fault directive) (if gives_handle directive.handle before then Some DuplicateDirective else None) both.0 in
     let parts = neither (handle_fault directive.handle) (prefix_fault directive.prefix) own.0 in
     (directive_whole breaks12 portable directive parts.0, refl, tags_whole breaks12 portable (before ++ directive ∷ []) rest both.1)
 

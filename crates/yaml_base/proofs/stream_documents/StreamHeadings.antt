@@ -13,7 +13,7 @@ use Rattle.yaml_base.specs.Event.{Version, TagDirective, DocumentStart}
 use Rattle.yaml_base.specs.Percent.{percent_escaped, prefix_escaped, is_tag_character, character_written, percent_sign}
 use Rattle.yaml_base.specs.ReadPercent.{is_uri_character, percent_read}
 use Rattle.yaml_base.specs.ReadTags.{closes_handle, is_handle_text, prefix_said, is_given}
-use Rattle.yaml_base.specs.Tags.{tag_mark, prefix_fault, handle_fault, next_directive_fault, directive_fault, gives_handle, duplicate_directive, incompatible_version, directives_fault_after, version_fault, is_the_number, directives_fault}
+use Rattle.yaml_base.specs.Tags.{tag_mark, prefix_fault, handle_fault, next_directive_fault, directive_fault, gives_handle, directives_fault_after, version_fault, is_the_number, directives_fault}
 use Rattle.yaml_base.specs.Meaning.{directive_scalars}
 use Rattle.yaml_base.specs.StreamLines.{Line}
 use Rattle.yaml_base.specs.Indicators.{version_1_1, version_1_2}
@@ -25,6 +25,8 @@ use Rattle.yaml_base.proofs.TagWords.{handle_ends_no_word}
 use Rattle.yaml_base.proofs.NoFaults.{neither, not_given}
 use Rattle.yaml_base.proofs.stream_nodes.StreamProperties.{holds_white, has_no_space, no_white_no_space}
 use Rattle.yaml_base.proofs.stream_nodes.StreamTags.{uri_text, uri_character}
+use Rattle.yaml_base.specs.declared.errors.yaml_error_t.TheVariants.{IncompatibleVersion, DuplicateDirective}
+use Rattle.yaml_base.specs.declared.errors.yaml_error_t.{yaml_error_t}
 
 -- Words
 
@@ -149,9 +151,9 @@ directive_reads : (portable : Bool) (version : Option Version) (before : List Ta
     → directive_line (Some (record { version = version; directives = before })) (record { text = directive_text portable directive; ending = ending })
     ≡ Some (record { version = version; directives = before ++ directive ∷ [] })
 directive_reads portable version before directive ending sound scalars =
-    let both = neither (directive_fault directive) (if gives_handle directive.handle before then Some duplicate_directive else None) sound in
+    let both = neither (directive_fault directive) (if gives_handle directive.handle before then Some DuplicateDirective else None) sound in
     let parts = neither (handle_fault directive.handle) (prefix_fault directive.prefix) both.0 in
-    let fresh = not_given (gives_handle directive.handle before) duplicate_directive both.1 in
+    let fresh = not_given (gives_handle directive.handle before) DuplicateDirective both.1 in
     let made : Heading = record { version = version; directives = before } in
     ap (directive_by_words made) (directive_words portable directive parts.0)
     ∙ ap (with_directive made directive.handle) (prefix_reads portable directive.prefix parts.1 scalars)
@@ -191,7 +193,7 @@ version_of minor = record { major = pos 1; minor = pos minor }
 pub version_form : (version : Version) → version_fault version ≡ None → (version ≡ version_of 1) ⊎ (version ≡ version_of 2)
 version_form version h = by version.major version.minor (tests _ _ _ h)
   where
-    tests : (a b c : Bool) → ◌≡◌ {A = Option ℕ} (if a && (b || c) then None else Some incompatible_version) None
+    tests : (a b c : Bool) → ◌≡◌ {A = Option yaml_error_t} (if a && (b || c) then None else Some IncompatibleVersion) None
         → (a ≡ true) × ((b ≡ true) ⊎ (c ≡ true))
     tests true true c h = (refl, inl refl)
     tests true false true h = (refl, inr refl)

@@ -10,11 +10,11 @@ use Rattle.yaml_base.specs.LineBreaks.{with_breaks_written}
 use Rattle.yaml_base.specs.Event.{Event, stream_start, stream_end, document_start, document_end, scalar, sequence_start, sequence_end, mapping_start, mapping_end, Scalar}
 use Rattle.yaml_base.specs.Style.{lacks_tag_and_flags}
 use Rattle.yaml_base.specs.Grammar.{Node, alias_node, scalar_node, sequence_node, mapping_node, Nodes, no_nodes, nodes_and, Pairs, no_pairs, pairs_and, Document, Documents, no_documents, documents_and, Stream, node_events, nodes_events, pairs_events, documents_events, stream_events, tree_of}
-use Rattle.yaml_base.specs.Refusal.{scalar_tag, no_tag_nor_implicit, fault_if, name_or_tag_fault, is_sound, IsAccepted}
+use Rattle.yaml_base.specs.Refusal.{scalar_tag, fault_if, name_or_tag_fault, is_sound, IsAccepted}
 use Rattle.yaml_base.specs.Layout.{Piece, text_of, layout, has_directives, is_explicit}
 use Rattle.yaml_base.specs.Pieces.{list_layout}
 use Rattle.yaml_base.specs.Output.{bytes_written}
-use Rattle.yaml_base.specs.CanonicalReader.{characters_read}
+use Rattle.yaml_base.specs.ReadBytes.{characters_read}
 use Rattle.yaml_base.specs.StreamContent.{DocumentTree, documents_in_order, document_agrees, documents_agree, agrees}
 use Rattle.yaml_base.specs.StreamDocuments.{documents_of}
 use Rattle.yaml_base.specs.StreamReader.{stream_trees}
@@ -25,6 +25,8 @@ use Rattle.yaml_base.proofs.stream_nodes.StreamAgrees.{node_is_tagged, nodes_are
 use Rattle.yaml_base.proofs.stream_documents.StreamEachDocument.{AllDocuments, all_of_both, each_document}
 use Rattle.yaml_base.proofs.stream_documents.StreamRootsStand.{DocumentsStand}
 use Rattle.yaml_base.proofs.stream_documents.StreamWholeReads.{FirstWritten, document_trees, stream_reads}
+use Rattle.yaml_base.specs.declared.errors.yaml_error_t.TheVariants.{NoTagNorImplicit}
+use Rattle.yaml_base.specs.declared.errors.yaml_error_t.{yaml_error_t}
 
 -- Tags
 
@@ -35,7 +37,7 @@ sound_scalar canonical content h =
     by (name_or_tag_fault canonical (scalar content))
     (lacks_tag_and_flags (is_some (scalar_tag canonical content)) content.plain_implicit content.quoted_implicit) h
   where
-    by : (fault : Option ℕ) (x : Bool) → is_none (option_or fault (fault_if x no_tag_nor_implicit)) ≡ true → not x ≡ true
+    by : (fault : Option yaml_error_t) (x : Bool) → is_none (option_or fault (fault_if x NoTagNorImplicit)) ≡ true → not x ≡ true
     by (Some n) x h = absurd (false≢true h)
     by None true h = absurd (false≢true h)
     by None false h = refl

@@ -19,15 +19,6 @@ pub record Says (breaks12 : Bool) (text : Text) (tokens : List FlowToken) : Type
 abbrev pub EndsWord : Bool → Text → Type 0
 EndsWord breaks12 text = (rest : Text) → ends_word breaks12 rest ≡ true → ends_word breaks12 (text ++ rest) ≡ true
 
--- a text, and then one that ends a word
-pub says_both : (breaks12 : Bool) (a b : Text) (j k : List FlowToken) → Says breaks12 a j → Says breaks12 b k → EndsWord breaks12 b
-    → Says breaks12 (a ++ b) (j ++ k)
-says_both breaks12 a b j k one two ends = record {
-  says = λ rest h.
-      ap (flow_tokens breaks12 free) (append_assoc a b rest) ∙ one.says (b ++ rest) (ends rest h)
-      ∙ ap (λ t. j ++ t) (two.says rest h) ∙ sym (append_assoc j k (flow_tokens breaks12 free rest));
-}
-
 -- no text
 pub says_nothing : (breaks12 : Bool) → Says breaks12 [] []
 says_nothing breaks12 = record { says = λ rest h. refl }
@@ -99,31 +90,6 @@ ends_unquoted breaks12 (c ∷ rest) h = by (c == 0x27) refl
 
 -- Words
 
--- a scalar in double quotes
-pub says_double : (breaks12 : Bool) (t v : Text) → read_double breaks12 (0x22 ∷ t) ≡ Some v → Says breaks12 (0x22 ∷ t) (word (0x22 ∷ t) ∷ [])
-says_double breaks12 t v read = record {
-  says = λ rest h.
-      ap (λ class. (let here : FlowTurn = begun class [] 0x22 in here.tokens ++ flow_tokens breaks12 here.place (t ++ rest))) (double_class breaks12)
-      ∙ double_quoted_word breaks12 [] t rest v read;
-}
-
--- a scalar in single quotes
-pub says_single : (breaks12 : Bool) (t v : Text) → read_single breaks12 (0x27 ∷ t) ≡ Some v → Says breaks12 (0x27 ∷ t) (word (0x27 ∷ t) ∷ [])
-says_single breaks12 t v read = record {
-  says = λ rest h.
-      ap (λ class. (let here : FlowTurn = begun class [] 0x27 in here.tokens ++ flow_tokens breaks12 here.place (t ++ rest))) (single_class breaks12)
-      ∙ single_quoted_word breaks12 [] t rest v read (ends_unquoted breaks12 rest h);
-}
-
--- a plain scalar
-pub says_plain : (breaks12 : Bool) (c : ℕ) (t v : Text) → class_of breaks12 c ≡ begins_plain → read_plain breaks12 true (c ∷ t) ≡ Some v
-    → has_clean_edges breaks12 (c ∷ t) ≡ true → Says breaks12 (c ∷ t) (word (c ∷ t) ∷ [])
-says_plain breaks12 c t v e read clean = record {
-  says = λ rest h.
-      ap (λ class. (let here : FlowTurn = begun class [] c in here.tokens ++ flow_tokens breaks12 here.place (t ++ rest))) e
-      ∙ plain_word breaks12 [] c t rest v read clean h;
-}
-
 pub bracket_class : (breaks12 : Bool) → (class_of breaks12 0x5B ≡ begins_bracket) × (class_of breaks12 0x7B ≡ begins_bracket)
 bracket_class true = (refl, refl)
 bracket_class false = (refl, refl)
@@ -134,16 +100,3 @@ pub opens_before : (breaks12 : Bool) (b c : ℕ) (rest : Text) → class_of brea
 opens_before breaks12 b c rest e h =
     ap (λ class. (let here : FlowTurn = begun class [] b in here.tokens ++ flow_tokens breaks12 here.place (c ∷ rest))) e
     ∙ ap (λ x. (let here : FlowTurn = bracket_turn x (class_of breaks12 c) [] b c in here.tokens ++ flow_tokens breaks12 here.place rest)) h
-
--- `[]` and `{}` are words
-pub says_empty_sequence : (breaks12 : Bool) → Says breaks12 (0x5B ∷ 0x5D ∷ []) (word (0x5B ∷ 0x5D ∷ []) ∷ [])
-says_empty_sequence breaks12 = record {
-  says = λ rest h. ap (λ class. (let here : FlowTurn = begun class [] 0x5B in here.tokens ++ flow_tokens breaks12 here.place (0x5D ∷ rest)))
-      (bracket_class breaks12).0;
-}
-
-pub says_empty_mapping : (breaks12 : Bool) → Says breaks12 (0x7B ∷ 0x7D ∷ []) (word (0x7B ∷ 0x7D ∷ []) ∷ [])
-says_empty_mapping breaks12 = record {
-  says = λ rest h. ap (λ class. (let here : FlowTurn = begun class [] 0x7B in here.tokens ++ flow_tokens breaks12 here.place (0x7D ∷ rest)))
-      (bracket_class breaks12).1;
-}

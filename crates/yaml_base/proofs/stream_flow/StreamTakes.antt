@@ -51,16 +51,6 @@ takes_both rules from through to a b one two ends = record {
 
 -- Words
 
--- a node that reads takes its place among the items of a sequence
-pub takes_item : (rules : Rules) (anchor tag : Option Text) (items : Trees) (levels : List Level) (text : Text) (tree : Tree)
-    → Says rules.breaks12 text (word text ∷ []) → word_read rules true text ≡ Some tree
-    → Takes rules (within (in_sequence anchor tag items ∷ levels) entry_awaited) text
-    (within (in_sequence anchor tag (trees_and items tree) ∷ levels) comma_awaited)
-takes_item rules anchor tag items levels text tree says read =
-    takes_to rules (within (in_sequence anchor tag items ∷ levels) entry_awaited)
-    (within (in_sequence anchor tag (trees_and items tree) ∷ levels) comma_awaited)
-    text (word text ∷ []) says (ap (word_step rules.breaks12 (in_sequence anchor tag items ∷ levels) text) read)
-
 -- one after a `?` is a key
 pub takes_key : (rules : Rules) (anchor tag : Option Text) (pairs : TreePairs) (levels : List Level) (text : Text) (tree : Tree)
     → Says rules.breaks12 text (word text ∷ []) → word_read rules true text ≡ Some tree
@@ -70,16 +60,6 @@ takes_key rules anchor tag pairs levels text tree says read =
     takes_to rules (within (in_mapping anchor tag pairs key_due ∷ levels) (node_awaited true))
     (within (in_mapping anchor tag pairs (key_held tree) ∷ levels) (colon_awaited (after_white false)))
     text (word text ∷ []) says (ap (word_step rules.breaks12 (in_mapping anchor tag pairs key_due ∷ levels) text) read)
-
--- one after a `:` is a value
-pub takes_value : (rules : Rules) (anchor tag : Option Text) (pairs : TreePairs) (key : Tree) (levels : List Level) (text : Text) (tree : Tree)
-    → Says rules.breaks12 text (word text ∷ []) → word_read rules true text ≡ Some tree
-    → Takes rules (within (in_mapping anchor tag pairs (key_held key) ∷ levels) (node_awaited true)) text
-    (within (in_mapping anchor tag (tree_pairs_and pairs key tree) no_key ∷ levels) comma_awaited)
-takes_value rules anchor tag pairs key levels text tree says read =
-    takes_to rules (within (in_mapping anchor tag pairs (key_held key) ∷ levels) (node_awaited true))
-    (within (in_mapping anchor tag (tree_pairs_and pairs key tree) no_key ∷ levels) comma_awaited)
-    text (word text ∷ []) says (ap (word_step rules.breaks12 (in_mapping anchor tag pairs (key_held key) ∷ levels) text) read)
 
 -- a short one on a line, where a key may stand, is a simple key
 pub takes_simple_key : (rules : Rules) (anchor tag : Option Text) (pairs : TreePairs) (levels : List Level) (text : Text) (tree : Tree)
@@ -94,35 +74,6 @@ takes_simple_key rules anchor tag pairs levels text tree says read short =
     ∙ ap (λ x. if x then within (in_mapping anchor tag pairs (key_held tree) ∷ levels) (colon_awaited (colon_after tree)) else failed) short)
 
 -- Signs
-
--- a comma
-pub takes_comma : (rules : Rules) (levels : List Level) → Takes rules (within levels comma_awaited) (0x2C ∷ []) (within levels entry_awaited)
-takes_comma rules levels =
-    takes_to rules (within levels comma_awaited) (within levels entry_awaited) (0x2C ∷ []) (sign 0x2C ∷ [])
-    (says_sign rules.breaks12 0x2C (comma_class rules.breaks12)) refl
-
--- a `?`
-pub takes_question : (rules : Rules) (anchor tag : Option Text) (pairs : TreePairs) (levels : List Level)
-    → Takes rules (within (in_mapping anchor tag pairs no_key ∷ levels) entry_awaited) (0x3F ∷ [])
-    (within (in_mapping anchor tag pairs key_due ∷ levels) (node_awaited false))
-takes_question rules anchor tag pairs levels =
-    takes_to rules (within (in_mapping anchor tag pairs no_key ∷ levels) entry_awaited)
-    (within (in_mapping anchor tag pairs key_due ∷ levels) (node_awaited false))
-    (0x3F ∷ []) (sign 0x3F ∷ []) (says_sign rules.breaks12 0x3F (question_class rules.breaks12)) refl
-
--- a `:` right after a simple key
-pub takes_colon_at_once : (rules : Rules) (levels : List Level)
-    → Takes rules (within levels (colon_awaited at_once)) (0x3A ∷ []) (within levels (node_awaited false))
-takes_colon_at_once rules levels =
-    takes_to rules (within levels (colon_awaited at_once)) (within levels (node_awaited false)) (0x3A ∷ []) (sign 0x3A ∷ [])
-    (says_sign rules.breaks12 0x3A (colon_class rules.breaks12)) refl
-
--- a `:` after white space
-pub takes_colon_after_white : (rules : Rules) (levels : List Level)
-    → Takes rules (within levels (colon_awaited (after_white true))) (0x3A ∷ []) (within levels (node_awaited false))
-takes_colon_after_white rules levels =
-    takes_to rules (within levels (colon_awaited (after_white true))) (within levels (node_awaited false)) (0x3A ∷ []) (sign 0x3A ∷ [])
-    (says_sign rules.breaks12 0x3A (colon_class rules.breaks12)) refl
 
 -- a `]` after an item
 pub takes_sequence_end : (rules : Rules) (anchor tag : Option Text) (items : Trees) (levels : List Level)

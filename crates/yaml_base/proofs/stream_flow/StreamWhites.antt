@@ -26,11 +26,6 @@ spaces_end_word breaks12 zero rest h = h
 spaces_end_word breaks12 (suc n) rest h =
     ap (λ class. ends_by class (ends_word breaks12 (spaces n ++ rest))) (space_class breaks12) ∙ spaces_end_word breaks12 n rest h
 
--- and so do a break and spaces
-pub line_ends_word : (breaks12 : Bool) (n : ℕ) → EndsWord breaks12 (line_feed ∷ spaces n)
-line_ends_word breaks12 n rest h =
-    ap (λ class. ends_by class (ends_word breaks12 (spaces n ++ rest))) (line_feed_class breaks12) ∙ spaces_end_word breaks12 n rest h
-
 -- a reading that blanks leave as it is
 abbrev pub StaysAtBlank : Rules → FlowReading → Type 0
 StaysAtBlank rules reading = Takes rules reading (space ∷ []) reading
@@ -40,28 +35,6 @@ pub spaces_stay : (rules : Rules) (reading : FlowReading) (n : ℕ) → StaysAtB
 spaces_stay rules reading zero one = takes_nothing rules reading
 spaces_stay rules reading (suc n) one =
     takes_both rules reading reading reading (space ∷ []) (spaces n) one (spaces_stay rules reading n one) (spaces_end_word rules.breaks12 n)
-
--- a blank before an entry
-pub entry_blank : (rules : Rules) (levels : List Level) → StaysAtBlank rules (within levels entry_awaited)
-entry_blank rules levels =
-    takes_to rules (within levels entry_awaited) (within levels entry_awaited) (space ∷ []) (blank ∷ [])
-    (says_blank rules.breaks12 space (space_class rules.breaks12)) refl
-
--- a break and spaces before an entry
-pub entry_line : (rules : Rules) (levels : List Level) (n : ℕ) → Takes rules (within levels entry_awaited) (line_feed ∷ spaces n) (within levels entry_awaited)
-entry_line rules levels n =
-    takes_both rules (within levels entry_awaited) (within levels entry_awaited) (within levels entry_awaited) (line_feed ∷ []) (spaces n)
-    (takes_to rules (within levels entry_awaited) (within levels entry_awaited) (line_feed ∷ []) (line_end ∷ [])
-    (says_break rules.breaks12 line_feed (line_feed_class rules.breaks12)) refl)
-    (spaces_stay rules (within levels entry_awaited) n (entry_blank rules levels))
-    (spaces_end_word rules.breaks12 n)
-
--- a blank between `?` or `:` and a node
-pub node_blank : (rules : Rules) (levels : List Level) (came : Bool)
-    → Takes rules (within levels (node_awaited came)) (space ∷ []) (within levels (node_awaited true))
-node_blank rules levels came =
-    takes_to rules (within levels (node_awaited came)) (within levels (node_awaited true)) (space ∷ []) (blank ∷ [])
-    (says_blank rules.breaks12 space (space_class rules.breaks12)) refl
 
 -- the blank after an alias that is a key
 pub alias_blank : (rules : Rules) (levels : List Level)

@@ -8,7 +8,7 @@ use Rattle.yaml_base.specs.Event.{single_quoted, double_quoted}
 use Rattle.yaml_base.specs.ReadSingle.{read_single}
 use Rattle.yaml_base.specs.ReadDouble.{read_double}
 use Rattle.yaml_base.specs.TidyBodies.{is_tidy}
-use Rattle.yaml_base.specs.StreamContent.{Standing, stood_quoted, Tagging, without_tag, Tree, scalar_tree}
+use Rattle.yaml_base.specs.StreamContent.{Stood, stood_quoted, Tagging, without_tag, Tree, scalar_tree}
 use Rattle.yaml_base.specs.StreamLines.{ends_sign}
 use Rattle.yaml_base.specs.StreamScalars.{Rules, Properties, no_properties, tagging_said, scalar_said, scalar_of_style, word_read}
 use Rattle.yaml_base.specs.StreamFlow.{is_alias, longest_key}
@@ -52,7 +52,7 @@ key_found rules before (c ∷ t) after key clear read h =
     by false none = refl
 
 -- a scalar is no alias
-pub scalar_no_alias : (properties : Properties) (standing : Standing) (value : Option Text)
+pub scalar_no_alias : (properties : Properties) (standing : Stood) (value : Option Text)
     → option_and_then (λ tree. if is_alias tree then Some tree else None) (scalar_said properties standing value) ≡ None
 scalar_no_alias properties standing None = refl
 scalar_no_alias properties standing (Some text) = by (tagging_said properties.tag standing)
@@ -64,7 +64,7 @@ scalar_no_alias properties standing (Some text) = by (tagging_said properties.ta
     by (Some tagging) = refl
 
 -- a scalar stays one where aliases are left out
-pub scalar_but_alias : (properties : Properties) (standing : Standing) (value : Option Text)
+pub scalar_but_alias : (properties : Properties) (standing : Stood) (value : Option Text)
     → option_and_then (λ tree. if is_alias tree then None else Some tree) (scalar_said properties standing value) ≡ scalar_said properties standing value
 scalar_but_alias properties standing None = refl
 scalar_but_alias properties standing (Some text) = by (tagging_said properties.tag standing)
@@ -187,29 +187,3 @@ single_no_key rules b (c ∷ t) after v read = (
       (ap (λ n. n == 39) (eqb-true c 0x3A (and_parts (c == 0x3A) (ends_sign (t ++ (0x3A ∷ after))) h).0)) read),
   single_no_key rules (b ++ (c ∷ [])) t after v (ap (read_single rules.breaks12) (append_assoc (0x27 ∷ b) (c ∷ []) t) ∙ read),
 )
-
--- the tree of a scalar in quotes
-abbrev pub quoted_tree : Text → Tree
-quoted_tree value = scalar_tree None (without_tag stood_quoted) value
-
--- a tidy text in double quotes that isn't too long is a simple key before `:`
-pub double_quoted_key : (rules : Rules) (t after v : Text) → read_double rules.breaks12 (0x22 ∷ t) ≡ Some v
-    → is_tidy double_quoted rules.breaks12 None (0x22 ∷ t) ≡ true → nat_le (length (0x22 ∷ t)) longest_key ≡ true → ends_sign after ≡ true
-    → key_of_line rules ((0x22 ∷ t) ++ (0x3A ∷ after)) ≡ found (quoted_tree v) (0x22 ∷ t) after
-double_quoted_key rules t after v read tidy short h =
-    key_found rules [] (0x22 ∷ t) after (quoted_tree v) (λ e. absurd (false≢true e), double_no_key rules [] t after v read)
-    (double_key_text rules t (Some v) read
-    ∙ ap (λ x. if x then quoted_said (if_tidy_double rules (0x22 ∷ t) (Some v)) else None) short
-    ∙ ap (λ x. quoted_said (if x then Some v else None)) tidy)
-    h
-
--- and so is one in single quotes
-pub single_quoted_key : (rules : Rules) (t after v : Text) → read_single rules.breaks12 (0x27 ∷ t) ≡ Some v
-    → is_tidy single_quoted rules.breaks12 None (0x27 ∷ t) ≡ true → nat_le (length (0x27 ∷ t)) longest_key ≡ true → ends_sign after ≡ true
-    → key_of_line rules ((0x27 ∷ t) ++ (0x3A ∷ after)) ≡ found (quoted_tree v) (0x27 ∷ t) after
-single_quoted_key rules t after v read tidy short h =
-    key_found rules [] (0x27 ∷ t) after (quoted_tree v) (λ e. absurd (false≢true e), single_no_key rules [] t after v read)
-    (single_key_text rules t (Some v) read
-    ∙ ap (λ x. if x then quoted_said (if_tidy_single rules (0x27 ∷ t) (Some v)) else None) short
-    ∙ ap (λ x. quoted_said (if x then Some v else None)) tidy)
-    h

@@ -15,6 +15,7 @@ use Rattle.yaml_base.specs.Style.{style_asked, style_fitting, fits_plain}
 use Rattle.yaml_base.specs.Grammar.{alias_node, scalar_node, sequence_node, mapping_node, no_nodes, nodes_and, no_pairs, pairs_and}
 use Rattle.yaml_base.specs.Refusal.{scalar_tag, collection_tag}
 use Rattle.yaml_base.specs.Layout.{Role, is_key, byte_count, name_count, tag_count, is_short, is_simple, deeper, properties_laid, alias_laid, separation_laid, body_laid, choice_of, entry_place}
+use Rattle.yaml_base.specs.Places.{most_key_bytes}
 use Rattle.yaml_base.specs.StreamContent.{Tree}
 use Rattle.yaml_base.specs.StreamScalars.{name_read}
 use Rattle.yaml_base.specs.StreamFlow.{is_alias, longest_key, key_length, is_key_text}
@@ -82,7 +83,7 @@ key_style s in_flow role column content =
 -- what is asked of a scalar that is a simple key
 pub record SimpleScalar (directives : List TagDirective) (canonical : Bool) (content : Scalar) : Type 0 where
   pub whole : list_any is_break content.value ≡ false
-  pub short : byte_count content.value + name_count content.anchor + tag_count directives (scalar_tag canonical content) ≤ 128
+  pub short : byte_count content.value + name_count content.anchor + tag_count directives (scalar_tag canonical content) ≤ most_key_bytes
 
 pub simple_scalar : (canonical : Bool) (directives : List TagDirective) (content : Scalar) → is_simple canonical directives (scalar_node content) ≡ true
     → SimpleScalar directives canonical content
@@ -90,7 +91,7 @@ simple_scalar canonical directives content h =
     let count = byte_count content.value + name_count content.anchor + tag_count directives (scalar_tag canonical content) in
     let parts = and_parts (not (list_any is_break content.value)) (is_short count)
     (and_parts (not canonical) (not (list_any is_break content.value) && is_short count) h).1 in
-    record { whole = no_break (list_any is_break content.value) parts.0; short = leb-true count 128 parts.1 }
+    record { whole = no_break (list_any is_break content.value) parts.0; short = leb-true count most_key_bytes parts.1 }
   where
     no_break : (x : Bool) → not x ≡ true → x ≡ false
     no_break true h = absurd (false≢true h)
@@ -121,7 +122,7 @@ scalar_key_text s own directives content style bare named stands simple =
 -- Aliases and empty collections
 
 -- the text of an alias
-pub alias_key_text : (breaks12 : Bool) (name : Text) → name_read name ≡ Some name → byte_count name ≤ 128 → KeyText breaks12 (0x2A ∷ name)
+pub alias_key_text : (breaks12 : Bool) (name : Text) → name_read name ≡ Some name → byte_count name ≤ most_key_bytes → KeyText breaks12 (0x2A ∷ name)
 alias_key_text breaks12 name named short =
     let less : length name ≤ byte_count name = length-le-encodes name in
     record {
@@ -136,7 +137,7 @@ alias_key_text breaks12 name named short =
 -- the text of an empty collection, after its anchor and tag
 pub empty_key_text : (s : Effective) (own directives : List TagDirective) (start : Collection) (a b : ℕ)
     → ((breaks12 : Bool) → OneLine breaks12 (a ∷ b ∷ [])) → IsNamed start.anchor → TagStands s.portable own directives (collection_tag s.canonical start)
-    → name_count start.anchor + tag_count directives (collection_tag s.canonical start) ≤ 128
+    → name_count start.anchor + tag_count directives (collection_tag s.canonical start) ≤ most_key_bytes
     → KeyText s.breaks12 (lead start.anchor (tag_written s.portable directives (collection_tag s.canonical start) false) ++ (a ∷ b ∷ []))
 empty_key_text s own directives start a b line named stands short =
     let tag = collection_tag s.canonical start in
@@ -162,9 +163,9 @@ curly_line true = refl
 curly_line false = refl
 
 -- a collection that is a simple key is empty, and short
-pub simple_collection : (canonical empty : Bool) (count : ℕ) → (not canonical && (empty && is_short count)) ≡ true → (empty ≡ true) × (count ≤ 128)
+pub simple_collection : (canonical empty : Bool) (count : ℕ) → (not canonical && (empty && is_short count)) ≡ true → (empty ≡ true) × (count ≤ most_key_bytes)
 simple_collection canonical empty count h =
-    let parts = and_parts empty (is_short count) (and_parts (not canonical) (empty && is_short count) h).1 in (parts.0, leb-true count 128 parts.1)
+    let parts = and_parts empty (is_short count) (and_parts (not canonical) (empty && is_short count) h).1 in (parts.0, leb-true count most_key_bytes parts.1)
 
 -- In flow
 
@@ -196,7 +197,7 @@ scalar_fits s own directives content role column cursor text named stands simple
 pub keys_fit : (s : Effective) (own directives : List TagDirective) → KeysFit s own directives
 keys_fit s own directives (alias_node name) role column cursor text h names bodies e =
     let simple = (and_parts (is_key role) (not s.canonical && is_short (byte_count name)) h).1 in
-    let short = leb-true (byte_count name) 128 (and_parts (not s.canonical) (is_short (byte_count name)) simple).1 in
+    let short = leb-true (byte_count name) most_key_bytes (and_parts (not s.canonical) (is_short (byte_count name)) simple).1 in
     subst (λ t. is_key_text s.breaks12 (node_tree (alias_node name) s directives (entry_place true role 0)) t ≡ true) (sym (same (sym (laid h) ∙ e)))
     (key_text_fits s.breaks12 (node_tree (alias_node name) s directives (entry_place true role 0)) (0x2A ∷ name) (alias_key_text s.breaks12 name names short))
   where

@@ -5,7 +5,7 @@ use Rattle.std.specs.List.{list_all}
 use Rattle.std.specs.Option.{option_or}
 use Rattle.std.specs.Prelude.{ℕ, Bool, true, false, Option, None, Some, [], ◌∷◌, ◌++◌, ◌==◌, ◌||◌, ◌&&◌, ◌+◌, not, is_some, nat_le, length, option_map, option_and_then, if◌then◌else◌}
 use Rattle.yaml_base.specs.Characters.{Text, space, is_alpha}
-use Rattle.yaml_base.specs.StreamContent.{Standing, Tagging, Tree, scalar_tree, sequence_tree, mapping_tree, no_trees, no_tree_pairs}
+use Rattle.yaml_base.specs.StreamContent.{Stood, Tagging, Tree, scalar_tree, sequence_tree, mapping_tree, no_trees, no_tree_pairs}
 use Rattle.yaml_base.specs.StreamLines.{Indented, indented, spaces, ends_sign}
 use Rattle.yaml_base.specs.ReadTags.{TagSaid, tag_said}
 use Rattle.yaml_base.specs.StreamScalars.{Rules, Properties, PropertiesRead, word_cut, name_read, tag_of_word, tag_first, collection_tag_said, tagging_said, scalar_said, standing_of, style_begun, value_read, alias_said, WordKind, an_alias, empty_sequence, empty_mapping, a_scalar, kind_of_word, word_by_kind, word_after, word_read}
@@ -67,7 +67,7 @@ other_kept None h = refl
 other_kept (Some tree) h = ap (λ x. if x then None else Some tree) h
 
 -- a scalar is none
-scalar_other : (properties : Properties) (standing : Standing) (value : Option Text) → reads_alias (scalar_said properties standing value) ≡ false
+scalar_other : (properties : Properties) (standing : Stood) (value : Option Text) → reads_alias (scalar_said properties standing value) ≡ false
 scalar_other properties standing None = refl
 scalar_other properties standing (Some text) = by (tagging_said properties.tag standing)
   where

@@ -15,6 +15,7 @@ use Rattle.yaml_base.specs.Refusal.{scalar_tag, collection_tag}
 use Rattle.yaml_base.specs.Meaning.{read_in_style}
 use Rattle.yaml_base.specs.TidyBodies.{is_tidy}
 use Rattle.yaml_base.specs.Layout.{as_key, byte_count, name_count, tag_count, is_short, has_no_pairs, deeper, Body, body_at, properties_laid, separation_laid, body_laid, choice_of, Place, entry_place, Role, alias_laid, asks_flow, is_written_in_flow, Brackets, square, curly, end_laid}
+use Rattle.yaml_base.specs.Places.{most_key_bytes}
 use Rattle.yaml_base.specs.SingleQuoted.{quotes_doubled}
 use Rattle.yaml_base.specs.DoubleQuoted.{character_text}
 use Rattle.yaml_base.specs.StreamContent.{Tree, alias_tree, scalar_tree}
@@ -236,7 +237,7 @@ empty_key_fits s own directives start brackets a b tree e entries nothing openin
 pub simple_keys_fit : (s : Effective) (own directives : List TagDirective) → SimpleKeysFit s own directives
 simple_keys_fit s own directives (alias_node []) pairs e h names bodies = absurd (none_not_some names)
 simple_keys_fit s own directives (alias_node (n ∷ name)) pairs e h names bodies =
-    let short = leb-true (byte_count (n ∷ name)) 128 (and_parts (not s.canonical) (is_short (byte_count (n ∷ name))) h).1 in
+    let short = leb-true (byte_count (n ∷ name)) most_key_bytes (and_parts (not s.canonical) (is_short (byte_count (n ∷ name))) h).1 in
     let of = alias_key_text s.breaks12 (n ∷ name) names short in
     subst (λ x. KeyFits (rules_of s own) (alias_laid (n ∷ name) x (margin_cursor e)).text (alias_tree (n ∷ name))) (sym h)
     (alias_key_fits (rules_of s own) n name (name_letters (n ∷ name) names) of.short of)

@@ -125,14 +125,6 @@ deep_new_line breaks12 count at cursor le = by (breaks_line at cursor)
     by true = fed (begins_deep breaks12 count (spaces at)) refl (begins (begins_with_break breaks12 (spaces at)))
     by false = deep_line breaks12 count (spaces (at - cursor.column)) (spaces_line breaks12 (at - cursor.column))
 
--- more spaces than are asked
-pub deep_fewer : (breaks12 : Bool) (m n : ℕ) → m ≤ n → Implies (begins_deep breaks12 n) (begins_deep breaks12 m)
-deep_fewer breaks12 m n le t h = by (begins_with_break breaks12 t) h
-  where
-    by : (x : Bool) → (x || begins_with_spaces n t) ≡ true → (x || begins_with_spaces m t) ≡ true
-    by true h = refl
-    by false h = spaces_fewer m n t le h
-
 -- Tidy texts
 
 -- no break ends what doesn't end white

@@ -36,20 +36,6 @@ pub record Marks (lines : List Line) (sections : List Section) : Type 0 where
   pub marks : (rest : List Line) → (sections_of rest).before ≡ []
       → sections_of (lines ++ rest) ≡ record { before = []; sections = sections ++ (sections_of rest).sections }
 
--- no lines
-pub marks_none : Marks [] []
-marks_none = record { marks = λ rest h. ap (λ b. record { before = b; sections = (sections_of rest).sections }) h }
-
--- lines, and then others
-pub marks_both : (a b : List Line) (x y : List Section) → Marks a x → Marks b y → Marks (a ++ b) (x ++ y)
-marks_both a b x y one two = record {
-  marks = λ rest h.
-      let after = two.marks rest h in
-      ap sections_of (append_assoc a b rest) ∙ one.marks (b ++ rest) (ap (λ g. g.before) after)
-      ∙ ap (λ g. record { before = []; sections = x ++ g.sections }) after
-      ∙ ap (λ g. record { before = []; sections = g }) (sym (append_assoc x y (sections_of rest).sections));
-}
-
 -- a mark is one
 abbrev pub IsMark : MarkKind → Type 0
 IsMark mark = is_unmarked mark ≡ false
@@ -71,8 +57,3 @@ marks_one line body is h = record {
     by no_mark u after = absurd (true≢false u)
     by start_mark u after = refl
     by end_mark u after = refl
-
--- the sections of lines that are these, and nothing after them
-pub marks_alone : (lines : List Line) (sections : List Section) → Marks lines sections → sections_of lines ≡ record { before = []; sections = sections }
-marks_alone lines sections all =
-    ap sections_of (sym (append-nil lines)) ∙ all.marks [] refl ∙ ap (λ t. record { before = []; sections = t }) (append-nil sections)

@@ -4,7 +4,7 @@ use Rattle.std.proofs.lemmas.Bool.{true≢false}
 use Rattle.std.specs.Prelude.{ℕ, Bool, true, false, Option, None, Some, List, [], ◌∷◌, ◌++◌, ◌==◌, ◌||◌, option_map, option_and_then, if◌then◌else◌}
 use Rattle.yaml_base.specs.Characters.{Text, is_between, line_feed}
 use Rattle.yaml_base.specs.LineBreaks.{is_read_break}
-use Rattle.yaml_base.specs.ReadBlock.{Element, content, line_end, extended, element_before, elements, detected, indentation, element_unindented, all_unindented, has_content, kept_lines, joined, unfolded, Chomping, strip, clip, lines_read, digit_first, after_digit, chomping_first, after_chomping, after_break, read_lines, read_block}
+use Rattle.yaml_base.specs.ReadBlock.{Element, content, line_end, extended, element_before, elements, detected, read_indentation, element_unindented, all_unindented, has_content, kept_lines, joined, unfolded, Chomping, strip, clip, lines_read, digit_first, after_digit, chomping_first, after_chomping, after_break, read_lines, read_block}
 use Rattle.yaml_base.proofs.stream_lines.StreamCuts.{none_not_some}
 
 -- a break at the end, as text and as an element
@@ -28,14 +28,14 @@ elements_more breaks12 [] = refl
 elements_more breaks12 (c ∷ body) = ap (element_before breaks12 c) (elements_more breaks12 body)
     ∙ before_more (is_read_break breaks12 c) c (elements breaks12 body)
 
--- it shows no indentation
+-- it shows no read_indentation
 detected_more : (es : List Element) → detected (es ++ last_end) ≡ detected es
 detected_more [] = refl
 detected_more (content text ∷ rest) = refl
 detected_more (line_end b ∷ rest) = detected_more rest
 
--- so the indentation stays
-indentation_more : (digit column : Option ℕ) (es : List Element) → indentation digit column (es ++ last_end) ≡ indentation digit column es
+-- so the read_indentation stays
+indentation_more : (digit column : Option ℕ) (es : List Element) → read_indentation digit column (es ++ last_end) ≡ read_indentation digit column es
 indentation_more None column es = detected_more es
 indentation_more (Some digit) None es = refl
 indentation_more (Some digit) (Some column) es = refl
@@ -77,8 +77,8 @@ read_more : (folded : Bool) (digit column : Option ℕ) (es : List Element)
     → read_lines folded strip digit column (es ++ last_end) ≡ read_lines folded strip digit column es
 read_more folded digit column es =
     ap (λ n. option_map (lines_read folded strip) (all_unindented n (es ++ last_end))) (indentation_more digit column es)
-    ∙ ap (option_map (lines_read folded strip)) (unindented_more (indentation digit column es) es)
-    ∙ by (all_unindented (indentation digit column es) es)
+    ∙ ap (option_map (lines_read folded strip)) (unindented_more (read_indentation digit column es) es)
+    ∙ by (all_unindented (read_indentation digit column es) es)
   where
     by : (t : Option (List Element)) → option_map (lines_read folded strip) (option_map (λ t. t ++ last_end) t) ≡ option_map (lines_read folded strip) t
     by None = refl

@@ -130,11 +130,3 @@ deep_lines_inside breaks12 column (c ∷ t) h =
         → AllInside true column (lines_after_first (character_before x c (lines_of breaks12 t)))
     by true deep ih = all_inside column (lines_of breaks12 t) (first_inside breaks12 column t deep) ih
     by false deep ih = ap (λ ls. list_all (λ line. is_inside true column line.text) ls) (after_extended c (lines_of breaks12 t)) ∙ ih
-
--- so it is for a tidy text
-pub tidy_lines_inside : (style : ScalarStyle) (breaks12 : Bool) (column : ℕ) (text : Text) → is_tidy style breaks12 (Some column) text ≡ true
-    → AllInside true column (lines_after_first (lines_of breaks12 text))
-tidy_lines_inside style breaks12 column text h =
-    deep_lines_inside breaks12 column text
-    (and_parts (list_all is_printable text) (has_deep_lines breaks12 (suc column) text)
-    (and_parts (list_all is_printable text && has_deep_lines breaks12 (suc column) text) (is_tidy_style style breaks12 text) h).0).1

@@ -8,7 +8,7 @@ use Rattle.std.specs.Prelude.{ℕ, Bool, true, false, Option, None, Some, List, 
 use Rattle.yaml_base.specs.Characters.{Text, is_alpha}
 use Rattle.yaml_base.specs.Settings.{Settings}
 use Rattle.yaml_base.specs.Event.{TagDirective, Event, stream_start, stream_end, document_start, document_end, alias, scalar, sequence_start, sequence_end, mapping_start, mapping_end}
-use Rattle.yaml_base.specs.Tags.{name_fault, anchor_fault, anchor_empty, anchor_alphabet, alias_empty, alias_alphabet, tag_fault, version_fault, directives_fault, directives_in_force}
+use Rattle.yaml_base.specs.Tags.{name_fault, anchor_fault, tag_fault, version_fault, directives_fault, directives_in_force}
 use Rattle.yaml_base.specs.Grammar.{Node, alias_node, scalar_node, sequence_node, mapping_node, Nodes, no_nodes, nodes_and, Pairs, no_pairs, pairs_and, Document, node_events, nodes_events, pairs_events, document_events, documents_events, Stream, stream_events, tree_of}
 use Rattle.yaml_base.specs.Refusal.{scalar_tag, collection_tag, properties_fault, name_or_tag_fault, content_fault, is_sound, IsAccepted}
 use Rattle.yaml_base.specs.Meaning.{option_scalars, directive_scalars, has_scalar_texts}
@@ -21,6 +21,8 @@ use Rattle.yaml_base.proofs.stream_nodes.StreamProperties.{IsNamed}
 use Rattle.yaml_base.proofs.stream_nodes.StreamStands.{TagStands, NamesStand, AllNamesStand, PairsNamesStand}
 use Rattle.yaml_base.proofs.stream_nodes.StreamTags.{written_tag}
 use Rattle.yaml_base.proofs.stream_documents.StreamEachDocument.{AllDocuments, all_of_both, each_document, documents_given}
+use Rattle.yaml_base.specs.declared.errors.yaml_error_t.TheVariants.{AnchorEmpty, AnchorAlphabet, AliasEmpty, AliasAlphabet}
+use Rattle.yaml_base.specs.declared.errors.yaml_error_t.{yaml_error_t}
 
 -- Events
 
@@ -51,11 +53,11 @@ no_faults canonical event h =
 -- Names
 
 -- a name without a fault is read as it is
-name_reads : (if_empty if_other : ℕ) (name : Text) → name_fault if_empty if_other name ≡ None → name_read name ≡ Some name
+name_reads : (if_empty if_other : yaml_error_t) (name : Text) → name_fault if_empty if_other name ≡ None → name_read name ≡ Some name
 name_reads if_empty if_other [] h = absurd (cc)
 name_reads if_empty if_other (c ∷ rest) h = by (list_all is_alpha (c ∷ rest)) h
   where
-    by : (x : Bool) → ◌≡◌ {A = Option ℕ} (if x then None else Some if_other) None
+    by : (x : Bool) → ◌≡◌ {A = Option yaml_error_t} (if x then None else Some if_other) None
         → ◌≡◌ {A = Option Text} (if x then Some (c ∷ rest) else None) (Some (c ∷ rest))
     by true h = refl
     by false h = absurd (cc)
@@ -64,7 +66,7 @@ name_reads if_empty if_other (c ∷ rest) h = by (list_all is_alpha (c ∷ rest)
 anchor_named : (anchor tag : Option Text) → properties_fault anchor tag ≡ None → IsNamed anchor
 anchor_named None tag h = tt
 anchor_named (Some name) tag h =
-    name_reads anchor_empty anchor_alphabet name (neither (anchor_fault name) (option_and_then tag_fault tag) h).0
+    name_reads AnchorEmpty AnchorAlphabet name (neither (anchor_fault name) (option_and_then tag_fault tag) h).0
 
 -- Tags
 
@@ -98,7 +100,7 @@ module _ (portable canonical : Bool) (own : List TagDirective) (sound : directiv
     pub names_stand : (node : Node) → list_all (is_good canonical) (node_events node) ≡ true
         → (portable || not (node_has_flow_sign canonical directives node)) ≡ true → NamesStand portable own canonical directives node
     names_stand (alias_node name) good allowed =
-        name_reads alias_empty alias_alphabet name (no_faults canonical (alias name) (and_parts (is_good canonical (alias name)) true good).0).0
+        name_reads AliasEmpty AliasAlphabet name (no_faults canonical (alias name) (and_parts (is_good canonical (alias name)) true good).0).0
     names_stand (scalar_node content) good allowed =
         let facts = no_faults canonical (scalar content) (and_parts (is_good canonical (scalar content)) true good).0 in
         let texts = and_parts (option_scalars content.tag) (all_scalars content.value) facts.2 in (

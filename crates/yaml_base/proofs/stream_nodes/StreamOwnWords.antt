@@ -12,7 +12,7 @@ use Rattle.yaml_base.specs.ReadPlain.{is_read_white}
 use Rattle.yaml_base.specs.ReadSingle.{read_single}
 use Rattle.yaml_base.specs.ReadDouble.{read_double}
 use Rattle.yaml_base.specs.TidyBodies.{begins_with_spaces, begins_with_blank_line, begins_with_deep_line, has_deep_lines, ends_white, is_tidy_style, is_tidy}
-use Rattle.yaml_base.specs.StreamContent.{Standing, stood_quoted}
+use Rattle.yaml_base.specs.StreamContent.{Stood, stood_quoted}
 use Rattle.yaml_base.specs.StreamLines.{Line, extending, character_before, lines_of, ends_sign, is_inside}
 use Rattle.yaml_base.specs.StreamScalars.{Rules, Properties, scalar_said, word_by_kind, word_after}
 use Rattle.yaml_base.specs.StreamNodes.{key_of_text, key_ends, key_from, word_of_alias, without_last_space, before_trimmed, trimmed}
@@ -143,7 +143,7 @@ first_nowhere rules breaks12 before (c ∷ t) none = by (is_read_break breaks12 
     by false more = extended (lines_of breaks12 (t ++ feed)) more
 
 -- nothing is said of no value
-pub none_said : (properties : Properties) (standing : Standing) (x : Bool) → scalar_said properties standing (if x then None else None) ≡ None
+pub none_said : (properties : Properties) (standing : Stood) (x : Bool) → scalar_said properties standing (if x then None else None) ≡ None
 none_said properties standing true = refl
 none_said properties standing false = refl
 

@@ -160,7 +160,3 @@ written_tag portable own c tag sound scalars allowed = record {
   no_white = written_tag_ends_no_word portable own (c ∷ tag) sound;
   says = spelling_as_read portable own c tag sound allowed ∙ written_tag_reads portable own (c ∷ tag) sound scalars;
 }
-
--- so is the bare tag
-pub bare_tag : (own : List TagDirective) → WrittenTag own (codes "!") bare_said
-bare_tag own = record { rest = []; begins = refl; no_white = refl; says = refl }

@@ -79,10 +79,6 @@ joined_both first next a b one two = (
   (two first.standing).1 ∙ ap (λ c. (b c).cursor) one.1,
 )
 
--- one piece
-joined_one : (lead a b : Text) → lead ≡ a → (lead ++ b) ++ [] ≡ a ++ b
-joined_one lead a b h = append-nil (lead ++ b) ∙ ap (λ t. t ++ b) h
-
 -- regrouped: signs, properties, a space and a body
 assoc_three : (a b c d : Text) → (((a ++ b) ++ c) ++ d) ++ [] ≡ a ++ ((b ++ c) ++ d)
 assoc_three a b c d =

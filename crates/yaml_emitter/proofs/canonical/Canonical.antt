@@ -15,7 +15,8 @@ use Rattle.yaml_base.specs.Pieces.{list_layout}
 use Rattle.yaml_base.specs.Output.{bytes_written}
 use Rattle.yaml_base.specs.Refusal.{IsAccepted, is_sound}
 use Rattle.yaml_base.specs.Content.{documents_content, content_of}
-use Rattle.yaml_base.specs.CanonicalReader.{free, tokens_from, documents_read, canonical_content}
+use Rattle.yaml_base.specs.CanonicalTokens.{free, tokens_from}
+use Rattle.yaml_base.specs.CanonicalReader.{documents_read, canonical_content}
 use Rattle.yaml_base.specs.Meaning.{has_scalar_texts, CanonicalBytesRead}
 use Rattle.yaml_base.proofs.BreakLaws.{breaks-round}
 use Rattle.yaml_base.proofs.Trees.{tree_of-stream_events}

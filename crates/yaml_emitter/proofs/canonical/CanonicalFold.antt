@@ -8,8 +8,9 @@ use Rattle.yaml_base.specs.Tags.{directives_in_force, spelling, spelled}
 use Rattle.yaml_base.specs.ReadTags.{TagSaid, bare_said, name_said}
 use Rattle.yaml_base.specs.Grammar.{Node, alias_node, scalar_node, sequence_node, mapping_node, Nodes, no_nodes, nodes_and, Pairs, no_pairs, pairs_and}
 use Rattle.yaml_base.specs.Layout.{has_no_nodes, has_no_pairs}
-use Rattle.yaml_base.specs.Content.{scalar_tag, scalar_content, Contents, node_content, nodes_content, pairs_content, DocumentContent}
-use Rattle.yaml_base.specs.CanonicalReader.{Token, scalar_token, opens_sequence, closes_sequence, opens_mapping, closes_mapping, key_sign, value_sign, comma, OpenContent, open_sequence, open_mapping, node_awaited, entry_awaited, comma_awaited, Head, Reading, within, with_content, tag_read, with_tag, token_read}
+use Rattle.yaml_base.specs.Content.{content_tag, scalar_content, Contents, node_content, nodes_content, pairs_content, DocumentContent}
+use Rattle.yaml_base.specs.CanonicalTokens.{Token, scalar_token, opens_sequence, closes_sequence, opens_mapping, closes_mapping, key_token, value_token, comma}
+use Rattle.yaml_base.specs.CanonicalReader.{OpenContent, open_sequence, open_mapping, node_awaited, entry_awaited, comma_awaited, Head, Reading, within, with_content, tag_read, with_tag, token_read}
 use Rattle.yaml_emitter.proofs.canonical.CanonicalTokens.{properties_tokens, entry_sign, node_tokens, nodes_tokens, pairs_tokens}
 use Rattle.yaml_emitter.proofs.canonical.CanonicalEvents.{EachNode, EachItem, EachPair}
 
@@ -54,9 +55,9 @@ pairs_begin : (portable : Bool) (pairs : Pairs) (own : List TagDirective) (tail 
     → Begins opens_mapping (pairs_tokens portable pairs own ++ (entry_sign opens_mapping (has_no_pairs pairs) ∷ tail))
 pairs_begin portable no_pairs own tail = record { rest = tail; is = refl }
 pairs_begin portable (pairs_and pairs key value) own tail =
-    let k = entry_sign opens_mapping (has_no_pairs pairs) ∷ key_sign ∷ node_tokens portable key own in
-    let v = value_sign ∷ node_tokens portable value own in
-    let inner = pairs_begin portable pairs own (key_sign ∷ (node_tokens portable key own ++ (v ++ comma ∷ tail))) in
+    let k = entry_sign opens_mapping (has_no_pairs pairs) ∷ key_token ∷ node_tokens portable key own in
+    let v = value_token ∷ node_tokens portable value own in
+    let inner = pairs_begin portable pairs own (key_token ∷ (node_tokens portable key own ++ (v ++ comma ∷ tail))) in
     record {
       rest = inner.rest;
       is = append_assoc (pairs_tokens portable pairs own ++ k) v (comma ∷ tail) ∙ append_assoc (pairs_tokens portable pairs own) k (v ++ comma ∷ tail)
@@ -79,7 +80,7 @@ module _ (portable : Bool) (documents : List DocumentContent) (head : Head) wher
 
   scalar_fold : (levels : List OpenContent) (anchor tag : Option Text) (quoted : Bool) (value : Text)
       → token_read (awaits levels anchor (said_of tag (not quoted))) (scalar_token value)
-      ≡ with_content documents head levels (scalar_content anchor (scalar_tag tag quoted) value)
+      ≡ with_content documents head levels (scalar_content anchor (content_tag tag quoted) value)
   scalar_fold levels None None true value = refl
   scalar_fold levels None None false value = refl
   scalar_fold levels (Some name) None true value = refl
@@ -206,10 +207,10 @@ module _ (portable : Bool) (documents : List DocumentContent) (head : Head) wher
         let sign = entry_sign opens_mapping (has_no_pairs pairs) in
         let held = pairs_content pairs in
         fold3 (awaits levels anchor (said_of tag false)) (pairs_tokens portable pairs head.directives)
-        (sign ∷ key_sign ∷ node_tokens portable key head.directives) (value_sign ∷ node_tokens portable value head.directives)
-        ∙ ap (λ r. fold token_read (fold token_read r (sign ∷ key_sign ∷ node_tokens portable key head.directives))
-        (value_sign ∷ node_tokens portable value head.directives)) (pairs_fold pairs levels anchor tag h.0)
-        ∙ ap (λ r. fold token_read (fold token_read (token_read r key_sign) (node_tokens portable key head.directives))
-        (value_sign ∷ node_tokens portable value head.directives)) (mapping_sign levels anchor tag pairs)
-        ∙ ap (λ r. fold token_read r (value_sign ∷ node_tokens portable value head.directives)) (node_fold key (open_mapping anchor tag held None ∷ levels) h.1)
+        (sign ∷ key_token ∷ node_tokens portable key head.directives) (value_token ∷ node_tokens portable value head.directives)
+        ∙ ap (λ r. fold token_read (fold token_read r (sign ∷ key_token ∷ node_tokens portable key head.directives))
+        (value_token ∷ node_tokens portable value head.directives)) (pairs_fold pairs levels anchor tag h.0)
+        ∙ ap (λ r. fold token_read (fold token_read (token_read r key_token) (node_tokens portable key head.directives))
+        (value_token ∷ node_tokens portable value head.directives)) (mapping_sign levels anchor tag pairs)
+        ∙ ap (λ r. fold token_read r (value_token ∷ node_tokens portable value head.directives)) (node_fold key (open_mapping anchor tag held None ∷ levels) h.1)
         ∙ node_fold value (open_mapping anchor tag held (Some (node_content key)) ∷ levels) h.2

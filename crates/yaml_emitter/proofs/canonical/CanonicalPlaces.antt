@@ -8,7 +8,7 @@ use Rattle.yaml_base.specs.Event.{TagDirective}
 use Rattle.yaml_base.specs.Percent.{percent_escaped, suffix_escaped}
 use Rattle.yaml_base.specs.Tags.{Spelling, shorthand, verbatim, spelling, spelled, directives_fault, directives_in_force}
 use Rattle.yaml_base.specs.Layout.{Role, as_root, as_item, as_key, as_value, Place, opening_or_comma, place_laid, root_place, entry_place, anchor_laid, spelling_laid, properties_laid}
-use Rattle.yaml_base.specs.CanonicalReader.{Token, opens_sequence, closes_sequence, opens_mapping, closes_mapping, key_sign, value_sign, comma, tag_token}
+use Rattle.yaml_base.specs.CanonicalTokens.{Token, opens_sequence, closes_sequence, opens_mapping, closes_mapping, key_token, value_token, comma, tag_token}
 use Rattle.yaml_emitter.proofs.canonical.CanonicalText.{Demand, anything, name_ends, space_next, Says, Opens, opens_append, opens_any, says_then, says_after, says_text, says_nothing, says_white, white-opens, space_if-white, new_line-white, indicator_says, indicator_opens, space_first}
 use Rattle.yaml_emitter.proofs.canonical.CanonicalNames.{IsName, anchor_says, tag_says, IsTagText, tag_text}
 use Rattle.yaml_emitter.proofs.canonical.CanonicalTokens.{anchor_tokens, properties_tokens, entry_sign}
@@ -29,8 +29,8 @@ place_of (Some spot) = entry_place true spot.role spot.column
 abbrev pub role_tokens : Role → List Token
 role_tokens as_root = []
 role_tokens (as_item first) = entry_sign opens_sequence first ∷ []
-role_tokens (as_key first) = entry_sign opens_mapping first ∷ key_sign ∷ []
-role_tokens (as_value simple) = value_sign ∷ []
+role_tokens (as_key first) = entry_sign opens_mapping first ∷ key_token ∷ []
+role_tokens (as_value simple) = value_token ∷ []
 
 abbrev pub spot_tokens : Option Spot → List Token
 spot_tokens None = []
@@ -74,11 +74,11 @@ pub says_curly_end : (breaks12 : Bool) → Says breaks12 anything (codes "}") (c
 says_curly_end true = record { scalars = refl; laid = refl; reads = λ rest meets. refl }
 says_curly_end false = record { scalars = refl; laid = refl; reads = λ rest meets. refl }
 
-says_key : (breaks12 : Bool) → Says breaks12 anything (codes "?") (key_sign ∷ [])
+says_key : (breaks12 : Bool) → Says breaks12 anything (codes "?") (key_token ∷ [])
 says_key true = record { scalars = refl; laid = refl; reads = λ rest meets. refl }
 says_key false = record { scalars = refl; laid = refl; reads = λ rest meets. refl }
 
-says_value : (breaks12 : Bool) → Says breaks12 anything (codes ":") (value_sign ∷ [])
+says_value : (breaks12 : Bool) → Says breaks12 anything (codes ":") (value_token ∷ [])
 says_value true = record { scalars = refl; laid = refl; reads = λ rest meets. refl }
 says_value false = record { scalars = refl; laid = refl; reads = λ rest meets. refl }
 

@@ -7,7 +7,7 @@ use Rattle.std.specs.Str.{all_scalars}
 use Rattle.std.specs.Prelude.{Bool, true, false, Option, None, Some, List, [], ◌∷◌, ◌++◌, ◌&&◌, is_none, option_and_then, if◌then◌else◌}
 use Rattle.yaml_base.specs.Characters.{Text, is_alpha}
 use Rattle.yaml_base.specs.Event.{Version, TagDirective, Event, document_start, document_end, alias, scalar, sequence_start, mapping_start}
-use Rattle.yaml_base.specs.Tags.{name_fault, anchor_fault, anchor_empty, anchor_alphabet, alias_empty, alias_alphabet, tag_fault, handle_fault, prefix_fault, directive_fault, next_directive_fault, directives_fault_after, directives_fault, version_fault, gives_handle, duplicate_directive}
+use Rattle.yaml_base.specs.Tags.{name_fault, anchor_fault, tag_fault, handle_fault, prefix_fault, directive_fault, next_directive_fault, directives_fault_after, directives_fault, version_fault, gives_handle}
 use Rattle.yaml_base.specs.Refusal.{is_sound, name_or_tag_fault, content_fault, properties_fault}
 use Rattle.yaml_base.specs.Grammar.{Document, Documents, no_documents, documents_and, node_events, document_events, documents_events}
 use Rattle.yaml_base.specs.Meaning.{has_scalar_texts, option_scalars, directive_scalars}
@@ -23,25 +23,27 @@ use Rattle.yaml_emitter.proofs.canonical.CanonicalLines.{VersionOk, EachDirectiv
 use Rattle.yaml_emitter.proofs.canonical.CanonicalEvents.{EachNode, each_node}
 use Rattle.yaml_emitter.proofs.canonical.CanonicalFold.{TagReads, TagOf}
 use Rattle.yaml_emitter.proofs.canonical.CanonicalDocuments.{EachDocument}
+use Rattle.yaml_base.specs.declared.errors.yaml_error_t.TheVariants.{DuplicateDirective, AnchorEmpty, AnchorAlphabet, AliasEmpty, AliasAlphabet}
+use Rattle.yaml_base.specs.declared.errors.yaml_error_t.{yaml_error_t}
 
 -- an event is sound in canonical mode, and its texts are of scalar values
 abbrev pub is_good_canonical : Event → Bool
 is_good_canonical = is_good true
 
-pub name_is : (a b : ℕ) (name : Text) → name_fault a b name ≡ None → IsName name
+pub name_is : (a b : yaml_error_t) (name : Text) → name_fault a b name ≡ None → IsName name
 name_is a b [] h = absurd (cc)
 name_is a b (c ∷ rest) h = by (list_all is_alpha (c ∷ rest)) refl h
   where
-    by : (t : Bool) → list_all is_alpha (c ∷ rest) ≡ t → ◌≡◌ {A = Option ℕ} (if t then None else Some b) None → IsName (c ∷ rest)
+    by : (t : Bool) → list_all is_alpha (c ∷ rest) ≡ t → ◌≡◌ {A = Option yaml_error_t} (if t then None else Some b) None → IsName (c ∷ rest)
     by true e h = record { some = (and_parts (is_alpha c) (list_all is_alpha rest) e).0; alphas = e }
     by false e h = absurd (cc)
 
 pub anchor_is : (anchor tag : Option Text) → properties_fault anchor tag ≡ None → AnchorOk anchor
 anchor_is None tag h = tt
-anchor_is (Some name) tag h = name_is anchor_empty anchor_alphabet name (neither (anchor_fault name) (option_and_then tag_fault tag) h).0
+anchor_is (Some name) tag h = name_is AnchorEmpty AnchorAlphabet name (neither (anchor_fault name) (option_and_then tag_fault tag) h).0
 
 pub event_ok : (event : Event) → is_good_canonical event ≡ true → EventOk event
-event_ok (alias name) h = name_is alias_empty alias_alphabet name (no_faults true (alias name) h).0
+event_ok (alias name) h = name_is AliasEmpty AliasAlphabet name (no_faults true (alias name) h).0
 event_ok (scalar content) h =
     let facts = no_faults true (scalar content) h in
     (anchor_is content.anchor content.tag facts.0, (and_parts (option_scalars content.tag) (all_scalars content.value) facts.2).1)
@@ -68,7 +70,7 @@ directives_ok before [] h k = tt
 directives_ok before (directive ∷ rest) h k =
     let scalars = and_parts (directive_scalars directive) (list_all directive_scalars rest) k in
     let both = neither (next_directive_fault before directive) (directives_fault_after (before ++ directive ∷ []) rest) h in
-    let own = neither (directive_fault directive) (if gives_handle directive.handle before then Some duplicate_directive else None) both.0 in
+    let own = neither (directive_fault directive) (if gives_handle directive.handle before then Some DuplicateDirective else None) both.0 in
     let parts = neither (handle_fault directive.handle) (prefix_fault directive.prefix) own.0 in (
       record { handle = handle_form directive.handle parts.0; some = parts.1; scalars = scalars.0 },
       directives_ok (before ++ directive ∷ []) rest both.1 scalars.1,

@@ -6,7 +6,7 @@ use Rattle.yaml_base.specs.Cursor.{Cursor}
 use Rattle.yaml_base.specs.Settings.{Effective}
 use Rattle.yaml_base.specs.Event.{TagDirective, Collection, CollectionStyle}
 use Rattle.yaml_base.specs.Layout.{Place, Brackets, is_key, is_simple_collection, start_piece, end_piece, is_written_in_flow, entry_place, entries_column}
-use Rattle.yaml_base.specs.Refusal.{name_or_tag_fault, fault_if, expected_node, too_deep, most_open}
+use Rattle.yaml_base.specs.Refusal.{name_or_tag_fault, fault_if, most_open}
 use Rattle.yaml_base.specs.Output.{hands_out}
 use Rattle.yaml_base.specs.Steps.{Frame, Stage, at_node, next_place, stage_after, stage_refusal, step, node_allowed, is_first}
 use Rattle.yaml_base.specs.declared.errors.yaml_error_t.{yaml_error_t}
@@ -42,11 +42,11 @@ start_simple s directives start empty place = is_key place.role && (not s.canoni
 start_refusal : (canonical : Bool) (directives : List TagDirective) (frames : List Frame) (mapping : Bool) (start : Collection) (room : Bool)
     → name_or_tag_fault canonical (start_event mapping start) ≡ None
     → nat_lt (length frames) most_open ≡ room
-    → stage_refusal canonical (at_node directives frames) (start_event mapping start) ≡ fault_if (not room) too_deep
+    → stage_refusal canonical (at_node directives frames) (start_event mapping start) ≡ fault_if (not room) TooDeep
 start_refusal canonical directives frames true start room none is =
-    ap (λ (o : Option ℕ). option_or o (fault_if (not (nat_lt (length frames) most_open)) too_deep)) none ∙ ap (λ (b : Bool). fault_if (not b) too_deep) is
+    ap (λ (o : Option yaml_error_t). option_or o (fault_if (not (nat_lt (length frames) most_open)) TooDeep)) none ∙ ap (λ (b : Bool). fault_if (not b) TooDeep) is
 start_refusal canonical directives frames false start room none is =
-    ap (λ (o : Option ℕ). option_or o (fault_if (not (nat_lt (length frames) most_open)) too_deep)) none ∙ ap (λ (b : Bool). fault_if (not b) too_deep) is
+    ap (λ (o : Option yaml_error_t). option_or o (fault_if (not (nat_lt (length frames) most_open)) TooDeep)) none ∙ ap (λ (b : Bool). fault_if (not b) TooDeep) is
 
 pub start_refused : (before : State) (directives : List TagDirective) (frames : List Frame) (mapping : Bool) (start : Collection) (empty : Bool)
     → before.stage ≡ at_node directives frames
@@ -179,9 +179,9 @@ end_wrote s brackets mapping in_flow empty first column mark before after answer
 
 end_refusal : (canonical : Bool) (directives : List TagDirective) (frames : List Frame) (mapping allowed : Bool)
     → node_allowed frames (end_event mapping) ≡ allowed
-    → stage_refusal canonical (at_node directives frames) (end_event mapping) ≡ option_or (fault_if (not allowed) expected_node) None
-end_refusal canonical directives frames true allowed is = ap (λ (b : Bool). option_or (fault_if (not b) expected_node) None) is
-end_refusal canonical directives frames false allowed is = ap (λ (b : Bool). option_or (fault_if (not b) expected_node) None) is
+    → stage_refusal canonical (at_node directives frames) (end_event mapping) ≡ option_or (fault_if (not allowed) ExpectedNode) None
+end_refusal canonical directives frames true allowed is = ap (λ (b : Bool). option_or (fault_if (not b) ExpectedNode) None) is
+end_refusal canonical directives frames false allowed is = ap (λ (b : Bool). option_or (fault_if (not b) ExpectedNode) None) is
 
 pub end_refused : (before : State) (directives : List TagDirective) (frames : List Frame) (mapping empty : Bool) → before.stage ≡ at_node directives frames
     → node_allowed frames (end_event mapping) ≡ false → Processed (end_event mapping) empty before before (Err ExpectedNode)

@@ -4,14 +4,13 @@ use Rattle.std.specs.Prelude.{nat_lt, if◌then◌else◌, option_and_then}
 use Rattle.std.specs.Option.{option_or}
 use Rattle.std.specs.List.{list_all}
 use Rattle.yaml_base.specs.Characters.{Text, is_alpha}
-use Rattle.yaml_base.specs.Errors.{refusal_number}
 use Rattle.yaml_base.specs.Event.{Version, TagDirective, DocumentStart, Event, stream_start, stream_end, document_start, document_end, alias, scalar, sequence_start, sequence_end, mapping_start, mapping_end}
 use Rattle.yaml_base.specs.Tags.{anchor_fault, tag_fault, name_fault, version_fault, handle_fault, prefix_fault, directive_fault, next_directive_fault, directives_fault, directives_fault_after, directives_in_force, gives_handle, is_the_number, last_from, without_last, tag_mark}
-use Rattle.yaml_base.specs.Refusal.{content_fault, properties_fault, name_or_tag_fault, scalar_tag, collection_tag, fault_if, too_deep, begins_collection, most_open}
+use Rattle.yaml_base.specs.Refusal.{content_fault, properties_fault, name_or_tag_fault, scalar_tag, collection_tag, fault_if, begins_collection, most_open}
 use Rattle.yaml_base.specs.Layout.{document_start_piece}
 use Rattle.yaml_base.specs.Steps.{Frame, Stage, at_document, at_node, stage_refusal, stage_allows, stage_expected, open_frames}
 use Rattle.yaml_base.specs.declared.errors.yaml_error_t.{yaml_error_t}
-use Rattle.yaml_base.specs.declared.errors.yaml_error_t.TheVariants.{WriteError, Memory}
+use Rattle.yaml_base.specs.declared.errors.yaml_error_t.TheVariants.{WriteError, Memory, TooDeep, IncompatibleVersion, TagHandleStart, TagHandleEnd, TagHandleAlphabet, DuplicateDirective, AnchorEmpty, AnchorAlphabet, AliasEmpty, AliasAlphabet}
 use Rattle.yaml_pen.specs.Page.{Page}
 use Rattle.yaml_pen.specs.Wrote.{Wrote}
 use Rattle.yaml_emitter.specs.State.{State}
@@ -20,31 +19,31 @@ use Rattle.yaml_emitter.specs.Processing.{Processed}
 use Rattle.yaml_emitter.proofs.events_done.ProcessedBy.{processed_refused_at, processed_unwritten, processed_cut_at, processed_written_at}
 
 -- a fault other than that of the output's limit
-abbrev is_other_fault : Option ℕ → Bool
-is_other_fault None = true
-is_other_fault (Some n) = not (n == 20)
+abbrev is_other_fault : Option yaml_error_t → Bool
+is_other_fault (Some WriteError) = false
+is_other_fault fault = true
 
-either_other : (a b : Option ℕ) → is_other_fault a ≡ true → is_other_fault b ≡ true → is_other_fault (option_or a b) ≡ true
+either_other : (a b : Option yaml_error_t) → is_other_fault a ≡ true → is_other_fault b ≡ true → is_other_fault (option_or a b) ≡ true
 either_other None b first second = second
-either_other (Some n) b first second = first
+either_other (Some error) b first second = first
 
-if_other_fault : (test : Bool) (a b : Option ℕ) → is_other_fault a ≡ true → is_other_fault b ≡ true → is_other_fault (if test then a else b) ≡ true
+if_other_fault : (test : Bool) (a b : Option yaml_error_t) → is_other_fault a ≡ true → is_other_fault b ≡ true → is_other_fault (if test then a else b) ≡ true
 if_other_fault true a b first second = first
 if_other_fault false a b first second = second
 
 version_other : (version : Option Version) → is_other_fault (option_and_then version_fault version) ≡ true
 version_other None = refl
 version_other (Some version) =
-    if_other_fault (is_the_number 1 version.major && (is_the_number 1 version.minor || is_the_number 2 version.minor)) None (Some 6) refl refl
+    if_other_fault (is_the_number 1 version.major && (is_the_number 1 version.minor || is_the_number 2 version.minor)) None (Some IncompatibleVersion) refl refl
 
 handle_other : (handle : Text) → is_other_fault (handle_fault handle) ≡ true
 handle_other [] = refl
 handle_other (c ∷ rest) =
-    let alphabet : Option ℕ = if list_all is_alpha (without_last rest) then None else Some 10 in
-    let ending : Option ℕ = if not (last_from c rest == tag_mark) then Some 9 else alphabet in
-    if_other_fault (not (c == tag_mark)) (Some 8) ending refl
-    (if_other_fault (not (last_from c rest == tag_mark)) (Some 9) alphabet refl
-    (if_other_fault (list_all is_alpha (without_last rest)) None (Some 10) refl refl))
+    let alphabet : Option yaml_error_t = if list_all is_alpha (without_last rest) then None else Some TagHandleAlphabet in
+    let ending : Option yaml_error_t = if not (last_from c rest == tag_mark) then Some TagHandleEnd else alphabet in
+    if_other_fault (not (c == tag_mark)) (Some TagHandleStart) ending refl
+    (if_other_fault (not (last_from c rest == tag_mark)) (Some TagHandleEnd) alphabet refl
+    (if_other_fault (list_all is_alpha (without_last rest)) None (Some TagHandleAlphabet) refl refl))
 
 prefix_other : (prefix : Text) → is_other_fault (prefix_fault prefix) ≡ true
 prefix_other [] = refl
@@ -54,9 +53,9 @@ directives_other : (before own : List TagDirective) → is_other_fault (directiv
 directives_other before [] = refl
 directives_other before (directive ∷ rest) =
     either_other (next_directive_fault before directive) (directives_fault_after (before ++ directive ∷ []) rest)
-    (either_other (directive_fault directive) (if gives_handle directive.handle before then Some 12 else None)
+    (either_other (directive_fault directive) (if gives_handle directive.handle before then Some DuplicateDirective else None)
     (either_other (handle_fault directive.handle) (prefix_fault directive.prefix) (handle_other directive.handle) (prefix_other directive.prefix))
-    (if_other_fault (gives_handle directive.handle before) (Some 12) None refl refl))
+    (if_other_fault (gives_handle directive.handle before) (Some DuplicateDirective) None refl refl))
     (directives_other (before ++ directive ∷ []) rest)
 
 pub content_other : (start : DocumentStart)
@@ -65,7 +64,7 @@ content_other start =
     either_other (option_and_then version_fault start.version) (directives_fault start.directives) (version_other start.version)
     (directives_other [] start.directives)
 
-or_none : (fault : Option ℕ) → option_or fault None ≡ fault
+or_none : (fault : Option yaml_error_t) → option_or fault None ≡ fault
 or_none None = refl
 or_none (Some n) = refl
 
@@ -75,29 +74,25 @@ start_refusal : (canonical first : Bool) (start : DocumentStart)
 start_refusal canonical first start = or_none (option_or (option_and_then version_fault start.version) (directives_fault start.directives))
 
 -- an error that is a fault, or want of memory: nothing is written
-pub processed_fault : (event : Event) (empty : Bool) (state : State) (stage : Stage) (error : yaml_error_t) (fault : Option ℕ) → state.stage ≡ stage
+pub processed_fault : (event : Event) (empty : Bool) (state : State) (stage : Stage) (error : yaml_error_t) (fault : Option yaml_error_t) → state.stage ≡ stage
     → stage_refusal state.given.canonical stage event ≡ fault → is_other_fault fault ≡ true
-    → (Some (refusal_number error) ≢ Some (refusal_number Memory) → Some (refusal_number error) ≡ fault)
+    → (Some error ≢ Some Memory → Some error ≡ fault)
     → Processed event empty state state (Err error)
 processed_fault event empty state stage Memory fault at refusal other is = processed_unwritten event empty state state refl refl refl
 processed_fault event empty state stage WriteError fault at refusal other is = absurd (no_write (ap is_other_fault (is no_memory) ∙ other))
   where
-    as_number : (m n : ℕ) → Some m ≡ Some n → m ≡ n
-    as_number m n h = cc
-
-    no_memory : Some (refusal_number WriteError) ≡ Some (refusal_number Memory) → ⊥
-    no_memory h = let e : refusal_number WriteError
-        ≡ refusal_number Memory = as_number (refusal_number WriteError) (refusal_number Memory) h in absurd (omega arith)
+    no_memory : Some WriteError ≡ Some Memory → ⊥
+    no_memory h = cc
 
     no_write : false ≡ true → ⊥
     no_write h = cc
 processed_fault event empty state stage error fault at refusal other is =
     processed_refused_at event empty state stage error at tt
-    (refusal ∙ sym (is (λ h. let e : refusal_number error ≡ refusal_number Memory = cc in absurd (omega arith))))
+    (refusal ∙ sym (is (λ h. cc)))
 
 pub document_refused : (empty : Bool) (before : State) (first : Bool) (start : DocumentStart) (error : yaml_error_t) → before.stage ≡ at_document first
-    → (Some (refusal_number error) ≢ Some (refusal_number Memory)
-    → Some (refusal_number error) ≡ option_or (option_and_then version_fault start.version) (directives_fault start.directives))
+    → (Some error ≢ Some Memory
+    → Some error ≡ option_or (option_and_then version_fault start.version) (directives_fault start.directives))
     → Processed (document_start start) empty before before (Err error)
 document_refused empty before first start error at is =
     processed_fault (document_start start) empty before (at_document first) error
@@ -124,11 +119,11 @@ document_begun empty before first start page directives frames at sound wrote in
     processed_written_at (document_start start) empty before (record before { stage = at_node directives frames; mark = 0; page = page }) (at_document first)
     at tt refl (start_refusal before.given.canonical first start ∙ sound) refl stage refl wrote (λ hands. cc)
 
-pub none_behind : (a b : Option ℕ) → option_or a b ≡ None → b ≡ None
+pub none_behind : (a b : Option yaml_error_t) → option_or a b ≡ None → b ≡ None
 none_behind None b is = is
 none_behind (Some n) b is = cc
 
-name_other : (if_empty if_other : ℕ) (name : Text) → is_other_fault (Some if_empty) ≡ true → is_other_fault (Some if_other) ≡ true
+name_other : (if_empty if_other : yaml_error_t) (name : Text) → is_other_fault (Some if_empty) ≡ true → is_other_fault (Some if_other) ≡ true
     → is_other_fault (name_fault if_empty if_other name) ≡ true
 name_other if_empty if_other [] first second = first
 name_other if_empty if_other (c ∷ rest) first second = if_other_fault (list_all is_alpha (c ∷ rest)) None (Some if_other) refl second
@@ -138,7 +133,7 @@ properties_other anchor tag = either_other (option_and_then anchor_fault anchor)
   where
     of_anchor : (anchor : Option Text) → is_other_fault (option_and_then anchor_fault anchor) ≡ true
     of_anchor None = refl
-    of_anchor (Some name) = name_other 13 14 name refl refl
+    of_anchor (Some name) = name_other AnchorEmpty AnchorAlphabet name refl refl
 
     of_tag : (tag : Option Text) → is_other_fault (option_and_then tag_fault tag) ≡ true
     of_tag None = refl
@@ -146,7 +141,7 @@ properties_other anchor tag = either_other (option_and_then anchor_fault anchor)
     of_tag (Some (c ∷ rest)) = refl
 
 names_other : (canonical : Bool) (event : Event) → is_other_fault (name_or_tag_fault canonical event) ≡ true
-names_other canonical (alias name) = name_other 15 16 name refl refl
+names_other canonical (alias name) = name_other AliasEmpty AliasAlphabet name refl refl
 names_other canonical (scalar content) = properties_other content.anchor (scalar_tag canonical content)
 names_other canonical (sequence_start start) = properties_other start.anchor (collection_tag canonical start)
 names_other canonical (mapping_start start) = properties_other start.anchor (collection_tag canonical start)
@@ -158,14 +153,14 @@ names_other canonical sequence_end = refl
 names_other canonical mapping_end = refl
 
 -- what is looked at behind names and tags
-abbrev later : Bool → Stage → Event → Option ℕ
+abbrev later : Bool → Stage → Event → Option yaml_error_t
 later canonical stage event =
     option_or (fault_if (not (stage_allows stage event)) (stage_expected stage))
-    (option_or (content_fault canonical event) (fault_if (begins_collection event && not (nat_lt (open_frames stage) most_open)) too_deep))
+    (option_or (content_fault canonical event) (fault_if (begins_collection event && not (nat_lt (open_frames stage) most_open)) TooDeep))
 
 -- a faulty name or tag is told before anything else
 pub names_refused : (event : Event) (empty : Bool) (state : State) (error : yaml_error_t)
-    → Some (refusal_number error) ≡ name_or_tag_fault state.given.canonical event → Processed event empty state state (Err error)
+    → Some error ≡ name_or_tag_fault state.given.canonical event → Processed event empty state state (Err error)
 names_refused event empty state error fault =
     let canonical = state.given.canonical in
     processed_fault event empty state state.stage error (name_or_tag_fault canonical event) refl

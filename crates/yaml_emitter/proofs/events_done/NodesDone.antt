@@ -6,7 +6,7 @@ use Rattle.std.specs.Prelude.{is_some, option_and_then}
 use Rattle.yaml_base.specs.Settings.{Effective}
 use Rattle.yaml_base.specs.Event.{Event, TagDirective, Scalar, Collection, alias, scalar}
 use Rattle.yaml_base.specs.Layout.{Place, is_key, is_simple_alias, is_simple_scalar, alias_piece, scalar_piece}
-use Rattle.yaml_base.specs.Refusal.{name_or_tag_fault, scalar_tag, collection_tag, fault_if, no_tag_nor_implicit}
+use Rattle.yaml_base.specs.Refusal.{name_or_tag_fault, scalar_tag, collection_tag, fault_if}
 use Rattle.yaml_base.specs.Style.{lacks_tag_and_flags}
 use Rattle.yaml_base.specs.Tags.{alias_fault, anchor_fault, tag_fault}
 use Rattle.yaml_base.specs.Steps.{Frame, Stage, at_node, next_place, stage_after, stage_refusal}
@@ -83,7 +83,7 @@ kept_advancing e pen after frames around simple mark kept output is ready =
 
 alias_accepted : (canonical : Bool) (directives : List TagDirective) (frames : List Frame) (name : Text) → alias_fault name ≡ None
     → stage_refusal canonical (at_node directives frames) (alias name) ≡ None
-alias_accepted canonical directives frames name none = ap (λ (o : Option ℕ). option_or o None) none
+alias_accepted canonical directives frames name none = ap (λ (o : Option yaml_error_t). option_or o None) none
 
 alias_wrote : (before : State) (frames : List Frame) (name : Text) (simple : Bool) (place : Place) (page : Page) (answer : Result (Unit {0}) yaml_error_t)
     → place ≡ next_place frames → simple ≡ (is_key place.role && (not before.settings.canonical && is_simple_alias name))
@@ -136,12 +136,12 @@ lacks_given content lacks canonical given answer same answered is =
 scalar_refusal : (canonical : Bool) (directives : List TagDirective) (frames : List Frame) (content : Scalar) (lacks : Bool)
     → name_or_tag_fault canonical (scalar content) ≡ None
     → lacks_tag_and_flags (is_some (scalar_tag canonical content)) content.plain_implicit content.quoted_implicit ≡ lacks
-    → stage_refusal canonical (at_node directives frames) (scalar content) ≡ option_or (fault_if lacks no_tag_nor_implicit) None
+    → stage_refusal canonical (at_node directives frames) (scalar content) ≡ option_or (fault_if lacks NoTagNorImplicit) None
 scalar_refusal canonical directives frames content lacks none is =
-    ap (λ (o : Option ℕ). option_or o
-    (option_or (fault_if (lacks_tag_and_flags (is_some (scalar_tag canonical content)) content.plain_implicit content.quoted_implicit) no_tag_nor_implicit)
+    ap (λ (o : Option yaml_error_t). option_or o
+    (option_or (fault_if (lacks_tag_and_flags (is_some (scalar_tag canonical content)) content.plain_implicit content.quoted_implicit) NoTagNorImplicit)
     None)) none
-    ∙ ap (λ (b : Bool). option_or (fault_if b no_tag_nor_implicit) None) is
+    ∙ ap (λ (b : Bool). option_or (fault_if b NoTagNorImplicit) None) is
 
 pub scalar_refused : (before : State) (directives : List TagDirective) (frames : List Frame) (content : Scalar) (empty : Bool)
     → before.stage ≡ at_node directives frames
@@ -195,7 +195,7 @@ scalar_written before directives frames content empty simple place after mark pa
     (mark_is ∙ ap (λ (b : Bool). marked place b) simple_is ∙ ap (λ (p : Place). marked p (scalar_simple before.settings directives content p)) place_is)
     (scalar_wrote before directives frames content simple place page (Ok tt) place_is simple_is wrote) (λ hands. cc)
 
-first_none : (a b : Option ℕ) → option_or a b ≡ None → a ≡ None
+first_none : (a b : Option yaml_error_t) → option_or a b ≡ None → a ≡ None
 first_none None b none = refl
 first_none (Some n) b none = cc
 

@@ -2,7 +2,6 @@
 use Rattle.std.proofs.Common.{◌≡◌, Bool, true, Option, None, Some, Result, Ok, Err, refl, sym, ap, subst, ◌∙◌, inl, inr}
 use Rattle.std.specs.Prelude.{◌⊎◌, IsErr, IsErrAnd}
 use Rattle.std.proofs.lemmas.Result.{err_from_is_err_and}
-use Rattle.yaml_base.specs.Errors.{refusal_number}
 use Rattle.yaml_base.specs.Event.{Event, stream_start}
 use Rattle.yaml_base.specs.Output.{hands_out}
 use Rattle.yaml_base.specs.Steps.{Stage, stage_refusal, step}
@@ -17,7 +16,7 @@ use Rattle.yaml_emitter.specs.WrittenPieces.{piece_at}
 
 -- a refused event changes nothing
 pub processed_refused : (event : Event) (empty : Bool) (state : State) (error : yaml_error_t) → IsRefusal error
-    → refusal_now state event ≡ Some (refusal_number error) → Processed event empty state state (Err error)
+    → refusal_now state event ≡ Some error → Processed event empty state state (Err error)
 processed_refused event empty state WriteError is refusal = absurd is
 processed_refused event empty state Memory is refusal = absurd is
 processed_refused event empty state error is refusal = record { kept = refl; refusal = refusal }
@@ -122,7 +121,7 @@ laid_at before after event empty stage answer is wrote =
     subst (λ st. Wrote (piece_at (λ standing. (step before.settings st event empty standing).laid) before.mark) before.page after.page answer) (sym is) wrote
 
 pub processed_refused_at : (event : Event) (empty : Bool) (state : State) (stage : Stage) (error : yaml_error_t) → state.stage ≡ stage → IsRefusal error
-    → stage_refusal state.given.canonical stage event ≡ Some (refusal_number error) → Processed event empty state state (Err error)
+    → stage_refusal state.given.canonical stage event ≡ Some error → Processed event empty state state (Err error)
 processed_refused_at event empty state stage error at is refusal =
     processed_refused event empty state error is (ap (λ st. stage_refusal state.given.canonical st event) at ∙ refusal)
 

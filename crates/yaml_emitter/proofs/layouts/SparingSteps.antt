@@ -12,7 +12,7 @@ use Rattle.yaml_base.specs.Layout.{Place, Piece, piece_text, text_of, Standing, 
 use Rattle.yaml_base.specs.Refusal.{is_sound, name_or_tag_fault, content_fault, scalar_tag, collection_tag}
 use Rattle.yaml_base.specs.Settings.{Effective}
 use Rattle.yaml_base.specs.Steps.{Frame, Stage, at_stream, at_document, at_node, at_document_end, next_place, stage_after, is_first, step, node_step, ends_next, steps}
-use Rattle.yaml_base.specs.Tags.{alias_empty, alias_alphabet, version_fault, directives_fault}
+use Rattle.yaml_base.specs.Tags.{version_fault, directives_fault}
 use Rattle.yaml_base.proofs.TagForms.{AreFound, in_force_found}
 use Rattle.yaml_scalar.proofs.LineTexts.{any_both}
 use Rattle.yaml_scalar.proofs.Sparing.{Spares, lacks_line}
@@ -22,6 +22,7 @@ use Rattle.yaml_base.proofs.NoFaults.{neither, is_none_none}
 use Rattle.yaml_emitter.proofs.layouts.MeaningBodies.{charset_of}
 use Rattle.yaml_emitter.proofs.layouts.MeaningStyles.{Allows, chosen_allowed}
 use Rattle.yaml_emitter.proofs.layouts.SparingPlaces.{Lacks, lacks_alias, lacks_closing, lacks_document, lacks_end, lacks_if, lacks_place, lacks_properties, lacks_separation, lacks_then}
+use Rattle.yaml_base.specs.declared.errors.yaml_error_t.TheVariants.{AliasEmpty, AliasAlphabet}
 
 -- the names of an event are of the anchor alphabet, and no directive of it is refused
 abbrev pub NamesOk : Event → Type 0
@@ -37,7 +38,7 @@ pub names_ok : (canonical : Bool) (event : Event) → is_sound canonical event �
 names_ok canonical event h = by event (neither (name_or_tag_fault canonical event) (content_fault canonical event) (is_none_none _ h))
   where
     by : (event : Event) → (name_or_tag_fault canonical event ≡ None) × (content_fault canonical event ≡ None) → NamesOk event
-    by (alias name) p = (name_is alias_empty alias_alphabet name p.0).alphas
+    by (alias name) p = (name_is AliasEmpty AliasAlphabet name p.0).alphas
     by (scalar content) p = anchor_is content.anchor (scalar_tag canonical content) p.0
     by (sequence_start start) p = anchor_is start.anchor (collection_tag canonical start) p.0
     by (mapping_start start) p = anchor_is start.anchor (collection_tag canonical start) p.0

@@ -4,7 +4,7 @@ use Rattle.std.specs.Prelude.{option_map, is_some, ◌++◌}
 use Rattle.yaml_base.specs.Characters.{Text}
 use Rattle.yaml_base.specs.Cursor.{Cursor, Laid, nothing_laid, then_laid}
 use Rattle.yaml_base.specs.Event.{TagDirective}
-use Rattle.yaml_base.specs.Layout.{Place, Brackets, flow_place_laid, block_place_laid, place_laid, anchor_laid, tag_laid, properties_laid, end_laid, end_piece, tag_count}
+use Rattle.yaml_base.specs.Layout.{Place, Role, as_root, as_item, as_key, as_value, Brackets, flow_place_laid, line_column, block_place_laid, place_laid, anchor_laid, tag_laid, properties_laid, end_laid, end_piece, tag_count}
 use Rattle.yaml_base.specs.Settings.{Effective}
 use Rattle.yaml_base.specs.Tags.{Spelling, spelling}
 use Rattle.yaml_base.specs.declared.errors.yaml_error_t.{yaml_error_t}
@@ -21,6 +21,19 @@ pub flow_here : (s : Effective) (place : Place) (simple : Bool) (cursor : Cursor
     → flow_place_laid s place.role simple place.column cursor ≡ place_laid s place simple cursor
 flow_here s place simple cursor is =
     sym (ap (λ (b : Bool). if b then flow_place_laid s place.role simple place.column cursor else block_place_laid place.role simple place.column cursor) is)
+
+-- a place by its line's column is as good
+pub flow_at_line : (s : Effective) (role : Role) (simple : Bool) (line column : Option ℕ) (cursor : Cursor) → line ≡ Some (line_column column)
+    → flow_place_laid s role simple line cursor ≡ flow_place_laid s role simple column cursor
+flow_at_line s role simple line column cursor is =
+    ap (λ (l : Option ℕ). flow_place_laid s role simple l cursor) is ∙ by_line role
+  where
+    by_line : (role : Role) → flow_place_laid s role simple (Some (line_column column)) cursor ≡ flow_place_laid s role simple column cursor
+    by_line as_root = refl
+    by_line (as_item first) = refl
+    by_line (as_key first) = refl
+    by_line (as_value true) = refl
+    by_line (as_value false) = refl
 
 pub block_here : (s : Effective) (place : Place) (simple : Bool) (cursor : Cursor) → place.in_flow ≡ false
     → block_place_laid place.role simple place.column cursor ≡ place_laid s place simple cursor

@@ -4,7 +4,7 @@ use Rattle.std.proofs.lemmas.Bool.{and_parts, not-true}
 use Rattle.std.specs.Prelude.{[], ◌∷◌, is_some, option_map}
 use Rattle.yaml_base.specs.Analysis.{Allowances, Charset, allows_plain, is_empty}
 use Rattle.yaml_base.specs.Characters.{Text}
-use Rattle.yaml_base.specs.Cursor.{Cursor, then_laid}
+use Rattle.yaml_base.specs.Cursor.{Cursor, Laid, then_laid}
 use Rattle.yaml_base.specs.Event.{ScalarStyle, TagDirective, any_style, plain, single_quoted, double_quoted, literal, folded}
 use Rattle.yaml_base.specs.Layout.{Place, anchor_laid, byte_count, choice_of, deeper, is_short, is_simple_scalar, name_count, place_laid, scalar_piece, tag_count}
 use Rattle.yaml_base.specs.Refusal.{scalar_tag}
@@ -101,26 +101,26 @@ usual_choice s place simple {content} is =
     ∙ ap (λ (b : Bool). by all_allowed false false true b) is.readable
     ∙ chosen_plain seen.style seen.quoted_implicit place.in_flow simple is.asked
 
--- so its place and its text are the scalar's piece
-pub wrote_usual : (s : Effective) (directives : List TagDirective) (place : Place) (simple : Bool) {content : ScalarContent} (mark : ℕ)
-    {before after : Page} {answer : Result (Unit {0}) yaml_error_t} → StandsPlain s.canonical content
-    → Wrote (λ (cursor : Cursor).
+-- what is written of a value that stands plain, at its place behind an anchor, where there is one
+abbrev pub plain_laid_at : Effective → Place → (simple : Bool) → (anchor : Option Text) → (value : List ℕ) → Cursor → Laid
+plain_laid_at s place simple anchor value cursor =
     then_laid
-    (then_laid (place_laid s place simple cursor) (λ between. then_laid (anchor_laid None between) (spelled_tag_laid s.portable None false)))
-    (scalar_text_laid plain s place.in_flow simple (deeper s.indent place.column) (chars content.value.now)))
-    before after answer
+    (then_laid (place_laid s place simple cursor) (λ between. then_laid (anchor_laid anchor between) (spelled_tag_laid s.portable None false)))
+    (scalar_text_laid plain s place.in_flow simple (deeper s.indent place.column) (chars value))
+
+-- so its place and its text are the scalar's piece
+pub wrote_usual : (s : Effective) (directives : List TagDirective) (place : Place) (simple : Bool) {content : ScalarContent} {value : List ℕ} (mark : ℕ)
+    {before after : Page} {answer : Result (Unit {0}) yaml_error_t} → StandsPlain s.canonical content → content.value.now ≡ value
+    → Wrote (plain_laid_at s place simple None value) before after answer
     → Wrote (piece_at (scalar_piece s directives place simple (seen_scalar content)) mark) before after answer
-wrote_usual s directives place simple {content} mark {before} {after} {answer} is wrote =
+wrote_usual s directives place simple {content} {value} mark {before} {after} {answer} is same wrote =
     let choice : Choice = record { style = plain; bare = false } in
     let none : Option Spelling = None in
+    let own : Wrote (plain_laid_at s place simple None content.value.now) before after answer =
+    subst (λ (v : List ℕ). Wrote (plain_laid_at s place simple None v) before after answer) (sym same) wrote in
     wrote_scalar s directives place simple (seen_scalar content) mark {choice = choice} {tag = none} (sym (usual_choice s place simple is))
     (sym (ap (option_map (spelling directives)) (no_tag is)))
-    (subst (λ (a : Option Text).
-    Wrote (λ (cursor : Cursor).
-    then_laid
-    (then_laid (place_laid s place simple cursor) (λ between. then_laid (anchor_laid a between) (spelled_tag_laid s.portable None false)))
-    (scalar_text_laid plain s place.in_flow simple (deeper s.indent place.column) (chars content.value.now)))
-    before after answer) (sym is.anchor) wrote)
+    (subst (λ (a : Option Text). Wrote (plain_laid_at s place simple a content.value.now) before after answer) (sym is.anchor) own)
 
 -- it has a flag
 flagged : (tag quoted : Bool) → lacks_tag_and_flags tag true quoted ≡ false

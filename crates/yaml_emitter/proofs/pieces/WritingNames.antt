@@ -7,9 +7,11 @@ use Rattle.std.specs.Option.{option_or}
 use Rattle.std.specs.Prelude.{option_and_then}
 use Rattle.yaml_base.specs.Characters.{Text, is_alpha, is_break}
 use Rattle.yaml_base.specs.Event.{TagDirective}
-use Rattle.yaml_base.specs.Tags.{name_fault, anchor_fault, alias_fault, handle_fault, directive_fault, next_directive_fault, directives_fault, directives_fault_after, gives_handle, default_directives, directives_in_force, tag_mark, last_from, without_last, anchor_empty, anchor_alphabet, alias_empty, alias_alphabet, prefix_fault, tag_handle_start, tag_handle_end, tag_handle_alphabet}
+use Rattle.yaml_base.specs.Tags.{name_fault, anchor_fault, alias_fault, handle_fault, directive_fault, next_directive_fault, directives_fault, directives_fault_after, gives_handle, default_directives, directives_in_force, tag_mark, last_from, without_last, prefix_fault}
 use Rattle.yaml_base.proofs.TagForms.{front_and_last}
 use Rattle.yaml_emitter.specs.Signs.{name_breaks, some_handle_breaks}
+use Rattle.yaml_base.specs.declared.errors.yaml_error_t.TheVariants.{TagHandleStart, TagHandleEnd, TagHandleAlphabet, AnchorEmpty, AnchorAlphabet, AliasEmpty, AliasAlphabet}
+use Rattle.yaml_base.specs.declared.errors.yaml_error_t.{yaml_error_t}
 
 letter_is_no_break : (c : ℕ) → is_alpha c ≡ true → is_break c ≡ false
 letter_is_no_break c letter = grind (arith, nat_tests)
@@ -23,22 +25,22 @@ letters_no_break (c ∷ rest) letters =
     let parts = and_parts (is_alpha c) (list_all is_alpha rest) letters in
     either_false (is_break c) (list_any is_break rest) (letter_is_no_break c parts.0) (letters_no_break rest parts.1)
 
-none_where : (n : ℕ) (test : Bool) → (if test then None else Some n) ≡ None → test ≡ true
-none_where n true none = refl
-none_where n false none = cc
+none_where : (error : yaml_error_t) (test : Bool) → (if test then None else Some error) ≡ None → test ≡ true
+none_where error true none = refl
+none_where error false none = cc
 
 -- a name that isn't refused holds no break
-pub sound_name : (if_empty if_other : ℕ) (name : Text) → name_fault if_empty if_other name ≡ None → list_any is_break name ≡ false
+pub sound_name : (if_empty if_other : yaml_error_t) (name : Text) → name_fault if_empty if_other name ≡ None → list_any is_break name ≡ false
 sound_name if_empty if_other [] none = refl
 sound_name if_empty if_other (c ∷ rest) none = letters_no_break (c ∷ rest) (none_where if_other (list_all is_alpha (c ∷ rest)) none)
 
 pub sound_alias : (name : Text) → alias_fault name ≡ None → list_any is_break name ≡ false
-sound_alias name none = sound_name alias_empty alias_alphabet name none
+sound_alias name none = sound_name AliasEmpty AliasAlphabet name none
 
 -- an anchor, where there is one
 pub sound_anchor : (anchor : Option Text) → option_and_then anchor_fault anchor ≡ None → name_breaks anchor ≡ false
 sound_anchor None none = refl
-sound_anchor (Some name) none = sound_name anchor_empty anchor_alphabet name none
+sound_anchor (Some name) none = sound_name AnchorEmpty AnchorAlphabet name none
 
 any-append : {T : Type 0} (p : T → Bool) (xs ys : List T) → list_any p xs ≡ false → list_any p ys ≡ false → list_any p (xs ++ ys) ≡ false
 any-append p [] ys here there = there
@@ -46,7 +48,7 @@ any-append p (x ∷ xs) ys here there =
     let parts = or_parts (p x) (list_any p xs) here in
     either_false (p x) (list_any p (xs ++ ys)) parts.0 (any-append p xs ys parts.1 there)
 
-three_tests : (m n k : ℕ) (a b t : Bool) → (if a then Some m else (if b then Some n else (if t then None else Some k))) ≡ None
+three_tests : (m n k : yaml_error_t) (a b t : Bool) → (if a then Some m else (if b then Some n else (if t then None else Some k))) ≡ None
     → (a ≡ false) × (b ≡ false) × (t ≡ true)
 three_tests m n k true b t none = cc
 three_tests m n k false true t none = cc
@@ -64,18 +66,18 @@ mark_is_no_break c is = ap is_break (eqb-true c tag_mark is)
 pub sound_handle : (handle : Text) → handle_fault handle ≡ None → list_any is_break handle ≡ false
 sound_handle [] none = refl
 sound_handle (c ∷ []) none =
-    let tests = three_tests tag_handle_start tag_handle_end tag_handle_alphabet (not (c == tag_mark)) (not (c == tag_mark)) true none in
+    let tests = three_tests TagHandleStart TagHandleEnd TagHandleAlphabet (not (c == tag_mark)) (not (c == tag_mark)) true none in
     either_false (is_break c) false (mark_is_no_break c (is_true (c == tag_mark) tests.0)) refl
 sound_handle (c ∷ d ∷ rest) none =
     let last = last_from c (d ∷ rest) in
-    let tests = three_tests tag_handle_start tag_handle_end tag_handle_alphabet (not (c == tag_mark)) (not (last == tag_mark))
+    let tests = three_tests TagHandleStart TagHandleEnd TagHandleAlphabet (not (c == tag_mark)) (not (last == tag_mark))
     (list_all is_alpha (without_last (d ∷ rest))) none in
     let ends = either_false (is_break last) false (mark_is_no_break last (is_true (last == tag_mark) tests.1)) refl in
     either_false (is_break c) (list_any is_break (d ∷ rest)) (mark_is_no_break c (is_true (c == tag_mark) tests.0))
     (ap (list_any is_break) (front_and_last c d rest)
     ∙ any-append is_break (without_last (d ∷ rest)) (last ∷ []) (letters_no_break (without_last (d ∷ rest)) tests.2) ends)
 
-first_none : (a b : Option ℕ) → option_or a b ≡ None → (a ≡ None) × (b ≡ None)
+first_none : (a b : Option yaml_error_t) → option_or a b ≡ None → (a ≡ None) × (b ≡ None)
 first_none None b none = (refl, none)
 first_none (Some n) b none = cc
 

@@ -9,6 +9,7 @@ use Rattle.yaml_base.specs.Tags.{Spelling, verbatim, spelling, spelling_by, behi
 use Rattle.yaml_emitter.specs.Signs.{some_handle_breaks}
 use Rattle.yaml_emitter.specs.WrittenSigns.{spelling_breaks}
 use Rattle.std.specs.Prelude.{option_map}
+use Rattle.yaml_base.specs.declared.errors.yaml_error_t.{yaml_error_t}
 
 nothing_behind : (prefix : Text) → behind prefix [] ≡ None
 nothing_behind [] = refl
@@ -21,7 +22,7 @@ empty_spelled (directive ∷ rest) =
     ∙ ap (λ (suffix : Option Text). spelling_by directive.handle suffix (spelling rest [])) (sym (nothing_behind directive.prefix))
 
 -- a tag that is refused is empty, and would be spelled as it is
-pub refused_spelled : (directives : List TagDirective) (tag : Text) (fault : ℕ) → Some fault ≡ tag_fault tag → verbatim tag ≡ spelling directives tag
+pub refused_spelled : (directives : List TagDirective) (tag : Text) (fault : yaml_error_t) → Some fault ≡ tag_fault tag → verbatim tag ≡ spelling directives tag
 refused_spelled directives [] fault is = empty_spelled directives
 refused_spelled directives (c ∷ rest) fault is = cc
 

@@ -30,12 +30,6 @@ took_rest before after h = ap (λ (s : State). s.held) h.done.kept
 pub took_error : (before after : State) → TookFirst before after (Ok tt) → after.error ≡ before.error
 took_error before after h = ap (λ (s : State). s.error) h.done.kept
 
-pub took_shorter : (before after : State) → TookFirst before after (Ok tt) → length after.held < length before.held
-took_shorter before after h =
-    let less : length h.rest < length (h.event ∷ h.rest) = omega arith in
-    subst (λ r. length r < length before.held) (sym (took_rest before after h))
-    (subst (λ r. length h.rest < length r) (sym h.held) less)
-
 took_ready : (before after : State) (answer : Result (Unit {0}) yaml_error_t) (h : TookFirst before after answer) → is_head_ready before.held ≡ true
     → is_ready h.event h.rest ≡ true
 took_ready before after answer h ready = subst (λ r. is_head_ready r ≡ true) h.held ready

@@ -3,8 +3,8 @@ use Rattle.std.proofs.Common.{◌≡◌, ℕ, ◌+◌, ◌<◌, ◌≤◌, Bool,
 use Rattle.std.specs.Prelude.{count_by}
 use Rattle.std.specs.List.{list_any}
 use Rattle.std.proofs.lemmas.List.Sums.{sum_by-cons}
-use Rattle.yaml_base.specs.Event.{Event}
-use Rattle.yaml_base.specs.Ready.{is_start, is_end, is_balanced, fronts}
+use Rattle.yaml_base.specs.Event.{Event, document_start, mapping_start, sequence_start}
+use Rattle.yaml_base.specs.Ready.{awaited, is_start, is_end, is_balanced, fronts}
 
 abbrev pub one_if : Bool → ℕ
 one_if b = cond b 1 0
@@ -88,3 +88,10 @@ closes_after-next seen xs i x within at starts ends one other is_one is_other =
 pub one_if-le-one : (b : Bool) → one_if b ≤ 1
 one_if-le-one true = omega arith
 one_if-le-one false = omega arith
+
+-- what awaits others begins something, so that alone it doesn't close
+pub alone_open : (event : Event) → (awaited event == 0) ≡ false → list_any is_balanced (fronts (event ∷ [])) ≡ false
+alone_open (document_start start) waits = refl
+alone_open (sequence_start start) waits = refl
+alone_open (mapping_start start) waits = refl
+alone_open event waits = cc

@@ -1,8 +1,7 @@
 -- An emitter that failed stands after the events that it was given, and after those that come later.
-use Rattle.std.proofs.Common.{◌≡◌, refl, sym, ap, ◌∙◌, subst, arith, append_assoc, inl}
+use Rattle.std.proofs.Common.{◌≡◌, refl, sym, ap, ◌∙◌, subst, arith, append_assoc}
 use Rattle.std.proofs.lemmas.Bool.{false≢true}
 use Rattle.std.specs.Prelude.{ℕ, suc, Bool, true, false, Option, None, Some, IsSome, Result, Err, List, [], ◌∷◌, ◌++◌, option_and_then, if◌then◌else◌}
-use Rattle.yaml_base.specs.Errors.{refusal_number}
 use Rattle.yaml_base.specs.Settings.{Settings}
 use Rattle.yaml_base.specs.Prefix.{IsPrefix}
 use Rattle.yaml_base.specs.Event.{Event, sequence_start, sequence_end, mapping_start, mapping_end}
@@ -19,7 +18,7 @@ use Rattle.yaml_pen.specs.Page.{Page}
 use Rattle.yaml_pen.specs.Wrote.{Wrote}
 use Rattle.yaml_emitter.specs.State.{State}
 use Rattle.yaml_emitter.specs.Processing.{closes_at_once, event_stepped, event_laid, CutShort, unwritten, partly_written, Refused, Processed}
-use Rattle.yaml_emitter.specs.StandsAfter.{IsPage, HoldsPieces, HasTaken, FailedAt, closes_last, StandsRefused, holds_before, holds_part, StandsCut, StandsSo, Reached, failed_by}
+use Rattle.yaml_emitter.specs.StandsAfter.{IsPage, HoldsPieces, HasTaken, FailedAt, closes_last, StandsRefused, holds_before, holds_part, StandsCut, StandsSo, Reached, failed_by, at_event}
 use Rattle.yaml_emitter.proofs.standing.Standing.{taken_same, refusal_same, accepted_next, named_more, is_page_wrote}
 use Rattle.yaml_emitter.proofs.standing.StandingSteps.{stepped_steps}
 
@@ -55,7 +54,7 @@ own_accepted (event ∷ []) next rest canonical p q h closes = own_one event nex
 own_accepted (event ∷ other ∷ more) next rest canonical p q h closes = own_later (other ∷ more) next rest (own_accepted (other ∷ more) next rest) canonical
     (push p event) q h closes
 
-refused_opens : (canonical : Bool) (front rest : List Event) (event : Event) (fault : ℕ) (closes : Bool) → BeginsAccepted canonical front
+refused_opens : (canonical : Bool) (front rest : List Event) (event : Event) (fault : yaml_error_t) (closes : Bool) → BeginsAccepted canonical front
     → refusal canonical front event ≡ Some fault → closes_last front (event ∷ rest) ≡ closes → closes ≡ false
 refused_opens canonical front rest event fault false begun refused is = refl
 refused_opens canonical front rest event fault true begun refused is =
@@ -72,9 +71,9 @@ refused_stands : (given : Settings) (all front rest : List Event) (event : Event
 refused_stands given all front rest event error before after h is done =
     let s = settings_for given all in
     let follows = closes_last front (event ∷ rest) in
-    let refused : refusal given.canonical front event ≡ Some (refusal_number error) =
+    let refused : refusal given.canonical front event ≡ Some error =
     sym (refusal_same given all front event follows s before h.taken) ∙ done.refusal in
-    let opens : follows ≡ false = refused_opens given.canonical front rest event (refusal_number error) follows h.taken.stands refused refl in
+    let opens : follows ≡ false = refused_opens given.canonical front rest event error follows h.taken.stands refused refl in
     let kept = done.kept in
     record {
       front = front;
@@ -154,6 +153,6 @@ pub reached_failed : (given : Settings) (all front rest : List Event) (event : E
     → Processed event (closes_at_once event rest) (record before { held = rest }) after (Err error)
     → StandsSo given all (failed_by error after)
 reached_failed given all front rest event before after WriteError h is
-    done = (refl, inl (cut_stands given all front rest event WriteError before after h is done))
-reached_failed given all front rest event before after Memory h is done = (refl, inl (cut_stands given all front rest event Memory before after h is done))
+    done = (refl, at_event (cut_stands given all front rest event WriteError before after h is done))
+reached_failed given all front rest event before after Memory h is done = (refl, at_event (cut_stands given all front rest event Memory before after h is done))
 reached_failed given all front rest event before after error h is done = (refl, refused_stands given all front rest event error before after h is done)

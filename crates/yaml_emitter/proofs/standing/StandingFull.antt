@@ -1,5 +1,5 @@
 -- What an emitter that stands promises where the output's limit was passed.
-use Rattle.std.proofs.Common.{◌≡◌, refl, sym, ap, ◌∙◌, subst, arith, append_assoc, inl, inr}
+use Rattle.std.proofs.Common.{◌≡◌, refl, sym, ap, ◌∙◌, subst, arith, append_assoc}
 use Rattle.std.proofs.lemmas.List.{take-append-drop}
 use Rattle.std.specs.Prelude.{ℕ, ◌<◌, Bool, true, false, Some, List, [], ◌∷◌, ◌++◌, length, take, drop}
 use Rattle.yaml_base.specs.Settings.{Settings, Effective}
@@ -23,7 +23,7 @@ use Rattle.yaml_base.proofs.QueueLaws.{open_at_written}
 use Rattle.yaml_pen.specs.Page.{Page, encoded, IsHandedOut}
 use Rattle.yaml_emitter.specs.State.{State}
 use Rattle.yaml_emitter.specs.Processing.{closes_at_once}
-use Rattle.yaml_emitter.specs.StandsAfter.{HoldsPiecesWith, holds_before, holds_part, StandsCut, StandsUnflushed, StandsSo}
+use Rattle.yaml_emitter.specs.StandsAfter.{HoldsPiecesWith, holds_before, holds_part, StandsCut, StandsUnflushed, StandsSo, at_event, between_events}
 use Rattle.yaml_emitter.specs.Promises.{FillsLimit}
 use Rattle.yaml_emitter.proofs.standing.Standing.{own_end, settings_grown}
 use Rattle.yaml_emitter.proofs.standing.StandingSteps.{closes_last-append}
@@ -153,4 +153,4 @@ unflushed_fills given all state h =
 pub promises_full : (given : Settings) (all : List Event) (state : State) → StandsSo given all state → state.error ≡ Some WriteError
     → FillsLimit given all state
 promises_full given all state h failed =
-    elim (stands_failed given all state WriteError h failed) [ inl cut ↦ cut_fills given all state cut | inr other ↦ unflushed_fills given all state other ]
+    elim (stands_failed given all state WriteError h failed) [ at_event cut ↦ cut_fills given all state cut | between_events other ↦ unflushed_fills given all state other ]

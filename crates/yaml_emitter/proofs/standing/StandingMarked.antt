@@ -1,5 +1,5 @@
 -- Where an emitter stands isn't changed by noting that its stream was opened or closed as a whole.
-use Rattle.std.proofs.Common.{Bool, List, [], ◌∷◌, inl, inr}
+use Rattle.std.proofs.Common.{Bool, List, [], ◌∷◌}
 use Rattle.std.specs.Prelude.{Option, None, Some}
 use Rattle.yaml_base.specs.Event.{Event}
 use Rattle.yaml_base.specs.Settings.{Settings, Effective}
@@ -7,7 +7,7 @@ use Rattle.yaml_base.specs.Steps.{Steps}
 use Rattle.yaml_base.specs.declared.errors.yaml_error_t.{yaml_error_t}
 use Rattle.yaml_base.specs.declared.errors.yaml_error_t.TheVariants.{WriteError, Memory}
 use Rattle.yaml_emitter.specs.State.{State}
-use Rattle.yaml_emitter.specs.StandsAfter.{HasTaken, IsSettled, StandsRefused, StandsStopped, StandsBy, StandsAfter}
+use Rattle.yaml_emitter.specs.StandsAfter.{HasTaken, IsSettled, StandsRefused, StandsStopped, StandsBy, StandsAfter, at_event, between_events}
 
 -- what was noted
 abbrev marked : Bool → Bool → State → State
@@ -35,8 +35,8 @@ stopped_marked : (given : Settings) (all : List Event) (error : yaml_error_t) (s
     → StandsStopped given all error (marked opened closed state)
 stopped_marked given all error state opened closed h =
     elim h [
-      | inl cut ↦
-          inl
+      | at_event cut ↦
+          at_event
           (record {
             front = cut.front;
             event = cut.event;
@@ -46,8 +46,8 @@ stopped_marked given all error state opened closed h =
             stands = cut.stands;
             page = cut.page;
           })
-      | inr other ↦
-          inr
+      | between_events other ↦
+          between_events
           (record {
             before = other.before;
             later = other.later;

@@ -20,7 +20,7 @@ use Rattle.yaml_pen.specs.Wrote.{Flushed}
 use Rattle.yaml_pen.proofs.Writing.{none_from_told}
 use Rattle.yaml_emitter.specs.State.{State}
 use Rattle.yaml_emitter.specs.Processing.{closes_at_once}
-use Rattle.yaml_emitter.specs.StandsAfter.{HoldsPieces, HoldsPiecesWith, StandsWell, FailedAt, closes_last, StandsRefused, HoldsCut, StandsCut, StandsUnflushed, StandsStopped, StandsFailed, StandsBy, StandsSo, failed_by}
+use Rattle.yaml_emitter.specs.StandsAfter.{HoldsPieces, HoldsPiecesWith, StandsWell, FailedAt, closes_last, StandsRefused, HoldsCut, StandsCut, StandsUnflushed, StandsStopped, StandsFailed, StandsBy, StandsSo, failed_by, at_event, between_events}
 use Rattle.yaml_emitter.proofs.standing.Standing.{settings_grown, settled_same, taken_same, taken_grown}
 
 -- two states differ in what was begun, set, opened and closed alone
@@ -149,8 +149,8 @@ stopped_grown : (given : Settings) (all more : List Event) (error : yaml_error_t
     → StandsStopped given all error before → StandsStopped given (all ++ more) error after
 stopped_grown given all more error before after same h =
     elim h [
-      | inl cut ↦ inl (cut_grown given all more error before after same cut)
-      | inr other ↦ inr
+      | at_event cut ↦ at_event (cut_grown given all more error before after same cut)
+      | between_events other ↦ between_events
           (unflushed_grown given all more error before after same other)
     ]
 
@@ -293,8 +293,8 @@ unflushed_stands given all state page error h flushed =
 pub flush_failed : (given : Settings) (all : List Event) (state : State) (page : Page) (error : yaml_error_t) → StandsWell given all state
     → Flushed state.page page (Err error)
     → StandsSo given all (failed_by error (record state { page = page }))
-flush_failed given all state page WriteError h flushed = (refl, inr (unflushed_stands given all state page WriteError h flushed))
-flush_failed given all state page Memory h flushed = (refl, inr (unflushed_stands given all state page Memory h flushed))
+flush_failed given all state page WriteError h flushed = (refl, between_events (unflushed_stands given all state page WriteError h flushed))
+flush_failed given all state page Memory h flushed = (refl, between_events (unflushed_stands given all state page Memory h flushed))
 flush_failed given all state page error h flushed =
     let failed = some_from_told page.error error flushed.answered in
     elim flushed.handed.named [

@@ -1,5 +1,5 @@
 -- What an emitter that stands promises its caller.
-use Rattle.std.proofs.Common.{◌≡◌, refl, sym, ap, ◌∙◌, subst, arith, append_assoc, inl, inr}
+use Rattle.std.proofs.Common.{◌≡◌, refl, sym, ap, ◌∙◌, subst, arith, append_assoc}
 use Rattle.std.proofs.lemmas.List.{take-append-drop, length-take-le}
 use Rattle.std.proofs.lemmas.Bool.{false≢true}
 use Rattle.std.specs.Prelude.{◌≤◌, Bool, true, false, ◌&&◌, Option, None, Some, List, [], ◌∷◌, ◌++◌, length, take, drop, option_and_then}
@@ -25,7 +25,7 @@ use Rattle.yaml_pen.specs.Page.{Page}
 use Rattle.yaml_emitter.specs.State.{State}
 use Rattle.yaml_emitter.specs.Queue.{is_head_ready}
 use Rattle.yaml_emitter.specs.Processing.{closes_at_once}
-use Rattle.yaml_emitter.specs.StandsAfter.{HoldsPiecesWith, StandsWell, closes_last, StandsRefused, holds_before, holds_part, StandsCut, StandsUnflushed, StandsStopped, StandsFailed, StandsBy, StandsSo}
+use Rattle.yaml_emitter.specs.StandsAfter.{HoldsPiecesWith, StandsWell, closes_last, StandsRefused, holds_before, holds_part, StandsCut, StandsUnflushed, StandsStopped, StandsFailed, StandsBy, StandsSo, at_event, between_events}
 use Rattle.yaml_emitter.specs.Promises.{HasText, begins_with_start, most_held, HoldsWaiting, RefusedAt, BeginsOutput, StopsWriting, stops_before, stops_within, OutputBegins, IsRefusal}
 use Rattle.yaml_emitter.proofs.standing.Standing.{open_last, end_next}
 use Rattle.yaml_emitter.proofs.standing.StandingSteps.{awaits_few, closes_last-append}
@@ -247,7 +247,7 @@ refused_output given all error state h =
 
 stopped_output : (given : Settings) (all : List Event) (error : yaml_error_t) (state : State) → StandsStopped given all error state
     → StopsWriting given all state
-stopped_output given all error state h = elim h [ inl cut ↦ cut_output given all error state cut | inr other ↦ unflushed_output given all error state other ]
+stopped_output given all error state h = elim h [ at_event cut ↦ cut_output given all error state cut | between_events other ↦ unflushed_output given all error state other ]
 
 failed_output : (error : yaml_error_t) (given : Settings) (all : List Event) (state : State) → StandsFailed given all error state → StopsWriting given all state
 failed_output WriteError given all state h = stopped_output given all WriteError state h
@@ -283,8 +283,8 @@ stopped_within : (given : Settings) (all : List Event) (error : yaml_error_t) (s
     → length state.page.output ≤ given.limit
 stopped_within given all error state h =
     elim h [
-      | inl cut ↦ cut_within given all error state cut
-      | inr other ↦ holds_within (take (written other.before) other.before) (settings_for given all) _ (Some error) state.page other.page
+      | at_event cut ↦ cut_within given all error state cut
+      | between_events other ↦ holds_within (take (written other.before) other.before) (settings_for given all) _ (Some error) state.page other.page
     ]
 
 failed_within : (error : yaml_error_t) (given : Settings) (all : List Event) (state : State) → StandsFailed given all error state

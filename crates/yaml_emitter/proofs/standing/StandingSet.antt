@@ -1,5 +1,5 @@
 -- An emitter that was given no event stands as its caller sets it.
-use Rattle.std.proofs.Common.{◌≡◌, refl, sym, ap, ◌∙◌, subst, arith, inl, inr}
+use Rattle.std.proofs.Common.{◌≡◌, refl, sym, ap, ◌∙◌, subst, arith}
 use Rattle.std.specs.Prelude.{ℕ, Option, None, Some, Ok, List, [], ◌∷◌, ◌++◌, take}
 use Rattle.yaml_base.specs.Settings.{Settings, Effective}
 use Rattle.yaml_base.specs.Event.{Event}
@@ -15,7 +15,7 @@ use Rattle.yaml_emitter.specs.Given.{nothing_given}
 use Rattle.yaml_emitter.specs.State.{State, new_state}
 use Rattle.yaml_emitter.specs.Inside.{state_of}
 use Rattle.yaml_emitter.specs.declared.emitter.yaml_emitter_t.TheInside.{Inside}
-use Rattle.yaml_emitter.specs.StandsAfter.{HoldsPiecesWith, FailedAt, StandsWell, StandsUnflushed, StandsStopped, StandsFailed, StandsBy, StandsSo, StandsAfter}
+use Rattle.yaml_emitter.specs.StandsAfter.{HoldsPiecesWith, FailedAt, StandsWell, StandsUnflushed, StandsStopped, StandsFailed, StandsBy, StandsSo, StandsAfter, at_event, between_events}
 use Rattle.yaml_emitter.proofs.standing.StandingMore.{nothing_begins, new_stands, flushed_stands}
 use Rattle.yaml_emitter.proofs.standing.StandingPromises.{stands_well}
 
@@ -50,8 +50,8 @@ unset_stopped : (error : yaml_error_t) (state : State) → StandsStopped state.g
     → state.page ≡ record (new_page state.given.limit) { error = Some error }
 unset_stopped error state h =
     elim h [
-      | inl cut ↦ absurd (nothing_failed cut.front cut.event cut.later cut.failed)
-      | inr other ↦ unset_unflushed error state other
+      | at_event cut ↦ absurd (nothing_failed cut.front cut.event cut.later cut.failed)
+      | between_events other ↦ unset_unflushed error state other
     ]
 
 unset_failed : (error : yaml_error_t) (state : State) → StandsFailed state.given [] error state
@@ -123,8 +123,8 @@ stopped_set : (before after : State) (error : yaml_error_t) → IsSet before aft
     → StandsStopped after.given [] error after
 stopped_set before after error set h =
     elim h [
-      | inl cut ↦ absurd (nothing_failed cut.front cut.event cut.later cut.failed)
-      | inr other ↦ inr (unflushed_set before after error set other)
+      | at_event cut ↦ absurd (nothing_failed cut.front cut.event cut.later cut.failed)
+      | between_events other ↦ between_events (unflushed_set before after error set other)
     ]
 
 failed_set : (error : yaml_error_t) (before after : State) → IsSet before after → StandsFailed before.given [] error before

@@ -1,5 +1,5 @@
 -- An emitter stands where it stood, whatever its caller takes of the output.
-use Rattle.std.proofs.Common.{refl, ap, false, inl, inr, Option, None, Some, List, [], ◌∷◌, ◌++◌, take}
+use Rattle.std.proofs.Common.{refl, ap, false, Option, None, Some, List, [], ◌∷◌, ◌++◌, take}
 use Rattle.yaml_base.specs.Event.{Event}
 use Rattle.yaml_base.specs.Layout.{Piece, first_standing}
 use Rattle.yaml_base.specs.Ready.{written}
@@ -13,7 +13,7 @@ use Rattle.yaml_emitter.specs.Inside.{IsEmitter}
 use Rattle.yaml_emitter.specs.State.{FitsPage, State, with_all_taken}
 use Rattle.yaml_emitter.specs.Processing.{closes_at_once}
 use Rattle.yaml_emitter.specs.Stages.{seen_stage}
-use Rattle.yaml_emitter.specs.StandsAfter.{HasTaken, HoldsCut, HoldsPiecesWith, IsPage, StandsAfter, StandsBy, StandsCut, StandsFailed, StandsRefused, StandsStopped, StandsUnflushed, closes_last, holds_before, holds_part}
+use Rattle.yaml_emitter.specs.StandsAfter.{HasTaken, HoldsCut, HoldsPiecesWith, IsPage, StandsAfter, StandsBy, StandsCut, StandsFailed, StandsRefused, StandsStopped, StandsUnflushed, closes_last, holds_before, holds_part, at_event, between_events}
 use Rattle.yaml_emitter.specs.declared.emitter.yaml_emitter_t.TheInside.{Inside}
 use Rattle.yaml_emitter.proofs.standing.Standing.{settled_same}
 
@@ -50,8 +50,8 @@ stopped_taken : (given : Settings) (all : List Event) (error : yaml_error_t) (st
 stopped_taken given all error state h =
     let s = settings_for given all in
     elim h [
-      | inl at ↦
-          inl
+      | at_event at ↦
+          at_event
           (record {
             front = at.front;
             event = at.event;
@@ -62,8 +62,8 @@ stopped_taken given all error state h =
             page = cut_taken given s at.front at.event (steps s (closes_last at.front (at.event ∷ at.later)) at.front at_stream first_standing)
                 (steps s (closes_at_once at.event at.later) (at.front ++ at.event ∷ []) at_stream first_standing) error state.page at.page;
           })
-      | inr at ↦
-          inr
+      | between_events at ↦
+          between_events
           (record {
             before = at.before;
             later = at.later;

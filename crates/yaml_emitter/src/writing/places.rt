@@ -22,14 +22,16 @@ use std::alloc::Allocator;
 use yaml_base::yaml_error_t;
 use yaml_pen::Pen;
 
-/// Writes what stands before a node at its place.
+/// Writes what stands before a node at its place. What isn't inlined is given a copy, so that the place itself needn't
+/// lie in memory.
 #[inline(always)]
 pub(crate) fn write_place<A: Allocator>(pen: &mut Pen<A>, site: &Site) -> Result<(), yaml_error_t>
     requires { IsReady pen.old }
     ensures { Wrote (place_laid (seen_effective site.now.settings.now) (seen_place site.now.place) site.now.simple) pen.old pen.new result }
 {
     if site.place.in_flow {
-        write_flow_place(pen, site.settings, &site.place, site.simple)
+        let place = site.place.at_line();
+        write_flow_place(pen, site.settings, &place, site.simple)
     } else {
         write_block_place(pen, &site.place, site.simple)
     }
@@ -143,28 +145,30 @@ fn write_block_place<A: Allocator>(
     use Indicator::*;
     match (place.role, simple) {
         (Role::Root, _) => pen.write_nothing(),
-        (Role::Item { .. }, _) => write_on_line(pen, place, BlockEntry),
+        (Role::Item { .. }, _) => write_on_line(pen, place.at_line(), BlockEntry),
         (Role::Key { .. }, true) => write_line_alone(pen, place),
-        (Role::Key { .. }, false) => write_on_line(pen, place, BlockKey),
+        (Role::Key { .. }, false) => write_on_line(pen, place.at_line(), BlockKey),
         (Role::Value { simple: true }, _) => write_indicator(pen, SimpleValue),
-        (Role::Value { simple: false }, _) => write_on_line(pen, place, BlockValue),
+        (Role::Value { simple: false }, _) => write_on_line(pen, place.at_line(), BlockValue),
     }
 }
 
 /// A new line, and a sign on it.
+#[inline(never)]
 fn write_on_line<A: Allocator>(
     pen: &mut Pen<A>,
-    place: &Place,
+    place: Place,
     sign: Indicator,
 ) -> Result<(), yaml_error_t>
     requires { IsReady pen.old }
-    ensures { Wrote (λ cursor. then_laid (new_line (line_column place.now.column) cursor) (indicator_laid (seen_indicator sign))) pen.old pen.new result }
+    ensures { Wrote (λ cursor. then_laid (new_line (line_column place.column) cursor) (indicator_laid (seen_indicator sign))) pen.old pen.new result }
 {
-    write_line(pen, place)?;
+    write_line(pen, &place)?;
     write_indicator(pen, sign)
 }
 
 /// A new line without a sign.
+#[inline(always)]
 fn write_line_alone<A: Allocator>(pen: &mut Pen<A>, place: &Place) -> Result<(), yaml_error_t>
     requires { IsReady pen.old }
     ensures { Wrote (λ cursor. then_laid (new_line (line_column place.now.column) cursor) nothing_laid) pen.old pen.new result }

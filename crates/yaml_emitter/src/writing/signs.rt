@@ -69,7 +69,7 @@ fn write_sign<A: Allocator>(pen: &mut Pen<A>, site: &Site, sign: Sign) -> Result
     match sign {
         Sign::Nothing => pen.write_nothing(),
         Sign::Mark(indicator) => write_indicator(pen, indicator),
-        Sign::Line => write_line(pen, &site.place),
+        Sign::Line => write_line_apart(pen, &site.place),
         Sign::FlowLine => write_flow_line(pen, site.settings, &site.place),
         Sign::Space => pen.put(b' '),
         Sign::Name(name) => write_anchor(pen, name),
@@ -81,11 +81,21 @@ fn write_sign<A: Allocator>(pen: &mut Pen<A>, site: &Site, sign: Sign) -> Result
 }
 
 /// A new line at the column of the entries around a place.
+#[inline(always)]
 pub(crate) fn write_line<A: Allocator>(pen: &mut Pen<A>, place: &Place) -> Result<(), yaml_error_t>
     requires { IsReady pen.old }
     ensures { Wrote (new_line (line_column place.now.column)) pen.old pen.new result }
 {
     pen.write_indent(place.line_column() as i32)
+}
+
+/// The same by a call, where new lines are rare.
+#[inline(never)]
+fn write_line_apart<A: Allocator>(pen: &mut Pen<A>, place: &Place) -> Result<(), yaml_error_t>
+    requires { IsReady pen.old }
+    ensures { Wrote (new_line (line_column place.now.column)) pen.old pen.new result }
+{
+    write_line(pen, place)
 }
 
 pub(crate) fn write_flow_line<A: Allocator>(
@@ -97,7 +107,7 @@ pub(crate) fn write_flow_line<A: Allocator>(
     ensures { Wrote (flow_break (seen_effective settings.now) place.now.column) pen.old pen.new result }
 {
     if needs_flow_line(pen, settings) {
-        write_line(pen, place)
+        write_line_apart(pen, place)
     } else {
         pen.write_nothing()
     }

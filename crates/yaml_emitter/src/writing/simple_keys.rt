@@ -48,15 +48,16 @@ pub(crate) fn is_simple_scalar_key(
     place.role.is_key() && (!settings.canonical && is_simple_scalar(content, tag))
 }
 
-/// Whether a scalar that stands plain as it is is a simple key at a place.
-pub(crate) fn is_simple_usual_key(place: &Place, content: &ScalarContent) -> bool
-    ensures { (canonical : Bool) (directives : List TagDirective)
-        → StandsPlain canonical content.now
+/// Whether a scalar that stands plain as it is is a simple key at a place, by its value.
+pub(crate) fn is_simple_usual_key(place: &Place, value: &str) -> bool
+    ensures { (canonical : Bool) (directives : List TagDirective) (content : ScalarContent)
+        → StandsPlain canonical content
+        → content.value.now ≡ value.now
         → result
         ≡ (is_key (seen_place place.now).role
-        && (not canonical && layout.is_simple_scalar canonical directives (seen_scalar content.now))) }
+        && (not canonical && layout.is_simple_scalar canonical directives (seen_scalar content))) }
 {
-    place.role.is_key() && is_short(byte_count(content.value), None, None)
+    place.role.is_key() && is_short(byte_count(value), None, None)
 }
 
 /// Whether a collection at a place, which may be empty, is a simple key, its tag spelled so.

@@ -1,8 +1,8 @@
 //! Scalars that stand plain as they are, known by their values without an analysis (YAML 1.1, section 9.1.3).
 
-ghost use Rattle.std.specs.Prelude.{◌≡◌, List, true, not, IfOk, chars, is_some};
+ghost use Rattle.std.specs.Prelude.{◌≡◌, ℕ, List, true, not, chars, is_some};
 ghost use Rattle.yaml_base.specs.Event.{TagDirective, plain};
-ghost use Rattle.yaml_base.specs.Layout.{choice_of, mark_after, scalar_piece};
+ghost use Rattle.yaml_base.specs.Layout.{scalar_piece};
 ghost use Rattle.yaml_base.specs.Seen.{seen_scalar_style};
 ghost use Rattle.yaml_pen.specs.Page.{IsReady};
 ghost use Rattle.yaml_pen.specs.Wrote.{Wrote};
@@ -10,13 +10,12 @@ ghost use Rattle.yaml_scalar.specs.UsualTexts.{IsUsual};
 ghost use Rattle.yaml_emitter.specs.BorrowedTexts.{seen_name, seen_scalar};
 ghost use Rattle.yaml_emitter.specs.Given.{seen_effective};
 ghost use Rattle.yaml_emitter.specs.Places.{seen_place};
-ghost use Rattle.yaml_emitter.specs.ScalarTexts.{text_at, without_answer};
+ghost use Rattle.yaml_emitter.specs.ScalarTexts.{text_at};
 ghost use Rattle.yaml_emitter.specs.UsualScalars.{StandsPlain, asks_plain, is_asked_plain};
-ghost use Rattle.yaml_emitter.specs.WrittenPieces.{piece_at, seen_mark};
+ghost use Rattle.yaml_emitter.specs.WrittenPieces.{piece_at};
 
 use crate::effective::EffectiveSettings;
 use crate::writing::contents::ScalarContent;
-use crate::writing::marks::OpenMark;
 use crate::writing::nodes::write_lead;
 use crate::writing::site::Site;
 use crate::writing::styles::line_indent;
@@ -63,33 +62,29 @@ fn lacks_anchor(anchor: Option<&str>) -> bool
     }
 }
 
-/// Writes a scalar that stands plain as it is, and returns the open mark that it leaves.
+/// Writes a scalar that stands plain as it is, by its value; the open mark stays.
 #[inline(always)]
 pub(crate) fn write_usual<A: Allocator>(
     pen: &mut Pen<A>,
     site: &Site,
-    content: &ScalarContent,
-    mark: OpenMark,
-) -> Result<OpenMark, yaml_error_t>
+    value: &str,
+) -> Result<(), yaml_error_t>
     requires ready { IsReady pen.old }
-    requires plain { StandsPlain site.now.settings.now.canonical content.now }
-    ensures written { (directives : List TagDirective)
+    requires usual { IsUsual value.now }
+    ensures written { (directives : List TagDirective) (mark : ℕ) (content : ScalarContent)
+        → StandsPlain site.now.settings.now.canonical content
+        → content.value.now ≡ value.now
         → Wrote
         (piece_at
-        (scalar_piece (seen_effective site.now.settings.now) directives (seen_place site.now.place) site.now.simple (seen_scalar content.now))
-        (seen_mark mark))
-        pen.old pen.new (without_answer result) }
+        (scalar_piece (seen_effective site.now.settings.now) directives (seen_place site.now.place) site.now.simple (seen_scalar content)) mark)
+        pen.old pen.new result }
     ensures ready { IsReady pen.new }
-    ensures mark { IfOk result (λ after.
-        seen_mark after
-        ≡ mark_after (choice_of (seen_effective site.now.settings.now) (seen_place site.now.place) site.now.simple (seen_scalar content.now)).style
-        (chars content.now.value.now) (seen_mark mark)) }
 {
     write_lead(pen, site, None, None, false)?;
-    write_usual_text(pen, site, content.value)?;
-    Ok(mark)
+    write_usual_text(pen, site, value)
 }
 
+#[inline(always)]
 fn write_usual_text<A: Allocator>(
     pen: &mut Pen<A>,
     site: &Site,
@@ -103,12 +98,5 @@ fn write_usual_text<A: Allocator>(
 {
     let settings = site.settings;
     let indent = line_indent(settings, &site.place);
-    write_usual_scalar(
-        pen,
-        value,
-        !site.simple,
-        site.place.in_flow,
-        indent,
-        settings.width,
-    )
+    write_usual_scalar(pen, value, !site.simple, indent, settings.width)
 }

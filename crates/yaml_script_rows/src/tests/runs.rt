@@ -71,6 +71,23 @@ fn check_roots(rt: &impl Abort, alloc: Global, settings: &str, rows: Rows) -> Re
     Ok(())
 }
 
+/// Settings, and what comes after them.
+type Group<'a> = (&'a str, Rows<'a>);
+
+fn check_all_streams(rt: &impl Abort, alloc: Global, groups: &[Group]) -> Result<(), Fail> {
+    for (settings, rows) in groups {
+        check_streams(rt, alloc, settings, rows)?;
+    }
+    Ok(())
+}
+
+fn check_all_roots(rt: &impl Abort, alloc: Global, groups: &[Group]) -> Result<(), Fail> {
+    for (settings, rows) in groups {
+        check_roots(rt, alloc, settings, rows)?;
+    }
+    Ok(())
+}
+
 /// A stream of one document in canonical mode, without a width.
 fn canonical_stream(
     alloc: Global,

@@ -1,8 +1,8 @@
 use Rattle.std.proofs.Common.{◌-◌, length}
 use Rattle.yaml_base.specs.Meetings as meetings
 use Rattle.yaml_base.specs.Documents.{graph_of}
-use Rattle.yaml_dump.specs.Standing.{seen_walker}
-use Rattle.yaml_dump.proofs.StandingLemmas.{Stands}
+use Rattle.yaml_dump.specs.WalkState.{seen_walker}
+use Rattle.yaml_dump.proofs.WalkStateLemmas.{Stands}
 use Rattle.yaml_dump.proofs.walk.walk.Given as goal
 
 abbrev pub invariant-loop-visit : goal.invariant-loop-visit

@@ -14,7 +14,7 @@ untouched_new = record { no_bytes = refl; no_error = refl }
 pub invariant_of-result : goal.invariant_of-result
 invariant_of-result g c =
     record {
-      room = c.in_ok-queue.ensures.room.1;
+      room = λ none. c.in_ok-queue.ensures.room.1;
       untouched = λ _. subst (λ (p : Page). IsUntouched p) (sym c.in_ok-pen.ensures.made) untouched_new;
       begun = λ begun. cc;
       opened = λ opened. opened;

@@ -1,6 +1,10 @@
-use Rattle.std.proofs.Common.{rules}
+use Rattle.std.proofs.Common.{rules, subst, sym}
+use Rattle.std.specs.Prelude.{IfSome, Option}
+use Rattle.yaml_base.specs.declared.errors.yaml_error_t.{yaml_error_t}
+use Rattle.yaml_json.proofs.Stopping.{if_some}
 use Rattle.yaml_json.proofs.WroteLemmas.{bare_awaits_none}
-use Rattle.yaml_json.proofs.TextsInTurn.{no_more, some_more, texts_begin, texts_done, texts_go_on, texts_read}
+use Rattle.yaml_json.proofs.TextsInTurn.{next_failed, no_more, some_more, texts_begin, texts_done, texts_failed, texts_go_on, texts_read}
+use Rattle.yaml_json.specs.Failing.{FailedInTexts, failure_of}
 use Rattle.yaml_json.proofs.several.write_json_texts.Goals as goal
 
 pub texts-init : goal.texts-init
@@ -32,3 +36,21 @@ texts-preserved g c = (
       c.texts.writer c.write_text_by.new.writer c.first_cut.ensures.joined c.texts.invariant.1 c.in_default.ensures.written c.next_document.result
       c.next_document.new.self (c.next_document.ensures.passed (bare_awaits_none c.write_text_by.new.writer c.in_default.ensures.written.wrote.bare)),
 )
+
+pub returns-in-Err-clause-failed : goal.returns-in-Err-clause-failed
+returns-in-Err-clause-failed g c =
+    subst
+    (λ (found : Option yaml_error_t). IfSome found (λ code.
+    FailedInTexts c.args.depth c.args.in_flow c.args.text.now c.args.writer.now code c.write_text_by.new.writer))
+    (sym c.error_of.ensures.by_writer)
+    (if_some (failure_of c.in-Err.stop)
+    (texts_failed c.args.depth c.args.in_flow c.args.text.now c.args.writer.now c.texts.rest.now c.first_cut.result.0.now c.first_cut.result.1.now
+    c.texts.writer c.write_text_by.new.writer c.first_cut.ensures.joined c.texts.invariant.1)
+    c.in-Err.ensures.stopped)
+
+pub returns-in-Err-next_document-clause-failed : goal.returns-in-Err-next_document-clause-failed
+returns-in-Err-next_document-clause-failed g c =
+    next_failed c.args.depth c.args.in_flow c.args.text.now c.args.writer.now c.texts.rest.now c.first_cut.result.0.now c.first_cut.result.1.now
+    c.texts.writer c.write_text_by.new.writer c.first_cut.ensures.joined c.texts.invariant.1 c.in_default.ensures.written c.next_document.new.self
+    c.in-Err-next_document.error
+    (c.in-Err-next_document.ensures.passed (bare_awaits_none c.write_text_by.new.writer c.in_default.ensures.written.wrote.bare))

@@ -1,5 +1,10 @@
+use Rattle.std.proofs.Common.{inl, refl}
 use Rattle.yaml_writer.specs.Given.{seen_settings}
+use Rattle.yaml_json.proofs.Stopping.{if_some}
+use Rattle.yaml_json.proofs.WhyFailed.{finish_failed, text_failed}
+use Rattle.yaml_json.proofs.WroteLemmas.{bare_awaits_none}
 use Rattle.yaml_json.proofs.YamlOf.{yaml_of}
+use Rattle.yaml_json.specs.Failing.{writers_error}
 use Rattle.yaml_json.proofs.texts.yaml_from_json.Goals as goal
 
 pub returns-in-Ok-finish-clause-stream : goal.returns-in-Ok-finish-clause-stream
@@ -8,3 +13,24 @@ returns-in-Ok-finish-clause-stream g c =
     let first = c.in-Ok in
     yaml_of (seen_settings settings.writer) settings.flow settings.depth c.args.text.now c.in-Ok-finish.bytes.items first.writer c.write_json.new.writer
     first.ensures.stands first.ensures.canonical c.in_default-write_json.ensures.written c.in-Ok-finish.ensures.finishes
+
+pub returns-in_default-clause-failed : goal.returns-in_default-clause-failed
+returns-in_default-clause-failed g c = inl refl
+
+pub returns-in-Err-clause-failed : goal.returns-in-Err-clause-failed
+returns-in-Err-clause-failed g c =
+    let settings = c.args.settings in
+    let first = c.in-Ok in
+    if_some (writers_error c.in-Err.error)
+    (λ code. text_failed (seen_settings settings.writer) settings.flow settings.depth c.args.text.now first.writer c.write_json.new.writer code
+    first.ensures.stands first.ensures.canonical)
+    c.in-Err.ensures.failed
+
+pub returns-in-Err-finish-clause-failed : goal.returns-in-Err-finish-clause-failed
+returns-in-Err-finish-clause-failed g c =
+    let settings = c.args.settings in
+    let first = c.in-Ok in
+    let wrote = c.in_default-write_json.ensures.written in
+    finish_failed (seen_settings settings.writer) settings.flow settings.depth c.args.text.now first.writer c.write_json.new.writer c.in-Err-finish.error
+    first.ensures.stands first.ensures.canonical wrote
+    (c.in-Err-finish.ensures.unfinished (bare_awaits_none c.write_json.new.writer wrote.wrote.bare))

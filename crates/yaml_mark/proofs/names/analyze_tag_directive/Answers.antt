@@ -1,10 +1,11 @@
 use Rattle.std.proofs.Common.{sym, Some, None}
 use Rattle.yaml_mark.proofs.HandleFacts as fact
 use Rattle.yaml_mark.proofs.names.analyze_tag_directive.Goals as goal
+use Rattle.yaml_base.specs.declared.errors.yaml_error_t.TheVariants.{TagPrefixEmpty}
 
 pub returns-then-is_empty : goal.returns-then-is_empty
 returns-then-is_empty g c =
-    fact.by_prefix _ _ c.as_str.result.now c.as_str-2.result.now (Some 11) c.as_str.ensures.value c.as_str-2.ensures.value
+    fact.by_prefix _ _ c.as_str.result.now c.as_str-2.result.now (Some TagPrefixEmpty) c.as_str.ensures.value c.as_str-2.ensures.value
     c.in_ok-analyze_handle.ensures (fact.empty_prefix c.as_str-2.result.now (sym c.if-is_empty.ensures))
 
 pub returns : goal.returns

@@ -1,9 +1,6 @@
 use Rattle.std.proofs.Common.{◌∙◌, sym, subst, chars, IsUtf8, List, ℕ}
 use Rattle.std.specs.Str.Iter.{chars_rest}
-use Rattle.std.proofs.lemmas.Int.{to_z-of_z}
 use Rattle.std.proofs.lemmas.Str.{IsUtf8-drop, IsUtf8-past_char}
-use mir.Val.{SFits}
-use mir.Syntax.{w32}
 use Rattle.yaml_base.specs.Characters.{Text}
 use Rattle.yaml_base.specs.Cursor.{Cursor, Laid}
 use Rattle.yaml_pen.specs.Page.{natural}
@@ -23,72 +20,59 @@ split_at-requires g c = c.run_after-run.ensures.boundary
 
 pub write_run-requires-clause-no_break : goal.write_run-requires-clause-no_break
 write_run-requires-clause-no_break g c =
-    let wide : SFits w32 c.args.width = c.ranges.width in
-    let run = simp to_z-of_z at c.run_after-run.ensures in
-    run_unbroken _ (stays_unbroken (limit_of c.args.width) c.place_after-place.result) run c.split_at.ensures.front
+    run_unbroken _ (stays_unbroken (limit_of c.args.lines.width) c.place_after-place.result) c.run_after-run.ensures c.split_at.ensures.front
 
 pub returns-in_err-write_step : goal.returns-in_err-write_step
 returns-in_err-write_step g c =
-    let fits : SFits w32 c.args.indent = c.ranges.indent in
-    let wide : SFits w32 c.args.width = c.ranges.width in
-    let lines : Place → Text → Cursor → Laid = lines_from c.args.folded (limit_of c.args.width) (natural c.args.indent) in
+    let folded = c.args.lines.folded in
+    let lines : Place → Text → Cursor → Laid = lines_from folded (limit_of c.args.lines.width) (natural c.args.lines.indent) in
     let rest : List ℕ = c.as_str-rest.result.now in
-    let left = simp to_z-of_z at c.loop-character.invariant.0 in
     let first = character_still (lines c.loop-character.place) c.in-Some.character _ _ rest c.loop-character.invariant.1 c.in-Some.ensures.steps.0
-    c.as_str-rest.ensures left in
-    let step = simp to_z-of_z at c.in_err-write_step.ensures in
+    c.as_str-rest.ensures c.loop-character.invariant.0 in
     wrote_exit c.from_residual.ensures
-    (still_failed (lines (place_after c.args.folded c.loop-character.place c.in-Some.character) (chars rest)) first step)
+    (still_failed (lines (place_after folded c.loop-character.place c.in-Some.character) (chars rest)) first c.in_err-write_step.ensures)
 
 pub returns-in_err-write_run : goal.returns-in_err-write_run
 returns-in_err-write_run g c =
-    let fits : SFits w32 c.args.indent = c.ranges.indent in
-    let wide : SFits w32 c.args.width = c.ranges.width in
-    let limit = limit_of c.args.width in
-    let n = natural c.args.indent in
+    let folded = c.args.lines.folded in
+    let limit = limit_of c.args.lines.width in
+    let n = natural c.args.lines.indent in
     let placed = c.place_after-place.result in
+    let step = c.in_ok-write_step.ensures in
     let rest : List ℕ = c.as_str-rest.result.now in
     let is_text = subst IsUtf8 (sym c.as_str-rest.ensures) (IsUtf8-past_char _ _ c.in-Some.character c.loop-character.invariant.1 c.in-Some.ensures.steps.0) in
-    let left = simp to_z-of_z at c.loop-character.invariant.0 in
-    let first = character_still (lines_from c.args.folded limit n c.loop-character.place) c.in-Some.character _ _ rest c.loop-character.invariant.1
-    c.in-Some.ensures.steps.0 c.as_str-rest.ensures left in
-    let step = simp to_z-of_z at c.in_ok-write_step.ensures in
-    let run = simp to_z-of_z at c.run_after-run.ensures in
-    let still = subst (λ (p : Place). LinesLeft c.args.folded limit n (chars c.args.value.now) (chars rest) p c.args.pen.now c.write_step.new.pen)
+    let first = character_still (lines_from folded limit n c.loop-character.place) c.in-Some.character _ _ rest c.loop-character.invariant.1
+    c.in-Some.ensures.steps.0 c.as_str-rest.ensures c.loop-character.invariant.0 in
+    let still = subst (λ (p : Place). LinesLeft folded limit n (chars c.args.value.now) (chars rest) p c.args.pen.now c.write_step.new.pen)
     (sym c.place_after-place.ensures) (still_rest first step) in
     wrote_exit c.from_residual-in_err-write_run.ensures
-    (run_failed (λ before. lines_from c.args.folded limit n placed) c.split_at.result.1.now
-    (block_alone c.args.folded limit n c.loop-character.place placed c.in-Some.character (chars rest) c.place_after-place.ensures step)
-    is_text run c.split_at.ensures.front c.split_at.ensures.back still c.in_err-write_run.ensures.written)
+    (run_failed (λ before. lines_from folded limit n placed) c.split_at.result.1.now
+    (block_alone folded limit n c.loop-character.place placed c.in-Some.character (chars rest) c.place_after-place.ensures step)
+    is_text c.run_after-run.ensures c.split_at.ensures.front c.split_at.ensures.back still c.in_err-write_run.ensures.written)
 
 pub loop-character-preserved : goal.loop-character-preserved
 loop-character-preserved g c =
-    let fits : SFits w32 c.args.indent = c.ranges.indent in
-    let wide : SFits w32 c.args.width = c.ranges.width in
-    let limit = limit_of c.args.width in
-    let n = natural c.args.indent in
+    let folded = c.args.lines.folded in
+    let limit = limit_of c.args.lines.width in
+    let n = natural c.args.lines.indent in
     let placed = c.place_after-place.result in
+    let step = c.in_ok-write_step.ensures in
     let rest : List ℕ = c.as_str-rest.result.now in
     let is_text = subst IsUtf8 (sym c.as_str-rest.ensures) (IsUtf8-past_char _ _ c.in-Some.character c.loop-character.invariant.1 c.in-Some.ensures.steps.0) in
     let behind = c.chars-characters-in-Some.ensures.rest ∙ c.split_at.ensures.back in
-    let left = simp to_z-of_z at c.loop-character.invariant.0 in
-    let first = character_still (lines_from c.args.folded limit n c.loop-character.place) c.in-Some.character _ _ rest c.loop-character.invariant.1
-    c.in-Some.ensures.steps.0 c.as_str-rest.ensures left in
-    let step = simp to_z-of_z at c.in_ok-write_step.ensures in
-    let run = simp to_z-of_z at c.run_after-run.ensures in
-    let still = subst (λ (p : Place). LinesLeft c.args.folded limit n (chars c.args.value.now) (chars rest) p c.args.pen.now c.write_step.new.pen)
+    let first = character_still (lines_from folded limit n c.loop-character.place) c.in-Some.character _ _ rest c.loop-character.invariant.1
+    c.in-Some.ensures.steps.0 c.as_str-rest.ensures c.loop-character.invariant.0 in
+    let still = subst (λ (p : Place). LinesLeft folded limit n (chars c.args.value.now) (chars rest) p c.args.pen.now c.write_step.new.pen)
     (sym c.place_after-place.ensures) (still_rest first step) in
-    let more : LinesLeft c.args.folded limit n (chars c.args.value.now)
+    let more : LinesLeft folded limit n (chars c.args.value.now)
     (chars (chars_rest c.chars-characters-in-Some.result)) placed c.args.pen.now c.write_run.new.self =
-    run_more (λ before. lines_from c.args.folded limit n placed)
-    (block_alone c.args.folded limit n c.loop-character.place placed c.in-Some.character (chars rest) c.place_after-place.ensures step)
-    is_text run c.split_at.ensures.front behind still c.in_ok-write_run.ensures.written in
-    simp to_z-of_z (more, subst IsUtf8 (sym behind) (IsUtf8-drop _ _ is_text run.boundary))
+    run_more (λ before. lines_from folded limit n placed)
+    (block_alone folded limit n c.loop-character.place placed c.in-Some.character (chars rest) c.place_after-place.ensures step)
+    is_text c.run_after-run.ensures c.split_at.ensures.front behind still c.in_ok-write_run.ensures.written in
+    (more, subst IsUtf8 (sym behind) (IsUtf8-drop _ _ is_text c.run_after-run.ensures.boundary))
 
 pub returns : goal.returns
 returns g c =
-    let fits : SFits w32 c.args.indent = c.ranges.indent in
-    let wide : SFits w32 c.args.width = c.ranges.width in
-    let left = simp to_z-of_z at c.loop-character.invariant.0 in
-    (end_still (lines_from c.args.folded (limit_of c.args.width) (natural c.args.indent) c.loop-character.place) _ c.in_default.ensures.steps.0.0 left).writes _
-    _ c.write_nothing.ensures
+    let lines = c.args.lines in
+    (end_still (lines_from lines.folded (limit_of lines.width) (natural lines.indent) c.loop-character.place) _
+    c.in_default.ensures.steps.0.0 c.loop-character.invariant.0).writes _ _ c.write_nothing.ensures

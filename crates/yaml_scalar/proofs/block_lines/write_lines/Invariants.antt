@@ -8,7 +8,8 @@ use Rattle.yaml_scalar.proofs.block_lines.write_lines.Given as goal
 
 abbrev pub invariant-loop-character : goal.invariant-loop-character
 invariant-loop-character g l =
-    LinesLeft l.fn.folded (limit_of l.fn.width) (natural l.fn.indent) (chars l.fn.value) (chars (chars_rest l.characters)) l.place l.fn.pen l.pen
+    let lines = l.fn.lines in
+    LinesLeft lines.folded (limit_of lines.width) (natural lines.indent) (chars l.fn.value) (chars (chars_rest l.characters)) l.place l.fn.pen l.pen
     × IsUtf8 (chars_rest l.characters)
 
 abbrev pub decreases-loop-character : goal.decreases-loop-character

@@ -1,138 +1,149 @@
 //! Canonical text: in flow, a node a line, every scalar between double quotes.
-use super::{Rows, check_roots, check_streams};
+use super::{Group, Rows, check_all_roots, check_all_streams};
 use std::test::Fail;
 
 const CANONICAL: &str = "canonical on\nwidth -1\n";
 
-#[test]
-fn nodes_stand_on_lines_of_their_own(rt: HostRuntime) -> Result<(), Fail> {
-    let rows: Rows = &[
-        (r#"=VAL any 1 1 - - "a""#, "---\n\"a\"\n"),
-        (r#"=VAL any 1 1 - - "\n ""#, "---\n\"\\n \"\n"),
-        (
-            r#"
-+SEQ block 1 - -
-=VAL any 1 1 - - "a"
--SEQ"#,
-            "---\n[\n  \"a\",\n]\n",
-        ),
-        (
-            r#"
-+MAP flow 1 - -
-=VAL any 1 1 - - "k"
-=VAL any 1 1 - - "v"
--MAP"#,
-            "---\n{\n  ? \"k\"\n  : \"v\",\n}\n",
-        ),
-        (
-            r#"
-+SEQ block 1 - -
--SEQ"#,
-            "---\n[]\n",
-        ),
-        (
-            r#"
-+SEQ block 1 - -
-+MAP block 1 - -
--MAP
--SEQ"#,
-            "---\n[\n  {},\n]\n",
-        ),
-    ];
-    check_roots(&rt, rt.alloc(), CANONICAL, rows)
-}
-
-#[test]
-fn an_indent_of_four_moves_items(rt: HostRuntime) -> Result<(), Fail> {
-    let rows: Rows = &[(
+/// Nodes with tags, all of which are written.
+const TAGGED: Rows = &[
+    (
         r#"
-+SEQ block 1 - -
-=VAL any 1 1 - - "a"
--SEQ"#,
-        "---\n[\n    \"a\",\n]\n",
-    )];
-    check_roots(&rt, rt.alloc(), "canonical on\nindent 4\n", rows)
-}
-
-#[test]
-fn every_tag_is_written(rt: HostRuntime) -> Result<(), Fail> {
-    let rows: Rows = &[
-        (
-            r#"
 +MAP any 0 - "tag:yaml.org,2002:map"
 =VAL any 1 1 "a" "tag:yaml.org,2002:str" "k"
 =ALI "a"
 -MAP"#,
-            "---\n!!map {\n  ? &a !!str \"k\"\n  : *a,\n}\n",
-        ),
-        (
-            r#"
+        "---\n!!map {\n  ? &a !!str \"k\"\n  : *a,\n}\n",
+    ),
+    (
+        r#"
 +SEQ any 0 - "tag:yaml.org,2002:seq"
 =VAL any 0 0 - "tag:yaml.org,2002:int" "5"
 =VAL any 1 1 - "tag:yaml.org,2002:str" "a"
 -SEQ"#,
-            "---\n!!seq [\n  !!int \"5\",\n  !!str \"a\",\n]\n",
-        ),
-        (r#"=VAL any 1 0 - - "a""#, "---\n! \"a\"\n"),
-    ];
-    check_roots(&rt, rt.alloc(), "canonical on\n", rows)?;
-    check_roots(&rt, rt.alloc(), CANONICAL, rows)
-}
+        "---\n!!seq [\n  !!int \"5\",\n  !!str \"a\",\n]\n",
+    ),
+    (r#"=VAL any 1 0 - - "a""#, "---\n! \"a\"\n"),
+];
 
-#[test]
-fn what_a_tag_may_not_hold_is_escaped(rt: HostRuntime) -> Result<(), Fail> {
-    let rows: Rows = &[
-        (r#"=VAL any 0 0 - "!" "x""#, "---\n!<%21> \"x\"\n"),
-        (r#"=VAL any 0 0 - "!a!b" "x""#, "---\n!a%21b \"x\"\n"),
-        (
-            r#"=VAL any 0 0 - "tag:yaml.org,2002:" "x""#,
-            "---\n!<tag:yaml.org,2002:> \"x\"\n",
-        ),
-        (r#"=VAL any 0 0 - "!a\u{0}" "x""#, "---\n!a%00 \"x\"\n"),
-        (r#"=VAL any 0 0 - "!\u{E9}" "x""#, "---\n!%C3%A9 \"x\"\n"),
-    ];
-    check_roots(&rt, rt.alloc(), CANONICAL, rows)
-}
-
-#[test]
-fn the_documents_own_handles_come_first(rt: HostRuntime) -> Result<(), Fail> {
-    let rows: Rows = &[
-        (
+/// Roots of documents, after some settings.
+const ROOTS: &[Group] = &[
+    ("canonical on\n", TAGGED),
+    (CANONICAL, TAGGED),
+    // Nodes stand on lines of their own.
+    (
+        CANONICAL,
+        &[
+            (r#"=VAL any 1 1 - - "a""#, "---\n\"a\"\n"),
+            (r#"=VAL any 1 1 - - "\n ""#, "---\n\"\\n \"\n"),
+            (
+                r#"
++SEQ block 1 - -
+=VAL any 1 1 - - "a"
+-SEQ"#,
+                "---\n[\n  \"a\",\n]\n",
+            ),
+            (
+                r#"
++MAP flow 1 - -
+=VAL any 1 1 - - "k"
+=VAL any 1 1 - - "v"
+-MAP"#,
+                "---\n{\n  ? \"k\"\n  : \"v\",\n}\n",
+            ),
+            (
+                r#"
++SEQ block 1 - -
+-SEQ"#,
+                "---\n[]\n",
+            ),
+            (
+                r#"
++SEQ block 1 - -
++MAP block 1 - -
+-MAP
+-SEQ"#,
+                "---\n[\n  {},\n]\n",
+            ),
+        ],
+    ),
+    // An indent of four moves items.
+    (
+        "canonical on\nindent 4\n",
+        &[(
             r#"
++SEQ block 1 - -
+=VAL any 1 1 - - "a"
+-SEQ"#,
+            "---\n[\n    \"a\",\n]\n",
+        )],
+    ),
+    // What a tag may not hold is escaped.
+    (
+        CANONICAL,
+        &[
+            (r#"=VAL any 0 0 - "!" "x""#, "---\n!<%21> \"x\"\n"),
+            (r#"=VAL any 0 0 - "!a!b" "x""#, "---\n!a%21b \"x\"\n"),
+            (
+                r#"=VAL any 0 0 - "tag:yaml.org,2002:" "x""#,
+                "---\n!<tag:yaml.org,2002:> \"x\"\n",
+            ),
+            (r#"=VAL any 0 0 - "!a\u{0}" "x""#, "---\n!a%00 \"x\"\n"),
+            (r#"=VAL any 0 0 - "!\u{E9}" "x""#, "---\n!%C3%A9 \"x\"\n"),
+        ],
+    ),
+    // A canonical line may end with a return.
+    (
+        "canonical on\nwidth -1\nbreak cr\n",
+        &[(r#"=VAL any 1 1 - - "a""#, "---\r\"a\"\r")],
+    ),
+];
+
+#[test]
+fn each_root_is_written(rt: HostRuntime) -> Result<(), Fail> {
+    check_all_roots(&rt, rt.alloc(), ROOTS)
+}
+
+/// Streams, after some settings.
+const STREAMS: &[Group] = &[
+    // The documents own handles come first.
+    (
+        CANONICAL,
+        &[
+            (
+                r#"
 +STR any
 +DOC 1 - "!e!" "!x"
 =VAL any 0 0 - "!xy" "x"
 -DOC 1
 -STR"#,
-            "%TAG !e! %21x\n---\n!e!y \"x\"\n",
-        ),
-        (
-            r#"
+                "%TAG !e! %21x\n---\n!e!y \"x\"\n",
+            ),
+            (
+                r#"
 +STR any
 +DOC 1 - "!!" "tag:e.com,2000:"
 =VAL any 0 0 - "tag:e.com,2000:t" "x"
 -DOC 1
 -STR"#,
-            "%TAG !! tag:e.com,2000:\n---\n!!t \"x\"\n",
-        ),
-        (
-            r#"
+                "%TAG !! tag:e.com,2000:\n---\n!!t \"x\"\n",
+            ),
+            (
+                r#"
 +STR any
 +DOC 1 - "!!" "tag:e.com,2000:"
 =VAL any 0 0 - "tag:yaml.org,2002:str" "x"
 -DOC 1
 -STR"#,
-            "%TAG !! tag:e.com,2000:\n---\n!<tag:yaml.org,2002:str> \"x\"\n",
-        ),
-    ];
-    check_streams(&rt, rt.alloc(), CANONICAL, rows)
-}
-
-#[test]
-fn each_document_begins_with_dashes(rt: HostRuntime) -> Result<(), Fail> {
-    let rows: Rows = &[
-        (
-            r#"
+                "%TAG !! tag:e.com,2000:\n---\n!<tag:yaml.org,2002:str> \"x\"\n",
+            ),
+        ],
+    ),
+    // Each document begins with dashes.
+    (
+        CANONICAL,
+        &[
+            (
+                r#"
 +STR any
 +DOC 1 -
 =VAL any 1 1 - - "a"
@@ -141,19 +152,19 @@ fn each_document_begins_with_dashes(rt: HostRuntime) -> Result<(), Fail> {
 =VAL any 1 1 - - "b"
 -DOC 1
 -STR"#,
-            "---\n\"a\"\n---\n\"b\"\n",
-        ),
-        (
-            r#"
+                "---\n\"a\"\n---\n\"b\"\n",
+            ),
+            (
+                r#"
 +STR any
 +DOC 1 -
 =VAL any 1 1 - - "a"
 -DOC 0
 -STR"#,
-            "---\n\"a\"\n...\n",
-        ),
-        (
-            r#"
+                "---\n\"a\"\n...\n",
+            ),
+            (
+                r#"
 +STR any
 +DOC 1 -
 =VAL any 1 1 - - "a"
@@ -162,14 +173,13 @@ fn each_document_begins_with_dashes(rt: HostRuntime) -> Result<(), Fail> {
 =VAL any 1 1 - - "b"
 -DOC 1
 -STR"#,
-            "---\n\"a\"\n...\n%YAML 1.1\n---\n\"b\"\n",
-        ),
-    ];
-    check_streams(&rt, rt.alloc(), CANONICAL, rows)
-}
+                "---\n\"a\"\n...\n%YAML 1.1\n---\n\"b\"\n",
+            ),
+        ],
+    ),
+];
 
 #[test]
-fn a_canonical_line_may_end_with_a_return(rt: HostRuntime) -> Result<(), Fail> {
-    let rows: Rows = &[(r#"=VAL any 1 1 - - "a""#, "---\r\"a\"\r")];
-    check_roots(&rt, rt.alloc(), "canonical on\nwidth -1\nbreak cr\n", rows)
+fn each_stream_is_written(rt: HostRuntime) -> Result<(), Fail> {
+    check_all_streams(&rt, rt.alloc(), STREAMS)
 }

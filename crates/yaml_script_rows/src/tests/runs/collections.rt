@@ -1,14 +1,17 @@
 //! Collections in blocks and in flow.
-use super::{Rows, check_roots};
+use super::{Group, check_all_roots, check_roots};
 use std::alloc::Global;
 use std::process::Abort;
 use std::test::Fail;
 
-#[test]
-fn blocks_stand_in_blocks(rt: HostRuntime) -> Result<(), Fail> {
-    let rows: Rows = &[
-        (
-            r#"
+/// Roots of documents, after some settings.
+const ROOTS: &[Group] = &[
+    // Blocks stand in blocks.
+    (
+        "",
+        &[
+            (
+                r#"
 +MAP block 1 - -
 =VAL any 1 1 - - "a"
 +SEQ block 1 - -
@@ -16,30 +19,30 @@ fn blocks_stand_in_blocks(rt: HostRuntime) -> Result<(), Fail> {
 =VAL any 1 1 - - "c"
 -SEQ
 -MAP"#,
-            "a:\n- b\n- c\n",
-        ),
-        (
-            r#"
+                "a:\n- b\n- c\n",
+            ),
+            (
+                r#"
 +MAP block 1 - -
 =VAL any 1 1 - - "a"
 +SEQ block 1 "x" -
 =VAL any 1 1 - - "b"
 -SEQ
 -MAP"#,
-            "a: &x\n- b\n",
-        ),
-        (
-            r#"
+                "a: &x\n- b\n",
+            ),
+            (
+                r#"
 +SEQ block 1 - -
 +MAP block 1 - -
 =VAL any 1 1 - - "a"
 =VAL any 1 1 - - "b"
 -MAP
 -SEQ"#,
-            "- a: b\n",
-        ),
-        (
-            r#"
+                "- a: b\n",
+            ),
+            (
+                r#"
 +MAP block 1 - -
 =VAL any 1 1 - - "a"
 +MAP block 1 - -
@@ -47,129 +50,183 @@ fn blocks_stand_in_blocks(rt: HostRuntime) -> Result<(), Fail> {
 =VAL any 1 1 - - "c"
 -MAP
 -MAP"#,
-            "a:\n  b: c\n",
-        ),
-        (
-            r#"
+                "a:\n  b: c\n",
+            ),
+            (
+                r#"
 +MAP block 1 - -
 +SEQ block 1 - -
 =VAL any 1 1 - - "b"
 -SEQ
 =VAL any 1 1 - - "v"
 -MAP"#,
-            "? - b\n: v\n",
-        ),
-        (
-            r#"
+                "? - b\n: v\n",
+            ),
+            (
+                r#"
 +SEQ block 1 - -
 =VAL literal 1 1 - - " a"
 -SEQ"#,
-            "- |2-\n   a\n",
-        ),
-    ];
-    check_roots(&rt, rt.alloc(), "", rows)
-}
-
-#[test]
-fn an_indent_of_four_moves_what_stands_within(rt: HostRuntime) -> Result<(), Fail> {
-    let rows: Rows = &[(
-        r#"
+                "- |2-\n   a\n",
+            ),
+        ],
+    ),
+    // An indent of four moves what stands within.
+    (
+        "indent 4\n",
+        &[(
+            r#"
 +SEQ block 1 - -
 +SEQ block 1 - -
 =VAL any 1 1 - - "a"
 -SEQ
 -SEQ"#,
-        "-   - a\n",
-    )];
-    check_roots(&rt, rt.alloc(), "indent 4\n", rows)
-}
-
-#[test]
-fn flow_goes_on_a_line(rt: HostRuntime) -> Result<(), Fail> {
-    let rows: Rows = &[
-        (
-            r#"
+            "-   - a\n",
+        )],
+    ),
+    // Flow goes on a line.
+    (
+        "",
+        &[
+            (
+                r#"
 +SEQ flow 1 - -
 =VAL any 1 1 - - "a"
 =VAL any 1 1 - - "b"
 -SEQ"#,
-            "[a, b]\n",
-        ),
-        (
-            r#"
+                "[a, b]\n",
+            ),
+            (
+                r#"
 +SEQ flow 1 - -
 =VAL any 1 1 - - ""
 -SEQ"#,
-            "['']\n",
-        ),
-        (
-            r#"
+                "['']\n",
+            ),
+            (
+                r#"
 +MAP flow 1 - -
 =ALI "a"
 =VAL any 1 1 - - "v"
 -MAP"#,
-            "{*a : v}\n",
-        ),
-    ];
-    check_roots(&rt, rt.alloc(), "", rows)
-}
-
-#[test]
-fn flow_past_the_width_goes_to_the_next_line(rt: HostRuntime) -> Result<(), Fail> {
-    let rows: Rows = &[(
-        r#"
+                "{*a : v}\n",
+            ),
+        ],
+    ),
+    // Flow past the width goes to the next line.
+    (
+        "width 5\n",
+        &[(
+            r#"
 +SEQ flow 1 - -
 =VAL any 1 1 - - "aaaa"
 =VAL any 1 1 - - "bb"
 -SEQ"#,
-        "[aaaa,\n  bb]\n",
-    )];
-    check_roots(&rt, rt.alloc(), "width 5\n", rows)
-}
-
-#[test]
-fn an_alias_as_a_key_is_followed_by_a_space(rt: HostRuntime) -> Result<(), Fail> {
-    let rows: Rows = &[(
-        r#"
+            "[aaaa,\n  bb]\n",
+        )],
+    ),
+    // An alias as a key is followed by a space.
+    (
+        "",
+        &[(
+            r#"
 +MAP block 1 - -
 =ALI "a"
 =VAL any 1 1 - - "v"
 -MAP"#,
-        "*a : v\n",
-    )];
-    check_roots(&rt, rt.alloc(), "", rows)
-}
-
-#[test]
-fn empty_keys_and_values_stand_in_blocks(rt: HostRuntime) -> Result<(), Fail> {
-    let rows: Rows = &[
-        (
-            r#"
+            "*a : v\n",
+        )],
+    ),
+    // Empty keys and values stand in blocks.
+    (
+        "",
+        &[
+            (
+                r#"
 +MAP block 1 - -
 =VAL any 1 1 - - "a"
 =VAL any 1 1 - - ""
 -MAP"#,
-            "a:\n",
-        ),
-        (
-            r#"
+                "a:\n",
+            ),
+            (
+                r#"
 +MAP block 1 - -
 =VAL any 1 1 - - ""
 =VAL any 1 1 - - "v"
 -MAP"#,
-            "'': v\n",
-        ),
-        (
-            r#"
+                "'': v\n",
+            ),
+            (
+                r#"
 +MAP block 1 - -
 +SEQ block 1 - -
 -SEQ
 =VAL any 1 1 - - "v"
 -MAP"#,
-            "[]: v\n",
-        ),
-    ];
-    check_roots(&rt, rt.alloc(), "", rows)
+                "[]: v\n",
+            ),
+        ],
+    ),
+    // A key with a separator is not simple.
+    (
+        "unicode on\nbreaks12 on\n",
+        &[(
+            r#"
++MAP block 1 - -
+=VAL any 1 1 - - "a\u{2028}b"
+=VAL any 1 1 - - "v"
+-MAP"#,
+            "? \"a\\Lb\"\n: v\n",
+        )],
+    ),
+    // Nodes that stand elsewhere, and collections that hold themselves.
+    (
+        "",
+        &[
+            (
+                r#"
++SEQ block 1 - -
+=VAL any 1 1 "id001" - "a"
+=ALI "id001"
+-SEQ"#,
+                "- &id001 a\n- *id001\n",
+            ),
+            (
+                r#"
++SEQ block 1 - -
++SEQ block 1 - -
+=VAL any 1 1 "id001" - "a"
+=ALI "id001"
+-SEQ
+-SEQ"#,
+                "- - &id001 a\n  - *id001\n",
+            ),
+            (
+                r#"
++SEQ block 1 - -
++SEQ block 1 "id002" -
+=VAL any 1 1 "id001" - "a"
+=ALI "id001"
+-SEQ
+=ALI "id002"
+-SEQ"#,
+                "- &id002\n  - &id001 a\n  - *id001\n- *id002\n",
+            ),
+            (
+                r#"
++SEQ block 1 "id001" -
+=ALI "id001"
+-SEQ"#,
+                "&id001\n- *id001\n",
+            ),
+        ],
+    ),
+];
+
+#[test]
+fn each_root_is_written(rt: HostRuntime) -> Result<(), Fail> {
+    check_all_roots(&rt, rt.alloc(), ROOTS)
 }
 
 // A mapping of one pair, whose value is `v`.
@@ -216,61 +273,4 @@ fn long_keys_are_not_simple(rt: HostRuntime) -> Result<(), Fail> {
         key.as_str(),
         text.as_str(),
     )
-}
-
-#[test]
-fn a_key_with_a_separator_is_not_simple(rt: HostRuntime) -> Result<(), Fail> {
-    let rows: Rows = &[(
-        r#"
-+MAP block 1 - -
-=VAL any 1 1 - - "a\u{2028}b"
-=VAL any 1 1 - - "v"
--MAP"#,
-        "? \"a\\Lb\"\n: v\n",
-    )];
-    check_roots(&rt, rt.alloc(), "unicode on\nbreaks12 on\n", rows)
-}
-
-// Nodes that stand elsewhere, and collections that hold themselves.
-#[test]
-fn anchors_name_shared_nodes(rt: HostRuntime) -> Result<(), Fail> {
-    let rows: Rows = &[
-        (
-            r#"
-+SEQ block 1 - -
-=VAL any 1 1 "id001" - "a"
-=ALI "id001"
--SEQ"#,
-            "- &id001 a\n- *id001\n",
-        ),
-        (
-            r#"
-+SEQ block 1 - -
-+SEQ block 1 - -
-=VAL any 1 1 "id001" - "a"
-=ALI "id001"
--SEQ
--SEQ"#,
-            "- - &id001 a\n  - *id001\n",
-        ),
-        (
-            r#"
-+SEQ block 1 - -
-+SEQ block 1 "id002" -
-=VAL any 1 1 "id001" - "a"
-=ALI "id001"
--SEQ
-=ALI "id002"
--SEQ"#,
-            "- &id002\n  - &id001 a\n  - *id001\n- *id002\n",
-        ),
-        (
-            r#"
-+SEQ block 1 "id001" -
-=ALI "id001"
--SEQ"#,
-            "&id001\n- *id001\n",
-        ),
-    ];
-    check_roots(&rt, rt.alloc(), "", rows)
 }

@@ -1,32 +1,35 @@
 //! How documents and streams begin and end, and the encodings of a stream.
-use super::{Rows, check_bytes, check_streams};
+use super::{Group, check_all_streams, check_bytes};
 use std::alloc::{AllocError, Global};
 use std::process::Abort;
 use std::test::Fail;
 
-#[test]
-fn marks_stand_where_they_are_needed(rt: HostRuntime) -> Result<(), Fail> {
-    let rows: Rows = &[
-        (
-            r#"
+/// Streams, after some settings.
+const STREAMS: &[Group] = &[
+    // Marks stand where they are needed.
+    (
+        "",
+        &[
+            (
+                r#"
 +STR any
 +DOC 0 -
 =VAL any 1 1 - - "foo"
 -DOC 0
 -STR"#,
-            "--- foo\n...\n",
-        ),
-        (
-            r#"
+                "--- foo\n...\n",
+            ),
+            (
+                r#"
 +STR any
 +DOC 1 1.1
 =VAL any 1 1 - - "foo"
 -DOC 1
 -STR"#,
-            "%YAML 1.1\n--- foo\n",
-        ),
-        (
-            r#"
+                "%YAML 1.1\n--- foo\n",
+            ),
+            (
+                r#"
 +STR any
 +DOC 1 -
 =VAL any 1 1 - - "a"
@@ -35,10 +38,10 @@ fn marks_stand_where_they_are_needed(rt: HostRuntime) -> Result<(), Fail> {
 =VAL any 0 0 - "tag:e.com,2000:t" "x"
 -DOC 1
 -STR"#,
-            "a\n...\n%TAG !e! tag:e.com,2000:\n--- !e!t x\n",
-        ),
-        (
-            r#"
+                "a\n...\n%TAG !e! tag:e.com,2000:\n--- !e!t x\n",
+            ),
+            (
+                r#"
 +STR any
 +DOC 1 -
 =VAL literal 1 1 - - "a\n\n"
@@ -47,10 +50,28 @@ fn marks_stand_where_they_are_needed(rt: HostRuntime) -> Result<(), Fail> {
 =VAL any 1 1 - - "b"
 -DOC 1
 -STR"#,
-            "|+\n  a\n\n--- b\n",
-        ),
-    ];
-    check_streams(&rt, rt.alloc(), "", rows)
+                "|+\n  a\n\n--- b\n",
+            ),
+        ],
+    ),
+    // What is set goes before what the stream's start asks for.
+    (
+        "encoding utf8\n",
+        &[(
+            r#"
++STR utf16be
++DOC 1 -
+=VAL any 1 1 - - "a"
+-DOC 1
+-STR"#,
+            "a\n",
+        )],
+    ),
+];
+
+#[test]
+fn each_stream_is_written(rt: HostRuntime) -> Result<(), Fail> {
+    check_all_streams(&rt, rt.alloc(), STREAMS)
 }
 
 /// A document with this value.
@@ -112,19 +133,4 @@ fn a_character_past_two_bytes_becomes_two_units(rt: HostRuntime) -> Result<(), F
         (settings.as_str(), "utf16le", face.as_str()),
         bytes,
     )
-}
-
-// What is set goes before what the stream's start asks for.
-#[test]
-fn the_emitters_encoding_is_taken_first(rt: HostRuntime) -> Result<(), Fail> {
-    let rows: Rows = &[(
-        r#"
-+STR utf16be
-+DOC 1 -
-=VAL any 1 1 - - "a"
--DOC 1
--STR"#,
-        "a\n",
-    )];
-    check_streams(&rt, rt.alloc(), "encoding utf8\n", rows)
 }

@@ -19,60 +19,69 @@ fn check_fronts(rt: &impl Abort, alloc: Global, settings: &str, turns: Turns) ->
     Ok(())
 }
 
-#[test]
-fn a_block_waits_for_what_follows_its_start(rt: HostRuntime) -> Result<(), Fail> {
-    let turns: Turns = &[
-        ("+STR any", ""),
-        (r#"+DOC 1 - "!e!" "tag:e.com,2000:""#, ""),
-        ("+MAP block 1 - -", "%TAG !e! tag:e.com,2000:\n---"),
-        (r#"=VAL any 1 1 "n" - "a key""#, ""),
-        ("+SEQ block 1 - -", ""),
-        (r#"=VAL any 0 0 - "tag:e.com,2000:t" "x""#, "\n&n a key"),
-        ("+MAP flow 1 - -", ":\n- !e!t x"),
-        (r#"=VAL any 1 1 - - "k""#, ""),
-        (r#"+SEQ flow 1 "s" -"#, ""),
-        ("-SEQ", "\n- {k: &s []"),
-        ("-MAP", "}"),
-        (r#"=VAL literal 1 1 - - "a\n\n""#, "\n- |+\n  a\n\n"),
-        ("-SEQ", ""),
-        (r#"=ALI "n""#, "*n "),
-        ("+MAP block 1 - -", ""),
-        ("-MAP", ": {}"),
-        ("-MAP", ""),
-        ("-DOC 1", "\n"),
-        ("+DOC 1 -", ""),
-        (r#"=VAL literal 1 1 - - "b\n\n""#, "--- |+\n  b\n\n"),
-        ("-DOC 1", ""),
-        ("-STR", "...\n"),
-    ];
-    check_fronts(&rt, rt.alloc(), "", turns)
-}
+/// Scripts, after some settings.
+const SCRIPTS: &[(&str, Turns)] = &[
+    // A block waits for what follows its start.
+    (
+        "",
+        &[
+            ("+STR any", ""),
+            (r#"+DOC 1 - "!e!" "tag:e.com,2000:""#, ""),
+            ("+MAP block 1 - -", "%TAG !e! tag:e.com,2000:\n---"),
+            (r#"=VAL any 1 1 "n" - "a key""#, ""),
+            ("+SEQ block 1 - -", ""),
+            (r#"=VAL any 0 0 - "tag:e.com,2000:t" "x""#, "\n&n a key"),
+            ("+MAP flow 1 - -", ":\n- !e!t x"),
+            (r#"=VAL any 1 1 - - "k""#, ""),
+            (r#"+SEQ flow 1 "s" -"#, ""),
+            ("-SEQ", "\n- {k: &s []"),
+            ("-MAP", "}"),
+            (r#"=VAL literal 1 1 - - "a\n\n""#, "\n- |+\n  a\n\n"),
+            ("-SEQ", ""),
+            (r#"=ALI "n""#, "*n "),
+            ("+MAP block 1 - -", ""),
+            ("-MAP", ": {}"),
+            ("-MAP", ""),
+            ("-DOC 1", "\n"),
+            ("+DOC 1 -", ""),
+            (r#"=VAL literal 1 1 - - "b\n\n""#, "--- |+\n  b\n\n"),
+            ("-DOC 1", ""),
+            ("-STR", "...\n"),
+        ],
+    ),
+    // A flow sequence waits for two events.
+    (
+        "",
+        &[
+            ("+STR any", ""),
+            ("+DOC 1 -", ""),
+            (r#"+SEQ flow 1 "a" -"#, ""),
+            ("+SEQ flow 1 - -", ""),
+            (r#"=VAL any 1 1 - - "x""#, "&a"),
+            ("-SEQ", " [[x]"),
+            ("-SEQ", "]"),
+            ("-DOC 1", "\n"),
+        ],
+    ),
+    // A canonical item is written without its comma.
+    (
+        "canonical on\nwidth -1\n",
+        &[
+            ("+STR any", ""),
+            ("+DOC 1 -", ""),
+            ("+SEQ block 1 - -", "---\n"),
+            (r#"=VAL any 1 1 - - "a""#, ""),
+            (r#"=VAL any 1 1 - - "b""#, "[\n  \"a\",\n  \"b\""),
+            ("-SEQ", ",\n]"),
+            ("-DOC 1", "\n"),
+        ],
+    ),
+];
 
 #[test]
-fn a_flow_sequence_waits_for_two_events(rt: HostRuntime) -> Result<(), Fail> {
-    let turns: Turns = &[
-        ("+STR any", ""),
-        ("+DOC 1 -", ""),
-        (r#"+SEQ flow 1 "a" -"#, ""),
-        ("+SEQ flow 1 - -", ""),
-        (r#"=VAL any 1 1 - - "x""#, "&a"),
-        ("-SEQ", " [[x]"),
-        ("-SEQ", "]"),
-        ("-DOC 1", "\n"),
-    ];
-    check_fronts(&rt, rt.alloc(), "", turns)
-}
-
-#[test]
-fn a_canonical_item_is_written_without_its_comma(rt: HostRuntime) -> Result<(), Fail> {
-    let turns: Turns = &[
-        ("+STR any", ""),
-        ("+DOC 1 -", ""),
-        ("+SEQ block 1 - -", "---\n"),
-        (r#"=VAL any 1 1 - - "a""#, ""),
-        (r#"=VAL any 1 1 - - "b""#, "[\n  \"a\",\n  \"b\""),
-        ("-SEQ", ",\n]"),
-        ("-DOC 1", "\n"),
-    ];
-    check_fronts(&rt, rt.alloc(), "canonical on\nwidth -1\n", turns)
+fn what_is_ready_is_written(rt: HostRuntime) -> Result<(), Fail> {
+    'scripts: for (settings, turns) in SCRIPTS {
+        check_fronts(&rt, rt.alloc(), settings, turns)?;
+    }
+    Ok(())
 }

@@ -4,10 +4,11 @@ use std::alloc::{AllocError, Global};
 use std::process::Abort;
 use std::test::Fail;
 use yaml_dump::{
-    NodeNumber, YAML_ANY_MAPPING_STYLE, YAML_ANY_SCALAR_STYLE, document_events, yaml_document_t,
-    yaml_emitter_close, yaml_emitter_dump, yaml_emitter_initialize, yaml_emitter_open,
-    yaml_emitter_set_output_string, yaml_emitter_set_width, yaml_error_t, yaml_node_data_t,
-    yaml_node_pair_t, yaml_node_t,
+    NodeNumber, YAML_ANY_MAPPING_STYLE, YAML_ANY_SCALAR_STYLE, YAML_MAP_TAG, YAML_STR_TAG,
+    document_events, yaml_document_t, yaml_emitter_close, yaml_emitter_dump,
+    yaml_emitter_initialize, yaml_emitter_open, yaml_emitter_set_output_string,
+    yaml_emitter_set_width, yaml_emitter_t, yaml_error_t, yaml_node_data_t, yaml_node_pair_t,
+    yaml_node_t,
 };
 
 /// A document as YAML of at most `limit` bytes.
@@ -27,7 +28,7 @@ fn yaml_of(
 /// A string as a node.
 fn text_node(alloc: Global, value: &str) -> Result<yaml_node_t<Global>, AllocError> {
     Ok(yaml_node_t {
-        tag: String::from_str(alloc, "tag:yaml.org,2002:str")?,
+        tag: String::from_str(alloc, YAML_STR_TAG)?,
         contents: yaml_node_data_t::Scalar {
             value: String::from_str(alloc, value)?,
             style: YAML_ANY_SCALAR_STYLE,
@@ -38,7 +39,7 @@ fn text_node(alloc: Global, value: &str) -> Result<yaml_node_t<Global>, AllocErr
 /// A mapping of one pair, whose key is node 2 and whose value is the node of this number.
 fn pair_node(alloc: Global, value: i32) -> Result<yaml_node_t<Global>, AllocError> {
     Ok(yaml_node_t {
-        tag: String::from_str(alloc, "tag:yaml.org,2002:map")?,
+        tag: String::from_str(alloc, YAML_MAP_TAG)?,
         contents: yaml_node_data_t::Mapping {
             pairs: vec![in alloc; yaml_node_pair_t { key: 2, value }]?,
             style: YAML_ANY_MAPPING_STYLE,
@@ -69,6 +70,17 @@ fn two_dumps(
     yaml_emitter_dump(alloc, &mut emitter, first)?;
     yaml_emitter_dump(alloc, &mut emitter, empty)?;
     Vec::from_slice(alloc, emitter.output()).map_err(|_| yaml_error_t::Memory)
+}
+
+/// Closes the stream where it was opened and no call has failed.
+fn close_if_open(emitter: &mut yaml_emitter_t<Global>) -> Result<(), yaml_error_t> {
+    if let Some(error) = emitter.error() {
+        return Err(error);
+    }
+    if !emitter.is_opened() {
+        return Ok(());
+    }
+    yaml_emitter_close(emitter)
 }
 
 /// Nodes, where there was memory for them.
@@ -144,4 +156,21 @@ fn a_node_met_twice_has_an_anchor(rt: HostRuntime) -> Result<(), Fail> {
     let empty = document(alloc, Ok(Vec::new(alloc)))?;
     check_circle(&rt, alloc, circle, empty);
     Ok(())
+}
+
+/// Whether a stream is closed that was opened, or was not.
+fn closed_after(alloc: Global, opens: bool) -> Result<bool, yaml_error_t> {
+    let mut emitter = yaml_emitter_initialize(alloc)?;
+    if opens {
+        yaml_emitter_set_output_string(&mut emitter, 100);
+        yaml_emitter_open(&mut emitter)?;
+    }
+    close_if_open(&mut emitter)?;
+    Ok(emitter.is_closed())
+}
+
+#[test]
+fn an_open_stream_is_closed(rt: HostRuntime) {
+    equal(&rt, &closed_after(rt.alloc(), true), &Ok(true));
+    equal(&rt, &closed_after(rt.alloc(), false), &Ok(false));
 }

@@ -134,14 +134,25 @@ fn bytes_appear_at_a_documents_end(rt: HostRuntime) -> Result<(), Fail> {
     Ok(())
 }
 
+/// Hands out all text so far. Returns how many events still wait for those that follow.
+fn flush_text(emitter: &mut yaml_emitter_t<Global>) -> Result<usize, yaml_error_t>
+    requires { emitter.old.has_output ≡ true }
+    ensures { emitter.new.has_output ≡ true }
+{
+    yaml_emitter_flush(emitter)?;
+    Ok(emitter.held())
+}
+
 fn give_and_flush(rt: &impl Abort, alloc: Global, emitter: &mut yaml_emitter_t<Global>)
     requires { emitter.old.has_output ≡ true }
 {
-    let events = with(started(alloc), scalar(alloc, "b"));
-    equal(rt, &emit_made(emitter, events), &Ok(()));
-    check_output(rt, emitter, 0, b"");
+    equal(rt, &emit_made(emitter, started(alloc)), &Ok(()));
+    equal(rt, &flush_text(emitter), &Ok(2));
     equal(rt, &emitter.encoding_known(), &true);
-    equal(rt, &yaml_emitter_flush(emitter), &Ok(()));
+    let item = with(Ok(Vec::new(alloc)), scalar(alloc, "b"));
+    equal(rt, &emit_made(emitter, item), &Ok(()));
+    check_output(rt, emitter, 0, b"");
+    equal(rt, &flush_text(emitter), &Ok(0));
     check_output(rt, emitter, 0, b"[a, b");
 }
 

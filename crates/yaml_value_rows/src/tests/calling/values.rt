@@ -27,6 +27,18 @@ fn values(alloc: Global) -> Result<Vec<u8>, yaml_error_t> {
     writer.finish()
 }
 
+/// A mapping of a text with an anchor and a tag, and of an alias for it.
+fn give_shared(writer: &mut Writer<Global>) -> Result<(), yaml_error_t> {
+    writer.begin_mapping(YAML_BLOCK_MAPPING_STYLE)?;
+    writer.text("from")?;
+    writer.anchored("place")?;
+    writer.tagged("!city")?;
+    writer.text("Oslo")?;
+    writer.text("to")?;
+    writer.alias("place")?;
+    writer.end()
+}
+
 /// Ends a document, begins the next, and sends what was handed out since the last call.
 fn send_document(writer: &mut Writer<Global>, sent: &mut Vec<u8>) -> Result<(), yaml_error_t> {
     writer.next_document()?;
@@ -39,6 +51,15 @@ fn send_document(writer: &mut Writer<Global>, sent: &mut Vec<u8>) -> Result<(), 
 fn values_are_written(rt: HostRuntime) -> Result<(), Fail> {
     let expected = "---\ncountry: 'no'\nvalues: [-5, true, null]\n";
     same(&rt, values(rt.alloc())?.as_slice(), expected.as_bytes());
+    Ok(())
+}
+
+#[test]
+fn an_alias_stands_for_a_value(rt: HostRuntime) -> Result<(), Fail> {
+    let mut writer = Writer::new(rt.alloc(), Settings::default())?;
+    give_shared(&mut writer)?;
+    let expected = "---\nfrom: &place !city Oslo\nto: *place\n";
+    same(&rt, writer.finish()?.as_slice(), expected.as_bytes());
     Ok(())
 }
 

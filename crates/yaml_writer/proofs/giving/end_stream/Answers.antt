@@ -1,17 +1,22 @@
-use Rattle.std.proofs.Common.{[], ◌∷◌, ◌++◌, true}
+use Rattle.std.proofs.Common.{[], ◌∷◌, ◌++◌, ◌∙◌, ap, true, Err, IfErr, subst, sym}
+use Rattle.std.proofs.lemmas.Result.{err_from_is_err_and}
 use Rattle.yaml_base.specs.Event.{document_end, stream_end}
 use Rattle.yaml_emitter.proofs.standing.StandingMore.{some_from_told}
 use Rattle.yaml_pen.proofs.Writing.{none_from_told}
 use Rattle.yaml_writer.proofs.Finishing.{closed, closed_stands, error_kept, failed_unfinished, none_waits, rest_finished, some_waits, waiting_unfinished}
 use Rattle.yaml_writer.proofs.Taken.{still_taken}
+use Rattle.yaml_writer.specs.Unfinished.{IsUnfinished}
 use Rattle.yaml_writer.proofs.giving.end_stream.Goals as goal
 
-pub returns-in-Err-clause-unfinished : goal.returns-in-Err-clause-unfinished
-returns-in-Err-clause-unfinished g c =
+pub returns-in_err-yaml_emitter_emit-clause-unfinished : goal.returns-in_err-yaml_emitter_emit-clause-unfinished
+returns-in_err-yaml_emitter_emit-clause-unfinished g c =
     let before = c.args.emitter.now in
     let between = c.yaml_emitter_emit.new.emitter in
     let after = c.yaml_emitter_emit-2.new.emitter in
-    failed_unfinished before after c.in-Err.error
+    let error = c.in_err-yaml_emitter_emit.field-0.0 in
+    let told = err_from_is_err_and c.from_residual.result c.from_residual.ensures.1 in
+    subst (λ answer. IfErr answer (λ error. IsUnfinished before error)) (sym (told.1 ∙ ap (λ e. Err e) told.2))
+    (failed_unfinished before after error
     (λ error is.
     error_kept between after error c.yaml_emitter_emit-2.ensures.kept (error_kept before between error c.yaml_emitter_emit.ensures.kept is))
     (λ given all stands.
@@ -19,7 +24,7 @@ returns-in-Err-clause-unfinished g c =
       closed_stands given all after (c.yaml_emitter_emit-2.ensures.stands given (all ++ document_end true ∷ []) ended),
       closed given all after (c.yaml_emitter_emit-2.ensures.promised given (all ++ document_end true ∷ []) ended),
     ))
-    (some_from_told after.error c.in-Err.error c.in-Err.ensures.answered)
+    (some_from_told after.error error c.in_err-yaml_emitter_emit.ensures.answered))
 
 pub returns-then-held-gt0-clause-unfinished : goal.returns-then-held-gt0-clause-unfinished
 returns-then-held-gt0-clause-unfinished g c =
@@ -32,7 +37,7 @@ returns-then-held-gt0-clause-unfinished g c =
     (λ given all stands.
     closed given all after
     (c.yaml_emitter_emit-2.ensures.promised given (all ++ document_end true ∷ []) (c.yaml_emitter_emit.ensures.stands given all stands)))
-    (none_from_told after.error c.in_default.ensures.answered)
+    (none_from_told after.error c.in_ok-yaml_emitter_emit.ensures.answered)
     (some_waits c.held.result after.held c.if-held-gt0.true c.held.ensures)
 
 pub returns-clause-finishes : goal.returns-clause-finishes
@@ -49,5 +54,5 @@ returns-clause-finishes g c given all sent stands =
     still_taken given with_end with_both sent between after ended c.yaml_emitter_emit-2.ensures.set c.yaml_emitter_emit-2.ensures.grows
     (c.yaml_emitter_emit-2.ensures.stands given with_end ended.stands) in
     rest_finished given all with_both sent after closes (closed given all after (c.yaml_emitter_emit-2.ensures.promised given with_end ended.stands))
-    (none_from_told after.error c.in_default.ensures.answered)
+    (none_from_told after.error c.in_ok-yaml_emitter_emit.ensures.answered)
     (none_waits c.held.result after.held c.if-held-gt0.false c.held.ensures)

@@ -3,6 +3,11 @@ use Rattle.yaml_emitter.specs.State.{State}
 use Rattle.yaml_emitter.specs.UsualScalars.{StandsPlain}
 use Rattle.yaml_emitter.proofs.emitter.yaml_emitter_t.put_scalar.Goals as goal
 
-pub put_usual-requires-clause-plain : goal.put_usual-requires-clause-plain
-put_usual-requires-clause-plain g c =
-    subst (λ (s : State). StandsPlain s.settings.canonical c.args.content.now) c.self.view_is (c.if-stands_plain.ensures refl)
+pub put_usual-requires-clause-usual : goal.put_usual-requires-clause-usual
+put_usual-requires-clause-usual g c = (c.if-stands_plain.ensures refl).usual
+
+pub returns-then-stands_plain : goal.returns-then-stands_plain
+returns-then-stands_plain g c =
+    c.put_usual.ensures c.args.content.now
+    (subst (λ (s : State). StandsPlain s.settings.canonical c.args.content.now) c.self.view_is (c.if-stands_plain.ensures refl))
+    refl c.requires.names

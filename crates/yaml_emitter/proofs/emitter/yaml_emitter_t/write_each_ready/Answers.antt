@@ -1,52 +1,71 @@
-use Rattle.std.proofs.Common.{◌≡◌, true, false, ap, sym, subst, ◌∙◌, Bool, List}
+use Rattle.std.proofs.Common.{◌≡◌, ◌≤◌, None, Some, List, ap, sym, subst, arith, drop, ◌∙◌}
 use Rattle.std.proofs.lemmas.Bool.{false≢true}
-use Rattle.yaml_base.specs.Seen.{seen_events}
-use Rattle.yaml_base.specs.declared.events.yaml_event_t.{yaml_event_t}
-use Rattle.yaml_emitter.specs.Inside.{state_of}
-use Rattle.yaml_emitter.specs.declared.emitter.yaml_emitter_t.TheInside.{Inside}
-use Rattle.yaml_emitter.specs.State.{State}
+use Rattle.std.proofs.lemmas.List.{length-map}
+use Rattle.yaml_base.specs.Event.{Event}
+use Rattle.yaml_base.specs.Seen.{seen_event, seen_events}
+use Rattle.yaml_pen.specs.Wrote.{Grows}
 use Rattle.yaml_emitter.specs.Queue.{is_head_ready}
-use Rattle.yaml_emitter.specs.StandsAfter.{StandsBy}
-use Rattle.yaml_pen.proofs.Writing.{none_from_told}
-use Rattle.yaml_pen.proofs.Composing.{grows_then}
-use Rattle.yaml_emitter.proofs.standing.Emitting.{reached_on}
-use Rattle.yaml_emitter.proofs.standing.KeepsSet.{keeps_set_then}
-use Rattle.yaml_emitter.proofs.standing.StandingSteps.{reached_end}
+use Rattle.yaml_emitter.specs.State.{KeepsSet, State}
+use Rattle.yaml_emitter.specs.StandsAfter.{StandsSo, with_waiting}
+use Rattle.yaml_emitter.proofs.standing.TakenOut.{back_again, grows_back, keeps_back, reached_out, stands_back}
 use Rattle.yaml_emitter.proofs.emitter.yaml_emitter_t.write_each_ready.Goals as goal
 
--- the first that waits is ready where the code says so
-ready_inside : {A : Type 0} (e : Inside A) {seen : State} {waiting : List (yaml_event_t A)} {answer : Bool} → state_of e ≡ seen → waiting ≡ e.queue.items
-    → answer ≡ is_head_ready (seen_events waiting) → answer ≡ true
-    → is_head_ready seen.held ≡ true
-ready_inside e is same told ready =
-    ap (λ (s : State). is_head_ready s.held) (sym is) ∙ ap (λ q. is_head_ready (seen_events q)) (sym same) ∙ sym told ∙ ready
+pub drop_front-requires : goal.drop_front-requires
+drop_front-requires g c =
+    omega (arith, c.in-Ok.ensures.written.within, c.as_slice.ensures.len, length-map c.as_slice.result.now seen_event)
 
-pub returns-clause-stands : goal.returns-clause-stands
-returns-clause-stands g c given all front reached =
-    let state = c.loop-self.self in
-    let at = c.loop-self.invariant.reached given all front reached in
-    let none : is_head_ready state.held ≡ false =
-    ap (λ (s : State). is_head_ready s.held) (sym c.self.view_is) ∙ ap (λ q. is_head_ready (seen_events q)) (sym c.as_slice.ensures.value)
-    ∙ sym c.is_next_ready.ensures ∙ c.loop-self-test.false in
-    subst (λ e. StandsBy given all e state) (sym c.loop-self.invariant.no_error) (reached_end given all at.0 state.held state at.1 none)
+pub put_back-requires-clause-room : goal.put_back-requires-clause-room
+put_back-requires-clause-room g c = subst (λ n. 4 ≤ n) (sym c.drop_front.ensures.room) c.take_queue-queue.ensures.room
 
-pub loop-self-preserved : goal.loop-self-preserved
-loop-self-preserved g c =
-    record {
-      output = c.write_first.ensures.output;
-      no_error = none_from_told c.write_first.new.self.error c.in_ok-write_first.ensures.answered;
-      reached = reached_on c.args.self.now c.loop-self.self c.write_first.new.self c.loop-self.invariant.reached c.in_ok-write_first.ensures.next;
-      set = keeps_set_then c.args.self.now c.loop-self.self c.write_first.new.self c.loop-self.invariant.set c.write_first.ensures.set;
-      grows = grows_then c.loop-self.invariant.grows c.write_first.ensures.grows;
-      waits = λ none. absurd (false≢true
-          (sym (c.loop-self.invariant.waits none)
-          ∙ ready_inside c.self.inside c.self.view_is c.as_slice.ensures.value c.is_next_ready.ensures c.loop-self-test.true));
-    }
+pub put_back-requires-clause-empty : goal.put_back-requires-clause-empty
+put_back-requires-clause-empty g c = c.write_front.ensures.held ∙ ap (λ (s : State). s.held) c.take_queue-queue.ensures.taken
 
-pub returns-in_err-write_first-clause-waits : goal.returns-in_err-write_first-clause-waits
-returns-in_err-write_first-clause-waits g c none = absurd
-    (false≢true (sym (c.loop-self.invariant.waits none)
-    ∙ ready_inside c.self.inside c.self.view_is c.as_slice.ensures.value c.is_next_ready.ensures c.loop-self-test.true))
+pub returns-in-Ok-clause-stands : goal.returns-in-Ok-clause-stands
+returns-in-Ok-clause-stands g c given all front reached =
+    let waiting = seen_events c.as_slice.result.now in
+    let held : waiting ≡ c.args.self.now.held = ap seen_events c.as_slice.ensures.value ∙ c.take_queue-queue.ensures.queue in
+    let same = back_again c.args.self.now c.take_queue-queue.new.self waiting c.take_queue-queue.ensures.taken held c.requires.no_error in
+    let left = c.drop_front.ensures.rest ∙ ap (λ q. drop c.in-Ok.count (seen_events q)) (sym c.as_slice.ensures.value) in
+    stands_back given all front c.take_queue-queue.new.self c.write_front.new.self c.put_back.new.self waiting c.in-Ok.count c.in-Ok.ensures.written
+    (c.put_back.ensures ∙ ap (λ (l : List Event). with_waiting l c.write_front.new.self) left)
+    (reached_out given all front c.args.self.now c.take_queue-queue.new.self waiting same reached)
 
-pub returns-in_err-write_first-clause-grows : goal.returns-in_err-write_first-clause-grows
-returns-in_err-write_first-clause-grows g c = grows_then c.loop-self.invariant.grows c.write_first.ensures.grows
+pub returns-in-Err-clause-stands : goal.returns-in-Err-clause-stands
+returns-in-Err-clause-stands g c given all front reached =
+    let waiting = seen_events c.as_slice.result.now in
+    let held : waiting ≡ c.args.self.now.held = ap seen_events c.as_slice.ensures.value ∙ c.take_queue-queue.ensures.queue in
+    let same = back_again c.args.self.now c.take_queue-queue.new.self waiting c.take_queue-queue.ensures.taken held c.requires.no_error in
+    subst (λ s. StandsSo given all s) (sym c.fail.ensures)
+    (c.in-Err.ensures.failed given all front (reached_out given all front c.args.self.now c.take_queue-queue.new.self waiting same reached))
+
+pub returns-in-Err-clause-waits : goal.returns-in-Err-clause-waits
+returns-in-Err-clause-waits g c none =
+    let held : seen_events c.as_slice.result.now ≡ c.args.self.now.held = ap seen_events c.as_slice.ensures.value ∙ c.take_queue-queue.ensures.queue in
+    absurd (false≢true (c.in-Err.ensures.waits (ap is_head_ready held ∙ none)))
+
+pub returns-in-Ok-clause-grows : goal.returns-in-Ok-clause-grows
+returns-in-Ok-clause-grows g c =
+    subst (λ (s : State). Grows c.args.self.now.page s.page) (sym c.put_back.ensures)
+    (grows_back c.args.self.now c.take_queue-queue.new.self c.write_front.new.self c.take_queue-queue.ensures.taken c.write_front.ensures.grows)
+
+pub returns-in-Err-clause-grows : goal.returns-in-Err-clause-grows
+returns-in-Err-clause-grows g c =
+    subst (λ (s : State). Grows c.args.self.now.page s.page) (sym c.fail.ensures)
+    (grows_back c.args.self.now c.take_queue-queue.new.self c.write_front.new.self c.take_queue-queue.ensures.taken c.write_front.ensures.grows)
+
+pub returns-in-Ok-clause-set : goal.returns-in-Ok-clause-set
+returns-in-Ok-clause-set g c =
+    subst (λ (s : State). KeepsSet c.args.self.now s) (sym c.put_back.ensures)
+    (keeps_back c.args.self.now c.take_queue-queue.new.self c.write_front.new.self _ None c.take_queue-queue.ensures.taken c.write_front.ensures.set)
+
+pub returns-in-Err-clause-set : goal.returns-in-Err-clause-set
+returns-in-Err-clause-set g c =
+    subst (λ (s : State). KeepsSet c.args.self.now s) (sym c.fail.ensures)
+    (keeps_back c.args.self.now c.take_queue-queue.new.self c.write_front.new.self _ (Some c.in-Err.error) c.take_queue-queue.ensures.taken
+    c.write_front.ensures.set)
+
+pub returns-in-Ok-clause-output : goal.returns-in-Ok-clause-output
+returns-in-Ok-clause-output g c = (returns-in-Ok-clause-set g c).has_output ∙ c.requires.output
+
+pub returns-in-Err-clause-output : goal.returns-in-Err-clause-output
+returns-in-Err-clause-output g c = (returns-in-Err-clause-set g c).has_output ∙ c.requires.output

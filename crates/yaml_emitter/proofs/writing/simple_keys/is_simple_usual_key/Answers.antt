@@ -1,11 +1,12 @@
-use Rattle.std.proofs.Common.{◌≡◌, true, ap, ◌∙◌, ◌+◌, ℕ}
-use Rattle.yaml_base.specs.Layout.{is_key, is_short}
+use Rattle.std.proofs.Common.{◌≡◌, true, ap, sym, ◌∙◌, ◌+◌, ℕ, List, chars}
+use Rattle.yaml_base.specs.Layout.{byte_count, is_key, is_short}
 use Rattle.yaml_emitter.specs.Places.{seen_role}
 use Rattle.yaml_emitter.proofs.pieces.UsualChoices.{usual_key}
 use Rattle.yaml_emitter.proofs.writing.simple_keys.is_simple_usual_key.Goals as goal
 
 pub returns-then-is_key : goal.returns-then-is_key
-returns-then-is_key c = λ canonical directives plain.
+returns-then-is_key c = λ canonical directives content stands same.
     let key : is_key (seen_role c.args.place.now.role) ≡ true = cc in
     c.is_short.ensures ∙ ap (λ (n : ℕ). is_short (n + 0 + 0)) c.byte_count.ensures
-    ∙ usual_key (is_key (seen_role c.args.place.now.role)) directives key plain
+    ∙ ap (λ (v : List ℕ). is_short (byte_count (chars v) + 0 + 0)) (sym same)
+    ∙ usual_key (is_key (seen_role c.args.place.now.role)) directives key stands

@@ -12,4 +12,4 @@ returns g c =
     wrote_plain c.args.site.now.settings.now c.args.site.now.place.in_flow c.args.site.now.simple (chars c.args.value.now)
     (to_z-of_z w32 c.line_indent-indent.result indent_fits ∙ c.line_indent-indent.ensures.value)
     (to_z-of_z w32 c.args.site.now.settings.now.width fits) c.args.site.now.settings.now.counts
-    c.write_usual_scalar.ensures
+    (c.write_usual_scalar.ensures c.args.site.now.place.in_flow)

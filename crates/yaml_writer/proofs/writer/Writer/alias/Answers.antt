@@ -6,10 +6,10 @@ use Rattle.yaml_writer.specs.Writing.{AddsAll}
 use Rattle.yaml_writer.proofs.Taken.{passed}
 use Rattle.yaml_writer.proofs.writer.Writer.alias.Goals as goal
 
-pub returns-in-Ok-clause-passed : goal.returns-in-Ok-clause-passed
-returns-in-Ok-clause-passed g c none =
+pub returns-clause-passed : goal.returns-clause-passed
+returns-clause-passed g c none =
     let after = c.give_alias.new.emitter in
     inr
     (passed (state_of c.self.inside) c.args.self.now (alias (chars c.args.name.now) ∷ []) c.give_alias.result after c.self.view_is
-    (subst (λ (name : Text). AddsAll c.self.inside.emitter (alias name ∷ []) after) c.in-Ok.ensures.text c.give_alias.ensures.adds)
+    (subst (λ (name : Text). AddsAll c.self.inside.emitter (alias name ∷ []) after) c.in_ok-name.ensures.text c.give_alias.ensures.adds)
     c.give_alias.ensures.answered)

@@ -7,34 +7,34 @@ use Rattle.yaml_dump.specs.declared.walk.Visit.{Visit}
 use Rattle.yaml_dump.specs.declared.walk.Walker.{Walker}
 
 -- the steps so far, whether each node was entered (that of number 1 first), and the visits, the innermost first
-pub record Standing : Type 0 where
+pub record WalkState : Type 0 where
   pub steps : List meetings.Step
   pub entered : List Bool
   pub visits : List Visit
 
-abbrev pub seen_walker : {A : Type 0} → Walker A → Standing
+abbrev pub seen_walker : {A : Type 0} → Walker A → WalkState
 seen_walker walker = record { steps = map seen_step walker.steps.items; entered = walker.entered.items; visits = reverse walker.visits.items }
 
 -- before the first of so many nodes is met
-abbrev pub at_start : ℕ → Standing
+abbrev pub at_start : ℕ → WalkState
 at_start count = record { steps = []; entered = replicate count false; visits = [] }
 
 -- behind a step
-abbrev pub with_step : meetings.Step → Standing → Standing
+abbrev pub with_step : meetings.Step → WalkState → WalkState
 with_step step standing = record standing { steps = standing.steps ++ step ∷ [] }
 
 -- in a visit, the innermost
-abbrev pub with_visit : Visit → Standing → Standing
+abbrev pub with_visit : Visit → WalkState → WalkState
 with_visit visit standing = record standing { visits = visit ∷ standing.visits }
 
 -- behind the meeting of a node that was entered or not
-abbrev pub with_node : Bool → ℕ → Standing → Standing
+abbrev pub with_node : Bool → ℕ → WalkState → WalkState
 with_node true number standing = with_step (meets_again number) standing
 with_node false number standing = with_visit (record { number = number; met = 0 })
     (with_step (enters number) (record standing { entered = slice_set standing.entered (number - 1) true }))
 
 -- behind the meeting of a node
-abbrev pub with_meeting : ℕ → Standing → Standing
+abbrev pub with_meeting : ℕ → WalkState → WalkState
 with_meeting number standing = with_node (slice_index_or standing.entered (number - 1) false) number standing
 
 -- the child that a visit meets next, if there is one
@@ -42,12 +42,12 @@ abbrev pub child_of : Graph → Visit → Option ℕ
 child_of graph visit = slice_get (children graph visit.number) visit.met
 
 -- a visit goes on with its next child, or its node is left
-abbrev pub with_child : Visit → Option ℕ → Standing → Standing
+abbrev pub with_child : Visit → Option ℕ → WalkState → WalkState
 with_child visit None standing = with_step (leaves visit.number) standing
 with_child visit (Some child) standing = with_meeting child (with_visit (record { number = visit.number; met = visit.met + 1 }) standing)
 
 -- behind a turn of a visit that was taken out
-abbrev pub with_turn : Graph → Visit → Standing → Standing
+abbrev pub with_turn : Graph → Visit → WalkState → WalkState
 with_turn graph visit standing = with_child visit (child_of graph visit) standing
 
 -- the numbers of pairs, keys before values

@@ -9,7 +9,7 @@ use Rattle.std.proofs.lemmas.List.Folds.{sum_by-replicate}
 use Rattle.std.proofs.lemmas.List.Sums.{sum_by-set}
 use Rattle.yaml_base.specs.Meetings as meetings
 use Rattle.yaml_base.specs.Meetings.{Graph, enters, leaves, meets_again, is_entry_of, steps_from, steps, is_whole}
-use Rattle.yaml_dump.specs.Standing.{Standing, seen_walker, at_start, with_step, with_visit, with_node, with_meeting, with_child, child_of, with_turn}
+use Rattle.yaml_dump.specs.WalkState.{WalkState, seen_walker, at_start, with_step, with_visit, with_node, with_meeting, with_child, child_of, with_turn}
 use Rattle.yaml_dump.specs.Named.{IsNamed, AreNamed, number_in}
 use Rattle.yaml_dump.specs.Steps.{seen_step}
 use Rattle.yaml_dump.specs.declared.steps.Step.{Step}
@@ -24,11 +24,11 @@ pub unentered : List Bool → ℕ
 unentered entered = sum_by (λ is. cond is 0 1) entered
 
 -- how deep the children of the innermost visit are walked from
-abbrev pub depth_of : Graph → Standing → ℕ
+abbrev pub depth_of : Graph → WalkState → ℕ
 depth_of graph standing = suc (length graph.nodes) - length standing.visits
 
 -- the flags tell what the steps entered, there are no more visits than entered nodes, and all numbers name nodes
-pub record IsSound (graph : Graph) (standing : Standing) : Type 0 where
+pub record IsSound (graph : Graph) (standing : WalkState) : Type 0 where
   pub counted : length standing.entered ≡ length graph.nodes
   pub flagged : (place : ℕ) → place < length graph.nodes → get_or standing.entered place false ≡ list_any (is_entry_of (suc place)) standing.steps
   pub room : length standing.visits + unentered standing.entered ≤ length graph.nodes
@@ -36,12 +36,12 @@ pub record IsSound (graph : Graph) (standing : Standing) : Type 0 where
   pub steps_named : All (λ step. IsNamed (length graph.nodes) (number_in step)) standing.steps
 
 -- the visits' ends make the steps those of the whole walk
-pub record Stands (graph : Graph) (standing : Standing) : Type 0 where
+pub record Stands (graph : Graph) (standing : WalkState) : Type 0 where
   pub finished : finish (depth_of graph standing) graph standing.visits standing.steps ≡ steps graph
   pub sound : IsSound graph standing
 
 -- a walk from a node, and then the visits' ends make them so
-pub record Meets (graph : Graph) (number : ℕ) (standing : Standing) : Type 0 where
+pub record Meets (graph : Graph) (number : ℕ) (standing : WalkState) : Type 0 where
   pub finished : finish (depth_of graph standing) graph standing.visits (steps_from (depth_of graph standing) graph standing.steps number) ≡ steps graph
   pub named : IsNamed (length graph.nodes) number
   pub sound : IsSound graph standing
@@ -49,7 +49,7 @@ pub record Meets (graph : Graph) (number : ℕ) (standing : Standing) : Type 0 w
 -- ---- one more step
 
 -- a step that enters none
-sound_step : (graph : Graph) (standing : Standing) (step : meetings.Step) → IsSound graph standing → ((number : ℕ) → is_entry_of number step ≡ false)
+sound_step : (graph : Graph) (standing : WalkState) (step : meetings.Step) → IsSound graph standing → ((number : ℕ) → is_entry_of number step ≡ false)
     → IsNamed (length graph.nodes) (number_in step)
     → IsSound graph (with_step step standing)
 sound_step graph standing step sound enters_none named = record {
@@ -63,7 +63,7 @@ sound_step graph standing step sound enters_none named = record {
 -- ---- a turn without a child
 
 -- without the innermost visit
-sound_outer : (graph : Graph) (standing : Standing) (visit : Visit) → IsSound graph (with_visit visit standing) → IsSound graph standing
+sound_outer : (graph : Graph) (standing : WalkState) (visit : Visit) → IsSound graph (with_visit visit standing) → IsSound graph standing
 sound_outer graph standing visit sound = record {
   counted = sound.counted;
   flagged = sound.flagged;
@@ -73,11 +73,11 @@ sound_outer graph standing visit sound = record {
 }
 
 -- the innermost visit's node
-visit_named : (graph : Graph) (standing : Standing) (visit : Visit) → IsSound graph (with_visit visit standing) → IsNamed (length graph.nodes) visit.number
+visit_named : (graph : Graph) (standing : WalkState) (visit : Visit) → IsSound graph (with_visit visit standing) → IsNamed (length graph.nodes) visit.number
 visit_named graph standing visit sound = All-head (λ other. IsNamed (length graph.nodes) other.number) visit standing.visits sound.visits_named
 
 -- its node is left
-stands_left : (graph : Graph) (standing : Standing) (visit : Visit) → Stands graph (with_visit visit standing) → child_of graph visit ≡ None
+stands_left : (graph : Graph) (standing : WalkState) (visit : Visit) → Stands graph (with_visit visit standing) → child_of graph visit ≡ None
     → Stands graph (with_step (leaves visit.number) standing)
 stands_left graph standing visit stands none =
     let out : suc (depth_of graph (with_visit visit standing)) ≡ depth_of graph standing = omega (arith, stands.sound.room) in
@@ -93,7 +93,7 @@ stands_left graph standing visit stands none =
 -- ---- a node is met
 
 -- the flag of a number
-flag_of : (graph : Graph) (standing : Standing) (number : ℕ) → IsSound graph standing → IsNamed (length graph.nodes) number
+flag_of : (graph : Graph) (standing : WalkState) (number : ℕ) → IsSound graph standing → IsNamed (length graph.nodes) number
     → get_or standing.entered (number - 1) false ≡ list_any (is_entry_of number) standing.steps
 flag_of graph standing number sound named =
     let first = named.first in
@@ -103,7 +103,7 @@ flag_of graph standing number sound named =
     sound.flagged (number - 1) within ∙ ap (λ (n : ℕ). list_any (is_entry_of n) standing.steps) is
 
 -- a node that was entered
-stands_again : (graph : Graph) (standing : Standing) (number : ℕ) → Meets graph number standing → get_or standing.entered (number - 1) false ≡ true
+stands_again : (graph : Graph) (standing : WalkState) (number : ℕ) → Meets graph number standing → get_or standing.entered (number - 1) false ≡ true
     → Stands graph (with_step (meets_again number) standing)
 stands_again graph standing number meets entered =
     let depth = length graph.nodes - length standing.visits in
@@ -140,7 +140,7 @@ unentered_set flags place within is =
     omega (arith, set_sum, one)
 
 -- a node that was not entered
-sound_entered : (graph : Graph) (standing : Standing) (number : ℕ) → IsSound graph standing → IsNamed (length graph.nodes) number
+sound_entered : (graph : Graph) (standing : WalkState) (number : ℕ) → IsSound graph standing → IsNamed (length graph.nodes) number
     → get_or standing.entered (number - 1) false ≡ false
     → IsSound graph (with_node false number standing)
 sound_entered graph standing number sound named entered =
@@ -163,7 +163,7 @@ sound_entered graph standing number sound named entered =
     }
 
 -- it is entered and visited
-stands_entered : (graph : Graph) (standing : Standing) (number : ℕ) → Meets graph number standing → get_or standing.entered (number - 1) false ≡ false
+stands_entered : (graph : Graph) (standing : WalkState) (number : ℕ) → Meets graph number standing → get_or standing.entered (number - 1) false ≡ false
     → Stands graph (with_node false number standing)
 stands_entered graph standing number meets entered =
     let depth = length graph.nodes - length standing.visits in
@@ -180,20 +180,20 @@ stands_entered graph standing number meets entered =
     }
 
 -- by its flag
-stands_flagged : (graph : Graph) (standing : Standing) (number : ℕ) (entered : Bool) → Meets graph number standing
+stands_flagged : (graph : Graph) (standing : WalkState) (number : ℕ) (entered : Bool) → Meets graph number standing
     → get_or standing.entered (number - 1) false ≡ entered
     → Stands graph (with_node entered number standing)
 stands_flagged graph standing number true meets entered = stands_again graph standing number meets entered
 stands_flagged graph standing number false meets entered = stands_entered graph standing number meets entered
 
 -- either way
-stands_met : (graph : Graph) (standing : Standing) (number : ℕ) → Meets graph number standing → Stands graph (with_meeting number standing)
+stands_met : (graph : Graph) (standing : WalkState) (number : ℕ) → Meets graph number standing → Stands graph (with_meeting number standing)
 stands_met graph standing number meets = stands_flagged graph standing number (get_or standing.entered (number - 1) false) meets refl
 
 -- ---- turns
 
 -- a visit's next child is met
-meets_child : (graph : Graph) (standing : Standing) (visit : Visit) (child : ℕ) → Stands graph (with_visit visit standing) → child_of graph visit ≡ Some child
+meets_child : (graph : Graph) (standing : WalkState) (visit : Visit) (child : ℕ) → Stands graph (with_visit visit standing) → child_of graph visit ≡ Some child
     → IsNamed (length graph.nodes) child → Meets graph child (with_visit (record { number = visit.number; met = visit.met + 1 }) standing)
 meets_child graph standing visit child stands some named =
     let more : suc visit.met ≡ visit.met + 1 = omega arith in
@@ -217,7 +217,7 @@ meets_child graph standing visit child stands some named =
     }
 
 -- with its next child, or without one
-stands_turned : (graph : Graph) (standing : Standing) (visit : Visit) (child : Option ℕ) → Stands graph (with_visit visit standing)
+stands_turned : (graph : Graph) (standing : WalkState) (visit : Visit) (child : Option ℕ) → Stands graph (with_visit visit standing)
     → child ≡ child_of graph visit → IfSome child (λ number. IsNamed (length graph.nodes) number) → Stands graph (with_child visit child standing)
 stands_turned graph standing visit None stands is named = stands_left graph standing visit stands (sym is)
 stands_turned graph standing visit (Some child) stands is named =
@@ -255,18 +255,18 @@ meets_root graph some =
 -- ---- what a standing tells
 
 -- no visit is left: the walk is whole
-pub steps_whole : (graph : Graph) (standing : Standing) → standing.visits ≡ [] → Stands graph standing → standing.steps ≡ steps graph
+pub steps_whole : (graph : Graph) (standing : WalkState) → standing.visits ≡ [] → Stands graph standing → standing.steps ≡ steps graph
 unfolding finish
 steps_whole graph standing none stands =
     sym (ap (λ (visits : List Visit). finish (suc (length graph.nodes) - length visits) graph visits standing.steps) none) ∙ stands.finished
 
 -- there are no more steps than the walk's
-steps_within : (graph : Graph) (standing : Standing) → Stands graph standing → length standing.steps ≤ length (steps graph)
+steps_within : (graph : Graph) (standing : WalkState) → Stands graph standing → length standing.steps ≤ length (steps graph)
 steps_within graph standing stands =
     omega (arith, ap length stands.finished, finish_longer (depth_of graph standing) graph standing.visits standing.steps)
 
 -- a turn adds one
-one_more : (visit : Visit) (child : Option ℕ) (standing : Standing) → length (with_child visit child standing).steps ≡ length standing.steps + 1
+one_more : (visit : Visit) (child : Option ℕ) (standing : WalkState) → length (with_child visit child standing).steps ≡ length standing.steps + 1
 one_more visit None standing = length_push standing.steps (leaves visit.number)
 one_more visit (Some child) standing = at_flag (get_or standing.entered (child - 1) false)
   where
@@ -278,12 +278,12 @@ one_more visit (Some child) standing = at_flag (get_or standing.entered (child -
 -- ---- a walker's loop
 
 -- the root is met
-pub stands_first : (graph : Graph) (count : ℕ) (started met : Standing) → 1 ≤ length graph.nodes → count ≡ length graph.nodes → started ≡ at_start count
+pub stands_first : (graph : Graph) (count : ℕ) (started met : WalkState) → 1 ≤ length graph.nodes → count ≡ length graph.nodes → started ≡ at_start count
     → met ≡ with_meeting 1 started → Stands graph met
 stands_first graph count started met some all is_start is_met =
     let is : with_meeting 1 (at_start (length graph.nodes)) ≡ met = sym (ap (λ (n : ℕ). with_meeting 1 (at_start n)) all) ∙ sym (ap (with_meeting 1) is_start)
     ∙ sym is_met in
-    subst (λ (standing : Standing). Stands graph standing) is (stands_met graph (at_start (length graph.nodes)) 1 (meets_root graph some))
+    subst (λ (standing : WalkState). Stands graph standing) is (stands_met graph (at_start (length graph.nodes)) 1 (meets_root graph some))
 
 -- the innermost visit is taken out
 pub stands_popped : {A : Type 0} (graph : Graph) (walker : Walker A) (rest : Vec Visit A) (visit : Visit) → walker.visits.items ≡ rest.items ++ visit ∷ []
@@ -293,23 +293,23 @@ stands_popped graph walker rest visit is stands =
     subst (λ (visits : List Visit). Stands graph (record (seen_walker walker) { visits = visits })) innermost stands
 
 -- a visit's turn keeps it all
-pub stands_behind : (graph : Graph) (visit : Visit) (before after : Standing) → is_whole graph ≡ true → Stands graph (with_visit visit before)
+pub stands_behind : (graph : Graph) (visit : Visit) (before after : WalkState) → is_whole graph ≡ true → Stands graph (with_visit visit before)
     → after ≡ with_turn graph visit before → Stands graph after
 stands_behind graph visit before after whole stands is =
     let child = child_of graph visit in
     let named = child_named graph visit.number visit.met child whole refl in
-    subst (λ (standing : Standing). Stands graph standing) (sym is) (stands_turned graph before visit child stands refl named)
+    subst (λ (standing : WalkState). Stands graph standing) (sym is) (stands_turned graph before visit child stands refl named)
 
 -- a visit's turn leaves fewer steps to come
-pub steps_fewer : (graph : Graph) (visit : Visit) (before after : Standing) → is_whole graph ≡ true → Stands graph (with_visit visit before)
+pub steps_fewer : (graph : Graph) (visit : Visit) (before after : WalkState) → is_whole graph ≡ true → Stands graph (with_visit visit before)
     → after ≡ with_turn graph visit before → length (steps graph) - length after.steps < length (steps graph) - length before.steps
 steps_fewer graph visit before after whole stands is =
     let within = steps_within graph after (stands_behind graph visit before after whole stands is) in
-    let more = ap (λ (standing : Standing). length standing.steps) is ∙ one_more visit (child_of graph visit) before in
+    let more = ap (λ (standing : WalkState). length standing.steps) is ∙ one_more visit (child_of graph visit) before in
     omega (arith, within, more)
 
 -- the innermost visit's node is a node
-pub innermost_named : (graph : Graph) (visit : Visit) (outer : Standing) → Stands graph (with_visit visit outer) → IsNamed (length graph.nodes) visit.number
+pub innermost_named : (graph : Graph) (visit : Visit) (outer : WalkState) → Stands graph (with_visit visit outer) → IsNamed (length graph.nodes) visit.number
 innermost_named graph visit outer stands = visit_named graph outer visit stands.sound
 
 -- the numbers in a walk's steps

@@ -1,0 +1,75 @@
+use Rattle.std.proofs.Common.{◌≡◌, ◌+◌, true, drop, ap, sym, arith, ◌∙◌, Ok, Err, refl}
+use Rattle.std.proofs.lemmas.Bool.{false≢true}
+use Rattle.std.proofs.lemmas.List.{length-map}
+use Rattle.yaml_base.specs.Seen.{seen_event, seen_events}
+use Rattle.yaml_emitter.specs.Queue.{is_head_ready}
+use Rattle.yaml_emitter.specs.StandsAfter.{TookFirst, with_waiting}
+use Rattle.yaml_pen.proofs.Composing.{grows_then}
+use Rattle.yaml_emitter.proofs.standing.Emitting.{reached_on, took_failed, took_next, took_output}
+use Rattle.yaml_emitter.proofs.standing.Growing.{grows_page, took_grows}
+use Rattle.yaml_emitter.proofs.standing.KeepsSet.{keeps_set_same, keeps_set_then}
+use Rattle.yaml_emitter.proofs.standing.TakenOut.{seen_behind, took_behind, took_keeps, took_within}
+use Rattle.yaml_emitter.proofs.emitter.yaml_emitter_t.write_front.Goals as goal
+
+pub events-init : goal.events-init
+events-init g c =
+    record {
+      output = c.requires.output;
+      within = omega arith;
+      reached = λ given all front reached. (front, reached);
+      held = refl;
+      set = keeps_set_same c.args.self.now;
+      grows = grows_page _ _ refl;
+      waits = λ none. none;
+    }
+
+pub events-preserved : goal.events-preserved
+events-preserved g c =
+    let waiting = seen_events c.args.waiting.now in
+    let n = c.events.count in
+    let part = seen_behind seen_event c.args.waiting.now n in
+    let ready : is_head_ready (drop n waiting) ≡ true = ap is_head_ready (sym part) ∙ sym c.is_next_ready.ensures ∙ c.events-test.true in
+    let took : TookFirst (with_waiting (drop n waiting) c.events.self) (with_waiting (drop (n + 1) waiting) c.write_next.new.self) (Ok tt) =
+    took_behind waiting _ n c.events.self c.write_next.new.self (Ok tt) part c.in-Ok.ensures.took in
+    record {
+      output = took_output _ _ (Ok tt) took ∙ c.events.invariant.output;
+      within = took_within seen_event c.args.waiting.now n c.events.self _ (Ok tt) took;
+      reached = reached_on _ _ _ c.events.invariant.reached (took_next _ _ took ready);
+      held = c.in-Ok.ensures.held ∙ c.events.invariant.held;
+      set = keeps_set_then c.args.self.now c.events.self c.write_next.new.self c.events.invariant.set (took_keeps _ _ _ _ (Ok tt) took);
+      grows = grows_then c.events.invariant.grows (took_grows _ _ (Ok tt) took);
+      waits = λ none. absurd (false≢true (sym (c.events.invariant.waits none) ∙ ready));
+    }
+
+pub returns-in-Err-clause-failed : goal.returns-in-Err-clause-failed
+returns-in-Err-clause-failed g c given all front reached =
+    let waiting = seen_events c.args.waiting.now in
+    let n = c.events.count in
+    let part = seen_behind seen_event c.args.waiting.now n in
+    let ready : is_head_ready (drop n waiting) ≡ true = ap is_head_ready (sym part) ∙ sym c.is_next_ready.ensures ∙ c.events-test.true in
+    let took = took_behind waiting _ n c.events.self c.write_next.new.self (Err c.in-Err.error) part c.in-Err.ensures.took in
+    let at = c.events.invariant.reached given all front reached in
+    took_failed _ _ c.in-Err.error took ready given all at.0 at.1
+
+pub returns-in-Err-clause-waits : goal.returns-in-Err-clause-waits
+returns-in-Err-clause-waits g c none =
+    let n = c.events.count in
+    let part = seen_behind seen_event c.args.waiting.now n in
+    let ready : is_head_ready (drop n (seen_events c.args.waiting.now)) ≡ true = ap is_head_ready (sym part) ∙ sym c.is_next_ready.ensures ∙ c.events-test.true in
+    absurd (false≢true (sym (c.events.invariant.waits none) ∙ ready))
+
+pub returns-in-Err-clause-grows : goal.returns-in-Err-clause-grows
+returns-in-Err-clause-grows g c = grows_then c.events.invariant.grows (took_grows _ _ (Err c.in-Err.error) c.in-Err.ensures.took)
+
+pub returns-in-Err-clause-set : goal.returns-in-Err-clause-set
+returns-in-Err-clause-set g c =
+    keeps_set_then c.args.self.now c.events.self c.write_next.new.self c.events.invariant.set (took_keeps _ _ _ _ (Err c.in-Err.error) c.in-Err.ensures.took)
+
+pub returns-clause-written : goal.returns-clause-written
+returns-clause-written g c =
+    let waiting = seen_events c.args.waiting.now in
+    record {
+      within = omega (arith, c.events.invariant.within, length-map c.args.waiting.now seen_event);
+      reached = c.events.invariant.reached;
+      ended = ap is_head_ready (sym (seen_behind seen_event c.args.waiting.now c.events.count)) ∙ sym c.is_next_ready.ensures ∙ c.events-test.false;
+    }

@@ -1,0 +1,31 @@
+use Rattle.std.proofs.Common.{◌≡◌, ◌∙◌, ℕ, List, [], ◌∷◌, Bool, false, ◌≤◌, ◌==◌, ◌||◌, length, map, get_or, refl, sym, ap, arith, ne_eqb}
+use Rattle.std.proofs.lemmas.Bool.{le-ltb}
+use Rattle.std.specs.List.{list_any}
+use Rattle.std.specs.Prelude.{nat_lt}
+use Rattle.yaml_base.specs.Event.{Event}
+use Rattle.yaml_base.specs.Ready.{awaited, fronts, is_balanced}
+use Rattle.yaml_base.specs.Seen.{seen_event}
+use Rattle.yaml_emitter.specs.Queue.{is_head_ready}
+use Rattle.yaml_emitter.proofs.standing.Fronts.{alone_open}
+use Rattle.yaml_emitter.proofs.queue.is_next_ready.Goals as goal
+
+-- an event alone that awaits others isn't ready
+unready_alone : {E : Type 0} (seen : E → Event) (xs : List E) (x : E) → x ≡ get_or xs 0 x → (awaited (seen x) == 0) ≡ false
+    → nat_lt (awaited (seen x)) (length xs) ≡ false
+    → (length xs ≡ 0 → ⊥) → length xs ≤ 1 → false ≡ is_head_ready (map seen xs)
+unready_alone seen [] x is waits more some few = absurd (some refl)
+unready_alone seen (y ∷ []) x is waits more some few =
+    let here : (awaited (seen y) == 0) ≡ false = ap (λ e. awaited (seen e) == 0) (sym is) ∙ waits in
+    sym (ap (λ (b : Bool). b || nat_lt (awaited (seen y)) 1 || list_any is_balanced (fronts (seen y ∷ []))) here
+    ∙ ap (λ (b : Bool). b || list_any is_balanced (fronts (seen y ∷ []))) (ap (λ e. nat_lt (awaited (seen e)) 1) (sym is) ∙ more)
+    ∙ alone_open (seen y) here)
+unready_alone seen (y ∷ z ∷ zs) x is waits more some few = absurd (omega (arith, few))
+
+pub returns-else-events-gt1 : goal.returns-else-events-gt1
+returns-else-events-gt1 g c =
+    le-ltb 1 (length c.args.events.now) (omega (arith, c.if-events-gt1.false))
+    ∙ unready_alone seen_event c.args.events.now c.index-events-0.result c.index-events-0.is
+    (ap (λ (n : ℕ). n == 0) (sym c.followers-awaits.ensures) ∙ ne_eqb c.followers-awaits.result 0 c.if-awaits-eq0.false)
+    (ap (λ (n : ℕ). nat_lt n (length c.args.events.now)) (sym c.followers-awaits.ensures)
+    ∙ le-ltb c.followers-awaits.result (length c.args.events.now) (omega (arith, c.if-awaits-events.false)))
+    c.if-events-eq0.false (omega (arith, c.if-events-gt1.false))

@@ -1,0 +1,219 @@
+-- The events of a JSON value that isn't nested too deep are an accepted list.
+use Rattle.std.proofs.Common.{◌≡◌, refl, sym, ◌∙◌, arith, subst, append_assoc}
+use Rattle.std.proofs.Math.Nat.{le-max_left, le-max_right}
+use Rattle.std.proofs.lemmas.Bool.{and_from}
+use Rattle.std.proofs.lemmas.List.Folds.{list_all-append}
+use Rattle.std.proofs.lemmas.List.Sums.{sum_by-append}
+use Rattle.std.specs.Prelude.{ℕ, zero, suc, ◌+◌, ◌-◌, ◌≤◌, Bool, true, false, cond, List, [], ◌∷◌, ◌++◌, count_by, if◌then◌else◌}
+use Rattle.std.specs.List.{list_all}
+use Rattle.std.specs.Str.{chars}
+use Rattle.json.specs.Json.{Json, null, boolean, number, string, array, object, Items, no_items, item, Members, no_members, member}
+use Rattle.json.specs.Tree.{depth as nesting, items_depth as items_nesting, members_depth as members_nesting}
+use Rattle.yaml_base.specs.Characters.{Text}
+use Rattle.yaml_base.specs.Event.{Event, scalar, sequence_start, sequence_end, mapping_start, mapping_end}
+use Rattle.yaml_base.specs.JsonNumbers.{is_json_integer, yaml_number}
+use Rattle.yaml_base.specs.Refusal.{is_sound, IsAccepted, begins_collection, ends_collection, open_count, most_open}
+use Rattle.yaml_base.specs.TypedValues.{int_tag}
+use Rattle.yaml_writer.specs.NumberParts.{number_in}
+use Rattle.yaml_writer.specs.Writing.{closing, float_tag, opening}
+use Rattle.yaml_json.specs.JsonEvents.{bool_content, collection_in, items_events, json_events, members_events, null_content, number_content, text_content, word_content}
+use Rattle.yaml_json.proofs.Trees.{json_stream, stream_flat}
+
+-- the events of the stream of a value
+abbrev pub stream_of : (canonical in_flow : Bool) → Json → List Event
+stream_of canonical in_flow json = opening ++ json_events canonical in_flow json ++ closing
+
+-- ---- each event is in order
+
+abbrev pub sound : Bool → List Event → Bool
+sound canonical events = list_all (is_sound canonical) events
+
+null_sound : (canonical : Bool) → is_sound canonical (scalar (null_content canonical)) ≡ true
+null_sound true = refl
+null_sound false = refl
+
+bool_sound : (canonical flag : Bool) → is_sound canonical (scalar (bool_content canonical flag)) ≡ true
+bool_sound true flag = refl
+bool_sound false flag = refl
+
+number_sound : (canonical integer : Bool) (word : Text)
+    → is_sound canonical (scalar (word_content canonical (if integer then int_tag else float_tag) word)) ≡ true
+number_sound true true word = refl
+number_sound true false word = refl
+number_sound false true word = refl
+number_sound false false word = refl
+
+text_sound : (canonical : Bool) (text : Text) → is_sound canonical (scalar (text_content text)) ≡ true
+text_sound true text = refl
+text_sound false text = refl
+
+sequence_sound : (canonical in_flow : Bool) → is_sound canonical (sequence_start (collection_in in_flow)) ≡ true
+sequence_sound true in_flow = refl
+sequence_sound false in_flow = refl
+
+mapping_sound : (canonical in_flow : Bool) → is_sound canonical (mapping_start (collection_in in_flow)) ≡ true
+mapping_sound true in_flow = refl
+mapping_sound false in_flow = refl
+
+first_sound : (canonical : Bool) (event : Event) (events : List Event) → is_sound canonical event ≡ true → sound canonical events ≡ true
+    → sound canonical (event ∷ events) ≡ true
+first_sound canonical event events one others = and_from (is_sound canonical event) (sound canonical events) one others
+
+both_sound : (canonical : Bool) (first second : List Event) → sound canonical first ≡ true → sound canonical second ≡ true
+    → sound canonical (first ++ second) ≡ true
+both_sound canonical first second one other =
+    list_all-append (is_sound canonical) first second ∙ and_from (sound canonical first) (sound canonical second) one other
+
+mutual
+  value_sound : (json : Json) (canonical in_flow : Bool) → sound canonical (json_events canonical in_flow json) ≡ true
+  value_sound null canonical in_flow = first_sound canonical (scalar (null_content canonical)) [] (null_sound canonical) refl
+  value_sound (boolean flag) canonical in_flow = first_sound canonical (scalar (bool_content canonical flag)) [] (bool_sound canonical flag) refl
+  value_sound (number text) canonical in_flow =
+      let parts = number_in text in
+      first_sound canonical (scalar (number_content canonical parts)) [] (number_sound canonical (is_json_integer parts) (yaml_number parts)) refl
+  value_sound (string text) canonical in_flow = first_sound canonical (scalar (text_content (chars text))) [] (text_sound canonical (chars text)) refl
+  value_sound (array inner) canonical in_flow =
+      first_sound canonical (sequence_start (collection_in in_flow)) (items_events canonical in_flow inner ++ sequence_end ∷ [])
+      (sequence_sound canonical in_flow)
+      (both_sound canonical (items_events canonical in_flow inner) (sequence_end ∷ []) (items_sound inner canonical in_flow) refl)
+  value_sound (object inner) canonical in_flow =
+      first_sound canonical (mapping_start (collection_in in_flow)) (members_events canonical in_flow inner ++ mapping_end ∷ [])
+      (mapping_sound canonical in_flow)
+      (both_sound canonical (members_events canonical in_flow inner) (mapping_end ∷ []) (members_sound inner canonical in_flow) refl)
+
+  items_sound : (inner : Items) (canonical in_flow : Bool) → sound canonical (items_events canonical in_flow inner) ≡ true
+  items_sound no_items canonical in_flow = refl
+  items_sound (item json more) canonical in_flow =
+      both_sound canonical (json_events canonical in_flow json) (items_events canonical in_flow more) (value_sound json canonical in_flow)
+      (items_sound more canonical in_flow)
+
+  members_sound : (inner : Members) (canonical in_flow : Bool) → sound canonical (members_events canonical in_flow inner) ≡ true
+  members_sound no_members canonical in_flow = refl
+  members_sound (member key json more) canonical in_flow =
+      first_sound canonical (scalar (text_content (chars key))) (json_events canonical in_flow json ++ members_events canonical in_flow more)
+      (text_sound canonical (chars key))
+      (both_sound canonical (json_events canonical in_flow json) (members_events canonical in_flow more) (value_sound json canonical in_flow)
+      (members_sound more canonical in_flow))
+
+pub stream_sound : (canonical in_flow : Bool) (json : Json) → sound canonical (stream_of canonical in_flow json) ≡ true
+stream_sound canonical in_flow json =
+    both_sound canonical opening (json_events canonical in_flow json ++ closing) refl
+    (both_sound canonical (json_events canonical in_flow json) closing (value_sound json canonical in_flow) refl)
+
+-- ---- how many collections are open
+
+-- after an event that begins a collection or doesn't, and ends one or doesn't
+abbrev after_signs : (begins ends : Bool) → ℕ → ℕ
+after_signs true ends now = suc now
+after_signs false true zero = zero
+after_signs false true (suc now) = now
+after_signs false false now = now
+
+abbrev after_event : Event → ℕ → ℕ
+after_event event now = after_signs (begins_collection event) (ends_collection event) now
+
+-- with so many open before some events, no more than the most are open before and after each of them
+abbrev Stays : (most now : ℕ) → List Event → Type 0
+Stays most now [] = now ≤ most
+Stays most now (event ∷ events) = (now ≤ most) × Stays most (after_event event now) events
+
+mutual
+  value_stays : (json : Json) (canonical in_flow : Bool) (most now : ℕ) (rest : List Event) → now + nesting json ≤ most → Stays most now rest
+      → Stays most now (json_events canonical in_flow json ++ rest)
+  value_stays null canonical in_flow most now rest fits later = (omega (arith, fits), later)
+  value_stays (boolean flag) canonical in_flow most now rest fits later = (omega (arith, fits), later)
+  value_stays (number text) canonical in_flow most now rest fits later = (omega (arith, fits), later)
+  value_stays (string text) canonical in_flow most now rest fits later = (omega (arith, fits), later)
+  value_stays (array inner) canonical in_flow most now rest fits later =
+      let first : now ≤ most = omega (arith, fits) in
+      let inside : suc now + items_nesting inner ≤ most = omega (arith, fits) in
+      let second : suc now ≤ most = omega (arith, fits) in (
+        first,
+        subst (Stays most (suc now)) (sym (append_assoc (items_events canonical in_flow inner) (sequence_end ∷ []) rest))
+            (items_stay inner canonical in_flow most (suc now) (sequence_end ∷ rest) inside (second, later)),
+      )
+  value_stays (object inner) canonical in_flow most now rest fits later =
+      let first : now ≤ most = omega (arith, fits) in
+      let inside : suc now + members_nesting inner ≤ most = omega (arith, fits) in
+      let second : suc now ≤ most = omega (arith, fits) in (
+        first,
+        subst (Stays most (suc now)) (sym (append_assoc (members_events canonical in_flow inner) (mapping_end ∷ []) rest))
+            (members_stay inner canonical in_flow most (suc now) (mapping_end ∷ rest) inside (second, later)),
+      )
+
+  items_stay : (inner : Items) (canonical in_flow : Bool) (most now : ℕ) (rest : List Event) → now + items_nesting inner ≤ most → Stays most now rest
+      → Stays most now (items_events canonical in_flow inner ++ rest)
+  items_stay no_items canonical in_flow most now rest fits later = later
+  items_stay (item json more) canonical in_flow most now rest fits later =
+      let left = le-max_left (nesting json) (items_nesting more) in
+      let right = le-max_right (nesting json) (items_nesting more) in
+      subst (Stays most now) (sym (append_assoc (json_events canonical in_flow json) (items_events canonical in_flow more) rest))
+      (value_stays json canonical in_flow most now (items_events canonical in_flow more ++ rest) (omega (arith, fits, left))
+      (items_stay more canonical in_flow most now rest (omega (arith, fits, right)) later))
+
+  members_stay : (inner : Members) (canonical in_flow : Bool) (most now : ℕ) (rest : List Event) → now + members_nesting inner ≤ most → Stays most now rest
+      → Stays most now (members_events canonical in_flow inner ++ rest)
+  members_stay no_members canonical in_flow most now rest fits later = later
+  members_stay (member key json more) canonical in_flow most now rest fits later =
+      let left = le-max_left (nesting json) (members_nesting more) in
+      let right = le-max_right (nesting json) (members_nesting more) in
+      let first : now ≤ most = omega (arith, fits) in (
+        first,
+        subst (Stays most now) (sym (append_assoc (json_events canonical in_flow json) (members_events canonical in_flow more) rest))
+            (value_stays json canonical in_flow most now (members_events canonical in_flow more ++ rest) (omega (arith, fits, left))
+            (members_stay more canonical in_flow most now rest (omega (arith, fits, right)) later)),
+      )
+
+stays_now : (most now : ℕ) (events : List Event) → Stays most now events → now ≤ most
+stays_now most now [] h = h
+stays_now most now (event ∷ events) h = h.0
+
+one_more : (begins ends : Bool) (now others_begin others_end most : ℕ) → (after_signs begins ends now + others_begin) - others_end ≤ most
+    → (now + (cond begins 1 0 + others_begin)) - (cond ends 1 0 + others_end) ≤ most
+one_more true true now b e most h = omega (arith, h)
+one_more true false now b e most h = omega (arith, h)
+one_more false true zero b e most h = omega (arith, h)
+one_more false true (suc now) b e most h = omega (arith, h)
+one_more false false now b e most h = omega (arith, h)
+
+front_stays : (most now : ℕ) (front rest : List Event) → Stays most now (front ++ rest)
+    → (now + count_by begins_collection front) - count_by ends_collection front ≤ most
+front_stays most now [] rest h = let few = stays_now most now rest h in omega (arith, few)
+front_stays most now (event ∷ front) rest h =
+    let begun : count_by begins_collection (event ∷ front) ≡ (0 + cond (begins_collection event) 1 0) + count_by begins_collection front =
+    sum_by-append (λ x. cond (begins_collection x) 1 0) (event ∷ []) front in
+    let ended : count_by ends_collection (event ∷ front) ≡ (0 + cond (ends_collection event) 1 0) + count_by ends_collection front =
+    sum_by-append (λ x. cond (ends_collection x) 1 0) (event ∷ []) front in
+    let more = one_more (begins_collection event) (ends_collection event) now (count_by begins_collection front) (count_by ends_collection front) most
+    (front_stays most (after_event event now) front rest h.1) in
+    omega (arith, begun, ended, more)
+
+stream_stays : (canonical in_flow : Bool) (json : Json) (most : ℕ) → nesting json ≤ most → Stays most 0 (stream_of canonical in_flow json)
+stream_stays canonical in_flow json most fits =
+    let few : 0 ≤ most = omega arith in
+    let fits_whole : 0 + nesting json ≤ most = omega (arith, fits) in
+    (few, (few, value_stays json canonical in_flow most 0 closing fits_whole (few, (few, few))))
+
+shallow : (canonical in_flow : Bool) (json : Json) → nesting json ≤ most_open → (front rest : List Event)
+    → front ++ rest ≡ stream_of canonical in_flow json → open_count front ≤ most_open
+shallow canonical in_flow json fits front rest is =
+    let stays = front_stays most_open 0 front rest (subst (Stays most_open 0) (sym is) (stream_stays canonical in_flow json most_open fits)) in
+    omega (arith, stays)
+
+-- ---- all
+
+-- where no front of it leaves too many collections open
+pub accepted_where : (canonical in_flow : Bool) (json : Json)
+    → ((front rest : List Event) → front ++ rest ≡ stream_of canonical in_flow json → open_count front ≤ most_open)
+    → IsAccepted canonical (stream_of canonical in_flow json)
+accepted_where canonical in_flow json few =
+    let part : List ℕ × Json = ([], json) in
+    record {
+      stream = json_stream (json ∷ []) canonical in_flow;
+      is_stream = stream_flat part [] canonical in_flow;
+      sound = stream_sound canonical in_flow json;
+      shallow = few;
+    }
+
+pub json_accepted : (canonical in_flow : Bool) (json : Json) → nesting json ≤ most_open → IsAccepted canonical (stream_of canonical in_flow json)
+json_accepted canonical in_flow json fits = accepted_where canonical in_flow json (shallow canonical in_flow json fits)

@@ -1,0 +1,103 @@
+-- Where an emitter has no error after the events of a value, these and the ends of document and stream are an accepted list.
+use Rattle.std.proofs.Common.{◌≡◌, refl, sym, ap, ap₂, ◌∙◌, arith, append_assoc, inl, inr}
+use Rattle.std.proofs.lemmas.Bool.{cases_lt}
+use Rattle.std.proofs.lemmas.List.{length-append, length-drop, length-take-le, take-append-drop}
+use Rattle.std.proofs.lemmas.List.Sums.{count_by-le-length, sum_by-append}
+use Rattle.std.specs.Prelude.{ℕ, ◌+◌, ◌≤◌, Bool, cond, Some, None, List, [], ◌∷◌, ◌++◌, count_by, drop, length, take}
+use Rattle.json.specs.Json.{Json}
+use Rattle.yaml_base.proofs.OpenCounts.{open_count-levels}
+use Rattle.yaml_base.proofs.QueueLaws.{held_is_short, held_waits, written_within}
+use Rattle.yaml_base.proofs.Trees.{stream_pushed}
+use Rattle.yaml_base.specs.Event.{Event, document_start, mapping_start, sequence_start}
+use Rattle.yaml_base.specs.Grammar.{Stream, after_stream, partial_of}
+use Rattle.yaml_base.specs.Prefix.{IsPrefix}
+use Rattle.yaml_base.specs.Ready.{awaited, written}
+use Rattle.yaml_base.specs.Refusal.{BeginsAccepted, IsAccepted, begins_collection, ends_collection, most_open, open_count}
+use Rattle.yaml_base.specs.Settings.{Settings}
+use Rattle.yaml_emitter.proofs.standing.StandingPromises.{stands_well}
+use Rattle.yaml_emitter.specs.StandsAfter.{StandsSo}
+use Rattle.yaml_emitter.specs.State.{State}
+use Rattle.yaml_writer.specs.Writing.{closing, opening}
+use Rattle.yaml_json.specs.JsonEvents.{json_events}
+use Rattle.yaml_json.proofs.Accepting.{accepted_where, stream_of}
+use Rattle.yaml_json.proofs.Trees.{json_stream, stream_flat}
+
+-- ---- at most three events are held back
+
+awaits_few : (event : Event) → awaited event ≤ 3
+awaits_few (document_start start) = omega arith
+awaits_few (sequence_start start) = omega arith
+awaits_few (mapping_start start) = omega arith
+awaits_few event = omega arith
+
+few_held : (all : List Event) → length all ≤ written all + 3
+few_held all = by_held (drop (written all) all) refl
+  where
+    by_held : (held : List Event) → drop (written all) all ≡ held → length all ≤ written all + 3
+    by_held [] is = omega (arith, ap length is, length-drop (written all) all)
+    by_held (event ∷ rest) is =
+        let short = held_is_short event rest (held_waits all event rest is) in
+        let few = awaits_few event in
+        omega (arith, ap length is, length-drop (written all) all, short, few)
+
+-- ---- no front leaves too many collections open
+
+-- of two lists that begin another, the shorter begins the longer
+shorter_begins : (shorter longer more rest : List Event) → shorter ++ more ≡ longer ++ rest → length shorter ≤ length longer → IsPrefix shorter longer
+shorter_begins [] longer more rest is fits = record { rest = longer; parts = refl }
+shorter_begins (x ∷ shorter) [] more rest is fits = let never : ⊥ = omega (arith, fits) in absurd never
+shorter_begins (x ∷ shorter) (y ∷ longer) more rest is fits =
+    let first : x ≡ y = cc in
+    let others : shorter ++ more ≡ longer ++ rest = cc in
+    let inner = shorter_begins shorter longer more rest others (omega (arith, fits)) in
+    record { rest = inner.rest; parts = ap₂ (λ (event : Event) (events : List Event). event ∷ events) first inner.parts }
+
+-- one that is written begins an accepted list
+early : (canonical : Bool) (all closes front rest : List Event) → BeginsAccepted canonical (take (written all) all) → front ++ rest ≡ all ++ closes
+    → length front ≤ written all → open_count front ≤ most_open
+early canonical all closes front rest begun is fits =
+    let ready = take (written all) all in
+    let held = drop (written all) all in
+    let cut : front ++ rest ≡ ready ++ (held ++ closes) =
+    is ∙ ap (λ (events : List Event). events ++ closes) (sym (take-append-drop (written all) all)) ∙ append_assoc ready held closes in
+    let within = length-take-le (written all) all (written_within all) in
+    let prefix = shorter_begins front ready rest (held ++ closes) cut (omega (arith, fits, within)) in
+    begun.accepted.shallow front (prefix.rest ++ begun.rest)
+    (sym (append_assoc front prefix.rest begun.rest) ∙ ap (λ (events : List Event). events ++ begun.rest) prefix.parts)
+
+-- after any other few events follow, and each ends one collection at most
+late : (canonical in_flow : Bool) (json : Json) (front rest : List Event) → front ++ rest ≡ stream_of canonical in_flow json → length rest ≤ most_open
+    → open_count front ≤ most_open
+late canonical in_flow json front rest is short =
+    let part : List ℕ × Json = ([], json) in
+    let tree : Stream = json_stream (json ∷ []) canonical in_flow in
+    let pushes : partial_of (front ++ rest) ≡ Some (after_stream tree) =
+    ap partial_of (is ∙ sym (stream_flat part [] canonical in_flow)) ∙ stream_pushed tree in
+    let all_closed : open_count (front ++ rest) ≡ 0 = open_count-levels (front ++ rest) (after_stream tree) pushes in
+    let begins : count_by begins_collection (front ++ rest) ≡ count_by begins_collection front + count_by begins_collection rest =
+    sum_by-append (λ x. cond (begins_collection x) 1 0) front rest in
+    let ends : count_by ends_collection (front ++ rest) ≡ count_by ends_collection front + count_by ends_collection rest =
+    sum_by-append (λ x. cond (ends_collection x) 1 0) front rest in
+    omega (arith, all_closed, begins, ends, count_by-le-length ends_collection rest, short)
+
+-- ---- all
+
+few_open : (given : Settings) (in_flow : Bool) (json : Json) (all : List Event) (state : State) → all ++ closing ≡ stream_of given.canonical in_flow json
+    → StandsSo given all state → state.error ≡ None → (front rest : List Event) → front ++ rest ≡ stream_of given.canonical in_flow json
+    → open_count front ≤ most_open
+few_open given in_flow json all state closed stands none front rest is =
+    let begun : BeginsAccepted given.canonical (take (written all) all) = (stands_well given all state stands none).taken.stands in
+    let same : front ++ rest ≡ all ++ closing = is ∙ sym closed in
+    let held = few_held all in
+    let count : length front + length rest ≡ length all + 2 = sym (length-append front rest) ∙ ap length same ∙ length-append all closing in
+    elim (cases_lt (written all) (length front)) [
+      | inl past ↦ late given.canonical in_flow json front rest is (omega (arith, past, held, count))
+      | inr within ↦ early given.canonical all closing front rest begun same within
+    ]
+
+pub unfailed_accepted : (given : Settings) (in_flow : Bool) (json : Json) (state : State)
+    → StandsSo given (opening ++ json_events given.canonical in_flow json) state → state.error ≡ None
+    → IsAccepted given.canonical (stream_of given.canonical in_flow json)
+unfailed_accepted given in_flow json state stands none =
+    accepted_where given.canonical in_flow json
+    (few_open given in_flow json (opening ++ json_events given.canonical in_flow json) state refl stands none)

@@ -1,0 +1,150 @@
+-- Why a writer fails that is given the events of a text, and what it was given until then.
+use Rattle.std.specs.Prelude.{◌≡◌, ◌⊎◌, ℕ, ◌<◌, ◌≤◌, Bool, true, Option, None, Some, Result, Ok, Err, List, [], ◌∷◌, ◌++◌, flat_map}
+use Rattle.json.specs.Token.{Token}
+use Rattle.json.specs.Lex.{tokens}
+use Rattle.json.specs.Json.{Json, Items, Members, value}
+use Rattle.json.specs.Tree.{depth as nesting, items_depth as items_nesting, members_depth as members_nesting, json_tokens, items_tokens, members_tokens}
+use Rattle.yaml_base.specs.Event.{Event, document_end}
+use Rattle.yaml_base.specs.Prefix.{IsPrefix}
+use Rattle.yaml_base.specs.Refusal.{most_open}
+use Rattle.yaml_base.specs.Settings.{Settings}
+use Rattle.yaml_base.specs.declared.errors.yaml_error_t.{yaml_error_t}
+use Rattle.yaml_base.specs.declared.errors.yaml_error_t.TheVariants.{TooDeep, WriteError, Memory}
+use Rattle.yaml_emitter.specs.Uncut.{IsUncut}
+use Rattle.yaml_writer.specs.Unfinished.{PassesLimit}
+use Rattle.yaml_writer.specs.Writing.{AddsAll, WriterState, closing, opening, plain_start}
+use Rattle.yaml_json.specs.JsonEvents.{json_events}
+use Rattle.yaml_json.specs.TokenEvents.{tokens_events}
+use Rattle.yaml_json.specs.Wrote.{AreJson}
+use Rattle.yaml_json.specs.declared.error.JsonError.{JsonError}
+use Rattle.yaml_json.specs.declared.error.JsonError.TheVariants as errors
+use Rattle.yaml_json.specs.declared.values.Stop.{Stop}
+use Rattle.yaml_json.specs.declared.values.Stop.TheVariants as stops
+
+-- ---- the error of the writer, where there is one
+
+abbrev pub failure_of : Stop → Option yaml_error_t
+failure_of (stops.NotJson offset) = None
+failure_of stops.TooDeep = None
+failure_of (stops.Failed error) = Some error
+
+abbrev pub failure : Result (Unit {0}) Stop → Option yaml_error_t
+failure (Ok done) = None
+failure (Err stop) = failure_of stop
+
+abbrev pub writers_error : JsonError → Option yaml_error_t
+writers_error (errors.NotJson line column) = None
+writers_error errors.TooDeep = None
+writers_error (errors.Emitter error) = Some error
+
+-- ---- what was given
+
+-- these events were given to the emitter, which has this error now
+pub record FailedWith (was : WriterState) (events : List Event) (error : yaml_error_t) (now : WriterState) : Type 0 where
+  pub adds : AddsAll was.emitter events now.emitter
+  pub is_error : now.emitter.error ≡ Some error
+
+-- an allocation failed, or this event was given to the emitter, which has this error now
+abbrev pub FailedAt : WriterState → Event → yaml_error_t → WriterState → Type 0
+FailedAt was event error now = (error ≡ Memory) ⊎ FailedWith was (event ∷ []) error now
+
+-- the events of the first of some tokens were given
+pub record FailedAfter (in_flow : Bool) (taken ahead : List Token) (was : WriterState) (error : yaml_error_t) (now : WriterState) : Type 0 where
+  pub left : List Token
+  pub parts : taken ++ left ≡ ahead
+  pub gave : FailedWith was (tokens_events was.canonical in_flow taken) error now
+
+-- some value nested at most so deep begins with these tokens
+pub record BeginsValue (depth : ℕ) (taken : List Token) : Type 0 where
+  pub json : Json
+  pub nested : nesting json ≤ depth
+  pub begins : IsPrefix taken (json_tokens json)
+
+-- the same of the items of an array, with its end
+pub record BeginsItems (depth : ℕ) (taken : List Token) : Type 0 where
+  pub json : Items
+  pub nested : items_nesting json ≤ depth
+  pub begins : IsPrefix taken (items_tokens json)
+
+-- the same of the members of an object, with its end
+pub record BeginsMembers (depth : ℕ) (taken : List Token) : Type 0 where
+  pub json : Members
+  pub nested : members_nesting json ≤ depth
+  pub begins : IsPrefix taken (members_tokens json)
+
+-- the same of a key and its value
+pub record BeginsMember (depth : ℕ) (key : List ℕ) (taken : List Token) : Type 0 where
+  pub json : Json
+  pub nested : nesting json ≤ depth
+  pub begins : IsPrefix taken (Token.key key ∷ json_tokens json)
+
+-- an allocation failed; or the events of the first of these tokens were given to the emitter, which has this error now, and some
+-- value nested at most so deep begins with the tokens of these events
+abbrev pub FailedInValue : (depth : ℕ) → (in_flow : Bool) → List Token → WriterState → yaml_error_t → WriterState → Type 0
+FailedInValue depth in_flow ahead was error now =
+    (error ≡ Memory) ⊎ ((taken : List Token) × (FailedAfter in_flow taken ahead was error now × BeginsValue depth taken))
+
+-- the same of the items of an array
+abbrev pub FailedInItems : (depth : ℕ) → (in_flow : Bool) → List Token → WriterState → yaml_error_t → WriterState → Type 0
+FailedInItems depth in_flow ahead was error now =
+    (error ≡ Memory) ⊎ ((taken : List Token) × (FailedAfter in_flow taken ahead was error now × BeginsItems depth taken))
+
+-- the same of the members of an object
+abbrev pub FailedInMembers : (depth : ℕ) → (in_flow : Bool) → List Token → WriterState → yaml_error_t → WriterState → Type 0
+FailedInMembers depth in_flow ahead was error now =
+    (error ≡ Memory) ⊎ ((taken : List Token) × (FailedAfter in_flow taken ahead was error now × BeginsMembers depth taken))
+
+-- the same of a key and the value that these tokens begin with
+abbrev pub FailedInMember : (depth : ℕ) → (in_flow : Bool) → List ℕ → List Token → WriterState → yaml_error_t → WriterState → Type 0
+FailedInMember depth in_flow key ahead was error now =
+    (error ≡ Memory)
+    ⊎ ((taken : List Token) × (FailedAfter in_flow taken (Token.key key ∷ ahead) was error now × BeginsMember depth key taken))
+
+-- the same of a text
+abbrev pub FailedInText : (depth : ℕ) → (in_flow : Bool) → (text : List ℕ) → WriterState → yaml_error_t → WriterState → Type 0
+FailedInText depth in_flow text was error now = FailedInValue depth in_flow (tokens text) was error now
+
+-- what separates two documents
+abbrev pub between : List Event
+between = document_end true ∷ plain_start ∷ []
+
+-- the events of some texts, after each of which a document begins
+abbrev pub started : (canonical in_flow : Bool) → List (List ℕ × Json) → List Event
+started canonical in_flow parts = flat_map (λ part. json_events canonical in_flow part.1 ++ between) parts
+
+-- the first of the texts in a text are JSON nested at most so deep, and their events were given to the emitter, with a document
+-- begun after each, and then those of the first tokens of the next text; it has this error now
+pub record FailedAmong (depth : ℕ) (in_flow : Bool) (text : List ℕ) (was : WriterState) (error : yaml_error_t) (now : WriterState) : Type 0 where
+  pub parts : List (List ℕ × Json)
+  pub next : List ℕ
+  pub more : List ℕ
+  pub joined : flat_map (λ part. part.0) parts ++ (next ++ more) ≡ text
+  pub each : AreJson depth parts
+  pub taken : List Token
+  pub left : List Token
+  pub split : taken ++ left ≡ tokens next
+  pub gave : FailedWith was (started was.canonical in_flow parts ++ tokens_events was.canonical in_flow taken) error now
+
+-- an allocation failed, or that
+abbrev pub FailedInTexts : (depth : ℕ) → (in_flow : Bool) → (text : List ℕ) → WriterState → yaml_error_t → WriterState → Type 0
+FailedInTexts depth in_flow text was error now = (error ≡ Memory) ⊎ FailedAmong depth in_flow text was error now
+
+-- ---- why no stream was written
+
+-- the bytes of the events of the text's tokens pass the limit; where the text is JSON nested at most so deep, and no more than
+-- may be open, those of the stream of its value do
+pub record OverLimit (given : Settings) (in_flow : Bool) (depth : ℕ) (text : List ℕ) : Type 0 where
+  pub passes : PassesLimit given (opening ++ tokens_events given.canonical in_flow (tokens text) ++ closing)
+  pub cut : (json : Json) → value depth (tokens text) ≡ Some (json, []) → nesting json ≤ most_open
+      → IsUncut given (opening ++ json_events given.canonical in_flow json ++ closing) → ⊥
+
+-- more levels are allowed than may be open, and where the text is JSON nested at most so deep, it has more
+pub record NestsTooDeep (depth : ℕ) (text : List ℕ) : Type 0 where
+  pub allowed : most_open < depth
+  pub deeper : (json : Json) → value depth (tokens text) ≡ Some (json, []) → most_open < nesting json
+
+-- an allocation failed, the limit gave out, or too many collections were open
+abbrev pub FailsBy : Settings → (in_flow : Bool) → (depth : ℕ) → (text : List ℕ) → yaml_error_t → Type 0
+FailsBy given in_flow depth text error =
+    (error ≡ Memory)
+    ⊎ (((error ≡ WriteError) × OverLimit given in_flow depth text) ⊎ ((error ≡ TooDeep) × NestsTooDeep depth text))

@@ -1,0 +1,45 @@
+//! Typed values, in canonical form.
+use crate::tests::{answers, equal};
+use std::alloc::{AllocError, Global};
+use std::test::Fail;
+use yaml_value::{Value, write_canonical, yaml_error_t};
+
+/// A list of a number and a text.
+fn list_of(alloc: Global, number: i64, text: &str) -> Result<Value<Global>, AllocError> {
+    let mut items = Vec::new(alloc);
+    items.push(Value::Int(number))?;
+    items.push(Value::Text(String::from_str(alloc, text)?))?;
+    Ok(Value::List(items))
+}
+
+/// Whether two values are the same: their canonical bytes are.
+fn are_same(
+    alloc: Global,
+    first: &Value<Global>,
+    second: &Value<Global>,
+) -> Result<bool, yaml_error_t> {
+    let first = write_canonical(alloc, first)?;
+    let second = write_canonical(alloc, second)?;
+    Ok(first.as_slice() == second.as_slice())
+}
+
+#[test]
+fn a_value_has_one_form(rt: HostRuntime) -> Result<(), Fail> {
+    let list = list_of(rt.alloc(), 5, "a")?;
+    let bytes = write_canonical(rt.alloc(), &list);
+    answers(
+        &rt,
+        bytes,
+        &Ok(b"---\n!!seq [\n  !!int \"5\",\n  !!str \"a\",\n]\n"),
+    );
+    Ok(())
+}
+
+#[test]
+fn equal_values_have_equal_bytes(rt: HostRuntime) -> Result<(), Fail> {
+    let list = list_of(rt.alloc(), 5, "a")?;
+    let other = list_of(rt.alloc(), 5, "5")?;
+    equal(&rt, &are_same(rt.alloc(), &list, &list), &Ok(true));
+    equal(&rt, &are_same(rt.alloc(), &list, &other), &Ok(false));
+    Ok(())
+}
