@@ -76,7 +76,7 @@ pub fn yaml_emitter_flush<A: Allocator + Copy>(
     if let Some(error) = emitter.error {
         return Err(error);
     }
-    emitter.hand_out()
+    emitter.flush_pen()
 }
 
 /// Gives the bytes that were handed out and not taken before, so that a stream of any length can be sent onwards
@@ -139,7 +139,7 @@ impl<A: Allocator + Copy> yaml_emitter_t<A> {
     }
 
     /// Hands out all that is written.
-    fn hand_out(&mut self) -> Result<(), yaml_error_t>
+    fn flush_pen(&mut self) -> Result<(), yaml_error_t>
         requires output { self.old.has_output ≡ true }
         requires no_error { self.old.error ≡ None }
         ensures stands { (given : Settings) (all : List Event) → StandsSo given all self.old → StandsSo given all self.new }

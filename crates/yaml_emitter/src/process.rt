@@ -194,7 +194,7 @@ impl<A: Allocator + Copy> yaml_emitter_t<A> {
         requires stage { self.old.stage ≡ at_document_end }
         ensures { (empty : Bool) → Processed (document_end implicit) empty self.old self.new result }
     {
-        hand_out_document_end(&mut self.pen, &self.settings, implicit)?;
+        flush_document_end(&mut self.pen, &self.settings, implicit)?;
         self.mark = self.mark.after_document(implicit);
         self.stage = Stage::Document { first: false };
         Ok(())
@@ -205,7 +205,7 @@ impl<A: Allocator + Copy> yaml_emitter_t<A> {
         requires stage { self.old.stage ≡ at_document first }
         ensures { (empty : Bool) → Processed stream_end empty self.old self.new result }
     {
-        hand_out_stream_end(&mut self.pen, &self.settings, self.mark)?;
+        flush_stream_end(&mut self.pen, &self.settings, self.mark)?;
         self.stage = Stage::Nothing;
         Ok(())
     }
@@ -227,7 +227,7 @@ fn is_usual_scalar<A: Allocator>(event: &yaml_event_t<A>) -> bool
     )
 }
 
-fn hand_out_document_end<A: Allocator>(
+fn flush_document_end<A: Allocator>(
     pen: &mut Pen<A>,
     settings: &EffectiveSettings,
     implicit: bool,
@@ -240,7 +240,7 @@ fn hand_out_document_end<A: Allocator>(
     pen.flush()
 }
 
-fn hand_out_stream_end<A: Allocator>(
+fn flush_stream_end<A: Allocator>(
     pen: &mut Pen<A>,
     settings: &EffectiveSettings,
     mark: OpenMark,
@@ -253,7 +253,7 @@ fn hand_out_stream_end<A: Allocator>(
     pen.flush()
 }
 
-/// Begins a page; UTF-16 begins with its mark.
+/// Begins a page, with the byte order mark where its encoding has one.
 fn begin_page<A: Allocator>(pen: &mut Pen<A>, encoding: yaml_encoding_t, line_break: yaml_break_t)
     requires untouched { IsUntouched pen.old }
     requires encoding { IsSome (seen_encoding encoding) }

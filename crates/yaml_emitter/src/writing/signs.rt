@@ -82,7 +82,10 @@ fn write_sign<A: Allocator>(pen: &mut Pen<A>, site: &Site, sign: Sign) -> Result
 
 /// A new line at the column of the entries around a place.
 #[inline(always)]
-pub(crate) fn write_line<A: Allocator>(pen: &mut Pen<A>, place: &Place) -> Result<(), yaml_error_t>
+pub(crate) fn write_new_line<A: Allocator>(
+    pen: &mut Pen<A>,
+    place: &Place,
+) -> Result<(), yaml_error_t>
     requires { IsReady pen.old }
     ensures { Wrote (new_line (line_column place.now.column)) pen.old pen.new result }
 {
@@ -95,7 +98,7 @@ fn write_line_apart<A: Allocator>(pen: &mut Pen<A>, place: &Place) -> Result<(),
     requires { IsReady pen.old }
     ensures { Wrote (new_line (line_column place.now.column)) pen.old pen.new result }
 {
-    write_line(pen, place)
+    write_new_line(pen, place)
 }
 
 pub(crate) fn write_flow_line<A: Allocator>(
