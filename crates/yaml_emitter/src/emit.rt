@@ -13,6 +13,7 @@ ghost use Rattle.yaml_emitter.specs.State.{KeepsSet, with_all_taken};
 ghost use Rattle.yaml_emitter.specs.StandsAfter.{Reached, StandsAfter, StandsSo, TookFirst, WroteFront, failed_by, with_waiting};
 
 use crate::emitter::yaml_emitter_t;
+use crate::process::NOT_EMPTY;
 use crate::queue::{
     closes_at_once, drop_apart, drop_front, first_and_rest, is_next_ready, is_ready_alone,
 };
@@ -110,7 +111,7 @@ impl<A: Allocator + Copy> yaml_emitter_t<A> {
         ensures answered { result ≡ told self.new.error }
         ensures output { self.new.has_output ≡ true }
     {
-        match self.process(event, false) {
+        match self.process(event, NOT_EMPTY) {
             Ok(()) => Ok(()),
             Err(error) => {
                 self.fail(error);

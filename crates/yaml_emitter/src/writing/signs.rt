@@ -21,6 +21,9 @@ use yaml_mark::{
 };
 use yaml_pen::Pen;
 
+/// No space comes before a tag's text.
+const TIGHT: bool = false;
+
 /// What is written at a place.
 #[derive(Clone, Copy)]
 pub(crate) enum Sign<'a> {
@@ -74,7 +77,7 @@ fn write_sign<A: Allocator>(pen: &mut Pen<A>, site: &Site, sign: Sign) -> Result
         Sign::Space => pen.put(b' '),
         Sign::Name(name) => write_anchor(pen, name),
         Sign::Handle(handle) => write_tag_handle(pen, handle),
-        Sign::TagText(content) => write_tag_content(pen, content, false),
+        Sign::TagText(content) => write_tag_content(pen, content, TIGHT),
         Sign::Suffix(suffix) => write_tag_suffix(pen, suffix, site.settings.portable),
         Sign::Prefix(prefix) => write_tag_prefix(pen, prefix, site.settings.portable),
     }
