@@ -58,8 +58,8 @@ pub(crate) fn add_defaults<A: Allocator + Copy>(
     ensures added { OnOk result (directives.new ≡ directives_in_force directives.old) }
     ensures memory { IfErr result (λ e. e ≡ yaml_error_t.Memory) }
 {
-    add_default(alloc, directives, "!", "!")?;
-    add_default(alloc, directives, "!!", "tag:yaml.org,2002:")
+    add_default(alloc, directives, LOCAL, LOCAL)?;
+    add_default(alloc, directives, TYPES, TYPES_PREFIX)
 }
 
 fn add_default<A: Allocator + Copy>(
@@ -123,7 +123,7 @@ fn are_defaults<A: Allocator>(directives: &Directives<A>) -> bool
     if directives.len() != 2 {
         return false;
     }
-    gives(directives.get(0), "!", "!") && gives(directives.get(1), "!!", "tag:yaml.org,2002:")
+    gives(directives.get(0), LOCAL, LOCAL) && gives(directives.get(1), TYPES, TYPES_PREFIX)
 }
 
 /// This prefix for this handle.
