@@ -269,10 +269,7 @@ fn begin_page<A: Allocator>(pen: &mut Pen<A>, encoding: yaml_encoding_t, line_br
         } }
 {
     pen.begin(encoding, line_break);
-    match encoding {
-        yaml_encoding_t::YAML_UTF16LE_ENCODING | yaml_encoding_t::YAML_UTF16BE_ENCODING => {
-            let _ = pen.write_bom();
-        }
-        _ => {}
+    if pen.is_mark_due() {
+        let _ = pen.write_bom();
     }
 }
