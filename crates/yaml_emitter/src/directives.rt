@@ -134,12 +134,9 @@ fn gives<A: Allocator>(
 ) -> bool
     ensures { result ≡ true → option_map (λ d. seen_directive d.now) directive.entry ≡ Some (record { handle = chars handle.now; prefix = chars prefix.now }) }
 {
-    match directive {
-        Some(directive) => {
-            directive.handle.as_str() == handle && directive.prefix.as_str() == prefix
-        }
-        None => false,
-    }
+    directive.is_some_and(|directive| {
+        directive.handle.as_str() == handle && directive.prefix.as_str() == prefix
+    })
 }
 
 fn check_version(version: Option<yaml_version_directive_t>) -> Result<(), yaml_error_t>

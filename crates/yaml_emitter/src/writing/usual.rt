@@ -56,10 +56,7 @@ fn asks_plain(style: yaml_scalar_style_t) -> bool
 fn lacks_anchor(anchor: Option<&str>) -> bool
     ensures { result ≡ not (is_some (seen_name anchor.entry)) }
 {
-    match anchor {
-        Some(_) => false,
-        None => true,
-    }
+    anchor.is_none()
 }
 
 /// Writes a scalar that stands plain as it is, by its value; the open mark stays.
