@@ -14,6 +14,11 @@ use yaml_base::{
 };
 use yaml_mark::analyze_anchor;
 
+/// The name is an alias's.
+const OF_ALIAS: bool = true;
+/// It is an anchor's.
+const OF_ANCHOR: bool = false;
+
 /// Refuses a faulty anchor or alias, and an empty tag where the tag is written.
 #[inline(always)]
 pub(crate) fn check_names<A: Allocator>(
@@ -23,7 +28,7 @@ pub(crate) fn check_names<A: Allocator>(
     ensures { refused result ≡ name_or_tag_fault canonical (seen_event event.now) }
 {
     match event {
-        YAML_ALIAS_EVENT { anchor } => analyze_anchor(anchor.as_str(), true),
+        YAML_ALIAS_EVENT { anchor } => analyze_anchor(anchor.as_str(), OF_ALIAS),
         YAML_SCALAR_EVENT {
             anchor,
             tag,
@@ -68,7 +73,7 @@ fn check_anchor<A: Allocator>(anchor: &Option<String<A>>) -> Result<(), yaml_err
     ensures { refused result ≡ option_and_then anchor_fault (option_map seen_text anchor.now) }
 {
     match anchor {
-        Some(name) => analyze_anchor(name.as_str(), false),
+        Some(name) => analyze_anchor(name.as_str(), OF_ANCHOR),
         None => Ok(()),
     }
 }

@@ -11,6 +11,18 @@ use std::alloc::Allocator;
 use yaml_base::{yaml_error_t, yaml_tag_directive_t, yaml_version_directive_t};
 use yaml_mark::{Directives, analyze_tag_directive, analyze_version};
 
+/// A directive whose handle is there already is left out.
+const DUPLICATES_ALLOWED: bool = true;
+/// It is refused.
+const DUPLICATES_REFUSED: bool = false;
+
+/// The default for local tags: handle and prefix.
+const LOCAL: &str = "!";
+/// The default handle of YAML's own types.
+const TYPES: &str = "!!";
+/// Its prefix.
+const TYPES_PREFIX: &str = "tag:yaml.org,2002:";
+
 /// Copies a document's own directives, each checked in its turn. `Memory` may come at any of them.
 pub(crate) fn read_directives<A: Allocator + Copy>(
     own: &[yaml_tag_directive_t<A>],
@@ -35,7 +47,7 @@ fn read_directive<A: Allocator + Copy>(
     ensures read { OnOk result (directives.new ≡ directives.old ++ seen_directive directive.now ∷ []) }
 {
     analyze_tag_directive(directive)?;
-    directives.append(directive, false)
+    directives.append(directive, DUPLICATES_REFUSED)
 }
 
 /// Adds the defaults whose handles a document didn't give.
@@ -46,8 +58,8 @@ pub(crate) fn add_defaults<A: Allocator + Copy>(
     ensures added { OnOk result (directives.new ≡ directives_in_force directives.old) }
     ensures memory { IfErr result (λ e. e ≡ yaml_error_t.Memory) }
 {
-    add_default(alloc, directives, "!", "!")?;
-    add_default(alloc, directives, "!!", "tag:yaml.org,2002:")
+    add_default(alloc, directives, LOCAL, LOCAL)?;
+    add_default(alloc, directives, TYPES, TYPES_PREFIX)
 }
 
 fn add_default<A: Allocator + Copy>(
@@ -63,7 +75,7 @@ fn add_default<A: Allocator + Copy>(
         handle: String::from_str(alloc, handle).map_err(|_| yaml_error_t::Memory)?,
         prefix: String::from_str(alloc, prefix).map_err(|_| yaml_error_t::Memory)?,
     };
-    directives.append(&directive, true)
+    directives.append(&directive, DUPLICATES_ALLOWED)
 }
 
 /// The directives in force in a document with this version and these directives of its own, each checked in its
@@ -111,7 +123,7 @@ fn are_defaults<A: Allocator>(directives: &Directives<A>) -> bool
     if directives.len() != 2 {
         return false;
     }
-    gives(directives.get(0), "!", "!") && gives(directives.get(1), "!!", "tag:yaml.org,2002:")
+    gives(directives.get(0), LOCAL, LOCAL) && gives(directives.get(1), TYPES, TYPES_PREFIX)
 }
 
 /// This prefix for this handle.
@@ -122,12 +134,9 @@ fn gives<A: Allocator>(
 ) -> bool
     ensures { result ≡ true → option_map (λ d. seen_directive d.now) directive.entry ≡ Some (record { handle = chars handle.now; prefix = chars prefix.now }) }
 {
-    match directive {
-        Some(directive) => {
-            directive.handle.as_str() == handle && directive.prefix.as_str() == prefix
-        }
-        None => false,
-    }
+    directive.is_some_and(|directive| {
+        directive.handle.as_str() == handle && directive.prefix.as_str() == prefix
+    })
 }
 
 fn check_version(version: Option<yaml_version_directive_t>) -> Result<(), yaml_error_t>

@@ -13,6 +13,7 @@ ghost use Rattle.yaml_emitter.specs.State.{KeepsSet, with_all_taken};
 ghost use Rattle.yaml_emitter.specs.StandsAfter.{Reached, StandsAfter, StandsSo, TookFirst, WroteFront, failed_by, with_waiting};
 
 use crate::emitter::yaml_emitter_t;
+use crate::process::NOT_EMPTY;
 use crate::queue::{
     closes_at_once, drop_apart, drop_front, first_and_rest, is_next_ready, is_ready_alone,
 };
@@ -76,7 +77,7 @@ pub fn yaml_emitter_flush<A: Allocator + Copy>(
     if let Some(error) = emitter.error {
         return Err(error);
     }
-    emitter.hand_out()
+    emitter.flush_pen()
 }
 
 /// Gives the bytes that were handed out and not taken before, so that a stream of any length can be sent onwards
@@ -110,7 +111,7 @@ impl<A: Allocator + Copy> yaml_emitter_t<A> {
         ensures answered { result ≡ told self.new.error }
         ensures output { self.new.has_output ≡ true }
     {
-        match self.process(event, false) {
+        match self.process(event, NOT_EMPTY) {
             Ok(()) => Ok(()),
             Err(error) => {
                 self.fail(error);
@@ -139,7 +140,7 @@ impl<A: Allocator + Copy> yaml_emitter_t<A> {
     }
 
     /// Hands out all that is written.
-    fn hand_out(&mut self) -> Result<(), yaml_error_t>
+    fn flush_pen(&mut self) -> Result<(), yaml_error_t>
         requires output { self.old.has_output ≡ true }
         requires no_error { self.old.error ≡ None }
         ensures stands { (given : Settings) (all : List Event) → StandsSo given all self.old → StandsSo given all self.new }

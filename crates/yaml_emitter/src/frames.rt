@@ -59,10 +59,7 @@ impl<A: Allocator> Frames<A> {
     pub(crate) fn is_full(&self) -> bool
         ensures { result ≡ not (nat_lt (length self.now) most_open) }
     {
-        match self.innermost {
-            None => false,
-            Some(_) => self.outer.len() >= MOST_OPEN - 1,
-        }
+        self.is_open() && self.outer.len() >= MOST_OPEN - 1
     }
 
     /// Where the next node stands.
@@ -80,10 +77,8 @@ impl<A: Allocator> Frames<A> {
     pub(crate) fn may_end(&self, kind: CollectionKind) -> bool
         ensures { result ≡ steps.node_allowed self.now (end_event (is_mapping kind)) }
     {
-        match self.innermost {
-            None => false,
-            Some(frame) => frame.place.role.may_end(kind),
-        }
+        self.innermost
+            .is_some_and(|frame| frame.place.role.may_end(kind))
     }
 
     /// After a node of the innermost collection, which may have been a simple key; answers what comes next.

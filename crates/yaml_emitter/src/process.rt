@@ -31,6 +31,9 @@ use yaml_base::{
 use yaml_mark::Directives;
 use yaml_pen::Pen;
 
+/// An event starts no collection that the next one ends.
+pub(crate) const NOT_EMPTY: bool = false;
+
 impl<A: Allocator + Copy> yaml_emitter_t<A> {
     /// One event. The most frequent, a usual scalar in a collection, has a copy of the work, in which no test of its
     /// names and flags is left; and where it is called, so that no call is left either.
@@ -194,7 +197,7 @@ impl<A: Allocator + Copy> yaml_emitter_t<A> {
         requires stage { self.old.stage ≡ at_document_end }
         ensures { (empty : Bool) → Processed (document_end implicit) empty self.old self.new result }
     {
-        hand_out_document_end(&mut self.pen, &self.settings, implicit)?;
+        flush_document_end(&mut self.pen, &self.settings, implicit)?;
         self.mark = self.mark.after_document(implicit);
         self.stage = Stage::Document { first: false };
         Ok(())
@@ -205,7 +208,7 @@ impl<A: Allocator + Copy> yaml_emitter_t<A> {
         requires stage { self.old.stage ≡ at_document first }
         ensures { (empty : Bool) → Processed stream_end empty self.old self.new result }
     {
-        hand_out_stream_end(&mut self.pen, &self.settings, self.mark)?;
+        flush_stream_end(&mut self.pen, &self.settings, self.mark)?;
         self.stage = Stage::Nothing;
         Ok(())
     }
@@ -227,7 +230,7 @@ fn is_usual_scalar<A: Allocator>(event: &yaml_event_t<A>) -> bool
     )
 }
 
-fn hand_out_document_end<A: Allocator>(
+fn flush_document_end<A: Allocator>(
     pen: &mut Pen<A>,
     settings: &EffectiveSettings,
     implicit: bool,
@@ -240,7 +243,7 @@ fn hand_out_document_end<A: Allocator>(
     pen.flush()
 }
 
-fn hand_out_stream_end<A: Allocator>(
+fn flush_stream_end<A: Allocator>(
     pen: &mut Pen<A>,
     settings: &EffectiveSettings,
     mark: OpenMark,
@@ -253,7 +256,7 @@ fn hand_out_stream_end<A: Allocator>(
     pen.flush()
 }
 
-/// Begins a page; UTF-16 begins with its mark.
+/// Begins a page, with the byte order mark where its encoding has one.
 fn begin_page<A: Allocator>(pen: &mut Pen<A>, encoding: yaml_encoding_t, line_break: yaml_break_t)
     requires untouched { IsUntouched pen.old }
     requires encoding { IsSome (seen_encoding encoding) }
@@ -266,10 +269,7 @@ fn begin_page<A: Allocator>(pen: &mut Pen<A>, encoding: yaml_encoding_t, line_br
         } }
 {
     pen.begin(encoding, line_break);
-    match encoding {
-        yaml_encoding_t::YAML_UTF16LE_ENCODING | yaml_encoding_t::YAML_UTF16BE_ENCODING => {
-            let _ = pen.write_bom();
-        }
-        _ => {}
+    if pen.is_mark_due() {
+        let _ = pen.write_bom();
     }
 }

@@ -19,25 +19,25 @@ use yaml_base::yaml_event_t::{
 fn begins<A: Allocator>(event: &yaml_event_t<A>) -> bool
     ensures { result ≡ is_start (seen_event event.now) }
 {
-    match event {
+    matches!(
+        event,
         YAML_STREAM_START_EVENT { .. }
-        | YAML_DOCUMENT_START_EVENT { .. }
-        | YAML_SEQUENCE_START_EVENT { .. }
-        | YAML_MAPPING_START_EVENT { .. } => true,
-        _ => false,
-    }
+            | YAML_DOCUMENT_START_EVENT { .. }
+            | YAML_SEQUENCE_START_EVENT { .. }
+            | YAML_MAPPING_START_EVENT { .. }
+    )
 }
 
 fn ends<A: Allocator>(event: &yaml_event_t<A>) -> bool
     ensures { result ≡ is_end (seen_event event.now) }
 {
-    match event {
+    matches!(
+        event,
         YAML_STREAM_END_EVENT
-        | YAML_DOCUMENT_END_EVENT { .. }
-        | YAML_SEQUENCE_END_EVENT
-        | YAML_MAPPING_END_EVENT => true,
-        _ => false,
-    }
+            | YAML_DOCUMENT_END_EVENT { .. }
+            | YAML_SEQUENCE_END_EVENT
+            | YAML_MAPPING_END_EVENT
+    )
 }
 
 /// How many events must follow this one, where none closes it sooner.
@@ -96,11 +96,7 @@ pub(crate) fn is_ready_alone<A: Allocator>(
     ensures alone { result ≡ true → seen_events waiting.now ≡ [] }
     ensures ready { result ≡ true → is_head_ready (seen_event event.now ∷ []) ≡ true }
 {
-    if waiting.is_empty() {
-        awaits_nothing(event)
-    } else {
-        false
-    }
+    waiting.is_empty() && awaits_nothing(event)
 }
 
 fn awaits_nothing<A: Allocator>(event: &yaml_event_t<A>) -> bool
@@ -126,19 +122,13 @@ pub(crate) fn closes_at_once<A: Allocator>(
 fn begins_with_sequence_end<A: Allocator>(rest: &[yaml_event_t<A>]) -> bool
     ensures { result ≡ ends_sequence (seen_events rest.now) }
 {
-    match rest {
-        [YAML_SEQUENCE_END_EVENT, ..] => true,
-        _ => false,
-    }
+    matches!(rest, [YAML_SEQUENCE_END_EVENT, ..])
 }
 
 fn begins_with_mapping_end<A: Allocator>(rest: &[yaml_event_t<A>]) -> bool
     ensures { result ≡ ends_mapping (seen_events rest.now) }
 {
-    match rest {
-        [YAML_MAPPING_END_EVENT, ..] => true,
-        _ => false,
-    }
+    matches!(rest, [YAML_MAPPING_END_EVENT, ..])
 }
 
 /// The first of the events that wait, which is ready, and those behind it.

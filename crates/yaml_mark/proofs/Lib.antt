@@ -1,4 +1,4 @@
-pub mod HandleFacts
-pub mod DirectiveFacts
-pub mod TagFacts
-pub mod EscapingFacts
+pub mod HandleLemmas
+pub mod DirectiveLemmas
+pub mod TagLemmas
+pub mod EscapingLemmas

@@ -86,6 +86,13 @@ impl<A: Allocator> Pen<A> {
         self.line_break = line_break;
     }
 
+    /// Whether the byte order mark still has to be written.
+    pub fn is_mark_due(&self) -> bool
+        ensures { result ≡ self.now.mark_due }
+    {
+        self.mark_due
+    }
+
     /// Writes the byte order mark, which UTF-16 begins with (RFC 2781, section 3.2); right after `begin`,
     /// and in UTF-16 alone. Always answers `Ok`.
     pub fn write_bom(&mut self) -> Result<(), yaml_error_t>

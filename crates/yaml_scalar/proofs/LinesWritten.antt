@@ -1,20 +1,18 @@
--- What the parts of a step write is the step's text, and steps one after another are the lines.
-use Rattle.std.proofs.Common.{◌≡◌, refl, sym, ap, subst, ℕ, [], ◌∷◌, ◌++◌, Bool, true, false, Result}
-use Rattle.std.specs.Prelude.{Option, ◌==◌, ◌||◌, ◌&&◌, not, if◌then◌else◌}
+-- Lines written character by character are the lines by runs, and between quotes the single-quoted layout.
+use Rattle.std.proofs.Common.{◌≡◌, refl, sym, subst, ℕ, [], ◌∷◌, ◌++◌, Bool, true, false, Result}
+use Rattle.std.specs.Prelude.{Option, ◌==◌, ◌&&◌, if◌then◌else◌}
 use Rattle.std.proofs.lemmas.Bool.{eqb-true}
-use Rattle.yaml_base.specs.Analysis.{is_empty}
-use Rattle.yaml_base.specs.Characters.{Text, is_break, is_space, line_feed, space}
-use Rattle.yaml_base.specs.Cursor.{Cursor, Laid, indicator, is_past_width, space_if, text_laid, then_laid}
-use Rattle.yaml_base.specs.Plain.{Kind, spaces, breaks, others, kind_of, indentation, is_same_kind, runs, runs_laid}
+use Rattle.yaml_base.specs.Characters.{Text}
+use Rattle.yaml_base.specs.Cursor.{Cursor, Laid, indicator, space_if, text_laid, then_laid}
+use Rattle.yaml_base.specs.Plain.{Kind, spaces, runs, runs_laid}
 use Rattle.yaml_base.specs.SingleQuoted.{quotes_doubled, single_quote, single_quoted_laid}
 use Rattle.yaml_base.specs.declared.errors.yaml_error_t.{yaml_error_t}
 use Rattle.yaml_pen.specs.Page.{Page}
 use Rattle.yaml_pen.specs.Wrote.{Wrote}
 use Rattle.yaml_pen.proofs.Composing.{wrote_as}
-use Rattle.yaml_scalar.specs.LineSteps.{begins_kind, step_laid, step_text, steps_laid, written_as}
+use Rattle.yaml_scalar.specs.LineSteps.{steps_laid, written_as}
 use Rattle.yaml_scalar.proofs.StillToWrite.{StillToWrite}
 use Rattle.yaml_scalar.proofs.LineRuns.{WritesEach, runs_by_steps}
-use Rattle.yaml_scalar.proofs.LineFolds.{spaces_only}
 use Rattle.yaml_scalar.proofs.SingleReads.{doubled_writes}
 use Rattle.yaml_scalar.proofs.PlainReads.{itself_writes}
 
@@ -31,55 +29,6 @@ pub quote_text :
     (if extra then 39 ∷ [] else []) ++ (c ∷ []) ≡ written_as quoted (c ∷ [])
 quote_text true c extra e = rw e (quote_text_by c (c == 39) refl)
 quote_text false c extra e = rw e refl
-
--- the one character of the kind of spaces
-pub is_space_kind : (c : ℕ) → spaces ≡ kind_of c → c ≡ 32
-is_space_kind c k = eqb-true c 32 (spaces_only (is_space c) (is_break c) (sym k))
-
--- a step by its kind
-abbrev StepText : (written : Text → Text) (past : Bool) (indent : ℕ) (before : Kind) (c : ℕ) (rest text : Text) → Type 0
-StepText written past indent before c rest text = text ≡ step_text written past indent before (kind_of c) c rest
-
--- a space or a fold is the step of a space
-pub space_text :
-    (written : Text → Text) (past : Bool) (indent : ℕ) (before : Kind) (c : ℕ) (rest : Text) (folds : Bool) →
-    spaces ≡ kind_of c →
-    folds ≡ (past && not (is_same_kind before spaces || (is_empty rest || begins_kind spaces rest))) →
-    StepText written past indent before c rest (if folds then line_feed ∷ indentation indent else space ∷ [])
-space_text written past indent before c rest folds k e =
-    subst (λ (kind : Kind). (if folds then line_feed ∷ indentation indent else space ∷ []) ≡ step_text written past indent before kind c rest)
-    k (rw (e, is_space_kind c k) refl)
-
--- a break is the step of a break
-pub break_step_text :
-    (written : Text → Text) (past : Bool) (indent : ℕ) (before : Kind) (c : ℕ) (rest : Text) (doubled goes_on : Bool) →
-    breaks ≡ kind_of c →
-    doubled ≡ (c == line_feed && not (is_same_kind before breaks)) →
-    goes_on ≡ begins_kind breaks rest →
-    StepText written past indent before c rest
-    ((if doubled then line_feed ∷ [] else []) ++ (c ∷ (if goes_on then [] else indentation indent)))
-break_step_text written past indent before c rest doubled goes_on k e f =
-    subst (λ (kind : Kind). (if doubled then line_feed ∷ [] else []) ++ (c ∷ (if goes_on then [] else indentation indent))
-    ≡ step_text written past indent before kind c rest)
-    k (rw (e, f) refl)
-
--- another character is the step of it
-pub other_text :
-    (written : Text → Text) (past : Bool) (indent : ℕ) (before : Kind) (c : ℕ) (rest : Text) →
-    others ≡ kind_of c →
-    StepText written past indent before c rest (written (c ∷ []))
-other_text written past indent before c rest k =
-    subst (λ (kind : Kind). written (c ∷ []) ≡ step_text written past indent before kind c rest) k refl
-
--- what a call writes is the step
-pub wrote_step :
-    (written : Text → Text) (limit : Option ℕ) (indent : ℕ) (kind : Kind) (c : ℕ) (rest : Text)
-    {text : Text} {before after : Page} {answer : Result (Unit {0}) yaml_error_t} →
-    StepText written (is_past_width limit before.cursor) indent kind c rest text →
-    Wrote (text_laid text) before after answer →
-    Wrote (step_laid written limit indent kind c rest) before after answer
-wrote_step written limit indent kind c rest {text} {before} {after} {answer} is wrote =
-    wrote_as (step_laid written limit indent kind c rest) (ap (λ (t : Text). text_laid t before.cursor) is) wrote
 
 -- lines of a value, after a character of a kind, of which some are left to be written, after another
 abbrev pub LinesLeft :

@@ -94,14 +94,18 @@ fn write_body<A: Allocator>(pen: &mut Pen<A>, value: &str, lines: Lines) -> Resu
     requires plain { lines.quoted ≡ false }
     ensures { Wrote (plain_body (limit_where lines.allow_breaks lines.width) lines.indent (chars value.now)) pen.old pen.new result }
 {
-    write_line(pen, value, lines)?;
+    write_usual_line(pen, value, lines)?;
     pen.set_whitespace(false);
     pen.set_indention(false);
     Ok(())
 }
 
 /// At once where the width isn't passed.
-fn write_line<A: Allocator>(pen: &mut Pen<A>, value: &str, lines: Lines) -> Result<(), yaml_error_t>
+fn write_usual_line<A: Allocator>(
+    pen: &mut Pen<A>,
+    value: &str,
+    lines: Lines,
+) -> Result<(), yaml_error_t>
     requires ready { IsReady pen.old }
     requires usual { IsUsual value.now }
     requires plain { lines.quoted ≡ false }

@@ -5,7 +5,7 @@ use Rattle.std.specs.Prelude.{nat_lt, length}
 use Rattle.yaml_base.specs.Cursor.{Cursor}
 use Rattle.yaml_base.specs.Settings.{Effective}
 use Rattle.yaml_base.specs.Event.{TagDirective, Collection, CollectionStyle}
-use Rattle.yaml_base.specs.Layout.{Place, Brackets, is_key, is_simple_collection, start_piece, end_piece, is_written_in_flow, entry_place, entries_column}
+use Rattle.yaml_base.specs.Layout.{Place, is_key, is_simple_collection, start_piece, end_piece, is_written_in_flow, entry_place, entries_column}
 use Rattle.yaml_base.specs.Refusal.{name_or_tag_fault, fault_if, most_open}
 use Rattle.yaml_base.specs.Output.{hands_out}
 use Rattle.yaml_base.specs.Steps.{Frame, Stage, at_node, next_place, stage_after, stage_refusal, step, node_allowed, is_first}
@@ -169,25 +169,11 @@ pub may_end_here : (frames : List Frame) (frame : Frame) (outer : List Frame) (m
 may_end_here frames frame outer mapping true parts is answered = sym (is ∙ ap (λ (f : List Frame). node_allowed f (end_event mapping)) parts)
 may_end_here frames frame outer mapping false parts is answered = cc
 
-pub end_wrote : (s : Effective) (brackets : Brackets) (mapping in_flow empty first : Bool) (column : Option ℕ) (mark : ℕ) (before after : Page)
-    (answer : Result (Unit {0}) yaml_error_t)
-    → brackets_of mapping ≡ brackets → empty ≡ first → Wrote (piece_at (end_piece s brackets in_flow empty column) mark) before after answer
-    → Wrote (piece_at (end_piece s (brackets_of mapping) in_flow first column) mark) before after answer
-end_wrote s brackets mapping in_flow empty first column mark before after answer brackets_are first_is wrote =
-    subst (λ (b : Brackets). Wrote (piece_at (end_piece s b in_flow first column) mark) before after answer) (sym brackets_are)
-    (subst (λ (b : Bool). Wrote (piece_at (end_piece s brackets in_flow b column) mark) before after answer) first_is wrote)
-
 end_refusal : (canonical : Bool) (directives : List TagDirective) (frames : List Frame) (mapping allowed : Bool)
     → node_allowed frames (end_event mapping) ≡ allowed
     → stage_refusal canonical (at_node directives frames) (end_event mapping) ≡ option_or (fault_if (not allowed) ExpectedNode) None
 end_refusal canonical directives frames true allowed is = ap (λ (b : Bool). option_or (fault_if (not b) ExpectedNode) None) is
 end_refusal canonical directives frames false allowed is = ap (λ (b : Bool). option_or (fault_if (not b) ExpectedNode) None) is
-
-pub end_refused : (before : State) (directives : List TagDirective) (frames : List Frame) (mapping empty : Bool) → before.stage ≡ at_node directives frames
-    → node_allowed frames (end_event mapping) ≡ false → Processed (end_event mapping) empty before before (Err ExpectedNode)
-end_refused before directives frames mapping empty at allowed =
-    processed_refused_at (end_event mapping) empty before (at_node directives frames) ExpectedNode at tt
-    (end_refusal before.given.canonical directives frames mapping false allowed)
 
 end_wrote_at : (before : State) (directives : List TagDirective) (frame : Frame) (outer : List Frame) (mapping empty : Bool) (column : Option ℕ) (page : Page)
     (answer : Result (Unit {0}) yaml_error_t)

@@ -121,13 +121,6 @@ fits_flushed (at_node directives frames) before after answer fits flushed empty 
 fits_flushed at_document_end before after answer fits flushed empty = ready_flushed before after answer fits flushed
 fits_flushed at_nothing before after answer fits flushed empty = ready_flushed before after answer fits flushed
 
-pub fits_marked : (st : Stage) (page : Page) → FitsPage st page → page.mark_due ≡ false
-fits_marked at_stream page fits = fits.1
-fits_marked (at_document first) page fits = fits.marked
-fits_marked (at_node directives frames) page fits = fits.marked
-fits_marked at_document_end page fits = fits.marked
-fits_marked at_nothing page fits = fits.marked
-
 pub kept_flushing : {A : Type 0} (e : Inside A) (pen : Page) (answer : Result (Unit {0}) yaml_error_t) → IsEmitter e → e.has_output ≡ true
     → Flushed e.pen pen answer
     → (e.pen.error ≡ None → e.pen.output ≡ encoded e.pen → pen ≡ e.pen) → IsEmitter (record e { pen = pen })

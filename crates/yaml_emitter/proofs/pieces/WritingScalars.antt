@@ -24,7 +24,7 @@ use Rattle.yaml_base.specs.declared.errors.yaml_error_t.{yaml_error_t}
 use Rattle.yaml_pen.specs.Page.{Page, natural}
 use Rattle.yaml_pen.specs.Wrote.{Wrote}
 use Rattle.yaml_pen.proofs.Composing.{wrote_as}
-use Rattle.yaml_mark.proofs.HandleFacts.{no_characters, characters_begin}
+use Rattle.yaml_mark.proofs.HandleLemmas.{no_characters, characters_begin}
 use Rattle.yaml_scalar.specs.Width.{limit_of, limit_where}
 use Rattle.yaml_emitter.specs.declared.effective.EffectiveSettings.{EffectiveSettings}
 use Rattle.yaml_emitter.specs.Given.{seen_effective, seen_width}

@@ -170,26 +170,6 @@ failed_more given all event state error h is =
     subst (λ e. StandsBy given (all ++ event ∷ []) e now) (sym is)
     (was.0, failed_more_by error given all (event ∷ []) state now refl was.1)
 
--- What was set, opened and closed matters to no other part.
-pub stands_same : (given : Settings) (all : List Event) (before after : State) → AreFlags before after → StandsSo given all before → StandsSo given all after
-stands_same given all before after same h = stands_by before.error refl h
-  where
-    stands_by : (error : Option yaml_error_t) → before.error ≡ error → StandsBy given all error before → StandsSo given all after
-    stands_by None is h =
-        let well : StandsWell given all after =
-        record {
-          taken =
-              taken_same given all (take (written all) all) (progress (settings_for given all) all) before after
-              (ap (λ (s : State). s.given) same) (ap (λ (s : State). s.settings) same) (ap (λ (s : State). s.stage) same) (ap (λ (s : State). s.mark) same)
-              (ap (λ (s : State). s.page) same) h.taken;
-          held = ap (λ (s : State). s.held) same ∙ h.held;
-        } in
-        subst (λ e. StandsBy given all e after) (sym (ap (λ (s : State). s.error) same ∙ is)) well
-    stands_by (Some error) is h =
-        let failed : StandsFailed given all error after =
-        subst (λ events. StandsFailed given events error after) (append-nil all) (failed_more_by error given all [] before after same h.1) in
-        subst (λ e. StandsBy given all e after) (sym (ap (λ (s : State). s.error) same ∙ is)) (ap (λ (s : State). s.held) same ∙ h.0, failed)
-
 -- Nothing was given yet.
 no_open : (front rest : List Event) → front ++ rest ≡ [] → open_count front ≤ most_open
 no_open [] rest h = omega arith

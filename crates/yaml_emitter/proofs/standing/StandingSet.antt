@@ -11,12 +11,11 @@ use Rattle.yaml_base.specs.declared.errors.yaml_error_t.{yaml_error_t}
 use Rattle.yaml_base.specs.declared.errors.yaml_error_t.TheVariants.{WriteError, Memory}
 use Rattle.yaml_pen.specs.Page.{Page, new_page, encoded, IsHandedOut}
 use Rattle.yaml_pen.specs.Wrote.{Flushed}
-use Rattle.yaml_emitter.specs.Given.{nothing_given}
-use Rattle.yaml_emitter.specs.State.{State, new_state}
+use Rattle.yaml_emitter.specs.State.{State}
 use Rattle.yaml_emitter.specs.Inside.{state_of}
 use Rattle.yaml_emitter.specs.declared.emitter.yaml_emitter_t.TheInside.{Inside}
 use Rattle.yaml_emitter.specs.StandsAfter.{HoldsPiecesWith, FailedAt, StandsWell, StandsUnflushed, StandsStopped, StandsFailed, StandsBy, StandsSo, StandsAfter, at_event, between_events}
-use Rattle.yaml_emitter.proofs.standing.StandingMore.{nothing_begins, new_stands, flushed_stands}
+use Rattle.yaml_emitter.proofs.standing.StandingMore.{nothing_begins, flushed_stands}
 use Rattle.yaml_emitter.proofs.standing.StandingPromises.{stands_well}
 
 -- what is set: what was given, what it comes to, that there is an output, and the page's limit
@@ -156,9 +155,6 @@ stands_given before after given settings set same h =
     ap (λ limit. let page : Page = record before.page { limit = limit } in
     let made : State = record before { given = given; settings = settings; page = page } in made) limit in
     subst (λ (s : State). StandsAfter s.given [] s) (sym set) (stands_set before now is h)
-
-pub new_state_stands : StandsAfter nothing_given [] new_state
-new_state_stands = record { texts = refl; so = new_stands nothing_given new_state refl refl refl refl refl refl }
 
 -- A flush after which all is handed out.
 pub stands_flushed : (given : Settings) (all : List Event) (state : State) (page : Page) → StandsSo given all state → state.error ≡ None

@@ -13,7 +13,7 @@ use Rattle.yaml_base.specs.Pieces.{begins_last, ends_first}
 use Rattle.yaml_base.specs.Output.{settings_for, hands_out, hands_out_last}
 use Rattle.yaml_base.proofs.Accepted.{stands_from_begins}
 use Rattle.yaml_base.proofs.Completions.{pushed-append}
-use Rattle.yaml_base.proofs.QueueLaws.{no_end_held, held_is_short}
+use Rattle.yaml_base.proofs.QueueLaws.{no_end_held}
 use Rattle.yaml_pen.proofs.Composing.{wrote_all}
 use Rattle.yaml_emitter.specs.State.{State, standing_of}
 use Rattle.yaml_emitter.specs.Queue.{is_head_ready}
@@ -136,10 +136,6 @@ awaits_few (document_start start) = omega arith
 awaits_few (sequence_start start) = omega arith
 awaits_few (mapping_start start) = omega arith
 awaits_few event = omega arith
-
-pub few_held : (rest : List Event) → is_head_ready rest ≡ false → length rest ≤ 3
-few_held [] h = omega arith
-few_held (event ∷ rest) h = omega (arith, held_is_short event rest h, awaits_few event)
 
 and_left_false : (a b : Bool) → b ≡ false → a && b ≡ false
 and_left_false true b h = h

@@ -63,7 +63,7 @@ pub(crate) fn write_document_start<A: Allocator>(
 fn has_directives<A: Allocator>(start: &StartContent<A>) -> bool
     ensures { result ≡ (is_some (option_map seen_version start.now.version) || not (length (map seen_directive start.now.directives.now) == 0)) }
 {
-    start.version.is_some() || start.directives.len() != 0
+    start.version.is_some() || !start.directives.is_empty()
 }
 
 /// `---` is written where the event asks for it, after another document, in canonical and in portable mode, and after

@@ -19,20 +19,14 @@ impl OpenMark {
     pub(crate) fn is_open(self) -> bool
         ensures { result ≡ not (seen_mark self == 0) }
     {
-        match self {
-            OpenMark::Closed => false,
-            _ => true,
-        }
+        !matches!(self, OpenMark::Closed)
     }
 
     /// After a block scalar that keeps its final breaks.
     pub(crate) fn keeps_breaks(self) -> bool
         ensures { result ≡ (seen_mark self == 2) }
     {
-        match self {
-            OpenMark::KeptBreaks => true,
-            _ => false,
-        }
+        matches!(self, OpenMark::KeptBreaks)
     }
 
     /// After the header of a block scalar, whose own mark is 0 or 2.

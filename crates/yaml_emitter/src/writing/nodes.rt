@@ -32,6 +32,9 @@ use std::alloc::Allocator;
 use yaml_base::yaml_error_t;
 use yaml_pen::Pen;
 
+/// No bare tag stands before a node.
+pub(crate) const NO_BARE_TAG: bool = false;
+
 /// Writes an alias at its place.
 pub(crate) fn write_alias<A: Allocator>(
     pen: &mut Pen<A>,
@@ -93,7 +96,7 @@ pub(crate) fn write_collection_start<A: Allocator>(
         pen.old pen.new result }
     ensures ready { IsReady pen.new }
 {
-    write_lead(pen, site, content.anchor, tag, false)
+    write_lead(pen, site, content.anchor, tag, NO_BARE_TAG)
 }
 
 /// A collection is written in flow where it stands in flow, in canonical mode, by its style, or where it is empty.

@@ -16,7 +16,7 @@ ghost use Rattle.yaml_emitter.specs.WrittenSigns.{seen_indicator, signs_laid, so
 use crate::effective::EffectiveSettings;
 use crate::place::{CollectionKind, Place, Role};
 use crate::writing::indicators::{Indicator, write_indicator};
-use crate::writing::signs::{Sign, Signs, write_flow_line, write_line};
+use crate::writing::signs::{Sign, Signs, write_flow_line, write_new_line};
 use crate::writing::site::Site;
 use std::alloc::Allocator;
 use yaml_base::yaml_error_t;
@@ -163,7 +163,7 @@ fn write_on_line<A: Allocator>(
     requires { IsReady pen.old }
     ensures { Wrote (λ cursor. then_laid (new_line (line_column place.column) cursor) (indicator_laid (seen_indicator sign))) pen.old pen.new result }
 {
-    write_line(pen, &place)?;
+    write_new_line(pen, &place)?;
     write_indicator(pen, sign)
 }
 
@@ -173,7 +173,7 @@ fn write_line_alone<A: Allocator>(pen: &mut Pen<A>, place: &Place) -> Result<(),
     requires { IsReady pen.old }
     ensures { Wrote (λ cursor. then_laid (new_line (line_column place.now.column) cursor) nothing_laid) pen.old pen.new result }
 {
-    write_line(pen, place)
+    write_new_line(pen, place)
 }
 
 /// The signs of the end of a collection in flow: where nothing stands between the brackets, the opening one comes

@@ -26,13 +26,7 @@ pub(crate) fn has_properties(anchor: Option<&str>, tag: Option<SpelledTag>, bare
     ensures { result ≡ false → (portable : Bool) (cursor : Cursor)
         → then_laid (anchor_laid (seen_name anchor.entry) cursor) (spelled_tag_laid portable (seen_tag tag.entry) bare) ≡ nothing_laid cursor }
 {
-    match anchor {
-        Some(_) => true,
-        None => match tag {
-            Some(_) => true,
-            None => bare,
-        },
-    }
+    anchor.is_some() || tag.is_some() || bare
 }
 
 /// Writes a node's anchor and its tag, or the bare tag.

@@ -21,6 +21,9 @@ use yaml_mark::{
 };
 use yaml_pen::Pen;
 
+/// No space comes before a tag's text.
+const TIGHT: bool = false;
+
 /// What is written at a place.
 #[derive(Clone, Copy)]
 pub(crate) enum Sign<'a> {
@@ -74,7 +77,7 @@ fn write_sign<A: Allocator>(pen: &mut Pen<A>, site: &Site, sign: Sign) -> Result
         Sign::Space => pen.put(b' '),
         Sign::Name(name) => write_anchor(pen, name),
         Sign::Handle(handle) => write_tag_handle(pen, handle),
-        Sign::TagText(content) => write_tag_content(pen, content, false),
+        Sign::TagText(content) => write_tag_content(pen, content, TIGHT),
         Sign::Suffix(suffix) => write_tag_suffix(pen, suffix, site.settings.portable),
         Sign::Prefix(prefix) => write_tag_prefix(pen, prefix, site.settings.portable),
     }
@@ -82,7 +85,10 @@ fn write_sign<A: Allocator>(pen: &mut Pen<A>, site: &Site, sign: Sign) -> Result
 
 /// A new line at the column of the entries around a place.
 #[inline(always)]
-pub(crate) fn write_line<A: Allocator>(pen: &mut Pen<A>, place: &Place) -> Result<(), yaml_error_t>
+pub(crate) fn write_new_line<A: Allocator>(
+    pen: &mut Pen<A>,
+    place: &Place,
+) -> Result<(), yaml_error_t>
     requires { IsReady pen.old }
     ensures { Wrote (new_line (line_column place.now.column)) pen.old pen.new result }
 {
@@ -95,7 +101,7 @@ fn write_line_apart<A: Allocator>(pen: &mut Pen<A>, place: &Place) -> Result<(),
     requires { IsReady pen.old }
     ensures { Wrote (new_line (line_column place.now.column)) pen.old pen.new result }
 {
-    write_line(pen, place)
+    write_new_line(pen, place)
 }
 
 pub(crate) fn write_flow_line<A: Allocator>(

@@ -16,7 +16,7 @@ ghost use Rattle.yaml_emitter.specs.WrittenPieces.{piece_at};
 
 use crate::effective::EffectiveSettings;
 use crate::writing::contents::ScalarContent;
-use crate::writing::nodes::write_lead;
+use crate::writing::nodes::{NO_BARE_TAG, write_lead};
 use crate::writing::site::Site;
 use crate::writing::styles::line_indent;
 use std::alloc::Allocator;
@@ -56,10 +56,7 @@ fn asks_plain(style: yaml_scalar_style_t) -> bool
 fn lacks_anchor(anchor: Option<&str>) -> bool
     ensures { result ≡ not (is_some (seen_name anchor.entry)) }
 {
-    match anchor {
-        Some(_) => false,
-        None => true,
-    }
+    anchor.is_none()
 }
 
 /// Writes a scalar that stands plain as it is, by its value; the open mark stays.
@@ -80,7 +77,7 @@ pub(crate) fn write_usual<A: Allocator>(
         pen.old pen.new result }
     ensures ready { IsReady pen.new }
 {
-    write_lead(pen, site, None, None, false)?;
+    write_lead(pen, site, None, None, NO_BARE_TAG)?;
     write_usual_text(pen, site, value)
 }
 

@@ -1,5 +1,5 @@
 use Rattle.std.proofs.Common.{sym}
-use Rattle.yaml_mark.proofs.TagFacts.{empty_tag, good_tag}
+use Rattle.yaml_mark.proofs.TagLemmas.{empty_tag, good_tag}
 use Rattle.yaml_emitter.proofs.check.check_tag_text.Goals as goal
 
 pub returns-then-is_empty : goal.returns-then-is_empty

@@ -1,5 +1,5 @@
 use Rattle.std.proofs.lemmas.Str.Pattern.{starts_text}
-use Rattle.yaml_mark.proofs.TagFacts.{goes_on}
+use Rattle.yaml_mark.proofs.TagLemmas.{goes_on}
 use Rattle.yaml_mark.proofs.directives.goes_on_from.Goals as goal
 
 pub returns-then-prefix-tag : goal.returns-then-prefix-tag

@@ -1,6 +1,6 @@
 use Rattle.std.proofs.Common.{sym}
 use Rattle.yaml_base.specs.declared.errors.yaml_error_t.TheVariants.{AnchorEmpty, AnchorAlphabet, AliasEmpty, AliasAlphabet}
-use Rattle.yaml_mark.proofs.HandleFacts as fact
+use Rattle.yaml_mark.proofs.HandleLemmas as fact
 use Rattle.yaml_mark.proofs.names.analyze_anchor.Goals as goal
 
 pub returns-then-alias : goal.returns-then-alias

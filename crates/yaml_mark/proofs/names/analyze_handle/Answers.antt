@@ -1,6 +1,6 @@
 use Rattle.std.proofs.Common.{sym, lit<, false, true}
 use Rattle.std.proofs.lemmas.Str.Pattern.{strip_prefix_char, strip_suffix_char}
-use Rattle.yaml_mark.proofs.HandleFacts as fact
+use Rattle.yaml_mark.proofs.HandleLemmas as fact
 use Rattle.yaml_mark.proofs.names.analyze_handle.Goals as goal
 
 pub returns-then-is_empty : goal.returns-then-is_empty

@@ -1,5 +1,5 @@
 use Rattle.std.proofs.Common.{sym, Some, None}
-use Rattle.yaml_mark.proofs.HandleFacts as fact
+use Rattle.yaml_mark.proofs.HandleLemmas as fact
 use Rattle.yaml_mark.proofs.names.analyze_tag_directive.Goals as goal
 use Rattle.yaml_base.specs.declared.errors.yaml_error_t.TheVariants.{TagPrefixEmpty}
 

@@ -1,6 +1,6 @@
 use Rattle.std.proofs.Common.{lit<}
 use Rattle.std.proofs.lemmas.Str.Pattern.{strip_prefix_char}
-use Rattle.yaml_mark.proofs.EscapingFacts.{prefix_answer}
+use Rattle.yaml_mark.proofs.EscapingLemmas.{prefix_answer}
 use Rattle.yaml_mark.proofs.writing.after_raw_mark.Goals as goal
 
 pub returns-then-portable : goal.returns-then-portable

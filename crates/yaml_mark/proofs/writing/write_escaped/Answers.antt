@@ -5,7 +5,7 @@ use Rattle.std.proofs.lemmas.Str.{chars-nil}
 use Rattle.yaml_base.specs.Characters.{is_break}
 use Rattle.yaml_base.specs.Percent.{suffix_escaped}
 use Rattle.yaml_pen.proofs.Composing.{wrote_exit}
-use Rattle.yaml_mark.proofs.EscapingFacts.{content_cut, content_whole, text_whole, bytes_more, bytes_failed, bytes_whole}
+use Rattle.yaml_mark.proofs.EscapingLemmas.{content_cut, content_whole, text_whole, bytes_more, bytes_failed, bytes_whole}
 use Rattle.yaml_mark.proofs.writing.write_escaped.Goals as goal
 
 pub write_indicator-requires-clause-no_break : goal.write_indicator-requires-clause-no_break

@@ -4,7 +4,7 @@ use Rattle.yaml_base.specs.Cursor.{text_laid}
 use Rattle.yaml_base.specs.Percent.{byte_escaped}
 use Rattle.yaml_pen.specs.Wrote.{Wrote}
 use Rattle.yaml_pen.proofs.Composing.{wrote_exit, wrote_cut, wrote_text_then}
-use Rattle.yaml_mark.proofs.EscapingFacts.{form_is}
+use Rattle.yaml_mark.proofs.EscapingLemmas.{form_is}
 use Rattle.yaml_mark.proofs.writing.write_form.Goals as goal
 
 pub returns-in_err-put : goal.returns-in_err-put

@@ -6,7 +6,7 @@ use Rattle.yaml_base.specs.Characters.{is_break}
 use Rattle.yaml_base.specs.Percent.{percent_escaped}
 use Rattle.yaml_base.specs.Tags.{tag_mark}
 use Rattle.yaml_pen.proofs.Composing.{wrote_exit, wrote_text_failed}
-use Rattle.yaml_mark.proofs.EscapingFacts.{content_cut, content_whole, marked_then}
+use Rattle.yaml_mark.proofs.EscapingLemmas.{content_cut, content_whole, marked_then}
 use Rattle.yaml_mark.proofs.writing.write_local_prefix.Goals as goal
 
 pub write_indicator-requires-clause-no_break : goal.write_indicator-requires-clause-no_break

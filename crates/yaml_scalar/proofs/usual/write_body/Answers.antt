@@ -5,14 +5,14 @@ use Rattle.yaml_pen.proofs.Composing.{wrote_changing, wrote_exit, wrote_failed_a
 use Rattle.yaml_scalar.specs.Width.{limit_where}
 use Rattle.yaml_scalar.proofs.usual.write_body.Goals as goal
 
-pub returns-in_err-write_line : goal.returns-in_err-write_line
-returns-in_err-write_line g c =
+pub returns-in_err-write_usual_line : goal.returns-in_err-write_usual_line
+returns-in_err-write_usual_line g c =
     let limit = limit_where c.args.lines.allow_breaks c.args.lines.width in
     wrote_exit c.from_residual.ensures
-    (wrote_failed_as (plain_body limit c.args.lines.indent (chars c.args.value.now)) refl c.in_err-write_line.ensures)
+    (wrote_failed_as (plain_body limit c.args.lines.indent (chars c.args.value.now)) refl c.in_err-write_usual_line.ensures)
 
 pub returns : goal.returns
 returns g c =
     wrote_changing (λ (cursor : Cursor). record cursor { indention = false })
-    (wrote_changing (λ (cursor : Cursor). record cursor { whitespace = false }) c.in_ok-write_line.ensures c.set_whitespace.ensures)
+    (wrote_changing (λ (cursor : Cursor). record cursor { whitespace = false }) c.in_ok-write_usual_line.ensures c.set_whitespace.ensures)
     c.set_indention.ensures

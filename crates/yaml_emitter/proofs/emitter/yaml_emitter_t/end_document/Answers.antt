@@ -8,30 +8,30 @@ use Rattle.yaml_emitter.proofs.emitter.yaml_emitter_t.end_document.Goals as goal
 
 pub invariant_of-self : goal.invariant_of-self
 invariant_of-self g c =
-    kept_writing c.self.inside c.hand_out_document_end.new.pen c.self.inside.stage c.self.inside.frames c.self.inside.mark c.self.invariant
+    kept_writing c.self.inside c.flush_document_end.new.pen c.self.inside.stage c.self.inside.frames c.self.inside.mark c.self.invariant
     (output_behind c.self.inside c.self.invariant (behind_start (stage_inside c.self.inside c.self.view_is c.requires.stage) refl))
-    (fits_ready (state_of c.self.inside).stage c.hand_out_document_end.new.pen (behind_start (stage_inside c.self.inside c.self.view_is c.requires.stage) refl)
-    (c.in_err-hand_out_document_end.ensures.written 0).ready)
+    (fits_ready (state_of c.self.inside).stage c.flush_document_end.new.pen (behind_start (stage_inside c.self.inside c.self.view_is c.requires.stage) refl)
+    (c.in_err-flush_document_end.ensures.written 0).ready)
 
-pub returns-in_err-hand_out_document_end : goal.returns-in_err-hand_out_document_end
-returns-in_err-hand_out_document_end g c = λ empty.
+pub returns-in_err-flush_document_end : goal.returns-in_err-flush_document_end
+returns-in_err-flush_document_end g c = λ empty.
     rw (← c.self.view_is)
     (processed_exit (document_end c.args.implicit) empty
-    (state_of c.self.inside) _ c.in_err-hand_out_document_end.field-0.0 c.from_residual.result c.from_residual.ensures
-    (document_cut empty (state_of c.self.inside) c.args.implicit c.hand_out_document_end.new.pen c.in_err-hand_out_document_end.field-0.0
+    (state_of c.self.inside) _ c.in_err-flush_document_end.field-0.0 c.from_residual.result c.from_residual.ensures
+    (document_cut empty (state_of c.self.inside) c.args.implicit c.flush_document_end.new.pen c.in_err-flush_document_end.field-0.0
     (stage_inside c.self.inside c.self.view_is c.requires.stage)
-    (c.in_err-hand_out_document_end.ensures.written (state_of c.self.inside).mark)))
+    (c.in_err-flush_document_end.ensures.written (state_of c.self.inside).mark)))
 
 pub invariant_of-self-2 : goal.invariant_of-self-2
 invariant_of-self-2 g c =
-    kept_writing c.self.inside c.hand_out_document_end.new.pen _ c.self.inside.frames c.after_document-self-inside.result c.self.invariant
+    kept_writing c.self.inside c.flush_document_end.new.pen _ c.self.inside.frames c.after_document-self-inside.result c.self.invariant
     (output_behind c.self.inside c.self.invariant (behind_start (stage_inside c.self.inside c.self.view_is c.requires.stage) refl))
-    (c.in_ok-hand_out_document_end.ensures.written 0).ready
+    (c.in_ok-flush_document_end.ensures.written 0).ready
 
 pub returns : goal.returns
 returns g c = λ empty.
     rw (← c.self.view_is)
-    (document_ended empty (state_of c.self.inside) c.args.implicit c.hand_out_document_end.new.pen _
+    (document_ended empty (state_of c.self.inside) c.args.implicit c.flush_document_end.new.pen _
     (stage_inside c.self.inside c.self.view_is c.requires.stage)
-    (c.in_ok-hand_out_document_end.ensures.written (state_of c.self.inside).mark) c.after_document-self-inside.ensures
-    c.in_ok-hand_out_document_end.ensures.handed_out)
+    (c.in_ok-flush_document_end.ensures.written (state_of c.self.inside).mark) c.after_document-self-inside.ensures
+    c.in_ok-flush_document_end.ensures.handed_out)

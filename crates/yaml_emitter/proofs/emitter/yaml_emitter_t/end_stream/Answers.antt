@@ -8,27 +8,27 @@ use Rattle.yaml_emitter.proofs.emitter.yaml_emitter_t.end_stream.Goals as goal
 
 pub invariant_of-self : goal.invariant_of-self
 invariant_of-self g c =
-    kept_writing c.self.inside c.hand_out_stream_end.new.pen c.self.inside.stage c.self.inside.frames c.self.inside.mark c.self.invariant
+    kept_writing c.self.inside c.flush_stream_end.new.pen c.self.inside.stage c.self.inside.frames c.self.inside.mark c.self.invariant
     (output_behind c.self.inside c.self.invariant (behind_start (stage_inside c.self.inside c.self.view_is c.requires.stage) refl))
-    (fits_ready (state_of c.self.inside).stage c.hand_out_stream_end.new.pen
-    (behind_start (stage_inside c.self.inside c.self.view_is c.requires.stage) refl) c.in_err-hand_out_stream_end.ensures.written.ready)
+    (fits_ready (state_of c.self.inside).stage c.flush_stream_end.new.pen
+    (behind_start (stage_inside c.self.inside c.self.view_is c.requires.stage) refl) c.in_err-flush_stream_end.ensures.written.ready)
 
-pub returns-in_err-hand_out_stream_end : goal.returns-in_err-hand_out_stream_end
-returns-in_err-hand_out_stream_end g c = λ empty.
+pub returns-in_err-flush_stream_end : goal.returns-in_err-flush_stream_end
+returns-in_err-flush_stream_end g c = λ empty.
     rw (← c.self.view_is)
-    (processed_exit stream_end empty (state_of c.self.inside) _ c.in_err-hand_out_stream_end.field-0.0 c.from_residual.result c.from_residual.ensures
-    (stream_cut empty (state_of c.self.inside) c.args.first c.hand_out_stream_end.new.pen c.in_err-hand_out_stream_end.field-0.0
+    (processed_exit stream_end empty (state_of c.self.inside) _ c.in_err-flush_stream_end.field-0.0 c.from_residual.result c.from_residual.ensures
+    (stream_cut empty (state_of c.self.inside) c.args.first c.flush_stream_end.new.pen c.in_err-flush_stream_end.field-0.0
     (stage_inside c.self.inside c.self.view_is c.requires.stage)
-    c.in_err-hand_out_stream_end.ensures.written))
+    c.in_err-flush_stream_end.ensures.written))
 
 pub invariant_of-self-2 : goal.invariant_of-self-2
 invariant_of-self-2 g c =
-    kept_writing c.self.inside c.hand_out_stream_end.new.pen _ c.self.inside.frames c.self.inside.mark c.self.invariant
+    kept_writing c.self.inside c.flush_stream_end.new.pen _ c.self.inside.frames c.self.inside.mark c.self.invariant
     (output_behind c.self.inside c.self.invariant (behind_start (stage_inside c.self.inside c.self.view_is c.requires.stage) refl))
-    c.in_ok-hand_out_stream_end.ensures.written.ready
+    c.in_ok-flush_stream_end.ensures.written.ready
 
 pub returns : goal.returns
 returns g c = λ empty.
     rw (← c.self.view_is)
-    (stream_ended empty (state_of c.self.inside) c.args.first c.hand_out_stream_end.new.pen (stage_inside c.self.inside c.self.view_is c.requires.stage)
-    c.in_ok-hand_out_stream_end.ensures.written c.in_ok-hand_out_stream_end.ensures.handed_out)
+    (stream_ended empty (state_of c.self.inside) c.args.first c.flush_stream_end.new.pen (stage_inside c.self.inside c.self.view_is c.requires.stage)
+    c.in_ok-flush_stream_end.ensures.written c.in_ok-flush_stream_end.ensures.handed_out)

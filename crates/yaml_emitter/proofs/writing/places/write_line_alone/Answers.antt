@@ -8,4 +8,5 @@ use Rattle.yaml_emitter.proofs.writing.places.write_line_alone.Goals as goal
 pub returns : goal.returns
 returns g c =
     let lay = new_line (line_column c.args.place.now.column) in
-    wrote_as (λ (cursor : Cursor). then_laid (lay cursor) nothing_laid) (laid_alone lay nothing_laid c.args.pen.now.cursor (λ after. refl)) c.write_line.ensures
+    wrote_as (λ (cursor : Cursor). then_laid (lay cursor) nothing_laid) (laid_alone lay nothing_laid c.args.pen.now.cursor (λ after. refl))
+    c.write_new_line.ensures

@@ -7,7 +7,7 @@ use Rattle.yaml_scalar.proofs.LinesWritten.{wrote_runs, wrote_unquoted}
 use Rattle.yaml_scalar.proofs.ShortRuns.{short_line_laid}
 use Rattle.yaml_scalar.proofs.StaysInLine.{room_less}
 use Rattle.yaml_scalar.proofs.UsualTexts.{usual_line, usual_some}
-use Rattle.yaml_scalar.proofs.usual.write_line.Goals as goal
+use Rattle.yaml_scalar.proofs.usual.write_usual_line.Goals as goal
 
 pub write_short_run-requires-clause-few : goal.write_short_run-requires-clause-few
 write_short_run-requires-clause-few g c = c.requires.usual.line.few

@@ -1,6 +1,6 @@
 use Rattle.yaml_pen.proofs.Composing.{wrote_exit}
 use Rattle.yaml_emitter.proofs.standing.HandingOut.{wrote_flushed}
-use Rattle.yaml_emitter.proofs.process.hand_out_document_end.Goals as goal
+use Rattle.yaml_emitter.proofs.process.flush_document_end.Goals as goal
 
 pub returns-in_err-write_document_end-clause-written : goal.returns-in_err-write_document_end-clause-written
 returns-in_err-write_document_end-clause-written g c = λ mark. wrote_exit c.from_residual.ensures (c.in_err-write_document_end.ensures mark)

@@ -19,7 +19,7 @@ use Rattle.yaml_base.specs.Event.{TagDirective}
 use Rattle.yaml_base.specs.Seen.{seen_directive}
 use Rattle.yaml_base.specs.Tags.{tag_fault, behind, Spelling, shorthand, verbatim, spelling_by, spelling}
 use Rattle.yaml_base.proofs.TagForms.{behind-whole, behind_begins, scalars_behind}
-use Rattle.yaml_mark.proofs.HandleFacts.{characters_begin, no_characters}
+use Rattle.yaml_mark.proofs.HandleLemmas.{characters_begin, no_characters}
 use Rattle.yaml_mark.specs.Spelled.{fits, begins_and_is_shorter, IsCutAt}
 use Rattle.yaml_base.specs.declared.errors.yaml_error_t.TheVariants.{TagEmpty}
 

@@ -12,7 +12,7 @@ use Rattle.yaml_emitter.proofs.standing.Growing.{flushed_unflushed}
 use Rattle.yaml_emitter.proofs.standing.StandingMore.{flush_failed, some_from_told}
 use Rattle.yaml_emitter.proofs.standing.StandingPromises.{stands_well}
 use Rattle.yaml_emitter.proofs.standing.StandingSet.{stands_flushed}
-use Rattle.yaml_emitter.proofs.emitter.yaml_emitter_t.hand_out.Goals as goal
+use Rattle.yaml_emitter.proofs.emitter.yaml_emitter_t.flush_pen.Goals as goal
 
 pub invariant_of-self : goal.invariant_of-self
 invariant_of-self g c = kept_flushing c.self.inside c.flush.new.self c.flush.result c.self.invariant
