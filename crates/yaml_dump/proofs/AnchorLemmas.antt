@@ -11,7 +11,7 @@ use Rattle.yaml_base.specs.Meetings.{Step, enters, leaves, meets_again, first_of
 use Rattle.yaml_base.proofs.SharedNodes.{has, has_first, has_position}
 use Rattle.yaml_dump.specs.declared.steps.Step as declared
 use Rattle.yaml_dump.specs.declared.steps.Step.TheVariants.{Enters, Leaves, MeetsAgain}
-use Rattle.yaml_dump.specs.Steps.{seen_step}
+use Rattle.yaml_dump.specs.WalkSteps.{seen_step}
 use Rattle.yaml_dump.specs.Events.{IsPlaced}
 use Rattle.yaml_dump.specs.Anchors.{HasPlaces, is_numbered, IsNumbered, place_in, anchor_of_place, Places}
 use Rattle.yaml_dump.specs.Named.{number_in}

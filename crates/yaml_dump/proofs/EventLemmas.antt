@@ -13,7 +13,7 @@ use Rattle.yaml_dump.specs.Anchors.{IsNumbered, HasPlaces, anchor_of_place, is_n
 use Rattle.yaml_dump.specs.Named.{AreNamed, number_in}
 use Rattle.yaml_dump.specs.declared.steps.Step as declared
 use Rattle.yaml_dump.specs.Events.{seen_events_of}
-use Rattle.yaml_dump.specs.Steps.{seen_step}
+use Rattle.yaml_dump.specs.WalkSteps.{seen_step}
 use Rattle.yaml_dump.proofs.AnchorLemmas.{anchor_placed, seen_more}
 
 -- a node begins with the anchor of its place

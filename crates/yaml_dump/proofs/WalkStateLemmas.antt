@@ -11,7 +11,7 @@ use Rattle.yaml_base.specs.Meetings as meetings
 use Rattle.yaml_base.specs.Meetings.{Graph, enters, leaves, meets_again, is_entry_of, steps_from, steps, is_whole}
 use Rattle.yaml_dump.specs.WalkState.{WalkState, seen_walker, at_start, with_step, with_visit, with_node, with_meeting, with_child, child_of, with_turn}
 use Rattle.yaml_dump.specs.Named.{IsNamed, AreNamed, number_in}
-use Rattle.yaml_dump.specs.Steps.{seen_step}
+use Rattle.yaml_dump.specs.WalkSteps.{seen_step}
 use Rattle.yaml_dump.specs.declared.steps.Step.{Step}
 use Rattle.yaml_base.proofs.UnfoldSteps.{none_added, one_added}
 use Rattle.yaml_dump.proofs.ChildLemmas.{child_named}

@@ -4,4 +4,4 @@ pub mod Events
 pub mod GraphTrees
 pub mod Named
 pub mod WalkState
-pub mod Steps
+pub mod WalkSteps

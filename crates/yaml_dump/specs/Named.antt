@@ -2,7 +2,7 @@
 use Rattle.std.specs.Prelude.{ℕ, ◌≤◌, List, All}
 use Rattle.yaml_base.specs.Meetings as meetings
 use Rattle.yaml_base.specs.Meetings.{enters, leaves, meets_again}
-use Rattle.yaml_dump.specs.Steps.{seen_step}
+use Rattle.yaml_dump.specs.WalkSteps.{seen_step}
 use Rattle.yaml_dump.specs.declared.steps.Step.{Step}
 
 -- one of so many nodes has this number

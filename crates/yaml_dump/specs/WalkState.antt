@@ -2,7 +2,7 @@
 use Rattle.std.specs.Prelude.{ℕ, ◌+◌, ◌-◌, Bool, true, false, Option, None, Some, List, [], ◌∷◌, ◌++◌, flat_map, map, replicate, reverse, slice_get, slice_index_or, slice_set}
 use Rattle.yaml_base.specs.Meetings as meetings
 use Rattle.yaml_base.specs.Meetings.{Graph, children, enters, leaves, meets_again}
-use Rattle.yaml_dump.specs.Steps.{seen_step}
+use Rattle.yaml_dump.specs.WalkSteps.{seen_step}
 use Rattle.yaml_dump.specs.declared.walk.Visit.{Visit}
 use Rattle.yaml_dump.specs.declared.walk.Walker.{Walker}
 

@@ -3,7 +3,7 @@ ghost use Rattle.std.specs.Prelude.{◌≡◌, ◌<◌, ◌≤◌, ◌+◌, ◌-
 ghost use Rattle.yaml_base.specs.Meetings as meetings;
 ghost use Rattle.yaml_base.specs.Seen.{seen_text};
 ghost use Rattle.yaml_dump.specs.Anchors.{IsNumbered, is_numbered, Places, HasPlaces, anchor_of_place};
-ghost use Rattle.yaml_dump.specs.Steps.{seen_step};
+ghost use Rattle.yaml_dump.specs.WalkSteps.{seen_step};
 ghost use Rattle.yaml_base.specs.Settings.{largest_usize};
 
 use crate::steps::Step;

@@ -9,7 +9,7 @@ ghost use Rattle.yaml_base.specs.SeenNodes.{seen_node, seen_held};
 ghost use Rattle.yaml_base.specs.Documents.{graph_of};
 ghost use Rattle.yaml_dump.specs.Anchors.{IsNumbered, is_numbered, HasPlaces, anchor_of_place};
 ghost use Rattle.yaml_dump.specs.Events.{seen_events_of, IsPlaced, walk_events};
-ghost use Rattle.yaml_dump.specs.Steps.{seen_step};
+ghost use Rattle.yaml_dump.specs.WalkSteps.{seen_step};
 ghost use Rattle.yaml_base.specs.Settings.{largest_i32};
 
 use crate::anchors::{numbered_name, shared_places};
@@ -198,7 +198,7 @@ pub(crate) fn step_event<A: Allocator + Copy>(
 }
 
 /// The step's event, behind others.
-fn push_step<A: Allocator + Copy>(
+fn push_event<A: Allocator + Copy>(
     alloc: A,
     document: &yaml_document_t<A>,
     places: &[usize],
@@ -259,7 +259,7 @@ pub(crate) fn events_of_walk<A: Allocator + Copy>(
     let mut events = Vec::new(alloc);
     events.push(document_start(alloc, document)?)?;
     for step in walk {
-        push_step(alloc, document, places.as_slice(), *step, &mut events)?;
+        push_event(alloc, document, places.as_slice(), *step, &mut events)?;
     }
     events.push(yaml_event_t::YAML_DOCUMENT_END_EVENT {
         implicit: document.end_implicit(),

@@ -4,7 +4,7 @@ ghost use Rattle.yaml_base.specs.Meetings as meetings;
 ghost use Rattle.yaml_base.specs.Meetings.{numbers_held};
 ghost use Rattle.yaml_base.specs.SeenNodes.{seen_number, seen_pair, seen_held};
 ghost use Rattle.yaml_base.specs.Documents.{graph_of};
-ghost use Rattle.yaml_dump.specs.Steps.{seen_step};
+ghost use Rattle.yaml_dump.specs.WalkSteps.{seen_step};
 ghost use Rattle.yaml_dump.specs.WalkState.{pair_numbers, seen_walker, at_start, with_meeting, child_of, with_turn};
 ghost use Rattle.yaml_dump.specs.Named.{IsNamed, AreNamed};
 

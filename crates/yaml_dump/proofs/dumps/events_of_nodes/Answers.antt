@@ -1,7 +1,7 @@
 use Rattle.std.proofs.Common.{◌≡◌, ◌∙◌, true, length, map, sym, ap, subst}
 use Rattle.yaml_base.specs.Documents.{graph_of}
 use Rattle.yaml_dump.specs.Anchors.{is_numbered}
-use Rattle.yaml_dump.specs.Steps.{seen_step}
+use Rattle.yaml_dump.specs.WalkSteps.{seen_step}
 use Rattle.yaml_dump.proofs.EventLemmas.{named_numbered}
 use Rattle.yaml_dump.proofs.GraphLemmas.{walk_unfolds}
 use Rattle.yaml_dump.proofs.dumps.events_of_nodes.Goals as goal

@@ -4,7 +4,7 @@ use Rattle.yaml_base.specs.Documents.{graph_of}
 use Rattle.yaml_base.specs.Event.{document_start}
 use Rattle.yaml_base.specs.Meetings.{step_events}
 use Rattle.yaml_base.specs.Seen.{seen_events}
-use Rattle.yaml_dump.specs.Steps.{seen_step}
+use Rattle.yaml_dump.specs.WalkSteps.{seen_step}
 use Rattle.yaml_dump.proofs.events.events_of_walk.Given as goal
 
 abbrev pub invariant-loop-step : goal.invariant-loop-step

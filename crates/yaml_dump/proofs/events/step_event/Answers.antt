@@ -4,7 +4,7 @@ use Rattle.yaml_base.specs.Documents.{graph_of}
 use Rattle.yaml_base.specs.Meetings.{step_events}
 use Rattle.yaml_dump.specs.Anchors.{IsNumbered}
 use Rattle.yaml_dump.specs.Events.{seen_events_of}
-use Rattle.yaml_dump.specs.Steps.{seen_step}
+use Rattle.yaml_dump.specs.WalkSteps.{seen_step}
 use Rattle.yaml_dump.proofs.EventLemmas.{entered}
 use Rattle.yaml_dump.proofs.events.step_event.Goals as goal
 

@@ -1,8 +1,8 @@
 use Rattle.yaml_base.specs.Documents.{graph_of}
 use Rattle.yaml_base.specs.Meetings.{step_events}
-use Rattle.yaml_dump.specs.Steps.{seen_step}
+use Rattle.yaml_dump.specs.WalkSteps.{seen_step}
 use Rattle.yaml_dump.proofs.EventLemmas.{pushed}
-use Rattle.yaml_dump.proofs.events.push_step.Goals as goal
+use Rattle.yaml_dump.proofs.events.push_event.Goals as goal
 
 pub returns-in_ok-push : goal.returns-in_ok-push
 returns-in_ok-push g c walk has_places =
