@@ -23,7 +23,8 @@ use Rattle.yaml_dump.specs.GraphTrees.{GraphsReadBack, ReadsTrees}
 use Rattle.yaml_dump.proofs.GraphTreeLemmas.{dumped_trees_unfold}
 use Rattle.yaml_emitter.specs.State.{State}
 use Rattle.yaml_emitter.specs.StandsAfter.{StandsAfter}
-use Rattle.yaml_emitter.specs.Promises.{ends_stream, HasRoom, IsWritten, Promised}
+use Rattle.yaml_emitter.specs.Promises.{HasRoom, IsWritten, Promised}
+use Rattle.yaml_emitter.proofs.EndedStreams.{ends_last}
 
 -- the events of a document's walk
 pub walk_unfolds : {A E : Type 0} (graph : Graph) (answer : Result (Vec (yaml_event_t A) A) E) (walk : List Step) → IsDocument graph → walk ≡ steps graph
@@ -33,16 +34,6 @@ walk_unfolds graph (Ok events) walk is whole same =
     same ∙ ap (walk_events graph) whole ∙ sym (ap (λ (none : Bool). if none then [] else walk_events graph (steps graph)) is.has_nodes) in
     subst (EventsUnfold graph) (sym events_are) (document_unfolds graph is)
 walk_unfolds graph (Err error) walk is whole same = tt
-
--- the stream's end ends a stream
-ends_later : (event next : Event) (rest : List Event) → ends_stream (event ∷ next ∷ rest) ≡ ends_stream (next ∷ rest)
-ends_later stream_end next rest = refl
-ends_later event next rest = refl
-
-ends_last : (events : List Event) → ends_stream (events ++ stream_end ∷ []) ≡ true
-ends_last [] = refl
-ends_last (event ∷ []) = ends_later event stream_end []
-ends_last (event ∷ next ∷ rest) = ends_later event next (rest ++ stream_end ∷ []) ∙ ends_last (next ∷ rest)
 
 -- what was dumped and closed without an error is written whole
 written_whole : (given : Settings) (before : List Event) (graphs : List Graph) (state : State) → Promised given (before ++ stream_end ∷ []) state

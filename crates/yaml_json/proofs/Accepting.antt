@@ -1,19 +1,17 @@
 -- The events of a JSON value that isn't nested too deep are an accepted list.
-use Rattle.std.proofs.Common.{◌≡◌, refl, sym, ◌∙◌, arith, subst, append_assoc}
+use Rattle.std.proofs.Common.{◌≡◌, refl, sym, arith, subst, append_assoc}
 use Rattle.std.proofs.Math.Nat.{le-max_left, le-max_right}
 use Rattle.std.proofs.lemmas.Bool.{and_from}
-use Rattle.std.proofs.lemmas.List.Folds.{list_all-append}
-use Rattle.std.proofs.lemmas.List.Sums.{sum_by-append}
-use Rattle.std.specs.Prelude.{ℕ, zero, suc, ◌+◌, ◌-◌, ◌≤◌, Bool, true, false, cond, List, [], ◌∷◌, ◌++◌, count_by, if◌then◌else◌}
-use Rattle.std.specs.List.{list_all}
+use Rattle.std.specs.Prelude.{ℕ, suc, ◌+◌, ◌≤◌, Bool, true, false, List, [], ◌∷◌, ◌++◌, if◌then◌else◌}
 use Rattle.std.specs.Str.{chars}
 use Rattle.json.specs.Json.{Json, null, boolean, number, string, array, object, Items, no_items, item, Members, no_members, member}
 use Rattle.json.specs.Tree.{depth as nesting, items_depth as items_nesting, members_depth as members_nesting}
 use Rattle.yaml_base.specs.Characters.{Text}
 use Rattle.yaml_base.specs.Event.{Event, scalar, sequence_start, sequence_end, mapping_start, mapping_end}
 use Rattle.yaml_base.specs.JsonNumbers.{is_json_integer, yaml_number}
-use Rattle.yaml_base.specs.Refusal.{is_sound, IsAccepted, begins_collection, ends_collection, open_count, most_open}
+use Rattle.yaml_base.specs.Refusal.{is_sound, IsAccepted, open_count, most_open}
 use Rattle.yaml_base.specs.TypedValues.{int_tag}
+use Rattle.yaml_emitter.proofs.AcceptedLists.{sound, both_sound, Stays, few_open}
 use Rattle.yaml_writer.specs.NumberParts.{number_in}
 use Rattle.yaml_writer.specs.Writing.{closing, float_tag, opening}
 use Rattle.yaml_json.specs.JsonEvents.{bool_content, collection_in, items_events, json_events, members_events, null_content, number_content, text_content, word_content}
@@ -24,9 +22,6 @@ abbrev pub stream_of : (canonical in_flow : Bool) → Json → List Event
 stream_of canonical in_flow json = opening ++ json_events canonical in_flow json ++ closing
 
 -- ---- each event is in order
-
-abbrev pub sound : Bool → List Event → Bool
-sound canonical events = list_all (is_sound canonical) events
 
 null_sound : (canonical : Bool) → is_sound canonical (scalar (null_content canonical)) ≡ true
 null_sound true = refl
@@ -58,11 +53,6 @@ mapping_sound false in_flow = refl
 first_sound : (canonical : Bool) (event : Event) (events : List Event) → is_sound canonical event ≡ true → sound canonical events ≡ true
     → sound canonical (event ∷ events) ≡ true
 first_sound canonical event events one others = and_from (is_sound canonical event) (sound canonical events) one others
-
-both_sound : (canonical : Bool) (first second : List Event) → sound canonical first ≡ true → sound canonical second ≡ true
-    → sound canonical (first ++ second) ≡ true
-both_sound canonical first second one other =
-    list_all-append (is_sound canonical) first second ∙ and_from (sound canonical first) (sound canonical second) one other
 
 mutual
   value_sound : (json : Json) (canonical in_flow : Bool) → sound canonical (json_events canonical in_flow json) ≡ true
@@ -101,21 +91,6 @@ stream_sound canonical in_flow json =
     (both_sound canonical (json_events canonical in_flow json) closing (value_sound json canonical in_flow) refl)
 
 -- ---- how many collections are open
-
--- after an event that begins a collection or doesn't, and ends one or doesn't
-abbrev after_signs : (begins ends : Bool) → ℕ → ℕ
-after_signs true ends now = suc now
-after_signs false true zero = zero
-after_signs false true (suc now) = now
-after_signs false false now = now
-
-abbrev after_event : Event → ℕ → ℕ
-after_event event now = after_signs (begins_collection event) (ends_collection event) now
-
--- with so many open before some events, no more than the most are open before and after each of them
-abbrev Stays : (most now : ℕ) → List Event → Type 0
-Stays most now [] = now ≤ most
-Stays most now (event ∷ events) = (now ≤ most) × Stays most (after_event event now) events
 
 mutual
   value_stays : (json : Json) (canonical in_flow : Bool) (most now : ℕ) (rest : List Event) → now + nesting json ≤ most → Stays most now rest
@@ -164,30 +139,6 @@ mutual
             (members_stay more canonical in_flow most now rest (omega (arith, fits, right)) later)),
       )
 
-stays_now : (most now : ℕ) (events : List Event) → Stays most now events → now ≤ most
-stays_now most now [] h = h
-stays_now most now (event ∷ events) h = h.0
-
-one_more : (begins ends : Bool) (now others_begin others_end most : ℕ) → (after_signs begins ends now + others_begin) - others_end ≤ most
-    → (now + (cond begins 1 0 + others_begin)) - (cond ends 1 0 + others_end) ≤ most
-one_more true true now b e most h = omega (arith, h)
-one_more true false now b e most h = omega (arith, h)
-one_more false true zero b e most h = omega (arith, h)
-one_more false true (suc now) b e most h = omega (arith, h)
-one_more false false now b e most h = omega (arith, h)
-
-front_stays : (most now : ℕ) (front rest : List Event) → Stays most now (front ++ rest)
-    → (now + count_by begins_collection front) - count_by ends_collection front ≤ most
-front_stays most now [] rest h = let few = stays_now most now rest h in omega (arith, few)
-front_stays most now (event ∷ front) rest h =
-    let begun : count_by begins_collection (event ∷ front) ≡ (0 + cond (begins_collection event) 1 0) + count_by begins_collection front =
-    sum_by-append (λ x. cond (begins_collection x) 1 0) (event ∷ []) front in
-    let ended : count_by ends_collection (event ∷ front) ≡ (0 + cond (ends_collection event) 1 0) + count_by ends_collection front =
-    sum_by-append (λ x. cond (ends_collection x) 1 0) (event ∷ []) front in
-    let more = one_more (begins_collection event) (ends_collection event) now (count_by begins_collection front) (count_by ends_collection front) most
-    (front_stays most (after_event event now) front rest h.1) in
-    omega (arith, begun, ended, more)
-
 stream_stays : (canonical in_flow : Bool) (json : Json) (most : ℕ) → nesting json ≤ most → Stays most 0 (stream_of canonical in_flow json)
 stream_stays canonical in_flow json most fits =
     let few : 0 ≤ most = omega arith in
@@ -197,8 +148,7 @@ stream_stays canonical in_flow json most fits =
 shallow : (canonical in_flow : Bool) (json : Json) → nesting json ≤ most_open → (front rest : List Event)
     → front ++ rest ≡ stream_of canonical in_flow json → open_count front ≤ most_open
 shallow canonical in_flow json fits front rest is =
-    let stays = front_stays most_open 0 front rest (subst (Stays most_open 0) (sym is) (stream_stays canonical in_flow json most_open fits)) in
-    omega (arith, stays)
+    few_open most_open (stream_of canonical in_flow json) front rest (stream_stays canonical in_flow json most_open fits) is
 
 -- ---- all
 

@@ -1,6 +1,6 @@
 -- A value by the token that begins it.
-use Rattle.std.proofs.Common.{◌≡◌, refl, sym, ap, ◌∙◌}
-use Rattle.std.specs.Prelude.{ℕ, Bool, Option, None, Some, List, [], ◌∷◌}
+use Rattle.std.proofs.Common.{◌≡◌, refl, ap, ◌∙◌}
+use Rattle.std.specs.Prelude.{ℕ, Bool, None, List, [], ◌∷◌}
 use Rattle.std.specs.Str.{chars}
 use Rattle.json.specs.Token as tokens
 use Rattle.json.specs.Token.{Token}
@@ -13,8 +13,7 @@ use Rattle.yaml_writer.specs.NumberParts.{number_in}
 use Rattle.yaml_writer.specs.Writing.{WriterState}
 use Rattle.yaml_json.specs.Failing.{FailedAt, FailedInValue}
 use Rattle.yaml_json.specs.JsonEvents.{bool_content, null_content, number_content, text_content}
-use Rattle.yaml_json.specs.Refused.{IsNoValue}
-use Rattle.yaml_json.specs.Wrote.{WroteDocument, WroteEvent, WroteValue}
+use Rattle.yaml_json.specs.Wrote.{WroteEvent, WroteValue}
 use Rattle.yaml_json.proofs.Stopping.{failed_scalar}
 
 module _ (depth : ℕ) (before after : List Token) where
@@ -69,41 +68,3 @@ module _ (depth : ℕ) (before after : List Token) where
 
   pub no_token : before ≡ [] → value depth before ≡ None
   no_token is = ap (value depth) is ∙ value_is depth []
-
-  pub ends_object : before ≡ tokens.end_object ∷ after → value depth before ≡ None
-  ends_object is = ap (value depth) is ∙ value_is depth (tokens.end_object ∷ after)
-
-  pub ends_array : before ≡ tokens.end_array ∷ after → value depth before ≡ None
-  ends_array is = ap (value depth) is ∙ value_is depth (tokens.end_array ∷ after)
-
-  pub is_key : (text : List ℕ) → before ≡ tokens.key text ∷ after → value depth before ≡ None
-  is_key text is = ap (value depth) is ∙ value_is depth (tokens.key text ∷ after)
-
-  pub is_bad : before ≡ tokens.bad ∷ after → value depth before ≡ None
-  is_bad is = ap (value depth) is ∙ value_is depth (tokens.bad ∷ after)
-
--- Documents
-
--- nothing follows the value
-pub wrote_document : (depth : ℕ) (in_flow : Bool) (before after : List Token) (was now : WriterState) → WroteValue depth in_flow before was after now
-    → after ≡ [] → WroteDocument depth in_flow before was now
-wrote_document depth in_flow before after was now wrote none =
-    record { json = wrote.json; read = wrote.read ∙ ap (λ (rest : List Token). Some (wrote.json, rest)) none; wrote = wrote.wrote }
-
-pub refused_value : (depth : ℕ) (before : List Token) → value depth before ≡ None → IsNoValue depth before
-refused_value depth before none = λ found read. apart found (sym none ∙ read)
-  where
-    apart : (other : json.Json) → ◌≡◌ {A = Option (json.Json × List Token)} None (Some (other, [])) → ⊥
-    apart other e = cc
-
--- a token follows it
-abbrev after_value : Option (json.Json × List Token) → List Token
-after_value None = []
-after_value (Some pair) = pair.1
-
-pub more_follows : (depth : ℕ) (before after : List Token) (found : json.Json) (token : Token) (rest : List Token) → value depth before ≡ Some (found, after)
-    → after ≡ token ∷ rest → IsNoValue depth before
-more_follows depth before after found token rest read more = λ other whole. apart (sym more ∙ sym (ap after_value read) ∙ ap after_value whole)
-  where
-    apart : token ∷ rest ≡ [] → ⊥
-    apart e = cc

@@ -256,10 +256,7 @@ impl<G: Given> Serializer for ValueSerializer<G> {
     }
 
     fn custom(&self, message: &str) -> Error {
-        match String::from_str(self.alloc, message) {
-            Ok(message) => Error::Custom(message),
-            Err(_) => Error::Memory,
-        }
+        String::from_str(self.alloc, message).map_or(Error::Memory, Error::Custom)
     }
 
     fn collect_str<T: Display>(&mut self, value: &T) -> Result<(), Error> {

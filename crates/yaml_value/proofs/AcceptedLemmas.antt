@@ -1,63 +1,40 @@
 -- The events of a value that isn't nested too deep are an accepted list.
-use Rattle.std.proofs.Common.{◌≡◌, refl, sym, ap, ap₂, ◌∙◌, arith, subst, append_assoc}
+use Rattle.std.proofs.Common.{◌≡◌, refl, sym, ap, ◌∙◌, arith, subst, append_assoc}
 use Rattle.std.proofs.Math.Nat.{le-max_left, le-max_right}
-use Rattle.std.proofs.lemmas.List.Folds.{list_all-append}
-use Rattle.std.proofs.lemmas.List.Sums.{sum_by-append}
-use Rattle.std.specs.Prelude.{ℕ, zero, suc, ◌+◌, ◌-◌, ◌≤◌, Bool, true, false, cond, ◌&&◌, max, List, [], ◌∷◌, ◌++◌, count_by}
-use Rattle.std.specs.List.{list_all}
+use Rattle.std.specs.Prelude.{ℕ, suc, ◌+◌, ◌≤◌, true, max, List, [], ◌∷◌, ◌++◌}
 use Rattle.yaml_base.specs.Event.{Event, stream_end, document_end, sequence_end, mapping_end}
 use Rattle.yaml_base.specs.Grammar.{node_events, nodes_events, pairs_events}
-use Rattle.yaml_base.specs.Refusal.{is_sound, IsAccepted, begins_collection, ends_collection, open_count, most_open}
+use Rattle.yaml_base.specs.Refusal.{IsAccepted, open_count, most_open}
 use Rattle.yaml_base.specs.TypedValues.{TypedValue, null_value, bool_value, int_value, text_value, list_value, map_value, TypedValues, no_values, values_and, TypedPairs, no_value_pairs, value_pairs_and, nesting, values_nesting, value_pairs_nesting, most_nested, value_node, value_nodes, value_pairs, value_stream, value_events}
+use Rattle.yaml_emitter.proofs.AcceptedLists.{sound, both_sound, Stays, few_open}
 
 -- ---- each event is in order
 
-abbrev sound : List Event → Bool
-sound events = list_all (is_sound true) events
-
-joined : (a b : List Event) → sound a ≡ true → sound b ≡ true → sound (a ++ b) ≡ true
-joined a b first second = list_all-append (is_sound true) a b ∙ ap₂ (λ x y. x && y) first second
-
 mutual
-  node_sound : (value : TypedValue) → sound (node_events (value_node value)) ≡ true
+  node_sound : (value : TypedValue) → sound true (node_events (value_node value)) ≡ true
   node_sound null_value = refl
   node_sound (bool_value b) = refl
   node_sound (int_value n) = refl
   node_sound (text_value text) = refl
-  node_sound (list_value items) = joined (nodes_events (value_nodes items)) (sequence_end ∷ []) (nodes_sound items) refl
-  node_sound (map_value pairs) = joined (pairs_events (value_pairs pairs)) (mapping_end ∷ []) (pairs_sound pairs) refl
+  node_sound (list_value items) = both_sound true (nodes_events (value_nodes items)) (sequence_end ∷ []) (nodes_sound items) refl
+  node_sound (map_value pairs) = both_sound true (pairs_events (value_pairs pairs)) (mapping_end ∷ []) (pairs_sound pairs) refl
 
-  nodes_sound : (items : TypedValues) → sound (nodes_events (value_nodes items)) ≡ true
+  nodes_sound : (items : TypedValues) → sound true (nodes_events (value_nodes items)) ≡ true
   nodes_sound no_values = refl
-  nodes_sound (values_and items item) = joined (nodes_events (value_nodes items)) (node_events (value_node item)) (nodes_sound items) (node_sound item)
+  nodes_sound (values_and items item) = both_sound true (nodes_events (value_nodes items)) (node_events (value_node item)) (nodes_sound items) (node_sound item)
 
-  pairs_sound : (pairs : TypedPairs) → sound (pairs_events (value_pairs pairs)) ≡ true
+  pairs_sound : (pairs : TypedPairs) → sound true (pairs_events (value_pairs pairs)) ≡ true
   pairs_sound no_value_pairs = refl
   pairs_sound (value_pairs_and pairs key value) =
-      joined (pairs_events (value_pairs pairs)) (node_events (value_node key) ++ node_events (value_node value)) (pairs_sound pairs)
-      (joined (node_events (value_node key)) (node_events (value_node value)) (node_sound key) (node_sound value))
+      both_sound true (pairs_events (value_pairs pairs)) (node_events (value_node key) ++ node_events (value_node value)) (pairs_sound pairs)
+      (both_sound true (node_events (value_node key)) (node_events (value_node value)) (node_sound key) (node_sound value))
 
-events_sound : (value : TypedValue) → sound (value_events value) ≡ true
+events_sound : (value : TypedValue) → sound true (value_events value) ≡ true
 events_sound value =
-    joined (node_events (value_node value) ++ document_end true ∷ []) (stream_end ∷ [])
-    (joined (node_events (value_node value)) (document_end true ∷ []) (node_sound value) refl) refl
+    both_sound true (node_events (value_node value) ++ document_end true ∷ []) (stream_end ∷ [])
+    (both_sound true (node_events (value_node value)) (document_end true ∷ []) (node_sound value) refl) refl
 
 -- ---- how many collections are open
-
--- after an event that begins a collection or doesn't, and ends one or doesn't
-abbrev after_signs : (begins ends : Bool) → ℕ → ℕ
-after_signs true ends now = suc now
-after_signs false true zero = zero
-after_signs false true (suc now) = now
-after_signs false false now = now
-
-abbrev after_event : Event → ℕ → ℕ
-after_event event now = after_signs (begins_collection event) (ends_collection event) now
-
--- with so many open before some events, no more than the most are open before and after each of them
-abbrev Stays : (most now : ℕ) → List Event → Type 0
-Stays most now [] = now ≤ most
-Stays most now (event ∷ events) = (now ≤ most) × Stays most (after_event event now) events
 
 mutual
   node_stays : (value : TypedValue) (most now : ℕ) (rest : List Event) → now + nesting value ≤ most → Stays most now rest
@@ -109,30 +86,6 @@ mutual
       (node_stays key most now (node_events (value_node value) ++ rest) (omega (arith, fits, right, of_key))
       (node_stays value most now rest (omega (arith, fits, right, of_value)) later)))
 
-stays_now : (most now : ℕ) (events : List Event) → Stays most now events → now ≤ most
-stays_now most now [] h = h
-stays_now most now (event ∷ events) h = h.0
-
-one_more : (begins ends : Bool) (now others_begin others_end most : ℕ) → (after_signs begins ends now + others_begin) - others_end ≤ most
-    → (now + (cond begins 1 0 + others_begin)) - (cond ends 1 0 + others_end) ≤ most
-one_more true true now b e most h = omega (arith, h)
-one_more true false now b e most h = omega (arith, h)
-one_more false true zero b e most h = omega (arith, h)
-one_more false true (suc now) b e most h = omega (arith, h)
-one_more false false now b e most h = omega (arith, h)
-
-front_stays : (most now : ℕ) (front rest : List Event) → Stays most now (front ++ rest)
-    → (now + count_by begins_collection front) - count_by ends_collection front ≤ most
-front_stays most now [] rest h = let few = stays_now most now rest h in omega (arith, few)
-front_stays most now (event ∷ front) rest h =
-    let begun : count_by begins_collection (event ∷ front) ≡ (0 + cond (begins_collection event) 1 0) + count_by begins_collection front =
-    sum_by-append (λ x. cond (begins_collection x) 1 0) (event ∷ []) front in
-    let ended : count_by ends_collection (event ∷ front) ≡ (0 + cond (ends_collection event) 1 0) + count_by ends_collection front =
-    sum_by-append (λ x. cond (ends_collection x) 1 0) (event ∷ []) front in
-    let more = one_more (begins_collection event) (ends_collection event) now (count_by begins_collection front) (count_by ends_collection front) most
-    (front_stays most (after_event event now) front rest h.1) in
-    omega (arith, begun, ended, more)
-
 events_stay : (value : TypedValue) → nesting value ≤ most_nested → Stays most_nested 0 (value_events value)
 events_stay value fits =
     let few : 0 ≤ most_nested = omega arith in
@@ -147,8 +100,7 @@ events_stay value fits =
 
 shallow : (value : TypedValue) → nesting value ≤ most_nested → (front rest : List Event) → front ++ rest ≡ value_events value → open_count front ≤ most_open
 shallow value fits front rest is =
-    let stays = front_stays most_nested 0 front rest (subst (Stays most_nested 0) (sym is) (events_stay value fits)) in
-    omega (arith, stays)
+    let few = few_open most_nested (value_events value) front rest (events_stay value fits) is in omega (arith, few)
 
 pub value_accepted : (value : TypedValue) → nesting value ≤ most_nested → IsAccepted true (value_events value)
 value_accepted value fits =

@@ -1,12 +1,8 @@
 -- Events of scalars, and events after others.
-use Rattle.std.proofs.Common.{◌≡◌, sym, ap, ap₂, ◌∙◌, arith, subst, append_assoc, w64, FitsSigned}
+use Rattle.std.proofs.Common.{◌≡◌, sym, ap, ap₂, ◌∙◌, subst, append_assoc}
 use Rattle.std.proofs.lemmas.List.{map-append}
-use Rattle.std.proofs.lemmas.Fmt.{IsAscii-signed}
-use Rattle.std.proofs.lemmas.Str.{chars-IsAscii}
-use Rattle.std.specs.Prelude.{ℕ, ℤ, pos, negsuc, ◌+◌, ◌^◌, ◌<◌, List, [], ◌∷◌, ◌++◌, length, take, get_or, Result, OnOk}
+use Rattle.std.specs.Prelude.{ℕ, ◌+◌, ◌<◌, List, [], ◌∷◌, ◌++◌, length, take, get_or, Result, OnOk}
 use Rattle.std.proofs.lemmas.Result.{on_ok_weaker}
-use Rattle.std.specs.Fmt.{signed_decimal}
-use Rattle.std.specs.Int.Signed.{mag}
 use Rattle.std.specs.Str.{chars}
 use Rattle.yaml_base.specs.Characters.{Text}
 use Rattle.yaml_base.specs.Event.{Event}
@@ -17,15 +13,6 @@ use Rattle.yaml_base.specs.declared.events.yaml_event_t.{yaml_event_t}
 use Rattle.yaml_value.specs.SeenValues.{seen_value, seen_values, seen_pairs}
 use Rattle.yaml_value.specs.declared.value.Value.{Value}
 use Rattle.yaml_value.proofs.SeenLemmas.{seen_values-more, seen_pairs-more}
-
--- an integer of 64 bits
-pub mag_fits : (n : ℤ) → FitsSigned w64 n → mag n < 2 ^ 63
-mag_fits (pos n) fits = omega (arith, fits)
-mag_fits (negsuc n) fits = omega (arith, fits)
-
--- the characters of an integer's digits
-pub chars-digits : (n : ℤ) (printed : Text) → mag n < 2 ^ 63 → printed ≡ signed_decimal n → chars printed ≡ signed_decimal n
-chars-digits n printed fits is = ap chars is ∙ chars-IsAscii (signed_decimal n) (IsAscii-signed n fits)
 
 -- a scalar by the characters of its tag and text
 pub scalar_pushed : {T E : Type 0} (answer : Result T E) (before after : List Event) (tag_bytes text_bytes tag text : Text) → chars tag_bytes ≡ tag

@@ -12,6 +12,7 @@ use Rattle.yaml_pen.specs.Page.{output_left}
 use Rattle.yaml_emitter.specs.State.{State}
 use Rattle.yaml_emitter.specs.StandsAfter.{StandsAfter}
 use Rattle.yaml_emitter.specs.Promises.{Promised, RefusedAt, HasRoom, IsRefusal, ends_stream}
+use Rattle.yaml_emitter.proofs.EndedStreams.{ends_last}
 use Rattle.yaml_writer.specs.Unfinished.{IsUnfinished, RefusesOne}
 use Rattle.yaml_writer.specs.Writing.{IsStream, StandsTaken, WriterState, awaits_node, closing, plain_start}
 use Rattle.yaml_writer.proofs.Overflow.{overflowed}
@@ -21,16 +22,10 @@ use Rattle.yaml_writer.proofs.Taken.{taken_and_left}
 pub nothing_awaited : (writer : WriterState) → writer.anchor ≡ None → writer.tag ≡ None → awaits_node writer ≡ false
 nothing_awaited writer anchor tag = ap₂ (λ (a t : Option Text). is_some a || is_some t) anchor tag
 
--- more events before the last are passed over
-ends_later : (event next : Event) (rest : List Event) → ends_stream (event ∷ next ∷ rest) ≡ ends_stream (next ∷ rest)
-ends_later stream_end next rest = refl
-ends_later event next rest = refl
-
 -- a list to which the closing is added ends the stream
-ends_last : (events : List Event) → ends_stream (events ++ closing) ≡ true
-ends_last [] = refl
-ends_last (event ∷ []) = ends_later event (document_end true) (stream_end ∷ [])
-ends_last (event ∷ next ∷ rest) = ends_later event next (rest ++ closing) ∙ ends_last (next ∷ rest)
+closing_ends : (events : List Event) → ends_stream (events ++ closing) ≡ true
+closing_ends events =
+    ap ends_stream (sym (append_assoc events (document_end true ∷ []) (stream_end ∷ []))) ∙ ends_last (events ++ document_end true ∷ [])
 
 -- both events were given, one after the other
 pub closed : (given : Settings) (all : List Event) (state : State) → Promised given ((all ++ document_end true ∷ []) ++ stream_end ∷ []) state
@@ -47,14 +42,14 @@ stream_finished : (given : Settings) (all : List Event) (state : State) → Prom
     → IsStream given (all ++ closing) state.page.output
 stream_finished given all state promised none held =
     let room : HasRoom state.error = subst HasRoom (sym none) tt in
-    let accepted = (promised.ends (ends_last all) room).1 (none, held) in
+    let accepted = (promised.ends (closing_ends all) room).1 (none, held) in
     record { accepted = accepted; state = state; written = promised.whole none accepted; output = refl }
 
 -- where an event was refused, the events are no stream
 refused_unaccepted : (given : Settings) (all : List Event) (error : yaml_error_t) (state : State) → Promised given (all ++ closing) state
     → state.error ≡ Some error → IsRefusal error → IsAccepted given.canonical (all ++ closing) → ⊥
 refused_unaccepted given all error state promised some refusal accepted =
-    apart (sym ((promised.ends (ends_last all) (subst HasRoom (sym some) refusal)).0 accepted).0 ∙ some)
+    apart (sym ((promised.ends (closing_ends all) (subst HasRoom (sym some) refusal)).0 accepted).0 ∙ some)
   where
     apart : None ≡ Some error → ⊥
     apart is = cc
@@ -63,7 +58,7 @@ refused_unaccepted given all error state promised some refusal accepted =
 waiting_unaccepted : (given : Settings) (all : List Event) (state : State) → Promised given (all ++ closing) state → state.error ≡ None
     → (state.held ≡ [] → ⊥) → IsAccepted given.canonical (all ++ closing) → ⊥
 waiting_unaccepted given all state promised none some accepted =
-    some ((promised.ends (ends_last all) (subst HasRoom (sym none) tt)).0 accepted).1
+    some ((promised.ends (closing_ends all) (subst HasRoom (sym none) tt)).0 accepted).1
 
 -- the event that was refused
 refuses_one : (given : Settings) (all : List Event) (error : yaml_error_t) (state : State) → RefusedAt given all error state

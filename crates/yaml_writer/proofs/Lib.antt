@@ -6,6 +6,5 @@ pub mod UnchangedSpellings
 pub mod Overflow
 pub mod Taken
 pub mod Finishing
-pub mod Digits
 pub mod PlainLemmas
 pub mod PlainNumbers

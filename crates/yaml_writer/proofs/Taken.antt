@@ -12,7 +12,7 @@ use Rattle.yaml_pen.specs.Wrote.{Grows}
 use Rattle.yaml_emitter.proofs.standing.StandingMore.{some_from_told}
 use Rattle.yaml_emitter.specs.State.{KeepsSet, State, with_all_taken}
 use Rattle.yaml_emitter.specs.StandsAfter.{StandsAfter}
-use Rattle.yaml_writer.specs.Writing.{Adds, AddsAll, Gave, Passed, StandsTaken, WriterState}
+use Rattle.yaml_writer.specs.Writing.{Adds, AddsAll, Failed, Gave, Passed, StandsTaken, WriterState}
 
 -- a call of the emitter keeps what was taken
 pub still_taken : (given : Settings) (all more : List Event) (sent : List ℕ) (before after : State) → StandsTaken given all sent before
@@ -84,8 +84,15 @@ module _ (inside before : WriterState) (emitter : State) (anchor tag : Option Te
   by_failed (Ok done) so = tt
   by_failed (Err error) so = gave (Some error) (some_from_told emitter.error error so)
 
-  pub gave_ok : OnOk answer (Gave before event None after)
-  gave_ok = by_ok answer answered
+  -- where it was given, and where it failed
+  pub gave_either : OnOk answer (Gave before event None after) × IfErr answer (λ error. Gave before event (Some error) after)
+  gave_either = (by_ok answer answered, by_failed answer answered)
 
-  pub gave_failed : IfErr answer (λ error. Gave before event (Some error) after)
-  gave_failed = by_failed answer answered
+-- a call that gives the same event
+pub given_as : {given event : Event} (before after : WriterState) (answer : Result (Unit {0}) yaml_error_t) → given ≡ event
+    → OnOk answer (Gave before given None after) → IfErr answer (λ error. Failed before given error after)
+    → OnOk answer (Gave before event None after) × IfErr answer (λ error. Failed before event error after)
+given_as before after answer is given failed = (
+  subst (λ (e : Event). OnOk answer (Gave before e None after)) is given,
+  subst (λ (e : Event). IfErr answer (λ error. Failed before e error after)) is failed,
+)

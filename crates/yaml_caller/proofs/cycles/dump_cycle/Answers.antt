@@ -1,4 +1,4 @@
-use Rattle.std.proofs.Common.{◌∷◌, [], refl}
+use Rattle.std.proofs.Common.{◌∷◌, [], refl, rules}
 use Rattle.yaml_base.specs.Documents.{graph_of}
 use Rattle.yaml_caller.specs.Letter.{letter_settings}
 use Rattle.yaml_caller.specs.Cycle.{cycle_bytes, cycle_graph}
@@ -8,38 +8,27 @@ use Rattle.yaml_caller.proofs.CycleFits.{cycle_fits, dump_memory}
 use Rattle.yaml_caller.proofs.Dumped.{dumped_cycle, cycle_events, none_waits, cycle_row, all_portable, one_dumped, after_dump, still_open, then_ok}
 use Rattle.yaml_caller.proofs.cycles.dump_cycle.Goals as goal
 
-pub returns-clause-bytes : goal.returns-clause-bytes
-returns-clause-bytes g c =
+pub returns : goal.returns
+returns g c =
     let old = c.args.emitter.now in
     let after = c.yaml_emitter_dump.new.emitter in
     let graph = graph_of c.args.document in
     let unclosed = still_open graph old.closed after.closed c.requires.graph c.requires.unclosed c.in_ok-yaml_emitter_dump.ensures.closed in
     let stands = after_dump graph old after _ c.requires.unopened c.requires.graph c.requires.stands
     (c.in_ok-yaml_emitter_dump.ensures.dumps c.requires.no_error) in
-    stream_bytes cycle_events cycle_bytes c.yaml_emitter_close.result c.yaml_emitter_close.new.emitter refl none_waits cycle_row
-    (c.yaml_emitter_close.ensures.promised unclosed letter_settings dumped_cycle stands) (c.yaml_emitter_close.ensures.answered unclosed)
-
-pub returns-clause-graph : goal.returns-clause-graph
-returns-clause-graph g c =
-    let old = c.args.emitter.now in
-    let after = c.yaml_emitter_dump.new.emitter in
-    let graph = graph_of c.args.document in
-    let unclosed = still_open graph old.closed after.closed c.requires.graph c.requires.unclosed c.in_ok-yaml_emitter_dump.ensures.closed in
-    let stands = after_dump graph old after _ c.requires.unopened c.requires.graph c.requires.stands
-    (c.in_ok-yaml_emitter_dump.ensures.dumps c.requires.no_error) in
-    then_ok c.yaml_emitter_close.result (c.yaml_emitter_close.ensures.graphs unclosed)
-    (λ reads. reads letter_settings dumped_cycle (cycle_graph ∷ []) stands refl one_dumped)
-
-pub returns-clause-trees : goal.returns-clause-trees
-returns-clause-trees g c =
-    let old = c.args.emitter.now in
-    let after = c.yaml_emitter_dump.new.emitter in
-    let graph = graph_of c.args.document in
-    let unclosed = still_open graph old.closed after.closed c.requires.graph c.requires.unclosed c.in_ok-yaml_emitter_dump.ensures.closed in
-    let stands = after_dump graph old after _ c.requires.unopened c.requires.graph c.requires.stands
-    (c.in_ok-yaml_emitter_dump.ensures.dumps c.requires.no_error) in
-    then_ok c.yaml_emitter_close.result (c.yaml_emitter_close.ensures.trees unclosed)
-    (λ reads. reads letter_settings dumped_cycle stands (cycle_graph ∷ []) all_portable one_dumped)
+    let promised = c.yaml_emitter_close.ensures.promised unclosed letter_settings dumped_cycle stands in
+    let answered = c.yaml_emitter_close.ensures.answered unclosed in
+    record {
+      bytes = stream_bytes cycle_events cycle_bytes c.yaml_emitter_close.result c.yaml_emitter_close.new.emitter refl none_waits cycle_row promised answered;
+      taken = search rules;
+      graph =
+          then_ok c.yaml_emitter_close.result (c.yaml_emitter_close.ensures.graphs unclosed)
+          (λ reads. reads letter_settings dumped_cycle (cycle_graph ∷ []) stands refl one_dumped);
+      trees =
+          then_ok c.yaml_emitter_close.result (c.yaml_emitter_close.ensures.trees unclosed)
+          (λ reads. reads letter_settings dumped_cycle stands (cycle_graph ∷ []) all_portable one_dumped);
+      memory = front_memory cycle_events cycle_events [] c.yaml_emitter_close.new.emitter c.yaml_emitter_close.result cycle_fits refl promised answered;
+    }
 
 pub returns-in_err-yaml_emitter_dump-clause-memory : goal.returns-in_err-yaml_emitter_dump-clause-memory
 returns-in_err-yaml_emitter_dump-clause-memory g c =
@@ -49,15 +38,3 @@ returns-in_err-yaml_emitter_dump-clause-memory g c =
     c.requires.unopened c.requires.graph c.requires.stands
     (c.in_err-yaml_emitter_dump.ensures.dumps c.requires.no_error))
     c.from_residual.ensures
-
-pub returns-clause-memory : goal.returns-clause-memory
-returns-clause-memory g c =
-    let old = c.args.emitter.now in
-    let after = c.yaml_emitter_dump.new.emitter in
-    let graph = graph_of c.args.document in
-    let unclosed = still_open graph old.closed after.closed c.requires.graph c.requires.unclosed c.in_ok-yaml_emitter_dump.ensures.closed in
-    let stands =
-    after_dump graph old after _ c.requires.unopened c.requires.graph c.requires.stands (c.in_ok-yaml_emitter_dump.ensures.dumps c.requires.no_error)
-    in
-    front_memory cycle_events cycle_events [] c.yaml_emitter_close.new.emitter c.yaml_emitter_close.result cycle_fits refl
-    (c.yaml_emitter_close.ensures.promised unclosed letter_settings dumped_cycle stands) (c.yaml_emitter_close.ensures.answered unclosed)

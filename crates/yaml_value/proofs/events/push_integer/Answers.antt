@@ -4,14 +4,15 @@ use Rattle.std.specs.Fmt.{signed_decimal}
 use Rattle.yaml_base.specs.Seen.{seen_events}
 use Rattle.yaml_base.specs.TypedValues.{int_tag}
 use Rattle.yaml_base.proofs.Literals.{chars-literal}
-use Rattle.yaml_value.proofs.EventLemmas.{scalar_pushed, chars-digits, mag_fits}
+use Rattle.yaml_emitter.proofs.Digits.{digits_seen, mag_fits}
+use Rattle.yaml_value.proofs.EventLemmas.{scalar_pushed}
 use Rattle.yaml_value.proofs.events.push_integer.Goals as goal
 
 pub returns-clause-pushed : goal.returns-clause-pushed
 returns-clause-pushed g c =
     scalar_pushed c.push_scalar.result (seen_events c.args.events.now.items) (seen_events c.push_scalar.new.events.items) int_tag c.as_str.result.now int_tag
     (signed_decimal c.args.value)
-    (chars-literal int_tag refl) (chars-digits c.args.value c.as_str.result.now (mag_fits c.args.value c.ranges.value)
+    (chars-literal int_tag refl) (digits_seen c.args.value c.as_str.result.now c.ranges.value
     (c.as_str.ensures.value ∙ c.in_ok-digits.ensures.ok ∙ ap signed_decimal (to_z-of_z w64 c.args.value c.ranges.value))) c.push_scalar.ensures
 
 pub returns-clause-bits : goal.returns-clause-bits

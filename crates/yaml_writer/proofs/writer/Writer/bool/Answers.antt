@@ -1,16 +1,13 @@
-use Rattle.std.proofs.Common.{OnOk, IfErr, None, refl, ap₂, subst}
+use Rattle.std.proofs.Common.{refl, ap₂}
 use Rattle.yaml_base.proofs.Literals.{chars-literal}
-use Rattle.yaml_base.specs.Event.{Event}
 use Rattle.yaml_base.specs.TypedValues.{bool_tag}
-use Rattle.yaml_writer.specs.Writing.{Failed, Gave, word_event}
+use Rattle.yaml_writer.specs.Writing.{word_event}
+use Rattle.yaml_writer.proofs.Taken.{given_as}
 use Rattle.yaml_writer.proofs.writer.Writer.bool.Goals as goal
 
-pub returns-clause-given : goal.returns-clause-given
-returns-clause-given g c =
-    subst (λ (event : Event). OnOk c.word.result (Gave c.args.self.now event None c.word.new.self))
-    (ap₂ (word_event c.args.self.now) (chars-literal bool_tag refl) c.word_of.ensures) c.word.ensures.given
-
-pub returns-clause-failed : goal.returns-clause-failed
-returns-clause-failed g c =
-    subst (λ (event : Event). IfErr c.word.result (λ error. Failed c.args.self.now event error c.word.new.self))
-    (ap₂ (word_event c.args.self.now) (chars-literal bool_tag refl) c.word_of.ensures) c.word.ensures.failed
+pub returns : goal.returns
+returns g c =
+    let both =
+    given_as c.args.self.now c.word.new.self c.word.result
+    (ap₂ (word_event c.args.self.now) (chars-literal bool_tag refl) c.word_of.ensures) c.word.ensures.given c.word.ensures.failed in
+    record { given = both.0; failed = both.1 }

@@ -3,11 +3,11 @@ use Rattle.yaml_base.specs.Event.{Event, sequence_start}
 use Rattle.yaml_base.specs.Seen.{seen_sequence_style, seen_text}
 use Rattle.yaml_writer.specs.Inside.{state_of}
 use Rattle.yaml_writer.specs.Writing.{sequence_event}
-use Rattle.yaml_writer.proofs.Taken.{gave_failed, gave_ok}
+use Rattle.yaml_writer.proofs.Taken.{gave_either}
 use Rattle.yaml_writer.proofs.writer.Writer.sequence.Goals as goal
 
-pub returns-clause-given : goal.returns-clause-given
-returns-clause-given g c =
+pub returns : goal.returns
+returns g c =
     let given : Event =
     sequence_start
     (record {
@@ -18,22 +18,8 @@ returns-clause-given g c =
     }) in
     let event = sequence_event c.args.self.now (seen_sequence_style c.args.style) in
     let same : given ≡ event = search rules in
-    gave_ok (state_of c.self.inside) c.args.self.now c.give_sequence.new.emitter (option_map seen_text c.take-anchor.new.self)
+    let both =
+    gave_either (state_of c.self.inside) c.args.self.now c.give_sequence.new.emitter (option_map seen_text c.take-anchor.new.self)
     (option_map seen_text c.take-tag.new.self) given event c.give_sequence.result c.self.view_is same c.give_sequence.ensures.adds c.give_sequence.ensures.answered
-    (ap (option_map seen_text) c.take-anchor.ensures.after) (ap (option_map seen_text) c.take-tag.ensures.after)
-
-pub returns-clause-failed : goal.returns-clause-failed
-returns-clause-failed g c =
-    let given : Event =
-    sequence_start
-    (record {
-      anchor = option_map seen_text c.take-anchor.result;
-      tag = option_map seen_text c.take-tag.result;
-      implicit = is_none c.take-tag.result;
-      style = seen_sequence_style c.args.style;
-    }) in
-    let event = sequence_event c.args.self.now (seen_sequence_style c.args.style) in
-    let same : given ≡ event = search rules in
-    gave_failed (state_of c.self.inside) c.args.self.now c.give_sequence.new.emitter (option_map seen_text c.take-anchor.new.self)
-    (option_map seen_text c.take-tag.new.self) given event c.give_sequence.result c.self.view_is same c.give_sequence.ensures.adds c.give_sequence.ensures.answered
-    (ap (option_map seen_text) c.take-anchor.ensures.after) (ap (option_map seen_text) c.take-tag.ensures.after)
+    (ap (option_map seen_text) c.take-anchor.ensures.after) (ap (option_map seen_text) c.take-tag.ensures.after) in
+    record { given = both.0; failed = both.1 }

@@ -9,7 +9,7 @@ use Rattle.std.specs.Str.{chars}
 use Rattle.yaml_base.specs.Characters.{Text}
 
 -- an integer of 64 bits
-mag_fits : (n : ℤ) → FitsSigned w64 n → mag n < 2 ^ 63
+pub mag_fits : (n : ℤ) → FitsSigned w64 n → mag n < 2 ^ 63
 mag_fits (pos n) fits = omega (arith, fits)
 mag_fits (negsuc n) fits = omega (arith, fits)
 
