@@ -6,6 +6,7 @@ pub mod EventLemmas
 pub mod CutLemmas
 pub mod LineLemmas
 pub mod ScriptLemmas
+pub mod PartLemmas
 pub mod SearchLemmas
 pub mod CharacterLemmas
 pub mod RunLemmas

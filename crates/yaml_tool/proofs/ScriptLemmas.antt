@@ -1,10 +1,12 @@
 -- A script is understood line by line.
-use Rattle.std.proofs.Common.{◌≡◌, ℕ, suc, ◌+◌, ◌<◌, add-one, Option, None, Some, List, [], ◌∷◌, length, length-append, refl, ap, sym, subst, ◌∙◌, arith}
+use Rattle.std.specs.Result.{IfErr, IsErr, IsErrAnd}
+use Rattle.std.proofs.Common.{◌≡◌, Result, Ok, Err, ℕ, suc, ◌+◌, ◌<◌, add-one, Option, None, Some, List, [], ◌∷◌, ◌++◌, length, length-append, append-nil, append_assoc, refl, ap, sym, subst, ◌∙◌, arith}
 use Rattle.std.specs.Borrow.{Bor}
 use Rattle.yaml_base.specs.Characters.{line_feed}
-use Rattle.yaml_base.specs.Script.{Script, Sofar, bad_line, script_from}
-use Rattle.yaml_tool.specs.Cuts.{cut_at}
-use Rattle.yaml_tool.specs.Scripts.{after_line, CutsLine}
+use Rattle.yaml_base.specs.Script.{Script, Sofar, bad_line, understood, unset, settings_of, script_from}
+use Rattle.yaml_tool.specs.declared.scripts.ScriptError.{ScriptError}
+use Rattle.yaml_tool.specs.Cuts.{IsFree, cut_at}
+use Rattle.yaml_tool.specs.Scripts.{after_line, script_behind, CutsLine, LeavesLine, IsFaultOf}
 use Rattle.yaml_tool.proofs.CutLemmas.{cut_free, cut_cut}
 
 -- what a script's line and those behind it come to
@@ -33,15 +35,6 @@ unfolding goes_on
 line_is_good number before after line rest good =
     one_line number rest (after_line number before line) ∙ ap (goes_on number rest) good ∙ ap (λ n. script_from n after rest) (sym (add-one number))
 
--- the lines behind the first
-abbrev pub lines_behind : Option (Bor (List ℕ)) → List (List ℕ)
-lines_behind None = []
-lines_behind (Some others) = cut_at line_feed others.now
-
-pub first_cut : (bytes line : List ℕ) (others : Option (Bor (List ℕ))) → CutsLine bytes line others → cut_at line_feed bytes ≡ line ∷ lines_behind others
-first_cut bytes line None cut = cut_free line_feed bytes cut.1 ∙ ap (λ (first : List ℕ). first ∷ []) (sym cut.0)
-first_cut bytes line (Some others) cut = cut_cut line_feed bytes line others.now cut
-
 -- what follows a line is shorter
 pub shorter : (bytes line : List ℕ) (behind : Option (Bor (List ℕ))) (others : Bor (List ℕ)) → CutsLine bytes line behind → behind ≡ Some others
     → length others.now < length bytes
@@ -50,16 +43,53 @@ shorter bytes line (Some behind) others cut is =
     let same : behind ≡ others = cc in
     subst (λ (o : Bor (List ℕ)). length o.now < length bytes) same (rw cut.0 (omega (arith, length-append line (line_feed ∷ behind.now))))
 
--- both, for a script that is still to be cut
-pub bad_first : (number : ℕ) (before : Sofar) (bytes line : List ℕ) (others : Option (Bor (List ℕ))) → CutsLine bytes line others
-    → after_line number before line ≡ None
-    → script_from number before (cut_at line_feed bytes) ≡ bad_line number
-bad_first number before bytes line others cut bad = ap (script_from number before) (first_cut bytes line others cut)
-    ∙ line_is_bad number before line (lines_behind others) bad
+-- the first line that ends is that of the bytes, whatever stands behind them
+first_more : (bytes line : List ℕ) (behind : Option (Bor (List ℕ))) (others : Bor (List ℕ)) (more : List ℕ) → CutsLine bytes line behind → behind ≡ Some others
+    → cut_at line_feed (bytes ++ more) ≡ line ∷ cut_at line_feed (others.now ++ more)
+first_more bytes line None others more cut is = cc
+first_more bytes line (Some behind) others more cut is =
+    let same : behind ≡ others = cc in
+    subst (λ (o : Bor (List ℕ)). cut_at line_feed (bytes ++ more) ≡ line ∷ cut_at line_feed (o.now ++ more)) same
+    (cut_cut line_feed (bytes ++ more) line (behind.now ++ more)
+    (ap (λ (b : List ℕ). b ++ more) cut.0 ∙ append_assoc line (line_feed ∷ behind.now) more, cut.1))
 
-pub good_first : (number : ℕ) (before after : Sofar) (bytes line : List ℕ) (others behind : Option (Bor (List ℕ))) → CutsLine bytes line others
-    → others ≡ behind → after_line number before line ≡ Some after
-    → script_from number before (cut_at line_feed bytes) ≡ script_from (number + 1) after (lines_behind behind)
-good_first number before after bytes line others behind cut is good =
-    ap (script_from number before) (first_cut bytes line others cut ∙ ap (λ (o : Option (Bor (List ℕ))). line ∷ lines_behind o) is)
-    ∙ line_is_good number before after line (lines_behind behind) good
+-- both, for a script that is still to be cut
+pub bad_first : (number : ℕ) (before : Sofar) (bytes line : List ℕ) (behind : Option (Bor (List ℕ))) (others : Bor (List ℕ)) (more : List ℕ)
+    → CutsLine bytes line behind → behind ≡ Some others → after_line number before line ≡ None → script_behind number before (bytes ++ more) ≡ bad_line number
+bad_first number before bytes line behind others more cut is bad =
+    ap (script_from number before) (first_more bytes line behind others more cut is)
+    ∙ line_is_bad number before line (cut_at line_feed (others.now ++ more)) bad
+
+pub good_first : (number : ℕ) (before after : Sofar) (bytes line : List ℕ) (behind : Option (Bor (List ℕ))) (others : Bor (List ℕ)) (more : List ℕ)
+    → CutsLine bytes line behind → behind ≡ Some others → after_line number before line ≡ Some after
+    → script_behind number before (bytes ++ more) ≡ script_behind (number + 1) after (others.now ++ more)
+good_first number before after bytes line behind others more cut is good =
+    ap (script_from number before) (first_more bytes line behind others more cut is)
+    ∙ line_is_good number before after line (cut_at line_feed (others.now ++ more)) good
+
+-- the last line, behind which nothing stands
+pub bad_last : (number : ℕ) (before : Sofar) (line : List ℕ) → IsFree line_feed line → after_line number before line ≡ None
+    → script_behind number before line ≡ bad_line number
+bad_last number before line free bad = ap (script_from number before) (cut_free line_feed line free) ∙ line_is_bad number before line [] bad
+
+pub good_last : (number : ℕ) (before after : Sofar) (line : List ℕ) → IsFree line_feed line → after_line number before line ≡ Some after
+    → script_behind number before line ≡ understood (settings_of unset after.settings) after.events
+good_last number before after line free good =
+    ap (script_from number before) (cut_free line_feed line free) ∙ line_is_good number before after line [] good
+
+-- where nothing follows, the last line is all that is left
+pub left_alone : (number : ℕ) (before : Sofar) (bytes : List ℕ) (next : ℕ) (after : Sofar) (last : List ℕ) → LeavesLine number before bytes next after last
+    → script_behind number before bytes ≡ script_behind next after last
+left_alone number before bytes next after last leaves =
+    ap (script_behind number before) (sym (append-nil bytes)) ∙ leaves.same [] ∙ ap (script_behind next after) (append-nil last)
+
+-- and so is a fault
+pub fault_alone : (error : ScriptError) (number : ℕ) (before : Sofar) (bytes : List ℕ) → IsFaultOf error (script_behind number before (bytes ++ []))
+    → IsFaultOf error (script_behind number before bytes)
+fault_alone error number before bytes fault = subst (λ all. IsFaultOf error (script_behind number before all)) (append-nil bytes) fault
+
+-- what is so of an error is so of the answer by which `?` returns it
+pub exit_with : {T E : Type 0} (P : E → Type 0) (error : E) (answer : Result T E) → IsErr answer × IsErrAnd answer (λ given. given ≡ error) → P error
+    → IfErr answer P
+exit_with P error (Ok value) is holds = tt
+exit_with P error (Err given) is holds = subst P (sym is.1) holds

@@ -1,14 +1,15 @@
 -- What contracts see of whole scripts.
-use Rattle.std.specs.Prelude.{◌≡◌, ℕ, Option, None, Some, option_and_then, List, map, ⊤}
+use Rattle.std.specs.Prelude.{◌≡◌, ◌≤◌, ◌+◌, ℕ, Option, None, Some, option_and_then, List, [], ◌++◌, length, map, ⊤}
 use Rattle.std.specs.Borrow.{Bor}
 use Rattle.yaml_base.specs.Characters.{line_feed}
 use Rattle.yaml_base.specs.Seen.{seen_event}
 use Rattle.yaml_base.specs.Script as notation
 use Rattle.yaml_tool.specs.declared.scripts.NumberedEvent.{NumberedEvent}
 use Rattle.yaml_tool.specs.declared.scripts.Progress.{Progress}
+use Rattle.yaml_tool.specs.declared.parts.Front.{Front}
 use Rattle.yaml_tool.specs.declared.scripts.ScriptError.{ScriptError}
 use Rattle.yaml_tool.specs.declared.scripts.ScriptError.TheVariants.{BadLine, OutOfMemory}
-use Rattle.yaml_tool.specs.Cuts.{IsFree, IsCut}
+use Rattle.yaml_tool.specs.Cuts.{IsFree, IsCut, cut_at}
 use Rattle.yaml_tool.specs.Settings.{seen_setting}
 
 -- an event and the number of its line
@@ -18,6 +19,10 @@ seen_numbered numbered = record { line = numbered.line; event = seen_event numbe
 -- the settings and events of the lines so far
 abbrev pub seen_progress : {A : Type 0} → Progress A → notation.Sofar
 seen_progress progress = record { settings = map seen_setting progress.settings.items; events = map seen_numbered progress.events.items }
+
+-- before the first line
+abbrev pub nothing_said : notation.Sofar
+nothing_said = record { settings = []; events = [] }
 
 -- what the lines so far and one more say, where that is good
 abbrev pub after_said : ℕ → notation.Sofar → Option notation.Line → Option notation.Sofar
@@ -36,3 +41,25 @@ CutsLine bytes line (Some others) = IsCut line_feed bytes line others.now
 abbrev pub IsFaultOf : ScriptError → notation.Script → Type 0
 IsFaultOf (BadLine number) script = script ≡ notation.bad_line number
 IsFaultOf OutOfMemory script = ⊤
+
+-- ---- scripts of which the lines so far were taken
+
+-- the script whose lines before this number say this, and whose other lines are these bytes
+abbrev pub script_behind : ℕ → notation.Sofar → List ℕ → notation.Script
+script_behind number before bytes = notation.script_from number before (cut_at line_feed bytes)
+
+-- of some bytes all lines were taken but the last, which may go on behind them
+pub record LeavesLine (number : ℕ) (before : notation.Sofar) (bytes : List ℕ) (next : ℕ) (after : notation.Sofar) (last : List ℕ) : Type 0 where
+  pub free : IsFree line_feed last
+  pub counted : next + length last ≤ number + length bytes
+  pub same : (more : List ℕ) → script_behind number before (bytes ++ more) ≡ script_behind next after (last ++ more)
+
+-- the script whose front was read, with these bytes behind it
+abbrev pub script_with : {A : Type 0} → Front A → List ℕ → notation.Script
+script_with front more = script_behind front.number (seen_progress front.progress) (front.line.items ++ more)
+
+-- what was left was the rest of the same script, where it is known
+abbrev pub GoesOn : {A : Type 0} → Front A → Option (List ℕ) → Front A → Option (List ℕ) → Type 0
+GoesOn old None new left = ⊤
+GoesOn old (Some before) new None = ⊥
+GoesOn old (Some before) new (Some after) = script_with old before ≡ script_with new after

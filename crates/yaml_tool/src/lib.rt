@@ -9,6 +9,7 @@ mod events;
 mod fields;
 mod lines;
 mod numbers;
+mod parts;
 mod program;
 mod runs;
 mod scripts;

@@ -11,7 +11,8 @@ ghost use Rattle.yaml_tool.specs.Scripts.{seen_numbered};
 ghost use Rattle.yaml_tool.specs.Settings.{seen_settings};
 
 use crate::answers::run_answer_t;
-use crate::scripts::{NumberedEvent, Script, ScriptError, read_script};
+use crate::parts::script_by_parts;
+use crate::scripts::{NumberedEvent, Script};
 use crate::settings::Settings;
 use crate::streams::{read_all, write_out};
 use std::alloc::Allocator;
@@ -41,7 +42,7 @@ pub fn run<A: Allocator + Copy, R: Read, W: Write>(
     }
 }
 
-/// What a script says; its bytes are dropped.
+/// What a script says. It is read part by part, and to its end also where a line is bad.
 pub fn script_in<A: Allocator + Copy, R: Read>(
     alloc: A,
     reader: &mut R,
@@ -53,11 +54,15 @@ pub fn script_in<A: Allocator + Copy, R: Read>(
     ensures end { OnOk result (IsAtEnd (R.remaining reader.new)) }
     ensures read { IfErr result (λ answer. ReadsAll answer (R.remaining reader.new)) }
 {
-    let bytes = read_all(alloc, reader)?;
-    match read_script(alloc, bytes.as_slice()) {
+    match script_by_parts(alloc, reader) {
         Ok(script) => Ok(script),
-        Err(ScriptError::BadLine(line)) => Err(run_answer_t::BadLine(line)),
-        Err(ScriptError::OutOfMemory) => Err(run_answer_t::NoMemory),
+        Err(run_answer_t::BadLine(line)) => match read_all(alloc, reader) {
+            Ok(_) => Err(run_answer_t::BadLine(line)),
+            Err(run_answer_t::NoMemory) => Err(run_answer_t::NoMemory),
+            Err(_) => Err(run_answer_t::ReadFailed),
+        },
+        Err(run_answer_t::NoMemory) => Err(run_answer_t::NoMemory),
+        Err(_) => Err(run_answer_t::ReadFailed),
     }
 }
 

@@ -1,10 +1,10 @@
 //! Whole scripts.
-ghost use Rattle.std.specs.Prelude.{◌≡◌, map, Some, None, IfOk, IfErr, if◌then◌else◌};
+ghost use Rattle.std.specs.Prelude.{◌≡◌, ◌≤◌, ◌+◌, ◌-◌, ◌^◌, ℕ, List, ◌++◌, length, map, Some, None, IfOk, IfErr, if◌then◌else◌};
 ghost use Rattle.std.specs.Str.{chars};
 ghost use Rattle.yaml_base.specs.Script as notation;
 ghost use Rattle.yaml_tool.specs.Settings.{seen_setting, seen_settings};
 ghost use Rattle.yaml_tool.specs.Lines.{seen_line, usual_line};
-ghost use Rattle.yaml_tool.specs.Scripts.{seen_progress, seen_numbered, after_line, after_said, CutsLine, IsFaultOf};
+ghost use Rattle.yaml_tool.specs.Scripts.{seen_progress, seen_numbered, nothing_said, after_line, after_said, script_behind, CutsLine, LeavesLine, IsFaultOf};
 
 use crate::events::usual_scalar;
 use crate::fields::whole_text;
@@ -46,9 +46,21 @@ pub enum ScriptError {
 
 /// What the lines so far said.
 #[derive(Drop)]
-struct Progress<A: Allocator> {
+pub(crate) struct Progress<A: Allocator> {
     settings: Vec<Setting, A>,
     events: Vec<NumberedEvent<A>, A>,
+}
+
+impl<A: Allocator + Copy> Progress<A> {
+    /// Before the first line.
+    pub(crate) fn new(alloc: A) -> Progress<A>
+        ensures { seen_progress result ≡ nothing_said }
+    {
+        Progress {
+            settings: Vec::new(alloc),
+            events: Vec::new(alloc),
+        }
+    }
 }
 
 impl<A: Allocator> Progress<A> {
@@ -113,32 +125,65 @@ pub fn read_script<A: Allocator + Copy>(alloc: A, bytes: &[u8]) -> Result<Script
         (λ script. notation.script_of bytes.now ≡ notation.understood (seen_settings script.settings) (map seen_numbered script.events.items)) }
     ensures fault { IfErr result (λ error. IsFaultOf error (notation.script_of bytes.now)) }
 {
-    let mut progress = Progress {
-        settings: Vec::new(alloc),
-        events: Vec::new(alloc),
-    };
-    let mut number = 1;
+    ending_taken(alloc, Progress::new(alloc), 1, bytes)
+}
+
+/// Takes the lines before the last of these. Returns the last one's number, and what there is of it.
+pub(crate) fn lines_taken<'a, A: Allocator + Copy>(
+    alloc: A,
+    progress: &mut Progress<A>,
+    number: u64,
+    bytes: &'a [u8],
+) -> Result<(u64, &'a [u8]), ScriptError>
+    requires { number + length bytes.now ≤ 2 ^ 64 - 1 }
+    ensures taken { IfOk result (λ last. LeavesLine number (seen_progress progress.old) bytes.now last.0 (seen_progress progress.new) last.1.now) }
+    ensures fault { IfErr result (λ error. (more : List ℕ) → IsFaultOf error (script_behind number (seen_progress progress.old) (bytes.now ++ more))) }
+{
+    let mut number = number;
     let mut rest = bytes;
     'lines: loop {
         let (line, others) = first_line(rest);
-        let Ok(is_good) = line_taken(alloc, &mut progress, number, line) else {
-            return Err(ScriptError::OutOfMemory);
-        };
-        if !is_good {
-            return Err(ScriptError::BadLine(number));
-        }
         match others {
+            None => return Ok((number, rest)),
             Some(others) => {
+                let Ok(is_good) = line_taken(alloc, progress, number, line) else {
+                    return Err(ScriptError::OutOfMemory);
+                };
+                if !is_good {
+                    return Err(ScriptError::BadLine(number));
+                }
                 rest = others;
                 number += 1;
             }
-            None => {
-                return Ok(Script {
-                    settings: settings_of(progress.settings.as_slice()),
-                    events: progress.events,
-                });
-            }
         }
+    }
+}
+
+/// Takes all lines of these, and tells what they say with those before them.
+pub(crate) fn ending_taken<A: Allocator + Copy>(
+    alloc: A,
+    progress: Progress<A>,
+    number: u64,
+    bytes: &[u8],
+) -> Result<Script<A>, ScriptError>
+    requires { number + length bytes.now ≤ 2 ^ 64 - 1 }
+    ensures understood { IfOk result
+        (λ script. script_behind number (seen_progress progress) bytes.now
+        ≡ notation.understood (seen_settings script.settings) (map seen_numbered script.events.items)) }
+    ensures fault { IfErr result (λ error. IsFaultOf error (script_behind number (seen_progress progress) bytes.now)) }
+{
+    let mut progress = progress;
+    let (number, last) = lines_taken(alloc, &mut progress, number, bytes)?;
+    let Ok(is_good) = line_taken(alloc, &mut progress, number, last) else {
+        return Err(ScriptError::OutOfMemory);
+    };
+    if is_good {
+        Ok(Script {
+            settings: settings_of(progress.settings.as_slice()),
+            events: progress.events,
+        })
+    } else {
+        Err(ScriptError::BadLine(number))
     }
 }
 
