@@ -55,13 +55,19 @@ fn dump_cycle<A: Allocator + Copy>(
     yaml_emitter_close(emitter)
 }
 
+/// The document's start isn't written.
+const START_IMPLICIT: bool = true;
+
+/// Nor is its end.
+const END_IMPLICIT: bool = true;
+
 /// The document: its mapping is node 1, and the key is node 2.
 fn cycle<A: Allocator + Copy>(alloc: A) -> Result<yaml_document_t<A>, yaml_error_t>
     ensures graph { IfOk result (λ document. graph_of document ≡ cycle_graph) }
     ensures memory { IfErr result (λ error. error ≡ yaml_error_t.Memory) }
 {
     let nodes = cycle_nodes(alloc).map_err(|_| yaml_error_t::Memory)?;
-    match yaml_document_t::from_nodes(None, Vec::new(alloc), nodes, true, true) {
+    match yaml_document_t::from_nodes(None, Vec::new(alloc), nodes, START_IMPLICIT, END_IMPLICIT) {
         Ok(document) => Ok(document),
         Err(_) => unreachable!(),
     }

@@ -55,6 +55,12 @@ fn sign_cut(text: &str) -> (Option<Sign>, &str)
     }
 }
 
+/// An exponent's letter is `e`.
+const SMALL_LETTER: bool = false;
+
+/// An exponent's letter is `E`.
+const CAPITAL_LETTER: bool = true;
+
 /// An exponent, by what follows its letter.
 fn exponent_in(capital: bool, text: &str) -> Exponent<'_>
     ensures { seen_exponent result ≡ parts.exponent_in capital text.now }
@@ -72,9 +78,9 @@ fn exponent_cut(text: &str) -> (&str, Option<Exponent<'_>>)
     ensures { (result.0.now, option_map seen_exponent result.1) ≡ parts.exponent_cut text.now }
 {
     match cut_at('e', text) {
-        Some((mantissa, exponent)) => (mantissa, Some(exponent_in(false, exponent))),
+        Some((mantissa, exponent)) => (mantissa, Some(exponent_in(SMALL_LETTER, exponent))),
         None => match cut_at('E', text) {
-            Some((mantissa, exponent)) => (mantissa, Some(exponent_in(true, exponent))),
+            Some((mantissa, exponent)) => (mantissa, Some(exponent_in(CAPITAL_LETTER, exponent))),
             None => (text, None),
         },
     }
