@@ -50,29 +50,30 @@ fn emitter_fault(error: yaml_error_t) -> Fault {
     fault_of(JsonError::Emitter(error))
 }
 
+/// What an error of a reader is for the program.
+fn read_fault(error: io::Error) -> Fault {
+    if error.kind() == ErrorKind::OutOfMemory {
+        Fault::NoMemory
+    } else {
+        Fault::ReadFailed
+    }
+}
+
 /// All that a reader has.
 fn bytes_of<R: Read>(alloc: Global, reader: &mut R) -> Result<Vec<u8>, Fault> {
     let mut bytes = Vec::new(alloc);
-    match reader.read_to_end(&mut bytes) {
-        Ok(_) => Ok(bytes),
-        Err(error) => {
-            if error.kind() == ErrorKind::OutOfMemory {
-                Err(Fault::NoMemory)
-            } else {
-                Err(Fault::ReadFailed)
-            }
-        }
-    }
+    reader.read_to_end(&mut bytes).map_err(read_fault)?;
+    Ok(bytes)
 }
 
 /// The bytes of a file, or of standard input.
 fn bytes_in<R: Runtime + AllocGlobal>(rt: &R, name: Option<&str>) -> Result<Vec<u8>, Fault> {
     match name {
         None => bytes_of(rt.alloc(), &mut rt.reader()),
-        Some(name) => match fs::open(rt, name) {
-            Ok(mut file) => bytes_of(rt.alloc(), &mut file),
-            Err(_) => Err(Fault::ReadFailed),
-        },
+        Some(name) => {
+            let mut file = fs::open(rt, name).map_err(|_| Fault::ReadFailed)?;
+            bytes_of(rt.alloc(), &mut file)
+        }
     }
 }
 
@@ -126,14 +127,10 @@ fn give_files<'a, R: Runtime + AllocGlobal>(
     let mut first = true;
     for name in names {
         if !first {
-            if let Err(fault) = begin_next(writer) {
-                return Err((Some(*name), fault));
-            }
+            begin_next(writer).map_err(|fault| (Some(*name), fault))?;
         }
         first = false;
-        if let Err(fault) = give_file(rt, writer, Some(*name), settings) {
-            return Err((Some(*name), fault));
-        }
+        give_file(rt, writer, Some(*name), settings).map_err(|fault| (Some(*name), fault))?;
     }
     Ok(())
 }
@@ -154,10 +151,7 @@ fn give_all<'a, R: Runtime + AllocGlobal>(
             &conversion.settings,
         );
     }
-    match give_file(rt, writer, None, &conversion.settings) {
-        Ok(()) => Ok(()),
-        Err(fault) => Err((None, fault)),
-    }
+    give_file(rt, writer, None, &conversion.settings).map_err(|fault| (None, fault))
 }
 
 /// The YAML of all that is to be converted.

@@ -14,10 +14,10 @@ fn first_end<A: Allocator>(scratch: &mut Scratch<A>, text: &str, depth: usize) -
     let Ok(mut reader) = Reader::new(text, scratch) else {
         return 0;
     };
-    match reader.skip_value(depth) {
-        Ok(()) => reader.offset(),
-        Err(_) => 0,
+    if reader.skip_value(depth).is_err() {
+        return 0;
     }
+    reader.offset()
 }
 
 /// The first JSON text of a text and what follows it; the whole text and nothing where it isn't found.
@@ -33,10 +33,7 @@ fn first_cut<'a, A: Allocator>(
     if end == 0 {
         return (text, "");
     }
-    match text.split_at_checked(end) {
-        Some(parts) => parts,
-        None => (text, ""),
-    }
+    text.split_at_checked(end).unwrap_or((text, ""))
 }
 
 /// Gives a writer the events of the JSON texts that follow one another in a text, as `write_json` gives those of one: a

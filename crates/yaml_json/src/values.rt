@@ -184,9 +184,7 @@ pub(crate) fn write_document<A: Allocator + Copy>(
     ensures refused { RefusesText result → IsNoValue depth reader.old }
     ensures stopped { IfSome (failure result) (λ error. FailedInValue depth in_flow reader.old writer.old error writer.new) }
 {
-    if let Err(stop) = write_value(writer, reader, in_flow, depth) {
-        return Err(stop);
-    }
+    write_value(writer, reader, in_flow, depth)?;
     let offset = reader.offset();
     match reader.next() {
         None => Ok(()),

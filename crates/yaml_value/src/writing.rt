@@ -87,8 +87,5 @@ fn copied<A: Allocator>(alloc: A, bytes: &[u8]) -> Result<Vec<u8, A>, yaml_error
     ensures bytes { IfOk result (λ copy. copy.items ≡ bytes.now) }
     ensures memory { IfErr result (λ error. error ≡ yaml_error_t.Memory) }
 {
-    let mut copy = Vec::new(alloc);
-    copy.extend_from_slice(bytes)
-        .map_err(|_| yaml_error_t::Memory)?;
-    Ok(copy)
+    Vec::from_slice(alloc, bytes).map_err(|_| yaml_error_t::Memory)
 }

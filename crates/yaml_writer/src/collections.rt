@@ -60,10 +60,7 @@ impl<A: Allocator + Copy> Writer<A> {
         ensures entered { OnOk result (self.new ≡ entered self.old kind) }
         ensures full { IfErr result (λ error. (error ≡ yaml_error_t.Memory) × (self.new ≡ self.old)) }
     {
-        if self.levels.push(kind).is_err() {
-            return Err(yaml_error_t::Memory);
-        }
-        Ok(())
+        self.levels.push(kind).map_err(|_| yaml_error_t::Memory)
     }
 
     /// Gives the start of a mapping to the emitter, with the properties of the next node.

@@ -61,10 +61,7 @@ fn push_exponent<A: Allocator>(
 fn is_spelled_exponent(exponent: Option<Exponent<'_>>) -> bool
     ensures { result ≡ spellings.is_spelled_exponent (option_map seen_exponent exponent.entry) }
 {
-    match exponent {
-        None => true,
-        Some(exponent) => !exponent.capital && exponent.sign.is_some(),
-    }
+    exponent.is_none_or(|exponent| !exponent.capital && exponent.sign.is_some())
 }
 
 impl Parts<'_> {
