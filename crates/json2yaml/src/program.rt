@@ -50,11 +50,7 @@ fn emitter_fault(error: yaml_error_t) -> Fault {
     fault_of(JsonError::Emitter(error))
 }
 
-/// What an error of the writer is where no file is at fault.
-fn failure_of<'a>(error: yaml_error_t) -> (Option<&'a str>, Fault) {
-    (None, emitter_fault(error))
-}
-
+/// What an error of a reader is for the program.
 fn read_fault(error: io::Error) -> Fault {
     if error.kind() == ErrorKind::OutOfMemory {
         Fault::NoMemory
@@ -163,9 +159,15 @@ fn converted<'a, R: Runtime + AllocGlobal>(
     rt: &R,
     conversion: &Conversion<'a>,
 ) -> Result<Vec<u8>, (Option<&'a str>, Fault)> {
-    let mut writer = Writer::new(rt.alloc(), conversion.settings.writer).map_err(failure_of)?;
+    let mut writer = match Writer::new(rt.alloc(), conversion.settings.writer) {
+        Ok(writer) => writer,
+        Err(error) => return Err((None, emitter_fault(error))),
+    };
     give_all(rt, &mut writer, conversion)?;
-    writer.finish().map_err(failure_of)
+    match writer.finish() {
+        Ok(bytes) => Ok(bytes),
+        Err(error) => Err((None, emitter_fault(error))),
+    }
 }
 
 /// Writes the bytes to a file, or to standard output.

@@ -69,9 +69,8 @@ pub fn write_json<A: Allocator + Copy>(
     ensures failed { IfErr result (λ error. IfSome (writers_error error) (λ code. FailedInText depth in_flow text.now writer.old code writer.new)) }
 {
     let mut scratch = Scratch::new(alloc);
-    write_text_by(writer, &mut scratch, text, in_flow, depth).map_err(|stop| error_of(
-        text, 0, stop,
-    ))
+    let written = write_text_by(writer, &mut scratch, text, in_flow, depth);
+    written.map_err(|stop| error_of(text, 0, stop))
 }
 
 /// The YAML of a JSON text: a stream of one document.
