@@ -59,7 +59,10 @@ fn letter<A: Allocator>(alloc: A) -> Result<String<A>, yaml_error_t>
     ensures letter { IfOk result (λ text. seen_text text ≡ codes "a") }
     ensures memory { IfErr result (λ error. error ≡ yaml_error_t.Memory) }
 {
-    String::from_str(alloc, "a").map_err(|_| yaml_error_t::Memory)
+    match String::from_str(alloc, "a") {
+        Ok(text) => Ok(text),
+        Err(_) => Err(yaml_error_t::Memory),
+    }
 }
 
 fn copied<A: Allocator>(alloc: A, bytes: &[u8]) -> Result<Vec<u8, A>, yaml_error_t>

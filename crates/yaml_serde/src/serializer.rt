@@ -256,7 +256,10 @@ impl<G: Given> Serializer for ValueSerializer<G> {
     }
 
     fn custom(&self, message: &str) -> Error {
-        String::from_str(self.alloc, message).map_or(Error::Memory, Error::Custom)
+        match String::from_str(self.alloc, message) {
+            Ok(message) => Error::Custom(message),
+            Err(_) => Error::Memory,
+        }
     }
 
     fn collect_str<T: Display>(&mut self, value: &T) -> Result<(), Error> {
