@@ -44,9 +44,10 @@ pub fn yaml_emitter_open<A: Allocator + Copy>(
 
 /// Closes a stream that was opened: emits its end. Where it is closed already nothing is done, and no memory is needed.
 ///
-/// Where documents were dumped in canonical mode, the canonical reader finds in the output contents that unfold their graphs, document by document, with each document's version and directives. So does the reader of whole
-/// streams in every mode, where a node without a tag has that of its kind; with portable mode off two kinds of streams are
-/// excepted (`streams_read_back` of `yaml_emitter`).
+/// Where documents were dumped in canonical mode, the canonical reader finds in the output contents that unfold their
+/// graphs, document by document, with each document's version and directives. So does the reader of whole streams in every
+/// mode, where a node without a tag has that of its kind; with portable mode off two kinds of streams are excepted
+/// (`streams_read_back` of `yaml_emitter`).
 ///
 /// # Errors
 /// Those of `yaml_emitter_emit`; the stream is then not closed.

@@ -69,7 +69,8 @@ impl<A: Allocator + Copy> Front<A> {
 
     /// What the script says, which ends there.
     fn script(self, alloc: A) -> Result<Script<A>, ScriptError>
-        ensures understood { IfOk result (λ script. script_with self [] ≡ notation.understood (seen_settings script.settings) (map seen_numbered script.events.items)) }
+        ensures understood { IfOk result
+            (λ script. script_with self [] ≡ notation.understood (seen_settings script.settings) (map seen_numbered script.events.items)) }
         ensures fault { IfErr result (λ error. IsFaultOf error (script_with self [])) }
     {
         if self.line.len() as u64 > u64::MAX - self.number {

@@ -102,7 +102,8 @@ pub(crate) fn give_mapping<A: Allocator + Copy>(
 ) -> Result<(), yaml_error_t>
     requires output { emitter.old.has_output ≡ true }
     ensures adds { Adds emitter.old
-        (mapping_start (record { anchor = option_map seen_text anchor; tag = option_map seen_text tag; implicit = is_none tag; style = seen_mapping_style style }))
+        (mapping_start
+        (record { anchor = option_map seen_text anchor; tag = option_map seen_text tag; implicit = is_none tag; style = seen_mapping_style style }))
         emitter.new }
     ensures answered { result ≡ told emitter.new.error }
     ensures output { emitter.new.has_output ≡ true }
@@ -128,7 +129,8 @@ pub(crate) fn give_sequence<A: Allocator + Copy>(
 ) -> Result<(), yaml_error_t>
     requires output { emitter.old.has_output ≡ true }
     ensures adds { Adds emitter.old
-        (sequence_start (record { anchor = option_map seen_text anchor; tag = option_map seen_text tag; implicit = is_none tag; style = seen_sequence_style style }))
+        (sequence_start
+        (record { anchor = option_map seen_text anchor; tag = option_map seen_text tag; implicit = is_none tag; style = seen_sequence_style style }))
         emitter.new }
     ensures answered { result ≡ told emitter.new.error }
     ensures output { emitter.new.has_output ≡ true }
