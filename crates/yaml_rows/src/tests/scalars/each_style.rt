@@ -7,6 +7,16 @@ use yaml_scalar::{
     analyze_scalar, write_double_quoted_scalar, write_plain_scalar, write_single_quoted_scalar,
 };
 
+/// A line of a table: a value, and what is written in two styles.
+type Row<'a> = (&'a str, &'a str, &'a str);
+
+// Each line has three fields.
+fn row_of<'a>(rt: &impl Abort, line: &'a str) -> Row<'a> {
+    let (value, rest) = line.split_once(';').expect(rt, "a field");
+    let (first, second) = rest.split_once(';').expect(rt, "a field");
+    (value, first, second)
+}
+
 // What the signs of a table stand for.
 fn meant(rt: &impl Abort, alloc: Global, signs: &str) -> String {
     let mut text = String::new(alloc);
@@ -63,7 +73,7 @@ fn check_double(rt: &impl Abort, alloc: Global, value: &str, width: i32, wanted:
 }
 
 // One value plain and between quotes, at one width.
-fn check_in_quotes(rt: &impl Abort, alloc: Global, row: &short_quoted::Row, width: i32) {
+fn check_in_quotes(rt: &impl Abort, alloc: Global, row: &Row, width: i32) {
     let value = meant(rt, alloc, row.0);
     let wanted = meant(rt, alloc, row.1);
     check_plain(rt, alloc, value.as_str(), width, row.0);
@@ -89,7 +99,7 @@ fn check_folded(rt: &impl Abort, alloc: Global, value: &str, width: i32, wanted:
 }
 
 // One value literal and folded, at one width.
-fn check_in_lines(rt: &impl Abort, alloc: Global, row: &short_block::Row, width: i32) {
+fn check_in_lines(rt: &impl Abort, alloc: Global, row: &Row, width: i32) {
     let value = meant(rt, alloc, row.0);
     let mark = mark_after(row.1);
     let literal = meant(rt, alloc, row.1);
@@ -98,34 +108,40 @@ fn check_in_lines(rt: &impl Abort, alloc: Global, row: &short_block::Row, width:
     check_folded(rt, alloc, value.as_str(), width, (folded.as_str(), mark));
 }
 
-fn check_quotes(rt: &impl Abort, alloc: Global, rows: &[short_quoted::Row]) {
-    for row in rows {
-        check_in_quotes(rt, alloc, row, 5);
-        check_in_quotes(rt, alloc, row, i32::MAX);
+// So many lines of a table, the first of which is empty.
+fn check_quotes(rt: &impl Abort, alloc: Global, table: &str, count: usize) {
+    equal(rt, &table.lines().count(), &count.saturating_add(1));
+    for line in table.lines().skip(1) {
+        let row = row_of(rt, line);
+        check_in_quotes(rt, alloc, &row, 5);
+        check_in_quotes(rt, alloc, &row, i32::MAX);
     }
 }
 
 #[test]
 fn short_values_stand_plain_and_between_quotes(rt: HostRuntime) {
-    check_quotes(&rt, rt.alloc(), short_quoted::SHORTEST);
-    check_quotes(&rt, rt.alloc(), short_quoted::FOUR_AFTER_SPACE);
-    check_quotes(&rt, rt.alloc(), short_quoted::FOUR_AFTER_FEED);
-    check_quotes(&rt, rt.alloc(), short_quoted::FOUR_AFTER_LETTER);
-    check_quotes(&rt, rt.alloc(), short_quoted::FOUR_AFTER_SEPARATOR);
+    check_quotes(&rt, rt.alloc(), short_quoted::SHORTEST, 85);
+    check_quotes(&rt, rt.alloc(), short_quoted::FOUR_AFTER_SPACE, 64);
+    check_quotes(&rt, rt.alloc(), short_quoted::FOUR_AFTER_FEED, 64);
+    check_quotes(&rt, rt.alloc(), short_quoted::FOUR_AFTER_LETTER, 64);
+    check_quotes(&rt, rt.alloc(), short_quoted::FOUR_AFTER_SEPARATOR, 64);
 }
 
-fn check_blocks(rt: &impl Abort, alloc: Global, rows: &[short_block::Row]) {
-    for row in rows {
-        check_in_lines(rt, alloc, row, 5);
-        check_in_lines(rt, alloc, row, i32::MAX);
+// So many lines of a table, the first of which is empty.
+fn check_blocks(rt: &impl Abort, alloc: Global, table: &str, count: usize) {
+    equal(rt, &table.lines().count(), &count.saturating_add(1));
+    for line in table.lines().skip(1) {
+        let row = row_of(rt, line);
+        check_in_lines(rt, alloc, &row, 5);
+        check_in_lines(rt, alloc, &row, i32::MAX);
     }
 }
 
 #[test]
 fn short_values_stand_in_lines(rt: HostRuntime) {
-    check_blocks(&rt, rt.alloc(), short_block::SHORTEST);
-    check_blocks(&rt, rt.alloc(), short_block::FOUR_AFTER_SPACE);
-    check_blocks(&rt, rt.alloc(), short_block::FOUR_AFTER_FEED);
-    check_blocks(&rt, rt.alloc(), short_block::FOUR_AFTER_LETTER);
-    check_blocks(&rt, rt.alloc(), short_block::FOUR_AFTER_SEPARATOR);
+    check_blocks(&rt, rt.alloc(), short_block::SHORTEST, 85);
+    check_blocks(&rt, rt.alloc(), short_block::FOUR_AFTER_SPACE, 64);
+    check_blocks(&rt, rt.alloc(), short_block::FOUR_AFTER_FEED, 64);
+    check_blocks(&rt, rt.alloc(), short_block::FOUR_AFTER_LETTER, 64);
+    check_blocks(&rt, rt.alloc(), short_block::FOUR_AFTER_SEPARATOR, 64);
 }
