@@ -4,7 +4,8 @@ mod memory;
 mod streams;
 mod texts;
 
-use std::alloc::{AllocError, Allocator};
+use crate::tests::owned;
+use std::alloc::Allocator;
 use std::process::Abort;
 use yaml_base::{
     YAML_ANY_SCALAR_STYLE, YAML_BLOCK_MAPPING_STYLE, YAML_BLOCK_SEQUENCE_STYLE, yaml_document_t,
@@ -14,48 +15,36 @@ use yaml_dump::{yaml_emitter_close, yaml_emitter_dump};
 use yaml_emitter::yaml_emitter_t;
 
 /// A scalar of any style with this tag.
-fn scalar<A: Allocator + Copy>(
-    alloc: A,
-    tag: &str,
-    value: &str,
-) -> Result<yaml_node_t<A>, AllocError> {
-    Ok(yaml_node_t {
-        tag: String::from_str(alloc, tag)?,
+fn scalar<A: Allocator>(tag: String<A>, value: String<A>) -> yaml_node_t<A> {
+    yaml_node_t {
+        tag,
         contents: yaml_node_data_t::Scalar {
-            value: String::from_str(alloc, value)?,
+            value,
             style: YAML_ANY_SCALAR_STYLE,
         },
-    })
-}
-
-/// A string.
-fn text<A: Allocator + Copy>(alloc: A, value: &str) -> Result<yaml_node_t<A>, AllocError> {
-    scalar(alloc, "tag:yaml.org,2002:str", value)
+    }
 }
 
 /// A block sequence of the nodes with these numbers.
-fn sequence<A: Allocator + Copy>(alloc: A, items: &[i32]) -> Result<yaml_node_t<A>, AllocError> {
-    Ok(yaml_node_t {
-        tag: String::from_str(alloc, "tag:yaml.org,2002:seq")?,
+fn sequence<A: Allocator>(tag: String<A>, items: Vec<i32, A>) -> yaml_node_t<A> {
+    yaml_node_t {
+        tag,
         contents: yaml_node_data_t::Sequence {
-            items: Vec::from_slice(alloc, items)?,
+            items,
             style: YAML_BLOCK_SEQUENCE_STYLE,
         },
-    })
+    }
 }
 
 /// A block mapping of these pairs.
-fn mapping<A: Allocator + Copy>(
-    alloc: A,
-    pairs: &[yaml_node_pair_t],
-) -> Result<yaml_node_t<A>, AllocError> {
-    Ok(yaml_node_t {
-        tag: String::from_str(alloc, "tag:yaml.org,2002:map")?,
+fn mapping<A: Allocator>(tag: String<A>, pairs: Vec<yaml_node_pair_t, A>) -> yaml_node_t<A> {
+    yaml_node_t {
+        tag,
         contents: yaml_node_data_t::Mapping {
-            pairs: Vec::from_slice(alloc, pairs)?,
+            pairs,
             style: YAML_BLOCK_MAPPING_STYLE,
         },
-    })
+    }
 }
 
 /// A node as tables write it.
@@ -71,24 +60,49 @@ enum Given<'a> {
     Mapping(&'a [yaml_node_pair_t]),
 }
 
-fn node<A: Allocator + Copy>(alloc: A, given: Given) -> Result<yaml_node_t<A>, AllocError> {
+/// The node's tag, where tables write none.
+fn tag_of<'a>(given: &Given<'a>) -> &'a str {
     match given {
-        Given::Text(value) => text(alloc, value),
-        Given::Tagged(tag, value) => scalar(alloc, tag, value),
-        Given::Sequence(items) => sequence(alloc, items),
-        Given::Mapping(pairs) => mapping(alloc, pairs),
+        Given::Text(_) => "tag:yaml.org,2002:str",
+        Given::Tagged(tag, _) => tag,
+        Given::Sequence(_) => "tag:yaml.org,2002:seq",
+        Given::Mapping(_) => "tag:yaml.org,2002:map",
     }
 }
 
+fn copied<T: Copy, A: Allocator>(rt: &impl Abort, alloc: A, items: &[T]) -> Vec<T, A> {
+    Vec::from_slice(alloc, items).expect(rt, "no memory")
+}
+
+fn node<A: Allocator + Copy>(rt: &impl Abort, alloc: A, given: &Given) -> yaml_node_t<A> {
+    let tag = owned(rt, alloc, tag_of(given));
+    match given {
+        Given::Text(value) | Given::Tagged(_, value) => scalar(tag, owned(rt, alloc, value)),
+        Given::Sequence(items) => sequence(tag, copied(rt, alloc, items)),
+        Given::Mapping(pairs) => mapping(tag, copied(rt, alloc, pairs)),
+    }
+}
+
+/// Adds a node.
+fn add<A: Allocator + Copy>(
+    rt: &impl Abort,
+    alloc: A,
+    nodes: &mut Vec<yaml_node_t<A>, A>,
+    given: &Given,
+) {
+    nodes.push(node(rt, alloc, given)).expect(rt, "no memory");
+}
+
 fn nodes<A: Allocator + Copy>(
+    rt: &impl Abort,
     alloc: A,
     given: &[Given],
-) -> Result<Vec<yaml_node_t<A>, A>, AllocError> {
+) -> Vec<yaml_node_t<A>, A> {
     let mut nodes = Vec::new(alloc);
     for each in given {
-        nodes.push(node(alloc, *each)?)?;
+        add(rt, alloc, &mut nodes, each);
     }
-    Ok(nodes)
+    nodes
 }
 
 /// A document of these nodes, without marks and directives.
@@ -98,10 +112,10 @@ fn document<A: Allocator + Copy>(
     nodes: Vec<yaml_node_t<A>, A>,
 ) -> yaml_document_t<A> {
     assert!(rt; nodes.len() <= 2_000_000);
-    match yaml_document_t::from_nodes(None, Vec::new(alloc), nodes, true, true) {
-        Ok(document) => document,
-        Err(_) => panic!(rt; "each number names a node"),
-    }
+    yaml_document_t::from_nodes(None, Vec::new(alloc), nodes, true, true).expect(
+        rt,
+        "each number names a node",
+    )
 }
 
 /// Dumps a document: an output is set.

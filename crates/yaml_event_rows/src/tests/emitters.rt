@@ -8,7 +8,6 @@ mod waiting;
 use crate::tests::equal;
 use std::alloc::Allocator;
 use std::process::Abort;
-use std::test::Fail;
 use streams::{Given, event};
 use yaml_base::{
     YAML_ANY_ENCODING, YAML_STREAM_END_EVENT, yaml_encoding_t, yaml_error_t, yaml_event_t,
@@ -49,6 +48,11 @@ fn begun<A: Allocator + Copy>(
     Ok(emitter)
 }
 
+/// The same, where there is memory for it.
+fn made<A: Allocator + Copy>(rt: &impl Abort, alloc: A, setting: &Setting) -> yaml_emitter_t<A> {
+    begun(alloc, setting).expect(rt, "no memory")
+}
+
 /// Emits an event: an output is set.
 fn give<A: Allocator + Copy>(
     rt: &impl Abort,
@@ -77,11 +81,10 @@ fn emit_all<A: Allocator + Copy>(
     alloc: A,
     emitter: &mut yaml_emitter_t<A>,
     events: &[Given],
-) -> Result<(), Fail> {
+) {
     for given in events {
-        equal(rt, &give(rt, emitter, event(alloc, given)?), &Ok(()));
+        equal(rt, &give(rt, emitter, event(rt, alloc, given)), &Ok(()));
     }
-    Ok(())
 }
 
 // The error is kept, and nothing waits.

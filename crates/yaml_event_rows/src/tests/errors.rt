@@ -1,7 +1,7 @@
 //! Errors of the library in a caller that returns `anyhow::Result`.
 use crate::tests::same;
 use std::alloc::Global;
-use std::test::Fail;
+use std::process::Abort;
 use yaml_base::{NodeNumber, YAML_STREAM_END_EVENT};
 use yaml_emitter::{yaml_emitter_emit, yaml_emitter_initialize, yaml_emitter_set_output_string};
 
@@ -20,25 +20,21 @@ fn outside(number: NodeNumber) -> anyhow::Result<()> {
     Ok(())
 }
 
+// The answer is an error with these words.
+fn check_told(rt: &impl Abort, alloc: Global, answer: anyhow::Result<()>, words: &str) {
+    match answer {
+        Ok(()) => same(rt, b"", words.as_bytes()),
+        Err(error) => {
+            let told = format!(in alloc; "{error}").expect(rt, "no memory");
+            same(rt, told.as_str().as_bytes(), words.as_bytes());
+        }
+    }
+}
+
 #[test]
-fn a_caller_passes_errors_on(rt: HostRuntime) -> Result<(), Fail> {
-    let told = match emit_the_end(rt.alloc()) {
-        Ok(()) => String::new(rt.alloc()),
-        Err(error) => format!(in rt.alloc(); "{error}")?,
-    };
-    same(
-        &rt,
-        told.as_str().as_bytes(),
-        "expected STREAM-START".as_bytes(),
-    );
-    let told = match outside(NodeNumber(-7)) {
-        Ok(()) => String::new(rt.alloc()),
-        Err(error) => format!(in rt.alloc(); "{error}")?,
-    };
-    same(
-        &rt,
-        told.as_str().as_bytes(),
-        "no node has the number -7".as_bytes(),
-    );
-    Ok(())
+fn a_caller_passes_errors_on(rt: HostRuntime) {
+    let refused = emit_the_end(rt.alloc());
+    check_told(&rt, rt.alloc(), refused, "expected STREAM-START");
+    let numbered = outside(NodeNumber(-7));
+    check_told(&rt, rt.alloc(), numbered, "no node has the number -7");
 }

@@ -1,57 +1,63 @@
 //! Names, versions, directives, and where a tag is cut.
 mod spelled;
 
-use super::equal;
+use super::{equal, owned};
 use linked_list_allocator::LocalHeap;
 use std::alloc::{AllocError, Allocator, Global};
 use std::process::Abort;
-use std::test::Fail;
 use yaml_base::{yaml_error_t, yaml_tag_directive_t, yaml_version_directive_t};
 use yaml_mark::*;
 
+/// A directive on a heap; an error where it finds no room.
 fn directive<A: Allocator + Copy>(
     alloc: A,
     handle: &str,
     prefix: &str,
 ) -> Result<yaml_tag_directive_t<A>, AllocError> {
-    Ok(yaml_tag_directive_t {
-        handle: String::from_str(alloc, handle)?,
-        prefix: String::from_str(alloc, prefix)?,
-    })
+    let handle = String::from_str(alloc, handle)?;
+    let prefix = String::from_str(alloc, prefix)?;
+    Ok(yaml_tag_directive_t { handle, prefix })
+}
+
+/// A handle, and a prefix.
+type Tag<'a> = (&'a str, &'a str);
+
+fn made(rt: &impl Abort, alloc: Global, tag: &Tag) -> yaml_tag_directive_t<Global> {
+    yaml_tag_directive_t {
+        handle: owned(rt, alloc, tag.0),
+        prefix: owned(rt, alloc, tag.1),
+    }
 }
 
 fn append(
-    alloc: Global,
     directives: &mut Directives<Global>,
-    given: &(&str, &str),
+    given: &yaml_tag_directive_t<Global>,
     as_default: bool,
-) -> Result<(), yaml_error_t> {
-    match directive(alloc, given.0, given.1) {
-        Ok(given) => directives.append(&given, as_default),
-        Err(_) => Err(yaml_error_t::Memory),
-    }
+) -> Answer {
+    directives.append(given, as_default)
 }
 
 fn append_all(
+    rt: &impl Abort,
     alloc: Global,
     directives: &mut Directives<Global>,
-    given: &[(&str, &str)],
+    given: &[Tag],
     as_default: bool,
-) -> Result<(), yaml_error_t> {
+) {
     for each in given {
-        append(alloc, directives, each, as_default)?;
+        let answer = append(directives, &made(rt, alloc, each), as_default);
+        equal(rt, &answer, &Ok(()));
     }
-    Ok(())
 }
 
-const DEFAULTS: &[(&str, &str)] = &[("!", "!"), ("!!", "tag:yaml.org,2002:")];
+const DEFAULTS: &[Tag] = &[("!", "!"), ("!!", "tag:yaml.org,2002:")];
 
 // The directives in force in a document that gives these.
-fn in_force(alloc: Global, own: &[(&str, &str)]) -> Result<Directives<Global>, yaml_error_t> {
+fn in_force(rt: &impl Abort, alloc: Global, own: &[Tag]) -> Directives<Global> {
     let mut directives = Directives::new(alloc);
-    append_all(alloc, &mut directives, own, false)?;
-    append_all(alloc, &mut directives, DEFAULTS, true)?;
-    Ok(directives)
+    append_all(rt, alloc, &mut directives, own, false);
+    append_all(rt, alloc, &mut directives, DEFAULTS, true);
+    directives
 }
 
 fn holds<A: Allocator>(
@@ -99,10 +105,14 @@ fn versions_are_1_1_and_1_2(rt: HostRuntime) {
 /// A name, and what is said of it as an anchor, and as an alias.
 type Name<'a> = (&'a str, Answer, Answer);
 
+fn analyzed_name(name: &str, alias: bool) -> Answer {
+    analyze_anchor(name, alias)
+}
+
 fn check_names(rt: &impl Abort, rows: &[Name]) {
     for row in rows {
-        equal(rt, &analyze_anchor(row.0, false), &row.1);
-        equal(rt, &analyze_anchor(row.0, true), &row.2);
+        equal(rt, &analyzed_name(row.0, false), &row.1);
+        equal(rt, &analyzed_name(row.0, true), &row.2);
     }
 }
 
@@ -131,89 +141,86 @@ fn anchors_and_aliases_are_names(rt: HostRuntime) {
 /// A handle, a prefix, and what is said of them.
 type Row<'a> = (&'a str, &'a str, Answer);
 
-fn analyzed(alloc: Global, row: &Row) -> Answer {
-    match directive(alloc, row.0, row.1) {
-        Ok(given) => analyze_tag_directive(&given),
-        Err(_) => Err(yaml_error_t::Memory),
+fn check_directives(rt: &impl Abort, alloc: Global, rows: &[Row]) {
+    for row in rows {
+        let given = made(rt, alloc, &(row.0, row.1));
+        equal(rt, &analyze_tag_directive(&given), &row.2);
     }
 }
 
-fn check_directives(rt: &impl Abort, alloc: Global, rows: &[Row]) {
-    for row in rows {
-        equal(rt, &analyzed(alloc, row), &row.2);
-    }
-}
+const DIRECTIVES: &[Row] = &[
+    ("!", "x", Ok(())),
+    ("!!", "x", Ok(())),
+    ("!e-_9!", "x", Ok(())),
+    ("", "", Err(yaml_error_t::TagHandleEmpty)),
+    ("a!", "", Err(yaml_error_t::TagHandleStart)),
+    ("!a", "", Err(yaml_error_t::TagHandleEnd)),
+    ("!a.b!", "", Err(yaml_error_t::TagHandleAlphabet)),
+    ("!a\0!", "", Err(yaml_error_t::TagHandleAlphabet)),
+    ("!!!", "x", Err(yaml_error_t::TagHandleAlphabet)),
+    ("!e!", "", Err(yaml_error_t::TagPrefixEmpty)),
+];
 
 #[test]
 fn directives_are_refused_in_order(rt: HostRuntime) {
-    let rows: &[Row] = &[
-        ("!", "x", Ok(())),
-        ("!!", "x", Ok(())),
-        ("!e-_9!", "x", Ok(())),
-        ("", "", Err(yaml_error_t::TagHandleEmpty)),
-        ("a!", "", Err(yaml_error_t::TagHandleStart)),
-        ("!a", "", Err(yaml_error_t::TagHandleEnd)),
-        ("!a.b!", "", Err(yaml_error_t::TagHandleAlphabet)),
-        ("!a\0!", "", Err(yaml_error_t::TagHandleAlphabet)),
-        ("!!!", "x", Err(yaml_error_t::TagHandleAlphabet)),
-        ("!e!", "", Err(yaml_error_t::TagPrefixEmpty)),
-    ];
-    check_directives(&rt, rt.alloc(), rows);
+    check_directives(&rt, rt.alloc(), DIRECTIVES);
 }
+
+/// A handle, a prefix, and whether they are a default; what is said of them, and how many are then in force.
+type Given<'a> = (&'a str, &'a str, bool, Answer, usize);
 
 // A directive is added, and then so many are in force; or it is refused.
-fn check_append(
+fn check_appends(
     rt: &impl Abort,
+    alloc: Global,
     directives: &mut Directives<Global>,
-    given: &yaml_tag_directive_t<Global>,
-    as_default: bool,
-    wanted: (Answer, usize),
+    rows: &[Given],
 ) {
-    equal(rt, &directives.append(given, as_default), &wanted.0);
-    equal(rt, &directives.len(), &wanted.1);
+    for row in rows {
+        let given = made(rt, alloc, &(row.0, row.1));
+        equal(rt, &append(directives, &given, row.2), &row.3);
+        equal(rt, &directives.len(), &row.4);
+    }
 }
 
-// The first is in force, and the other one; none follows.
-fn check_two(
+// This one is in force at that place.
+fn check_held(
     rt: &impl Abort,
+    alloc: Global,
     directives: &Directives<Global>,
-    first: &yaml_tag_directive_t<Global>,
-    other: &yaml_tag_directive_t<Global>,
+    i: usize,
+    tag: &Tag,
 ) {
-    equal(rt, &holds(directives, 0, first), &true);
-    equal(rt, &holds(directives, 1, other), &true);
-    assert!(rt; directives.get(2).is_none());
+    equal(rt, &holds(directives, i, &made(rt, alloc, tag)), &true);
 }
 
-// Two directives with one handle, one with another; then all are dropped, and the second is given alone.
-fn check_handles(
-    rt: &impl Abort,
-    directives: &mut Directives<Global>,
-    first: &yaml_tag_directive_t<Global>,
-    second: &yaml_tag_directive_t<Global>,
-    other: &yaml_tag_directive_t<Global>,
-) {
-    let twice = Err(yaml_error_t::DuplicateDirective);
-    check_append(rt, directives, first, false, (Ok(()), 1));
-    check_append(rt, directives, second, false, (twice, 1));
-    check_append(rt, directives, second, true, (Ok(()), 1));
-    check_append(rt, directives, other, true, (Ok(()), 2));
-    check_two(rt, directives, first, other);
+const TWICE: Answer = Err(yaml_error_t::DuplicateDirective);
+
+/// Two directives with one handle, one with another.
+const GIVEN: &[Given] = &[
+    ("!!", "a", false, Ok(()), 1),
+    ("!!", "b", false, TWICE, 1),
+    ("!!", "b", true, Ok(()), 1),
+    ("!", "c", true, Ok(()), 2),
+];
+
+const AFTER_ALL: &[Given] = &[("!!", "b", false, Ok(()), 1)];
+
+// Those that are given are in force; then all are dropped, and the second is given alone.
+fn check_handles(rt: &impl Abort, alloc: Global, directives: &mut Directives<Global>) {
+    check_appends(rt, alloc, directives, GIVEN);
+    check_held(rt, alloc, directives, 0, &("!!", "a"));
+    check_held(rt, alloc, directives, 1, &("!", "c"));
+    equal(rt, &directives.get(2).is_none(), &true);
     directives.clear();
     equal(rt, &directives.len(), &0);
-    check_append(rt, directives, second, false, (Ok(()), 1));
-    equal(rt, &holds(directives, 0, second), &true);
+    check_appends(rt, alloc, directives, AFTER_ALL);
+    check_held(rt, alloc, directives, 0, &("!!", "b"));
 }
 
 #[test]
-fn a_handle_is_given_once(rt: HostRuntime) -> Result<(), Fail> {
-    let alloc = rt.alloc();
-    let first = directive(alloc, "!!", "a")?;
-    let second = directive(alloc, "!!", "b")?;
-    let other = directive(alloc, "!", "c")?;
-    let mut directives = Directives::new(alloc);
-    check_handles(&rt, &mut directives, &first, &second, &other);
-    Ok(())
+fn a_handle_is_given_once(rt: HostRuntime) {
+    check_handles(&rt, rt.alloc(), &mut Directives::new(rt.alloc()));
 }
 
 /// A tag, the number of its directive, and the length of that one's prefix.
@@ -233,43 +240,40 @@ fn check_cuts(rt: &impl Abort, directives: &Directives<Global>, rows: &[Cut]) {
     }
 }
 
+const CUTS: &[Cut] = &[
+    ("!", None, 0),
+    ("!foo", Some(0), 1),
+    ("!a!b", Some(0), 1),
+    ("tag:yaml.org,2002:int", Some(1), 18),
+    ("tag:yaml.org,2002:", None, 0),
+    ("tag:yaml.org,2002", None, 0),
+];
+
 #[test]
-fn tags_are_cut_at_the_first_prefix(rt: HostRuntime) -> Result<(), Fail> {
-    let rows: &[Cut] = &[
-        ("!", None, 0),
-        ("!foo", Some(0), 1),
-        ("!a!b", Some(0), 1),
-        ("tag:yaml.org,2002:int", Some(1), 18),
-        ("tag:yaml.org,2002:", None, 0),
-        ("tag:yaml.org,2002", None, 0),
-    ];
-    check_cuts(&rt, &in_force(rt.alloc(), &[])?, rows);
-    Ok(())
+fn tags_are_cut_at_the_first_prefix(rt: HostRuntime) {
+    check_cuts(&rt, &in_force(&rt, rt.alloc(), &[]), CUTS);
 }
 
 #[test]
-fn an_empty_tag_is_refused(rt: HostRuntime) -> Result<(), Fail> {
-    let defaults = in_force(rt.alloc(), &[])?;
-    equal(
-        &rt,
-        &analyze_tag("", &defaults),
-        &Err(yaml_error_t::TagEmpty),
-    );
-    Ok(())
+fn an_empty_tag_is_refused(rt: HostRuntime) {
+    let defaults = in_force(&rt, rt.alloc(), &[]);
+    let answer = analyze_tag("", &defaults);
+    equal(&rt, &answer, &Err(yaml_error_t::TagEmpty));
 }
 
+const OWN: &[Tag] = &[("!e!", "!x"), ("!!", "tag:e.com,2000:"), ("!f!", "!xy")];
+
+const OWN_CUTS: &[Cut] = &[
+    ("!xy", Some(0), 2),
+    ("!xyz", Some(0), 2),
+    ("!x", Some(3), 1),
+    ("tag:e.com,2000:t", Some(1), 15),
+    ("tag:yaml.org,2002:str", None, 0),
+];
+
 #[test]
-fn tags_are_cut_at_a_documents_own_prefix(rt: HostRuntime) -> Result<(), Fail> {
-    let given: &[(&str, &str)] = &[("!e!", "!x"), ("!!", "tag:e.com,2000:"), ("!f!", "!xy")];
-    let rows: &[Cut] = &[
-        ("!xy", Some(0), 2),
-        ("!xyz", Some(0), 2),
-        ("!x", Some(3), 1),
-        ("tag:e.com,2000:t", Some(1), 15),
-        ("tag:yaml.org,2002:str", None, 0),
-    ];
-    check_cuts(&rt, &in_force(rt.alloc(), given)?, rows);
-    Ok(())
+fn tags_are_cut_at_a_documents_own_prefix(rt: HostRuntime) {
+    check_cuts(&rt, &in_force(&rt, rt.alloc(), OWN), OWN_CUTS);
 }
 
 // A directive is added, which is returned; or the answer is `Memory`, and the list is as before.
@@ -322,18 +326,18 @@ fn count(rt: &impl Abort, heap: &LocalHeap, counts: &mut Counts) {
 }
 
 // A heap of each size.
-fn counted(rt: &impl Abort, alloc: Global) -> Result<Counts, AllocError> {
+fn counted(rt: &impl Abort, alloc: Global) -> Counts {
     let mut counts = (0, 0);
     for blocks in 0..64 {
-        count(rt, &LocalHeap::new(alloc, blocks * 16)?, &mut counts);
+        let heap = LocalHeap::new(alloc, blocks * 16).expect(rt, "no memory");
+        count(rt, &heap, &mut counts);
     }
-    Ok(counts)
+    counts
 }
 
 #[test]
-fn refused_growths_change_nothing(rt: HostRuntime) -> Result<(), Fail> {
-    let counts = counted(&rt, rt.alloc())?;
+fn refused_growths_change_nothing(rt: HostRuntime) {
+    let counts = counted(&rt, rt.alloc());
     assert!(rt; counts.0 >= 3);
     assert!(rt; counts.1 >= 1);
-    Ok(())
 }

@@ -12,7 +12,6 @@ mod runs;
 use super::{equal, same};
 use std::alloc::{AllocError, Allocator, Global};
 use std::process::Abort;
-use std::test::Fail;
 use yaml_base::{
     YAML_CRLN_BREAK, YAML_LN_BREAK, YAML_UTF8_ENCODING, YAML_UTF16BE_ENCODING,
     YAML_UTF16LE_ENCODING, yaml_encoding_t, yaml_error_t,
@@ -41,6 +40,18 @@ fn begun<A: Allocator + Copy>(
         _ => pen.begin(YAML_UTF8_ENCODING, YAML_LN_BREAK),
     }
     Ok(pen)
+}
+
+/// The same, where there is memory for it.
+fn made<A: Allocator + Copy>(
+    rt: &impl Abort,
+    alloc: A,
+    limit: usize,
+    encoding: yaml_encoding_t,
+) -> Pen<A>
+    ensures { IsReady result }
+{
+    begun(alloc, limit, encoding).expect(rt, "no memory")
 }
 
 fn put_letters<A: Allocator>(pen: &mut Pen<A>, count: usize) -> Result<(), yaml_error_t>
@@ -148,21 +159,29 @@ fn write_all(rt: &impl Abort, pen: &mut Pen<Global>) -> Result<(), yaml_error_t>
 /// An encoding, and what is written in it.
 type Written<'a> = (yaml_encoding_t, &'a [u8]);
 
-fn check_calls(rt: &impl Abort, alloc: Global, row: &Written) -> Result<(), Fail> {
-    let mut pen = begun(alloc, usize::MAX, row.0)?;
-    equal(rt, &write_all(rt, &mut pen), &Ok(()));
-    check_flushed(rt, &mut pen, row.1);
-    Ok(())
+fn check_calls(rt: &impl Abort, alloc: Global, rows: &[Written]) {
+    for row in rows {
+        let mut pen = made(rt, alloc, usize::MAX, row.0);
+        equal(rt, &write_all(rt, &mut pen), &Ok(()));
+        check_flushed(rt, &mut pen, row.1);
+    }
 }
 
+const CALLS: &[Written] = &[
+    (YAML_UTF8_ENCODING, b"---\xC3\xA9\n  a\n\xE2\x80\xA8"),
+    (
+        YAML_UTF16LE_ENCODING,
+        b"\xFF\xFE-\0-\0-\0\xE9\0\n\0 \0 \0a\0\n\0\x28\x20",
+    ),
+    (
+        YAML_UTF16BE_ENCODING,
+        b"\xFE\xFF\0-\0-\0-\0\xE9\0\n\0 \0 \0a\0\n\x20\x28",
+    ),
+];
+
 #[test]
-fn each_call_writes(rt: HostRuntime) -> Result<(), Fail> {
-    let utf8 = b"---\xC3\xA9\n  a\n\xE2\x80\xA8".as_slice();
-    let little = b"\xFF\xFE-\0-\0-\0\xE9\0\n\0 \0 \0a\0\n\0\x28\x20".as_slice();
-    let big = b"\xFE\xFF\0-\0-\0-\0\xE9\0\n\0 \0 \0a\0\n\x20\x28".as_slice();
-    check_calls(&rt, rt.alloc(), &(YAML_UTF8_ENCODING, utf8))?;
-    check_calls(&rt, rt.alloc(), &(YAML_UTF16LE_ENCODING, little))?;
-    check_calls(&rt, rt.alloc(), &(YAML_UTF16BE_ENCODING, big))
+fn each_call_writes(rt: HostRuntime) {
+    check_calls(&rt, rt.alloc(), CALLS);
 }
 
 // The setting's line break, and two that are written as given.
@@ -187,13 +206,12 @@ fn write_indicators(pen: &mut Pen<Global>) -> Result<(), yaml_error_t>
 }
 
 #[test]
-fn line_breaks_are_those_of_the_setting(rt: HostRuntime) -> Result<(), Fail> {
-    let mut pen = Pen::new(rt.alloc())?;
+fn line_breaks_are_those_of_the_setting(rt: HostRuntime) {
+    let mut pen = Pen::new(rt.alloc()).expect(&rt, "no memory");
     pen.begin(YAML_UTF8_ENCODING, YAML_CRLN_BREAK);
     equal(&rt, &write_breaks(&mut pen), &Ok(()));
     equal(&rt, &write_indicators(&mut pen), &Ok(()));
     check_flushed(&rt, &mut pen, b"a\r\n\r\n\r-b c");
-    Ok(())
 }
 
 // The flush hands out what the limit leaves, and each call after it is refused.
@@ -227,28 +245,26 @@ fn check_text(rt: &impl Abort, pen: &mut Pen<Global>, text: &[u8], limit: usize)
     }
 }
 
-fn check_limit(rt: &impl Abort, alloc: Global, row: &Written, limit: usize) -> Result<(), Fail> {
-    let mut pen = begun(alloc, limit, row.0)?;
+fn check_limit(rt: &impl Abort, alloc: Global, row: &Written, limit: usize) {
+    let mut pen = made(rt, alloc, limit, row.0);
     equal(rt, &write_face(&mut pen), &Ok(()));
     check_text(rt, &mut pen, row.1, limit);
-    Ok(())
 }
 
-fn check_limits(rt: &impl Abort, alloc: Global, row: &Written) -> Result<(), Fail> {
+fn check_limits(rt: &impl Abort, alloc: Global, row: &Written) {
     for limit in 0..row.1.len().saturating_add(2) {
-        check_limit(rt, alloc, row, limit)?;
+        check_limit(rt, alloc, row, limit);
     }
-    Ok(())
 }
 
 #[test]
-fn a_limit_cuts_at_any_byte(rt: HostRuntime) -> Result<(), Fail> {
-    let utf8 = b"\xF0\x9F\x98\x80\n".as_slice();
-    let little = b"\xFF\xFE\x3D\xD8\x00\xDE\n\0".as_slice();
-    let big = b"\xFE\xFF\xD8\x3D\xDE\x00\0\n".as_slice();
-    check_limits(&rt, rt.alloc(), &(YAML_UTF8_ENCODING, utf8))?;
-    check_limits(&rt, rt.alloc(), &(YAML_UTF16LE_ENCODING, little))?;
-    check_limits(&rt, rt.alloc(), &(YAML_UTF16BE_ENCODING, big))
+fn a_limit_cuts_at_any_byte(rt: HostRuntime) {
+    let utf8: Written = (YAML_UTF8_ENCODING, b"\xF0\x9F\x98\x80\n");
+    check_limits(&rt, rt.alloc(), &utf8);
+    let little: Written = (YAML_UTF16LE_ENCODING, b"\xFF\xFE\x3D\xD8\x00\xDE\n\0");
+    check_limits(&rt, rt.alloc(), &little);
+    let big: Written = (YAML_UTF16BE_ENCODING, b"\xFE\xFF\xD8\x3D\xDE\x00\0\n");
+    check_limits(&rt, rt.alloc(), &big);
 }
 
 /// `a`, U+00E9, U+20AC and U+1F600 in an encoding, ten bytes in each.
@@ -264,7 +280,7 @@ const IN_UTF16BE: &[u8; 10] = b"\0a\0\xE9\x20\xAC\xD8\x3D\xDE\x00";
 fn check_bytes(rt: &impl Abort, bytes: &[u8], count: usize, cycle: &[u8; 10]) {
     equal(rt, &bytes.len(), &count);
     for (place, byte) in bytes.iter().enumerate() {
-        assert_eq!(rt; *byte, cycle[place % 10], "at {place}");
+        equal(rt, &(place, *byte), &(place, cycle[place % 10]));
     }
 }
 
@@ -288,24 +304,22 @@ fn check_rest(rt: &impl Abort, output: &[u8], start: usize, count: usize, cycle:
     check_bytes(rt, output.get(start..).unwrap_or(b""), count, cycle);
 }
 
-fn check_cycles(rt: &impl Abort, alloc: Global, row: &Cycle, ahead: usize) -> Result<(), Fail> {
-    let mut pen = begun(alloc, usize::MAX, row.0)?;
+fn check_cycles(rt: &impl Abort, alloc: Global, row: &Cycle, ahead: usize) {
+    let mut pen = made(rt, alloc, usize::MAX, row.0);
     equal(rt, &write_cycles_after(&mut pen, ahead), &Ok(()));
     check_rest(rt, pen.output(), start_of(row.0, ahead), 100_000, row.1);
-    Ok(())
 }
 
-fn check_each_cycle(rt: &impl Abort, alloc: Global, row: &Cycle) -> Result<(), Fail> {
+fn check_each_cycle(rt: &impl Abort, alloc: Global, row: &Cycle) {
     for ahead in 0..10 {
-        check_cycles(rt, alloc, row, ahead)?;
+        check_cycles(rt, alloc, row, ahead);
     }
-    Ok(())
 }
 
 // After some letters the buffer's end falls into each place of the ten bytes.
 #[test]
-fn characters_stay_whole_across_the_buffer(rt: HostRuntime) -> Result<(), Fail> {
-    check_each_cycle(&rt, rt.alloc(), &(YAML_UTF8_ENCODING, IN_UTF8))?;
-    check_each_cycle(&rt, rt.alloc(), &(YAML_UTF16LE_ENCODING, IN_UTF16LE))?;
-    check_each_cycle(&rt, rt.alloc(), &(YAML_UTF16BE_ENCODING, IN_UTF16BE))
+fn characters_stay_whole_across_the_buffer(rt: HostRuntime) {
+    check_each_cycle(&rt, rt.alloc(), &(YAML_UTF8_ENCODING, IN_UTF8));
+    check_each_cycle(&rt, rt.alloc(), &(YAML_UTF16LE_ENCODING, IN_UTF16LE));
+    check_each_cycle(&rt, rt.alloc(), &(YAML_UTF16BE_ENCODING, IN_UTF16BE));
 }

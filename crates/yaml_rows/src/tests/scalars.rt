@@ -1,5 +1,4 @@
 //! Scalars written from outside: worked texts, limits and failed pens.
-ghost use Rattle.std.specs.Prelude.{IfOk};
 ghost use Rattle.yaml_pen.specs.Page.{IsReady};
 
 mod block;
@@ -19,41 +18,33 @@ use yaml_base::{YAML_CR_BREAK, YAML_CRLN_BREAK, YAML_LN_BREAK, YAML_UTF8_ENCODIN
 use yaml_pen::Pen;
 
 /// A pen at the start of a text in UTF-8 whose lines end in LF.
-fn begun(alloc: Global) -> Result<Pen<Global>, yaml_error_t>
-    ensures { IfOk result (λ pen. IsReady pen) }
+fn begun(rt: &impl Abort, alloc: Global) -> Pen<Global>
+    ensures { IsReady result }
 {
-    begun_within(alloc, usize::MAX)
+    begun_within(rt, alloc, usize::MAX)
 }
 
 /// The same, with a limit on the output's bytes.
-fn begun_within(alloc: Global, limit: usize) -> Result<Pen<Global>, yaml_error_t>
-    ensures { IfOk result (λ pen. IsReady pen) }
+fn begun_within(rt: &impl Abort, alloc: Global, limit: usize) -> Pen<Global>
+    ensures { IsReady result }
 {
-    let mut pen = Pen::new(alloc)?;
+    let mut pen = Pen::new(alloc).expect(rt, "no memory");
     pen.set_limit(limit);
     pen.begin(YAML_UTF8_ENCODING, YAML_LN_BREAK);
-    Ok(pen)
+    pen
 }
 
 /// The same, with lines that end in CR, or in CR LF.
-fn begun_with_returns(alloc: Global, line_feed_too: bool) -> Result<Pen<Global>, yaml_error_t>
-    ensures { IfOk result (λ pen. IsReady pen) }
+fn begun_with_returns(rt: &impl Abort, alloc: Global, line_feed_too: bool) -> Pen<Global>
+    ensures { IsReady result }
 {
-    let mut pen = Pen::new(alloc)?;
+    let mut pen = Pen::new(alloc).expect(rt, "no memory");
     if line_feed_too {
         pen.begin(YAML_UTF8_ENCODING, YAML_CRLN_BREAK);
     } else {
         pen.begin(YAML_UTF8_ENCODING, YAML_CR_BREAK);
     }
-    Ok(pen)
-}
-
-/// What was written.
-fn finished(alloc: Global, pen: &mut Pen<Global>) -> Result<Vec<u8>, yaml_error_t>
-    requires { IsReady pen.old }
-{
-    pen.flush()?;
-    Vec::from_slice(alloc, pen.output()).map_err(|_| yaml_error_t::Memory)
+    pen
 }
 
 /// The flush is refused, and hands out this.
@@ -100,17 +91,10 @@ trait Row {
         requires { IsReady pen.old };
 }
 
-fn check_row<R: Row>(rt: &impl Abort, alloc: Global, row: &R) {
-    match begun(alloc) {
-        Ok(mut pen) => row.check(rt, &mut pen),
-        Err(error) => equal(rt, &Some(error), &None),
-    }
-}
-
 /// Each row has a pen of its own.
 fn check_rows<R: Row>(rt: &impl Abort, alloc: Global, rows: &[R]) {
     for row in rows {
-        check_row(rt, alloc, row);
+        row.check(rt, &mut begun(rt, alloc));
     }
 }
 

@@ -1,10 +1,9 @@
 //! Documents as events: tables of graphs, with the events worked out by hand.
 use super::Given::{Mapping, Sequence, Text};
-use super::{Given, document, nodes, sequence, text};
-use crate::tests::equal;
-use std::alloc::{AllocError, Allocator, Global};
+use super::{Given, add as add_node, copied, document, nodes};
+use crate::tests::{equal, owned};
+use std::alloc::Global;
 use std::process::Abort;
-use std::test::Fail;
 use yaml_base::{
     YAML_ALIAS_EVENT, YAML_ANY_SCALAR_STYLE, YAML_BLOCK_MAPPING_STYLE, YAML_BLOCK_SEQUENCE_STYLE,
     YAML_DOCUMENT_END_EVENT, YAML_DOCUMENT_START_EVENT, YAML_DOUBLE_QUOTED_SCALAR_STYLE,
@@ -31,149 +30,205 @@ enum Met<'a> {
 
 use Met::{Alias, Items, ItemsEnd, Pairs, PairsEnd, Scalar};
 
-fn if_any<A: Allocator>(alloc: A, anchor: Option<&str>) -> Result<Option<String<A>>, AllocError> {
+fn if_any(rt: &impl Abort, alloc: Global, anchor: Option<&str>) -> Option<String> {
     match anchor {
-        Some(name) => Ok(Some(String::from_str(alloc, name)?)),
-        None => Ok(None),
+        Some(name) => Some(owned(rt, alloc, name)),
+        None => None,
+    }
+}
+
+fn scalar(anchor: Option<String>, tag: String, value: String) -> yaml_event_t<Global> {
+    YAML_SCALAR_EVENT {
+        anchor,
+        tag: Some(tag),
+        value,
+        plain_implicit: true,
+        quoted_implicit: true,
+        style: YAML_ANY_SCALAR_STYLE,
+    }
+}
+
+fn items(anchor: Option<String>, tag: String) -> yaml_event_t<Global> {
+    YAML_SEQUENCE_START_EVENT {
+        anchor,
+        tag: Some(tag),
+        implicit: true,
+        style: YAML_BLOCK_SEQUENCE_STYLE,
+    }
+}
+
+fn pairs(anchor: Option<String>, tag: String) -> yaml_event_t<Global> {
+    YAML_MAPPING_START_EVENT {
+        anchor,
+        tag: Some(tag),
+        implicit: true,
+        style: YAML_BLOCK_MAPPING_STYLE,
     }
 }
 
 /// The event, with the tag of its kind.
-fn event<A: Allocator + Copy>(alloc: A, met: &Met) -> Result<yaml_event_t<A>, AllocError> {
+fn event(rt: &impl Abort, alloc: Global, met: &Met) -> yaml_event_t<Global> {
     match met {
-        Scalar(anchor, value) => Ok(YAML_SCALAR_EVENT {
-            anchor: if_any(alloc, *anchor)?,
-            tag: Some(String::from_str(alloc, "tag:yaml.org,2002:str")?),
-            value: String::from_str(alloc, value)?,
-            plain_implicit: true,
-            quoted_implicit: true,
-            style: YAML_ANY_SCALAR_STYLE,
-        }),
-        Items(anchor) => Ok(YAML_SEQUENCE_START_EVENT {
-            anchor: if_any(alloc, *anchor)?,
-            tag: Some(String::from_str(alloc, "tag:yaml.org,2002:seq")?),
-            implicit: true,
-            style: YAML_BLOCK_SEQUENCE_STYLE,
-        }),
-        ItemsEnd => Ok(YAML_SEQUENCE_END_EVENT),
-        Pairs(anchor) => Ok(YAML_MAPPING_START_EVENT {
-            anchor: if_any(alloc, *anchor)?,
-            tag: Some(String::from_str(alloc, "tag:yaml.org,2002:map")?),
-            implicit: true,
-            style: YAML_BLOCK_MAPPING_STYLE,
-        }),
-        PairsEnd => Ok(YAML_MAPPING_END_EVENT),
-        Alias(name) => Ok(YAML_ALIAS_EVENT {
-            anchor: String::from_str(alloc, name)?,
-        }),
+        Scalar(anchor, value) => scalar(
+            if_any(rt, alloc, *anchor),
+            owned(rt, alloc, "tag:yaml.org,2002:str"),
+            owned(rt, alloc, value),
+        ),
+        Items(anchor) => items(
+            if_any(rt, alloc, *anchor),
+            owned(rt, alloc, "tag:yaml.org,2002:seq"),
+        ),
+        ItemsEnd => YAML_SEQUENCE_END_EVENT,
+        Pairs(anchor) => pairs(
+            if_any(rt, alloc, *anchor),
+            owned(rt, alloc, "tag:yaml.org,2002:map"),
+        ),
+        PairsEnd => YAML_MAPPING_END_EVENT,
+        Alias(name) => YAML_ALIAS_EVENT {
+            anchor: owned(rt, alloc, name),
+        },
     }
 }
 
-/// A document's events around those of its nodes; it has no directives, and begins and ends without marks.
-fn whole<A: Allocator + Copy>(
-    alloc: A,
-    met: &[Met],
-) -> Result<Vec<yaml_event_t<A>, A>, AllocError> {
-    let mut events = Vec::new(alloc);
-    events.push(YAML_DOCUMENT_START_EVENT {
+type Events = Vec<yaml_event_t<Global>>;
+
+fn add(rt: &impl Abort, events: &mut Events, event: yaml_event_t<Global>) {
+    events.push(event).expect(rt, "no memory");
+}
+
+/// A document's start without directives and without a mark.
+fn start(alloc: Global) -> yaml_event_t<Global> {
+    YAML_DOCUMENT_START_EVENT {
         version_directive: None,
         tag_directives: Vec::new(alloc),
         implicit: true,
-    })?;
-    for each in met {
-        events.push(event(alloc, each)?)?;
     }
-    events.push(YAML_DOCUMENT_END_EVENT { implicit: true })?;
-    Ok(events)
 }
 
-fn check_events(rt: &impl Abort, alloc: Global, given: &[Given], met: &[Met]) -> Result<(), Fail> {
-    let graph = document(rt, alloc, nodes(alloc, given)?);
-    let events = document_events(alloc, &graph)?;
-    assert!(rt; events.as_slice() == whole(alloc, met)?.as_slice());
-    Ok(())
+const END: yaml_event_t<Global> = YAML_DOCUMENT_END_EVENT { implicit: true };
+
+/// A document's events around those of its nodes; it has no directives, and begins and ends without marks.
+fn whole(rt: &impl Abort, alloc: Global, met: &[Met]) -> Events {
+    let mut events = Vec::new(alloc);
+    add(rt, &mut events, start(alloc));
+    for each in met {
+        add(rt, &mut events, event(rt, alloc, each));
+    }
+    add(rt, &mut events, END);
+    events
 }
+
+// The events of a document.
+fn events_of(rt: &impl Abort, alloc: Global, graph: &yaml_document_t<Global>) -> Events {
+    document_events(alloc, graph).expect(rt, "no memory")
+}
+
+// The document has these events.
+fn check_document(
+    rt: &impl Abort,
+    alloc: Global,
+    graph: &yaml_document_t<Global>,
+    wanted: &[yaml_event_t<Global>],
+) {
+    equal(
+        rt,
+        &(events_of(rt, alloc, graph).as_slice() == wanted),
+        &true,
+    );
+}
+
+fn check_events(rt: &impl Abort, alloc: Global, given: &[Given], met: &[Met]) {
+    let graph = document(rt, alloc, nodes(rt, alloc, given));
+    check_document(rt, alloc, &graph, whole(rt, alloc, met).as_slice());
+}
+
+const NESTED: &[Given] = &[Sequence(&[2, 2]), Sequence(&[3, 3]), Text("a")];
+
+const NESTED_MET: &[Met] = &[
+    Items(None),
+    Items(Some("id002")),
+    Scalar(Some("id001"), "a"),
+    Alias("id001"),
+    ItemsEnd,
+    Alias("id002"),
+    ItemsEnd,
+];
 
 #[test]
-fn shared_nodes_are_named_in_the_order_of_their_second_meetings(
-    rt: HostRuntime,
-) -> Result<(), Fail> {
-    let given: &[Given] = &[Sequence(&[2, 2]), Sequence(&[3, 3]), Text("a")];
-    let met: &[Met] = &[
-        Items(None),
-        Items(Some("id002")),
-        Scalar(Some("id001"), "a"),
-        Alias("id001"),
-        ItemsEnd,
-        Alias("id002"),
-        ItemsEnd,
-    ];
-    check_events(&rt, rt.alloc(), given, met)
+fn shared_nodes_are_named_in_the_order_of_their_second_meetings(rt: HostRuntime) {
+    check_events(&rt, rt.alloc(), NESTED, NESTED_MET);
 }
 
-#[test]
-fn a_key_comes_before_its_value_and_may_hold_the_mapping(rt: HostRuntime) -> Result<(), Fail> {
-    let pairs = [
-        yaml_node_pair_t { key: 2, value: 1 },
-        yaml_node_pair_t { key: 3, value: 4 },
-    ];
-    let given: &[Given] = &[Mapping(&pairs), Sequence(&[1]), Text("a"), Text("b")];
-    let met: &[Met] = &[
-        Pairs(Some("id001")),
-        Items(None),
-        Alias("id001"),
-        ItemsEnd,
-        Alias("id001"),
-        Scalar(None, "a"),
-        Scalar(None, "b"),
-        PairsEnd,
-    ];
-    check_events(&rt, rt.alloc(), given, met)
-}
+const PAIRS: &[yaml_node_pair_t] = &[
+    yaml_node_pair_t { key: 2, value: 1 },
+    yaml_node_pair_t { key: 3, value: 4 },
+];
+
+const HOLDS_ITSELF: &[Given] = &[Mapping(PAIRS), Sequence(&[1]), Text("a"), Text("b")];
+
+const HOLDS_ITSELF_MET: &[Met] = &[
+    Pairs(Some("id001")),
+    Items(None),
+    Alias("id001"),
+    ItemsEnd,
+    Alias("id001"),
+    Scalar(None, "a"),
+    Scalar(None, "b"),
+    PairsEnd,
+];
 
 #[test]
-fn a_node_beside_the_root_is_not_met(rt: HostRuntime) -> Result<(), Fail> {
-    let given: &[Given] = &[Text("a"), Sequence(&[1])];
-    check_events(&rt, rt.alloc(), given, &[Scalar(None, "a")])
+fn a_key_comes_before_its_value_and_may_hold_the_mapping(rt: HostRuntime) {
+    check_events(&rt, rt.alloc(), HOLDS_ITSELF, HOLDS_ITSELF_MET);
+}
+
+const BESIDE: &[Given] = &[Text("a"), Sequence(&[1])];
+
+#[test]
+fn a_node_beside_the_root_is_not_met(rt: HostRuntime) {
+    check_events(&rt, rt.alloc(), BESIDE, &[Scalar(None, "a")]);
 }
 
 /// A directive for tags.
-fn directives(alloc: Global) -> Result<Vec<yaml_tag_directive_t<Global>>, AllocError> {
+fn directives(rt: &impl Abort, alloc: Global) -> Vec<yaml_tag_directive_t<Global>> {
+    let directive = yaml_tag_directive_t {
+        handle: owned(rt, alloc, "!e!"),
+        prefix: owned(rt, alloc, "tag:e,2026:"),
+    };
     let mut directives = Vec::new(alloc);
-    directives.push(yaml_tag_directive_t {
-        handle: String::from_str(alloc, "!e!")?,
-        prefix: String::from_str(alloc, "tag:e,2026:")?,
-    })?;
-    Ok(directives)
+    directives.push(directive).expect(rt, "no memory");
+    directives
 }
 
 /// A flow mapping whose key is its value, with a tag of its own.
-fn tagged_mapping(alloc: Global) -> Result<yaml_node_t<Global>, AllocError> {
-    Ok(yaml_node_t {
-        tag: String::from_str(alloc, "!m")?,
+fn tagged_mapping(rt: &impl Abort, alloc: Global) -> yaml_node_t<Global> {
+    yaml_node_t {
+        tag: owned(rt, alloc, "!m"),
         contents: yaml_node_data_t::Mapping {
-            pairs: Vec::from_slice(alloc, &[yaml_node_pair_t { key: 2, value: 2 }])?,
+            pairs: copied(rt, alloc, &[yaml_node_pair_t { key: 2, value: 2 }]),
             style: YAML_FLOW_MAPPING_STYLE,
         },
-    })
+    }
 }
 
 /// A quoted scalar with a tag of its own.
-fn tagged_scalar(alloc: Global) -> Result<yaml_node_t<Global>, AllocError> {
-    Ok(yaml_node_t {
-        tag: String::from_str(alloc, "!s")?,
+fn tagged_scalar(rt: &impl Abort, alloc: Global) -> yaml_node_t<Global> {
+    yaml_node_t {
+        tag: owned(rt, alloc, "!s"),
         contents: yaml_node_data_t::Scalar {
-            value: String::from_str(alloc, "x")?,
+            value: owned(rt, alloc, "x"),
             style: YAML_DOUBLE_QUOTED_SCALAR_STYLE,
         },
-    })
+    }
 }
 
-fn tagged_nodes(alloc: Global) -> Result<Vec<yaml_node_t<Global>>, AllocError> {
+fn tagged_nodes(rt: &impl Abort, alloc: Global) -> Vec<yaml_node_t<Global>> {
     let mut nodes = Vec::new(alloc);
-    nodes.push(tagged_mapping(alloc)?)?;
-    nodes.push(tagged_scalar(alloc)?)?;
-    Ok(nodes)
+    let pushed = nodes.push(tagged_mapping(rt, alloc));
+    pushed.expect(rt, "no memory");
+    let pushed = nodes.push(tagged_scalar(rt, alloc));
+    pushed.expect(rt, "no memory");
+    nodes
 }
 
 const VERSION: Option<yaml_version_directive_t> = Some(yaml_version_directive_t {
@@ -182,72 +237,70 @@ const VERSION: Option<yaml_version_directive_t> = Some(yaml_version_directive_t 
 });
 
 /// The start of a document with a version and a directive, which begins with a mark.
-fn tagged_start(alloc: Global) -> Result<yaml_event_t<Global>, AllocError> {
-    Ok(YAML_DOCUMENT_START_EVENT {
+fn tagged_start(rt: &impl Abort, alloc: Global) -> yaml_event_t<Global> {
+    YAML_DOCUMENT_START_EVENT {
         version_directive: VERSION,
-        tag_directives: directives(alloc)?,
+        tag_directives: directives(rt, alloc),
         implicit: false,
-    })
+    }
 }
 
-fn mapping_start(alloc: Global) -> Result<yaml_event_t<Global>, AllocError> {
-    Ok(YAML_MAPPING_START_EVENT {
+fn mapping_start(rt: &impl Abort, alloc: Global) -> yaml_event_t<Global> {
+    YAML_MAPPING_START_EVENT {
         anchor: None,
-        tag: Some(String::from_str(alloc, "!m")?),
+        tag: Some(owned(rt, alloc, "!m")),
         implicit: false,
         style: YAML_FLOW_MAPPING_STYLE,
-    })
+    }
 }
 
-fn quoted(alloc: Global) -> Result<yaml_event_t<Global>, AllocError> {
-    Ok(YAML_SCALAR_EVENT {
-        anchor: Some(String::from_str(alloc, "id001")?),
-        tag: Some(String::from_str(alloc, "!s")?),
-        value: String::from_str(alloc, "x")?,
+fn quoted(rt: &impl Abort, alloc: Global) -> yaml_event_t<Global> {
+    YAML_SCALAR_EVENT {
+        anchor: Some(owned(rt, alloc, "id001")),
+        tag: Some(owned(rt, alloc, "!s")),
+        value: owned(rt, alloc, "x"),
         plain_implicit: false,
         quoted_implicit: false,
         style: YAML_DOUBLE_QUOTED_SCALAR_STYLE,
-    })
+    }
 }
 
 /// The events of these nodes.
-fn tagged_events(alloc: Global) -> Result<Vec<yaml_event_t<Global>>, AllocError> {
+fn tagged_events(rt: &impl Abort, alloc: Global) -> Events {
     let mut events = Vec::new(alloc);
-    events.push(tagged_start(alloc)?)?;
-    events.push(mapping_start(alloc)?)?;
-    events.push(quoted(alloc)?)?;
-    events.push(event(alloc, &Alias("id001"))?)?;
-    events.push(YAML_MAPPING_END_EVENT)?;
-    events.push(YAML_DOCUMENT_END_EVENT { implicit: true })?;
-    Ok(events)
+    add(rt, &mut events, tagged_start(rt, alloc));
+    add(rt, &mut events, mapping_start(rt, alloc));
+    add(rt, &mut events, quoted(rt, alloc));
+    add(rt, &mut events, event(rt, alloc, &Alias("id001")));
+    add(rt, &mut events, YAML_MAPPING_END_EVENT);
+    add(rt, &mut events, END);
+    events
 }
 
-fn tagged_document(rt: &impl Abort, alloc: Global) -> Result<yaml_document_t<Global>, AllocError> {
-    let nodes = tagged_nodes(alloc)?;
+fn tagged_document(rt: &impl Abort, alloc: Global) -> yaml_document_t<Global> {
+    let nodes = tagged_nodes(rt, alloc);
     assert!(rt; nodes.len() <= 2_000_000);
-    match yaml_document_t::from_nodes(VERSION, directives(alloc)?, nodes, false, true) {
-        Ok(document) => Ok(document),
-        Err(_) => panic!(rt; "each number names a node"),
-    }
+    yaml_document_t::from_nodes(VERSION, directives(rt, alloc), nodes, false, true).expect(
+        rt,
+        "each number names a node",
+    )
 }
 
 #[test]
-fn tags_styles_and_directives_are_copied(rt: HostRuntime) -> Result<(), Fail> {
-    let alloc = rt.alloc();
-    let tagged = tagged_document(&rt, alloc)?;
-    let events = document_events(alloc, &tagged)?;
-    assert!(rt; events.as_slice() == tagged_events(alloc)?.as_slice());
-    Ok(())
+fn tags_styles_and_directives_are_copied(rt: HostRuntime) {
+    let tagged = tagged_document(&rt, rt.alloc());
+    let wanted = tagged_events(&rt, rt.alloc());
+    check_document(&rt, rt.alloc(), &tagged, wanted.as_slice());
 }
 
 /// Sequences in one another, the innermost of which holds a text: so many nodes.
-fn deep(alloc: Global, count: i32) -> Result<Vec<yaml_node_t<Global>>, AllocError> {
+fn deep(rt: &impl Abort, alloc: Global, count: i32) -> Vec<yaml_node_t<Global>> {
     let mut nodes = Vec::new(alloc);
     for number in 2..=count {
-        nodes.push(sequence(alloc, &[number])?)?;
+        add_node(rt, alloc, &mut nodes, &Sequence(&[number]));
     }
-    nodes.push(text(alloc, "a")?)?;
-    Ok(nodes)
+    add_node(rt, alloc, &mut nodes, &Text("a"));
+    nodes
 }
 
 // The event at this place, from 0 on.
@@ -257,29 +310,24 @@ fn check_at(
     place: usize,
     wanted: &yaml_event_t<Global>,
 ) {
-    match events.get(place) {
-        Some(found) => assert!(rt; *found == *wanted, "{place}"),
-        None => assert!(rt; false, "{place}"),
-    }
+    equal(
+        rt,
+        &(place, events.get(place) == Some(wanted)),
+        &(place, true),
+    );
 }
 
 // 99,999 starts, the text, as many ends, and the document's own two.
-fn check_deep(rt: &impl Abort, alloc: Global, events: &[yaml_event_t<Global>]) -> Result<(), Fail> {
+fn check_deep(rt: &impl Abort, alloc: Global, events: &[yaml_event_t<Global>]) {
     equal(rt, &events.len(), &200_001);
-    check_at(rt, events, 100_000, &event(alloc, &Scalar(None, "a"))?);
-    check_at(rt, events, 199_999, &event(alloc, &ItemsEnd)?);
-    check_at(
-        rt,
-        events,
-        200_000,
-        &YAML_DOCUMENT_END_EVENT { implicit: true },
-    );
-    Ok(())
+    check_at(rt, events, 100_000, &event(rt, alloc, &Scalar(None, "a")));
+    check_at(rt, events, 199_999, &YAML_SEQUENCE_END_EVENT);
+    check_at(rt, events, 200_000, &END);
 }
 
 #[test]
-fn nodes_may_lie_a_hundred_thousand_deep(rt: HostRuntime) -> Result<(), Fail> {
-    let alloc = rt.alloc();
-    let graph = document(&rt, alloc, deep(alloc, 100_000)?);
-    check_deep(&rt, alloc, document_events(alloc, &graph)?.as_slice())
+fn nodes_may_lie_a_hundred_thousand_deep(rt: HostRuntime) {
+    let graph = document(&rt, rt.alloc(), deep(&rt, rt.alloc(), 100_000));
+    let events = events_of(&rt, rt.alloc(), &graph);
+    check_deep(&rt, rt.alloc(), events.as_slice());
 }

@@ -3,7 +3,6 @@ use super::{Given, close, document, dump, nodes};
 use crate::tests::{equal, same};
 use std::alloc::{Allocator, Global};
 use std::process::Abort;
-use std::test::Fail;
 use yaml_base::{YAML_STREAM_END_EVENT, yaml_document_t, yaml_error_t};
 use yaml_emitter::{
     yaml_emitter_emit, yaml_emitter_initialize, yaml_emitter_set_canonical,
@@ -27,7 +26,8 @@ fn check_refused<A: Allocator + Copy>(rt: &impl Abort, emitter: &mut yaml_emitte
 fn check_kept<A: Allocator + Copy>(rt: &impl Abort, emitter: &mut yaml_emitter_t<A>, text: &str) {
     equal(rt, &emitter.error(), &Some(yaml_error_t::Memory));
     equal(rt, &emitter.held(), &0);
-    assert!(rt; text.as_bytes().starts_with(emitter.output()));
+    let begins = text.as_bytes().starts_with(emitter.output());
+    equal(rt, &begins, &true);
     check_refused(rt, emitter);
 }
 
@@ -59,17 +59,15 @@ fn check_after<A: Allocator + Copy>(
     rt: &impl Abort,
     alloc: A,
     emitter: &mut yaml_emitter_t<A>,
-    row: Row,
-) -> Result<(), Fail> {
-    let (given, text) = row;
+    row: &Row,
+) {
     if emitter.error().is_some() {
-        check_kept(rt, emitter, text);
-        return Ok(());
+        check_kept(rt, emitter, row.1);
+        return;
     }
-    let again = document(rt, alloc, nodes(alloc, given)?);
+    let again = document(rt, alloc, nodes(rt, alloc, row.0));
     equal(rt, &dump_and_close(rt, alloc, emitter, again), &Ok(()));
-    same(rt, emitter.output(), text.as_bytes());
-    Ok(())
+    same(rt, emitter.output(), row.1.as_bytes());
 }
 
 // A dump and a close of which one growth is refused, and then the same without a refusal; answers whether there is that
@@ -78,48 +76,47 @@ fn check_row<'a>(
     rt: &impl Abort,
     heap: &'a Refusing<Global>,
     emitter: &mut yaml_emitter_t<&'a Refusing<Global>>,
-    row: Row,
+    row: &Row,
     number: usize,
-) -> Result<bool, Fail> {
-    let first = document(rt, heap, nodes(heap, row.0)?);
+) -> bool {
+    let first = document(rt, heap, nodes(rt, heap, row.0));
     heap.refuse(number);
     let answer = dump_and_close(rt, heap, emitter, first);
     if heap.left() != 0 {
         equal(rt, &answer, &Ok(()));
         same(rt, emitter.output(), row.1.as_bytes());
-        return Ok(false);
+        return false;
     }
     equal(rt, &answer, &Err(yaml_error_t::Memory));
-    check_after(rt, heap, emitter, row)?;
-    Ok(true)
+    check_after(rt, heap, emitter, row);
+    true
 }
 
 fn is_told(
     rt: &impl Abort,
     heap: &Refusing<Global>,
     canonical: bool,
-    row: Row,
+    row: &Row,
     number: usize,
-) -> Result<bool, Fail> {
+) -> bool {
     heap.refuse(0);
-    let mut emitter = begun(heap, canonical)?;
+    let mut emitter = begun(heap, canonical).expect(rt, "no memory");
     check_row(rt, heap, &mut emitter, row, number)
 }
 
-/// Each row, and then again with each growth refused in turn.
-pub(super) fn check_rows(
-    rt: &impl Abort,
-    alloc: Global,
-    canonical: bool,
-    rows: &[Row],
-) -> Result<(), Fail> {
-    let heap = Refusing::new(alloc);
-    for row in rows {
-        for number in 1..usize::MAX {
-            if !is_told(rt, &heap, canonical, *row, number)? {
-                break;
-            }
+// Each growth is refused in turn, until a dump meets no refusal.
+fn refuse_in_turn(rt: &impl Abort, heap: &Refusing<Global>, canonical: bool, row: &Row) {
+    for number in 1..usize::MAX {
+        if !is_told(rt, heap, canonical, row, number) {
+            return;
         }
     }
-    Ok(())
+}
+
+/// Each row, and then again with each growth refused in turn.
+pub(super) fn check_rows(rt: &impl Abort, alloc: Global, canonical: bool, rows: &[Row]) {
+    let heap = Refusing::new(alloc);
+    for row in rows {
+        refuse_in_turn(rt, &heap, canonical, row);
+    }
 }

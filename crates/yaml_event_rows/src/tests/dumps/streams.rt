@@ -2,7 +2,6 @@
 use crate::tests::{equal, same};
 use std::alloc::Global;
 use std::process::Abort;
-use std::test::Fail;
 use yaml_base::{YAML_ANY_ENCODING, YAML_UTF16BE_ENCODING, yaml_encoding_t, yaml_error_t};
 use yaml_dump::{yaml_emitter_close, yaml_emitter_open};
 use yaml_emitter::{
@@ -11,14 +10,15 @@ use yaml_emitter::{
 };
 
 fn begun(
+    rt: &impl Abort,
     alloc: Global,
     limit: usize,
     encoding: yaml_encoding_t,
-) -> Result<yaml_emitter_t<Global>, yaml_error_t> {
-    let mut emitter = yaml_emitter_initialize(alloc)?;
+) -> yaml_emitter_t<Global> {
+    let mut emitter = yaml_emitter_initialize(alloc).expect(rt, "no memory");
     yaml_emitter_set_output_string(&mut emitter, limit);
     yaml_emitter_set_encoding(&mut emitter, encoding);
-    Ok(emitter)
+    emitter
 }
 
 // The stream is opened, or refused.
@@ -27,8 +27,7 @@ fn check_open(
     emitter: &mut yaml_emitter_t<Global>,
     answer: Result<(), yaml_error_t>,
 ) {
-    assert!(rt; emitter.has_output());
-    assert!(rt; !emitter.is_opened());
+    assert!(rt; emitter.has_output() && !emitter.is_opened());
     equal(rt, &yaml_emitter_open(emitter), &answer);
 }
 
@@ -60,23 +59,20 @@ fn check_stream(
 }
 
 #[test]
-fn an_empty_stream_is_opened_and_closed(rt: HostRuntime) -> Result<(), Fail> {
-    let mut emitter = begun(rt.alloc(), usize::MAX, YAML_ANY_ENCODING)?;
+fn an_empty_stream_is_opened_and_closed(rt: HostRuntime) {
+    let mut emitter = begun(&rt, rt.alloc(), usize::MAX, YAML_ANY_ENCODING);
     check_stream(&rt, &mut emitter, Ok(()), b"");
-    Ok(())
 }
 
 #[test]
-fn a_mark_is_written_as_the_stream_closes(rt: HostRuntime) -> Result<(), Fail> {
-    let mut emitter = begun(rt.alloc(), usize::MAX, YAML_UTF16BE_ENCODING)?;
+fn a_mark_is_written_as_the_stream_closes(rt: HostRuntime) {
+    let mut emitter = begun(&rt, rt.alloc(), usize::MAX, YAML_UTF16BE_ENCODING);
     check_stream(&rt, &mut emitter, Ok(()), b"\xFE\xFF");
-    Ok(())
 }
 
 // The limit leaves no room for the mark.
 #[test]
-fn a_stream_that_is_refused_its_end_is_not_closed(rt: HostRuntime) -> Result<(), Fail> {
-    let mut emitter = begun(rt.alloc(), 1, YAML_UTF16BE_ENCODING)?;
+fn a_stream_that_is_refused_its_end_is_not_closed(rt: HostRuntime) {
+    let mut emitter = begun(&rt, rt.alloc(), 1, YAML_UTF16BE_ENCODING);
     check_stream(&rt, &mut emitter, Err(yaml_error_t::WriteError), b"\xFE");
-    Ok(())
 }

@@ -1,14 +1,13 @@
 //! Documents dumped: texts worked out by hand, and dumps in wrong moments.
 use super::Given::{Mapping, Sequence, Tagged, Text};
 use super::memory::{Row, check_rows};
-use super::{Given, close, document, dump, nodes, sequence, text};
+use super::{Given, add, close, document, dump, nodes};
 use crate::tests::{equal, same};
-use std::alloc::{AllocError, Global};
+use std::alloc::Global;
 use std::process::Abort;
-use std::test::Fail;
 use yaml_base::{
     YAML_ANY_ENCODING, YAML_STREAM_END_EVENT, YAML_STREAM_START_EVENT, YAML_UTF16BE_ENCODING,
-    yaml_error_t, yaml_event_t, yaml_node_pair_t, yaml_node_t,
+    yaml_document_t, yaml_error_t, yaml_event_t, yaml_node_pair_t, yaml_node_t,
 };
 use yaml_dump::{document_events, yaml_emitter_open};
 use yaml_emitter::{
@@ -16,10 +15,10 @@ use yaml_emitter::{
     yaml_emitter_set_output_string, yaml_emitter_set_width, yaml_emitter_t,
 };
 
-fn begun(alloc: Global) -> Result<yaml_emitter_t<Global>, yaml_error_t> {
-    let mut emitter = yaml_emitter_initialize(alloc)?;
+fn begun(rt: &impl Abort, alloc: Global) -> yaml_emitter_t<Global> {
+    let mut emitter = yaml_emitter_initialize(alloc).expect(rt, "no memory");
     yaml_emitter_set_output_string(&mut emitter, usize::MAX);
-    Ok(emitter)
+    emitter
 }
 
 // A dump of these nodes.
@@ -28,9 +27,9 @@ fn dump_nodes(
     alloc: Global,
     emitter: &mut yaml_emitter_t<Global>,
     given: &[Given],
-) -> Result<Result<(), yaml_error_t>, Fail> {
-    let graph = document(rt, alloc, nodes(alloc, given)?);
-    Ok(dump(rt, alloc, emitter, graph))
+) -> Result<(), yaml_error_t> {
+    let graph = document(rt, alloc, nodes(rt, alloc, given));
+    dump(rt, alloc, emitter, graph)
 }
 
 fn emit(
@@ -63,58 +62,51 @@ const ONCE: &[Row] = &[
 ];
 
 #[test]
-fn nodes_are_written_once(rt: HostRuntime) -> Result<(), Fail> {
-    check_rows(&rt, rt.alloc(), false, ONCE)
+fn nodes_are_written_once(rt: HostRuntime) {
+    check_rows(&rt, rt.alloc(), false, ONCE);
 }
 
 #[test]
-fn an_empty_tag_is_refused(rt: HostRuntime) -> Result<(), Fail> {
-    let mut emitter = begun(rt.alloc())?;
-    let answer = dump_nodes(&rt, rt.alloc(), &mut emitter, &[Tagged("", "5")])?;
+fn an_empty_tag_is_refused(rt: HostRuntime) {
+    let emitter = &mut begun(&rt, rt.alloc());
+    let answer = dump_nodes(&rt, rt.alloc(), emitter, &[Tagged("", "5")]);
     equal(&rt, &answer, &Err(yaml_error_t::TagEmpty));
-    Ok(())
 }
 
 fn open(rt: &impl Abort, emitter: &mut yaml_emitter_t<Global>) -> Result<(), yaml_error_t> {
-    assert!(rt; emitter.has_output());
-    assert!(rt; !emitter.is_opened());
+    assert!(rt; emitter.has_output() && !emitter.is_opened());
     yaml_emitter_open(emitter)
 }
 
-// A dump of these nodes, so many times, and a close.
+// A dump of these nodes, so many times, and a close: this is written.
 fn dump_often(
     rt: &impl Abort,
     alloc: Global,
     emitter: &mut yaml_emitter_t<Global>,
-    given: &[Given],
+    row: &Row,
     times: usize,
-) -> Result<(), Fail> {
+) {
     for _ in 0..times {
-        equal(rt, &dump_nodes(rt, alloc, emitter, given)?, &Ok(()));
+        equal(rt, &dump_nodes(rt, alloc, emitter, row.0), &Ok(()));
     }
     equal(rt, &close(rt, emitter), &Ok(()));
-    Ok(())
+    same(rt, emitter.output(), row.1.as_bytes());
 }
 
-#[test]
-fn a_node_beside_the_root_is_left_out(rt: HostRuntime) -> Result<(), Fail> {
-    let mut emitter = begun(rt.alloc())?;
-    equal(&rt, &open(&rt, &mut emitter), &Ok(()));
-    dump_often(&rt, rt.alloc(), &mut emitter, &[Text("a"), Text("b")], 1)?;
-    same(&rt, emitter.output(), b"a\n");
-    Ok(())
-}
+const BESIDE: &Row = &(&[Text("a"), Text("b")], "a\n");
 
 #[test]
-fn a_document_may_be_dumped_twice(rt: HostRuntime) -> Result<(), Fail> {
-    let mut emitter = begun(rt.alloc())?;
-    dump_often(&rt, rt.alloc(), &mut emitter, SHARED, 2)?;
-    same(
-        &rt,
-        emitter.output(),
-        b"- &id001 a\n- *id001\n---\n- &id001 a\n- *id001\n",
-    );
-    Ok(())
+fn a_node_beside_the_root_is_left_out(rt: HostRuntime) {
+    let emitter = &mut begun(&rt, rt.alloc());
+    equal(&rt, &open(&rt, emitter), &Ok(()));
+    dump_often(&rt, rt.alloc(), emitter, BESIDE, 1);
+}
+
+const TWICE: &Row = &(SHARED, "- &id001 a\n- *id001\n---\n- &id001 a\n- *id001\n");
+
+#[test]
+fn a_document_may_be_dumped_twice(rt: HostRuntime) {
+    dump_often(&rt, rt.alloc(), &mut begun(&rt, rt.alloc()), TWICE, 2);
 }
 
 const NESTED: &str =
@@ -131,160 +123,150 @@ const CANONICAL: &[Row] = &[
 ];
 
 #[test]
-fn canonical_text_has_every_tag_and_anchor(rt: HostRuntime) -> Result<(), Fail> {
-    check_rows(&rt, rt.alloc(), true, CANONICAL)
+fn canonical_text_has_every_tag_and_anchor(rt: HostRuntime) {
+    check_rows(&rt, rt.alloc(), true, CANONICAL);
 }
 
 // Where nothing was written.
-fn dump_nothing(
-    rt: &impl Abort,
-    alloc: Global,
-    emitter: &mut yaml_emitter_t<Global>,
-) -> Result<(), Fail> {
-    equal(rt, &dump_nodes(rt, alloc, emitter, &[])?, &Ok(()));
-    assert!(rt; emitter.is_closed());
+fn dump_nothing(rt: &impl Abort, alloc: Global, emitter: &mut yaml_emitter_t<Global>) {
+    equal(rt, &dump_nodes(rt, alloc, emitter, &[]), &Ok(()));
+    equal(rt, &emitter.is_closed(), &true);
     same(rt, emitter.output(), b"");
-    Ok(())
+    equal(rt, &emitter.error(), &None);
 }
 
 #[test]
-fn a_document_without_nodes_closes_the_stream(rt: HostRuntime) -> Result<(), Fail> {
-    let mut emitter = begun(rt.alloc())?;
-    dump_nothing(&rt, rt.alloc(), &mut emitter)?;
-    dump_nothing(&rt, rt.alloc(), &mut emitter)?;
-    equal(&rt, &emitter.error(), &None);
-    Ok(())
+fn a_document_without_nodes_closes_the_stream(rt: HostRuntime) {
+    let emitter = &mut begun(&rt, rt.alloc());
+    dump_nothing(&rt, rt.alloc(), emitter);
+    dump_nothing(&rt, rt.alloc(), emitter);
 }
+
+const REFUSED: Result<(), yaml_error_t> = Err(yaml_error_t::WriteError);
 
 // A document without nodes, whose stream can't be closed.
-fn dump_unclosed(
-    rt: &impl Abort,
-    alloc: Global,
-    emitter: &mut yaml_emitter_t<Global>,
-) -> Result<(), Fail> {
-    let answer = dump_nodes(rt, alloc, emitter, &[])?;
-    equal(rt, &answer, &Err(yaml_error_t::WriteError));
-    assert!(rt; emitter.is_opened());
-    assert!(rt; !emitter.is_closed());
-    Ok(())
+fn dump_unclosed(rt: &impl Abort, alloc: Global, emitter: &mut yaml_emitter_t<Global>) {
+    equal(rt, &dump_nodes(rt, alloc, emitter, &[]), &REFUSED);
+    equal(rt, &emitter.is_opened(), &true);
+    equal(rt, &emitter.is_closed(), &false);
 }
 
-// The limit leaves no room for the byte order mark, which the stream's end writes.
-#[test]
-fn a_dump_that_fails_to_close_leaves_the_stream_open(rt: HostRuntime) -> Result<(), Fail> {
-    let mut emitter = yaml_emitter_initialize(rt.alloc())?;
+// The byte order mark, which the stream's end writes, takes two bytes.
+fn begun_within_a_byte(rt: &impl Abort, alloc: Global) -> yaml_emitter_t<Global> {
+    let mut emitter = yaml_emitter_initialize(alloc).expect(rt, "no memory");
     yaml_emitter_set_output_string(&mut emitter, 1);
     yaml_emitter_set_encoding(&mut emitter, YAML_UTF16BE_ENCODING);
-    dump_unclosed(&rt, rt.alloc(), &mut emitter)?;
-    dump_unclosed(&rt, rt.alloc(), &mut emitter)?;
-    equal(
-        &rt,
-        &close(&rt, &mut emitter),
-        &Err(yaml_error_t::WriteError),
-    );
-    Ok(())
-}
-
-// A document without nodes changes nothing more, and another one is refused.
-fn dump_after_the_end(
-    rt: &impl Abort,
-    alloc: Global,
-    emitter: &mut yaml_emitter_t<Global>,
-) -> Result<(), Fail> {
-    equal(rt, &dump_nodes(rt, alloc, emitter, &[])?, &Ok(()));
-    let answer = dump_nodes(rt, alloc, emitter, SHARED)?;
-    equal(rt, &answer, &Err(yaml_error_t::ExpectedNothing));
-    Ok(())
+    emitter
 }
 
 #[test]
-fn a_closed_stream_takes_no_document(rt: HostRuntime) -> Result<(), Fail> {
-    let mut emitter = begun(rt.alloc())?;
-    dump_often(&rt, rt.alloc(), &mut emitter, SHARED, 1)?;
-    dump_after_the_end(&rt, rt.alloc(), &mut emitter)?;
-    same(&rt, emitter.output(), b"- &id001 a\n- *id001\n");
-    Ok(())
+fn a_dump_that_fails_to_close_leaves_the_stream_open(rt: HostRuntime) {
+    let emitter = &mut begun_within_a_byte(&rt, rt.alloc());
+    dump_unclosed(&rt, rt.alloc(), emitter);
+    dump_unclosed(&rt, rt.alloc(), emitter);
+    equal(&rt, &close(&rt, emitter), &REFUSED);
 }
+
+const ONE: &Row = &(SHARED, "- &id001 a\n- *id001\n");
+
+// A document without nodes changes nothing more, and another one is refused.
+fn dump_after_the_end(rt: &impl Abort, alloc: Global, emitter: &mut yaml_emitter_t<Global>) {
+    dump_often(rt, alloc, emitter, ONE, 1);
+    equal(rt, &dump_nodes(rt, alloc, emitter, &[]), &Ok(()));
+    let answer = dump_nodes(rt, alloc, emitter, SHARED);
+    equal(rt, &answer, &Err(yaml_error_t::ExpectedNothing));
+    same(rt, emitter.output(), ONE.1.as_bytes());
+}
+
+#[test]
+fn a_closed_stream_takes_no_document(rt: HostRuntime) {
+    dump_after_the_end(&rt, rt.alloc(), &mut begun(&rt, rt.alloc()));
+}
+
+const START: yaml_event_t<Global> = YAML_STREAM_START_EVENT {
+    encoding: YAML_ANY_ENCODING,
+};
 
 // The stream was begun by an event, so the dump's own start is refused.
 #[test]
-fn a_stream_is_opened_once(rt: HostRuntime) -> Result<(), Fail> {
-    let mut emitter = begun(rt.alloc())?;
-    let start = YAML_STREAM_START_EVENT {
-        encoding: YAML_ANY_ENCODING,
-    };
-    equal(&rt, &emit(&rt, &mut emitter, start), &Ok(()));
-    let answer = dump_nodes(&rt, rt.alloc(), &mut emitter, SHARED)?;
+fn a_stream_is_opened_once(rt: HostRuntime) {
+    let emitter = &mut begun(&rt, rt.alloc());
+    equal(&rt, &emit(&rt, emitter, START), &Ok(()));
+    let answer = dump_nodes(&rt, rt.alloc(), emitter, SHARED);
     equal(&rt, &answer, &Err(yaml_error_t::ExpectedDocumentStart));
-    assert!(rt; !emitter.is_opened());
-    Ok(())
+    equal(&rt, &emitter.is_opened(), &false);
 }
 
 #[test]
-fn the_first_error_is_answered(rt: HostRuntime) -> Result<(), Fail> {
+fn the_first_error_is_answered(rt: HostRuntime) {
     let error = Err(yaml_error_t::ExpectedStreamStart);
-    let mut emitter = begun(rt.alloc())?;
-    equal(&rt, &emit(&rt, &mut emitter, YAML_STREAM_END_EVENT), &error);
-    let answer = dump_nodes(&rt, rt.alloc(), &mut emitter, SHARED)?;
+    let emitter = &mut begun(&rt, rt.alloc());
+    equal(&rt, &emit(&rt, emitter, YAML_STREAM_END_EVENT), &error);
+    let answer = dump_nodes(&rt, rt.alloc(), emitter, SHARED);
     equal(&rt, &answer, &error);
-    Ok(())
 }
 
-/// Forty sequences, each of which holds the next twice, and a string.
-fn forty_in_each_other(alloc: Global) -> Result<Vec<yaml_node_t<Global>>, AllocError> {
+// Sequences, each of which holds the next twice, and a string: so many nodes.
+fn twice_in_each_other(rt: &impl Abort, alloc: Global, count: i32) -> Vec<yaml_node_t<Global>> {
     let mut nodes = Vec::new(alloc);
-    for number in 2..=41 {
-        nodes.push(sequence(alloc, &[number, number])?)?;
+    for number in 2..=count {
+        add(rt, alloc, &mut nodes, &Sequence(&[number, number]));
     }
-    nodes.push(text(alloc, "a")?)?;
-    Ok(nodes)
+    add(rt, alloc, &mut nodes, &Text("a"));
+    nodes
 }
 
-// 80 starts and ends, the string once, an alias for each second meeting, and the document's own two.
+fn count_events(alloc: Global, graph: &yaml_document_t<Global>) -> Result<usize, yaml_error_t> {
+    Ok(document_events(alloc, graph)?.len())
+}
+
+// The document has so many events, and is dumped.
+fn check_count(
+    rt: &impl Abort,
+    alloc: Global,
+    emitter: &mut yaml_emitter_t<Global>,
+    graph: yaml_document_t<Global>,
+    count: usize,
+) {
+    equal(rt, &count_events(alloc, &graph), &Ok(count));
+    equal(rt, &dump(rt, alloc, emitter, graph), &Ok(()));
+    equal(rt, &emitter.held(), &0);
+}
+
+// Of forty sequences: 80 starts and ends, the string once, an alias for each second meeting, and the document's own two.
 #[test]
-fn shared_nodes_in_each_other_are_written_once(rt: HostRuntime) -> Result<(), Fail> {
+fn shared_nodes_in_each_other_are_written_once(rt: HostRuntime) {
     let alloc = rt.alloc();
-    let nested = document(&rt, alloc, forty_in_each_other(alloc)?);
-    equal(&rt, &document_events(alloc, &nested)?.len(), &123);
-    let mut emitter = begun(alloc)?;
-    equal(&rt, &dump(&rt, alloc, &mut emitter, nested), &Ok(()));
-    equal(&rt, &emitter.held(), &0);
-    Ok(())
+    let nested = document(&rt, alloc, twice_in_each_other(&rt, alloc, 41));
+    check_count(&rt, alloc, &mut begun(&rt, alloc), nested, 123);
 }
 
 /// The numbers from 2 to 1,001, and again.
-fn numbers_twice(alloc: Global) -> Result<Vec<i32>, AllocError> {
+fn numbers_twice(rt: &impl Abort, alloc: Global) -> Vec<i32> {
     let mut numbers = Vec::new(alloc);
-    for _ in 0..2 {
-        for number in 2..=1_001 {
-            numbers.push(number)?;
-        }
+    for place in 0..2_000 {
+        numbers.push(place % 1_000 + 2).expect(rt, "no memory");
     }
-    Ok(numbers)
+    numbers
 }
 
 /// A sequence that holds each of a thousand texts twice.
-fn thousand_shared(alloc: Global) -> Result<Vec<yaml_node_t<Global>>, AllocError> {
-    let mut nodes = vec![in alloc; sequence(alloc, numbers_twice(alloc)?.as_slice())?]?;
+fn thousand_shared(rt: &impl Abort, alloc: Global) -> Vec<yaml_node_t<Global>> {
+    let numbers = numbers_twice(rt, alloc);
+    let mut nodes = Vec::new(alloc);
+    add(rt, alloc, &mut nodes, &Sequence(numbers.as_slice()));
     for _ in 0..1_000 {
-        nodes.push(text(alloc, "x")?)?;
+        add(rt, alloc, &mut nodes, &Text("x"));
     }
-    Ok(nodes)
+    nodes
 }
 
 // Lines, by their numbers from 0 on.
-fn check_lines(
-    rt: &impl Abort,
-    output: &[u8],
-    count: usize,
-    rows: &[(usize, &str)],
-) -> Result<(), Fail> {
-    let text = str::from_utf8(output)?;
+fn check_lines(rt: &impl Abort, text: &str, count: usize, rows: &[(usize, &str)]) {
     equal(rt, &text.lines().count(), &count);
-    for (number, line) in rows {
-        equal(rt, &text.lines().nth(*number), &Some(*line));
+    for row in rows {
+        equal(rt, &text.lines().nth(row.0), &Some(row.1));
     }
-    Ok(())
 }
 
 const LINES: &[(usize, &str)] = &[
@@ -295,33 +277,39 @@ const LINES: &[(usize, &str)] = &[
     (1_999, "- *id1000"),
 ];
 
+fn dump_shared(rt: &impl Abort, alloc: Global, emitter: &mut yaml_emitter_t<Global>) {
+    let shared = document(rt, alloc, thousand_shared(rt, alloc));
+    equal(rt, &dump(rt, alloc, emitter, shared), &Ok(()));
+    let text = str::from_utf8(emitter.output()).unwrap_or("");
+    check_lines(rt, text, 2_000, LINES);
+}
+
 #[test]
-fn anchors_past_999_have_four_digits(rt: HostRuntime) -> Result<(), Fail> {
-    let alloc = rt.alloc();
-    let shared = document(&rt, alloc, thousand_shared(alloc)?);
-    let mut emitter = begun(alloc)?;
-    equal(&rt, &dump(&rt, alloc, &mut emitter, shared), &Ok(()));
-    check_lines(&rt, emitter.output(), 2_000, LINES)
+fn anchors_past_999_have_four_digits(rt: HostRuntime) {
+    dump_shared(&rt, rt.alloc(), &mut begun(&rt, rt.alloc()));
 }
 
 /// A million and one sequences, each the one item of the one before.
-fn too_many_in_each_other(alloc: Global) -> Result<Vec<yaml_node_t<Global>>, AllocError> {
+fn too_many_in_each_other(rt: &impl Abort, alloc: Global) -> Vec<yaml_node_t<Global>> {
     let mut nodes = Vec::new(alloc);
     for number in 2..=1_000_001 {
-        nodes.push(sequence(alloc, &[number])?)?;
+        add(rt, alloc, &mut nodes, &Sequence(&[number]));
     }
-    nodes.push(sequence(alloc, &[])?)?;
-    Ok(nodes)
+    add(rt, alloc, &mut nodes, &Sequence(&[]));
+    nodes
+}
+
+fn begun_without_width(rt: &impl Abort, alloc: Global) -> yaml_emitter_t<Global> {
+    let mut emitter = yaml_emitter_initialize(alloc).expect(rt, "no memory");
+    yaml_emitter_set_output_string(&mut emitter, usize::MAX);
+    yaml_emitter_set_width(&mut emitter, -1);
+    emitter
 }
 
 #[test]
-fn too_many_nodes_in_each_other_are_refused(rt: HostRuntime) -> Result<(), Fail> {
-    let alloc = rt.alloc();
-    let nested = document(&rt, alloc, too_many_in_each_other(alloc)?);
-    let mut emitter = yaml_emitter_initialize(alloc)?;
-    yaml_emitter_set_output_string(&mut emitter, usize::MAX);
-    yaml_emitter_set_width(&mut emitter, -1);
-    let answer = dump(&rt, alloc, &mut emitter, nested);
+fn too_many_nodes_in_each_other_are_refused(rt: HostRuntime) {
+    let nested = document(&rt, rt.alloc(), too_many_in_each_other(&rt, rt.alloc()));
+    let mut emitter = begun_without_width(&rt, rt.alloc());
+    let answer = dump(&rt, rt.alloc(), &mut emitter, nested);
     equal(&rt, &answer, &Err(yaml_error_t::TooDeep));
-    Ok(())
 }

@@ -3,11 +3,10 @@ use super::streams::Given::{
     BlockSequence, Document, DocumentEnd, FlowSequence, SequenceEnd, Stream,
 };
 use super::streams::{Given, event};
-use super::{Setting, UNSET, begun, check_failed, check_refused, emit_all, give};
+use super::{Setting, UNSET, check_failed, check_refused, emit_all, give, made};
 use crate::tests::equal;
 use std::alloc::Global;
 use std::process::Abort;
-use std::test::Fail;
 use yaml_base::yaml_error_t;
 use yaml_emitter::yaml_emitter_t;
 
@@ -26,65 +25,53 @@ fn emit_often(
     emitter: &mut yaml_emitter_t<Global>,
     given: &Given,
     times: usize,
-) -> Result<(), Fail> {
+) {
     for _ in 0..times {
-        equal(rt, &give(rt, emitter, event(alloc, given)?), &Ok(()));
+        equal(rt, &give(rt, emitter, event(rt, alloc, given)), &Ok(()));
     }
-    Ok(())
 }
 
 // Two more may wait; the next makes the collection ready that is one too many.
-fn open_too_many(
-    rt: &impl Abort,
-    alloc: Global,
-    emitter: &mut yaml_emitter_t<Global>,
-) -> Result<(), Fail> {
-    emit_all(rt, alloc, emitter, STARTED)?;
-    emit_often(rt, alloc, emitter, &BlockSequence, MOST + 2)?;
+fn open_too_many(rt: &impl Abort, alloc: Global, emitter: &mut yaml_emitter_t<Global>) {
+    emit_all(rt, alloc, emitter, STARTED);
+    emit_often(rt, alloc, emitter, &BlockSequence, MOST + 2);
     equal(rt, &emitter.held(), &2);
-    let next = event(alloc, &BlockSequence)?;
+    let next = event(rt, alloc, &BlockSequence);
     check_refused(rt, emitter, next, yaml_error_t::TooDeep);
     check_failed(rt, emitter, yaml_error_t::TooDeep);
-    Ok(())
 }
 
 #[test]
-fn a_million_collections_may_be_open(rt: HostRuntime) -> Result<(), Fail> {
-    let mut emitter = begun(rt.alloc(), &ENDLESS)?;
-    open_too_many(&rt, rt.alloc(), &mut emitter)
+fn a_million_collections_may_be_open(rt: HostRuntime) {
+    open_too_many(&rt, rt.alloc(), &mut made(&rt, rt.alloc(), &ENDLESS));
 }
 
-fn open_and_close(
-    rt: &impl Abort,
-    alloc: Global,
-    emitter: &mut yaml_emitter_t<Global>,
-) -> Result<(), Fail> {
-    emit_all(rt, alloc, emitter, STARTED)?;
-    emit_often(rt, alloc, emitter, &FlowSequence, MOST)?;
-    emit_often(rt, alloc, emitter, &SequenceEnd, MOST)?;
-    emit_all(rt, alloc, emitter, ENDED)
+fn open_and_close(rt: &impl Abort, alloc: Global, emitter: &mut yaml_emitter_t<Global>) {
+    emit_all(rt, alloc, emitter, STARTED);
+    emit_often(rt, alloc, emitter, &FlowSequence, MOST);
+    emit_often(rt, alloc, emitter, &SequenceEnd, MOST);
+    emit_all(rt, alloc, emitter, ENDED);
+    equal(rt, &emitter.held(), &0);
+    check_brackets(rt, emitter.output());
+}
+
+fn bracket_at(place: usize) -> u8 {
+    match place {
+        0..MOST => b'[',
+        MOST..2_000_000 => b']',
+        _ => b'\n',
+    }
 }
 
 // A million brackets open, as many close, and the line ends.
 fn check_brackets(rt: &impl Abort, output: &[u8]) {
     equal(rt, &output.len(), &2_000_001);
     for (place, byte) in output.iter().enumerate() {
-        let expected = if place < MOST {
-            b'['
-        } else if place < 2_000_000 {
-            b']'
-        } else {
-            b'\n'
-        };
-        equal(rt, byte, &expected);
+        equal(rt, byte, &bracket_at(place));
     }
 }
 
 #[test]
-fn a_million_brackets_are_closed(rt: HostRuntime) -> Result<(), Fail> {
-    let mut emitter = begun(rt.alloc(), &ENDLESS)?;
-    open_and_close(&rt, rt.alloc(), &mut emitter)?;
-    equal(&rt, &emitter.held(), &0);
-    check_brackets(&rt, emitter.output());
-    Ok(())
+fn a_million_brackets_are_closed(rt: HostRuntime) {
+    open_and_close(&rt, rt.alloc(), &mut made(&rt, rt.alloc(), &ENDLESS));
 }

@@ -4,24 +4,21 @@ use super::streams::Given::{
     StreamEnd, StreamIn, Tagged, Text,
 };
 use super::streams::{Given, event};
-use super::{UNSET, begun, check_failed, emit_all, flush_if_known, give};
+use super::{UNSET, begun, check_failed, emit_all, flush_if_known, give, made};
 use crate::tests::{equal, same};
 use linked_list_allocator::LocalHeap;
-use std::alloc::{AllocError, Allocator, Global};
+use std::alloc::{Allocator, Global};
 use std::process::Abort;
-use std::test::Fail;
-use yaml_base::{YAML_UTF16LE_ENCODING, yaml_error_t, yaml_event_t};
+use yaml_base::{
+    YAML_ANY_ENCODING, YAML_UTF16LE_ENCODING, yaml_encoding_t, yaml_error_t, yaml_event_t,
+};
 use yaml_emitter::{yaml_emitter_delete, yaml_emitter_t};
 use yaml_test_allocator::Refusing;
 
-/// A stream in UTF-8, or in UTF-16, whose events take memory in each way that there is.
-fn stream<'a>(utf16: bool, long: &'a str) -> [Given<'a>; 18] {
+/// A stream in this encoding, whose events take memory in each way that there is.
+fn stream<'a>(encoding: yaml_encoding_t, long: &'a str) -> [Given<'a>; 18] {
     [
-        if utf16 {
-            StreamIn(YAML_UTF16LE_ENCODING)
-        } else {
-            Stream
-        },
+        StreamIn(encoding),
         Directed(&[("!e!", "tag:e.com,2000:")]),
         BlockMapping,
         Text("a key"),
@@ -42,20 +39,22 @@ fn stream<'a>(utf16: bool, long: &'a str) -> [Given<'a>; 18] {
     ]
 }
 
-/// Its bytes.
-fn bytes_of(alloc: Global, utf16: bool, long: &str) -> Result<Vec<u8>, AllocError> {
-    let text = format!(in alloc;
-        "%TAG !e! tag:e.com,2000:\n---\na key:\n- - - !e!t x\n    - {long}\n--- b\n"
-    )?;
-    if !utf16 {
-        return Vec::from_slice(alloc, text.as_str().as_bytes());
+/// Its text.
+fn text_of(rt: &impl Abort, alloc: Global, long: &str) -> String {
+    let start = "%TAG !e! tag:e.com,2000:\n---\na key:\n- - - !e!t x\n    - ";
+    [start, long, "\n--- b\n"]
+        .concat(alloc)
+        .expect(rt, "no memory")
+}
+
+/// The bytes of a text of ASCII in UTF-16, after a mark.
+fn in_utf16(rt: &impl Abort, alloc: Global, text: &str) -> Vec<u8> {
+    let mut bytes = Vec::from_slice(alloc, b"\xFF\xFE").expect(rt, "no memory");
+    for byte in text.as_bytes() {
+        let pushed = bytes.extend_from_slice(&[*byte, 0]);
+        pushed.expect(rt, "no memory");
     }
-    let mut bytes = Vec::from_slice(alloc, b"\xFF\xFE")?;
-    for byte in text.as_str().as_bytes() {
-        bytes.push(*byte)?;
-        bytes.push(0)?;
-    }
-    Ok(bytes)
+    bytes
 }
 
 // From the call on in which the growth was refused each answers that there is no memory.
@@ -69,14 +68,15 @@ fn check_answer(rt: &impl Abort, heap: &Refusing<Global>, answer: Result<(), yam
 
 // An event of which no growth is refused.
 fn granted<'a>(
+    rt: &impl Abort,
     heap: &'a Refusing<Global>,
     given: &Given,
-) -> Result<yaml_event_t<&'a Refusing<Global>>, AllocError> {
+) -> yaml_event_t<&'a Refusing<Global>> {
     let number = heap.left();
     heap.refuse(0);
-    let next = event(heap, given)?;
+    let next = event(rt, heap, given);
     heap.refuse(number);
-    Ok(next)
+    next
 }
 
 // An event is emitted. After a refusal nothing is handed out.
@@ -117,14 +117,13 @@ fn check_each<'a>(
     emitter: &mut yaml_emitter_t<&'a Refusing<Global>>,
     events: &[Given],
     flushes: bool,
-) -> Result<(), Fail> {
+) {
     for given in events {
-        check_emit(rt, heap, emitter, granted(heap, given)?);
+        check_emit(rt, heap, emitter, granted(rt, heap, given));
         if flushes {
             check_flush(rt, heap, emitter);
         }
     }
-    Ok(())
 }
 
 // What stands in the end, where the growth was refused and where it wasn't.
@@ -149,77 +148,79 @@ fn is_told(
     events: &[Given],
     flushes: bool,
     whole: &[u8],
-) -> Result<bool, Fail> {
+) -> bool {
     match begun(heap, &UNSET) {
         Ok(mut emitter) => {
             check_answer(rt, heap, Ok(()));
-            check_each(rt, heap, &mut emitter, events, flushes)?;
+            check_each(rt, heap, &mut emitter, events, flushes);
             check_end(rt, heap, &mut emitter, whole);
         }
         Err(error) => check_answer(rt, heap, Err(error)),
     }
-    Ok(heap.left() == 0)
+    heap.left() == 0
+}
+
+// Each growth is refused in turn, until a stream meets no refusal.
+fn refuse_in_turn(
+    rt: &impl Abort,
+    heap: &Refusing<Global>,
+    events: &[Given],
+    flushes: bool,
+    whole: &[u8],
+) {
+    for number in 1..usize::MAX {
+        heap.refuse(number);
+        if !is_told(rt, heap, events, flushes, whole) {
+            return;
+        }
+    }
 }
 
 /// A stream gives these bytes, and each growth that it takes is refused in turn.
-pub(super) fn check_growths(
-    rt: &impl Abort,
-    alloc: Global,
-    events: &[Given],
-    whole: &[u8],
-) -> Result<(), Fail> {
+pub(super) fn check_growths(rt: &impl Abort, alloc: Global, events: &[Given], whole: &[u8]) {
     let heap = Refusing::new(alloc);
-    for flushes in [false, true] {
-        for number in 1..usize::MAX {
-            heap.refuse(number);
-            if !is_told(rt, &heap, events, flushes, whole)? {
-                break;
-            }
-        }
-    }
-    Ok(())
+    refuse_in_turn(rt, &heap, events, false, whole);
+    refuse_in_turn(rt, &heap, events, true, whole);
+}
+
+// In UTF-8, and in UTF-16.
+fn check_encodings(rt: &impl Abort, alloc: Global, long: &str, text: &str) {
+    let events = stream(YAML_ANY_ENCODING, long);
+    check_growths(rt, alloc, &events, text.as_bytes());
+    let events = stream(YAML_UTF16LE_ENCODING, long);
+    check_growths(rt, alloc, &events, in_utf16(rt, alloc, text).as_slice());
 }
 
 #[test]
-fn each_refused_growth_is_told(rt: HostRuntime) -> Result<(), Fail> {
+fn each_refused_growth_is_told(rt: HostRuntime) {
     let alloc = rt.alloc();
-    let long = "y".repeat(alloc, 17_000)?;
-    for utf16 in [false, true] {
-        let events = stream(utf16, long.as_str());
-        let whole = bytes_of(alloc, utf16, long.as_str())?;
-        check_growths(&rt, alloc, &events, whole.as_slice())?;
-    }
-    Ok(())
+    let long = "y".repeat(alloc, 17_000).expect(&rt, "no memory");
+    let text = text_of(&rt, alloc, long.as_str());
+    check_encodings(&rt, alloc, long.as_str(), text.as_str());
 }
 
 const SHORT: &[Given] = &[Stream, Document, Text("a")];
 
 // The heap has room for one emitter, and not for two.
-fn check_full<A: Allocator + Copy>(
-    rt: &impl Abort,
-    alloc: A,
-    emitter: &mut yaml_emitter_t<A>,
-) -> Result<(), Fail> {
-    emit_all(rt, alloc, emitter, SHORT)?;
-    match begun(alloc, &UNSET) {
-        Ok(_) => assert!(rt; false),
-        Err(error) => equal(rt, &error, &yaml_error_t::Memory),
-    }
-    Ok(())
+fn check_full<A: Allocator + Copy>(rt: &impl Abort, alloc: A, emitter: &mut yaml_emitter_t<A>) {
+    emit_all(rt, alloc, emitter, SHORT);
+    equal(rt, &begun(alloc, &UNSET).err(), &Some(yaml_error_t::Memory));
 }
 
-fn fill_and_delete(rt: &impl Abort, heap: &LocalHeap) -> Result<(), Fail> {
-    let mut emitter = begun(heap, &UNSET)?;
-    check_full(rt, heap, &mut emitter)?;
+fn fill_and_delete(rt: &impl Abort, heap: &LocalHeap) {
+    let mut emitter = made(rt, heap, &UNSET);
+    check_full(rt, heap, &mut emitter);
     yaml_emitter_delete(emitter);
-    Ok(())
+}
+
+fn fill_often(rt: &impl Abort, heap: &LocalHeap) {
+    for _ in 0..100 {
+        fill_and_delete(rt, heap);
+    }
 }
 
 #[test]
-fn a_deleted_emitter_leaves_room_for_another(rt: HostRuntime) -> Result<(), Fail> {
-    let heap = LocalHeap::new(rt.alloc(), 30_000)?;
-    for _ in 0..100 {
-        fill_and_delete(&rt, &heap)?;
-    }
-    Ok(())
+fn a_deleted_emitter_leaves_room_for_another(rt: HostRuntime) {
+    let heap = LocalHeap::new(rt.alloc(), 30_000).expect(&rt, "no memory");
+    fill_often(&rt, &heap);
 }

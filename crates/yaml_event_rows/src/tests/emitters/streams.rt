@@ -1,5 +1,7 @@
 //! Events as the tables of the tests write them.
-use std::alloc::{AllocError, Allocator};
+use crate::tests::owned;
+use std::alloc::Allocator;
+use std::process::Abort;
 use yaml_base::{
     YAML_ALIAS_EVENT, YAML_ANY_ENCODING, YAML_ANY_SCALAR_STYLE, YAML_BLOCK_MAPPING_STYLE,
     YAML_BLOCK_SEQUENCE_STYLE, YAML_DOCUMENT_END_EVENT, YAML_DOCUMENT_START_EVENT,
@@ -42,57 +44,58 @@ pub(crate) enum Given<'a> {
     MappingEnd,
 }
 
-fn document<A: Allocator + Copy>(alloc: A, tags: Tags) -> Result<yaml_event_t<A>, AllocError> {
-    let mut tag_directives = Vec::new(alloc);
-    for (handle, prefix) in tags {
-        tag_directives.push(yaml_tag_directive_t {
-            handle: String::from_str(alloc, handle)?,
-            prefix: String::from_str(alloc, prefix)?,
-        })?;
+fn directive<A: Allocator + Copy>(
+    rt: &impl Abort,
+    alloc: A,
+    tag: &(&str, &str),
+) -> yaml_tag_directive_t<A> {
+    yaml_tag_directive_t {
+        handle: owned(rt, alloc, tag.0),
+        prefix: owned(rt, alloc, tag.1),
     }
-    Ok(YAML_DOCUMENT_START_EVENT {
+}
+
+fn document<A: Allocator + Copy>(rt: &impl Abort, alloc: A, tags: Tags) -> yaml_event_t<A> {
+    let mut tag_directives = Vec::new(alloc);
+    for tag in tags {
+        let pushed = tag_directives.push(directive(rt, alloc, tag));
+        pushed.expect(rt, "no memory");
+    }
+    YAML_DOCUMENT_START_EVENT {
         version_directive: None,
         tag_directives,
         implicit: true,
-    })
-}
-
-fn if_any<A: Allocator>(alloc: A, s: Option<&str>) -> Result<Option<String<A>>, AllocError> {
-    match s {
-        Some(s) => Ok(Some(String::from_str(alloc, s)?)),
-        None => Ok(None),
     }
 }
 
 // The flags are on where there is no tag.
-fn scalar<A: Allocator + Copy>(
-    alloc: A,
-    anchor: Option<&str>,
-    tag: Option<&str>,
+fn scalar<A: Allocator>(
+    anchor: Option<String<A>>,
+    tag: Option<String<A>>,
+    value: String<A>,
     style: yaml_scalar_style_t,
-    value: &str,
-) -> Result<yaml_event_t<A>, AllocError> {
-    Ok(YAML_SCALAR_EVENT {
-        anchor: if_any(alloc, anchor)?,
-        tag: if_any(alloc, tag)?,
-        value: String::from_str(alloc, value)?,
-        plain_implicit: tag.is_none(),
-        quoted_implicit: tag.is_none(),
+) -> yaml_event_t<A> {
+    let implicit = tag.is_none();
+    YAML_SCALAR_EVENT {
+        anchor,
+        tag,
+        value,
+        plain_implicit: implicit,
+        quoted_implicit: implicit,
         style,
-    })
+    }
 }
 
-fn sequence<A: Allocator + Copy>(
-    alloc: A,
-    anchor: Option<&str>,
+fn sequence<A: Allocator>(
+    anchor: Option<String<A>>,
     style: yaml_sequence_style_t,
-) -> Result<yaml_event_t<A>, AllocError> {
-    Ok(YAML_SEQUENCE_START_EVENT {
-        anchor: if_any(alloc, anchor)?,
+) -> yaml_event_t<A> {
+    YAML_SEQUENCE_START_EVENT {
+        anchor,
         tag: None,
         implicit: true,
         style,
-    })
+    }
 }
 
 fn mapping<A: Allocator>(style: yaml_mapping_style_t) -> yaml_event_t<A> {
@@ -104,36 +107,48 @@ fn mapping<A: Allocator>(style: yaml_mapping_style_t) -> yaml_event_t<A> {
     }
 }
 
-/// The event that is meant.
+/// The event that is meant, for which there is memory.
 pub(crate) fn event<A: Allocator + Copy>(
+    rt: &impl Abort,
     alloc: A,
     given: &Given,
-) -> Result<yaml_event_t<A>, AllocError> {
+) -> yaml_event_t<A> {
     let any = YAML_ANY_SCALAR_STYLE;
     match given {
-        Given::Stream => Ok(YAML_STREAM_START_EVENT {
+        Given::Stream => YAML_STREAM_START_EVENT {
             encoding: YAML_ANY_ENCODING,
-        }),
-        Given::StreamIn(encoding) => Ok(YAML_STREAM_START_EVENT {
+        },
+        Given::StreamIn(encoding) => YAML_STREAM_START_EVENT {
             encoding: *encoding,
-        }),
-        Given::StreamEnd => Ok(YAML_STREAM_END_EVENT),
-        Given::Document => document(alloc, &[]),
-        Given::Directed(tags) => document(alloc, tags),
-        Given::DocumentEnd => Ok(YAML_DOCUMENT_END_EVENT { implicit: true }),
-        Given::Alias(name) => Ok(YAML_ALIAS_EVENT {
-            anchor: String::from_str(alloc, name)?,
-        }),
-        Given::Text(value) => scalar(alloc, None, None, any, value),
-        Given::Literal(value) => scalar(alloc, None, None, YAML_LITERAL_SCALAR_STYLE, value),
-        Given::Tagged(tag, value) => scalar(alloc, None, Some(*tag), any, value),
-        Given::Anchored(name, value) => scalar(alloc, Some(*name), None, any, value),
-        Given::BlockSequence => sequence(alloc, None, YAML_BLOCK_SEQUENCE_STYLE),
-        Given::FlowSequence => sequence(alloc, None, YAML_FLOW_SEQUENCE_STYLE),
-        Given::AnchoredSequence(name) => sequence(alloc, Some(*name), YAML_FLOW_SEQUENCE_STYLE),
-        Given::SequenceEnd => Ok(YAML_SEQUENCE_END_EVENT),
-        Given::BlockMapping => Ok(mapping(YAML_BLOCK_MAPPING_STYLE)),
-        Given::FlowMapping => Ok(mapping(YAML_FLOW_MAPPING_STYLE)),
-        Given::MappingEnd => Ok(YAML_MAPPING_END_EVENT),
+        },
+        Given::StreamEnd => YAML_STREAM_END_EVENT,
+        Given::Document => document(rt, alloc, &[]),
+        Given::Directed(tags) => document(rt, alloc, tags),
+        Given::DocumentEnd => YAML_DOCUMENT_END_EVENT { implicit: true },
+        Given::Alias(name) => YAML_ALIAS_EVENT {
+            anchor: owned(rt, alloc, name),
+        },
+        Given::Text(value) => scalar(None, None, owned(rt, alloc, value), any),
+        Given::Literal(value) => {
+            let value = owned(rt, alloc, value);
+            scalar(None, None, value, YAML_LITERAL_SCALAR_STYLE)
+        }
+        Given::Tagged(tag, value) => {
+            let tag = owned(rt, alloc, tag);
+            scalar(None, Some(tag), owned(rt, alloc, value), any)
+        }
+        Given::Anchored(name, value) => {
+            let name = owned(rt, alloc, name);
+            scalar(Some(name), None, owned(rt, alloc, value), any)
+        }
+        Given::BlockSequence => sequence(None, YAML_BLOCK_SEQUENCE_STYLE),
+        Given::FlowSequence => sequence(None, YAML_FLOW_SEQUENCE_STYLE),
+        Given::AnchoredSequence(name) => {
+            sequence(Some(owned(rt, alloc, name)), YAML_FLOW_SEQUENCE_STYLE)
+        }
+        Given::SequenceEnd => YAML_SEQUENCE_END_EVENT,
+        Given::BlockMapping => mapping(YAML_BLOCK_MAPPING_STYLE),
+        Given::FlowMapping => mapping(YAML_FLOW_MAPPING_STYLE),
+        Given::MappingEnd => YAML_MAPPING_END_EVENT,
     }
 }

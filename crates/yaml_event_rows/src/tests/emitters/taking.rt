@@ -3,11 +3,10 @@ use super::streams::Given;
 use super::streams::Given::{
     Document, DocumentEnd, FlowSequence, SequenceEnd, Stream, StreamEnd, Text,
 };
-use super::{Setting, UNSET, begun, check_failed, emit_all, flush_if_known};
+use super::{Setting, UNSET, check_failed, emit_all, flush_if_known, made};
 use crate::tests::{equal, same};
 use std::alloc::Global;
 use std::process::Abort;
-use std::test::Fail;
 use yaml_base::{YAML_UTF16LE_ENCODING, yaml_error_t};
 use yaml_emitter::{yaml_emitter_t, yaml_emitter_take_output};
 
@@ -19,84 +18,83 @@ fn check_taken(rt: &impl Abort, emitter: &mut yaml_emitter_t<Global>, bytes: &[u
     same(rt, yaml_emitter_take_output(emitter).as_slice(), b"");
 }
 
-// Events, and what is handed out by them and a flush.
-fn take_after(
-    rt: &impl Abort,
-    alloc: Global,
-    emitter: &mut yaml_emitter_t<Global>,
-    events: &[Given],
-    bytes: &[u8],
-) -> Result<(), Fail> {
-    emit_all(rt, alloc, emitter, events)?;
-    flush_if_known(rt, emitter)?;
-    check_taken(rt, emitter, bytes);
-    Ok(())
-}
+/// Events, and what is handed out by them and a flush.
+type Part<'a> = (&'a [Given<'a>], &'a [u8]);
 
-// In the middle of a document, and where events wait.
 fn take_parts(
     rt: &impl Abort,
     alloc: Global,
     emitter: &mut yaml_emitter_t<Global>,
-) -> Result<(), Fail> {
-    check_taken(rt, emitter, b"");
-    take_after(rt, alloc, emitter, &[Stream, Document, FlowSequence], b"")?;
-    take_after(rt, alloc, emitter, &[Text("a"), Text("b")], b"[a, b")?;
-    take_after(rt, alloc, emitter, &[FlowSequence, Text("c")], b"")?;
+    parts: &[Part],
+) {
+    for part in parts {
+        emit_all(rt, alloc, emitter, part.0);
+        equal(rt, &flush_if_known(rt, emitter), &Ok(()));
+        check_taken(rt, emitter, part.1);
+    }
+}
+
+// In the middle of a document, and where events wait.
+const PARTS: &[Part] = &[
+    (&[], b""),
+    (&[Stream, Document, FlowSequence], b""),
+    (&[Text("a"), Text("b")], b"[a, b"),
+    (&[FlowSequence, Text("c")], b""),
+];
+
+const LAST_PARTS: &[Part] = &[
+    (&[SequenceEnd], b", [c]"),
+    (&[SequenceEnd, DocumentEnd], b"]\n"),
+    (&[Document, Text("d"), DocumentEnd, StreamEnd], b"--- d\n"),
+];
+
+fn take_stream(rt: &impl Abort, alloc: Global, emitter: &mut yaml_emitter_t<Global>) {
+    take_parts(rt, alloc, emitter, PARTS);
     equal(rt, &emitter.held(), &2);
-    take_after(rt, alloc, emitter, &[SequenceEnd], b", [c]")?;
-    take_after(rt, alloc, emitter, &[SequenceEnd, DocumentEnd], b"]\n")?;
-    let last = [Document, Text("d"), DocumentEnd, StreamEnd];
-    take_after(rt, alloc, emitter, &last, b"--- d\n")
+    take_parts(rt, alloc, emitter, LAST_PARTS);
 }
 
 #[test]
-fn a_stream_is_taken_in_parts(rt: HostRuntime) -> Result<(), Fail> {
-    let mut emitter = begun(rt.alloc(), &UNSET)?;
-    take_parts(&rt, rt.alloc(), &mut emitter)
+fn a_stream_is_taken_in_parts(rt: HostRuntime) {
+    take_stream(&rt, rt.alloc(), &mut made(&rt, rt.alloc(), &UNSET));
 }
+
+const UTF16: &Setting = &Setting {
+    encoding: YAML_UTF16LE_ENCODING,
+    ..UNSET
+};
 
 // The byte order mark comes with the first part alone.
-fn take_utf16(
-    rt: &impl Abort,
-    alloc: Global,
-    emitter: &mut yaml_emitter_t<Global>,
-) -> Result<(), Fail> {
-    take_after(rt, alloc, emitter, &[Stream, Document], b"\xFF\xFE")?;
-    take_after(rt, alloc, emitter, &[Text("a")], b"a\0")?;
-    take_after(rt, alloc, emitter, &[DocumentEnd, StreamEnd], b"\n\0")
-}
+const IN_UTF16: &[Part] = &[
+    (&[Stream, Document], b"\xFF\xFE"),
+    (&[Text("a")], b"a\0"),
+    (&[DocumentEnd, StreamEnd], b"\n\0"),
+];
 
 #[test]
-fn utf16_is_taken_in_parts(rt: HostRuntime) -> Result<(), Fail> {
-    let setting = Setting {
-        encoding: YAML_UTF16LE_ENCODING,
-        ..UNSET
-    };
-    let mut emitter = begun(rt.alloc(), &setting)?;
-    take_utf16(&rt, rt.alloc(), &mut emitter)
+fn utf16_is_taken_in_parts(rt: HostRuntime) {
+    take_parts(&rt, rt.alloc(), &mut made(&rt, rt.alloc(), UTF16), IN_UTF16);
 }
 
+const SIX: &Setting = &Setting { limit: 6, ..UNSET };
+
+const FIVE_BYTES: &[Part] = &[(
+    &[Stream, Document, FlowSequence, Text("a"), Text("b")],
+    b"[a, b",
+)];
+
 // Five bytes are taken, and the limit leaves one of the next three.
-fn take_to_the_limit(
-    rt: &impl Abort,
-    alloc: Global,
-    emitter: &mut yaml_emitter_t<Global>,
-) -> Result<(), Fail> {
-    let first = [Stream, Document, FlowSequence, Text("a"), Text("b")];
-    take_after(rt, alloc, emitter, &first, b"[a, b")?;
-    emit_all(rt, alloc, emitter, &[Text("c")])?;
+fn take_to_the_limit(rt: &impl Abort, alloc: Global, emitter: &mut yaml_emitter_t<Global>) {
+    take_parts(rt, alloc, emitter, FIVE_BYTES);
+    emit_all(rt, alloc, emitter, &[Text("c")]);
     let error = yaml_error_t::WriteError;
-    assert_eq!(rt; flush_if_known(rt, emitter), Err(error));
+    equal(rt, &flush_if_known(rt, emitter), &Err(error));
     check_taken(rt, emitter, b",");
     check_failed(rt, emitter, error);
     check_taken(rt, emitter, b"");
-    Ok(())
 }
 
 #[test]
-fn the_limit_counts_what_was_taken(rt: HostRuntime) -> Result<(), Fail> {
-    let setting = Setting { limit: 6, ..UNSET };
-    let mut emitter = begun(rt.alloc(), &setting)?;
-    take_to_the_limit(&rt, rt.alloc(), &mut emitter)
+fn the_limit_counts_what_was_taken(rt: HostRuntime) {
+    take_to_the_limit(&rt, rt.alloc(), &mut made(&rt, rt.alloc(), SIX));
 }

@@ -6,11 +6,10 @@ use super::streams::Given::{
     Tagged, Text,
 };
 use super::streams::{Given, event};
-use super::{Setting, UNSET, begun, check_failed, check_refused, emit_all, flush_if_known, give};
+use super::{Setting, UNSET, check_failed, check_refused, emit_all, flush_if_known, give, made};
 use crate::tests::{equal, same};
 use std::alloc::Global;
 use std::process::Abort;
-use std::test::Fail;
 use yaml_base::{YAML_UTF8_ENCODING, YAML_UTF16LE_ENCODING, yaml_encoding_t, yaml_error_t};
 use yaml_emitter::yaml_emitter_t;
 
@@ -30,12 +29,11 @@ fn take_turns(
     emitter: &mut yaml_emitter_t<Global>,
     turns: Turns,
     text: &mut String,
-) -> Result<(), Fail> {
-    for (given, ready, _) in turns {
-        equal(rt, &give(rt, emitter, event(alloc, given)?), &Ok(()));
-        text.push_str(ready)?;
+) {
+    for turn in turns {
+        equal(rt, &give(rt, emitter, event(rt, alloc, &turn.0)), &Ok(()));
+        text.push_str(turn.1).expect(rt, "no memory");
     }
-    Ok(())
 }
 
 /// How many events wait after these turns.
@@ -46,41 +44,54 @@ fn waiting_after(turns: Turns) -> usize {
     }
 }
 
-// Events up to one, a flush, and the rest.
-fn check_flush_after(
+// Events, a flush, and the rest of the stream.
+fn flush_between(
     rt: &impl Abort,
     alloc: Global,
-    turns: Turns,
-    count: usize,
-) -> Result<(), Fail> {
-    assert!(rt; count <= turns.len());
-    let (first, rest) = turns.split_at(count);
-    let mut text = String::new(alloc);
-    let mut emitter = begun(alloc, &UNSET)?;
-    take_turns(rt, alloc, &mut emitter, first, &mut text)?;
-    equal(rt, &flush_if_known(rt, &mut emitter), &Ok(()));
-    check_output(rt, &emitter, text.as_str(), waiting_after(first));
-    take_turns(rt, alloc, &mut emitter, rest, &mut text)?;
-    check_output(rt, &emitter, text.as_str(), 0);
-    Ok(())
+    emitter: &mut yaml_emitter_t<Global>,
+    (first, rest): (Turns, Turns),
+    text: &mut String,
+) {
+    take_turns(rt, alloc, emitter, first, text);
+    equal(rt, &flush_if_known(rt, emitter), &Ok(()));
+    check_output(rt, emitter, text.as_str(), waiting_after(first));
+    take_turns(rt, alloc, emitter, rest, text);
+    check_output(rt, emitter, text.as_str(), 0);
 }
 
-fn check_flush_after_each(rt: &impl Abort, alloc: Global, turns: Turns) -> Result<(), Fail> {
+fn check_flush_after(rt: &impl Abort, alloc: Global, parts: (Turns, Turns)) {
+    let mut emitter = made(rt, alloc, &UNSET);
+    flush_between(rt, alloc, &mut emitter, parts, &mut String::new(alloc));
+}
+
+// A flush after no event, after the first, and so on.
+fn check_flush_after_each(rt: &impl Abort, alloc: Global, turns: Turns) {
     for count in 0..=turns.len() {
-        check_flush_after(rt, alloc, turns, count)?;
+        check_flush_after(rt, alloc, turns.split_at(count));
     }
-    Ok(())
+}
+
+fn events_of<'a>(rt: &impl Abort, alloc: Global, turns: Turns<'a>) -> Vec<Given<'a>> {
+    let mut events = Vec::new(alloc);
+    for turn in turns {
+        events.push(turn.0).expect(rt, "no memory");
+    }
+    events
+}
+
+fn text_of(rt: &impl Abort, alloc: Global, turns: Turns) -> String {
+    let mut text = String::new(alloc);
+    for turn in turns {
+        text.push_str(turn.1).expect(rt, "no memory");
+    }
+    text
 }
 
 // Each growth is refused in turn.
-fn check_turns(rt: &impl Abort, alloc: Global, turns: Turns) -> Result<(), Fail> {
-    let mut events = Vec::new(alloc);
-    let mut text = String::new(alloc);
-    for (given, ready, _) in turns {
-        events.push(*given)?;
-        text.push_str(ready)?;
-    }
-    check_growths(rt, alloc, events.as_slice(), text.as_str().as_bytes())
+fn check_turns(rt: &impl Abort, alloc: Global, turns: Turns) {
+    let events = events_of(rt, alloc, turns);
+    let text = text_of(rt, alloc, turns);
+    check_growths(rt, alloc, events.as_slice(), text.as_str().as_bytes());
 }
 
 /// Two documents with nodes of each kind.
@@ -110,9 +121,9 @@ const TURNS: Turns = &[
 ];
 
 #[test]
-fn a_flush_hands_out_what_is_ready(rt: HostRuntime) -> Result<(), Fail> {
-    check_flush_after_each(&rt, rt.alloc(), TURNS)?;
-    check_turns(&rt, rt.alloc(), TURNS)
+fn a_flush_hands_out_what_is_ready(rt: HostRuntime) {
+    check_flush_after_each(&rt, rt.alloc(), TURNS);
+    check_turns(&rt, rt.alloc(), TURNS);
 }
 
 // Events, each with all that is handed out after it.
@@ -121,12 +132,11 @@ fn check_outputs(
     alloc: Global,
     emitter: &mut yaml_emitter_t<Global>,
     rows: &[(Given, &str)],
-) -> Result<(), Fail> {
-    for (given, text) in rows {
-        equal(rt, &give(rt, emitter, event(alloc, given)?), &Ok(()));
-        same(rt, emitter.output(), text.as_bytes());
+) {
+    for row in rows {
+        equal(rt, &give(rt, emitter, event(rt, alloc, &row.0)), &Ok(()));
+        same(rt, emitter.output(), row.1.as_bytes());
     }
-    Ok(())
 }
 
 const ROWS: &[(Given, &str)] = &[
@@ -145,9 +155,8 @@ const ROWS: &[(Given, &str)] = &[
 
 // Without a flush of the caller's only the ends of documents and of the stream hand out.
 #[test]
-fn an_emit_hands_out_at_the_end_of_a_document(rt: HostRuntime) -> Result<(), Fail> {
-    let mut emitter = begun(rt.alloc(), &UNSET)?;
-    check_outputs(&rt, rt.alloc(), &mut emitter, ROWS)
+fn an_emit_hands_out_at_the_end_of_a_document(rt: HostRuntime) {
+    check_outputs(&rt, rt.alloc(), &mut made(&rt, rt.alloc(), &UNSET), ROWS);
 }
 
 // Events and a flush.
@@ -156,10 +165,9 @@ fn flush_after(
     alloc: Global,
     emitter: &mut yaml_emitter_t<Global>,
     events: &[Given],
-) -> Result<(), Fail> {
-    emit_all(rt, alloc, emitter, events)?;
+) {
+    emit_all(rt, alloc, emitter, events);
     equal(rt, &flush_if_known(rt, emitter), &Ok(()));
-    Ok(())
 }
 
 const STARTS: &[Given] = &[
@@ -173,37 +181,34 @@ const STARTS: &[Given] = &[
 const ENDS: &[Given] = &[SequenceEnd, SequenceEnd, DocumentEnd, StreamEnd];
 
 // The outer sequence has an anchor, which is written before the inner one is known.
-fn nest_sequences(
-    rt: &impl Abort,
-    alloc: Global,
-    emitter: &mut yaml_emitter_t<Global>,
-) -> Result<(), Fail> {
-    flush_after(rt, alloc, emitter, STARTS)?;
+fn nest_sequences(rt: &impl Abort, alloc: Global, emitter: &mut yaml_emitter_t<Global>) {
+    flush_after(rt, alloc, emitter, STARTS);
     check_output(rt, emitter, "&a", 2);
-    emit_all(rt, alloc, emitter, ENDS)?;
+    emit_all(rt, alloc, emitter, ENDS);
     check_output(rt, emitter, "&a [[x]]\n", 0);
-    Ok(())
 }
 
 #[test]
-fn a_flow_sequence_waits_for_two_events(rt: HostRuntime) -> Result<(), Fail> {
-    let mut emitter = begun(rt.alloc(), &UNSET)?;
-    nest_sequences(&rt, rt.alloc(), &mut emitter)
+fn a_flow_sequence_waits_for_two_events(rt: HostRuntime) {
+    nest_sequences(&rt, rt.alloc(), &mut made(&rt, rt.alloc(), &UNSET));
 }
 
 const ITEMS: &[Given] = &[Stream, Document, BlockSequence, Text("a"), Text("b")];
 
+const CANONICAL: &Setting = &Setting {
+    canonical: true,
+    width: -1,
+    ..UNSET
+};
+
+fn flush_items(rt: &impl Abort, alloc: Global, emitter: &mut yaml_emitter_t<Global>) {
+    flush_after(rt, alloc, emitter, ITEMS);
+    check_output(rt, emitter, "---\n[\n  \"a\",\n  \"b\"", 0);
+}
+
 #[test]
-fn a_canonical_item_is_handed_out_without_its_comma(rt: HostRuntime) -> Result<(), Fail> {
-    let setting = Setting {
-        canonical: true,
-        width: -1,
-        ..UNSET
-    };
-    let mut emitter = begun(rt.alloc(), &setting)?;
-    flush_after(&rt, rt.alloc(), &mut emitter, ITEMS)?;
-    check_output(&rt, &emitter, "---\n[\n  \"a\",\n  \"b\"", 0);
-    Ok(())
+fn a_canonical_item_is_handed_out_without_its_comma(rt: HostRuntime) {
+    flush_items(&rt, rt.alloc(), &mut made(&rt, rt.alloc(), CANONICAL));
 }
 
 const FLOW: &[Given] = &[Stream, Document, FlowSequence, Text("a"), Text("b")];
@@ -213,62 +218,52 @@ fn end_too_soon(
     rt: &impl Abort,
     alloc: Global,
     emitter: &mut yaml_emitter_t<Global>,
-    flushed: bool,
-) -> Result<(), Fail> {
-    if flushed {
-        flush_after(rt, alloc, emitter, FLOW)?;
-    } else {
-        emit_all(rt, alloc, emitter, FLOW)?;
+    output: &str,
+) {
+    emit_all(rt, alloc, emitter, FLOW);
+    if !output.is_empty() {
+        equal(rt, &flush_if_known(rt, emitter), &Ok(()));
     }
-    let end = event(alloc, &DocumentEnd)?;
+    let end = event(rt, alloc, &DocumentEnd);
     check_refused(rt, emitter, end, yaml_error_t::ExpectedNode);
     check_failed(rt, emitter, yaml_error_t::ExpectedNode);
-    check_output(rt, emitter, if flushed { "[a, b" } else { "" }, 0);
-    Ok(())
+    check_output(rt, emitter, output, 0);
 }
 
-fn check_wrong_place(rt: &impl Abort, alloc: Global, flushed: bool) -> Result<(), Fail> {
-    let mut emitter = begun(alloc, &UNSET)?;
-    end_too_soon(rt, alloc, &mut emitter, flushed)
-}
-
+// What was flushed before is handed out, and nothing else.
 #[test]
-fn an_event_in_a_wrong_place_ends_the_output(rt: HostRuntime) -> Result<(), Fail> {
-    check_wrong_place(&rt, rt.alloc(), true)?;
-    check_wrong_place(&rt, rt.alloc(), false)
+fn an_event_in_a_wrong_place_ends_the_output(rt: HostRuntime) {
+    let alloc = rt.alloc();
+    end_too_soon(&rt, alloc, &mut made(&rt, alloc, &UNSET), "[a, b");
+    end_too_soon(&rt, alloc, &mut made(&rt, alloc, &UNSET), "");
 }
 
 const FOO: &[Given] = &[Stream, Document, Text("foo")];
 
 // Three bytes where the limit is two.
-fn flush_too_much(
-    rt: &impl Abort,
-    alloc: Global,
-    emitter: &mut yaml_emitter_t<Global>,
-) -> Result<(), Fail> {
-    emit_all(rt, alloc, emitter, FOO)?;
+fn flush_too_much(rt: &impl Abort, alloc: Global, emitter: &mut yaml_emitter_t<Global>) {
+    emit_all(rt, alloc, emitter, FOO);
     check_output(rt, emitter, "", 0);
     let error = yaml_error_t::WriteError;
     equal(rt, &flush_if_known(rt, emitter), &Err(error));
     check_failed(rt, emitter, error);
     check_output(rt, emitter, "fo", 0);
-    Ok(())
 }
 
+const TWO_BYTES: &Setting = &Setting { limit: 2, ..UNSET };
+
 #[test]
-fn a_flush_past_the_limit_is_refused(rt: HostRuntime) -> Result<(), Fail> {
-    let setting = Setting { limit: 2, ..UNSET };
-    let mut emitter = begun(rt.alloc(), &setting)?;
-    flush_too_much(&rt, rt.alloc(), &mut emitter)
+fn a_flush_past_the_limit_is_refused(rt: HostRuntime) {
+    flush_too_much(&rt, rt.alloc(), &mut made(&rt, rt.alloc(), TWO_BYTES));
 }
 
 // A stream that waits for its start has handed out nothing.
 fn check_unstarted(rt: &impl Abort, emitter: &mut yaml_emitter_t<Global>) {
-    assert!(rt; emitter.encoding_known());
-    assert!(rt; !emitter.is_started());
+    equal(rt, &emitter.encoding_known(), &true);
+    equal(rt, &emitter.is_started(), &false);
     equal(rt, &flush_if_known(rt, emitter), &Ok(()));
     same(rt, emitter.output(), b"");
-    assert!(rt; !emitter.is_started());
+    equal(rt, &emitter.is_started(), &false);
 }
 
 const NOTHING: &[Given] = &[Stream, StreamEnd];
@@ -277,22 +272,23 @@ const NOTHING: &[Given] = &[Stream, StreamEnd];
 fn check_early_flush(
     rt: &impl Abort,
     alloc: Global,
-    encoding: yaml_encoding_t,
+    emitter: &mut yaml_emitter_t<Global>,
     output: &[u8],
-) -> Result<(), Fail> {
-    let setting = Setting { encoding, ..UNSET };
-    let mut emitter = begun(alloc, &setting)?;
-    check_unstarted(rt, &mut emitter);
-    emit_all(rt, alloc, &mut emitter, NOTHING)?;
-    assert!(rt; emitter.is_started());
+) {
+    check_unstarted(rt, emitter);
+    emit_all(rt, alloc, emitter, NOTHING);
+    equal(rt, &emitter.is_started(), &true);
     same(rt, emitter.output(), output);
-    Ok(())
+}
+
+fn check_encoding(rt: &impl Abort, alloc: Global, encoding: yaml_encoding_t, output: &[u8]) {
+    let setting = Setting { encoding, ..UNSET };
+    check_early_flush(rt, alloc, &mut made(rt, alloc, &setting), output);
 }
 
 // An encoding that was set is known before the stream begins; there is nothing to hand out.
 #[test]
-fn a_flush_before_the_stream_hands_out_nothing(rt: HostRuntime) -> Result<(), Fail> {
-    let alloc = rt.alloc();
-    check_early_flush(&rt, alloc, YAML_UTF8_ENCODING, b"")?;
-    check_early_flush(&rt, alloc, YAML_UTF16LE_ENCODING, b"\xFF\xFE")
+fn a_flush_before_the_stream_hands_out_nothing(rt: HostRuntime) {
+    check_encoding(&rt, rt.alloc(), YAML_UTF8_ENCODING, b"");
+    check_encoding(&rt, rt.alloc(), YAML_UTF16LE_ENCODING, b"\xFF\xFE");
 }

@@ -1,5 +1,5 @@
 //! Directives and tags as they are written.
-ghost use Rattle.std.specs.Prelude.{◌≡◌, IfOk, chars};
+ghost use Rattle.std.specs.Prelude.{◌≡◌, chars};
 ghost use Rattle.std.specs.List.{list_any};
 ghost use Rattle.yaml_base.specs.Characters as class;
 ghost use Rattle.yaml_pen.specs.Page.{IsReady};
@@ -8,7 +8,6 @@ use super::in_force;
 use crate::tests::{equal, same};
 use std::alloc::{Allocator, Global};
 use std::process::Abort;
-use std::test::Fail;
 use yaml_base::{YAML_LN_BREAK, YAML_UTF8_ENCODING, is_break, yaml_error_t, yaml_tag_directive_t};
 use yaml_mark::{
     Directives, analyze_tag, write_anchor, write_tag_content, write_tag_handle, write_tag_prefix,
@@ -16,12 +15,12 @@ use yaml_mark::{
 };
 use yaml_pen::Pen;
 
-fn begun(alloc: Global) -> Result<Pen<Global>, yaml_error_t>
-    ensures { IfOk result (λ pen. IsReady pen) }
+fn begun(rt: &impl Abort, alloc: Global) -> Pen<Global>
+    ensures { IsReady result }
 {
-    let mut pen = Pen::new(alloc)?;
+    let mut pen = Pen::new(alloc).expect(rt, "no memory");
     pen.begin(YAML_UTF8_ENCODING, YAML_LN_BREAK);
-    Ok(pen)
+    pen
 }
 
 // The answer was good, and this was written.
@@ -115,144 +114,113 @@ fn write_both(
 /// A tag, and what is written.
 type Tag<'a> = (&'a str, &'a str);
 
-fn check_tag(
-    rt: &impl Abort,
-    alloc: Global,
-    directives: &Directives<Global>,
-    row: &Tag,
-) -> Result<(), yaml_error_t> {
-    let mut pen = begun(alloc)?;
-    let answer = write_both(&mut pen, row.0, directives);
-    check_written(rt, &mut pen, answer, row.1.as_bytes());
-    Ok(())
-}
-
-fn check_each_tag(
-    rt: &impl Abort,
-    alloc: Global,
-    directives: &Directives<Global>,
-    rows: &[Tag],
-) -> Result<(), yaml_error_t> {
+fn check_each_tag(rt: &impl Abort, alloc: Global, directives: &Directives<Global>, rows: &[Tag]) {
     for row in rows {
-        check_tag(rt, alloc, directives, row)?;
+        let mut pen = begun(rt, alloc);
+        let answer = write_both(&mut pen, row.0, directives);
+        check_written(rt, &mut pen, answer, row.1.as_bytes());
     }
-    Ok(())
 }
 
 // Where a document gives these directives.
-fn check_tags(
-    rt: &impl Abort,
-    alloc: Global,
-    own: &[(&str, &str)],
-    rows: &[Tag],
-) -> Result<(), Fail> {
-    let directives = in_force(alloc, own)?;
-    check_each_tag(rt, alloc, &directives, rows)?;
-    Ok(())
+fn check_tags(rt: &impl Abort, alloc: Global, own: &[(&str, &str)], rows: &[Tag]) {
+    check_each_tag(rt, alloc, &in_force(rt, alloc, own), rows);
 }
 
-#[test]
-fn tags_are_written_by_their_spelling(rt: HostRuntime) -> Result<(), Fail> {
-    let rows: &[Tag] = &[
-        ("!", "&a !<%21>"),
-        ("!foo", "&a !foo"),
-        ("!a!b", "&a !a%21b"),
-        ("tag:yaml.org,2002:int", "&a !!int"),
-        ("tag:yaml.org,2002:", "&a !<tag:yaml.org,2002:>"),
-        ("!a\0", "&a !a%00"),
-        ("!\u{E9}", "&a !%C3%A9"),
-        ("!a,[b]", "&a !a,[b]"),
-        ("!50%", "&a !50%25"),
-        ("a b<c>", "&a !<a%20b%3Cc%3E>"),
-    ];
-    check_tags(&rt, rt.alloc(), &[], rows)
-}
+const SPELLED: &[Tag] = &[
+    ("!", "&a !<%21>"),
+    ("!foo", "&a !foo"),
+    ("!a!b", "&a !a%21b"),
+    ("tag:yaml.org,2002:int", "&a !!int"),
+    ("tag:yaml.org,2002:", "&a !<tag:yaml.org,2002:>"),
+    ("!a\0", "&a !a%00"),
+    ("!\u{E9}", "&a !%C3%A9"),
+    ("!a,[b]", "&a !a,[b]"),
+    ("!50%", "&a !50%25"),
+    ("a b<c>", "&a !<a%20b%3Cc%3E>"),
+];
 
 #[test]
-fn tags_are_written_by_a_documents_own_handles(rt: HostRuntime) -> Result<(), Fail> {
-    let own: &[(&str, &str)] = &[("!e!", "!x"), ("!!", "tag:e.com,2000:")];
-    let rows: &[Tag] = &[
-        ("!xy", "&a !e!y"),
-        ("!x", "&a !x"),
-        ("tag:e.com,2000:t", "&a !!t"),
-        ("tag:yaml.org,2002:str", "&a !<tag:yaml.org,2002:str>"),
-    ];
-    check_tags(&rt, rt.alloc(), own, rows)
+fn tags_are_written_by_their_spelling(rt: HostRuntime) {
+    check_tags(&rt, rt.alloc(), &[], SPELLED);
 }
 
+const OWN: &[(&str, &str)] = &[("!e!", "!x"), ("!!", "tag:e.com,2000:")];
+
+const BY_OWN: &[Tag] = &[
+    ("!xy", "&a !e!y"),
+    ("!x", "&a !x"),
+    ("tag:e.com,2000:t", "&a !!t"),
+    ("tag:yaml.org,2002:str", "&a !<tag:yaml.org,2002:str>"),
+];
+
 #[test]
-fn tags_are_written_by_handles_that_replace_the_defaults(rt: HostRuntime) -> Result<(), Fail> {
-    let replaced: &[(&str, &str)] = &[("!", "tag:e.com,2000:")];
-    let rows: &[Tag] = &[
-        ("tag:e.com,2000:t", "&a !t"),
-        ("!t", "&a !<%21t>"),
-        ("tag:yaml.org,2002:str", "&a !!str"),
-    ];
-    check_tags(&rt, rt.alloc(), replaced, rows)
+fn tags_are_written_by_a_documents_own_handles(rt: HostRuntime) {
+    check_tags(&rt, rt.alloc(), OWN, BY_OWN);
+}
+
+const REPLACED: &[(&str, &str)] = &[("!", "tag:e.com,2000:")];
+
+const BY_REPLACED: &[Tag] = &[
+    ("tag:e.com,2000:t", "&a !t"),
+    ("!t", "&a !<%21t>"),
+    ("tag:yaml.org,2002:str", "&a !!str"),
+];
+
+#[test]
+fn tags_are_written_by_handles_that_replace_the_defaults(rt: HostRuntime) {
+    check_tags(&rt, rt.alloc(), REPLACED, BY_REPLACED);
 }
 
 /// The characters that stand for themselves.
 const KEPT: &str =
     "0123456789ABCDEFGHIJKLMNOPQRSTUVWXYZabcdefghijklmnopqrstuvwxyz_-;/?:@&=+$,.~*'()[]";
 
-fn push_escaped(alloc: Global, forms: &mut String, byte: u8) -> Result<(), Fail> {
-    forms.push_str(format!(in alloc; "%{:02X}", byte)?.as_str())?;
-    Ok(())
-}
-
 // The percent forms of a text's bytes.
-fn escaped(alloc: Global, text: &str) -> Result<String, Fail> {
+fn escaped(rt: &impl Abort, alloc: Global, text: &str) -> String {
     let mut forms = String::new(alloc);
     for byte in text.as_bytes() {
-        push_escaped(alloc, &mut forms, *byte)?;
+        let form = format!(in alloc; "%{:02X}", *byte).expect(rt, "no memory");
+        forms.push_str(form.as_str()).expect(rt, "no memory");
     }
-    Ok(forms)
+    forms
 }
 
-fn check_content(
-    rt: &impl Abort,
-    alloc: Global,
-    text: &str,
-    written: &str,
-) -> Result<(), yaml_error_t> {
-    let mut pen = begun(alloc)?;
+fn check_content(rt: &impl Abort, alloc: Global, text: &str, written: &str) {
+    let mut pen = begun(rt, alloc);
     let answer = write_tag_content(&mut pen, text, false);
     check_written(rt, &mut pen, answer, written.as_bytes());
-    Ok(())
 }
 
-fn check_escaped(rt: &impl Abort, alloc: Global, text: &str) -> Result<(), Fail> {
-    let forms = escaped(alloc, text)?;
-    check_content(rt, alloc, text, forms.as_str())?;
-    Ok(())
-}
-
-fn check_character(rt: &impl Abort, alloc: Global, character: char) -> Result<(), Fail> {
-    let mut text = String::new(alloc);
-    text.push(character)?;
-    if KEPT.contains(character) {
-        check_content(rt, alloc, text.as_str(), text.as_str())?;
-        return Ok(());
+// A character by itself.
+fn check_alone(rt: &impl Abort, alloc: Global, text: &str, is_kept: bool) {
+    if is_kept {
+        check_content(rt, alloc, text, text);
+    } else {
+        check_content(rt, alloc, text, escaped(rt, alloc, text).as_str());
     }
-    check_escaped(rt, alloc, text.as_str())
+}
+
+fn check_character(rt: &impl Abort, alloc: Global, character: char) {
+    let mut text = String::new(alloc);
+    text.push(character).expect(rt, "no memory");
+    check_alone(rt, alloc, text.as_str(), KEPT.contains(character));
 }
 
 // Each character up to U+00FF.
 #[test]
-fn every_byte_is_kept_or_escaped(rt: HostRuntime) -> Result<(), Fail> {
+fn every_byte_is_kept_or_escaped(rt: HostRuntime) {
     for character in '\0'..='\u{FF}' {
-        check_character(&rt, rt.alloc(), character)?;
+        check_character(&rt, rt.alloc(), character);
     }
-    Ok(())
 }
 
 // The first and last of each longer form of UTF-8.
 #[test]
-fn longer_characters_are_escaped(rt: HostRuntime) -> Result<(), Fail> {
+fn longer_characters_are_escaped(rt: HostRuntime) {
     for character in "\u{7FF}\u{800}\u{FFFF}\u{10000}\u{10FFFF}".chars() {
-        check_character(&rt, rt.alloc(), character)?;
+        check_character(&rt, rt.alloc(), character);
     }
-    Ok(())
 }
 
 #[tactic(auto, using(yaml_base::proofs::Literals::literal_unbroken))]
@@ -266,12 +234,11 @@ fn write_directive(pen: &mut Pen<Global>) -> Result<(), yaml_error_t>
 }
 
 #[test]
-fn a_directive_line_is_separated(rt: HostRuntime) -> Result<(), Fail> {
-    let mut pen = begun(rt.alloc())?;
+fn a_directive_line_is_separated(rt: HostRuntime) {
+    let mut pen = begun(&rt, rt.alloc());
     let answer = write_directive(&mut pen);
     equal(&rt, &(pen.whitespace(), pen.indention()), &(false, false));
     check_written(&rt, &mut pen, answer, b"%TAG !e! %21x");
-    Ok(())
 }
 
 // A text as a prefix, and then as what stands after a handle.
@@ -286,29 +253,24 @@ fn write_ends(pen: &mut Pen<Global>, text: &str, portable: bool) -> Result<(), y
 /// A text, whether it is to be portable, and what is written.
 type Ends<'a> = (&'a str, bool, &'a str);
 
-fn check_ends(rt: &impl Abort, alloc: Global, row: &Ends) -> Result<(), yaml_error_t> {
-    let mut pen = begun(alloc)?;
-    let answer = write_ends(&mut pen, row.0, row.1);
-    check_written(rt, &mut pen, answer, row.2.as_bytes());
-    Ok(())
+fn check_ends(rt: &impl Abort, alloc: Global, rows: &[Ends]) {
+    for row in rows {
+        let mut pen = begun(rt, alloc);
+        let answer = write_ends(&mut pen, row.0, row.1);
+        check_written(rt, &mut pen, answer, row.2.as_bytes());
+    }
 }
 
-fn check_each_end(rt: &impl Abort, alloc: Global, rows: &[Ends]) -> Result<(), Fail> {
-    for row in rows {
-        check_ends(rt, alloc, row)?;
-    }
-    Ok(())
-}
+const ENDS: &[Ends] = &[
+    (";,[]", false, ";,[];,[]"),
+    (";,[]", true, ";,[];%2C%5B%5D"),
+    ("!x!", false, "%21x%21%21x%21"),
+    ("!x!", true, "!x%21%21x%21"),
+    ("!", true, "!%21"),
+    ("\u{E9}!", true, "%C3%A9%21%C3%A9%21"),
+];
 
 #[test]
-fn prefixes_and_suffixes_are_portable_where_asked(rt: HostRuntime) -> Result<(), Fail> {
-    let rows: &[Ends] = &[
-        (";,[]", false, ";,[];,[]"),
-        (";,[]", true, ";,[];%2C%5B%5D"),
-        ("!x!", false, "%21x%21%21x%21"),
-        ("!x!", true, "!x%21%21x%21"),
-        ("!", true, "!%21"),
-        ("\u{E9}!", true, "%C3%A9%21%C3%A9%21"),
-    ];
-    check_each_end(&rt, rt.alloc(), rows)
+fn prefixes_and_suffixes_are_portable_where_asked(rt: HostRuntime) {
+    check_ends(&rt, rt.alloc(), ENDS);
 }

@@ -2,12 +2,11 @@
 ghost use Rattle.yaml_pen.specs.Page.{IsReady};
 
 use super::runs::check_run_refused;
-use super::{IN_UTF8, begun, check_bytes, put_letters, write_long_run};
+use super::{IN_UTF8, begun, check_bytes, made, put_letters, write_long_run};
 use crate::tests::equal;
 use linked_list_allocator::LocalHeap;
 use std::alloc::{Allocator, Global};
 use std::process::Abort;
-use std::test::Fail;
 use yaml_base::{YAML_UTF8_ENCODING, yaml_error_t};
 use yaml_pen::Pen;
 
@@ -15,6 +14,11 @@ use yaml_pen::Pen;
 fn check_letters(rt: &impl Abort, output: &[u8], count: usize) {
     equal(rt, &output.len(), &count);
     equal(rt, &output.iter().all(|byte| *byte == b'x'), &true);
+}
+
+// A heap of so many bytes.
+fn heap(rt: &impl Abort, alloc: Global, size: usize) -> LocalHeap {
+    LocalHeap::new(alloc, size).expect(rt, "no memory")
 }
 
 // Letters find no room, and then nothing does; so many of them were handed out.
@@ -46,11 +50,10 @@ fn check_heap(rt: &impl Abort, heap: &LocalHeap, made: bool, handed_out: usize) 
 // The buffer takes 16,384 bytes and a little; the output's first flush asks for as many, its second
 // for more than that again.
 #[test]
-fn refused_growths_leave_the_output(rt: HostRuntime) -> Result<(), Fail> {
-    check_heap(&rt, &LocalHeap::new(rt.alloc(), 1_000)?, false, 0);
-    check_heap(&rt, &LocalHeap::new(rt.alloc(), 20_000)?, true, 0);
-    check_heap(&rt, &LocalHeap::new(rt.alloc(), 50_000)?, true, 16_384);
-    Ok(())
+fn refused_growths_leave_the_output(rt: HostRuntime) {
+    check_heap(&rt, &heap(&rt, rt.alloc(), 1_000), false, 0);
+    check_heap(&rt, &heap(&rt, rt.alloc(), 20_000), true, 0);
+    check_heap(&rt, &heap(&rt, rt.alloc(), 50_000), true, 16_384);
 }
 
 fn check_run_stops<A: Allocator>(
@@ -67,23 +70,16 @@ fn check_run_stops<A: Allocator>(
     check_bytes(rt, pen.output(), handed_out, IN_UTF8);
 }
 
-fn check_run_full(
-    rt: &impl Abort,
-    alloc: Global,
-    heap: &LocalHeap,
-    handed_out: usize,
-) -> Result<(), Fail> {
-    let mut pen = begun(heap, usize::MAX, YAML_UTF8_ENCODING)?;
+fn check_run_full(rt: &impl Abort, alloc: Global, heap: &LocalHeap, handed_out: usize) {
+    let mut pen = made(rt, heap, usize::MAX, YAML_UTF8_ENCODING);
     check_run_stops(rt, alloc, &mut pen, handed_out);
-    Ok(())
 }
 
 // A run is refused where its own flush finds no room; the first piece of this one has 16,383 bytes, as a
 // character stands across the buffer's end.
 #[test]
-fn refused_growths_end_a_run(rt: HostRuntime) -> Result<(), Fail> {
-    let small = LocalHeap::new(rt.alloc(), 20_000)?;
-    check_run_full(&rt, rt.alloc(), &small, 0)?;
-    let larger = LocalHeap::new(rt.alloc(), 50_000)?;
-    check_run_full(&rt, rt.alloc(), &larger, 16_383)
+fn refused_growths_end_a_run(rt: HostRuntime) {
+    let alloc = rt.alloc();
+    check_run_full(&rt, alloc, &heap(&rt, alloc, 20_000), 0);
+    check_run_full(&rt, alloc, &heap(&rt, alloc, 50_000), 16_383);
 }

@@ -2,13 +2,12 @@
 ghost use Rattle.yaml_pen.specs.Page.{IsReady};
 
 use super::{
-    Cycle, IN_UTF8, IN_UTF16LE, begun, check_bytes, check_rest, put_letters, start_of,
+    Cycle, IN_UTF8, IN_UTF16LE, check_bytes, check_rest, made, put_letters, start_of,
     write_long_run,
 };
 use crate::tests::equal;
 use std::alloc::{Allocator, Global};
 use std::process::Abort;
-use std::test::Fail;
 use yaml_base::{YAML_UTF8_ENCODING, YAML_UTF16LE_ENCODING, yaml_error_t};
 use yaml_pen::Pen;
 
@@ -43,22 +42,24 @@ fn write_runs_after(
     pen.flush()
 }
 
-fn check_runs(rt: &impl Abort, alloc: Global, row: &Cycle, ahead: u8) -> Result<(), Fail> {
-    let mut pen = begun(alloc, usize::MAX, row.0)?;
+fn check_runs(rt: &impl Abort, alloc: Global, row: &Cycle, ahead: u8) {
+    let mut pen = made(rt, alloc, usize::MAX, row.0);
     equal(rt, &write_runs_after(rt, &mut pen, alloc, ahead), &Ok(()));
     let start = start_of(row.0, usize::from(ahead));
     check_rest(rt, pen.output(), start, 100_010, row.1);
-    Ok(())
+}
+
+fn check_each_run(rt: &impl Abort, alloc: Global, row: &Cycle) {
+    for ahead in 0..10 {
+        check_runs(rt, alloc, row, ahead);
+    }
 }
 
 // The same ten bytes, written as runs.
 #[test]
-fn runs_stay_whole_across_the_buffer(rt: HostRuntime) -> Result<(), Fail> {
-    for ahead in 0..10 {
-        check_runs(&rt, rt.alloc(), &(YAML_UTF8_ENCODING, IN_UTF8), ahead)?;
-        check_runs(&rt, rt.alloc(), &(YAML_UTF16LE_ENCODING, IN_UTF16LE), ahead)?;
-    }
-    Ok(())
+fn runs_stay_whole_across_the_buffer(rt: HostRuntime) {
+    check_each_run(&rt, rt.alloc(), &(YAML_UTF8_ENCODING, IN_UTF8));
+    check_each_run(&rt, rt.alloc(), &(YAML_UTF16LE_ENCODING, IN_UTF16LE));
 }
 
 // After a refusal a run is refused by the same error, and hands out nothing.
@@ -81,32 +82,36 @@ fn is_good_or_cut(answer: Result<(), yaml_error_t>) -> bool {
     answer.is_ok() || answer == Err(yaml_error_t::WriteError)
 }
 
+// A run, which is refused where it passes the limit, and a flush, which then is.
+fn check_run_flushed(rt: &impl Abort, pen: &mut Pen<Global>, alloc: Global, limit: usize)
+    requires { IsReady pen.old }
+    ensures { IsReady pen.new }
+{
+    let answer = write_long_run(pen, alloc, 5_000);
+    equal(rt, &is_good_or_cut(answer), &true);
+    equal(rt, &pen.flush().is_ok(), &(limit == 50_000));
+    check_bytes(rt, pen.output(), limit, IN_UTF8);
+}
+
 fn check_run_cut(rt: &impl Abort, pen: &mut Pen<Global>, alloc: Global, limit: usize)
     requires { IsReady pen.old }
 {
-    equal(
-        rt,
-        &is_good_or_cut(write_long_run(pen, alloc, 5_000)),
-        &true,
-    );
-    equal(rt, &pen.flush().is_ok(), &(limit == 50_000));
-    check_bytes(rt, pen.output(), limit, IN_UTF8);
+    check_run_flushed(rt, pen, alloc, limit);
     if limit < 50_000 {
         check_run_refused(rt, pen, alloc, yaml_error_t::WriteError);
     }
 }
 
-fn check_run_limit(rt: &impl Abort, alloc: Global, limit: usize) -> Result<(), Fail> {
-    let mut pen = begun(alloc, limit, YAML_UTF8_ENCODING)?;
-    check_run_cut(rt, &mut pen, alloc, limit);
-    Ok(())
+fn check_run_limits(rt: &impl Abort, alloc: Global, limits: &[usize]) {
+    for limit in limits {
+        let mut pen = made(rt, alloc, *limit, YAML_UTF8_ENCODING);
+        check_run_cut(rt, &mut pen, alloc, *limit);
+    }
 }
 
+const LIMITS: &[usize] = &[0, 1, 16_383, 16_384, 16_385, 33_333, 49_999, 50_000];
+
 #[test]
-fn a_limit_cuts_a_run_at_any_byte(rt: HostRuntime) -> Result<(), Fail> {
-    let limits: &[usize] = &[0, 1, 16_383, 16_384, 16_385, 33_333, 49_999, 50_000];
-    for limit in limits {
-        check_run_limit(&rt, rt.alloc(), *limit)?;
-    }
-    Ok(())
+fn a_limit_cuts_a_run_at_any_byte(rt: HostRuntime) {
+    check_run_limits(&rt, rt.alloc(), LIMITS);
 }

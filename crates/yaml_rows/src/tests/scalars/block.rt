@@ -6,11 +6,10 @@ ghost use Rattle.yaml_pen.specs.Page.{IsReady};
 
 use super::{
     Row, begun, begun_with_returns, begun_within, check_cut, check_marked, check_rows,
-    check_written, equal, finished, same, write_sign,
+    check_written, equal, same, write_sign,
 };
 use std::alloc::Global;
 use std::process::Abort;
-use std::test::Fail;
 use yaml_base::yaml_error_t;
 use yaml_pen::Pen;
 use yaml_scalar::{
@@ -24,8 +23,8 @@ pub(super) fn is_allowed(value: &str) -> bool
     analyze_scalar(value, true, false).block_allowed
 }
 
-// A literal value where it is allowed; the open mark, or -1.
-fn write_literal(
+/// A literal value where it is allowed; the open mark, or -1.
+pub(super) fn write_literal(
     pen: &mut Pen<Global>,
     value: &str,
     indent: i32,
@@ -43,8 +42,8 @@ fn write_literal(
     Ok(-1)
 }
 
-// A folded value where it is allowed; the open mark, or -1.
-fn write_folded(
+/// A folded value where it is allowed; the open mark, or -1.
+pub(super) fn write_folded(
     pen: &mut Pen<Global>,
     value: &str,
     indent: i32,
@@ -61,24 +60,6 @@ fn write_folded(
         return write_folded_scalar(pen, value, indent, best_indent, width);
     }
     Ok(-1)
-}
-
-/// The text of a literal root, and the open mark; nothing and -1 where it isn't allowed.
-pub(super) fn literal(alloc: Global, value: &str) -> Result<(Vec<u8>, i32), yaml_error_t> {
-    let mut pen = begun(alloc)?;
-    let mark = write_literal(&mut pen, value, 2, 2)?;
-    Ok((finished(alloc, &mut pen)?, mark))
-}
-
-/// The text of a folded root, and the open mark; nothing and -1 where it isn't allowed.
-pub(super) fn folded(
-    alloc: Global,
-    value: &str,
-    width: i32,
-) -> Result<(Vec<u8>, i32), yaml_error_t> {
-    let mut pen = begun(alloc)?;
-    let mark = write_folded(&mut pen, value, 2, 2, width)?;
-    Ok((finished(alloc, &mut pen)?, mark))
 }
 
 /// A value, at a width, and what is written.
@@ -121,12 +102,11 @@ fn write_items(pen: &mut Pen<Global>) -> Result<(i32, i32), yaml_error_t>
 }
 
 #[test]
-fn items_stand_at_their_indentation(rt: HostRuntime) -> Result<(), Fail> {
-    let mut pen = begun(rt.alloc())?;
+fn items_stand_at_their_indentation(rt: HostRuntime) {
+    let mut pen = begun(&rt, rt.alloc());
     equal(&rt, &write_items(&mut pen), &Ok((0, 0)));
     let written = "- |3-\n       a\n       b>3-\n       a\n       b";
     check_written(&rt, &mut pen, Ok(()), written);
-    Ok(())
 }
 
 fn write_item(pen: &mut Pen<Global>) -> Result<i32, yaml_error_t>
@@ -139,11 +119,10 @@ fn write_item(pen: &mut Pen<Global>) -> Result<i32, yaml_error_t>
 }
 
 #[test]
-fn an_item_follows_its_sign(rt: HostRuntime) -> Result<(), Fail> {
-    let mut pen = begun(rt.alloc())?;
+fn an_item_follows_its_sign(rt: HostRuntime) {
+    let mut pen = begun(&rt, rt.alloc());
     let answer = write_item(&mut pen);
     check_marked(&rt, &mut pen, answer, ("- |2-\n   a", 0));
-    Ok(())
 }
 
 /// A value, at an indent, its header, and the open mark.
@@ -182,22 +161,16 @@ fn hints_stand_alone(rt: HostRuntime) {
     check_rows(&rt, rt.alloc(), HEADERS);
 }
 
-fn check_breaks(
-    rt: &impl Abort,
-    alloc: Global,
-    line_feed_too: bool,
-    text: &str,
-) -> Result<(), Fail> {
-    let mut pen = begun_with_returns(alloc, line_feed_too)?;
+fn check_breaks(rt: &impl Abort, alloc: Global, line_feed_too: bool, text: &str) {
+    let mut pen = begun_with_returns(rt, alloc, line_feed_too);
     let answer = write_literal(&mut pen, "a\n", 2, 2);
     check_marked(rt, &mut pen, answer, (text, 0));
-    Ok(())
 }
 
 #[test]
-fn line_breaks_are_those_of_the_setting(rt: HostRuntime) -> Result<(), Fail> {
-    check_breaks(&rt, rt.alloc(), true, "|\r\n  a\r\n")?;
-    check_breaks(&rt, rt.alloc(), false, "|\r  a\r")
+fn line_breaks_are_those_of_the_setting(rt: HostRuntime) {
+    check_breaks(&rt, rt.alloc(), true, "|\r\n  a\r\n");
+    check_breaks(&rt, rt.alloc(), false, "|\r  a\r");
 }
 
 // The flush was refused, and each writer is.
@@ -224,18 +197,16 @@ fn check_cut_text(rt: &impl Abort, pen: &mut Pen<Global>, limit: usize, text: &s
     }
 }
 
-fn check_limit(rt: &impl Abort, alloc: Global, limit: usize, text: &str) -> Result<(), Fail> {
-    let mut pen = begun_within(alloc, limit)?;
+fn check_limit(rt: &impl Abort, alloc: Global, limit: usize, text: &str) {
+    let mut pen = begun_within(rt, alloc, limit);
     equal(rt, &write_folded(&mut pen, "\na b", 2, 2, 2), &Ok(0));
     check_cut_text(rt, &mut pen, limit, text);
-    Ok(())
 }
 
 #[test]
-fn a_limit_cuts_and_stops(rt: HostRuntime) -> Result<(), Fail> {
+fn a_limit_cuts_and_stops(rt: HostRuntime) {
     let whole = ">2-\n\n  a\n  b";
     for limit in 0..whole.len().saturating_add(1) {
-        check_limit(&rt, rt.alloc(), limit, whole)?;
+        check_limit(&rt, rt.alloc(), limit, whole);
     }
-    Ok(())
 }

@@ -4,7 +4,6 @@ ghost use Rattle.yaml_pen.specs.Page.{IsReady};
 use super::{Row, begun, begun_with_returns, check_rows, check_written, equal};
 use std::alloc::Global;
 use std::process::Abort;
-use std::test::Fail;
 use yaml_base::yaml_error_t;
 use yaml_pen::Pen;
 use yaml_scalar::write_double_quoted_scalar;
@@ -58,12 +57,11 @@ fn each_escape_is_written(rt: HostRuntime) {
 }
 
 #[test]
-fn the_last_quote_is_no_space(rt: HostRuntime) -> Result<(), Fail> {
-    let mut pen = begun(rt.alloc())?;
+fn the_last_quote_is_no_space(rt: HostRuntime) {
+    let mut pen = begun(&rt, rt.alloc());
     let answer = write_double_quoted_scalar(&mut pen, " \n", true, false, 2, NO_WIDTH);
     equal(&rt, &answer, &Ok(()));
     equal(&rt, &(pen.whitespace(), pen.indention()), &(false, false));
-    Ok(())
 }
 
 /// A value, with line breaks or without, at a width, and what is written.
@@ -106,10 +104,9 @@ fn write_item(pen: &mut Pen<Global>) -> Result<(), yaml_error_t>
 }
 
 #[test]
-fn a_space_goes_before_the_quote(rt: HostRuntime) -> Result<(), Fail> {
-    let mut pen = begun_with_returns(rt.alloc(), true)?;
+fn a_space_goes_before_the_quote(rt: HostRuntime) {
+    let mut pen = begun_with_returns(&rt, rt.alloc(), true);
     let answer = write_item(&mut pen);
     equal(&rt, &pen.column(), &6);
     check_written(&rt, &mut pen, answer, "- \"aaaa\r\n    b\"");
-    Ok(())
 }

@@ -1,16 +1,24 @@
 //! Short values in each style that they allow.
-use super::block::{folded, literal};
-use super::{begun, equal, finished, same, short_block, short_quoted};
+use super::block::{write_folded, write_literal};
+use super::{begun, check_marked, check_written, equal, short_block, short_quoted};
 use std::alloc::Global;
 use std::process::Abort;
-use std::test::Fail;
-use yaml_base::yaml_error_t;
 use yaml_scalar::{
     analyze_scalar, write_double_quoted_scalar, write_plain_scalar, write_single_quoted_scalar,
 };
 
+/// A line of a table: a value, and what is written in two styles.
+type Row<'a> = (&'a str, &'a str, &'a str);
+
+// Each line has three fields.
+fn row_of<'a>(rt: &impl Abort, line: &'a str) -> Row<'a> {
+    let (value, rest) = line.split_once(';').expect(rt, "a field");
+    let (first, second) = rest.split_once(';').expect(rt, "a field");
+    (value, first, second)
+}
+
 // What the signs of a table stand for.
-fn meant(alloc: Global, signs: &str) -> Result<String, Fail> {
+fn meant(rt: &impl Abort, alloc: Global, signs: &str) -> String {
     let mut text = String::new(alloc);
     for sign in signs.chars() {
         let c = match sign {
@@ -18,36 +26,9 @@ fn meant(alloc: Global, signs: &str) -> Result<String, Fail> {
             '~' => '\u{2028}',
             other => other,
         };
-        text.push(c)?;
+        text.push(c).expect(rt, "no memory");
     }
-    Ok(text)
-}
-
-// A plain root, or `None` where it isn't allowed.
-fn plain(alloc: Global, value: &str, width: i32) -> Result<Option<Vec<u8>>, yaml_error_t> {
-    if !analyze_scalar(value, true, false).block_plain_allowed {
-        return Ok(None);
-    }
-    let mut pen = begun(alloc)?;
-    write_plain_scalar(&mut pen, value, true, false, 2, width)?;
-    Ok(Some(finished(alloc, &mut pen)?))
-}
-
-// A root between single quotes, or nothing where they aren't allowed.
-fn single(alloc: Global, value: &str, width: i32) -> Result<Vec<u8>, yaml_error_t> {
-    if !analyze_scalar(value, true, false).single_quoted_allowed {
-        return Ok(Vec::new(alloc));
-    }
-    let mut pen = begun(alloc)?;
-    write_single_quoted_scalar(&mut pen, value, true, 2, width)?;
-    finished(alloc, &mut pen)
-}
-
-// A root between double quotes.
-fn double(alloc: Global, value: &str, width: i32) -> Result<Vec<u8>, yaml_error_t> {
-    let mut pen = begun(alloc)?;
-    write_double_quoted_scalar(&mut pen, value, true, true, 2, width)?;
-    finished(alloc, &mut pen)
+    text
 }
 
 // The open mark after a block text: 2 where its header keeps all final breaks; -1 where there is no text.
@@ -55,121 +36,112 @@ fn mark_after(text: &str) -> i32 {
     if text.is_empty() {
         return -1;
     }
-    if text.chars().any(|c| c == '+') { 2 } else { 0 }
+    if text.contains('+') { 2 } else { 0 }
 }
 
 fn is_listed(signs: &str, list: &[&str]) -> bool {
     list.iter().any(|member| *member == signs)
 }
 
-// A value is plain, as it is, or isn't allowed to be.
-fn check_plain(rt: &impl Abort, alloc: Global, signs: &str, width: i32) -> Result<(), Fail> {
-    let value = meant(alloc, signs)?;
-    let may_be_plain = is_listed(signs, short_quoted::PLAIN);
-    match plain(alloc, value.as_str(), width)? {
-        Some(text) => {
-            equal(rt, &may_be_plain, &true);
-            same(rt, text.as_slice(), signs.as_bytes());
-        }
-        None => equal(rt, &may_be_plain, &false),
+// A plain root is as its signs are; where they aren't listed it isn't allowed.
+fn check_plain(rt: &impl Abort, alloc: Global, value: &str, width: i32, signs: &str) {
+    let allowed = analyze_scalar(value, true, false).block_plain_allowed;
+    equal(rt, &allowed, &is_listed(signs, short_quoted::PLAIN));
+    if allowed {
+        let mut pen = begun(rt, alloc);
+        let answer = write_plain_scalar(&mut pen, value, true, false, 2, width);
+        check_written(rt, &mut pen, answer, signs);
     }
-    Ok(())
+}
+
+// A root between single quotes; where no text is wanted it isn't allowed.
+fn check_single(rt: &impl Abort, alloc: Global, value: &str, width: i32, wanted: &str) {
+    let allowed = analyze_scalar(value, true, false).single_quoted_allowed;
+    equal(rt, &allowed, &!wanted.is_empty());
+    if allowed {
+        let mut pen = begun(rt, alloc);
+        let answer = write_single_quoted_scalar(&mut pen, value, true, 2, width);
+        check_written(rt, &mut pen, answer, wanted);
+    }
+}
+
+// A root between double quotes.
+fn check_double(rt: &impl Abort, alloc: Global, value: &str, width: i32, wanted: &str) {
+    let mut pen = begun(rt, alloc);
+    let answer = write_double_quoted_scalar(&mut pen, value, true, true, 2, width);
+    check_written(rt, &mut pen, answer, wanted);
 }
 
 // One value plain and between quotes, at one width.
-fn check_in_quotes(
-    rt: &impl Abort,
-    alloc: Global,
-    row: &short_quoted::Row,
-    width: i32,
-) -> Result<(), Fail> {
-    let (signs, as_single, as_double) = *row;
-    check_plain(rt, alloc, signs, width)?;
-    let value = meant(alloc, signs)?;
-    let wanted = meant(alloc, as_single)?;
-    let written = single(alloc, value.as_str(), width)?;
-    same(rt, written.as_slice(), wanted.as_str().as_bytes());
-    same(
-        rt,
-        double(alloc, value.as_str(), width)?.as_slice(),
-        as_double.as_bytes(),
-    );
-    Ok(())
+fn check_in_quotes(rt: &impl Abort, alloc: Global, row: &Row, width: i32) {
+    let value = meant(rt, alloc, row.0);
+    let wanted = meant(rt, alloc, row.1);
+    check_plain(rt, alloc, value.as_str(), width, row.0);
+    check_single(rt, alloc, value.as_str(), width, wanted.as_str());
+    check_double(rt, alloc, value.as_str(), width, row.2);
 }
 
-// A text and an open mark, against the signs of a table.
-fn check_lines(
-    rt: &impl Abort,
-    alloc: Global,
-    written: &(Vec<u8>, i32),
-    signs: &str,
-    mark: i32,
-) -> Result<(), Fail> {
-    same(
-        rt,
-        written.0.as_slice(),
-        meant(alloc, signs)?.as_str().as_bytes(),
-    );
-    equal(rt, &written.1, &mark);
-    Ok(())
+/// A text, and an open mark.
+type Lines<'a> = (&'a str, i32);
+
+// A literal root; nothing and -1 where it isn't allowed.
+fn check_literal(rt: &impl Abort, alloc: Global, value: &str, wanted: Lines) {
+    let mut pen = begun(rt, alloc);
+    let answer = write_literal(&mut pen, value, 2, 2);
+    check_marked(rt, &mut pen, answer, wanted);
+}
+
+// A folded root; nothing and -1 where it isn't allowed.
+fn check_folded(rt: &impl Abort, alloc: Global, value: &str, width: i32, wanted: Lines) {
+    let mut pen = begun(rt, alloc);
+    let answer = write_folded(&mut pen, value, 2, 2, width);
+    check_marked(rt, &mut pen, answer, wanted);
 }
 
 // One value literal and folded, at one width.
-fn check_in_lines(
-    rt: &impl Abort,
-    alloc: Global,
-    row: &short_block::Row,
-    width: i32,
-) -> Result<(), Fail> {
-    let (signs, as_literal, as_folded) = *row;
-    let value = meant(alloc, signs)?;
-    let mark = mark_after(as_literal);
-    check_lines(
-        rt,
-        alloc,
-        &literal(alloc, value.as_str())?,
-        as_literal,
-        mark,
-    )?;
-    check_lines(
-        rt,
-        alloc,
-        &folded(alloc, value.as_str(), width)?,
-        as_folded,
-        mark,
-    )
+fn check_in_lines(rt: &impl Abort, alloc: Global, row: &Row, width: i32) {
+    let value = meant(rt, alloc, row.0);
+    let mark = mark_after(row.1);
+    let literal = meant(rt, alloc, row.1);
+    check_literal(rt, alloc, value.as_str(), (literal.as_str(), mark));
+    let folded = meant(rt, alloc, row.2);
+    check_folded(rt, alloc, value.as_str(), width, (folded.as_str(), mark));
 }
 
-fn check_quotes(rt: &impl Abort, alloc: Global, rows: &[short_quoted::Row]) -> Result<(), Fail> {
-    for row in rows {
-        check_in_quotes(rt, alloc, row, 5)?;
-        check_in_quotes(rt, alloc, row, i32::MAX)?;
+// So many lines of a table, the first of which is empty.
+fn check_quotes(rt: &impl Abort, alloc: Global, table: &str, count: usize) {
+    equal(rt, &table.lines().count(), &count.saturating_add(1));
+    for line in table.lines().skip(1) {
+        let row = row_of(rt, line);
+        check_in_quotes(rt, alloc, &row, 5);
+        check_in_quotes(rt, alloc, &row, i32::MAX);
     }
-    Ok(())
 }
 
 #[test]
-fn short_values_stand_plain_and_between_quotes(rt: HostRuntime) -> Result<(), Fail> {
-    check_quotes(&rt, rt.alloc(), short_quoted::SHORTEST)?;
-    check_quotes(&rt, rt.alloc(), short_quoted::FOUR_AFTER_SPACE)?;
-    check_quotes(&rt, rt.alloc(), short_quoted::FOUR_AFTER_FEED)?;
-    check_quotes(&rt, rt.alloc(), short_quoted::FOUR_AFTER_LETTER)?;
-    check_quotes(&rt, rt.alloc(), short_quoted::FOUR_AFTER_SEPARATOR)
+fn short_values_stand_plain_and_between_quotes(rt: HostRuntime) {
+    check_quotes(&rt, rt.alloc(), short_quoted::SHORTEST, 85);
+    check_quotes(&rt, rt.alloc(), short_quoted::FOUR_AFTER_SPACE, 64);
+    check_quotes(&rt, rt.alloc(), short_quoted::FOUR_AFTER_FEED, 64);
+    check_quotes(&rt, rt.alloc(), short_quoted::FOUR_AFTER_LETTER, 64);
+    check_quotes(&rt, rt.alloc(), short_quoted::FOUR_AFTER_SEPARATOR, 64);
 }
 
-fn check_blocks(rt: &impl Abort, alloc: Global, rows: &[short_block::Row]) -> Result<(), Fail> {
-    for row in rows {
-        check_in_lines(rt, alloc, row, 5)?;
-        check_in_lines(rt, alloc, row, i32::MAX)?;
+// So many lines of a table, the first of which is empty.
+fn check_blocks(rt: &impl Abort, alloc: Global, table: &str, count: usize) {
+    equal(rt, &table.lines().count(), &count.saturating_add(1));
+    for line in table.lines().skip(1) {
+        let row = row_of(rt, line);
+        check_in_lines(rt, alloc, &row, 5);
+        check_in_lines(rt, alloc, &row, i32::MAX);
     }
-    Ok(())
 }
 
 #[test]
-fn short_values_stand_in_lines(rt: HostRuntime) -> Result<(), Fail> {
-    check_blocks(&rt, rt.alloc(), short_block::SHORTEST)?;
-    check_blocks(&rt, rt.alloc(), short_block::FOUR_AFTER_SPACE)?;
-    check_blocks(&rt, rt.alloc(), short_block::FOUR_AFTER_FEED)?;
-    check_blocks(&rt, rt.alloc(), short_block::FOUR_AFTER_LETTER)?;
-    check_blocks(&rt, rt.alloc(), short_block::FOUR_AFTER_SEPARATOR)
+fn short_values_stand_in_lines(rt: HostRuntime) {
+    check_blocks(&rt, rt.alloc(), short_block::SHORTEST, 85);
+    check_blocks(&rt, rt.alloc(), short_block::FOUR_AFTER_SPACE, 64);
+    check_blocks(&rt, rt.alloc(), short_block::FOUR_AFTER_FEED, 64);
+    check_blocks(&rt, rt.alloc(), short_block::FOUR_AFTER_LETTER, 64);
+    check_blocks(&rt, rt.alloc(), short_block::FOUR_AFTER_SEPARATOR, 64);
 }

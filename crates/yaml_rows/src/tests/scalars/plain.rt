@@ -7,7 +7,6 @@ use super::{
 };
 use std::alloc::Global;
 use std::process::Abort;
-use std::test::Fail;
 use yaml_base::yaml_error_t;
 use yaml_pen::Pen;
 use yaml_scalar::{analyze_scalar, write_plain_scalar};
@@ -71,13 +70,12 @@ fn write_item(pen: &mut Pen<Global>) -> Result<(), yaml_error_t>
 }
 
 #[test]
-fn a_space_stands_first_where_one_is_needed(rt: HostRuntime) -> Result<(), Fail> {
-    let mut pen = begun(rt.alloc())?;
+fn a_space_stands_first_where_one_is_needed(rt: HostRuntime) {
+    let mut pen = begun(&rt, rt.alloc());
     equal(&rt, &write_item(&mut pen), &Ok(()));
     check_column(&rt, &pen, 3);
     let answer = write_nothing(&mut pen);
     check_written(&rt, &mut pen, answer, "- b ");
-    Ok(())
 }
 
 // A value is refused.
@@ -101,8 +99,6 @@ fn check_limit(rt: &impl Abort, pen: &mut Pen<Global>)
 }
 
 #[test]
-fn a_limit_cuts_and_is_told_again(rt: HostRuntime) -> Result<(), Fail> {
-    let mut pen = begun_within(rt.alloc(), 2)?;
-    check_limit(&rt, &mut pen);
-    Ok(())
+fn a_limit_cuts_and_is_told_again(rt: HostRuntime) {
+    check_limit(&rt, &mut begun_within(&rt, rt.alloc(), 2));
 }

@@ -7,7 +7,6 @@ use super::{
 };
 use std::alloc::Global;
 use std::process::Abort;
-use std::test::Fail;
 use yaml_base::yaml_error_t;
 use yaml_pen::Pen;
 use yaml_scalar::{analyze_scalar, write_single_quoted_scalar};
@@ -64,30 +63,23 @@ fn write_item(pen: &mut Pen<Global>) -> Result<(), yaml_error_t>
 }
 
 #[test]
-fn a_space_stands_before_the_quote(rt: HostRuntime) -> Result<(), Fail> {
-    let mut pen = begun(rt.alloc())?;
+fn a_space_stands_before_the_quote(rt: HostRuntime) {
+    let mut pen = begun(&rt, rt.alloc());
     let answer = write_item(&mut pen);
     check_column(&rt, &pen, 6);
     check_written(&rt, &mut pen, answer, "- 'b\n\n    c'");
-    Ok(())
 }
 
-fn check_breaks(
-    rt: &impl Abort,
-    alloc: Global,
-    line_feed_too: bool,
-    written: &str,
-) -> Result<(), Fail> {
-    let mut pen = begun_with_returns(alloc, line_feed_too)?;
+fn check_breaks(rt: &impl Abort, alloc: Global, line_feed_too: bool, written: &str) {
+    let mut pen = begun_with_returns(rt, alloc, line_feed_too);
     let answer = write_single_quoted_scalar(&mut pen, "a\nb  c", true, 2, 80);
     check_written(rt, &mut pen, answer, written);
-    Ok(())
 }
 
 #[test]
-fn breaks_are_written_as_set(rt: HostRuntime) -> Result<(), Fail> {
-    check_breaks(&rt, rt.alloc(), true, "'a\r\n\r\n  b  c'")?;
-    check_breaks(&rt, rt.alloc(), false, "'a\r\r  b  c'")
+fn breaks_are_written_as_set(rt: HostRuntime) {
+    check_breaks(&rt, rt.alloc(), true, "'a\r\n\r\n  b  c'");
+    check_breaks(&rt, rt.alloc(), false, "'a\r\r  b  c'");
 }
 
 fn check_limit(rt: &impl Abort, pen: &mut Pen<Global>)
@@ -102,8 +94,6 @@ fn check_limit(rt: &impl Abort, pen: &mut Pen<Global>)
 }
 
 #[test]
-fn a_limit_cuts_and_is_told_again(rt: HostRuntime) -> Result<(), Fail> {
-    let mut pen = begun_within(rt.alloc(), 3)?;
-    check_limit(&rt, &mut pen);
-    Ok(())
+fn a_limit_cuts_and_is_told_again(rt: HostRuntime) {
+    check_limit(&rt, &mut begun_within(&rt, rt.alloc(), 3));
 }

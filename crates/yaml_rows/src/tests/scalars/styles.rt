@@ -1,7 +1,6 @@
 //! Styles that are known from outside, from the value to the choice.
 use super::equal;
 use std::process::Abort;
-use std::test::Fail;
 use yaml_base::{
     YAML_ANY_SCALAR_STYLE, YAML_DOUBLE_QUOTED_SCALAR_STYLE, YAML_FOLDED_SCALAR_STYLE,
     YAML_LITERAL_SCALAR_STYLE, YAML_PLAIN_SCALAR_STYLE, YAML_SINGLE_QUOTED_SCALAR_STYLE,
@@ -23,28 +22,32 @@ fn check_analysis(rt: &impl Abort, row: &Analysis) {
     equal(rt, &(value, data.block_allowed), &(value, lines));
 }
 
-#[test]
-fn values_are_analysed(rt: HostRuntime) -> Result<(), Fail> {
-    let rows: &[Analysis] = &[
-        ("foo", false, false, false, true, true, true, true),
-        ("", false, false, false, false, true, true, false),
-        ("a:", false, false, false, false, false, true, true),
-        ("a,b", false, false, false, false, true, true, true),
-        ("a #b", false, false, false, false, false, true, true),
-        ("a ", false, false, false, false, false, true, false),
-        ("a\nb", false, false, true, false, false, true, true),
-        ("a \nb", false, false, true, false, false, false, false),
-        ("---x", false, false, false, false, false, true, true),
-        ("\u{E9}", false, false, false, false, false, false, false),
-        ("\u{E9}", true, false, false, true, true, true, true),
-        ("a\u{2028}b", true, false, true, false, false, true, true),
-        ("a\u{2028}b", true, true, true, false, false, false, false),
-        ("\t", true, false, false, false, false, false, false),
-    ];
+const ANALYSES: &[Analysis] = &[
+    ("foo", false, false, false, true, true, true, true),
+    ("", false, false, false, false, true, true, false),
+    ("a:", false, false, false, false, false, true, true),
+    ("a,b", false, false, false, false, true, true, true),
+    ("a #b", false, false, false, false, false, true, true),
+    ("a ", false, false, false, false, false, true, false),
+    ("a\nb", false, false, true, false, false, true, true),
+    ("a \nb", false, false, true, false, false, false, false),
+    ("---x", false, false, false, false, false, true, true),
+    ("\u{E9}", false, false, false, false, false, false, false),
+    ("\u{E9}", true, false, false, true, true, true, true),
+    ("a\u{2028}b", true, false, true, false, false, true, true),
+    ("a\u{2028}b", true, true, true, false, false, false, false),
+    ("\t", true, false, false, false, false, false, false),
+];
+
+fn check_analyses(rt: &impl Abort, rows: &[Analysis]) {
     for row in rows {
-        check_analysis(&rt, row);
+        check_analysis(rt, row);
     }
-    Ok(())
+}
+
+#[test]
+fn values_are_analysed(rt: HostRuntime) {
+    check_analyses(&rt, ANALYSES);
 }
 
 const ANY: yaml_scalar_style_t = YAML_ANY_SCALAR_STYLE;
@@ -75,50 +78,69 @@ fn choice(asked: &Asked, tagged: bool) -> Choice {
     )
 }
 
-fn check_choices(rt: &impl Abort, rows: &[(Asked, (yaml_scalar_style_t, bool))]) {
-    for (asked, expected) in rows {
-        equal(rt, &choice(asked, false), &Ok(*expected));
+/// What is asked for, whether the value has a tag, and the choice.
+type Choosing<'a> = (Asked<'a>, bool, Choice);
+
+fn check_choices(rt: &impl Abort, rows: &[Choosing]) {
+    for row in rows {
+        equal(rt, &choice(&row.0, row.1), &row.2);
     }
 }
 
+const CHOICES: &[Choosing] = &[
+    (
+        ("foo", ANY, (true, true), false, false, false),
+        false,
+        Ok((PLAIN, false)),
+    ),
+    (
+        ("a:", ANY, (true, false), false, false, false),
+        false,
+        Ok((SINGLE, true)),
+    ),
+    (
+        ("foo", PLAIN, (false, true), false, false, false),
+        false,
+        Ok((SINGLE, false)),
+    ),
+    (
+        ("", ANY, (true, true), true, false, false),
+        false,
+        Ok((SINGLE, false)),
+    ),
+    (
+        ("", ANY, (true, true), false, false, false),
+        false,
+        Ok((PLAIN, false)),
+    ),
+    (
+        ("a", ANY, (true, false), false, false, true),
+        false,
+        Ok((DOUBLE, true)),
+    ),
+    (
+        ("a\nb", LITERAL, (true, true), false, true, false),
+        false,
+        Ok((DOUBLE, false)),
+    ),
+    (
+        ("a\nb", LITERAL, (true, true), false, false, false),
+        false,
+        Ok((LITERAL, false)),
+    ),
+    (
+        ("a", FOLDED, (true, true), true, false, false),
+        false,
+        Ok((DOUBLE, false)),
+    ),
+    (NEITHER, true, Ok((PLAIN, false))),
+    (NEITHER, false, Err(yaml_error_t::NoTagNorImplicit)),
+];
+
+/// Both flags are off.
+const NEITHER: Asked = ("x", ANY, (false, false), false, false, false);
+
 #[test]
-fn styles_are_chosen(rt: HostRuntime) -> Result<(), Fail> {
-    let rows: &[(Asked, (yaml_scalar_style_t, bool))] = &[
-        (
-            ("foo", ANY, (true, true), false, false, false),
-            (PLAIN, false),
-        ),
-        (
-            ("a:", ANY, (true, false), false, false, false),
-            (SINGLE, true),
-        ),
-        (
-            ("foo", PLAIN, (false, true), false, false, false),
-            (SINGLE, false),
-        ),
-        (("", ANY, (true, true), true, false, false), (SINGLE, false)),
-        (("", ANY, (true, true), false, false, false), (PLAIN, false)),
-        (
-            ("a", ANY, (true, false), false, false, true),
-            (DOUBLE, true),
-        ),
-        (
-            ("a\nb", LITERAL, (true, true), false, true, false),
-            (DOUBLE, false),
-        ),
-        (
-            ("a\nb", LITERAL, (true, true), false, false, false),
-            (LITERAL, false),
-        ),
-        (
-            ("a", FOLDED, (true, true), true, false, false),
-            (DOUBLE, false),
-        ),
-    ];
-    check_choices(&rt, rows);
-    let neither = ("x", ANY, (false, false), false, false, false);
-    equal(&rt, &choice(&neither, true), &Ok((PLAIN, false)));
-    let refused = Err(yaml_error_t::NoTagNorImplicit);
-    equal(&rt, &choice(&neither, false), &refused);
-    Ok(())
+fn styles_are_chosen(rt: HostRuntime) {
+    check_choices(&rt, CHOICES);
 }

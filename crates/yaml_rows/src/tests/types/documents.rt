@@ -1,9 +1,8 @@
 //! Documents made of nodes: what they give back, and which numbers are refused.
-use super::{mapping, one_directive, sequence_node, text};
+use super::{mapping, one_directive, sequence_node};
 use crate::tests::equal;
-use std::alloc::{AllocError, Global};
+use std::alloc::Global;
 use std::process::Abort;
-use std::test::Fail;
 use yaml_base::*;
 
 const VERSION: Option<yaml_version_directive_t> = Some(yaml_version_directive_t {
@@ -11,21 +10,26 @@ const VERSION: Option<yaml_version_directive_t> = Some(yaml_version_directive_t 
     minor: 1,
 });
 
-fn two_sequences(alloc: Global) -> Result<Vec<yaml_node_t<Global>>, AllocError> {
-    let mut nodes = Vec::new(alloc);
-    nodes.push(sequence_node(alloc, 2)?)?;
-    nodes.push(sequence_node(alloc, 1)?)?;
-    Ok(nodes)
+type Nodes = Vec<yaml_node_t<Global>>;
+
+fn add(rt: &impl Abort, nodes: &mut Nodes, node: yaml_node_t<Global>) {
+    nodes.push(node).expect(rt, "no memory");
 }
 
-fn document(rt: &impl Abort, alloc: Global) -> Result<yaml_document_t<Global>, Fail> {
-    let tags = one_directive(alloc)?;
-    let nodes = two_sequences(alloc)?;
+fn two_sequences(rt: &impl Abort, alloc: Global) -> Nodes {
+    let mut nodes = Vec::new(alloc);
+    add(rt, &mut nodes, sequence_node(rt, alloc, 2));
+    add(rt, &mut nodes, sequence_node(rt, alloc, 1));
+    nodes
+}
+
+fn document(rt: &impl Abort, alloc: Global) -> yaml_document_t<Global> {
+    let nodes = two_sequences(rt, alloc);
     assert!(rt; nodes.len() <= 2_000_000);
-    match yaml_document_t::from_nodes(VERSION, tags, nodes, true, false) {
-        Ok(document) => Ok(document),
-        Err(_) => Err("a number was refused")?,
-    }
+    yaml_document_t::from_nodes(VERSION, one_directive(rt, alloc), nodes, true, false).expect(
+        rt,
+        "each number names a node",
+    )
 }
 
 fn check_settings(rt: &impl Abort, document: &yaml_document_t<Global>) {
@@ -38,73 +42,54 @@ fn check_settings(rt: &impl Abort, document: &yaml_document_t<Global>) {
 }
 
 // The node is a sequence whose item is the given number.
-fn is_sequence(
-    node: Option<&yaml_node_t<Global>>,
-    alloc: Global,
-    item: i32,
-) -> Result<bool, AllocError> {
-    match node {
-        Some(node) => Ok(*node == sequence_node(alloc, item)?),
-        None => Ok(false),
-    }
+fn check_sequence(rt: &impl Abort, alloc: Global, node: Option<&yaml_node_t<Global>>, item: i32) {
+    let wanted = sequence_node(rt, alloc, item);
+    equal(rt, &(node == Some(&wanted)), &true);
 }
 
 fn check_nodes(rt: &impl Abort, alloc: Global, document: &yaml_document_t<Global>) {
-    equal(rt, &is_sequence(document.root(), alloc, 2), &Ok(true));
-    equal(rt, &is_sequence(document.get_node(2), alloc, 1), &Ok(true));
+    check_sequence(rt, alloc, document.root(), 2);
+    check_sequence(rt, alloc, document.get_node(2), 1);
     equal(rt, &document.get_node(0).is_none(), &true);
     equal(rt, &document.get_node(3).is_none(), &true);
     equal(rt, &document.get_node(-1).is_none(), &true);
 }
 
 #[test]
-fn a_document_gives_back_what_it_was_handed(rt: HostRuntime) -> Result<(), Fail> {
-    let document = document(&rt, rt.alloc())?;
+fn a_document_gives_back_what_it_was_handed(rt: HostRuntime) {
+    let document = document(&rt, rt.alloc());
     check_settings(&rt, &document);
     check_nodes(&rt, rt.alloc(), &document);
-    Ok(())
 }
 
 // The second of two nodes.
-fn mapping_node(alloc: Global, value: i32) -> Result<yaml_node_t<Global>, AllocError> {
+fn mapping_node(rt: &impl Abort, alloc: Global, value: i32) -> yaml_node_t<Global> {
     let pair = yaml_node_pair_t { key: 2, value };
-    Ok(yaml_node_t {
-        tag: text(alloc, "")?,
-        contents: mapping(alloc, pair, YAML_ANY_MAPPING_STYLE)?,
-    })
+    yaml_node_t {
+        tag: String::new(alloc),
+        contents: mapping(rt, alloc, pair, YAML_ANY_MAPPING_STYLE),
+    }
 }
 
 // A sequence, and a mapping of the second node to a number.
-fn both_nodes(
-    alloc: Global,
-    item: i32,
-    value: i32,
-) -> Result<Vec<yaml_node_t<Global>>, AllocError> {
+fn both_nodes(rt: &impl Abort, alloc: Global, item: i32, value: i32) -> Nodes {
     let mut nodes = Vec::new(alloc);
-    nodes.push(sequence_node(alloc, item)?)?;
-    nodes.push(mapping_node(alloc, value)?)?;
-    Ok(nodes)
+    add(rt, &mut nodes, sequence_node(rt, alloc, item));
+    add(rt, &mut nodes, mapping_node(rt, alloc, value));
+    nodes
 }
 
 // The number that is refused.
-fn refused(
-    rt: &impl Abort,
-    alloc: Global,
-    item: i32,
-    value: i32,
-) -> Result<Option<i32>, AllocError> {
-    let nodes = both_nodes(alloc, item, value)?;
+fn check_refused(rt: &impl Abort, alloc: Global, nodes: Nodes, number: i32) {
     assert!(rt; nodes.len() <= 2_000_000);
-    match yaml_document_t::from_nodes(None, Vec::new(alloc), nodes, false, false) {
-        Ok(_) => Ok(None),
-        Err(NodeNumber(number)) => Ok(Some(number)),
-    }
+    let made = yaml_document_t::from_nodes(None, Vec::new(alloc), nodes, false, false);
+    equal(rt, &made.err(), &Some(NodeNumber(number)));
 }
 
 // The item of a sequence, the value of a mapping, and which of them is refused.
 fn check_numbers(rt: &impl Abort, alloc: Global, rows: &[(i32, i32, i32)]) {
     for row in rows {
-        equal(rt, &refused(rt, alloc, row.0, row.1), &Ok(Some(row.2)));
+        check_refused(rt, alloc, both_nodes(rt, alloc, row.0, row.1), row.2);
     }
 }
 

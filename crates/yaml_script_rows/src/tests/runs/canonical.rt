@@ -1,6 +1,5 @@
 //! Canonical text: in flow, a node a line, every scalar between double quotes.
 use super::{Group, Rows, check_all_roots, check_all_streams};
-use std::test::Fail;
 
 const CANONICAL: &str = "canonical on\nwidth -1\n";
 
@@ -99,8 +98,8 @@ const ROOTS: &[Group] = &[
 ];
 
 #[test]
-fn each_root_is_written(rt: HostRuntime) -> Result<(), Fail> {
-    check_all_roots(&rt, rt.alloc(), ROOTS)
+fn each_root_is_written(rt: HostRuntime) {
+    check_all_roots(&rt, rt.alloc(), ROOTS);
 }
 
 /// Streams, after some settings.
@@ -180,6 +179,6 @@ const STREAMS: &[Group] = &[
 ];
 
 #[test]
-fn each_stream_is_written(rt: HostRuntime) -> Result<(), Fail> {
-    check_all_streams(&rt, rt.alloc(), STREAMS)
+fn each_stream_is_written(rt: HostRuntime) {
+    check_all_streams(&rt, rt.alloc(), STREAMS);
 }

@@ -1,8 +1,8 @@
 //! Collections in blocks and in flow.
-use super::{Group, check_all_roots, check_roots};
+use super::{Group, check_all_roots, check_root};
+use crate::tests::joined;
 use std::alloc::Global;
 use std::process::Abort;
-use std::test::Fail;
 
 /// Roots of documents, after some settings.
 const ROOTS: &[Group] = &[
@@ -225,52 +225,42 @@ const ROOTS: &[Group] = &[
 ];
 
 #[test]
-fn each_root_is_written(rt: HostRuntime) -> Result<(), Fail> {
-    check_all_roots(&rt, rt.alloc(), ROOTS)
+fn each_root_is_written(rt: HostRuntime) {
+    check_all_roots(&rt, rt.alloc(), ROOTS);
 }
 
-// A mapping of one pair, whose value is `v`.
-fn check_key(
-    rt: &impl Abort,
-    alloc: Global,
-    settings: &str,
-    style: &str,
-    key: &str,
-    expected: &str,
-) -> Result<(), Fail> {
-    let pair = format!(in alloc;
-        "+MAP {style} 1 - -\n=VAL any 1 1 - - \"{key}\"\n=VAL any 1 1 - - \"v\"\n-MAP"
-    )?;
-    check_roots(rt, alloc, settings, &[(pair.as_str(), expected)])
-}
+/// Settings, and the style of a mapping; its key: a character, so many times; what is written before it and after it.
+type Key<'a> = (&'a str, &'a str, &'a str, usize, &'a str, &'a str);
 
 // A simple key has at most 128 bytes; U+00E9 has two.
+const KEYS: &[Key] = &[
+    ("", "block", "x", 128, "", ": v\n"),
+    ("", "block", "x", 129, "? ", "\n: v\n"),
+    ("width -1\n", "flow", "x", 129, "{? ", " : v}\n"),
+    ("unicode on\n", "block", "\u{E9}", 65, "? ", "\n: v\n"),
+];
+
+// The events of a mapping of one pair, whose value is `v`.
+fn pair_of(rt: &impl Abort, alloc: Global, style: &str, key: &str) -> String {
+    let start = joined(rt, alloc, &["+MAP ", style, " 1 - -\n=VAL any 1 1 - - \""]);
+    let end = "\"\n=VAL any 1 1 - - \"v\"\n-MAP";
+    joined(rt, alloc, &[start.as_str(), key, end])
+}
+
+fn check_key(rt: &impl Abort, alloc: Global, row: &Key, key: &str) {
+    let pair = pair_of(rt, alloc, row.1, key);
+    let text = joined(rt, alloc, &[row.4, key, row.5]);
+    check_root(rt, alloc, row.0, pair.as_str(), text.as_str());
+}
+
+fn check_keys(rt: &impl Abort, alloc: Global, rows: &[Key]) {
+    for row in rows {
+        let key = row.2.repeat(alloc, row.3).expect(rt, "no memory");
+        check_key(rt, alloc, row, key.as_str());
+    }
+}
+
 #[test]
-fn long_keys_are_not_simple(rt: HostRuntime) -> Result<(), Fail> {
-    let alloc = rt.alloc();
-    let key = "x".repeat(alloc, 128)?;
-    let text = format!(in alloc; "{key}: v\n")?;
-    check_key(&rt, alloc, "", "block", key.as_str(), text.as_str())?;
-    let key = "x".repeat(alloc, 129)?;
-    let text = format!(in alloc; "? {key}\n: v\n")?;
-    check_key(&rt, alloc, "", "block", key.as_str(), text.as_str())?;
-    let text = format!(in alloc; "{{? {key} : v}}\n")?;
-    check_key(
-        &rt,
-        alloc,
-        "width -1\n",
-        "flow",
-        key.as_str(),
-        text.as_str(),
-    )?;
-    let key = "\u{E9}".repeat(alloc, 65)?;
-    let text = format!(in alloc; "? {key}\n: v\n")?;
-    check_key(
-        &rt,
-        alloc,
-        "unicode on\n",
-        "block",
-        key.as_str(),
-        text.as_str(),
-    )
+fn long_keys_are_not_simple(rt: HostRuntime) {
+    check_keys(&rt, rt.alloc(), KEYS);
 }

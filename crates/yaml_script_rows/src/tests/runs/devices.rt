@@ -1,9 +1,10 @@
 //! Readers and writers that fail at a call: only they are told so, and each is.
 use super::FIRST;
 use crate::tests::{equal, same};
+use std::alloc::Global;
 use std::io;
 use std::io::{ErrorKind, Read, Write};
-use std::test::Fail;
+use std::process::Abort;
 use yaml_tool::{run, run_answer_t};
 
 /// Gives a byte a call, and fails once so many calls were made.
@@ -53,64 +54,70 @@ impl Write for FailingWriter {
     }
 }
 
-// The call after the last byte finds the end.
-#[test]
-fn each_failed_read_is_told(rt: HostRuntime) -> Result<(), Fail> {
-    for calls in 0..=FIRST.len() {
-        let mut reader = FailingReader {
-            left: FIRST.as_bytes(),
-            calls,
-        };
-        let mut output: Vec<u8> = Vec::new(rt.alloc());
-        let answer = run(rt.alloc(), &mut reader, &mut output);
-        assert_eq!(rt; answer, run_answer_t::ReadFailed, "{calls}");
-        assert!(rt; output.is_empty(), "{calls}");
-    }
+// A reader that fails at this call ends the run so, and this is written.
+fn check_read(rt: &impl Abort, alloc: Global, calls: usize, answer: run_answer_t, written: &[u8]) {
     let mut reader = FailingReader {
         left: FIRST.as_bytes(),
-        calls: 1_000,
+        calls,
     };
-    let mut output: Vec<u8> = Vec::new(rt.alloc());
-    equal(
-        &rt,
-        &run(rt.alloc(), &mut reader, &mut output),
-        &run_answer_t::Done,
-    );
-    same(&rt, output.as_slice(), b"---\n\"a\"\n");
-    Ok(())
+    let mut output: Vec<u8> = Vec::new(alloc);
+    let told = run(alloc, &mut reader, &mut output);
+    equal(rt, &(calls, told), &(calls, answer));
+    same(rt, output.as_slice(), written);
+}
+
+// The call after the last byte finds the end.
+#[test]
+fn each_failed_read_is_told(rt: HostRuntime) {
+    for calls in 0..=FIRST.len() {
+        check_read(&rt, rt.alloc(), calls, run_answer_t::ReadFailed, b"");
+    }
+    let whole = b"---\n\"a\"\n";
+    check_read(&rt, rt.alloc(), 1_000, run_answer_t::Done, whole);
+}
+
+// A writer that fails at this call ends the run of this script so, and took this.
+fn check_write(
+    rt: &impl Abort,
+    writer: &mut FailingWriter,
+    alloc: Global,
+    (script, answer): (&str, run_answer_t),
+    taken: &[u8],
+) {
+    let mut left = script.as_bytes();
+    let told = run(alloc, &mut left, writer);
+    equal(rt, &(taken.len(), told), &(taken.len(), answer));
+    same(rt, writer.taken.as_slice(), taken);
+}
+
+fn writer(alloc: Global, calls: usize) -> FailingWriter {
+    FailingWriter {
+        calls,
+        taken: Vec::new(alloc),
+    }
+}
+
+const FAILED: (&str, run_answer_t) = (FIRST, run_answer_t::WriteFailed);
+
+const DONE: (&str, run_answer_t) = (FIRST, run_answer_t::Done);
+
+// Each call but the last takes one byte of these.
+fn check_writes(rt: &impl Abort, alloc: Global, whole: &[u8]) {
+    for calls in 0..whole.len() {
+        let taken = whole.get(..calls).unwrap_or(b"");
+        check_write(rt, &mut writer(alloc, calls), alloc, FAILED, taken);
+    }
+    check_write(rt, &mut writer(alloc, whole.len()), alloc, DONE, whole);
 }
 
 #[test]
-fn each_failed_write_is_told(rt: HostRuntime) -> Result<(), Fail> {
-    let whole = b"---\n\"a\"\n";
-    for calls in 0..=whole.len() {
-        let mut writer = FailingWriter {
-            calls,
-            taken: Vec::new(rt.alloc()),
-        };
-        let mut left = FIRST.as_bytes();
-        let answer = run(rt.alloc(), &mut left, &mut writer);
-        let wanted = if calls < whole.len() {
-            run_answer_t::WriteFailed
-        } else {
-            run_answer_t::Done
-        };
-        assert_eq!(rt; answer, wanted, "{calls}");
-        assert_eq!(rt; writer.taken.as_slice(), &whole[..calls], "{calls}");
-    }
-    Ok(())
+fn each_failed_write_is_told(rt: HostRuntime) {
+    check_writes(&rt, rt.alloc(), b"---\n\"a\"\n");
 }
+
+const BAD: (&str, run_answer_t) = ("+STR utf16be\n+FOO", run_answer_t::BadLine(2));
 
 #[test]
 fn a_bad_line_calls_no_writer(rt: HostRuntime) {
-    let mut writer = FailingWriter {
-        calls: 0,
-        taken: Vec::new(rt.alloc()),
-    };
-    let mut left = b"+STR utf16be\n+FOO".as_slice();
-    equal(
-        &rt,
-        &run(rt.alloc(), &mut left, &mut writer),
-        &run_answer_t::BadLine(2),
-    );
+    check_write(&rt, &mut writer(rt.alloc(), 0), rt.alloc(), BAD, b"");
 }

@@ -1,8 +1,8 @@
 //! How documents and streams begin and end, and the encodings of a stream.
-use super::{Group, check_all_streams, check_bytes};
-use std::alloc::{AllocError, Global};
+use super::{Group, check_all_streams, check_text};
+use crate::tests::joined;
+use std::alloc::Global;
 use std::process::Abort;
-use std::test::Fail;
 
 /// Streams, after some settings.
 const STREAMS: &[Group] = &[
@@ -70,67 +70,56 @@ const STREAMS: &[Group] = &[
 ];
 
 #[test]
-fn each_stream_is_written(rt: HostRuntime) -> Result<(), Fail> {
-    check_all_streams(&rt, rt.alloc(), STREAMS)
+fn each_stream_is_written(rt: HostRuntime) {
+    check_all_streams(&rt, rt.alloc(), STREAMS);
 }
 
-/// A document with this value.
-fn of_value(alloc: Global, value: &str) -> Result<String, AllocError> {
-    format!(in alloc; "+DOC 1 -\n=VAL any 1 1 - - \"{value}\"\n-DOC 1\n")
-}
+/// A document of one letter.
+const LETTER: &str = "+DOC 1 -\n=VAL any 1 1 - - \"a\"\n-DOC 1\n";
+
+/// A document of one character that UTF-16 writes in two units.
+const FACE: &str = "+DOC 1 -\n=VAL any 1 1 - - \"\u{1F600}\"\n-DOC 1\n";
 
 /// Settings, an encoding, and documents.
 type Stream<'a> = (&'a str, &'a str, &'a str);
 
+fn check_joined(rt: &impl Abort, alloc: Global, parts: &[&str], expected: &[u8]) {
+    check_text(rt, alloc, joined(rt, alloc, parts).as_str(), expected);
+}
+
 // The encoding is set before the stream, or asked for by its start.
-fn check_encoded(
-    rt: &impl Abort,
-    alloc: Global,
-    stream: Stream,
-    expected: &[u8],
-) -> Result<(), Fail> {
+fn check_encoded(rt: &impl Abort, alloc: Global, stream: Stream, expected: &[u8]) {
     let (settings, encoding, documents) = stream;
-    let set = format!(in alloc; "{settings}encoding {encoding}\n+STR any\n{documents}-STR\n")?;
-    check_bytes(rt, alloc, set.as_str(), expected)?;
-    let asked = format!(in alloc; "{settings}+STR {encoding}\n{documents}-STR\n")?;
-    check_bytes(rt, alloc, asked.as_str(), expected)
+    let start = "\n+STR any\n";
+    let set = [settings, "encoding ", encoding, start, documents, "-STR\n"];
+    check_joined(rt, alloc, &set, expected);
+    let asked = [settings, "+STR ", encoding, "\n", documents, "-STR\n"];
+    check_joined(rt, alloc, &asked, expected);
 }
 
 #[test]
-fn a_stream_without_documents_has_only_its_mark(rt: HostRuntime) -> Result<(), Fail> {
-    let alloc = rt.alloc();
-    check_encoded(&rt, alloc, ("", "utf8", ""), b"")?;
-    check_encoded(&rt, alloc, ("", "utf16be", ""), b"\xFE\xFF")?;
-    check_encoded(&rt, alloc, ("", "utf16le", ""), b"\xFF\xFE")
+fn a_stream_without_documents_has_only_its_mark(rt: HostRuntime) {
+    check_encoded(&rt, rt.alloc(), ("", "utf8", ""), b"");
+    check_encoded(&rt, rt.alloc(), ("", "utf16be", ""), b"\xFE\xFF");
+    check_encoded(&rt, rt.alloc(), ("", "utf16le", ""), b"\xFF\xFE");
 }
 
 const CANONICAL: &str = "canonical on\nwidth -1\n";
 
 #[test]
-fn characters_become_units_of_two_bytes(rt: HostRuntime) -> Result<(), Fail> {
-    let alloc = rt.alloc();
-    let letter = of_value(alloc, "a")?;
+fn characters_become_units_of_two_bytes(rt: HostRuntime) {
     let bytes = b"\xFE\xFF\0-\0-\0-\0\n\0\"\0a\0\"\0\n";
-    check_encoded(&rt, alloc, (CANONICAL, "utf16be", letter.as_str()), bytes)
+    check_encoded(&rt, rt.alloc(), (CANONICAL, "utf16be", LETTER), bytes);
 }
 
+const WITH_UNICODE: &str = "canonical on\nwidth -1\nunicode on\n";
+
 #[test]
-fn a_character_past_two_bytes_becomes_two_units(rt: HostRuntime) -> Result<(), Fail> {
-    let alloc = rt.alloc();
-    let face = of_value(alloc, "\u{1F600}")?;
+fn a_character_past_two_bytes_becomes_two_units(rt: HostRuntime) {
+    let plain: Stream = ("unicode on\n", "utf16le", FACE);
     let bytes = b"\xFF\xFE\x3D\xD8\x00\xDE\x0A\x00";
-    check_encoded(
-        &rt,
-        alloc,
-        ("unicode on\n", "utf16le", face.as_str()),
-        bytes,
-    )?;
-    let settings = format!(in alloc; "{CANONICAL}unicode on\n")?;
+    check_encoded(&rt, rt.alloc(), plain, bytes);
+    let canonical: Stream = (WITH_UNICODE, "utf16le", FACE);
     let bytes = b"\xFF\xFE-\0-\0-\0\n\0\"\0\x3D\xD8\x00\xDE\"\0\n\0";
-    check_encoded(
-        &rt,
-        alloc,
-        (settings.as_str(), "utf16le", face.as_str()),
-        bytes,
-    )
+    check_encoded(&rt, rt.alloc(), canonical, bytes);
 }

@@ -1,22 +1,31 @@
 //! Scripts that end before their stream does: what is ready is written, and what waits is not.
 use super::check_text;
+use crate::tests::joined;
 use std::alloc::Global;
 use std::process::Abort;
-use std::test::Fail;
 
 /// Lines, each with the text that its event makes ready.
 type Turns<'a> = &'a [(&'a str, &'a str)];
 
-fn check_fronts(rt: &impl Abort, alloc: Global, settings: &str, turns: Turns) -> Result<(), Fail> {
-    let mut script = String::from_str(alloc, settings)?;
+fn push(rt: &impl Abort, text: &mut String, part: &str) {
+    text.push_str(part).expect(rt, "no memory");
+}
+
+fn check_fronts(rt: &impl Abort, alloc: Global, settings: &str, turns: Turns) {
+    let mut script = joined(rt, alloc, &[settings]);
     let mut text = String::new(alloc);
-    for (line, ready) in turns {
-        script.push_str(line)?;
-        script.push_str("\n")?;
-        text.push_str(ready)?;
-        check_text(rt, alloc, script.as_str(), text.as_bytes())?;
+    for turn in turns {
+        push(rt, &mut script, turn.0);
+        push(rt, &mut script, "\n");
+        push(rt, &mut text, turn.1);
+        check_text(rt, alloc, script.as_str(), text.as_bytes());
     }
-    Ok(())
+}
+
+fn check_scripts(rt: &impl Abort, alloc: Global, scripts: &[(&str, Turns)]) {
+    for script in scripts {
+        check_fronts(rt, alloc, script.0, script.1);
+    }
 }
 
 /// Scripts, after some settings.
@@ -79,9 +88,6 @@ const SCRIPTS: &[(&str, Turns)] = &[
 ];
 
 #[test]
-fn what_is_ready_is_written(rt: HostRuntime) -> Result<(), Fail> {
-    'scripts: for (settings, turns) in SCRIPTS {
-        check_fronts(&rt, rt.alloc(), settings, turns)?;
-    }
-    Ok(())
+fn what_is_ready_is_written(rt: HostRuntime) {
+    check_scripts(&rt, rt.alloc(), SCRIPTS);
 }

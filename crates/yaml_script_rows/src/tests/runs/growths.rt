@@ -2,7 +2,6 @@
 use crate::tests::{equal, same};
 use std::alloc::Global;
 use std::process::Abort;
-use std::test::Fail;
 use yaml_base::yaml_error_t;
 use yaml_test_allocator::Refusing;
 use yaml_tool::{run, run_answer_t};
@@ -16,15 +15,36 @@ fn check_refused(
     whole: &[u8],
 ) {
     let run_answer_t::Refused(line, error) = told else {
-        equal(rt, &told, &run_answer_t::NoMemory);
-        assert!(rt; output.is_empty());
+        equal(rt, &(told, output.len()), &(run_answer_t::NoMemory, 0));
         return;
     };
     equal(rt, &error, &yaml_error_t::Memory);
-    assert!(rt; whole.starts_with(output));
+    equal(rt, &whole.starts_with(output), &true);
     if let run_answer_t::Refused(last, _) = answer {
-        assert!(rt; line <= last);
+        equal(rt, &(line, line <= last), &(line, true));
     }
+}
+
+// A run of a script with this growth refused. Answers whether there is that growth.
+fn is_refused(
+    rt: &impl Abort,
+    (alloc, number): (Global, usize),
+    script: &[u8],
+    answer: run_answer_t,
+    whole: &[u8],
+) -> bool {
+    let heap = Refusing::new(alloc);
+    heap.refuse(number);
+    let mut left = script;
+    let mut output: Vec<u8> = Vec::new(alloc);
+    let told = run(&heap, &mut left, &mut output);
+    if heap.left() != 0 {
+        equal(rt, &told, &answer);
+        same(rt, output.as_slice(), whole);
+        return false;
+    }
+    check_refused(rt, told, output.as_slice(), answer, whole);
+    true
 }
 
 /// Runs a script again and again with the first growth refused, the second, and so on, until a run meets no refusal.
@@ -35,19 +55,11 @@ fn refuse_in_turn(
     answer: run_answer_t,
     whole: &[u8],
 ) {
-    let heap = Refusing::new(alloc);
     for number in 1..usize::MAX {
-        let mut left = script;
-        let mut output: Vec<u8> = Vec::new(alloc);
-        heap.refuse(number);
-        let told = run(&heap, &mut left, &mut output);
-        if heap.left() != 0 {
-            equal(rt, &told, &answer);
-            same(rt, output.as_slice(), whole);
-            assert!(rt; number > 1);
+        if !is_refused(rt, (alloc, number), script, answer, whole) {
+            equal(rt, &(number > 1), &true);
             return;
         }
-        check_refused(rt, told, output.as_slice(), answer, whole);
     }
 }
 
@@ -56,10 +68,10 @@ pub(super) fn answered(
     rt: &impl Abort,
     alloc: Global,
     script: &[u8],
-) -> Result<(run_answer_t, Vec<u8>), Fail> {
+    output: &mut Vec<u8>,
+) -> run_answer_t {
     let mut left = script;
-    let mut output: Vec<u8> = Vec::new(alloc);
-    let answer = run(alloc, &mut left, &mut output);
+    let answer = run(alloc, &mut left, output);
     refuse_in_turn(rt, alloc, script, answer, output.as_slice());
-    Ok((answer, output))
+    answer
 }

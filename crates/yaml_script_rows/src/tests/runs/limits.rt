@@ -1,10 +1,9 @@
 //! Outputs with a limit, and outputs longer than the buffer.
 use super::growths::answered;
 use super::{check_text, ran};
-use crate::tests::{equal, same};
-use std::alloc::{AllocError, Global};
+use crate::tests::{equal, joined, same};
+use std::alloc::Global;
 use std::process::Abort;
-use std::test::Fail;
 use yaml_base::yaml_error_t;
 use yaml_tool::run_answer_t;
 
@@ -21,27 +20,38 @@ fn answer_within(limit: usize, ends: &[(u64, usize)]) -> run_answer_t {
     run_answer_t::Done
 }
 
-// The output is the text up to the limit.
-fn check_limit(
-    rt: &impl Abort,
-    alloc: Global,
-    events: &str,
-    stream: Stream,
-    limit: usize,
-) -> Result<(), Fail> {
-    let (encoding, ends, text) = stream;
-    let script = format!(in alloc; "limit {limit}\nunicode on\nencoding {encoding}\n{events}")?;
-    let (answer, output) = answered(rt, alloc, script.as_bytes())?;
-    equal(rt, &(limit, answer), &(limit, answer_within(limit, ends)));
-    same(rt, output.as_slice(), text.get(..limit).unwrap_or(text));
-    Ok(())
+/// The script with this limit.
+fn limited(rt: &impl Abort, alloc: Global, limit: usize, encoding: &str, events: &str) -> String {
+    format!(in alloc; "limit {limit}\nunicode on\nencoding {encoding}\n{events}").expect(
+        rt,
+        "no memory",
+    )
 }
 
-fn check_limits(rt: &impl Abort, alloc: Global, events: &str, stream: Stream) -> Result<(), Fail> {
+// The output is the text up to the limit.
+fn check_limit(rt: &impl Abort, alloc: Global, events: &str, stream: &Stream, limit: usize) {
+    let script = limited(rt, alloc, limit, stream.0, events);
+    let mut output = Vec::new(alloc);
+    let answer = answered(rt, alloc, script.as_bytes(), &mut output);
+    let expected = answer_within(limit, stream.1);
+    equal(rt, &(limit, answer), &(limit, expected));
+    same(
+        rt,
+        output.as_slice(),
+        stream.2.get(..limit).unwrap_or(stream.2),
+    );
+}
+
+fn check_limits(rt: &impl Abort, alloc: Global, events: &str, stream: &Stream) {
     for limit in 0..stream.2.len().saturating_add(2) {
-        check_limit(rt, alloc, events, stream, limit)?;
+        check_limit(rt, alloc, events, stream, limit);
     }
-    Ok(())
+}
+
+fn check_all_limits(rt: &impl Abort, alloc: Global, events: &str, streams: &[Stream]) {
+    for stream in streams {
+        check_limits(rt, alloc, events, stream);
+    }
 }
 
 const TWO_DOCUMENTS: &str = r#"+STR any
@@ -53,17 +63,27 @@ const TWO_DOCUMENTS: &str = r#"+STR any
 -DOC 1
 -STR"#;
 
+const DOCUMENTS: &[Stream] = &[
+    (
+        "utf8",
+        &[(7, 3), (10, 12)],
+        b"\xC3\xA9\n--- \xF0\x9F\x98\x80\n",
+    ),
+    (
+        "utf16le",
+        &[(7, 6), (10, 20)],
+        b"\xFF\xFE\xE9\0\n\0-\0-\0-\0 \0\x3D\xD8\x00\xDE\n\0",
+    ),
+    (
+        "utf16be",
+        &[(7, 6), (10, 20)],
+        b"\xFE\xFF\0\xE9\0\n\0-\0-\0-\0 \xD8\x3D\xDE\x00\0\n",
+    ),
+];
+
 #[test]
-fn a_limit_cuts_two_documents_anywhere(rt: HostRuntime) -> Result<(), Fail> {
-    let utf8 = b"\xC3\xA9\n--- \xF0\x9F\x98\x80\n";
-    let stream: Stream = ("utf8", &[(7, 3), (10, 12)], utf8);
-    check_limits(&rt, rt.alloc(), TWO_DOCUMENTS, stream)?;
-    let little = b"\xFF\xFE\xE9\0\n\0-\0-\0-\0 \0\x3D\xD8\x00\xDE\n\0";
-    let stream: Stream = ("utf16le", &[(7, 6), (10, 20)], little);
-    check_limits(&rt, rt.alloc(), TWO_DOCUMENTS, stream)?;
-    let big = b"\xFE\xFF\0\xE9\0\n\0-\0-\0-\0 \xD8\x3D\xDE\x00\0\n";
-    let stream: Stream = ("utf16be", &[(7, 6), (10, 20)], big);
-    check_limits(&rt, rt.alloc(), TWO_DOCUMENTS, stream)
+fn a_limit_cuts_two_documents_anywhere(rt: HostRuntime) {
+    check_all_limits(&rt, rt.alloc(), TWO_DOCUMENTS, DOCUMENTS);
 }
 
 const LAST_BREAKS: &str = r#"+STR any
@@ -72,66 +92,86 @@ const LAST_BREAKS: &str = r#"+STR any
 -DOC 1
 -STR"#;
 
+const DOTS: &[Stream] = &[
+    ("utf8", &[(7, 8), (8, 12)], b"|+\n  a\n\n...\n"),
+    (
+        "utf16be",
+        &[(7, 18), (8, 26)],
+        b"\xFE\xFF\0|\0+\0\n\0 \0 \0a\0\n\0\n\0.\0.\0.\0\n",
+    ),
+];
+
 #[test]
-fn a_limit_cuts_the_streams_last_dots(rt: HostRuntime) -> Result<(), Fail> {
-    let stream: Stream = ("utf8", &[(7, 8), (8, 12)], b"|+\n  a\n\n...\n");
-    check_limits(&rt, rt.alloc(), LAST_BREAKS, stream)?;
-    let big = b"\xFE\xFF\0|\0+\0\n\0 \0 \0a\0\n\0\n\0.\0.\0.\0\n";
-    let stream: Stream = ("utf16be", &[(7, 18), (8, 26)], big);
-    check_limits(&rt, rt.alloc(), LAST_BREAKS, stream)
+fn a_limit_cuts_the_streams_last_dots(rt: HostRuntime) {
+    check_all_limits(&rt, rt.alloc(), LAST_BREAKS, DOTS);
+}
+
+const MARK: &[Stream] = &[("utf16le", &[(5, 2)], b"\xFF\xFE")];
+
+#[test]
+fn a_limit_cuts_a_mark(rt: HostRuntime) {
+    check_all_limits(&rt, rt.alloc(), "+STR any\n-STR", MARK);
+}
+
+/// A letter, so many times.
+fn letters(rt: &impl Abort, alloc: Global, letter: &str, count: usize) -> String {
+    letter.repeat(alloc, count).expect(rt, "no memory")
+}
+
+/// A document of one value, after these settings and in this encoding.
+fn of_value(rt: &impl Abort, alloc: Global, start: &str, value: &str) -> String {
+    let parts = [
+        start,
+        "\n+DOC 1 -\n=VAL any 1 1 - - \"",
+        value,
+        "\"\n-DOC 1\n-STR",
+    ];
+    joined(rt, alloc, &parts)
 }
 
 #[test]
-fn a_limit_cuts_a_mark(rt: HostRuntime) -> Result<(), Fail> {
-    let stream: Stream = ("utf16le", &[(5, 2)], b"\xFF\xFE");
-    check_limits(&rt, rt.alloc(), "+STR any\n-STR", stream)
-}
-
-#[test]
-fn a_text_longer_than_the_buffer_is_whole(rt: HostRuntime) -> Result<(), Fail> {
-    let alloc = rt.alloc();
-    let value = "x".repeat(alloc, 40_000)?;
-    let script = format!(in alloc;
-        "+STR any\n+DOC 1 -\n=VAL any 1 1 - - \"{value}\"\n-DOC 1\n-STR"
-    )?;
-    let text = format!(in alloc; "{value}\n")?;
+fn a_text_longer_than_the_buffer_is_whole(rt: HostRuntime) {
+    let value = letters(&rt, rt.alloc(), "x", 40_000);
+    let script = of_value(&rt, rt.alloc(), "+STR any", value.as_str());
+    let text = joined(&rt, rt.alloc(), &[value.as_str(), "\n"]);
     equal(&rt, &text.len(), &40_001);
-    check_text(&rt, alloc, script.as_str(), text.as_bytes())
+    check_text(&rt, rt.alloc(), script.as_str(), text.as_bytes());
 }
 
 /// So many letters in UTF-16.
-fn units(alloc: Global, count: usize) -> Result<Vec<u8>, AllocError> {
-    let mut text = Vec::from_slice(alloc, b"\xFF\xFE")?;
+fn units(rt: &impl Abort, alloc: Global, count: usize) -> Vec<u8> {
+    let mut text = Vec::from_slice(alloc, b"\xFF\xFE").expect(rt, "no memory");
     for _ in 0..count {
-        text.extend_from_slice(b"\xE9\0")?;
+        text.extend_from_slice(b"\xE9\0").expect(rt, "no memory");
     }
-    text.extend_from_slice(b"\n\0")?;
-    Ok(text)
+    text.extend_from_slice(b"\n\0").expect(rt, "no memory");
+    text
 }
 
 // Which of two calls answers is left to the buffer: the scalar's, or the document's end.
-fn check_long(rt: &impl Abort, alloc: Global, script: &str, text: &[u8]) -> Result<(), Fail> {
-    let cut = ran(rt, alloc, script.as_bytes())?;
-    let line = cut.line.as_slice();
-    assert!(rt;
-        line == b"yamlemit: line 5: write error\n".as_slice()
-            || line == b"yamlemit: line 6: write error\n".as_slice()
-    );
+fn is_cut(line: &[u8]) -> bool {
+    line == b"yamlemit: line 5: write error\n".as_slice()
+        || line == b"yamlemit: line 6: write error\n".as_slice()
+}
+
+fn check_long(rt: &impl Abort, alloc: Global, script: &str, text: &[u8]) {
+    let cut = ran(rt, alloc, script.as_bytes());
+    equal(rt, &is_cut(cut.line.as_slice()), &true);
     equal(rt, &cut.output.len(), &32_771);
-    assert!(rt; text.starts_with(cut.output.as_slice()));
-    Ok(())
+    equal(rt, &text.starts_with(cut.output.as_slice()), &true);
+}
+
+fn check_units(rt: &impl Abort, alloc: Global, value: &str, text: &[u8]) {
+    equal(rt, &text.len(), &40_004);
+    let whole = of_value(rt, alloc, "unicode on\n+STR utf16le", value);
+    check_text(rt, alloc, whole.as_str(), text);
+    let limited = joined(rt, alloc, &["limit 32771\n", whole.as_str()]);
+    check_long(rt, alloc, limited.as_str(), text);
 }
 
 #[test]
-fn a_long_text_in_units_of_two_bytes_is_cut(rt: HostRuntime) -> Result<(), Fail> {
-    let alloc = rt.alloc();
-    let value = "\u{E9}".repeat(alloc, 20_000)?;
-    let text = units(alloc, 20_000)?;
-    equal(&rt, &text.len(), &40_004);
-    let script = format!(in alloc;
-        "unicode on\n+STR utf16le\n+DOC 1 -\n=VAL any 1 1 - - \"{value}\"\n-DOC 1\n-STR"
-    )?;
-    check_text(&rt, alloc, script.as_str(), text.as_slice())?;
-    let limited = format!(in alloc; "limit 32771\n{script}")?;
-    check_long(&rt, alloc, limited.as_str(), text.as_slice())
+fn a_long_text_in_units_of_two_bytes_is_cut(rt: HostRuntime) {
+    let value = letters(&rt, rt.alloc(), "\u{E9}", 20_000);
+    let text = units(&rt, rt.alloc(), 20_000);
+    check_units(&rt, rt.alloc(), value.as_str(), text.as_slice());
 }

@@ -1,9 +1,8 @@
 //! Each kind of event at each place: where it stands, and how it is refused where it doesn't.
 use super::growths::answered;
-use crate::tests::equal;
+use crate::tests::{equal, joined};
 use std::alloc::Global;
 use std::process::Abort;
-use std::test::Fail;
 use yaml_base::yaml_error_t;
 use yaml_tool::run_answer_t;
 
@@ -26,93 +25,89 @@ const KINDS: &[&str] = &[
 type Row<'a> = (&'a str, &'a str, yaml_error_t);
 
 // One that may not stand there is refused by the last event's call.
-fn check_kind(
-    rt: &impl Abort,
-    alloc: Global,
-    script: &str,
-    stands: bool,
-    error: yaml_error_t,
-) -> Result<(), Fail> {
+fn expected(script: &str, stands: bool, error: yaml_error_t) -> run_answer_t {
+    if stands {
+        return run_answer_t::Done;
+    }
     let mut lines: u64 = 0;
     for _ in script.lines() {
         lines = lines.saturating_add(1);
     }
-    let expected = if stands {
-        run_answer_t::Done
-    } else {
-        run_answer_t::Refused(lines, error)
-    };
-    let (answer, _) = answered(rt, alloc, script.as_bytes())?;
-    equal(rt, &(script, answer), &(script, expected));
-    Ok(())
+    run_answer_t::Refused(lines, error)
 }
 
-fn check_place(rt: &impl Abort, alloc: Global, row: &Row) -> Result<(), Fail> {
+fn check_kind(rt: &impl Abort, alloc: Global, row: &Row, kind: &str, sign: char) {
+    let script = joined(rt, alloc, &[row.0, kind]);
+    let answer = answered(rt, alloc, script.as_bytes(), &mut Vec::new(alloc));
+    let wanted = expected(script.as_str(), sign == '+', row.2);
+    equal(rt, &(script.as_str(), answer), &(script.as_str(), wanted));
+}
+
+fn check_place(rt: &impl Abort, alloc: Global, row: &Row) {
     equal(rt, &row.1.len(), &KINDS.len());
     for (kind, sign) in KINDS.iter().zip(row.1.chars()) {
-        let script = format!(in alloc; "{}{kind}", row.0)?;
-        check_kind(rt, alloc, script.as_str(), sign == '+', row.2)?;
+        check_kind(rt, alloc, row, kind, sign);
     }
-    Ok(())
 }
 
-fn check_places(rt: &impl Abort, alloc: Global, rows: &[Row]) -> Result<(), Fail> {
+fn check_places(rt: &impl Abort, alloc: Global, rows: &[Row]) {
     for row in rows {
-        check_place(rt, alloc, row)?;
+        check_place(rt, alloc, row);
     }
-    Ok(())
 }
+
+const PLACES: &[Row] = &[
+    ("", "+---------", yaml_error_t::ExpectedStreamStart),
+    (
+        "+STR any\n",
+        "-++-------",
+        yaml_error_t::ExpectedDocumentStart,
+    ),
+    (
+        "+STR any\n+DOC 1 -\n=VAL any 1 1 - - \"a\"\n-DOC 1\n",
+        "-++-------",
+        yaml_error_t::ExpectedDocumentStart,
+    ),
+    (
+        "+STR any\n+DOC 1 -\n=VAL any 1 1 - - \"a\"\n",
+        "---+------",
+        yaml_error_t::ExpectedDocumentEnd,
+    ),
+    (
+        "+STR any\n-STR\n",
+        "----------",
+        yaml_error_t::ExpectedNothing,
+    ),
+];
 
 #[test]
-fn each_kind_stands_only_at_its_places(rt: HostRuntime) -> Result<(), Fail> {
-    let rows: &[Row] = &[
-        ("", "+---------", yaml_error_t::ExpectedStreamStart),
-        (
-            "+STR any\n",
-            "-++-------",
-            yaml_error_t::ExpectedDocumentStart,
-        ),
-        (
-            "+STR any\n+DOC 1 -\n=VAL any 1 1 - - \"a\"\n-DOC 1\n",
-            "-++-------",
-            yaml_error_t::ExpectedDocumentStart,
-        ),
-        (
-            "+STR any\n+DOC 1 -\n=VAL any 1 1 - - \"a\"\n",
-            "---+------",
-            yaml_error_t::ExpectedDocumentEnd,
-        ),
-        (
-            "+STR any\n-STR\n",
-            "----------",
-            yaml_error_t::ExpectedNothing,
-        ),
-    ];
-    check_places(&rt, rt.alloc(), rows)
+fn each_kind_stands_only_at_its_places(rt: HostRuntime) {
+    check_places(&rt, rt.alloc(), PLACES);
 }
 
 const NODE: yaml_error_t = yaml_error_t::ExpectedNode;
 
 // At a root, at an item, at a key, and at its value.
+const NODE_PLACES: &[Row] = &[
+    ("+STR any\n+DOC 1 -\n", "----+++-+-", NODE),
+    (
+        "+STR any\n+DOC 1 -\n+SEQ block 1 - -\n=VAL any 1 1 - - \"a\"\n=VAL any 1 1 - - \"b\"\n",
+        "----+++++-",
+        NODE,
+    ),
+    (
+        "+STR any\n+DOC 1 -\n+MAP block 1 - -\n=VAL any 1 1 - - \"a\"\n=VAL any 1 1 - - \"b\"\n=VAL any 1 1 - - \"c\"\n=VAL any 1 1 - - \"d\"\n",
+        "----+++-++",
+        NODE,
+    ),
+    (
+        "+STR any\n+DOC 1 -\n+MAP block 1 - -\n=VAL any 1 1 - - \"a\"\n=VAL any 1 1 - - \"b\"\n=VAL any 1 1 - - \"c\"\n",
+        "----+++-+-",
+        NODE,
+    ),
+];
+
 #[test]
-fn each_node_stands_only_at_its_places(rt: HostRuntime) -> Result<(), Fail> {
-    let rows: &[Row] = &[
-        ("+STR any\n+DOC 1 -\n", "----+++-+-", NODE),
-        (
-            "+STR any\n+DOC 1 -\n+SEQ block 1 - -\n=VAL any 1 1 - - \"a\"\n=VAL any 1 1 - - \"b\"\n",
-            "----+++++-",
-            NODE,
-        ),
-        (
-            "+STR any\n+DOC 1 -\n+MAP block 1 - -\n=VAL any 1 1 - - \"a\"\n=VAL any 1 1 - - \"b\"\n=VAL any 1 1 - - \"c\"\n=VAL any 1 1 - - \"d\"\n",
-            "----+++-++",
-            NODE,
-        ),
-        (
-            "+STR any\n+DOC 1 -\n+MAP block 1 - -\n=VAL any 1 1 - - \"a\"\n=VAL any 1 1 - - \"b\"\n=VAL any 1 1 - - \"c\"\n",
-            "----+++-+-",
-            NODE,
-        ),
-    ];
-    check_places(&rt, rt.alloc(), rows)
+fn each_node_stands_only_at_its_places(rt: HostRuntime) {
+    check_places(&rt, rt.alloc(), NODE_PLACES);
 }

@@ -1,6 +1,5 @@
 //! Portable mode: documents begin with `---`, signs of flow after a handle are escaped, a prefix begins with its `!`.
 use super::{Group, check_all_roots, check_all_streams};
-use std::test::Fail;
 
 /// Roots of documents, after some settings.
 const ROOTS: &[Group] = &[
@@ -132,11 +131,11 @@ const STREAMS: &[Group] = &[
 ];
 
 #[test]
-fn each_stream_is_written(rt: HostRuntime) -> Result<(), Fail> {
-    check_all_streams(&rt, rt.alloc(), STREAMS)
+fn each_stream_is_written(rt: HostRuntime) {
+    check_all_streams(&rt, rt.alloc(), STREAMS);
 }
 
 #[test]
-fn each_root_is_written(rt: HostRuntime) -> Result<(), Fail> {
-    check_all_roots(&rt, rt.alloc(), ROOTS)
+fn each_root_is_written(rt: HostRuntime) {
+    check_all_roots(&rt, rt.alloc(), ROOTS);
 }

@@ -2,7 +2,6 @@
 use crate::tests::{answers, equal};
 use std::alloc::{AllocError, Global};
 use std::process::Abort;
-use std::test::Fail;
 use yaml_dump::{
     NodeNumber, YAML_ANY_MAPPING_STYLE, YAML_ANY_SCALAR_STYLE, YAML_MAP_TAG, YAML_STR_TAG,
     document_events, yaml_document_t, yaml_emitter_close, yaml_emitter_dump,
@@ -83,29 +82,31 @@ fn close_if_open(emitter: &mut yaml_emitter_t<Global>) -> Result<(), yaml_error_
     yaml_emitter_close(emitter)
 }
 
-/// Nodes, where there was memory for them.
-type Nodes = Result<Vec<yaml_node_t<Global>>, AllocError>;
+type Nodes = Vec<yaml_node_t<Global>>;
 
-/// The nodes, and one more.
-fn with(nodes: Nodes, node: Result<yaml_node_t<Global>, AllocError>) -> Nodes {
-    let mut nodes = nodes?;
-    nodes.push(node?)?;
-    Ok(nodes)
+/// Adds a node.
+fn add(rt: &impl Abort, nodes: &mut Nodes, node: Result<yaml_node_t<Global>, AllocError>) {
+    let node = node.expect(rt, "no memory");
+    nodes.push(node).expect(rt, "no memory");
 }
 
 /// A mapping of one text to the node of this number.
-fn pair_nodes(alloc: Global, key: &str, value: i32) -> Nodes {
-    let nodes = with(Ok(Vec::new(alloc)), pair_node(alloc, value));
-    with(nodes, text_node(alloc, key))
+fn pair_nodes(rt: &impl Abort, alloc: Global, key: &str, value: i32) -> Nodes {
+    let mut nodes = Vec::new(alloc);
+    add(rt, &mut nodes, pair_node(alloc, value));
+    add(rt, &mut nodes, text_node(alloc, key));
+    nodes
 }
 
 /// The same, and another text.
-fn named_nodes(alloc: Global, value: i32) -> Nodes {
-    with(pair_nodes(alloc, "name", value), text_node(alloc, "beta"))
+fn named_nodes(rt: &impl Abort, alloc: Global, value: i32) -> Nodes {
+    let mut nodes = pair_nodes(rt, alloc, "name", value);
+    add(rt, &mut nodes, text_node(alloc, "beta"));
+    nodes
 }
 
-fn document(alloc: Global, nodes: Nodes) -> Result<yaml_document_t<Global>, Fail> {
-    Ok(document_of(alloc, nodes?)?)
+fn document(rt: &impl Abort, alloc: Global, nodes: Nodes) -> yaml_document_t<Global> {
+    document_of(alloc, nodes).expect(rt, "each number names a node")
 }
 
 fn check_named(rt: &impl Abort, alloc: Global, document: yaml_document_t<Global>) {
@@ -114,22 +115,16 @@ fn check_named(rt: &impl Abort, alloc: Global, document: yaml_document_t<Global>
 }
 
 #[test]
-fn a_document_is_written(rt: HostRuntime) -> Result<(), Fail> {
-    let alloc = rt.alloc();
-    check_named(&rt, alloc, document(alloc, named_nodes(alloc, 3))?);
-    Ok(())
-}
-
-/// The number that names no node.
-fn refused_number(alloc: Global, nodes: Nodes) -> Result<Option<NodeNumber>, AllocError> {
-    Ok(document_of(alloc, nodes?).err())
+fn a_document_is_written(rt: HostRuntime) {
+    let nodes = named_nodes(&rt, rt.alloc(), 3);
+    check_named(&rt, rt.alloc(), document(&rt, rt.alloc(), nodes));
 }
 
 #[test]
 fn a_number_that_names_no_node_is_returned(rt: HostRuntime) {
-    let alloc = rt.alloc();
-    let number = refused_number(alloc, named_nodes(alloc, 4));
-    equal(&rt, &number, &Ok(Some(NodeNumber(4))));
+    let nodes = named_nodes(&rt, rt.alloc(), 4);
+    let number = document_of(rt.alloc(), nodes).err();
+    equal(&rt, &number, &Some(NodeNumber(4)));
 }
 
 fn count_events(alloc: Global, document: &yaml_document_t<Global>) -> Result<usize, yaml_error_t> {
@@ -150,12 +145,11 @@ fn check_circle(
 
 // A mapping that is its own value.
 #[test]
-fn a_node_met_twice_has_an_anchor(rt: HostRuntime) -> Result<(), Fail> {
+fn a_node_met_twice_has_an_anchor(rt: HostRuntime) {
     let alloc = rt.alloc();
-    let circle = document(alloc, pair_nodes(alloc, "me", 1))?;
-    let empty = document(alloc, Ok(Vec::new(alloc)))?;
+    let circle = document(&rt, alloc, pair_nodes(&rt, alloc, "me", 1));
+    let empty = document(&rt, alloc, Vec::new(alloc));
     check_circle(&rt, alloc, circle, empty);
-    Ok(())
 }
 
 /// Whether a stream is closed that was opened, or was not.

@@ -1,10 +1,9 @@
 //! Streams, event by event.
-ghost use Rattle.std.specs.Prelude.{◌≡◌, IfOk, true};
+ghost use Rattle.std.specs.Prelude.{◌≡◌, true};
 
 use crate::tests::{equal, same};
 use std::alloc::{AllocError, Global};
 use std::process::Abort;
-use std::test::Fail;
 use yaml_dump::{
     YAML_ANY_ENCODING, YAML_ANY_SCALAR_STYLE, YAML_DOCUMENT_END_EVENT, YAML_DOCUMENT_START_EVENT,
     YAML_EMITTER_ERROR, YAML_FLOW_SEQUENCE_STYLE, YAML_SCALAR_EVENT, YAML_SEQUENCE_END_EVENT,
@@ -65,39 +64,44 @@ fn stream_start() -> yaml_event_t<Global> {
     }
 }
 
-/// Events, where there was memory for them.
-type Events = Result<Vec<yaml_event_t<Global>>, AllocError>;
+type Events = Vec<yaml_event_t<Global>>;
 
-/// The events, and one more.
-fn with(events: Events, event: Result<yaml_event_t<Global>, AllocError>) -> Events {
-    let mut events = events?;
-    events.push(event?)?;
-    Ok(events)
+/// Adds an event.
+fn add(rt: &impl Abort, events: &mut Events, event: yaml_event_t<Global>) {
+    events.push(event).expect(rt, "no memory");
 }
+
+/// Adds a scalar.
+fn add_scalar(rt: &impl Abort, alloc: Global, events: &mut Events, value: &str) {
+    let event = scalar(alloc, value).expect(rt, "no memory");
+    add(rt, events, event);
+}
+
+const DOCUMENT_END: yaml_event_t<Global> = YAML_DOCUMENT_END_EVENT { implicit: true };
 
 /// The start of a flow sequence, and its first item.
-fn started(alloc: Global) -> Events {
-    let stream = with(Ok(Vec::new(alloc)), Ok(stream_start()));
-    let document = with(stream, Ok(document_start(alloc)));
-    with(with(document, Ok(flow_sequence())), scalar(alloc, "a"))
+fn started(rt: &impl Abort, alloc: Global) -> Events {
+    let mut events = Vec::new(alloc);
+    add(rt, &mut events, stream_start());
+    add(rt, &mut events, document_start(alloc));
+    add(rt, &mut events, flow_sequence());
+    add_scalar(rt, alloc, &mut events, "a");
+    events
 }
 
-/// Its second item, its end, and that of the document.
-fn rest(alloc: Global) -> Events {
-    let item = with(Ok(Vec::new(alloc)), scalar(alloc, "b"));
-    let end = with(item, Ok(YAML_SEQUENCE_END_EVENT));
-    with(end, Ok(YAML_DOCUMENT_END_EVENT { implicit: true }))
+/// Its second item.
+fn item(rt: &impl Abort, alloc: Global) -> Events {
+    let mut events = Vec::new(alloc);
+    add_scalar(rt, alloc, &mut events, "b");
+    events
 }
 
-/// Emits the events where there was memory for them.
-fn emit_made(emitter: &mut yaml_emitter_t<Global>, events: Events) -> Result<(), yaml_error_t>
-    requires { emitter.old.has_output ≡ true }
-    ensures { emitter.new.has_output ≡ true }
-{
-    match events {
-        Ok(events) => emit_all(emitter, events),
-        Err(_) => Err(yaml_error_t::Memory),
-    }
+/// The same, its end, and that of the document.
+fn rest(rt: &impl Abort, alloc: Global) -> Events {
+    let mut events = item(rt, alloc);
+    add(rt, &mut events, YAML_SEQUENCE_END_EVENT);
+    add(rt, &mut events, DOCUMENT_END);
+    events
 }
 
 fn check_output(rt: &impl Abort, emitter: &yaml_emitter_t<Global>, held: usize, output: &[u8]) {
@@ -106,21 +110,21 @@ fn check_output(rt: &impl Abort, emitter: &yaml_emitter_t<Global>, held: usize, 
 }
 
 /// An emitter whose output has at most a thousand bytes.
-fn emitter_with_output(alloc: Global) -> Result<yaml_emitter_t<Global>, yaml_error_t>
-    ensures { IfOk result (λ emitter. emitter.has_output ≡ true) }
+fn emitter_with_output(rt: &impl Abort, alloc: Global) -> yaml_emitter_t<Global>
+    ensures { result.has_output ≡ true }
 {
-    let mut emitter = yaml_emitter_initialize(alloc)?;
+    let mut emitter = yaml_emitter_initialize(alloc).expect(rt, "no memory");
     yaml_emitter_set_output_string(&mut emitter, 1_000);
-    Ok(emitter)
+    emitter
 }
 
 fn give_in_parts(rt: &impl Abort, alloc: Global, emitter: &mut yaml_emitter_t<Global>)
     requires { emitter.old.has_output ≡ true }
 {
-    equal(rt, &emit_made(emitter, started(alloc)), &Ok(()));
+    equal(rt, &emit_all(emitter, started(rt, alloc)), &Ok(()));
     // The sequence's start is still queued: it awaits one more event.
     check_output(rt, emitter, 2, b"");
-    equal(rt, &emit_made(emitter, rest(alloc)), &Ok(()));
+    equal(rt, &emit_all(emitter, rest(rt, alloc)), &Ok(()));
     check_output(rt, emitter, 0, b"[a, b]\n");
     let end = yaml_emitter_emit(emitter, YAML_STREAM_END_EVENT);
     equal(rt, &end, &Ok(()));
@@ -128,10 +132,9 @@ fn give_in_parts(rt: &impl Abort, alloc: Global, emitter: &mut yaml_emitter_t<Gl
 }
 
 #[test]
-fn bytes_appear_at_a_documents_end(rt: HostRuntime) -> Result<(), Fail> {
-    let mut emitter = emitter_with_output(rt.alloc())?;
+fn bytes_appear_at_a_documents_end(rt: HostRuntime) {
+    let mut emitter = emitter_with_output(&rt, rt.alloc());
     give_in_parts(&rt, rt.alloc(), &mut emitter);
-    Ok(())
 }
 
 /// Hands out all text so far. Returns how many events still wait for those that follow.
@@ -146,21 +149,19 @@ fn flush_text(emitter: &mut yaml_emitter_t<Global>) -> Result<usize, yaml_error_
 fn give_and_flush(rt: &impl Abort, alloc: Global, emitter: &mut yaml_emitter_t<Global>)
     requires { emitter.old.has_output ≡ true }
 {
-    equal(rt, &emit_made(emitter, started(alloc)), &Ok(()));
+    equal(rt, &emit_all(emitter, started(rt, alloc)), &Ok(()));
     equal(rt, &flush_text(emitter), &Ok(2));
     equal(rt, &emitter.encoding_known(), &true);
-    let item = with(Ok(Vec::new(alloc)), scalar(alloc, "b"));
-    equal(rt, &emit_made(emitter, item), &Ok(()));
+    equal(rt, &emit_all(emitter, item(rt, alloc)), &Ok(()));
     check_output(rt, emitter, 0, b"");
     equal(rt, &flush_text(emitter), &Ok(0));
     check_output(rt, emitter, 0, b"[a, b");
 }
 
 #[test]
-fn a_flush_writes_what_is_ready(rt: HostRuntime) -> Result<(), Fail> {
-    let mut emitter = emitter_with_output(rt.alloc())?;
+fn a_flush_writes_what_is_ready(rt: HostRuntime) {
+    let mut emitter = emitter_with_output(&rt, rt.alloc());
     give_and_flush(&rt, rt.alloc(), &mut emitter);
-    Ok(())
 }
 
 /// Sends what was handed out since the last call.
@@ -172,11 +173,25 @@ fn send(emitter: &mut yaml_emitter_t<Global>, sent: &mut Vec<u8>) -> Result<(), 
         .map_err(|_| yaml_error_t::Memory)
 }
 
-/// The events of a document, after those that are given.
-fn with_document(events: Events, alloc: Global, value: &str) -> Events {
-    let start = with(events, Ok(document_start(alloc)));
-    let contents = with(start, scalar(alloc, value));
-    with(contents, Ok(YAML_DOCUMENT_END_EVENT { implicit: true }))
+/// Adds the events of a document.
+fn add_document(rt: &impl Abort, alloc: Global, events: &mut Events, value: &str) {
+    add(rt, events, document_start(alloc));
+    add_scalar(rt, alloc, events, value);
+    add(rt, events, DOCUMENT_END);
+}
+
+fn first_document(rt: &impl Abort, alloc: Global) -> Events {
+    let mut events = Vec::new(alloc);
+    add(rt, &mut events, stream_start());
+    add_document(rt, alloc, &mut events, "a");
+    events
+}
+
+fn last_document(rt: &impl Abort, alloc: Global) -> Events {
+    let mut events = Vec::new(alloc);
+    add_document(rt, alloc, &mut events, "b");
+    add(rt, &mut events, YAML_STREAM_END_EVENT);
+    events
 }
 
 fn send_after(
@@ -189,7 +204,7 @@ fn send_after(
     requires { emitter.old.has_output ≡ true }
     ensures { emitter.new.has_output ≡ true }
 {
-    equal(rt, &emit_made(emitter, events), &Ok(()));
+    equal(rt, &emit_all(emitter, events), &Ok(()));
     equal(rt, &send(emitter, sent), &Ok(()));
     same(rt, sent.as_slice(), wanted);
     same(rt, emitter.output(), b"");
@@ -203,19 +218,15 @@ fn send_in_parts(
 )
     requires { emitter.old.has_output ≡ true }
 {
-    let start = with(Ok(Vec::new(alloc)), Ok(stream_start()));
-    let first = with_document(start, alloc, "a");
-    send_after(rt, emitter, first, sent, b"a\n");
-    let second = with_document(Ok(Vec::new(alloc)), alloc, "b");
-    let rest = with(second, Ok(YAML_STREAM_END_EVENT));
-    send_after(rt, emitter, rest, sent, b"a\n--- b\n");
+    send_after(rt, emitter, first_document(rt, alloc), sent, b"a\n");
+    let last = last_document(rt, alloc);
+    send_after(rt, emitter, last, sent, b"a\n--- b\n");
 }
 
 #[test]
-fn a_stream_is_sent_in_parts(rt: HostRuntime) -> Result<(), Fail> {
-    let mut emitter = emitter_with_output(rt.alloc())?;
+fn a_stream_is_sent_in_parts(rt: HostRuntime) {
+    let mut emitter = emitter_with_output(&rt, rt.alloc());
     send_in_parts(&rt, rt.alloc(), &mut emitter, &mut Vec::new(rt.alloc()));
-    Ok(())
 }
 
 fn check_error(rt: &impl Abort, emitter: &yaml_emitter_t<Global>) {
@@ -238,9 +249,8 @@ fn check_refused(rt: &impl Abort, emitter: &mut yaml_emitter_t<Global>, event: y
 }
 
 #[test]
-fn the_first_error_is_sticky(rt: HostRuntime) -> Result<(), Fail> {
-    let mut emitter = emitter_with_output(rt.alloc())?;
+fn the_first_error_is_sticky(rt: HostRuntime) {
+    let mut emitter = emitter_with_output(&rt, rt.alloc());
     check_refused(&rt, &mut emitter, YAML_STREAM_END_EVENT);
     check_refused(&rt, &mut emitter, stream_start());
-    Ok(())
 }

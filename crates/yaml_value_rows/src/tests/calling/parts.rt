@@ -1,7 +1,6 @@
 //! The layers below the emitter, each used by itself.
-use crate::tests::{equal, same};
+use crate::tests::{answers, equal};
 use std::alloc::{AllocError, Global};
-use std::test::Fail;
 use yaml_dump::{
     Directives, Pen, YAML_ANY_SCALAR_STYLE, YAML_LN_BREAK, YAML_SINGLE_QUOTED_SCALAR_STYLE,
     YAML_UTF8_ENCODING, analyze_anchor, analyze_scalar, analyze_tag, select_scalar_style,
@@ -42,28 +41,22 @@ fn shortening(alloc: Global, handle: &str, prefix: &str) -> Result<Directives<Gl
 }
 
 #[test]
-fn a_pen_takes_the_text_of_a_writer(rt: HostRuntime) -> Result<(), Fail> {
-    let yaml = quoted(rt.alloc(), "say \"hi\"\n")?;
-    same(&rt, yaml.as_slice(), b"\"say \\\"hi\\\"\\n\"");
-    Ok(())
+fn a_pen_takes_the_text_of_a_writer(rt: HostRuntime) {
+    let yaml = quoted(rt.alloc(), "say \"hi\"\n");
+    answers(&rt, yaml, &Ok(b"\"say \\\"hi\\\"\\n\""));
 }
 
 #[test]
-fn a_style_is_chosen(rt: HostRuntime) -> Result<(), Fail> {
-    assert!(rt; root_style("a: b")? == YAML_SINGLE_QUOTED_SCALAR_STYLE);
-    Ok(())
+fn a_style_is_chosen(rt: HostRuntime) {
+    let style = root_style("a: b");
+    equal(&rt, &style, &Ok(YAML_SINGLE_QUOTED_SCALAR_STYLE));
 }
 
 #[test]
-fn a_tag_is_cut_after_its_prefix(rt: HostRuntime) -> Result<(), Fail> {
-    let directives = shortening(rt.alloc(), "!e!", "tag:e.com,2000:")?;
-    let cut = analyze_tag("tag:e.com,2000:note", &directives)?;
-    equal(&rt, &cut.directive, &Some(0));
-    equal(&rt, &cut.prefix_length, &15);
-    equal(
-        &rt,
-        &analyze_anchor("a b", false),
-        &Err(yaml_error_t::AnchorAlphabet),
-    );
-    Ok(())
+fn a_tag_is_cut_after_its_prefix(rt: HostRuntime) {
+    let directives = shortening(rt.alloc(), "!e!", "tag:e.com,2000:").expect(&rt, "no memory");
+    let cut = analyze_tag("tag:e.com,2000:note", &directives).expect(&rt, "a tag");
+    equal(&rt, &(cut.directive, cut.prefix_length), &(Some(0), 15));
+    let refused = analyze_anchor("a b", false);
+    equal(&rt, &refused, &Err(yaml_error_t::AnchorAlphabet));
 }

@@ -2,7 +2,6 @@
 use crate::tests::{equal, same};
 use std::alloc::Global;
 use std::process::Abort;
-use std::test::Fail;
 use yaml_dump::{
     YAML_CRLN_BREAK, YAML_UTF16LE_ENCODING, yaml_emitter_delete, yaml_emitter_initialize,
     yaml_emitter_set_break, yaml_emitter_set_canonical, yaml_emitter_set_encoding,
@@ -28,20 +27,19 @@ fn emitter_of(alloc: Global, limit: usize) -> Result<yaml_emitter_t<Global>, yam
 
 // Nothing was begun, and nothing is queued.
 fn check_unstarted(rt: &impl Abort, emitter: &yaml_emitter_t<Global>) {
-    assert!(rt; emitter.has_output());
-    assert!(rt; emitter.encoding_known());
-    assert!(rt; !emitter.is_started());
-    assert!(rt; !emitter.is_opened());
-    assert!(rt; !emitter.is_closed());
+    equal(rt, &emitter.has_output(), &true);
+    equal(rt, &emitter.encoding_known(), &true);
+    equal(rt, &emitter.is_started(), &false);
+    equal(rt, &emitter.is_opened(), &false);
+    equal(rt, &emitter.is_closed(), &false);
     same(rt, emitter.output(), b"");
     equal(rt, &emitter.error(), &None);
     equal(rt, &emitter.held(), &0);
 }
 
 #[test]
-fn an_emitter_is_set_before_its_stream(rt: HostRuntime) -> Result<(), Fail> {
-    let emitter = emitter_of(rt.alloc(), 1_000)?;
+fn an_emitter_is_set_before_its_stream(rt: HostRuntime) {
+    let emitter = emitter_of(rt.alloc(), 1_000).expect(&rt, "no memory");
     check_unstarted(&rt, &emitter);
     yaml_emitter_delete(emitter);
-    Ok(())
 }

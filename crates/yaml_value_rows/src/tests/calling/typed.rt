@@ -1,7 +1,7 @@
 //! Typed values, in canonical form.
 use crate::tests::{answers, equal};
 use std::alloc::{AllocError, Global};
-use std::test::Fail;
+use std::process::Abort;
 use yaml_value::{Value, write_canonical, yaml_error_t};
 
 /// A list of a number and a text.
@@ -23,23 +23,21 @@ fn are_same(
     Ok(first.as_slice() == second.as_slice())
 }
 
-#[test]
-fn a_value_has_one_form(rt: HostRuntime) -> Result<(), Fail> {
-    let list = list_of(rt.alloc(), 5, "a")?;
-    let bytes = write_canonical(rt.alloc(), &list);
-    answers(
-        &rt,
-        bytes,
-        &Ok(b"---\n!!seq [\n  !!int \"5\",\n  !!str \"a\",\n]\n"),
-    );
-    Ok(())
+fn made(rt: &impl Abort, alloc: Global, text: &str) -> Value<Global> {
+    list_of(alloc, 5, text).expect(rt, "no memory")
 }
 
 #[test]
-fn equal_values_have_equal_bytes(rt: HostRuntime) -> Result<(), Fail> {
-    let list = list_of(rt.alloc(), 5, "a")?;
-    let other = list_of(rt.alloc(), 5, "5")?;
+fn a_value_has_one_form(rt: HostRuntime) {
+    let bytes = write_canonical(rt.alloc(), &made(&rt, rt.alloc(), "a"));
+    let expected = b"---\n!!seq [\n  !!int \"5\",\n  !!str \"a\",\n]\n";
+    answers(&rt, bytes, &Ok(expected.as_slice()));
+}
+
+#[test]
+fn equal_values_have_equal_bytes(rt: HostRuntime) {
+    let list = made(&rt, rt.alloc(), "a");
+    let other = made(&rt, rt.alloc(), "5");
     equal(&rt, &are_same(rt.alloc(), &list, &list), &Ok(true));
     equal(&rt, &are_same(rt.alloc(), &list, &other), &Ok(false));
-    Ok(())
 }

@@ -1,7 +1,7 @@
 //! Values, a call each.
-use crate::tests::same;
+use crate::tests::{answers, equal, same};
 use std::alloc::Global;
-use std::test::Fail;
+use std::process::Abort;
 use yaml_writer::{
     Settings, Writer, YAML_BLOCK_MAPPING_STYLE, YAML_FLOW_SEQUENCE_STYLE, yaml_error_t,
 };
@@ -48,19 +48,21 @@ fn send_document(writer: &mut Writer<Global>, sent: &mut Vec<u8>) -> Result<(), 
 }
 
 #[test]
-fn values_are_written(rt: HostRuntime) -> Result<(), Fail> {
+fn values_are_written(rt: HostRuntime) {
     let expected = "---\ncountry: 'no'\nvalues: [-5, true, null]\n";
-    same(&rt, values(rt.alloc())?.as_slice(), expected.as_bytes());
-    Ok(())
+    answers(&rt, values(rt.alloc()), &Ok(expected.as_bytes()));
+}
+
+fn writer(rt: &impl Abort, alloc: Global) -> Writer<Global> {
+    Writer::new(alloc, Settings::default()).expect(rt, "no memory")
 }
 
 #[test]
-fn an_alias_stands_for_a_value(rt: HostRuntime) -> Result<(), Fail> {
-    let mut writer = Writer::new(rt.alloc(), Settings::default())?;
-    give_shared(&mut writer)?;
+fn an_alias_stands_for_a_value(rt: HostRuntime) {
+    let mut writer = writer(&rt, rt.alloc());
+    equal(&rt, &give_shared(&mut writer), &Ok(()));
     let expected = "---\nfrom: &place !city Oslo\nto: *place\n";
-    same(&rt, writer.finish()?.as_slice(), expected.as_bytes());
-    Ok(())
+    answers(&rt, writer.finish(), &Ok(expected.as_bytes()));
 }
 
 /// A document of one text is sent, and a second begun.
@@ -71,11 +73,10 @@ fn send_text(writer: &mut Writer<Global>, sent: &mut Vec<u8>) -> Result<(), yaml
 }
 
 #[test]
-fn documents_are_sent_one_by_one(rt: HostRuntime) -> Result<(), Fail> {
+fn documents_are_sent_one_by_one(rt: HostRuntime) {
     let mut sent = Vec::new(rt.alloc());
-    let mut writer = Writer::new(rt.alloc(), Settings::default())?;
-    send_text(&mut writer, &mut sent)?;
+    let mut writer = writer(&rt, rt.alloc());
+    equal(&rt, &send_text(&mut writer, &mut sent), &Ok(()));
     same(&rt, sent.as_slice(), b"--- a\n");
-    same(&rt, writer.finish()?.as_slice(), b"--- b\n");
-    Ok(())
+    answers(&rt, writer.finish(), &Ok(b"--- b\n"));
 }
