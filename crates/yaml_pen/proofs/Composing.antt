@@ -8,7 +8,7 @@ use Rattle.yaml_base.specs.LineBreaks.{with_breaks_written, break_text}
 use Rattle.yaml_base.specs.Cursor.{Cursor, Laid, then_laid, nothing_laid, text_laid}
 use Rattle.yaml_base.proofs.Prefixes.{prefix_itself, prefix_then, prefix_same}
 use Rattle.yaml_base.specs.declared.errors.yaml_error_t.{yaml_error_t}
-use Rattle.yaml_pen.specs.Page.{Page, IsReady, IsHandedOut, encoded, told}
+use Rattle.yaml_pen.specs.Page.{Page, IsReady, told}
 use Rattle.yaml_pen.specs.Wrote.{Wrote, WroteAll, Flushed, Grows, named_text}
 use Rattle.yaml_pen.proofs.Writing.{none_from_told, column_after-append}
 
@@ -96,21 +96,6 @@ wrote_failed {first} next {before} {after} {error} one =
       output = one.output;
       all = λ none. error_from_told after.error error one.answered none;
       stopped = one.stopped;
-    }
-
--- nothing is written by no call
-pub wrote_nothing : {page : Page} → IsReady page → page.error ≡ None → IsHandedOut (encoded page) page.output page.limit page.error
-    → Wrote nothing_laid page page (Ok tt)
-wrote_nothing {page} ready none handed =
-    record {
-      answered = sym (ap told none);
-      ready = ready;
-      settings = record { encoding = refl; line_break = refl; limit = refl; taken = refl };
-      handed = handed;
-      grew = record { front = []; rest = []; parts = refl; grown = sym (append-nil page.text) };
-      output = prefix_itself page.output;
-      all = λ _. record { no_error = none; text = sym (append-nil page.text); cursor = refl };
-      stopped = λ _. refl;
     }
 
 -- what is written depends on what the layout puts at the cursor alone
