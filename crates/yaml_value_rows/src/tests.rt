@@ -33,6 +33,11 @@ fn came(rt: &impl Abort, bytes: &[u8], wanted: &Answer) {
     }
 }
 
+/// The call gave this text.
+fn gives(rt: &impl Abort, answer: Result<Vec<u8>, yaml_error_t>, wanted: &str) {
+    answers(rt, answer, &Ok(wanted.as_bytes()));
+}
+
 /// The call gave this.
 fn answers<A: Allocator>(
     rt: &impl Abort,

@@ -1,5 +1,5 @@
 //! Values, a call each.
-use crate::tests::{answers, equal, same};
+use crate::tests::{answers, equal, gives, same};
 use std::alloc::Global;
 use std::process::Abort;
 use yaml_writer::{
@@ -50,7 +50,7 @@ fn send_document(writer: &mut Writer<Global>, sent: &mut Vec<u8>) -> Result<(), 
 #[test]
 fn values_are_written(rt: HostRuntime) {
     let expected = "---\ncountry: 'no'\nvalues: [-5, true, null]\n";
-    answers(&rt, values(rt.alloc()), &Ok(expected.as_bytes()));
+    gives(&rt, values(rt.alloc()), expected);
 }
 
 fn writer(rt: &impl Abort, alloc: Global) -> Writer<Global> {
@@ -62,7 +62,7 @@ fn an_alias_stands_for_a_value(rt: HostRuntime) {
     let mut writer = writer(&rt, rt.alloc());
     equal(&rt, &give_shared(&mut writer), &Ok(()));
     let expected = "---\nfrom: &place !city Oslo\nto: *place\n";
-    answers(&rt, writer.finish(), &Ok(expected.as_bytes()));
+    gives(&rt, writer.finish(), expected);
 }
 
 /// A document of one text is sent, and a second begun.
