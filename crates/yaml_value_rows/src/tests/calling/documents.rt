@@ -120,15 +120,23 @@ fn a_document_is_written(rt: HostRuntime) {
     check_named(&rt, rt.alloc(), document(&rt, rt.alloc(), nodes));
 }
 
+/// The number that names no node.
+fn refused_number(alloc: Global, nodes: Nodes) -> Option<NodeNumber> {
+    document_of(alloc, nodes).err()
+}
+
 #[test]
 fn a_number_that_names_no_node_is_returned(rt: HostRuntime) {
     let nodes = named_nodes(&rt, rt.alloc(), 4);
-    let number = document_of(rt.alloc(), nodes).err();
+    let number = refused_number(rt.alloc(), nodes);
     equal(&rt, &number, &Some(NodeNumber(4)));
 }
 
-fn count_events(alloc: Global, document: &yaml_document_t<Global>) -> Result<usize, yaml_error_t> {
-    Ok(document_events(alloc, document)?.len())
+fn count_events(rt: &impl Abort, alloc: Global, document: &yaml_document_t<Global>) -> usize {
+    let events = document_events(alloc, document).expect(rt, "no memory");
+    let count = events.len();
+    drop(events);
+    count
 }
 
 fn check_circle(
@@ -137,7 +145,7 @@ fn check_circle(
     document: yaml_document_t<Global>,
     empty: yaml_document_t<Global>,
 ) {
-    equal(rt, &count_events(alloc, &document), &Ok(6));
+    equal(rt, &count_events(rt, alloc, &document), &6);
     equal(rt, &empty.is_empty(), &true);
     let bytes = two_dumps(alloc, document, empty);
     answers(rt, bytes, &Ok(b"&id001\nme: *id001\n"));
@@ -152,19 +160,27 @@ fn a_node_met_twice_has_an_anchor(rt: HostRuntime) {
     check_circle(&rt, alloc, circle, empty);
 }
 
-/// Whether a stream is closed that was opened, or was not.
-fn closed_after(alloc: Global, opens: bool) -> Result<bool, yaml_error_t> {
-    let mut emitter = yaml_emitter_initialize(alloc)?;
-    if opens {
-        yaml_emitter_set_output_string(&mut emitter, 100);
-        yaml_emitter_open(&mut emitter)?;
-    }
-    close_if_open(&mut emitter)?;
-    Ok(emitter.is_closed())
+fn unopened(rt: &impl Abort, alloc: Global) -> yaml_emitter_t<Global> {
+    yaml_emitter_initialize(alloc).expect(rt, "no memory")
+}
+
+fn opened(rt: &impl Abort, alloc: Global) -> yaml_emitter_t<Global> {
+    let mut emitter = yaml_emitter_initialize(alloc).expect(rt, "no memory");
+    yaml_emitter_set_output_string(&mut emitter, 100);
+    equal(rt, &yaml_emitter_open(&mut emitter), &Ok(()));
+    emitter
+}
+
+/// Whether the stream is then closed.
+fn is_closed(rt: &impl Abort, mut emitter: yaml_emitter_t<Global>) -> bool {
+    equal(rt, &close_if_open(&mut emitter), &Ok(()));
+    emitter.is_closed()
 }
 
 #[test]
 fn an_open_stream_is_closed(rt: HostRuntime) {
-    equal(&rt, &closed_after(rt.alloc(), true), &Ok(true));
-    equal(&rt, &closed_after(rt.alloc(), false), &Ok(false));
+    let opened = opened(&rt, rt.alloc());
+    equal(&rt, &is_closed(&rt, opened), &true);
+    let unopened = unopened(&rt, rt.alloc());
+    equal(&rt, &is_closed(&rt, unopened), &false);
 }

@@ -3,7 +3,7 @@ use crate::tests::{equal, same};
 use std::alloc::Global;
 use std::process::Abort;
 use yaml_dump::yaml_error_t;
-use yaml_tool::{ScriptError, read_script, run, run_answer_t, status, write_line};
+use yaml_tool::{Script, ScriptError, read_script, run, run_answer_t, status, write_line};
 
 /// The YAML of a script; how the run ended.
 fn ran(alloc: Global, script: &str, yaml: &mut Vec<u8>) -> run_answer_t {
@@ -28,20 +28,33 @@ fn a_script_is_run(rt: HostRuntime) {
 
 const REFUSED: run_answer_t = run_answer_t::Refused(2, yaml_error_t::ExpectedDocumentStart);
 
+// A run that ended so is told by this line.
+fn check_line(rt: &impl Abort, alloc: Global, answer: &run_answer_t, wanted: &str) {
+    let mut line: Vec<u8> = Vec::new(alloc);
+    equal(rt, &write_line(answer, &mut line).is_ok(), &true);
+    same(rt, line.as_slice(), wanted.as_bytes());
+}
+
 #[test]
 fn a_refusal_has_its_line(rt: HostRuntime) {
     check_run(&rt, rt.alloc(), "+STR any\n-DOC 1", (REFUSED, 1), "");
-    let mut line: Vec<u8> = Vec::new(rt.alloc());
-    equal(&rt, &write_line(&REFUSED, &mut line).is_ok(), &true);
-    let words = b"yamlemit: line 2: expected DOCUMENT-START or STREAM-END\n";
-    same(&rt, line.as_slice(), words.as_slice());
+    let words = "yamlemit: line 2: expected DOCUMENT-START or STREAM-END\n";
+    check_line(&rt, rt.alloc(), &REFUSED, words);
+}
+
+fn read(alloc: Global, script: &[u8]) -> Result<Script<Global>, ScriptError> {
+    read_script(alloc, script)
+}
+
+fn check_script(rt: &impl Abort, script: &Script<Global>) {
+    equal(rt, &script.settings.width, &Some(40));
+    equal(rt, &script.events.len(), &2);
 }
 
 #[test]
 fn a_script_is_read(rt: HostRuntime) {
-    let script = read_script(rt.alloc(), b"width 40\n+STR any\n-STR\n").expect(&rt, "a script");
-    equal(&rt, &script.settings.width, &Some(40));
-    equal(&rt, &script.events.len(), &2);
-    let twice = read_script(rt.alloc(), b"width 40\nwidth 40\n").err();
+    let script = read(rt.alloc(), b"width 40\n+STR any\n-STR\n").expect(&rt, "a script");
+    check_script(&rt, &script);
+    let twice = read(rt.alloc(), b"width 40\nwidth 40\n").err();
     equal(&rt, &twice, &Some(ScriptError::BadLine(2)));
 }
