@@ -3,18 +3,27 @@ mod bytes;
 mod memory;
 mod sizes;
 
-use std::alloc::{AllocError, Global};
+use std::alloc::Global;
+use std::process::Abort;
 use yaml_test_allocator::Refusing;
-use yaml_value::Value;
+use yaml_value::{Value, write_canonical, yaml_error_t};
 
 /// A heap that refuses a growth when it is told to.
 type Heap<'a> = &'a Refusing<Global>;
 
-/// A value on a heap, where there was memory for it.
-type Made<'a> = Result<Value<Heap<'a>>, AllocError>;
+/// A value on a heap.
+type Made<'a> = Value<Heap<'a>>;
 
-/// Values on a heap, where there was memory for them.
-type Items<'a> = Result<Vec<Value<Heap<'a>>, Heap<'a>>, AllocError>;
+/// Values on a heap.
+type Items<'a> = Vec<Made<'a>, Heap<'a>>;
+
+/// The pairs of a map.
+type Pairs<'a> = Vec<(Made<'a>, Made<'a>), Heap<'a>>;
+
+/// The canonical form of a value. (The clauses of the call are long, and tests need none of them.)
+fn canonical<'a>(heap: Heap<'a>, value: &Made<'a>) -> Result<Vec<u8, Heap<'a>>, yaml_error_t> {
+    write_canonical(heap, value)
+}
 
 /// A value of a row.
 #[derive(Drop)]
@@ -37,58 +46,72 @@ enum Example {
     NestedKey(u32),
 }
 
-fn made<'a>(heap: Heap<'a>, example: &Example) -> Made<'a> {
+fn made<'a>(rt: &impl Abort, heap: Heap<'a>, example: &Example) -> Made<'a> {
     match example {
-        Example::Null => Ok(Value::Null),
-        Example::Bool(value) => Ok(Value::Bool(*value)),
-        Example::Int(value) => Ok(Value::Int(*value)),
-        Example::Text(characters) => text(heap, characters),
-        Example::EmptyList => Ok(Value::List(Vec::new(heap))),
-        Example::EmptyMap => Ok(Value::Map(Vec::new(heap))),
-        Example::List => list(items(heap)),
-        Example::Map => map(heap, text(heap, "k"), Value::Bool(false)),
-        Example::Mixed => mixed(heap),
-        Example::Nested(count) => nested_lists(heap, *count),
-        Example::NestedKey(count) => map(heap, nested_lists(heap, *count), Value::Null),
+        Example::Null => Value::Null,
+        Example::Bool(value) => Value::Bool(*value),
+        Example::Int(value) => Value::Int(*value),
+        Example::Text(characters) => text(rt, heap, characters),
+        Example::EmptyList => Value::List(Vec::new(heap)),
+        Example::EmptyMap => Value::Map(Vec::new(heap)),
+        Example::List => Value::List(items(rt, heap)),
+        Example::Map => falsehood(rt, heap),
+        Example::Mixed => mixed(rt, heap),
+        Example::Nested(count) => nested_lists(rt, heap, *count),
+        Example::NestedKey(count) => map(rt, heap, nested_lists(rt, heap, *count), Value::Null),
     }
 }
 
-fn text<'a>(heap: Heap<'a>, characters: &str) -> Made<'a> {
-    Ok(Value::Text(String::from_str(heap, characters)?))
+fn text<'a>(rt: &impl Abort, heap: Heap<'a>, characters: &str) -> Made<'a> {
+    Value::Text(String::from_str(heap, characters).expect(rt, "no memory"))
 }
 
-/// The items, and one more.
-fn with<'a>(items: Items<'a>, value: Made<'a>) -> Items<'a> {
-    let mut items = items?;
-    items.push(value?)?;
-    Ok(items)
-}
-
-fn list<'a>(items: Items<'a>) -> Made<'a> {
-    Ok(Value::List(items?))
+/// One more item.
+fn add<'a>(rt: &impl Abort, items: &mut Items<'a>, value: Made<'a>) {
+    items.push(value).expect(rt, "no memory");
 }
 
 /// The integer 5 and the text `a`.
-fn items<'a>(heap: Heap<'a>) -> Items<'a> {
-    with(with(Ok(Vec::new(heap)), Ok(Value::Int(5))), text(heap, "a"))
+fn items<'a>(rt: &impl Abort, heap: Heap<'a>) -> Items<'a> {
+    let mut items = Vec::new(heap);
+    add(rt, &mut items, Value::Int(5));
+    add(rt, &mut items, text(rt, heap, "a"));
+    items
+}
+
+fn add_pair<'a>(rt: &impl Abort, pairs: &mut Pairs<'a>, key: Made<'a>, value: Made<'a>) {
+    pairs.push((key, value)).expect(rt, "no memory");
 }
 
 /// A map of one pair.
-fn map<'a>(heap: Heap<'a>, key: Made<'a>, value: Value<Heap<'a>>) -> Made<'a> {
+fn map<'a>(rt: &impl Abort, heap: Heap<'a>, key: Made<'a>, value: Made<'a>) -> Made<'a> {
     let mut pairs = Vec::new(heap);
-    pairs.push((key?, value))?;
-    Ok(Value::Map(pairs))
+    add_pair(rt, &mut pairs, key, value);
+    Value::Map(pairs)
 }
 
-fn mixed<'a>(heap: Heap<'a>) -> Made<'a> {
-    let pair = map(heap, text(heap, "k"), Value::Bool(false));
-    list(with(items(heap), pair))
+/// A map of the text `k` to false.
+fn falsehood<'a>(rt: &impl Abort, heap: Heap<'a>) -> Made<'a> {
+    map(rt, heap, text(rt, heap, "k"), Value::Bool(false))
 }
 
-fn nested_lists<'a>(heap: Heap<'a>, count: u32) -> Made<'a> {
-    let mut value = Ok(Value::List(Vec::new(heap)));
+fn mixed<'a>(rt: &impl Abort, heap: Heap<'a>) -> Made<'a> {
+    let mut items = items(rt, heap);
+    add(rt, &mut items, falsehood(rt, heap));
+    Value::List(items)
+}
+
+/// A list of this value alone.
+fn around<'a>(rt: &impl Abort, heap: Heap<'a>, value: Made<'a>) -> Made<'a> {
+    let mut items = Vec::new(heap);
+    add(rt, &mut items, value);
+    Value::List(items)
+}
+
+fn nested_lists<'a>(rt: &impl Abort, heap: Heap<'a>, count: u32) -> Made<'a> {
+    let mut value = Value::List(Vec::new(heap));
     for _ in 1..count {
-        value = list(with(Ok(Vec::new(heap)), value));
+        value = around(rt, heap, value);
     }
     value
 }

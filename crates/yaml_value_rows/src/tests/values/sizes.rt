@@ -1,19 +1,20 @@
 //! How many values there are, and how deep they lie.
-use super::{Example, Heap, made};
+use super::{Example, Heap, canonical, made};
 use crate::tests::equal;
-use std::alloc::AllocError;
 use std::process::Abort;
 use yaml_base::yaml_error_t;
 use yaml_test_allocator::Refusing;
-use yaml_value::write_canonical;
 
-fn counted(heap: Heap<'_>, example: &Example) -> Result<u64, AllocError> {
-    Ok(made(heap, example)?.count())
+fn counted(rt: &impl Abort, heap: Heap<'_>, example: &Example) -> u64 {
+    let value = made(rt, heap, example);
+    let count = value.count();
+    drop(value);
+    count
 }
 
 fn check_counts(rt: &impl Abort, heap: Heap<'_>, rows: &[(Example, u64)]) {
     for row in rows {
-        equal(rt, &counted(heap, &row.0), &Ok(row.1));
+        equal(rt, &counted(rt, heap, &row.0), &row.1);
     }
 }
 
@@ -31,16 +32,16 @@ fn a_value_counts_itself(rt: HostRuntime) {
 }
 
 // Why the value isn't written; none where it is.
-fn refusal(heap: Heap<'_>, example: &Example) -> Option<yaml_error_t> {
-    match made(heap, example) {
-        Ok(value) => write_canonical(heap, &value).err(),
-        Err(_) => Some(yaml_error_t::Memory),
-    }
+fn refusal(rt: &impl Abort, heap: Heap<'_>, example: &Example) -> Option<yaml_error_t> {
+    let value = made(rt, heap, example);
+    let error = canonical(heap, &value).err();
+    drop(value);
+    error
 }
 
 fn check_depths(rt: &impl Abort, heap: Heap<'_>, rows: &[(Example, Option<yaml_error_t>)]) {
     for row in rows {
-        equal(rt, &refusal(heap, &row.0), &row.1);
+        equal(rt, &refusal(rt, heap, &row.0), &row.1);
     }
 }
 
