@@ -69,6 +69,10 @@ fn give_all(rt: &impl Abort, writer: &mut Writer<Global>, calls: &[Call]) {
     }
 }
 
+fn writer(rt: &impl Abort, alloc: Global, settings: Settings) -> Writer<Global> {
+    Writer::new(alloc, settings).expect(rt, "no memory")
+}
+
 fn check_given(rt: &impl Abort, mut writer: Writer<Global>, calls: &[Call], wanted: &Answer) {
     give_all(rt, &mut writer, calls);
     answers(rt, writer.finish(), wanted);
@@ -82,10 +86,8 @@ fn check_written(
     calls: &[Call],
     wanted: &Answer,
 ) {
-    match Writer::new(alloc, settings) {
-        Ok(writer) => check_given(rt, writer, calls, wanted),
-        Err(error) => equal(rt, &Some(error), &wanted.err()),
-    }
+    let writer = writer(rt, alloc, settings);
+    check_given(rt, writer, calls, wanted);
 }
 
 /// The same in portable mode, where the stream has an end.

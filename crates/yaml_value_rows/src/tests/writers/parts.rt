@@ -1,15 +1,17 @@
 //! Streams that are taken in parts, and their limit.
-use super::{Answer, Call, check_portable, check_written, equal, give_all, limited};
+use super::{Answer, Call, check_portable, check_written, equal, give_all, limited, writer};
 use crate::tests::{came, same};
 use std::alloc::Global;
 use std::process::Abort;
 use yaml_writer::{Writer, yaml_error_t};
 
 /// What came since the last call is added to these bytes.
-fn take(writer: &mut Writer<Global>, sent: &mut Vec<u8>) -> Result<(), yaml_error_t> {
-    let part = writer.take_output();
-    sent.extend_from_slice(part.as_slice())
-        .map_err(|_| yaml_error_t::Memory)
+fn take(rt: &impl Abort, writer: &mut Writer<Global>, sent: &mut Vec<u8>) {
+    add(rt, sent, writer.take_output().as_slice());
+}
+
+fn add(rt: &impl Abort, sent: &mut Vec<u8>, part: &[u8]) {
+    sent.extend_from_slice(part).expect(rt, "no memory");
 }
 
 /// Calls, and what was sent after them.
@@ -17,7 +19,7 @@ type Part = (&'static [Call], &'static str);
 
 fn check_part(rt: &impl Abort, writer: &mut Writer<Global>, sent: &mut Vec<u8>, row: &Part) {
     give_all(rt, writer, row.0);
-    equal(rt, &take(writer, sent), &Ok(()));
+    take(rt, writer, sent);
     same(rt, sent.as_slice(), row.1.as_bytes());
 }
 
@@ -31,7 +33,7 @@ fn check_parts(rt: &impl Abort, writer: &mut Writer<Global>, sent: &mut Vec<u8>,
 fn check_last(rt: &impl Abort, writer: Writer<Global>, sent: &mut Vec<u8>, wanted: &Answer) {
     match writer.finish() {
         Ok(bytes) => {
-            equal(rt, &sent.extend_from_slice(bytes.as_slice()).is_ok(), &true);
+            add(rt, sent, bytes.as_slice());
             came(rt, sent.as_slice(), wanted);
         }
         Err(error) => equal(rt, &Some(error), &wanted.err()),
@@ -58,10 +60,8 @@ fn check_in_parts(
     rows: &[Part],
     last: (&[Call], Answer),
 ) {
-    match Writer::new(alloc, limited(limit)) {
-        Ok(writer) => check_taken(rt, writer, &mut Vec::new(alloc), rows, last),
-        Err(error) => equal(rt, &Some(error), &None),
-    }
+    let writer = writer(rt, alloc, limited(limit));
+    check_taken(rt, writer, &mut Vec::new(alloc), rows, last);
 }
 
 /// A document of one letter, and the start of the next.

@@ -1,5 +1,5 @@
 //! Calls that a writer refuses, and streams that have no end.
-use super::{Answer, Call, check_given, check_written, equal, give, give_all};
+use super::{Answer, Call, check_given, check_written, equal, give, give_all, writer};
 use std::alloc::Global;
 use std::process::Abort;
 use yaml_writer::{Settings, Writer, yaml_error_t};
@@ -20,13 +20,9 @@ fn check_refused_call(rt: &impl Abort, writer: &mut Writer<Global>, row: &Refuse
 }
 
 fn check_refused(rt: &impl Abort, alloc: Global, row: &Refused) {
-    match Writer::new(alloc, Settings::default()) {
-        Ok(mut writer) => {
-            check_refused_call(rt, &mut writer, row);
-            check_given(rt, writer, row.after, &row.end);
-        }
-        Err(error) => equal(rt, &Some(error), &None),
-    }
+    let mut writer = writer(rt, alloc, Settings::default());
+    check_refused_call(rt, &mut writer, row);
+    check_given(rt, writer, row.after, &row.end);
 }
 
 const EARLY_END: &Refused = &Refused {
