@@ -15,11 +15,15 @@ fn check_number(rt: &impl Abort, spelling: &str, wanted: Option<&str>) {
     }
 }
 
+/// How a number is spelled. (Tests need none of the clauses of the call.)
+fn spelling<'a>(rt: &impl Abort, alloc: Global, text: &'a str) -> Option<Spelling<'a, Global>> {
+    number_spelling(alloc, text).expect(rt, "no memory")
+}
+
 fn check_spelling(rt: &impl Abort, alloc: Global, row: &Row) {
-    match number_spelling(alloc, row.0) {
-        Ok(Some(spelling)) => check_number(rt, spelling.as_str(), row.1),
-        Ok(None) => equal(rt, &row.1, &None),
-        Err(_) => equal(rt, &row.1, &Some("no memory")),
+    match spelling(rt, alloc, row.0) {
+        Some(spelling) => check_number(rt, spelling.as_str(), row.1),
+        None => equal(rt, &row.1, &None),
     }
 }
 
@@ -72,21 +76,21 @@ fn other_texts_are_no_numbers(rt: HostRuntime) {
 }
 
 /// A spelling that is the text itself.
-fn unchanged(alloc: Global, text: &str) -> Option<&str> {
-    match number_spelling(alloc, text) {
-        Ok(Some(Spelling::Unchanged(same))) => Some(same),
+fn unchanged<'a>(rt: &impl Abort, alloc: Global, text: &'a str) -> Option<&'a str> {
+    match spelling(rt, alloc, text) {
+        Some(Spelling::Unchanged(same)) => Some(same),
         _ => None,
     }
 }
 
-fn is_changed(alloc: Global, text: &str) -> bool {
-    matches!(number_spelling(alloc, text), Ok(Some(Spelling::Changed(_))))
+fn is_changed(rt: &impl Abort, alloc: Global, text: &str) -> bool {
+    matches!(spelling(rt, alloc, text), Some(Spelling::Changed(_)))
 }
 
 #[test]
 fn what_is_spelled_so_stays(rt: HostRuntime) {
-    equal(&rt, &unchanged(rt.alloc(), "12"), &Some("12"));
-    equal(&rt, &is_changed(rt.alloc(), "1e5"), &true);
+    equal(&rt, &unchanged(&rt, rt.alloc(), "12"), &Some("12"));
+    equal(&rt, &is_changed(&rt, rt.alloc(), "1e5"), &true);
 }
 
 /// A text, and whether it is an integer; none where it is no number.

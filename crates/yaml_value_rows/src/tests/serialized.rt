@@ -7,26 +7,25 @@ use std::collections::BTreeMap;
 use std::process::Abort;
 use yaml_serde::{Error, to_string, to_vec, yaml_error_t};
 
+/// The YAML of a value. (Tests need none of the clauses of the call.)
+fn yaml_of<T: Serialize>(alloc: Global, value: &T) -> Result<String, Error> {
+    to_string(alloc, value)
+}
+
 /// The error has these words.
 fn check_words(rt: &impl Abort, alloc: Global, error: &Error, wanted: &str) {
-    match error.to_string(alloc) {
-        Ok(words) => equal(rt, &words.as_str(), &wanted),
-        Err(_) => equal(rt, &"no memory", &wanted),
-    }
+    let words = error.to_string(alloc).expect(rt, "no memory");
+    equal(rt, &words.as_str(), &wanted);
 }
 
 fn check_string<T: Serialize>(rt: &impl Abort, alloc: Global, value: &T, expected: &str) {
-    match to_string(alloc, value) {
-        Ok(text) => equal(rt, &text.as_str(), &expected),
-        Err(error) => check_words(rt, alloc, &error, expected),
-    }
+    let text = yaml_of(alloc, value).expect(rt, "a value that is written");
+    equal(rt, &text.as_str(), &expected);
 }
 
 fn check_bytes<T: Serialize>(rt: &impl Abort, alloc: Global, value: &T, expected: &str) {
-    match to_vec(alloc, value) {
-        Ok(bytes) => same(rt, bytes.as_slice(), expected.as_bytes()),
-        Err(error) => check_words(rt, alloc, &error, expected),
-    }
+    let bytes = to_vec(alloc, value).expect(rt, "a value that is written");
+    same(rt, bytes.as_slice(), expected.as_bytes());
 }
 
 /// The value gives this text, as characters and as bytes.
@@ -49,16 +48,16 @@ fn check_made<T: Serialize + Drop>(
 }
 
 fn has_two_tags<T: Serialize + Drop>(alloc: Global, value: T) -> bool {
-    matches!(to_string(alloc, &value), Err(Error::TwoTags))
+    matches!(yaml_of(alloc, &value), Err(Error::TwoTags))
 }
 
 fn is_wrongly_flattened<T: Serialize>(alloc: Global, value: &T) -> bool {
-    matches!(to_string(alloc, value), Err(Error::Flattened))
+    matches!(yaml_of(alloc, value), Err(Error::Flattened))
 }
 
 /// What the emitter says of a value; nothing where another says something, or the value is written.
 fn emitter_error<T: Serialize>(alloc: Global, value: &T) -> Option<yaml_error_t> {
-    match to_string(alloc, value) {
+    match yaml_of(alloc, value) {
         Err(Error::Emitter(error)) => Some(error),
         _ => None,
     }
@@ -321,10 +320,8 @@ impl Serialize for Values {
 }
 
 fn check_complaint(rt: &impl Abort, alloc: Global, value: &Values, wanted: &str) {
-    match to_string(alloc, value) {
-        Ok(_) => equal(rt, &"no error", &wanted),
-        Err(error) => check_words(rt, alloc, &error, wanted),
-    }
+    let error = yaml_of(alloc, value).err().expect(rt, "an error");
+    check_words(rt, alloc, &error, wanted);
 }
 
 #[test]
