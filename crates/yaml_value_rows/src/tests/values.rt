@@ -25,6 +25,11 @@ fn canonical<'a>(heap: Heap<'a>, value: &Made<'a>) -> Result<Vec<u8, Heap<'a>>, 
     write_canonical(heap, value)
 }
 
+/// Why a value isn't written; none where it is.
+fn refusal<'a>(heap: Heap<'a>, value: &Made<'a>) -> Option<yaml_error_t> {
+    canonical(heap, value).err()
+}
+
 /// A value of a row.
 #[derive(Drop)]
 enum Example {

@@ -1,5 +1,5 @@
 //! Values written where memory is refused.
-use super::{Example, Heap, canonical, made};
+use super::{Example, Heap, canonical, made, refusal};
 use crate::tests::{answers, equal};
 use std::process::Abort;
 use yaml_base::yaml_error_t;
@@ -55,8 +55,8 @@ pub(super) fn check_rows(rt: &impl Abort, heap: Heap<'_>, rows: &[Row]) {
 
 fn check_too_deep<'a>(rt: &impl Abort, heap: Heap<'a>, value: &Value<Heap<'a>>) {
     heap.refuse(1);
-    let answer = canonical(heap, value);
-    equal(rt, &answer.err(), &Some(yaml_error_t::TooDeep));
+    let error = refusal(heap, value);
+    equal(rt, &error, &Some(yaml_error_t::TooDeep));
     equal(rt, &heap.left(), &1);
 }
 

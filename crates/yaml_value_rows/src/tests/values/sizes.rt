@@ -1,5 +1,5 @@
 //! How many values there are, and how deep they lie.
-use super::{Example, Heap, canonical, made};
+use super::{Example, Heap, made, refusal};
 use crate::tests::equal;
 use std::process::Abort;
 use yaml_base::yaml_error_t;
@@ -31,17 +31,16 @@ fn a_value_counts_itself(rt: HostRuntime) {
     check_counts(&rt, &Refusing::new(rt.alloc()), COUNTS);
 }
 
-// Why the value isn't written; none where it is.
-fn refusal(rt: &impl Abort, heap: Heap<'_>, example: &Example) -> Option<yaml_error_t> {
+fn refusal_of(rt: &impl Abort, heap: Heap<'_>, example: &Example) -> Option<yaml_error_t> {
     let value = made(rt, heap, example);
-    let error = canonical(heap, &value).err();
+    let error = refusal(heap, &value);
     drop(value);
     error
 }
 
 fn check_depths(rt: &impl Abort, heap: Heap<'_>, rows: &[(Example, Option<yaml_error_t>)]) {
     for row in rows {
-        equal(rt, &refusal(rt, heap, &row.0), &row.1);
+        equal(rt, &refusal_of(rt, heap, &row.0), &row.1);
     }
 }
 
