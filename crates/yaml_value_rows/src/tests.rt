@@ -7,10 +7,11 @@ mod serialized;
 mod values;
 mod writers;
 
-use std::alloc::Allocator;
+use std::alloc::{Allocator, Global};
 use std::fmt::Debug;
 use std::process::Abort;
 use yaml_base::yaml_error_t;
+use yaml_writer::Writer;
 
 /// The two are equal. (A comparison in a function of its own is proved once.)
 fn equal<T: PartialEq + Debug>(rt: &impl Abort, got: &T, wanted: &T) {
@@ -31,6 +32,11 @@ fn came(rt: &impl Abort, bytes: &[u8], wanted: &Answer) {
         Ok(expected) => same(rt, bytes, expected),
         Err(error) => equal(rt, &None, &Some(*error)),
     }
+}
+
+/// The bytes of a writer. (Tests need none of the clauses of the call.)
+fn finished(writer: Writer<Global>) -> Result<Vec<u8>, yaml_error_t> {
+    writer.finish()
 }
 
 /// The call gave this text.

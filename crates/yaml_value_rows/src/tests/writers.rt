@@ -4,7 +4,7 @@ mod parts;
 mod refused;
 mod texts;
 
-use crate::tests::{Answer, answers, equal};
+use crate::tests::{Answer, answers, equal, finished};
 use std::alloc::Global;
 use std::process::Abort;
 use yaml_writer::{
@@ -75,7 +75,7 @@ fn writer(rt: &impl Abort, alloc: Global, settings: Settings) -> Writer<Global> 
 
 fn check_given(rt: &impl Abort, mut writer: Writer<Global>, calls: &[Call], wanted: &Answer) {
     give_all(rt, &mut writer, calls);
-    answers(rt, writer.finish(), wanted);
+    answers(rt, finished(writer), wanted);
 }
 
 /// These calls are good, and the stream ends so.

@@ -1,5 +1,5 @@
 //! Values, a call each.
-use crate::tests::{answers, equal, gives, same};
+use crate::tests::{answers, equal, finished, gives, same};
 use std::alloc::Global;
 use std::process::Abort;
 use yaml_writer::{
@@ -62,7 +62,7 @@ fn an_alias_stands_for_a_value(rt: HostRuntime) {
     let mut writer = writer(&rt, rt.alloc());
     equal(&rt, &give_shared(&mut writer), &Ok(()));
     let expected = "---\nfrom: &place !city Oslo\nto: *place\n";
-    gives(&rt, writer.finish(), expected);
+    gives(&rt, finished(writer), expected);
 }
 
 /// A document of one text is sent, and a second begun.
@@ -78,5 +78,5 @@ fn documents_are_sent_one_by_one(rt: HostRuntime) {
     let mut writer = writer(&rt, rt.alloc());
     equal(&rt, &send_text(&mut writer, &mut sent), &Ok(()));
     same(&rt, sent.as_slice(), b"--- a\n");
-    answers(&rt, writer.finish(), &Ok(b"--- b\n"));
+    answers(&rt, finished(writer), &Ok(b"--- b\n"));
 }

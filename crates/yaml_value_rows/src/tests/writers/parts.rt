@@ -1,6 +1,6 @@
 //! Streams that are taken in parts, and their limit.
 use super::{Answer, Call, check_portable, check_written, equal, give_all, limited, writer};
-use crate::tests::{came, same};
+use crate::tests::{came, finished, same};
 use std::alloc::Global;
 use std::process::Abort;
 use yaml_writer::{Writer, yaml_error_t};
@@ -31,7 +31,7 @@ fn check_parts(rt: &impl Abort, writer: &mut Writer<Global>, sent: &mut Vec<u8>,
 
 /// The last part of a stream.
 fn check_last(rt: &impl Abort, writer: Writer<Global>, sent: &mut Vec<u8>, wanted: &Answer) {
-    match writer.finish() {
+    match finished(writer) {
         Ok(bytes) => {
             add(rt, sent, bytes.as_slice());
             came(rt, sent.as_slice(), wanted);
