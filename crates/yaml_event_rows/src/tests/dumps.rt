@@ -1,6 +1,7 @@
 //! Documents dumped, as tests write them.
 mod events;
 mod memory;
+mod steps;
 mod streams;
 mod texts;
 
@@ -60,26 +61,25 @@ enum Given<'a> {
     Mapping(&'a [yaml_node_pair_t]),
 }
 
-/// The node's tag, where tables write none.
-fn tag_of<'a>(given: &Given<'a>) -> &'a str {
-    match given {
-        Given::Text(_) => "tag:yaml.org,2002:str",
-        Given::Tagged(tag, _) => tag,
-        Given::Sequence(_) => "tag:yaml.org,2002:seq",
-        Given::Mapping(_) => "tag:yaml.org,2002:map",
-    }
-}
-
 fn copied<T: Copy, A: Allocator>(rt: &impl Abort, alloc: A, items: &[T]) -> Vec<T, A> {
     Vec::from_slice(alloc, items).expect(rt, "no memory")
 }
 
 fn node<A: Allocator + Copy>(rt: &impl Abort, alloc: A, given: &Given) -> yaml_node_t<A> {
-    let tag = owned(rt, alloc, tag_of(given));
     match given {
-        Given::Text(value) | Given::Tagged(_, value) => scalar(tag, owned(rt, alloc, value)),
-        Given::Sequence(items) => sequence(tag, copied(rt, alloc, items)),
-        Given::Mapping(pairs) => mapping(tag, copied(rt, alloc, pairs)),
+        Given::Text(value) => scalar(
+            owned(rt, alloc, "tag:yaml.org,2002:str"),
+            owned(rt, alloc, value),
+        ),
+        Given::Tagged(tag, value) => scalar(owned(rt, alloc, tag), owned(rt, alloc, value)),
+        Given::Sequence(items) => sequence(
+            owned(rt, alloc, "tag:yaml.org,2002:seq"),
+            copied(rt, alloc, items),
+        ),
+        Given::Mapping(pairs) => mapping(
+            owned(rt, alloc, "tag:yaml.org,2002:map"),
+            copied(rt, alloc, pairs),
+        ),
     }
 }
 
@@ -102,6 +102,21 @@ fn nodes<A: Allocator + Copy>(
     for each in given {
         add(rt, alloc, &mut nodes, each);
     }
+    nodes
+}
+
+/// Sequences, each the one item of the one before, and a node in the innermost: so many nodes.
+fn in_each_other<A: Allocator + Copy>(
+    rt: &impl Abort,
+    alloc: A,
+    count: i32,
+    innermost: &Given,
+) -> Vec<yaml_node_t<A>, A> {
+    let mut nodes = Vec::new(alloc);
+    for number in 2..=count {
+        add(rt, alloc, &mut nodes, &Given::Sequence(&[number]));
+    }
+    add(rt, alloc, &mut nodes, innermost);
     nodes
 }
 

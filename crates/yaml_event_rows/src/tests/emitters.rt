@@ -1,11 +1,12 @@
 //! Emitters from outside, call by call: what waits, what is handed out meanwhile, growths that are refused.
 mod depth;
 mod memory;
+mod steps;
 mod streams;
 mod taking;
 mod waiting;
 
-use crate::tests::equal;
+use crate::tests::{equal, same};
 use std::alloc::Allocator;
 use std::process::Abort;
 use streams::{Given, event};
@@ -18,17 +19,19 @@ use yaml_emitter::{
     yaml_emitter_t,
 };
 
+type Answer = Result<(), yaml_error_t>;
+
 /// What is set before a stream.
 #[derive(Clone, Copy)]
-struct Setting {
-    limit: usize,
-    encoding: yaml_encoding_t,
-    canonical: bool,
-    width: i32,
+pub(super) struct Setting {
+    pub(super) limit: usize,
+    pub(super) encoding: yaml_encoding_t,
+    pub(super) canonical: bool,
+    pub(super) width: i32,
 }
 
 /// An output with room, and the width that is taken where none is set.
-const UNSET: Setting = Setting {
+pub(super) const UNSET: Setting = Setting {
     limit: usize::MAX,
     encoding: YAML_ANY_ENCODING,
     canonical: false,
@@ -49,30 +52,41 @@ fn begun<A: Allocator + Copy>(
 }
 
 /// The same, where there is memory for it.
-fn made<A: Allocator + Copy>(rt: &impl Abort, alloc: A, setting: &Setting) -> yaml_emitter_t<A> {
+pub(super) fn made<A: Allocator + Copy>(
+    rt: &impl Abort,
+    alloc: A,
+    setting: &Setting,
+) -> yaml_emitter_t<A> {
     begun(alloc, setting).expect(rt, "no memory")
 }
 
 /// Emits an event: an output is set.
-fn give<A: Allocator + Copy>(
+pub(super) fn give<A: Allocator + Copy>(
     rt: &impl Abort,
     emitter: &mut yaml_emitter_t<A>,
     next: yaml_event_t<A>,
-) -> Result<(), yaml_error_t> {
+) -> Answer {
     assert!(rt; emitter.has_output());
     yaml_emitter_emit(emitter, next)
 }
 
 /// A flush, where the encoding is known.
-fn flush_if_known<A: Allocator + Copy>(
-    rt: &impl Abort,
-    emitter: &mut yaml_emitter_t<A>,
-) -> Result<(), yaml_error_t> {
+fn flush_if_known<A: Allocator + Copy>(rt: &impl Abort, emitter: &mut yaml_emitter_t<A>) -> Answer {
     assert!(rt; emitter.has_output());
     if emitter.encoding_known() {
         return yaml_emitter_flush(emitter);
     }
     Ok(())
+}
+
+/// Emits an event that isn't refused.
+fn emit<A: Allocator + Copy>(
+    rt: &impl Abort,
+    alloc: A,
+    emitter: &mut yaml_emitter_t<A>,
+    given: &Given,
+) {
+    equal(rt, &give(rt, emitter, event(rt, alloc, given)), &Ok(()));
 }
 
 /// Emits all events, none of which is refused.
@@ -83,8 +97,19 @@ fn emit_all<A: Allocator + Copy>(
     events: &[Given],
 ) {
     for given in events {
-        equal(rt, &give(rt, emitter, event(rt, alloc, given)), &Ok(()));
+        emit(rt, alloc, emitter, given);
     }
+}
+
+// What was handed out, and how many events wait.
+fn check_output<A: Allocator>(
+    rt: &impl Abort,
+    emitter: &yaml_emitter_t<A>,
+    text: &str,
+    held: usize,
+) {
+    same(rt, emitter.output(), text.as_bytes());
+    equal(rt, &(text, emitter.held()), &(text, held));
 }
 
 // The error is kept, and nothing waits.
@@ -128,4 +153,15 @@ fn check_failed<A: Allocator + Copy>(
     check_refused(rt, emitter, YAML_STREAM_END_EVENT, error);
     check_flush_refused(rt, emitter, error);
     check_kept(rt, emitter, error);
+}
+
+/// A growth was refused: what was handed out begins the whole, and each call answers the error.
+pub(super) fn check_out_of_memory<A: Allocator + Copy>(
+    rt: &impl Abort,
+    emitter: &mut yaml_emitter_t<A>,
+    whole: &[u8],
+) {
+    let begins = whole.starts_with(emitter.output());
+    equal(rt, &begins, &true);
+    check_failed(rt, emitter, yaml_error_t::Memory);
 }

@@ -1,15 +1,19 @@
 //! Errors of the library in a caller that returns `anyhow::Result`.
+use crate::tests::emitters::{Setting, UNSET, give, made};
 use crate::tests::same;
 use std::alloc::Global;
 use std::process::Abort;
 use yaml_base::{NodeNumber, YAML_STREAM_END_EVENT};
-use yaml_emitter::{yaml_emitter_emit, yaml_emitter_initialize, yaml_emitter_set_output_string};
+use yaml_emitter::yaml_emitter_t;
+
+const HUNDRED: Setting = Setting {
+    limit: 100,
+    ..UNSET
+};
 
 /// Emits an event that no stream begins with.
-fn emit_the_end(alloc: Global) -> anyhow::Result<()> {
-    let mut emitter = yaml_emitter_initialize(alloc)?;
-    yaml_emitter_set_output_string(&mut emitter, 100);
-    yaml_emitter_emit(&mut emitter, YAML_STREAM_END_EVENT)?;
+fn emit_the_end(rt: &impl Abort, emitter: &mut yaml_emitter_t<Global>) -> anyhow::Result<()> {
+    give(rt, emitter, YAML_STREAM_END_EVENT)?;
     Ok(())
 }
 
@@ -33,7 +37,7 @@ fn check_told(rt: &impl Abort, alloc: Global, answer: anyhow::Result<()>, words:
 
 #[test]
 fn a_caller_passes_errors_on(rt: HostRuntime) {
-    let refused = emit_the_end(rt.alloc());
+    let refused = emit_the_end(&rt, &mut made(&rt, rt.alloc(), &HUNDRED));
     check_told(&rt, rt.alloc(), refused, "expected STREAM-START");
     let numbered = outside(NodeNumber(-7));
     check_told(&rt, rt.alloc(), numbered, "no node has the number -7");

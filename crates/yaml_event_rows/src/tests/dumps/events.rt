@@ -1,6 +1,6 @@
 //! Documents as events: tables of graphs, with the events worked out by hand.
 use super::Given::{Mapping, Sequence, Text};
-use super::{Given, add as add_node, copied, document, nodes};
+use super::{Given, copied, document, in_each_other, nodes};
 use crate::tests::{equal, owned};
 use std::alloc::Global;
 use std::process::Abort;
@@ -119,7 +119,7 @@ fn whole(rt: &impl Abort, alloc: Global, met: &[Met]) -> Events {
 }
 
 // The events of a document.
-fn events_of(rt: &impl Abort, alloc: Global, graph: &yaml_document_t<Global>) -> Events {
+pub(super) fn events_of(rt: &impl Abort, alloc: Global, graph: &yaml_document_t<Global>) -> Events {
     document_events(alloc, graph).expect(rt, "no memory")
 }
 
@@ -293,26 +293,16 @@ fn tags_styles_and_directives_are_copied(rt: HostRuntime) {
     check_document(&rt, rt.alloc(), &tagged, wanted.as_slice());
 }
 
-/// Sequences in one another, the innermost of which holds a text: so many nodes.
-fn deep(rt: &impl Abort, alloc: Global, count: i32) -> Vec<yaml_node_t<Global>> {
-    let mut nodes = Vec::new(alloc);
-    for number in 2..=count {
-        add_node(rt, alloc, &mut nodes, &Sequence(&[number]));
-    }
-    add_node(rt, alloc, &mut nodes, &Text("a"));
-    nodes
-}
-
 // The event at this place, from 0 on.
 fn check_at(
     rt: &impl Abort,
     events: &[yaml_event_t<Global>],
     place: usize,
-    wanted: &yaml_event_t<Global>,
+    wanted: yaml_event_t<Global>,
 ) {
     equal(
         rt,
-        &(place, events.get(place) == Some(wanted)),
+        &(place, events.get(place) == Some(&wanted)),
         &(place, true),
     );
 }
@@ -320,14 +310,18 @@ fn check_at(
 // 99,999 starts, the text, as many ends, and the document's own two.
 fn check_deep(rt: &impl Abort, alloc: Global, events: &[yaml_event_t<Global>]) {
     equal(rt, &events.len(), &200_001);
-    check_at(rt, events, 100_000, &event(rt, alloc, &Scalar(None, "a")));
-    check_at(rt, events, 199_999, &YAML_SEQUENCE_END_EVENT);
-    check_at(rt, events, 200_000, &END);
+    check_at(rt, events, 100_000, event(rt, alloc, &Scalar(None, "a")));
+    check_at(rt, events, 199_999, YAML_SEQUENCE_END_EVENT);
+    check_at(rt, events, 200_000, END);
 }
 
 #[test]
 fn nodes_may_lie_a_hundred_thousand_deep(rt: HostRuntime) {
-    let graph = document(&rt, rt.alloc(), deep(&rt, rt.alloc(), 100_000));
+    let graph = document(
+        &rt,
+        rt.alloc(),
+        in_each_other(&rt, rt.alloc(), 100_000, &Text("a")),
+    );
     let events = events_of(&rt, rt.alloc(), &graph);
     check_deep(&rt, rt.alloc(), events.as_slice());
 }

@@ -1,45 +1,17 @@
 //! Documents dumped: texts worked out by hand, and dumps in wrong moments.
 use super::Given::{Mapping, Sequence, Tagged, Text};
+use super::events::events_of;
 use super::memory::{Row, check_rows};
-use super::{Given, add, close, document, dump, nodes};
-use crate::tests::{equal, same};
+use super::steps::Step::{Close, Closed, Dump, End, Error, Open, Opened, Output, Start};
+use super::steps::{Answer, Step, check_steps};
+use super::streams::ONE_BYTE;
+use super::{Given, add, document, dump, in_each_other};
+use crate::tests::emitters::{Setting, UNSET, made};
+use crate::tests::equal;
 use std::alloc::Global;
 use std::process::Abort;
-use yaml_base::{
-    YAML_ANY_ENCODING, YAML_STREAM_END_EVENT, YAML_STREAM_START_EVENT, YAML_UTF16BE_ENCODING,
-    yaml_document_t, yaml_error_t, yaml_event_t, yaml_node_pair_t, yaml_node_t,
-};
-use yaml_dump::{document_events, yaml_emitter_open};
-use yaml_emitter::{
-    yaml_emitter_emit, yaml_emitter_initialize, yaml_emitter_set_encoding,
-    yaml_emitter_set_output_string, yaml_emitter_set_width, yaml_emitter_t,
-};
-
-fn begun(rt: &impl Abort, alloc: Global) -> yaml_emitter_t<Global> {
-    let mut emitter = yaml_emitter_initialize(alloc).expect(rt, "no memory");
-    yaml_emitter_set_output_string(&mut emitter, usize::MAX);
-    emitter
-}
-
-// A dump of these nodes.
-fn dump_nodes(
-    rt: &impl Abort,
-    alloc: Global,
-    emitter: &mut yaml_emitter_t<Global>,
-    given: &[Given],
-) -> Result<(), yaml_error_t> {
-    let graph = document(rt, alloc, nodes(rt, alloc, given));
-    dump(rt, alloc, emitter, graph)
-}
-
-fn emit(
-    rt: &impl Abort,
-    emitter: &mut yaml_emitter_t<Global>,
-    event: yaml_event_t<Global>,
-) -> Result<(), yaml_error_t> {
-    assert!(rt; emitter.has_output());
-    yaml_emitter_emit(emitter, event)
-}
+use yaml_base::{yaml_document_t, yaml_error_t, yaml_node_pair_t, yaml_node_t};
+use yaml_emitter::yaml_emitter_t;
 
 /// A sequence that holds one string twice.
 const SHARED: &[Given] = &[Sequence(&[2, 2]), Text("a")];
@@ -63,50 +35,38 @@ const ONCE: &[Row] = &[
 
 #[test]
 fn nodes_are_written_once(rt: HostRuntime) {
-    check_rows(&rt, rt.alloc(), false, ONCE);
+    check_rows(&rt, rt.alloc(), &UNSET, ONCE);
 }
+
+const EMPTY_TAG: &[Step] = &[Dump(&[Tagged("", "5")], Err(yaml_error_t::TagEmpty))];
 
 #[test]
 fn an_empty_tag_is_refused(rt: HostRuntime) {
-    let emitter = &mut begun(&rt, rt.alloc());
-    let answer = dump_nodes(&rt, rt.alloc(), emitter, &[Tagged("", "5")]);
-    equal(&rt, &answer, &Err(yaml_error_t::TagEmpty));
+    check_steps(&rt, rt.alloc(), &UNSET, EMPTY_TAG);
 }
 
-fn open(rt: &impl Abort, emitter: &mut yaml_emitter_t<Global>) -> Result<(), yaml_error_t> {
-    assert!(rt; emitter.has_output() && !emitter.is_opened());
-    yaml_emitter_open(emitter)
-}
-
-// A dump of these nodes, so many times, and a close: this is written.
-fn dump_often(
-    rt: &impl Abort,
-    alloc: Global,
-    emitter: &mut yaml_emitter_t<Global>,
-    row: &Row,
-    times: usize,
-) {
-    for _ in 0..times {
-        equal(rt, &dump_nodes(rt, alloc, emitter, row.0), &Ok(()));
-    }
-    equal(rt, &close(rt, emitter), &Ok(()));
-    same(rt, emitter.output(), row.1.as_bytes());
-}
-
-const BESIDE: &Row = &(&[Text("a"), Text("b")], "a\n");
+const BESIDE: &[Step] = &[
+    Open(Ok(())),
+    Dump(&[Text("a"), Text("b")], Ok(())),
+    Close(Ok(())),
+    Output(b"a\n"),
+];
 
 #[test]
 fn a_node_beside_the_root_is_left_out(rt: HostRuntime) {
-    let emitter = &mut begun(&rt, rt.alloc());
-    equal(&rt, &open(&rt, emitter), &Ok(()));
-    dump_often(&rt, rt.alloc(), emitter, BESIDE, 1);
+    check_steps(&rt, rt.alloc(), &UNSET, BESIDE);
 }
 
-const TWICE: &Row = &(SHARED, "- &id001 a\n- *id001\n---\n- &id001 a\n- *id001\n");
+const TWICE: &[Step] = &[
+    Dump(SHARED, Ok(())),
+    Dump(SHARED, Ok(())),
+    Close(Ok(())),
+    Output(b"- &id001 a\n- *id001\n---\n- &id001 a\n- *id001\n"),
+];
 
 #[test]
 fn a_document_may_be_dumped_twice(rt: HostRuntime) {
-    dump_often(&rt, rt.alloc(), &mut begun(&rt, rt.alloc()), TWICE, 2);
+    check_steps(&rt, rt.alloc(), &UNSET, TWICE);
 }
 
 const NESTED: &str =
@@ -122,102 +82,94 @@ const CANONICAL: &[Row] = &[
     (&[Sequence(&[3, 3]), Text("a"), Sequence(&[2, 2])], NESTED),
 ];
 
+const IN_FULL: Setting = Setting {
+    canonical: true,
+    ..UNSET
+};
+
 #[test]
 fn canonical_text_has_every_tag_and_anchor(rt: HostRuntime) {
-    check_rows(&rt, rt.alloc(), true, CANONICAL);
+    check_rows(&rt, rt.alloc(), &IN_FULL, CANONICAL);
 }
 
-// Where nothing was written.
-fn dump_nothing(rt: &impl Abort, alloc: Global, emitter: &mut yaml_emitter_t<Global>) {
-    equal(rt, &dump_nodes(rt, alloc, emitter, &[]), &Ok(()));
-    equal(rt, &emitter.is_closed(), &true);
-    same(rt, emitter.output(), b"");
-    equal(rt, &emitter.error(), &None);
-}
+const NOTHING: &[Step] = &[
+    Dump(&[], Ok(())),
+    Closed(true),
+    Output(b""),
+    Error(None),
+    Dump(&[], Ok(())),
+    Closed(true),
+    Output(b""),
+    Error(None),
+];
 
 #[test]
 fn a_document_without_nodes_closes_the_stream(rt: HostRuntime) {
-    let emitter = &mut begun(&rt, rt.alloc());
-    dump_nothing(&rt, rt.alloc(), emitter);
-    dump_nothing(&rt, rt.alloc(), emitter);
+    check_steps(&rt, rt.alloc(), &UNSET, NOTHING);
 }
 
-const REFUSED: Result<(), yaml_error_t> = Err(yaml_error_t::WriteError);
+const REFUSED: Answer = Err(yaml_error_t::WriteError);
 
-// A document without nodes, whose stream can't be closed.
-fn dump_unclosed(rt: &impl Abort, alloc: Global, emitter: &mut yaml_emitter_t<Global>) {
-    equal(rt, &dump_nodes(rt, alloc, emitter, &[]), &REFUSED);
-    equal(rt, &emitter.is_opened(), &true);
-    equal(rt, &emitter.is_closed(), &false);
-}
-
-// The byte order mark, which the stream's end writes, takes two bytes.
-fn begun_within_a_byte(rt: &impl Abort, alloc: Global) -> yaml_emitter_t<Global> {
-    let mut emitter = yaml_emitter_initialize(alloc).expect(rt, "no memory");
-    yaml_emitter_set_output_string(&mut emitter, 1);
-    yaml_emitter_set_encoding(&mut emitter, YAML_UTF16BE_ENCODING);
-    emitter
-}
+const UNCLOSED: &[Step] = &[
+    Dump(&[], REFUSED),
+    Opened(true),
+    Closed(false),
+    Dump(&[], REFUSED),
+    Opened(true),
+    Closed(false),
+    Close(REFUSED),
+];
 
 #[test]
 fn a_dump_that_fails_to_close_leaves_the_stream_open(rt: HostRuntime) {
-    let emitter = &mut begun_within_a_byte(&rt, rt.alloc());
-    dump_unclosed(&rt, rt.alloc(), emitter);
-    dump_unclosed(&rt, rt.alloc(), emitter);
-    equal(&rt, &close(&rt, emitter), &REFUSED);
+    check_steps(&rt, rt.alloc(), &ONE_BYTE, UNCLOSED);
 }
-
-const ONE: &Row = &(SHARED, "- &id001 a\n- *id001\n");
 
 // A document without nodes changes nothing more, and another one is refused.
-fn dump_after_the_end(rt: &impl Abort, alloc: Global, emitter: &mut yaml_emitter_t<Global>) {
-    dump_often(rt, alloc, emitter, ONE, 1);
-    equal(rt, &dump_nodes(rt, alloc, emitter, &[]), &Ok(()));
-    let answer = dump_nodes(rt, alloc, emitter, SHARED);
-    equal(rt, &answer, &Err(yaml_error_t::ExpectedNothing));
-    same(rt, emitter.output(), ONE.1.as_bytes());
-}
+const AFTER_THE_END: &[Step] = &[
+    Dump(SHARED, Ok(())),
+    Close(Ok(())),
+    Output(b"- &id001 a\n- *id001\n"),
+    Dump(&[], Ok(())),
+    Dump(SHARED, Err(yaml_error_t::ExpectedNothing)),
+    Output(b"- &id001 a\n- *id001\n"),
+];
 
 #[test]
 fn a_closed_stream_takes_no_document(rt: HostRuntime) {
-    dump_after_the_end(&rt, rt.alloc(), &mut begun(&rt, rt.alloc()));
+    check_steps(&rt, rt.alloc(), &UNSET, AFTER_THE_END);
 }
-
-const START: yaml_event_t<Global> = YAML_STREAM_START_EVENT {
-    encoding: YAML_ANY_ENCODING,
-};
 
 // The stream was begun by an event, so the dump's own start is refused.
+const BEGUN: &[Step] = &[
+    Start(Ok(())),
+    Dump(SHARED, Err(yaml_error_t::ExpectedDocumentStart)),
+    Opened(false),
+];
+
 #[test]
 fn a_stream_is_opened_once(rt: HostRuntime) {
-    let emitter = &mut begun(&rt, rt.alloc());
-    equal(&rt, &emit(&rt, emitter, START), &Ok(()));
-    let answer = dump_nodes(&rt, rt.alloc(), emitter, SHARED);
-    equal(&rt, &answer, &Err(yaml_error_t::ExpectedDocumentStart));
-    equal(&rt, &emitter.is_opened(), &false);
+    check_steps(&rt, rt.alloc(), &UNSET, BEGUN);
 }
+
+const UNBEGUN: &[Step] = &[
+    End(Err(yaml_error_t::ExpectedStreamStart)),
+    Dump(SHARED, Err(yaml_error_t::ExpectedStreamStart)),
+];
 
 #[test]
 fn the_first_error_is_answered(rt: HostRuntime) {
-    let error = Err(yaml_error_t::ExpectedStreamStart);
-    let emitter = &mut begun(&rt, rt.alloc());
-    equal(&rt, &emit(&rt, emitter, YAML_STREAM_END_EVENT), &error);
-    let answer = dump_nodes(&rt, rt.alloc(), emitter, SHARED);
-    equal(&rt, &answer, &error);
+    check_steps(&rt, rt.alloc(), &UNSET, UNBEGUN);
 }
 
-// Sequences, each of which holds the next twice, and a string: so many nodes.
-fn twice_in_each_other(rt: &impl Abort, alloc: Global, count: i32) -> Vec<yaml_node_t<Global>> {
+// Forty sequences, each of which holds the next twice, and a string.
+fn twice_in_each_other(rt: &impl Abort, alloc: Global) -> Nodes {
     let mut nodes = Vec::new(alloc);
-    for number in 2..=count {
+    for number in 2..=41 {
         add(rt, alloc, &mut nodes, &Sequence(&[number, number]));
     }
     add(rt, alloc, &mut nodes, &Text("a"));
     nodes
-}
-
-fn count_events(alloc: Global, graph: &yaml_document_t<Global>) -> Result<usize, yaml_error_t> {
-    Ok(document_events(alloc, graph)?.len())
 }
 
 // The document has so many events, and is dumped.
@@ -228,7 +180,7 @@ fn check_count(
     graph: yaml_document_t<Global>,
     count: usize,
 ) {
-    equal(rt, &count_events(alloc, &graph), &Ok(count));
+    equal(rt, &events_of(rt, alloc, &graph).len(), &count);
     equal(rt, &dump(rt, alloc, emitter, graph), &Ok(()));
     equal(rt, &emitter.held(), &0);
 }
@@ -237,24 +189,30 @@ fn check_count(
 #[test]
 fn shared_nodes_in_each_other_are_written_once(rt: HostRuntime) {
     let alloc = rt.alloc();
-    let nested = document(&rt, alloc, twice_in_each_other(&rt, alloc, 41));
-    check_count(&rt, alloc, &mut begun(&rt, alloc), nested, 123);
+    let nested = document(&rt, alloc, twice_in_each_other(&rt, alloc));
+    check_count(&rt, alloc, &mut made(&rt, alloc, &UNSET), nested, 123);
 }
 
-/// The numbers from 2 to 1,001, and again.
-fn numbers_twice(rt: &impl Abort, alloc: Global) -> Vec<i32> {
-    let mut numbers = Vec::new(alloc);
-    for place in 0..2_000 {
-        numbers.push(place % 1_000 + 2).expect(rt, "no memory");
+/// The numbers from 2 to 1,001.
+fn add_numbers(rt: &impl Abort, numbers: &mut Vec<i32>) {
+    for number in 2..=1_001 {
+        numbers.push(number).expect(rt, "no memory");
     }
-    numbers
+}
+
+type Nodes = Vec<yaml_node_t<Global>>;
+
+fn add_shares(rt: &impl Abort, alloc: Global, nodes: &mut Nodes) {
+    let mut numbers = Vec::new(alloc);
+    add_numbers(rt, &mut numbers);
+    add_numbers(rt, &mut numbers);
+    add(rt, alloc, nodes, &Sequence(numbers.as_slice()));
 }
 
 /// A sequence that holds each of a thousand texts twice.
-fn thousand_shared(rt: &impl Abort, alloc: Global) -> Vec<yaml_node_t<Global>> {
-    let numbers = numbers_twice(rt, alloc);
+fn thousand_shared(rt: &impl Abort, alloc: Global) -> Nodes {
     let mut nodes = Vec::new(alloc);
-    add(rt, alloc, &mut nodes, &Sequence(numbers.as_slice()));
+    add_shares(rt, alloc, &mut nodes);
     for _ in 0..1_000 {
         add(rt, alloc, &mut nodes, &Text("x"));
     }
@@ -286,30 +244,19 @@ fn dump_shared(rt: &impl Abort, alloc: Global, emitter: &mut yaml_emitter_t<Glob
 
 #[test]
 fn anchors_past_999_have_four_digits(rt: HostRuntime) {
-    dump_shared(&rt, rt.alloc(), &mut begun(&rt, rt.alloc()));
+    dump_shared(&rt, rt.alloc(), &mut made(&rt, rt.alloc(), &UNSET));
 }
 
-/// A million and one sequences, each the one item of the one before.
-fn too_many_in_each_other(rt: &impl Abort, alloc: Global) -> Vec<yaml_node_t<Global>> {
-    let mut nodes = Vec::new(alloc);
-    for number in 2..=1_000_001 {
-        add(rt, alloc, &mut nodes, &Sequence(&[number]));
-    }
-    add(rt, alloc, &mut nodes, &Sequence(&[]));
-    nodes
-}
+const ENDLESS: Setting = Setting { width: -1, ..UNSET };
 
-fn begun_without_width(rt: &impl Abort, alloc: Global) -> yaml_emitter_t<Global> {
-    let mut emitter = yaml_emitter_initialize(alloc).expect(rt, "no memory");
-    yaml_emitter_set_output_string(&mut emitter, usize::MAX);
-    yaml_emitter_set_width(&mut emitter, -1);
-    emitter
+// A million and one sequences, each the one item of the one before.
+fn dump_too_deep(rt: &impl Abort, alloc: Global, emitter: &mut yaml_emitter_t<Global>) {
+    let nested = in_each_other(rt, alloc, 1_000_001, &Sequence(&[]));
+    let answer = dump(rt, alloc, emitter, document(rt, alloc, nested));
+    equal(rt, &answer, &Err(yaml_error_t::TooDeep));
 }
 
 #[test]
 fn too_many_nodes_in_each_other_are_refused(rt: HostRuntime) {
-    let nested = document(&rt, rt.alloc(), too_many_in_each_other(&rt, rt.alloc()));
-    let mut emitter = begun_without_width(&rt, rt.alloc());
-    let answer = dump(&rt, rt.alloc(), &mut emitter, nested);
-    equal(&rt, &answer, &Err(yaml_error_t::TooDeep));
+    dump_too_deep(&rt, rt.alloc(), &mut made(&rt, rt.alloc(), &ENDLESS));
 }

@@ -4,7 +4,7 @@ use super::streams::Given::{
     StreamEnd, StreamIn, Tagged, Text,
 };
 use super::streams::{Given, event};
-use super::{UNSET, begun, check_failed, emit_all, flush_if_known, give, made};
+use super::{UNSET, begun, check_out_of_memory, emit_all, flush_if_known, give, made};
 use crate::tests::{equal, same};
 use linked_list_allocator::LocalHeap;
 use std::alloc::{Allocator, Global};
@@ -67,14 +67,15 @@ fn check_answer(rt: &impl Abort, heap: &Refusing<Global>, answer: Result<(), yam
 }
 
 // An event of which no growth is refused.
-fn granted<'a>(
+fn granted<A: Allocator + Copy>(
     rt: &impl Abort,
-    heap: &'a Refusing<Global>,
+    heap: &Refusing<Global>,
+    alloc: A,
     given: &Given,
-) -> yaml_event_t<&'a Refusing<Global>> {
+) -> yaml_event_t<A> {
     let number = heap.left();
     heap.refuse(0);
-    let next = event(rt, heap, given);
+    let next = event(rt, alloc, given);
     heap.refuse(number);
     next
 }
@@ -111,15 +112,15 @@ fn check_flush<A: Allocator + Copy>(
 }
 
 // All events are emitted, with a flush after each or none.
-fn check_each<'a>(
+fn check_each<A: Allocator + Copy>(
     rt: &impl Abort,
-    heap: &'a Refusing<Global>,
-    emitter: &mut yaml_emitter_t<&'a Refusing<Global>>,
-    events: &[Given],
-    flushes: bool,
+    heap: &Refusing<Global>,
+    alloc: A,
+    emitter: &mut yaml_emitter_t<A>,
+    (events, flushes): (&[Given], bool),
 ) {
     for given in events {
-        check_emit(rt, heap, emitter, granted(rt, heap, given));
+        check_emit(rt, heap, emitter, granted(rt, heap, alloc, given));
         if flushes {
             check_flush(rt, heap, emitter);
         }
@@ -137,22 +138,21 @@ fn check_end<A: Allocator + Copy>(
         same(rt, emitter.output(), whole);
         return;
     }
-    assert!(rt; whole.starts_with(emitter.output()));
-    check_failed(rt, emitter, yaml_error_t::Memory);
+    check_out_of_memory(rt, emitter, whole);
 }
 
 // A stream of which one growth is refused, with a flush after each event or none. Answers whether there is that growth.
-fn is_told(
+fn is_told<A: Allocator + Copy>(
     rt: &impl Abort,
     heap: &Refusing<Global>,
-    events: &[Given],
-    flushes: bool,
+    alloc: A,
+    events: (&[Given], bool),
     whole: &[u8],
 ) -> bool {
-    match begun(heap, &UNSET) {
+    match begun(alloc, &UNSET) {
         Ok(mut emitter) => {
             check_answer(rt, heap, Ok(()));
-            check_each(rt, heap, &mut emitter, events, flushes);
+            check_each(rt, heap, alloc, &mut emitter, events);
             check_end(rt, heap, &mut emitter, whole);
         }
         Err(error) => check_answer(rt, heap, Err(error)),
@@ -170,7 +170,7 @@ fn refuse_in_turn(
 ) {
     for number in 1..usize::MAX {
         heap.refuse(number);
-        if !is_told(rt, heap, events, flushes, whole) {
+        if !is_told(rt, heap, heap, (events, flushes), whole) {
             return;
         }
     }

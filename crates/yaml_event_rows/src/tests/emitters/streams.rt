@@ -44,22 +44,15 @@ pub(crate) enum Given<'a> {
     MappingEnd,
 }
 
-fn directive<A: Allocator + Copy>(
-    rt: &impl Abort,
-    alloc: A,
-    tag: &(&str, &str),
-) -> yaml_tag_directive_t<A> {
-    yaml_tag_directive_t {
-        handle: owned(rt, alloc, tag.0),
-        prefix: owned(rt, alloc, tag.1),
-    }
+fn directive<A: Allocator>(handle: String<A>, prefix: String<A>) -> yaml_tag_directive_t<A> {
+    yaml_tag_directive_t { handle, prefix }
 }
 
 fn document<A: Allocator + Copy>(rt: &impl Abort, alloc: A, tags: Tags) -> yaml_event_t<A> {
     let mut tag_directives = Vec::new(alloc);
     for tag in tags {
-        let pushed = tag_directives.push(directive(rt, alloc, tag));
-        pushed.expect(rt, "no memory");
+        let given = directive(owned(rt, alloc, tag.0), owned(rt, alloc, tag.1));
+        tag_directives.push(given).expect(rt, "no memory");
     }
     YAML_DOCUMENT_START_EVENT {
         version_directive: None,

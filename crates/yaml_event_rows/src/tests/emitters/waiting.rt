@@ -1,25 +1,25 @@
 //! Which events wait, and what is handed out meanwhile.
 use super::memory::check_growths;
+use super::steps::Step::{Emit, Failed, Flush, Known, Output, Refuse, Started, Waits};
+use super::steps::{Step, check_steps};
+use super::streams::Given;
 use super::streams::Given::{
     Alias, Anchored, AnchoredSequence, BlockMapping, BlockSequence, Directed, Document,
     DocumentEnd, FlowMapping, FlowSequence, Literal, MappingEnd, SequenceEnd, Stream, StreamEnd,
     Tagged, Text,
 };
-use super::streams::{Given, event};
-use super::{Setting, UNSET, check_failed, check_refused, emit_all, flush_if_known, give, made};
+use super::{Setting, UNSET, check_output, emit, flush_if_known, made};
 use crate::tests::{equal, same};
 use std::alloc::Global;
 use std::process::Abort;
-use yaml_base::{YAML_UTF8_ENCODING, YAML_UTF16LE_ENCODING, yaml_encoding_t, yaml_error_t};
+use yaml_base::{YAML_UTF8_ENCODING, YAML_UTF16LE_ENCODING, yaml_error_t};
 use yaml_emitter::yaml_emitter_t;
 
 /// An event, the text that its call makes ready, and how many events wait after it.
 type Turns<'a> = &'a [(Given<'a>, &'a str, usize)];
 
-// What was handed out, and how many events wait.
-fn check_output(rt: &impl Abort, emitter: &yaml_emitter_t<Global>, text: &str, held: usize) {
-    same(rt, emitter.output(), text.as_bytes());
-    equal(rt, &(text, emitter.held()), &(text, held));
+fn push(rt: &impl Abort, text: &mut String, part: &str) {
+    text.push_str(part).expect(rt, "no memory");
 }
 
 /// Emits the events of turns, and appends the texts that they make ready.
@@ -31,8 +31,8 @@ fn take_turns(
     text: &mut String,
 ) {
     for turn in turns {
-        equal(rt, &give(rt, emitter, event(rt, alloc, &turn.0)), &Ok(()));
-        text.push_str(turn.1).expect(rt, "no memory");
+        emit(rt, alloc, emitter, &turn.0);
+        push(rt, text, turn.1);
     }
 }
 
@@ -82,7 +82,7 @@ fn events_of<'a>(rt: &impl Abort, alloc: Global, turns: Turns<'a>) -> Vec<Given<
 fn text_of(rt: &impl Abort, alloc: Global, turns: Turns) -> String {
     let mut text = String::new(alloc);
     for turn in turns {
-        text.push_str(turn.1).expect(rt, "no memory");
+        push(rt, &mut text, turn.1);
     }
     text
 }
@@ -134,7 +134,7 @@ fn check_outputs(
     rows: &[(Given, &str)],
 ) {
     for row in rows {
-        equal(rt, &give(rt, emitter, event(rt, alloc, &row.0)), &Ok(()));
+        emit(rt, alloc, emitter, &row.0);
         same(rt, emitter.output(), row.1.as_bytes());
     }
 }
@@ -159,41 +159,25 @@ fn an_emit_hands_out_at_the_end_of_a_document(rt: HostRuntime) {
     check_outputs(&rt, rt.alloc(), &mut made(&rt, rt.alloc(), &UNSET), ROWS);
 }
 
-// Events and a flush.
-fn flush_after(
-    rt: &impl Abort,
-    alloc: Global,
-    emitter: &mut yaml_emitter_t<Global>,
-    events: &[Given],
-) {
-    emit_all(rt, alloc, emitter, events);
-    equal(rt, &flush_if_known(rt, emitter), &Ok(()));
-}
-
-const STARTS: &[Given] = &[
-    Stream,
-    Document,
-    AnchoredSequence("a"),
-    FlowSequence,
-    Text("x"),
-];
-
-const ENDS: &[Given] = &[SequenceEnd, SequenceEnd, DocumentEnd, StreamEnd];
-
 // The outer sequence has an anchor, which is written before the inner one is known.
-fn nest_sequences(rt: &impl Abort, alloc: Global, emitter: &mut yaml_emitter_t<Global>) {
-    flush_after(rt, alloc, emitter, STARTS);
-    check_output(rt, emitter, "&a", 2);
-    emit_all(rt, alloc, emitter, ENDS);
-    check_output(rt, emitter, "&a [[x]]\n", 0);
-}
+const NESTED: &[Step] = &[
+    Emit(&[
+        Stream,
+        Document,
+        AnchoredSequence("a"),
+        FlowSequence,
+        Text("x"),
+    ]),
+    Flush(Ok(())),
+    Waits("&a", 2),
+    Emit(&[SequenceEnd, SequenceEnd, DocumentEnd, StreamEnd]),
+    Waits("&a [[x]]\n", 0),
+];
 
 #[test]
 fn a_flow_sequence_waits_for_two_events(rt: HostRuntime) {
-    nest_sequences(&rt, rt.alloc(), &mut made(&rt, rt.alloc(), &UNSET));
+    check_steps(&rt, rt.alloc(), &UNSET, NESTED);
 }
-
-const ITEMS: &[Given] = &[Stream, Document, BlockSequence, Text("a"), Text("b")];
 
 const CANONICAL: &Setting = &Setting {
     canonical: true,
@@ -201,94 +185,96 @@ const CANONICAL: &Setting = &Setting {
     ..UNSET
 };
 
-fn flush_items(rt: &impl Abort, alloc: Global, emitter: &mut yaml_emitter_t<Global>) {
-    flush_after(rt, alloc, emitter, ITEMS);
-    check_output(rt, emitter, "---\n[\n  \"a\",\n  \"b\"", 0);
-}
+const ITEMS: &[Step] = &[
+    Emit(&[Stream, Document, BlockSequence, Text("a"), Text("b")]),
+    Flush(Ok(())),
+    Waits("---\n[\n  \"a\",\n  \"b\"", 0),
+];
 
 #[test]
 fn a_canonical_item_is_handed_out_without_its_comma(rt: HostRuntime) {
-    flush_items(&rt, rt.alloc(), &mut made(&rt, rt.alloc(), CANONICAL));
+    check_steps(&rt, rt.alloc(), CANONICAL, ITEMS);
 }
 
 const FLOW: &[Given] = &[Stream, Document, FlowSequence, Text("a"), Text("b")];
 
+const NODE: yaml_error_t = yaml_error_t::ExpectedNode;
+
 // A document that ends within a sequence: what was written before can no longer be handed out.
-fn end_too_soon(
-    rt: &impl Abort,
-    alloc: Global,
-    emitter: &mut yaml_emitter_t<Global>,
-    output: &str,
-) {
-    emit_all(rt, alloc, emitter, FLOW);
-    if !output.is_empty() {
-        equal(rt, &flush_if_known(rt, emitter), &Ok(()));
-    }
-    let end = event(rt, alloc, &DocumentEnd);
-    check_refused(rt, emitter, end, yaml_error_t::ExpectedNode);
-    check_failed(rt, emitter, yaml_error_t::ExpectedNode);
-    check_output(rt, emitter, output, 0);
-}
+const ENDED_FLUSHED: &[Step] = &[
+    Emit(FLOW),
+    Flush(Ok(())),
+    Refuse(DocumentEnd, NODE),
+    Failed(NODE),
+    Waits("[a, b", 0),
+];
+
+const ENDED: &[Step] = &[
+    Emit(FLOW),
+    Refuse(DocumentEnd, NODE),
+    Failed(NODE),
+    Waits("", 0),
+];
 
 // What was flushed before is handed out, and nothing else.
 #[test]
 fn an_event_in_a_wrong_place_ends_the_output(rt: HostRuntime) {
-    let alloc = rt.alloc();
-    end_too_soon(&rt, alloc, &mut made(&rt, alloc, &UNSET), "[a, b");
-    end_too_soon(&rt, alloc, &mut made(&rt, alloc, &UNSET), "");
-}
-
-const FOO: &[Given] = &[Stream, Document, Text("foo")];
-
-// Three bytes where the limit is two.
-fn flush_too_much(rt: &impl Abort, alloc: Global, emitter: &mut yaml_emitter_t<Global>) {
-    emit_all(rt, alloc, emitter, FOO);
-    check_output(rt, emitter, "", 0);
-    let error = yaml_error_t::WriteError;
-    equal(rt, &flush_if_known(rt, emitter), &Err(error));
-    check_failed(rt, emitter, error);
-    check_output(rt, emitter, "fo", 0);
+    check_steps(&rt, rt.alloc(), &UNSET, ENDED_FLUSHED);
+    check_steps(&rt, rt.alloc(), &UNSET, ENDED);
 }
 
 const TWO_BYTES: &Setting = &Setting { limit: 2, ..UNSET };
 
+// Three bytes where the limit is two.
+const TOO_MUCH: &[Step] = &[
+    Emit(&[Stream, Document, Text("foo")]),
+    Waits("", 0),
+    Flush(Err(yaml_error_t::WriteError)),
+    Failed(yaml_error_t::WriteError),
+    Waits("fo", 0),
+];
+
 #[test]
 fn a_flush_past_the_limit_is_refused(rt: HostRuntime) {
-    flush_too_much(&rt, rt.alloc(), &mut made(&rt, rt.alloc(), TWO_BYTES));
+    check_steps(&rt, rt.alloc(), TWO_BYTES, TOO_MUCH);
 }
 
-// A stream that waits for its start has handed out nothing.
-fn check_unstarted(rt: &impl Abort, emitter: &mut yaml_emitter_t<Global>) {
-    equal(rt, &emitter.encoding_known(), &true);
-    equal(rt, &emitter.is_started(), &false);
-    equal(rt, &flush_if_known(rt, emitter), &Ok(()));
-    same(rt, emitter.output(), b"");
-    equal(rt, &emitter.is_started(), &false);
-}
+const SMALL: &Setting = &Setting {
+    encoding: YAML_UTF8_ENCODING,
+    ..UNSET
+};
 
-const NOTHING: &[Given] = &[Stream, StreamEnd];
+// A flush before a stream without documents. A stream that waits for its start has handed out nothing.
+const EARLY: &[Step] = &[
+    Known(true),
+    Started(false),
+    Flush(Ok(())),
+    Output(b""),
+    Started(false),
+    Emit(&[Stream, StreamEnd]),
+    Started(true),
+    Output(b""),
+];
 
-// A flush before a stream without documents, whose output is this.
-fn check_early_flush(
-    rt: &impl Abort,
-    alloc: Global,
-    emitter: &mut yaml_emitter_t<Global>,
-    output: &[u8],
-) {
-    check_unstarted(rt, emitter);
-    emit_all(rt, alloc, emitter, NOTHING);
-    equal(rt, &emitter.is_started(), &true);
-    same(rt, emitter.output(), output);
-}
+const LITTLE: &Setting = &Setting {
+    encoding: YAML_UTF16LE_ENCODING,
+    ..UNSET
+};
 
-fn check_encoding(rt: &impl Abort, alloc: Global, encoding: yaml_encoding_t, output: &[u8]) {
-    let setting = Setting { encoding, ..UNSET };
-    check_early_flush(rt, alloc, &mut made(rt, alloc, &setting), output);
-}
+const EARLY_MARKED: &[Step] = &[
+    Known(true),
+    Started(false),
+    Flush(Ok(())),
+    Output(b""),
+    Started(false),
+    Emit(&[Stream, StreamEnd]),
+    Started(true),
+    Output(b"\xFF\xFE"),
+];
 
 // An encoding that was set is known before the stream begins; there is nothing to hand out.
 #[test]
 fn a_flush_before_the_stream_hands_out_nothing(rt: HostRuntime) {
-    check_encoding(&rt, rt.alloc(), YAML_UTF8_ENCODING, b"");
-    check_encoding(&rt, rt.alloc(), YAML_UTF16LE_ENCODING, b"\xFF\xFE");
+    check_steps(&rt, rt.alloc(), SMALL, EARLY);
+    check_steps(&rt, rt.alloc(), LITTLE, EARLY_MARKED);
 }
