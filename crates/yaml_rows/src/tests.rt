@@ -1,12 +1,17 @@
 //! Rows of types, of marks, of pens, and of scalars.
+ghost use Rattle.yaml_pen.specs.Page.{IsReady};
+
 mod marks;
 mod pens;
 mod scalars;
 mod types;
 
-use std::alloc::Allocator;
+use std::alloc::{Allocator, Global};
 use std::fmt::Debug;
 use std::process::Abort;
+use yaml_base::yaml_error_t;
+use yaml_pen::Pen;
+use yaml_scalar::holds_break;
 
 /// The two are equal. (A comparison in a function of its own is proved once.)
 fn equal<T: PartialEq + Debug>(rt: &impl Abort, got: &T, wanted: &T) {
@@ -21,4 +26,19 @@ fn owned<A: Allocator>(rt: &impl Abort, alloc: A, s: &str) -> String<A> {
 /// This was written.
 fn same(rt: &impl Abort, got: &[u8], wanted: &[u8]) {
     assert_eq!(rt; got, wanted);
+}
+
+/// Writes an indicator with its flags; an error where it holds a break, so that no caller has to show that it holds none.
+fn write_indicator(
+    pen: &mut Pen<Global>,
+    sign: &str,
+    flags: (bool, bool, bool),
+) -> Result<(), yaml_error_t>
+    requires { IsReady pen.old }
+    ensures { IsReady pen.new }
+{
+    if holds_break(sign) {
+        return Err(yaml_error_t::WriteError);
+    }
+    pen.write_indicator(sign, flags.0, flags.1, flags.2)
 }

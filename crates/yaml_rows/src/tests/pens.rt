@@ -4,12 +4,12 @@ ghost use Rattle.std.specs.List.{list_any};
 ghost use Rattle.std.specs.Str.{chars};
 ghost use Rattle.std.specs.String.{string_bytes};
 ghost use Rattle.yaml_base.specs.Characters.{is_break};
-ghost use Rattle.yaml_pen.specs.Page.{IsReady};
+ghost use Rattle.yaml_pen.specs.Page.{IsReady, IsUntouched};
 
 mod memory;
 mod runs;
 
-use super::{equal, same};
+use super::{equal, same, write_indicator};
 use std::alloc::{AllocError, Allocator, Global};
 use std::process::Abort;
 use yaml_base::{
@@ -18,31 +18,28 @@ use yaml_base::{
 };
 use yaml_pen::Pen;
 
-// A pen that is ready to write, its lines ended by LF.
-fn begun<A: Allocator + Copy>(
-    alloc: A,
-    limit: usize,
-    encoding: yaml_encoding_t,
-) -> Result<Pen<A>, yaml_error_t>
-    ensures { IfOk result (λ pen. IsReady pen) }
+// A text begins, its lines ended by LF. Always answers `Ok`.
+fn begin<A: Allocator>(pen: &mut Pen<A>, encoding: yaml_encoding_t) -> Result<(), yaml_error_t>
+    requires { IsUntouched pen.old }
+    ensures { IsReady pen.new }
 {
-    let mut pen = Pen::new(alloc)?;
-    pen.set_limit(limit);
     match encoding {
         yaml_encoding_t::YAML_UTF16LE_ENCODING => {
             pen.begin(YAML_UTF16LE_ENCODING, YAML_LN_BREAK);
-            pen.write_bom()?;
+            pen.write_bom()
         }
         yaml_encoding_t::YAML_UTF16BE_ENCODING => {
             pen.begin(YAML_UTF16BE_ENCODING, YAML_LN_BREAK);
-            pen.write_bom()?;
+            pen.write_bom()
         }
-        _ => pen.begin(YAML_UTF8_ENCODING, YAML_LN_BREAK),
+        _ => {
+            pen.begin(YAML_UTF8_ENCODING, YAML_LN_BREAK);
+            Ok(())
+        }
     }
-    Ok(pen)
 }
 
-/// The same, where there is memory for it.
+/// A pen that is ready to write, where there is memory for it.
 fn made<A: Allocator + Copy>(
     rt: &impl Abort,
     alloc: A,
@@ -51,7 +48,10 @@ fn made<A: Allocator + Copy>(
 ) -> Pen<A>
     ensures { IsReady result }
 {
-    begun(alloc, limit, encoding).expect(rt, "no memory")
+    let mut pen = Pen::new(alloc).expect(rt, "no memory");
+    pen.set_limit(limit);
+    equal(rt, &begin(&mut pen, encoding), &Ok(()));
+    pen
 }
 
 fn put_letters<A: Allocator>(pen: &mut Pen<A>, count: usize) -> Result<(), yaml_error_t>
@@ -119,12 +119,11 @@ fn check_flushed(rt: &impl Abort, pen: &mut Pen<Global>, expected: &[u8])
 }
 
 // An indicator, a character outside ASCII, and a new line.
-#[tactic(auto, using(yaml_base::proofs::Literals::literal_unbroken))]
 fn write_line(rt: &impl Abort, pen: &mut Pen<Global>) -> Result<(), yaml_error_t>
     requires { IsReady pen.old }
     ensures { IsReady pen.new }
 {
-    pen.write_indicator("---", true, false, false)?;
+    write_indicator(pen, "---", (true, false, false))?;
     check_cursor(rt, pen, 3, false);
     pen.write_char('é')?;
     equal(rt, &pen.column(), &4);
@@ -195,14 +194,13 @@ fn write_breaks(pen: &mut Pen<Global>) -> Result<(), yaml_error_t>
     pen.write_break('\r')
 }
 
-#[tactic(auto, using(yaml_base::proofs::Literals::literal_unbroken))]
 fn write_indicators(pen: &mut Pen<Global>) -> Result<(), yaml_error_t>
     requires { IsReady pen.old }
     ensures { IsReady pen.new }
 {
-    pen.write_indicator("-", true, true, true)?;
-    pen.write_indicator("b", true, false, false)?;
-    pen.write_indicator("c", true, false, false)
+    write_indicator(pen, "-", (true, true, true))?;
+    write_indicator(pen, "b", (true, false, false))?;
+    write_indicator(pen, "c", (true, false, false))
 }
 
 #[test]

@@ -11,14 +11,14 @@ mod short_quoted;
 mod single_quoted;
 mod styles;
 
-use super::{equal, same};
+use super::{equal, same, write_indicator};
 use std::alloc::Global;
 use std::process::Abort;
 use yaml_base::{YAML_CR_BREAK, YAML_CRLN_BREAK, YAML_LN_BREAK, YAML_UTF8_ENCODING, yaml_error_t};
 use yaml_pen::Pen;
 
 /// A pen at the start of a text in UTF-8 whose lines end in LF.
-fn begun(rt: &impl Abort, alloc: Global) -> Pen<Global>
+pub(super) fn begun(rt: &impl Abort, alloc: Global) -> Pen<Global>
     ensures { IsReady result }
 {
     begun_within(rt, alloc, usize::MAX)
@@ -57,7 +57,7 @@ fn check_cut(rt: &impl Abort, pen: &mut Pen<Global>, cut: &[u8])
 }
 
 /// The answer was good, and this was written.
-fn check_written(
+pub(super) fn check_written(
     rt: &impl Abort,
     pen: &mut Pen<Global>,
     answer: Result<(), yaml_error_t>,
@@ -99,12 +99,11 @@ fn check_rows<R: Row>(rt: &impl Abort, alloc: Global, rows: &[R]) {
 }
 
 /// A sign `-`, which a space must follow.
-#[tactic(auto, using(yaml_base::proofs::Literals::literal_unbroken))]
 fn write_sign(pen: &mut Pen<Global>) -> Result<(), yaml_error_t>
     requires { IsReady pen.old }
     ensures { IsReady pen.new }
 {
-    pen.write_indicator("-", true, false, true)
+    write_indicator(pen, "-", (true, false, true))
 }
 
 /// The column; both flags of the cursor are off.

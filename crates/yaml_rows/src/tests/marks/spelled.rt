@@ -1,46 +1,27 @@
 //! Directives and tags as they are written.
-ghost use Rattle.std.specs.Prelude.{◌≡◌, chars};
-ghost use Rattle.std.specs.List.{list_any};
-ghost use Rattle.yaml_base.specs.Characters as class;
 ghost use Rattle.yaml_pen.specs.Page.{IsReady};
 
 use super::in_force;
-use crate::tests::{equal, same};
+use crate::tests::scalars::{begun, check_written};
+use crate::tests::{equal, write_indicator};
 use std::alloc::{Allocator, Global};
 use std::process::Abort;
-use yaml_base::{YAML_LN_BREAK, YAML_UTF8_ENCODING, is_break, yaml_error_t, yaml_tag_directive_t};
+use yaml_base::{yaml_error_t, yaml_tag_directive_t};
 use yaml_mark::{
     Directives, analyze_tag, write_anchor, write_tag_content, write_tag_handle, write_tag_prefix,
     write_tag_suffix,
 };
 use yaml_pen::Pen;
+use yaml_scalar::holds_break;
 
-fn begun(rt: &impl Abort, alloc: Global) -> Pen<Global>
-    ensures { IsReady result }
-{
-    let mut pen = Pen::new(alloc).expect(rt, "no memory");
-    pen.begin(YAML_UTF8_ENCODING, YAML_LN_BREAK);
-    pen
-}
-
-// The answer was good, and this was written.
-fn check_written(
-    rt: &impl Abort,
-    pen: &mut Pen<Global>,
-    answer: Result<(), yaml_error_t>,
-    wanted: &[u8],
-)
+fn write_handle(pen: &mut Pen<Global>, handle: &str) -> Result<(), yaml_error_t>
     requires { IsReady pen.old }
+    ensures { IsReady pen.new }
 {
-    equal(rt, &answer, &Ok(()));
-    equal(rt, &pen.flush(), &Ok(()));
-    same(rt, pen.output(), wanted);
-}
-
-fn has_break(text: &str) -> bool
-    ensures { result ≡ list_any class.is_break (chars text.now) }
-{
-    text.chars().any(|c| is_break(c))
+    if holds_break(handle) {
+        return Err(yaml_error_t::TagHandleAlphabet);
+    }
+    write_tag_handle(pen, handle)
 }
 
 // A tag by its directive's handle and what follows the prefix.
@@ -52,22 +33,17 @@ fn write_short<A: Allocator>(
     requires { IsReady pen.old }
     ensures { IsReady pen.new }
 {
-    let handle = directive.handle.as_str();
-    if has_break(handle) {
-        return Err(yaml_error_t::TagHandleAlphabet);
-    }
-    write_tag_handle(pen, handle)?;
+    write_handle(pen, directive.handle.as_str())?;
     write_tag_content(pen, suffix, false)
 }
 
-#[tactic(auto, using(yaml_base::proofs::Literals::literal_unbroken))]
 fn write_whole(pen: &mut Pen<Global>, tag: &str) -> Result<(), yaml_error_t>
     requires { IsReady pen.old }
     ensures { IsReady pen.new }
 {
-    pen.write_indicator("!<", true, false, false)?;
+    write_indicator(pen, "!<", (true, false, false))?;
     write_tag_content(pen, tag, false)?;
-    pen.write_indicator(">", false, false, false)
+    write_indicator(pen, ">", (false, false, false))
 }
 
 fn write_tag(
@@ -94,7 +70,7 @@ fn write_property(pen: &mut Pen<Global>) -> Result<(), yaml_error_t>
     requires { IsReady pen.old }
     ensures { IsReady pen.new }
 {
-    pen.write_indicator("&", true, false, false)?;
+    write_indicator(pen, "&", (true, false, false))?;
     write_anchor(pen, "a")
 }
 
@@ -118,7 +94,7 @@ fn check_each_tag(rt: &impl Abort, alloc: Global, directives: &Directives<Global
     for row in rows {
         let mut pen = begun(rt, alloc);
         let answer = write_both(&mut pen, row.0, directives);
-        check_written(rt, &mut pen, answer, row.1.as_bytes());
+        check_written(rt, &mut pen, answer, row.1);
     }
 }
 
@@ -189,7 +165,7 @@ fn escaped(rt: &impl Abort, alloc: Global, text: &str) -> String {
 fn check_content(rt: &impl Abort, alloc: Global, text: &str, written: &str) {
     let mut pen = begun(rt, alloc);
     let answer = write_tag_content(&mut pen, text, false);
-    check_written(rt, &mut pen, answer, written.as_bytes());
+    check_written(rt, &mut pen, answer, written);
 }
 
 // A character by itself.
@@ -223,13 +199,12 @@ fn longer_characters_are_escaped(rt: HostRuntime) {
     }
 }
 
-#[tactic(auto, using(yaml_base::proofs::Literals::literal_unbroken))]
 fn write_directive(pen: &mut Pen<Global>) -> Result<(), yaml_error_t>
     requires { IsReady pen.old }
     ensures { IsReady pen.new }
 {
-    pen.write_indicator("%TAG", true, false, false)?;
-    write_tag_handle(pen, "!e!")?;
+    write_indicator(pen, "%TAG", (true, false, false))?;
+    write_handle(pen, "!e!")?;
     write_tag_content(pen, "!x", true)
 }
 
@@ -238,7 +213,7 @@ fn a_directive_line_is_separated(rt: HostRuntime) {
     let mut pen = begun(&rt, rt.alloc());
     let answer = write_directive(&mut pen);
     equal(&rt, &(pen.whitespace(), pen.indention()), &(false, false));
-    check_written(&rt, &mut pen, answer, b"%TAG !e! %21x");
+    check_written(&rt, &mut pen, answer, "%TAG !e! %21x");
 }
 
 // A text as a prefix, and then as what stands after a handle.
@@ -257,7 +232,7 @@ fn check_ends(rt: &impl Abort, alloc: Global, rows: &[Ends]) {
     for row in rows {
         let mut pen = begun(rt, alloc);
         let answer = write_ends(&mut pen, row.0, row.1);
-        check_written(rt, &mut pen, answer, row.2.as_bytes());
+        check_written(rt, &mut pen, answer, row.2);
     }
 }
 

@@ -2,18 +2,20 @@
 ghost use Rattle.yaml_pen.specs.Page.{IsReady};
 
 use super::runs::check_run_refused;
-use super::{IN_UTF8, begun, check_bytes, made, put_letters, write_long_run};
+use super::{IN_UTF8, check_bytes, made, put_letters, write_long_run};
 use crate::tests::equal;
 use linked_list_allocator::LocalHeap;
 use std::alloc::{Allocator, Global};
 use std::process::Abort;
-use yaml_base::{YAML_UTF8_ENCODING, yaml_error_t};
+use yaml_base::{YAML_LN_BREAK, YAML_UTF8_ENCODING, yaml_error_t};
 use yaml_pen::Pen;
 
 // So many letters, and nothing else.
 fn check_letters(rt: &impl Abort, output: &[u8], count: usize) {
     equal(rt, &output.len(), &count);
-    equal(rt, &output.iter().all(|byte| *byte == b'x'), &true);
+    for byte in output {
+        equal(rt, byte, &b'x');
+    }
 }
 
 // A heap of so many bytes.
@@ -35,13 +37,14 @@ fn check_full<A: Allocator>(rt: &impl Abort, pen: &mut Pen<A>, handed_out: usize
 }
 
 fn check_heap(rt: &impl Abort, heap: &LocalHeap, made: bool, handed_out: usize) {
-    match begun(heap, usize::MAX, YAML_UTF8_ENCODING) {
+    match Pen::new(heap) {
         Err(error) => {
             equal(rt, &error, &yaml_error_t::Memory);
             equal(rt, &made, &false);
         }
         Ok(mut pen) => {
             equal(rt, &made, &true);
+            pen.begin(YAML_UTF8_ENCODING, YAML_LN_BREAK);
             check_full(rt, &mut pen, handed_out);
         }
     }

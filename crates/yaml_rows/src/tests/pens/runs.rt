@@ -11,40 +11,37 @@ use std::process::Abort;
 use yaml_base::{YAML_UTF8_ENCODING, YAML_UTF16LE_ENCODING, yaml_error_t};
 use yaml_pen::Pen;
 
-// A run that is longer than six buffers, one of nothing, and a short one, after so many letters.
-fn write_runs(
-    rt: &impl Abort,
-    pen: &mut Pen<Global>,
-    alloc: Global,
-    ahead: i32,
-) -> Result<(), yaml_error_t>
+// A run of so many cycles is written.
+fn write_whole_run(rt: &impl Abort, pen: &mut Pen<Global>, alloc: Global, count: usize)
     requires { IsReady pen.old }
     ensures { IsReady pen.new }
 {
-    write_long_run(pen, alloc, 10_000)?;
-    equal(rt, &pen.column(), &ahead.saturating_add(40_000));
-    write_long_run(pen, alloc, 0)?;
-    write_long_run(pen, alloc, 1)?;
-    equal(rt, &pen.column(), &ahead.saturating_add(40_004));
-    Ok(())
+    equal(rt, &write_long_run(pen, alloc, count), &Ok(()));
 }
 
-fn write_runs_after(
-    rt: &impl Abort,
-    pen: &mut Pen<Global>,
-    alloc: Global,
-    ahead: u8,
-) -> Result<(), yaml_error_t>
+// A run that is longer than six buffers, one of nothing, and a short one, after so many letters.
+fn write_runs(rt: &impl Abort, pen: &mut Pen<Global>, alloc: Global, ahead: i32)
+    requires { IsReady pen.old }
+    ensures { IsReady pen.new }
+{
+    write_whole_run(rt, pen, alloc, 10_000);
+    equal(rt, &pen.column(), &ahead.saturating_add(40_000));
+    write_whole_run(rt, pen, alloc, 0);
+    write_whole_run(rt, pen, alloc, 1);
+    equal(rt, &pen.column(), &ahead.saturating_add(40_004));
+}
+
+fn write_runs_after(rt: &impl Abort, pen: &mut Pen<Global>, alloc: Global, ahead: u8)
     requires { IsReady pen.old }
 {
-    put_letters(pen, usize::from(ahead))?;
-    write_runs(rt, pen, alloc, i32::from(ahead))?;
-    pen.flush()
+    equal(rt, &put_letters(pen, usize::from(ahead)), &Ok(()));
+    write_runs(rt, pen, alloc, i32::from(ahead));
+    equal(rt, &pen.flush(), &Ok(()));
 }
 
 fn check_runs(rt: &impl Abort, alloc: Global, row: &Cycle, ahead: u8) {
     let mut pen = made(rt, alloc, usize::MAX, row.0);
-    equal(rt, &write_runs_after(rt, &mut pen, alloc, ahead), &Ok(()));
+    write_runs_after(rt, &mut pen, alloc, ahead);
     let start = start_of(row.0, usize::from(ahead));
     check_rest(rt, pen.output(), start, 100_010, row.1);
 }
@@ -79,7 +76,7 @@ pub(super) fn check_run_refused<A: Allocator>(
 }
 
 fn is_good_or_cut(answer: Result<(), yaml_error_t>) -> bool {
-    answer.is_ok() || answer == Err(yaml_error_t::WriteError)
+    matches!(answer, Ok(()) | Err(yaml_error_t::WriteError))
 }
 
 // A run, which is refused where it passes the limit, and a flush, which then is.

@@ -24,7 +24,7 @@ pub(super) fn is_allowed(value: &str) -> bool
 }
 
 /// A literal value where it is allowed; the open mark, or -1.
-pub(super) fn write_literal(
+fn write_literal(
     pen: &mut Pen<Global>,
     value: &str,
     indent: i32,
@@ -43,7 +43,7 @@ pub(super) fn write_literal(
 }
 
 /// A folded value where it is allowed; the open mark, or -1.
-pub(super) fn write_folded(
+fn write_folded(
     pen: &mut Pen<Global>,
     value: &str,
     indent: i32,

@@ -16,8 +16,26 @@ use yaml_scalar::{
     write_literal_scalar, write_plain_scalar, write_single_quoted_scalar,
 };
 
+// Writes in one style that stands on a line, between double quotes where no such style is asked for.
+fn write_in_line(
+    pen: &mut Pen<Global>,
+    style: yaml_scalar_style_t,
+    value: &str,
+    unicode: bool,
+    width: i32,
+) -> Result<(), yaml_error_t>
+    requires { IsReady pen.old }
+    ensures { IsReady pen.new }
+{
+    match style {
+        YAML_PLAIN_SCALAR_STYLE => write_plain_scalar(pen, value, true, false, 2, width),
+        YAML_SINGLE_QUOTED_SCALAR_STYLE => write_single_quoted_scalar(pen, value, true, 2, width),
+        _ => write_double_quoted_scalar(pen, value, true, unicode, 2, width),
+    }
+}
+
 // Writes in one style; answers the open mark.
-fn write_in(
+pub(super) fn write_in(
     pen: &mut Pen<Global>,
     style: yaml_scalar_style_t,
     value: &str,
@@ -28,17 +46,15 @@ fn write_in(
     ensures { IsReady pen.new }
 {
     match style {
-        YAML_PLAIN_SCALAR_STYLE => write_plain_scalar(pen, value, true, false, 2, width)?,
-        YAML_SINGLE_QUOTED_SCALAR_STYLE => write_single_quoted_scalar(pen, value, true, 2, width)?,
-        YAML_LITERAL_SCALAR_STYLE if is_allowed(value) => {
-            return write_literal_scalar(pen, value, 2, 2);
-        }
+        YAML_LITERAL_SCALAR_STYLE if is_allowed(value) => { write_literal_scalar(pen, value, 2, 2) }
         YAML_FOLDED_SCALAR_STYLE if is_allowed(value) => {
-            return write_folded_scalar(pen, value, 2, 2, width);
+            write_folded_scalar(pen, value, 2, 2, width)
         }
-        _ => write_double_quoted_scalar(pen, value, true, unicode, 2, width)?,
+        _ => {
+            write_in_line(pen, style, value, unicode, width)?;
+            Ok(0)
+        }
     }
-    Ok(0)
 }
 
 /// The style that is chosen for a root where one is asked for.

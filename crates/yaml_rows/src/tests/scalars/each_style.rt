@@ -1,11 +1,14 @@
 //! Short values in each style that they allow.
-use super::block::{write_folded, write_literal};
-use super::{begun, check_marked, check_written, equal, short_block, short_quoted};
+use super::block::is_allowed;
+use super::chosen::write_in;
+use super::{begun, check_marked, equal, short_block, short_quoted};
 use std::alloc::Global;
 use std::process::Abort;
-use yaml_scalar::{
-    analyze_scalar, write_double_quoted_scalar, write_plain_scalar, write_single_quoted_scalar,
+use yaml_base::{
+    YAML_DOUBLE_QUOTED_SCALAR_STYLE, YAML_FOLDED_SCALAR_STYLE, YAML_LITERAL_SCALAR_STYLE,
+    YAML_PLAIN_SCALAR_STYLE, YAML_SINGLE_QUOTED_SCALAR_STYLE, yaml_scalar_style_t,
 };
+use yaml_scalar::analyze_scalar;
 
 /// A line of a table: a value, and what is written in two styles.
 type Row<'a> = (&'a str, &'a str, &'a str);
@@ -31,71 +34,78 @@ fn meant(rt: &impl Abort, alloc: Global, signs: &str) -> String {
     text
 }
 
-// The open mark after a block text: 2 where its header keeps all final breaks; -1 where there is no text.
+// The open mark after a block text: 2 where its header keeps all final breaks.
 fn mark_after(text: &str) -> i32 {
-    if text.is_empty() {
-        return -1;
-    }
     if text.contains('+') { 2 } else { 0 }
 }
 
 fn is_listed(signs: &str, list: &[&str]) -> bool {
-    list.iter().any(|member| *member == signs)
+    list.contains(&signs)
+}
+
+/// A text, and an open mark.
+type Written<'a> = (&'a str, i32);
+
+// A root in this style, in Unicode.
+fn check_style(
+    rt: &impl Abort,
+    alloc: Global,
+    style: yaml_scalar_style_t,
+    (value, width): (&str, i32),
+    wanted: Written,
+) {
+    let mut pen = begun(rt, alloc);
+    let answer = write_in(&mut pen, style, value, true, width);
+    check_marked(rt, &mut pen, answer, wanted);
 }
 
 // A plain root is as its signs are; where they aren't listed it isn't allowed.
-fn check_plain(rt: &impl Abort, alloc: Global, value: &str, width: i32, signs: &str) {
-    let allowed = analyze_scalar(value, true, false).block_plain_allowed;
+fn check_plain(rt: &impl Abort, alloc: Global, root: (&str, i32), signs: &str) {
+    let allowed = analyze_scalar(root.0, true, false).block_plain_allowed;
     equal(rt, &allowed, &is_listed(signs, short_quoted::PLAIN));
     if allowed {
-        let mut pen = begun(rt, alloc);
-        let answer = write_plain_scalar(&mut pen, value, true, false, 2, width);
-        check_written(rt, &mut pen, answer, signs);
+        check_style(rt, alloc, YAML_PLAIN_SCALAR_STYLE, root, (signs, 0));
     }
 }
 
 // A root between single quotes; where no text is wanted it isn't allowed.
-fn check_single(rt: &impl Abort, alloc: Global, value: &str, width: i32, wanted: &str) {
-    let allowed = analyze_scalar(value, true, false).single_quoted_allowed;
+fn check_single(rt: &impl Abort, alloc: Global, root: (&str, i32), wanted: &str) {
+    let allowed = analyze_scalar(root.0, true, false).single_quoted_allowed;
     equal(rt, &allowed, &!wanted.is_empty());
     if allowed {
-        let mut pen = begun(rt, alloc);
-        let answer = write_single_quoted_scalar(&mut pen, value, true, 2, width);
-        check_written(rt, &mut pen, answer, wanted);
+        check_style(
+            rt,
+            alloc,
+            YAML_SINGLE_QUOTED_SCALAR_STYLE,
+            root,
+            (wanted, 0),
+        );
     }
-}
-
-// A root between double quotes.
-fn check_double(rt: &impl Abort, alloc: Global, value: &str, width: i32, wanted: &str) {
-    let mut pen = begun(rt, alloc);
-    let answer = write_double_quoted_scalar(&mut pen, value, true, true, 2, width);
-    check_written(rt, &mut pen, answer, wanted);
 }
 
 // One value plain and between quotes, at one width.
 fn check_in_quotes(rt: &impl Abort, alloc: Global, row: &Row, width: i32) {
     let value = meant(rt, alloc, row.0);
     let wanted = meant(rt, alloc, row.1);
-    check_plain(rt, alloc, value.as_str(), width, row.0);
-    check_single(rt, alloc, value.as_str(), width, wanted.as_str());
-    check_double(rt, alloc, value.as_str(), width, row.2);
+    let root = (value.as_str(), width);
+    check_plain(rt, alloc, root, row.0);
+    check_single(rt, alloc, root, wanted.as_str());
+    check_style(rt, alloc, YAML_DOUBLE_QUOTED_SCALAR_STYLE, root, (row.2, 0));
 }
 
-/// A text, and an open mark.
-type Lines<'a> = (&'a str, i32);
-
-// A literal root; nothing and -1 where it isn't allowed.
-fn check_literal(rt: &impl Abort, alloc: Global, value: &str, wanted: Lines) {
-    let mut pen = begun(rt, alloc);
-    let answer = write_literal(&mut pen, value, 2, 2);
-    check_marked(rt, &mut pen, answer, wanted);
-}
-
-// A folded root; nothing and -1 where it isn't allowed.
-fn check_folded(rt: &impl Abort, alloc: Global, value: &str, width: i32, wanted: Lines) {
-    let mut pen = begun(rt, alloc);
-    let answer = write_folded(&mut pen, value, 2, 2, width);
-    check_marked(rt, &mut pen, answer, wanted);
+// A literal or folded root; where no text is wanted it isn't allowed.
+fn check_block(
+    rt: &impl Abort,
+    alloc: Global,
+    style: yaml_scalar_style_t,
+    root: (&str, i32),
+    wanted: Written,
+) {
+    let allowed = is_allowed(root.0);
+    equal(rt, &allowed, &!wanted.0.is_empty());
+    if allowed {
+        check_style(rt, alloc, style, root, wanted);
+    }
 }
 
 // One value literal and folded, at one width.
@@ -103,9 +113,12 @@ fn check_in_lines(rt: &impl Abort, alloc: Global, row: &Row, width: i32) {
     let value = meant(rt, alloc, row.0);
     let mark = mark_after(row.1);
     let literal = meant(rt, alloc, row.1);
-    check_literal(rt, alloc, value.as_str(), (literal.as_str(), mark));
     let folded = meant(rt, alloc, row.2);
-    check_folded(rt, alloc, value.as_str(), width, (folded.as_str(), mark));
+    let root = (value.as_str(), width);
+    let wanted = (literal.as_str(), mark);
+    check_block(rt, alloc, YAML_LITERAL_SCALAR_STYLE, root, wanted);
+    let wanted = (folded.as_str(), mark);
+    check_block(rt, alloc, YAML_FOLDED_SCALAR_STYLE, root, wanted);
 }
 
 // So many lines of a table, the first of which is empty.
