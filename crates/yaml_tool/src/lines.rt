@@ -75,6 +75,24 @@ pub fn end_named<A: Allocator>(line: &str) -> Option<yaml_event_t<A>>
     }
 }
 
+/// The start or the end of a document that is implicit and has no directives, where a line is one of the two as most write it.
+#[inline(always)]
+pub fn document_named<A: Allocator + Copy>(alloc: A, line: &str) -> Option<yaml_event_t<A>>
+    ensures { IfSome result (λ event. notation.line_read (chars line.now) ≡ Some (gives (seen_event event))) }
+{
+    if is_word(line, "-DOC 1") {
+        Some(yaml_event_t::YAML_DOCUMENT_END_EVENT { implicit: true })
+    } else if is_word(line, "+DOC 1 -") {
+        Some(yaml_event_t::YAML_DOCUMENT_START_EVENT {
+            implicit: true,
+            version_directive: None,
+            tag_directives: Vec::new(alloc),
+        })
+    } else {
+        None
+    }
+}
+
 /// What a line says; none where it is bad.
 pub fn line_read<A: Allocator + Copy>(alloc: A, line: &str) -> Result<Option<Line<A>>, AllocError>
     ensures { IfOk result (λ read. option_map seen_line read ≡ notation.line_read (chars line.now)) }
