@@ -61,7 +61,7 @@ pub fn usual_value(line: &str) -> Option<&str>
     past_front(line, "=VAL any 1 1 - - \"")
 }
 
-/// The end of a collection, where a line is its name.
+/// The end of a collection, or of a document that is implicit, where a line says no more.
 #[inline(always)]
 pub fn end_named<A: Allocator>(line: &str) -> Option<yaml_event_t<A>>
     ensures { IfSome result (λ event. notation.line_read (chars line.now) ≡ Some (gives (seen_event event))) }
@@ -70,19 +70,19 @@ pub fn end_named<A: Allocator>(line: &str) -> Option<yaml_event_t<A>>
         Some(yaml_event_t::YAML_MAPPING_END_EVENT)
     } else if is_word(line, "-SEQ") {
         Some(yaml_event_t::YAML_SEQUENCE_END_EVENT)
+    } else if is_word(line, "-DOC 1") {
+        Some(yaml_event_t::YAML_DOCUMENT_END_EVENT { implicit: true })
     } else {
         None
     }
 }
 
-/// The start or the end of a document that is implicit and has no directives, where a line is one of the two as most write it.
+/// The start of a document that is implicit and has no directives, where a line says no more.
 #[inline(always)]
-pub fn document_named<A: Allocator + Copy>(alloc: A, line: &str) -> Option<yaml_event_t<A>>
+pub fn start_named<A: Allocator + Copy>(alloc: A, line: &str) -> Option<yaml_event_t<A>>
     ensures { IfSome result (λ event. notation.line_read (chars line.now) ≡ Some (gives (seen_event event))) }
 {
-    if is_word(line, "-DOC 1") {
-        Some(yaml_event_t::YAML_DOCUMENT_END_EVENT { implicit: true })
-    } else if is_word(line, "+DOC 1 -") {
+    if is_word(line, "+DOC 1 -") {
         Some(yaml_event_t::YAML_DOCUMENT_START_EVENT {
             implicit: true,
             version_directive: None,

@@ -8,7 +8,7 @@ ghost use Rattle.yaml_tool.specs.Scripts.{seen_progress, seen_numbered, nothing_
 
 use crate::events::usual_scalar;
 use crate::fields::whole_text;
-use crate::lines::{Line, document_named, end_named, line_read, usual_value};
+use crate::lines::{Line, end_named, line_read, start_named, usual_value};
 use crate::settings::{Setting, Settings, is_set, settings_of};
 use memchr::memchr;
 use std::alloc::{AllocError, Allocator};
@@ -203,7 +203,7 @@ fn line_taken<A: Allocator + Copy>(
     }
 }
 
-/// Takes a line's text. Most lines are those of usual scalars, of the ends of collections, and of documents without directives.
+/// Takes a line's text. Most lines are those of usual scalars, of ends, and of documents that start without directives.
 #[inline(always)]
 fn text_taken<A: Allocator + Copy>(
     alloc: A,
@@ -218,7 +218,7 @@ fn text_taken<A: Allocator + Copy>(
         Some(behind) => progress.take_usual(alloc, number, behind),
         None => match end_named(line) {
             Some(event) => progress.take_line(number, Line::Gives(event)),
-            None => match document_named(alloc, line) {
+            None => match start_named(alloc, line) {
                 Some(event) => progress.take_line(number, Line::Gives(event)),
                 None => any_text_taken(alloc, progress, number, line),
             },
