@@ -35,17 +35,9 @@ impl<A: Allocator + Copy> Front<A> {
         let Ok(()) = self.line.extend_from_slice(part) else {
             return Err(ScriptError::OutOfMemory);
         };
-        match memchr(b'\n', part) {
-            Some(_) => self.take_lines(alloc),
-            None => Ok(()),
+        if memchr(b'\n', part).is_none() {
+            return Ok(());
         }
-    }
-
-    /// Takes the lines that have ended.
-    fn take_lines(&mut self, alloc: A) -> Result<(), ScriptError>
-        ensures taken { OnOk result ((more : List ℕ) → script_with self.old more ≡ script_with self.new more) }
-        ensures fault { IfErr result (λ error. (more : List ℕ) → IsFaultOf error (script_with self.old more)) }
-    {
         if self.line.len() as u64 > u64::MAX - self.number {
             return Err(ScriptError::OutOfMemory);
         }
