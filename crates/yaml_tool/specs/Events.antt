@@ -2,7 +2,7 @@
 use Rattle.std.specs.Prelude.{true, Option, None, option_map, option_and_then, List, [], ◌∷◌, map, Vec, codes}
 use Rattle.std.specs.Str.{chars}
 use Rattle.yaml_base.specs.Characters.{Text}
-use Rattle.yaml_base.specs.Event.{Event, Version, TagDirective, scalar, any_style, stream_end, sequence_start, sequence_end, mapping_start, mapping_end}
+use Rattle.yaml_base.specs.Event.{Event, Version, TagDirective, scalar, any_style, stream_end, document_start, sequence_start, sequence_end, mapping_start, mapping_end}
 use Rattle.yaml_base.specs.Seen.{seen_text, seen_version, seen_directive}
 use Rattle.yaml_base.specs.declared.directives.yaml_version_directive_t.{yaml_version_directive_t}
 use Rattle.yaml_base.specs.declared.directives.yaml_tag_directive_t.{yaml_tag_directive_t}
@@ -56,3 +56,7 @@ seen_directives choice = option_map (λ all. map seen_directive all.items) choic
 abbrev pub usual_event : Text → Event
 usual_event value =
     scalar (record { anchor = None; tag = None; value = value; plain_implicit = true; quoted_implicit = true; style = any_style })
+
+-- the start of a document of which nothing is said
+abbrev pub usual_start_event : Event
+usual_start_event = document_start (record { version = None; directives = []; implicit = true })

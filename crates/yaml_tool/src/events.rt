@@ -4,7 +4,7 @@ ghost use Rattle.std.specs.Str.{chars};
 ghost use Rattle.yaml_base.specs.Script as notation;
 ghost use Rattle.yaml_base.specs.Seen.{seen_event, seen_text, seen_scalar_style, seen_sequence_style, seen_mapping_style};
 ghost use Rattle.yaml_base.specs.Event.{sequence_start, mapping_start};
-ghost use Rattle.yaml_tool.specs.Events.{event_by, four_fields, seen_versions, seen_directives, usual_event};
+ghost use Rattle.yaml_tool.specs.Events.{event_by, four_fields, seen_versions, seen_directives, usual_event, usual_start_event};
 ghost use Rattle.yaml_tool.specs.Fields.{fields_after, text_begun, the_text};
 
 use crate::directives::{directives_of, version_or_none};
@@ -127,6 +127,18 @@ pub fn usual_scalar<A: Allocator>(value: String<A>) -> yaml_event_t<A>
         anchor: None,
         tag: None,
         value,
+    }
+}
+
+/// The start of a document that is implicit and has no directives.
+#[inline(always)]
+pub fn usual_start<A: Allocator>(alloc: A) -> yaml_event_t<A>
+    ensures { seen_event result ≡ usual_start_event }
+{
+    yaml_event_t::YAML_DOCUMENT_START_EVENT {
+        implicit: true,
+        version_directive: None,
+        tag_directives: Vec::new(alloc),
     }
 }
 

@@ -1,9 +1,10 @@
 //! The lines of a script.
-ghost use Rattle.std.specs.Prelude.{◌≡◌, Some, option_map, option_and_then, IfOk, IfSome};
+ghost use Rattle.std.specs.Prelude.{◌≡◌, true, Some, option_map, option_and_then, IfOk, IfSome};
 ghost use Rattle.std.specs.Str.{chars};
 ghost use Rattle.yaml_base.specs.Script as notation;
 ghost use Rattle.yaml_base.specs.Script.{gives};
 ghost use Rattle.yaml_base.specs.Seen.{seen_event};
+ghost use Rattle.yaml_tool.specs.Events.{usual_start_event};
 ghost use Rattle.yaml_tool.specs.Fields.{fields_after};
 ghost use Rattle.yaml_tool.specs.Settings.{seen_setting};
 ghost use Rattle.yaml_tool.specs.Lines.{seen_line, usual_line};
@@ -77,20 +78,12 @@ pub fn end_named<A: Allocator>(line: &str) -> Option<yaml_event_t<A>>
     }
 }
 
-/// The start of a document that is implicit and has no directives, where a line says no more.
+/// Whether a line starts a document that is implicit and has no directives, and says no more.
 #[inline(always)]
-pub fn start_named<A: Allocator + Copy>(alloc: A, line: &str) -> Option<yaml_event_t<A>>
-    ensures { IfSome result (λ event. notation.line_read (chars line.now) ≡ Some (gives (seen_event event))) }
+pub fn is_usual_start(line: &str) -> bool
+    ensures { result ≡ true → notation.line_read (chars line.now) ≡ Some (gives usual_start_event) }
 {
-    if is_word(line, "+DOC 1 -") {
-        Some(yaml_event_t::YAML_DOCUMENT_START_EVENT {
-            implicit: true,
-            version_directive: None,
-            tag_directives: Vec::new(alloc),
-        })
-    } else {
-        None
-    }
+    is_word(line, "+DOC 1 -")
 }
 
 /// What a line says; none where it is bad.

@@ -6,9 +6,9 @@ ghost use Rattle.yaml_tool.specs.Settings.{seen_setting, seen_settings};
 ghost use Rattle.yaml_tool.specs.Lines.{seen_line, usual_line};
 ghost use Rattle.yaml_tool.specs.Scripts.{seen_progress, seen_numbered, nothing_said, after_line, after_said, script_behind, CutsLine, LeavesLine, IsFaultOf};
 
-use crate::events::usual_scalar;
+use crate::events::{usual_scalar, usual_start};
 use crate::fields::whole_text;
-use crate::lines::{Line, end_named, line_read, start_named, usual_value};
+use crate::lines::{Line, end_named, is_usual_start, line_read, usual_value};
 use crate::settings::{Setting, Settings, is_set, settings_of};
 use memchr::memchr;
 use std::alloc::{AllocError, Allocator};
@@ -218,10 +218,10 @@ fn text_taken<A: Allocator + Copy>(
         Some(behind) => progress.take_usual(alloc, number, behind),
         None => match end_named(line) {
             Some(event) => progress.take_line(number, Line::Gives(event)),
-            None => match start_named(alloc, line) {
-                Some(event) => progress.take_line(number, Line::Gives(event)),
-                None => any_text_taken(alloc, progress, number, line),
-            },
+            None if is_usual_start(line) => {
+                progress.take_line(number, Line::Gives(usual_start(alloc)))
+            }
+            None => any_text_taken(alloc, progress, number, line),
         },
     }
 }
