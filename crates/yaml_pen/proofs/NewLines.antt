@@ -2,7 +2,7 @@
 use Rattle.std.proofs.Common.{◌≡◌, sym, ◌∙◌, ap, true, ℕ, ◌+◌, ◌-◌, ◌≤◌, zero, suc, Bool, inl, inr, [], ◌∷◌, ◌++◌, replicate, if◌then◌else◌, arith}
 use Rattle.std.proofs.lemmas.Bool.{cases_Bool, or_parts, ltb-false}
 use Rattle.yaml_base.specs.Characters.{Text, line_feed, space}
-use Rattle.yaml_base.specs.Cursor.{Cursor, Laid, then_laid, nothing_laid, text_laid, new_line, breaks_line, column_after}
+use Rattle.yaml_base.specs.Cursor.{Cursor, Laid, then_laid, nothing_laid, text_laid, breaks_line, column_after}
 use Rattle.yaml_pen.specs.Lines.{line_begun, line_break_laid, spaces_to}
 
 pub column_after-spaces : (count column : ℕ) → column_after (replicate count space) column ≡ column + count

@@ -13,7 +13,7 @@ use Rattle.yaml_base.specs.Grammar.{Stream, stream_events, documents_events, tre
 use Rattle.yaml_base.specs.Layout.{Piece, text_of, layout}
 use Rattle.yaml_base.specs.Pieces.{list_layout}
 use Rattle.yaml_base.specs.Output.{bytes_written}
-use Rattle.yaml_base.specs.Refusal.{IsAccepted, is_sound}
+use Rattle.yaml_base.specs.Refusal.{IsAccepted}
 use Rattle.yaml_base.specs.Content.{documents_content, content_of}
 use Rattle.yaml_base.specs.CanonicalTokens.{free, tokens_from}
 use Rattle.yaml_base.specs.CanonicalReader.{documents_read, canonical_content}

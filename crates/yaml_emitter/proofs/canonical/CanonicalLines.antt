@@ -1,18 +1,18 @@
 -- What document marks and directives say to the canonical reader.
-use Rattle.std.proofs.Common.{◌≡◌, ◌⊎◌, ℕ, ℤ, pos, negsuc, refl, sym, ap, ◌∙◌, subst, append_assoc, append-nil, arith, inl, inr}
-use Rattle.std.proofs.lemmas.Bool.{and_parts, and_from, or_right, false≢true, eqb-true}
+use Rattle.std.proofs.Common.{◌≡◌, ◌⊎◌, ℕ, refl, sym, ap, ◌∙◌, subst, append_assoc, append-nil, arith, inl, inr}
+use Rattle.std.proofs.lemmas.Bool.{and_parts, and_from}
 use Rattle.std.proofs.lemmas.Bool.Decides.{nat_tests}
 use Rattle.std.proofs.lemmas.List.Folds.{list_all-append}
 use Rattle.std.proofs.lemmas.List.Splits.{slice_split-cons_yes, slice_split-cons_no}
 use Rattle.std.specs.List.{list_all, slice_split, onto_first}
 use Rattle.std.specs.Str.{all_scalars}
-use Rattle.std.specs.Prelude.{Bool, true, false, Option, None, Some, List, [], ◌∷◌, ◌++◌, ◌&&◌, ◌||◌, ◌==◌, not, codes, filter, length, replicate, if◌then◌else◌}
-use Rattle.yaml_base.specs.Characters.{Text, is_alpha, is_blank, space, line_feed}
+use Rattle.std.specs.Prelude.{Bool, true, false, Option, None, Some, List, [], ◌∷◌, ◌++◌, ◌||◌, ◌==◌, not, codes, filter, length, replicate}
+use Rattle.yaml_base.specs.Characters.{Text, is_blank, space, line_feed}
 use Rattle.yaml_base.specs.LineBreaks.{is_read_break}
 use Rattle.yaml_base.specs.Cursor.{Cursor, new_line, space_if}
 use Rattle.yaml_base.specs.Event.{Version, TagDirective}
 use Rattle.yaml_base.specs.Percent.{prefix_escaped}
-use Rattle.yaml_base.specs.Tags.{version_fault, is_the_number, prefix_fault, tag_mark}
+use Rattle.yaml_base.specs.Tags.{version_fault, prefix_fault, tag_mark}
 use Rattle.yaml_base.specs.Indicators.{indicator_laid, spaced, document_start, document_end, yaml_directive}
 use Rattle.yaml_base.specs.Layout.{closing_mark_laid, version_laid, tag_directive_laid, tag_directives_laid, document_mark_laid}
 use Rattle.yaml_base.specs.CanonicalTokens.{version_line, tag_line, document_begins, document_ends, free, in_line, tokens_from, words, directive_token, tag_line_of}

@@ -1,16 +1,16 @@
 -- What accepted events are to the canonical reader: names, tags and directives that it reads.
-use Rattle.std.proofs.Common.{◌≡◌, ℕ, refl, ap}
-use Rattle.std.proofs.lemmas.Bool.{and_parts, false≢true}
+use Rattle.std.proofs.Common.{◌≡◌, refl, ap}
+use Rattle.std.proofs.lemmas.Bool.{and_parts}
 use Rattle.std.specs.List.{list_all}
 use Rattle.std.specs.Option.{option_or}
 use Rattle.std.specs.Str.{all_scalars}
-use Rattle.std.specs.Prelude.{Bool, true, false, Option, None, Some, List, [], ◌∷◌, ◌++◌, ◌&&◌, is_none, option_and_then, if◌then◌else◌}
+use Rattle.std.specs.Prelude.{Bool, true, false, Option, None, Some, List, [], ◌∷◌, ◌++◌, option_and_then, if◌then◌else◌}
 use Rattle.yaml_base.specs.Characters.{Text, is_alpha}
 use Rattle.yaml_base.specs.Event.{Version, TagDirective, Event, document_start, document_end, alias, scalar, sequence_start, mapping_start}
 use Rattle.yaml_base.specs.Tags.{name_fault, anchor_fault, tag_fault, handle_fault, prefix_fault, directive_fault, next_directive_fault, directives_fault_after, directives_fault, version_fault, gives_handle}
-use Rattle.yaml_base.specs.Refusal.{is_sound, name_or_tag_fault, content_fault, properties_fault}
+use Rattle.yaml_base.specs.Refusal.{properties_fault}
 use Rattle.yaml_base.specs.Grammar.{Document, Documents, no_documents, documents_and, node_events, document_events, documents_events}
-use Rattle.yaml_base.specs.Meaning.{has_scalar_texts, option_scalars, directive_scalars}
+use Rattle.yaml_base.specs.Meaning.{option_scalars, directive_scalars}
 use Rattle.yaml_base.proofs.NoFaults.{neither}
 use Rattle.yaml_base.proofs.TagForms.{handle_form}
 use Rattle.yaml_base.proofs.TagReads.{written_tag_reads}

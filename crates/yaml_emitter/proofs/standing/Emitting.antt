@@ -1,5 +1,5 @@
 -- The events that wait are written one after another.
-use Rattle.std.proofs.Common.{ℕ, arith, ◌≡◌, ◌≤◌, ◌<◌, true, None, Result, Ok, Err, List, [], ◌∷◌, ◌++◌, length, take, sym, ap, subst, false, ◌+◌, suc, Bool, refl, ◌∙◌}
+use Rattle.std.proofs.Common.{ℕ, arith, ◌≡◌, ◌≤◌, true, None, Result, Ok, Err, List, [], ◌∷◌, ◌++◌, length, take, sym, ap, subst, false, ◌+◌, suc, Bool, refl, ◌∙◌}
 use Rattle.yaml_base.specs.Settings.{Settings}
 use Rattle.yaml_base.specs.Event.{Event, alias, document_end, document_start, mapping_end, mapping_start, scalar, sequence_end, sequence_start, stream_end, stream_start}
 use Rattle.std.specs.Prelude.{if◌then◌else◌}

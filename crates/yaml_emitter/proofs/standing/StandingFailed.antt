@@ -1,7 +1,7 @@
 -- An emitter that failed stands after the events that it was given, and after those that come later.
 use Rattle.std.proofs.Common.{◌≡◌, refl, sym, ap, ◌∙◌, subst, arith, append_assoc}
 use Rattle.std.proofs.lemmas.Bool.{false≢true}
-use Rattle.std.specs.Prelude.{ℕ, suc, Bool, true, false, Option, None, Some, IsSome, Result, Err, List, [], ◌∷◌, ◌++◌, option_and_then, if◌then◌else◌}
+use Rattle.std.specs.Prelude.{suc, Bool, true, false, Option, None, Some, IsSome, Result, Err, List, [], ◌∷◌, ◌++◌, option_and_then, if◌then◌else◌}
 use Rattle.yaml_base.specs.Settings.{Settings}
 use Rattle.yaml_base.specs.Prefix.{IsPrefix}
 use Rattle.yaml_base.specs.Event.{Event, sequence_start, sequence_end, mapping_start, mapping_end}

@@ -1,7 +1,7 @@
 use Rattle.std.proofs.Common.{◌∙◌, ap, subst, sym, List}
 use Rattle.yaml_base.specs.Event.{Event}
 use Rattle.yaml_base.specs.Settings.{Settings}
-use Rattle.yaml_pen.specs.Page.{Page, all_taken}
+use Rattle.yaml_pen.specs.Page.{Page}
 use Rattle.yaml_emitter.specs.Inside.{IsEmitter, state_of}
 use Rattle.yaml_emitter.specs.State.{State, with_all_taken}
 use Rattle.yaml_emitter.specs.StandsAfter.{StandsAfter}

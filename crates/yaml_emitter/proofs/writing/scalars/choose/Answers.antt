@@ -1,4 +1,4 @@
-use Rattle.std.proofs.Common.{ap, sym, refl, ◌∙◌, Bool}
+use Rattle.std.proofs.Common.{ap, sym, ◌∙◌, Bool}
 use Rattle.yaml_base.specs.Analysis.{allowances, is_empty}
 use Rattle.yaml_base.specs.Event.{double_quoted}
 use Rattle.yaml_base.specs.Style.{Choice, chosen}

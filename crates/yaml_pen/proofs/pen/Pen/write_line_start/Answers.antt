@@ -1,4 +1,4 @@
-use Rattle.std.proofs.Common.{◌≡◌, refl, sym, ◌∙◌, ap, subst, arith, replicate, take, ◌+◌, ◌≤◌, ◌∷◌, ℕ, List, add-one, min}
+use Rattle.std.proofs.Common.{◌≡◌, sym, ◌∙◌, ap, subst, arith, replicate, take, ◌+◌, ◌≤◌, ◌∷◌, ℕ, List, add-one, min}
 use Rattle.std.proofs.lemmas.List.{take-replicate}
 use Rattle.yaml_base.specs.Characters.{line_feed, space}
 use Rattle.yaml_base.specs.Cursor.{column_after, text_laid}
