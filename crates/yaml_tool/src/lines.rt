@@ -1,5 +1,5 @@
 //! The lines of a script.
-ghost use Rattle.std.specs.Prelude.{◌≡◌, true, Some, option_map, option_and_then, IfOk, IfSome};
+ghost use Rattle.std.specs.Prelude.{◌≡◌, true, Some, option_map, option_and_then, codes, IfOk, IfSome};
 ghost use Rattle.std.specs.Str.{chars};
 ghost use Rattle.yaml_base.specs.Script as notation;
 ghost use Rattle.yaml_base.specs.Script.{gives};
@@ -81,7 +81,8 @@ pub fn end_named<A: Allocator>(line: &str) -> Option<yaml_event_t<A>>
 /// Whether a line starts a document that is implicit and has no directives, and says no more.
 #[inline(always)]
 pub fn is_usual_start(line: &str) -> bool
-    ensures { result ≡ true → notation.line_read (chars line.now) ≡ Some (gives usual_start_event) }
+    ensures word { result ≡ notation.is_word (chars line.now) (codes "+DOC 1 -") }
+    ensures starts { result ≡ true → notation.line_read (chars line.now) ≡ Some (gives usual_start_event) }
 {
     is_word(line, "+DOC 1 -")
 }
