@@ -203,15 +203,15 @@ use Rattle.yaml_base.specs.Event.{Event, any_style, plain, single_quoted, double
 use Rattle.yaml_base.specs.Layout.{Body}
 use Rattle.yaml_base.specs.Pieces.{completion, list_layout, pieces}
 use Rattle.yaml_base.specs.Output.{settings_for, output_of}
-use Rattle.yaml_base.specs.Content.{DocumentContent, tagged, untagged, alias_content, scalar_content, sequence_content, mapping_content, no_contents, contents_and, no_content_pairs, content_pairs_and, content_of}
-use Rattle.yaml_base.specs.CanonicalReader.{canonical_content}
-use Rattle.yaml_base.specs.StreamContent.{DocumentTree, stood_plain, stood_quoted, stood_bare, with_tag, without_tag, alias_tree, scalar_tree, sequence_tree, mapping_tree, no_trees, trees_and, no_tree_pairs, tree_pairs_and, agrees}
-use Rattle.yaml_base.specs.StreamReader.{stream_trees}
-use Rattle.yaml_base.specs.Meetings.{GraphNode, Graph, decimal_digits, scalar_held, sequence_held, mapping_held, document_event_list}
-use Rattle.yaml_base.specs.Script.{Script, bad_line, understood, script_of}
-use Rattle.yaml_base.specs.Resolved.{meant_null, meant_boolean, meant_integer, meant_decimal, meant_infinity, meant_nan, meant_timestamp, meant_merge, meant_value, meant_text, meant_by_nobody}
-use Rattle.yaml_base.specs.SchemaOf11.{resolved_by_11}
-use Rattle.yaml_base.specs.SchemaCore.{resolved_by_core}
+use Rattle.yaml_base.specs.reading.Content.{DocumentContent, tagged, untagged, alias_content, scalar_content, sequence_content, mapping_content, no_contents, contents_and, no_content_pairs, content_pairs_and, content_of}
+use Rattle.yaml_base.specs.reading.CanonicalReader.{canonical_content}
+use Rattle.yaml_base.specs.streams.StreamContent.{DocumentTree, stood_plain, stood_quoted, stood_bare, with_tag, without_tag, alias_tree, scalar_tree, sequence_tree, mapping_tree, no_trees, trees_and, no_tree_pairs, tree_pairs_and, agrees}
+use Rattle.yaml_base.specs.streams.StreamReader.{stream_trees}
+use Rattle.yaml_base.specs.graphs.Meetings.{GraphNode, Graph, decimal_digits, scalar_held, sequence_held, mapping_held, document_event_list}
+use Rattle.yaml_base.specs.scripts.Script.{Script, bad_line, understood, script_of}
+use Rattle.yaml_base.specs.values.Resolved.{meant_null, meant_boolean, meant_integer, meant_decimal, meant_infinity, meant_nan, meant_timestamp, meant_merge, meant_value, meant_text, meant_by_nobody}
+use Rattle.yaml_base.specs.values.SchemaOf11.{resolved_by_11}
+use Rattle.yaml_base.specs.values.SchemaCore.{resolved_by_core}
 use Rattle.yaml_base.specs.declared.errors.yaml_error_t.TheVariants.{%s}
 use Rattle.yaml_base.proofs.ComparedCommon.{written_after_each, refusals_after, texts, bodies, tidy_bodies, read_by, read_back}
 """ % ", ".join(ERRORS)

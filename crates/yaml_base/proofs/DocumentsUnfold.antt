@@ -11,8 +11,8 @@ use Rattle.std.proofs.lemmas.Slice.Eq.{bytes_eq-Decides}
 use Rattle.yaml_base.specs.Characters.{Text}
 use Rattle.yaml_base.specs.Event.{Event, document_start, document_end}
 use Rattle.yaml_base.specs.Grammar.{node_events}
-use Rattle.yaml_base.specs.Meetings.{Graph, Step, enters, leaves, meets_again, is_entry_of, steps, node_met_again, anchor_of, step_events, document_event_list}
-use Rattle.yaml_base.specs.Unfolding.{Placed, Occurrence, alias_occurrence, node_occurrence, occurrences, carries, is_occurrence_of, IsNamed, AreNamed, IsReached, first_reached, child_reached, TreeUnfolds, IsDocument, EventsUnfold}
+use Rattle.yaml_base.specs.graphs.Meetings.{Graph, Step, enters, leaves, meets_again, is_entry_of, steps, node_met_again, anchor_of, step_events, document_event_list}
+use Rattle.yaml_base.specs.graphs.Unfolding.{Placed, Occurrence, alias_occurrence, node_occurrence, occurrences, carries, is_occurrence_of, IsNamed, AreNamed, IsReached, first_reached, child_reached, TreeUnfolds, IsDocument, EventsUnfold}
 use Rattle.yaml_base.proofs.SharedNodes.{has, shared_named, anchors_differ}
 use Rattle.yaml_base.proofs.UnfoldSteps.{FollowEntries, is_meeting_of, IsOrderly, orderly_steps}
 use Rattle.yaml_base.proofs.UnfoldTrees.{placed_steps, Fits, Walks, walk_placed, root_met, children_met, place_of, places_are}

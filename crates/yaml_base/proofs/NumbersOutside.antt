@@ -4,8 +4,8 @@ use Rattle.std.specs.List.{list_all, flat_map}
 use Rattle.std.proofs.lemmas.List.{length-map}
 use Rattle.std.specs.Option.{option_or}
 use Rattle.std.proofs.lemmas.List.Folds.{find-append}
-use Rattle.yaml_base.specs.Meetings.{numbers_held, is_whole}
-use Rattle.yaml_base.specs.SeenNodes.{seen_number, seen_pair, seen_held, seen_node, seen_document, names_node, numbers_of, numbers_of_pairs, all_numbers, first_outside}
+use Rattle.yaml_base.specs.graphs.Meetings.{numbers_held, is_whole}
+use Rattle.yaml_base.specs.graphs.SeenNodes.{seen_number, seen_pair, seen_held, seen_node, seen_document, names_node, numbers_of, numbers_of_pairs, all_numbers, first_outside}
 use Rattle.yaml_base.specs.declared.directives.yaml_version_directive_t.{yaml_version_directive_t}
 use Rattle.yaml_base.specs.declared.directives.yaml_tag_directive_t.{yaml_tag_directive_t}
 use Rattle.yaml_base.specs.declared.nodes.yaml_node_pair_t.{yaml_node_pair_t}

@@ -9,7 +9,7 @@ use Rattle.std.proofs.lemmas.Bool.Decides.{nat_tests}
 use Rattle.std.proofs.lemmas.List.Quantifiers.{position-Some}
 use Rattle.std.proofs.lemmas.Str.{digit_value_digit}
 use Rattle.yaml_base.specs.Characters.{Text}
-use Rattle.yaml_base.specs.Meetings.{Step, node_met_again, first_of_each, shared_nodes, decimal_digits, numbered_name, anchor_of}
+use Rattle.yaml_base.specs.graphs.Meetings.{Step, node_met_again, first_of_each, shared_nodes, decimal_digits, numbered_name, anchor_of}
 
 -- a list has a number
 abbrev pub has : ℕ → List ℕ → Bool

@@ -7,7 +7,7 @@ use Rattle.std.specs.List.{list_all}
 use lib.Utf8.{scalar, scalars}
 use Rattle.yaml_base.specs.Characters.{Text, is_alpha}
 use Rattle.yaml_base.specs.Event.{TagDirective}
-use Rattle.yaml_base.specs.ReadTags.{prefix_among, directives_assumed, without_end_sign}
+use Rattle.yaml_base.specs.reading.ReadTags.{prefix_among, directives_assumed, without_end_sign}
 use Rattle.yaml_base.specs.Tags.{tag_mark, last_from, without_last, handle_fault, directive_fault, gives_handle, next_directive_fault, directives_fault_after, directives_fault, directives_in_force, behind, Spelling, shorthand, verbatim, spelling_by, spelling, spelled}
 use Rattle.yaml_base.proofs.NoFaults.{neither, not_given}
 use Rattle.yaml_base.specs.declared.errors.yaml_error_t.TheVariants.{TagHandleStart, TagHandleEnd, TagHandleAlphabet, DuplicateDirective}

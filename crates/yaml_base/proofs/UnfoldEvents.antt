@@ -6,8 +6,8 @@ use Rattle.std.proofs.lemmas.Grind.{flat_map-append}
 use Rattle.yaml_base.specs.Characters.{Text}
 use Rattle.yaml_base.specs.Event.{Event, alias, sequence_end, mapping_end}
 use Rattle.yaml_base.specs.Grammar.{Node, alias_node, scalar_node, sequence_node, mapping_node, Nodes, no_nodes, nodes_and, Pairs, no_pairs, pairs_and, node_events, nodes_events, pairs_events}
-use Rattle.yaml_base.specs.Meetings.{Graph, GraphNode, NumberPair, Held, scalar_held, sequence_held, mapping_held, Step, leaves, node_numbered, numbers_held, numbers_in, children, string_tag, sequence_tag, mapping_tag, beginning_of, beginning_events, ending_of, ending_events, anchor_of, step_events}
-use Rattle.yaml_base.specs.Unfolding.{Placed, alias_placed, node_placed, PlacedAll, none_placed, placed_and, numbers_at, no_shapes, node_shape_of, nodes_shapes, pairs_shapes, label_of, HasShape, HaveShapes}
+use Rattle.yaml_base.specs.graphs.Meetings.{Graph, GraphNode, NumberPair, Held, scalar_held, sequence_held, mapping_held, Step, leaves, node_numbered, numbers_held, numbers_in, children, string_tag, sequence_tag, mapping_tag, beginning_of, beginning_events, ending_of, ending_events, anchor_of, step_events}
+use Rattle.yaml_base.specs.graphs.Unfolding.{Placed, alias_placed, node_placed, PlacedAll, none_placed, placed_and, numbers_at, no_shapes, node_shape_of, nodes_shapes, pairs_shapes, label_of, HasShape, HaveShapes}
 use Rattle.yaml_base.proofs.UnfoldTrees.{placed_steps, below_steps, Fits, AllFit}
 
 -- ---- the tree of events

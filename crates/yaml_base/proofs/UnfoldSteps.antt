@@ -8,8 +8,8 @@ use Rattle.std.proofs.lemmas.Bool.{cases_eq, or_cases, eqb-true}
 use Rattle.std.proofs.lemmas.List.Elements.{Contains-append_left, Contains-append_right}
 use Rattle.std.proofs.lemmas.List.Folds.{list_any-append}
 use Rattle.std.proofs.lemmas.List.Sums.{sum_by-append}
-use Rattle.yaml_base.specs.Meetings.{Graph, Step, enters, leaves, meets_again, children, is_entry_of, steps_from}
-use Rattle.yaml_base.specs.Unfolding.{IsReached, child_reached}
+use Rattle.yaml_base.specs.graphs.Meetings.{Graph, Step, enters, leaves, meets_again, children, is_entry_of, steps_from}
+use Rattle.yaml_base.specs.graphs.Unfolding.{IsReached, child_reached}
 
 -- the steps from a node that was entered before or not
 abbrev pub from_node : ℕ → Graph → List Step → ℕ → Bool → List Step

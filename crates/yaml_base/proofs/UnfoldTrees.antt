@@ -7,8 +7,8 @@ use Rattle.std.proofs.lemmas.Bool.{cases_eq, or_cases, eqb-true, leb-true}
 use Rattle.std.proofs.lemmas.List.Elements.{Contains-append_cases, filter_map-append}
 use Rattle.std.proofs.lemmas.List.Folds.{list_any-append}
 use Rattle.yaml_base.specs.Characters.{Text}
-use Rattle.yaml_base.specs.Meetings.{Graph, GraphNode, Step, enters, leaves, meets_again, node_numbered, numbers_held, numbers_in, children, is_entry_of, steps_from, is_whole}
-use Rattle.yaml_base.specs.Unfolding.{Placed, alias_placed, node_placed, PlacedAll, none_placed, placed_and, number_at, numbers_at, Occurrence, alias_occurrence, node_occurrence, occurrences, occurrences_below}
+use Rattle.yaml_base.specs.graphs.Meetings.{Graph, GraphNode, Step, enters, leaves, meets_again, node_numbered, numbers_held, numbers_in, children, is_entry_of, steps_from, is_whole}
+use Rattle.yaml_base.specs.graphs.Unfolding.{Placed, alias_placed, node_placed, PlacedAll, none_placed, placed_and, number_at, numbers_at, Occurrence, alias_occurrence, node_occurrence, occurrences, occurrences_below}
 use Rattle.yaml_base.proofs.UnfoldSteps.{from_node, none_added, is_meeting_of}
 
 -- the steps of the walk over a tree

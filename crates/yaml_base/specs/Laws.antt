@@ -7,7 +7,7 @@ use Rattle.yaml_base.specs.Encoding.{cut}
 use Rattle.yaml_base.specs.Decode.{decode}
 use Rattle.yaml_base.specs.Event.{Event}
 use Rattle.yaml_base.specs.Grammar.{Stream, stream_events, tree_of}
-use Rattle.yaml_base.specs.ReadPlain.{is_read_white, begins_white, begins_with_hash, read_plain}
+use Rattle.yaml_base.specs.reading.ReadPlain.{is_read_white, begins_white, begins_with_hash, read_plain}
 use Rattle.yaml_base.specs.Pieces.{list_layout}
 use Rattle.yaml_base.specs.Output.{settings_for, text_written, bytes_written, output_of}
 

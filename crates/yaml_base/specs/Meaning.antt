@@ -7,16 +7,16 @@ use Rattle.yaml_base.specs.Characters.{Text}
 use Rattle.yaml_base.specs.Settings.{Encoding, Settings, Effective, effective}
 use Rattle.yaml_base.specs.LineBreaks.{is_indented_text, with_breaks_written, with_line_breaks_read}
 use Rattle.yaml_base.specs.Event.{ScalarStyle, any_style, plain, single_quoted, double_quoted, literal, folded, TagDirective, Event, document_start, scalar, sequence_start, mapping_start}
-use Rattle.yaml_base.specs.ReadPlain.{read_plain}
-use Rattle.yaml_base.specs.ReadSingle.{read_single}
-use Rattle.yaml_base.specs.ReadDouble.{read_double}
-use Rattle.yaml_base.specs.ReadBlock.{read_block}
+use Rattle.yaml_base.specs.reading.ReadPlain.{read_plain}
+use Rattle.yaml_base.specs.reading.ReadSingle.{read_single}
+use Rattle.yaml_base.specs.reading.ReadDouble.{read_double}
+use Rattle.yaml_base.specs.reading.ReadBlock.{read_block}
 use Rattle.yaml_base.specs.Refusal.{IsAccepted}
 use Rattle.yaml_base.specs.NodeLayout.{Body, bodies_of}
 use Rattle.yaml_base.specs.Pieces.{list_layout}
 use Rattle.yaml_base.specs.Output.{bytes_written}
-use Rattle.yaml_base.specs.Content.{content_of}
-use Rattle.yaml_base.specs.CanonicalReader.{canonical_content}
+use Rattle.yaml_base.specs.reading.Content.{content_of}
+use Rattle.yaml_base.specs.reading.CanonicalReader.{canonical_content}
 
 -- the rules of a style: plain text is read in flow or in block, a block scalar in a block whose entries stand at a
 -- column; `any` is no style of a text

@@ -7,14 +7,14 @@ use Rattle.yaml_base.specs.Indicators as indicators
 use Rattle.yaml_base.specs.Event.{ScalarStyle, plain, single_quoted, literal, folded, CollectionStyle, flow, TagDirective, Scalar, Collection}
 use Rattle.yaml_base.specs.Percent.{percent_escaped, suffix_escaped}
 use Rattle.yaml_base.specs.Tags.{Spelling, shorthand, verbatim, spelling}
-use Rattle.yaml_base.specs.Analysis.{is_empty, allowances}
-use Rattle.yaml_base.specs.Style.{Choice, chosen}
-use Rattle.yaml_base.specs.Plain.{plain_body}
-use Rattle.yaml_base.specs.SingleQuoted.{single_quoted_body}
-use Rattle.yaml_base.specs.DoubleQuoted.{double_quoted_body}
-use Rattle.yaml_base.specs.BlockHeader.{header_mark}
-use Rattle.yaml_base.specs.Literal.{literal_body}
-use Rattle.yaml_base.specs.Folded.{folded_body}
+use Rattle.yaml_base.specs.scalars.Analysis.{is_empty, allowances}
+use Rattle.yaml_base.specs.scalars.Style.{Choice, chosen}
+use Rattle.yaml_base.specs.scalars.Plain.{plain_body}
+use Rattle.yaml_base.specs.scalars.SingleQuoted.{single_quoted_body}
+use Rattle.yaml_base.specs.scalars.DoubleQuoted.{double_quoted_body}
+use Rattle.yaml_base.specs.scalars.BlockHeader.{header_mark}
+use Rattle.yaml_base.specs.scalars.Literal.{literal_body}
+use Rattle.yaml_base.specs.scalars.Folded.{folded_body}
 use Rattle.yaml_base.specs.Grammar.{Node, alias_node, scalar_node, sequence_node, mapping_node, Nodes, no_nodes, nodes_and, Pairs, no_pairs, pairs_and}
 use Rattle.yaml_base.specs.Refusal.{scalar_tag, collection_tag}
 use Rattle.yaml_base.specs.Places.{Role, as_item, as_key, as_value, Place, is_in_mapping, line_column, deeper, entries_column, has_no_nodes, has_no_pairs, is_simple, is_simple_at, place_laid}

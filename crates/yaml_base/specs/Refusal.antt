@@ -6,7 +6,7 @@ use Rattle.std.specs.List.{list_all}
 use Rattle.yaml_base.specs.Characters.{Text}
 use Rattle.yaml_base.specs.Event.{Scalar, Collection, Event, document_start, alias, scalar, sequence_start, sequence_end, mapping_start, mapping_end}
 use Rattle.yaml_base.specs.Tags.{anchor_fault, alias_fault, tag_fault, version_fault, directives_fault}
-use Rattle.yaml_base.specs.Style.{lacks_tag_and_flags}
+use Rattle.yaml_base.specs.scalars.Style.{lacks_tag_and_flags}
 use Rattle.yaml_base.specs.Grammar.{Level, Partial, before_stream, between_documents, within_document, after_root, after_stream, push, partial_of, Stream, stream_events}
 use Rattle.yaml_base.specs.declared.errors.yaml_error_t.{yaml_error_t}
 use Rattle.yaml_base.specs.declared.errors.yaml_error_t.TheVariants.{ExpectedStreamStart, ExpectedDocumentStart, ExpectedDocumentEnd, ExpectedNode, ExpectedNothing, NoTagNorImplicit, TooDeep}

@@ -1,9 +1,9 @@
 //! Documents as graphs of numbered nodes.
 ghost use Rattle.std.specs.Prelude.{true, ◌≡◌, ◌≤◌, None, Some, pos, map, option_map, length, vec_len, slice_get, is_none, IsTrue, MatchResult, IfOk, ◌==◌};
-ghost use Rattle.yaml_base.specs.Meetings.{node_numbered};
+ghost use Rattle.yaml_base.specs.graphs.Meetings.{node_numbered};
 ghost use Rattle.yaml_base.specs.Seen.{seen_version, seen_directive};
-ghost use Rattle.yaml_base.specs.Meetings.{is_whole};
-ghost use Rattle.yaml_base.specs.SeenNodes.{seen_number, seen_node, seen_document, names_node as is_named, numbers_of, numbers_of_pairs, all_numbers, first_outside};
+ghost use Rattle.yaml_base.specs.graphs.Meetings.{is_whole};
+ghost use Rattle.yaml_base.specs.graphs.SeenNodes.{seen_number, seen_node, seen_document, names_node as is_named, numbers_of, numbers_of_pairs, all_numbers, first_outside};
 ghost use Rattle.yaml_base.specs.Settings.{largest_i32};
 
 use crate::directives::{yaml_tag_directive_t, yaml_version_directive_t};
@@ -94,7 +94,7 @@ fn outside_nodes<A: Allocator>(count: usize, nodes: &[yaml_node_t<A>]) -> Option
 }
 
 impl<A: Allocator> yaml_document_t<A> {
-    ghost use Rattle.yaml_base.specs.Documents.{graph_of};
+    ghost use Rattle.yaml_base.specs.graphs.Documents.{graph_of};
 
     /// A document of these nodes, or the first number that names none of them, in the order of
     /// nodes, items, and keys before values. What was handed in is then dropped.

@@ -6,7 +6,7 @@ ghost use Rattle.yaml_base.specs.Layout.{OnePieceEach};
 ghost use Rattle.yaml_base.specs.Pieces.{PiecesStand};
 ghost use Rattle.yaml_base.specs.Ready.{ReadyStays, WholeStreamIsReady};
 ghost use Rattle.yaml_base.specs.Refusal.{RefusedExactly};
-ghost use Rattle.yaml_base.specs.Unfolding.{DocumentsUnfold};
+ghost use Rattle.yaml_base.specs.graphs.Unfolding.{DocumentsUnfold};
 
 /// A list of events is the events of at most one tree.
 pub fn list_has_one_tree()

@@ -1,6 +1,6 @@
 //! Scripts of events, run from memory to memory.
 ghost use Rattle.std.specs.Prelude.{◌≡◌, ℕ, List, [], Some};
-ghost use Rattle.yaml_base.specs.Script.{script_of};
+ghost use Rattle.yaml_base.specs.scripts.Script.{script_of};
 ghost use Rattle.yaml_tool.specs.Runs.{Tells};
 ghost use Rattle.yaml_c.specs.Answers.{HandsOut, IsRun};
 

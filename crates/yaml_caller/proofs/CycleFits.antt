@@ -4,7 +4,7 @@ use Rattle.std.specs.Prelude.{ℕ, ◌==◌, ◌≤◌, Bool, true, false, None,
 use Rattle.std.specs.Char.{encode_utf8}
 use Rattle.yaml_base.specs.Event.{any_style, block, stream_end}
 use Rattle.yaml_base.specs.Grammar.{Stream, no_documents, documents_and, no_pairs, pairs_and, alias_node, scalar_node, mapping_node}
-use Rattle.yaml_base.specs.Meetings.{Graph, string_tag, mapping_tag, decimal_digits, document_event_list}
+use Rattle.yaml_base.specs.graphs.Meetings.{Graph, string_tag, mapping_tag, decimal_digits, document_event_list}
 use Rattle.yaml_base.specs.Refusal.{IsAccepted, open_count, most_open}
 use Rattle.yaml_base.specs.Output.{output_of}
 use Rattle.yaml_base.specs.declared.errors.yaml_error_t.{yaml_error_t}

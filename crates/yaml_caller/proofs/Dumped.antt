@@ -5,12 +5,12 @@ use Rattle.std.specs.Prelude.{ℕ, ◌==◌, ◌||◌, Bool, true, false, None, 
 use Rattle.std.specs.Char.{encode_utf8}
 use Rattle.yaml_base.specs.Characters.{Text}
 use Rattle.yaml_base.specs.Event.{Event, any_style, block, stream_start, stream_end}
-use Rattle.yaml_base.specs.Meetings.{NumberPair, GraphNode, Graph, scalar_held, mapping_held, decimal_digits, document_event_list}
-use Rattle.yaml_base.specs.Dumped.{AreDumped}
+use Rattle.yaml_base.specs.graphs.Meetings.{NumberPair, GraphNode, Graph, scalar_held, mapping_held, decimal_digits, document_event_list}
+use Rattle.yaml_base.specs.graphs.Dumped.{AreDumped}
 use Rattle.yaml_base.specs.Ready.{held_back}
 use Rattle.yaml_base.specs.Output.{output_of}
-use Rattle.yaml_base.specs.StreamLaw.{is_portable}
-use Rattle.yaml_base.specs.Unfolding.{IsDocument}
+use Rattle.yaml_base.specs.streams.StreamLaw.{is_portable}
+use Rattle.yaml_base.specs.graphs.Unfolding.{IsDocument}
 use Rattle.yaml_base.specs.declared.errors.yaml_error_t.{yaml_error_t}
 use Rattle.yaml_dump.specs.Dumps.{Dumps, EmitsAll, opening, closing}
 use Rattle.yaml_emitter.specs.State.{State}

@@ -6,7 +6,7 @@ use Rattle.yaml_base.specs.Characters.{Text}
 use Rattle.yaml_base.specs.Event.{Event, ScalarStyle, block, plain, single_quoted, scalar, sequence_start, sequence_end}
 use Rattle.yaml_base.specs.Output.{output_of}
 use Rattle.yaml_base.specs.Settings.{Settings}
-use Rattle.yaml_base.specs.TypedValues.{null_tag}
+use Rattle.yaml_base.specs.values.TypedValues.{null_tag}
 use Rattle.yaml_emitter.specs.State.{State}
 use Rattle.yaml_writer.specs.Given.{default_settings}
 use Rattle.yaml_writer.specs.Writing.{WriterState, AddsAll, Gave, EndsInnermost, Finishes, StandsTaken, closing, end_event, entered, null_event, opening, sequence_event, tag_or, text_event, text_style}

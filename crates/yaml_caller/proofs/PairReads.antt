@@ -3,8 +3,8 @@ use Rattle.std.proofs.Common.{◌≡◌, refl, ap, ◌∙◌, subst}
 use Rattle.std.specs.Prelude.{true, false, List, [], Result, Ok, Err, OnOk, IfOk, Vec, ℕ}
 use Rattle.yaml_base.specs.Characters.{Text}
 use Rattle.yaml_base.specs.Event.{TagDirective, Event}
-use Rattle.yaml_base.specs.StreamContent.{agrees}
-use Rattle.yaml_base.specs.StreamReader.{stream_trees}
+use Rattle.yaml_base.specs.streams.StreamContent.{agrees}
+use Rattle.yaml_base.specs.streams.StreamReader.{stream_trees}
 use Rattle.yaml_base.specs.declared.errors.yaml_error_t.{yaml_error_t}
 use Rattle.yaml_pen.specs.Page.{told}
 use Rattle.yaml_emitter.specs.State.{State}

@@ -2,7 +2,7 @@
 use Rattle.std.proofs.Common.{◌≡◌, sym, ap, ◌∙◌, subst}
 use Rattle.std.proofs.lemmas.Slice.Eq.{bytes_eq-Decides}
 use Rattle.std.specs.Prelude.{ℕ, Bool, Decides, List, bytes_eq}
-use Rattle.yaml_base.specs.TypedValues.{TypedValue, ReadsAs, WritesValue, typed_output}
+use Rattle.yaml_base.specs.values.TypedValues.{TypedValue, ReadsAs, WritesValue, typed_output}
 
 pub same_decides : (first second : TypedValue) (first_bytes second_bytes : List ℕ) (answer : Bool) → WritesValue first first_bytes
     → WritesValue second second_bytes

@@ -1,7 +1,7 @@
 -- A document that holds itself, and its canonical bytes.
 use Rattle.std.specs.Prelude.{ℕ, true, None, List, [], ◌∷◌, codes}
 use Rattle.yaml_base.specs.Event.{any_style, block}
-use Rattle.yaml_base.specs.Meetings.{Graph, GraphNode, scalar_held, mapping_held, string_tag, mapping_tag}
+use Rattle.yaml_base.specs.graphs.Meetings.{Graph, GraphNode, scalar_held, mapping_held, string_tag, mapping_tag}
 
 -- a mapping that is the value of its own key, node 2
 abbrev pub map_node : GraphNode

@@ -1,9 +1,9 @@
 //! A caller of dumps: it writes a document that holds itself, and proves the bytes and that they tell the graph.
 ghost use Rattle.std.specs.Prelude.{◌≡◌, IfOk, IfErr, OnOk, pos, true, false, None, [], ◌∷◌, codes, length, map};
-ghost use Rattle.yaml_base.specs.Documents.{graph_of};
-ghost use Rattle.yaml_base.specs.Dumped.{GraphsRead};
+ghost use Rattle.yaml_base.specs.graphs.Documents.{graph_of};
+ghost use Rattle.yaml_base.specs.graphs.Dumped.{GraphsRead};
 ghost use Rattle.yaml_dump.specs.GraphTrees.{GraphsReadBack};
-ghost use Rattle.yaml_base.specs.SeenNodes.{all_numbers, numbers_of, seen_node};
+ghost use Rattle.yaml_base.specs.graphs.SeenNodes.{all_numbers, numbers_of, seen_node};
 ghost use Rattle.yaml_emitter.specs.StandsAfter.{StandsAfter};
 ghost use Rattle.yaml_caller.specs.Letter.{letter_settings};
 ghost use Rattle.yaml_caller.specs.Cycle.{cycle_bytes, cycle_graph, key_node, map_node};

@@ -1,8 +1,8 @@
 //! A caller in portable mode: it writes a mapping of one text to another, and proves that both are read of the bytes.
 ghost use Rattle.std.specs.Prelude.{◌≡◌, IfOk, OnOk, true, false, []};
 ghost use Rattle.yaml_base.specs.Seen.{seen_event, seen_text};
-ghost use Rattle.yaml_base.specs.StreamContent.{agrees};
-ghost use Rattle.yaml_base.specs.StreamReader.{stream_trees};
+ghost use Rattle.yaml_base.specs.streams.StreamContent.{agrees};
+ghost use Rattle.yaml_base.specs.streams.StreamReader.{stream_trees};
 ghost use Rattle.yaml_emitter.specs.StandsAfter.{StandsAfter};
 ghost use Rattle.yaml_caller.specs.Pair.{pair_events, portable_settings, text_scalar};
 

@@ -1,6 +1,6 @@
 //! A caller of typed values: it compares values by their canonical bytes, as a store that hashes them does.
 ghost use Rattle.std.specs.Prelude.{◌≡◌, ◌⊎◌, ◌<◌, Decides, Err, IfOk, IfErr};
-ghost use Rattle.yaml_base.specs.TypedValues.{most_nested, nesting};
+ghost use Rattle.yaml_base.specs.values.TypedValues.{most_nested, nesting};
 ghost use Rattle.yaml_value.specs.SeenValues.{seen_value};
 
 use std::alloc::Allocator;

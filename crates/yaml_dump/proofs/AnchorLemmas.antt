@@ -7,7 +7,7 @@ use Rattle.std.proofs.lemmas.List.{length-map, append-nil, get_or-set_same, get_
 use Rattle.std.proofs.lemmas.List.Elements.{filter-append, filter_map-append}
 use Rattle.std.proofs.lemmas.List.Folds.{position_or_len_push, list_all-map}
 use Rattle.std.proofs.lemmas.List.Sums.{prefix_len-le-length, AllPass-from_list_all}
-use Rattle.yaml_base.specs.Meetings.{Step, enters, leaves, meets_again, first_of_each, node_met_again, shared_nodes, anchor_of, numbered_name}
+use Rattle.yaml_base.specs.graphs.Meetings.{Step, enters, leaves, meets_again, first_of_each, node_met_again, shared_nodes, anchor_of, numbered_name}
 use Rattle.yaml_base.proofs.SharedNodes.{has, has_first, has_position}
 use Rattle.yaml_dump.specs.declared.steps.Step as declared
 use Rattle.yaml_dump.specs.declared.steps.Step.TheVariants.{Enters, Leaves, MeetsAgain}

@@ -4,8 +4,8 @@ use Rattle.std.specs.Prelude.{IfSome, nat_le, ◌&&◌, ◌^◌}
 use Rattle.std.specs.List.{slice_get, list_all}
 use Rattle.std.proofs.lemmas.Bool.{leb-true}
 use Rattle.std.proofs.lemmas.Option.{slice_get_past, slice_get_within}
-use Rattle.yaml_base.specs.Meetings.{Graph, GraphNode, numbers_held, numbers_in, children, is_whole}
-use Rattle.yaml_base.specs.SeenNodes.{seen_number, seen_pair}
+use Rattle.yaml_base.specs.graphs.Meetings.{Graph, GraphNode, numbers_held, numbers_in, children, is_whole}
+use Rattle.yaml_base.specs.graphs.SeenNodes.{seen_number, seen_pair}
 use Rattle.yaml_base.specs.declared.nodes.yaml_node_pair_t.{yaml_node_pair_t}
 use Rattle.yaml_base.proofs.UnfoldTrees.{both_true}
 use Rattle.yaml_dump.specs.WalkState.{pair_numbers}

@@ -6,7 +6,7 @@ use Rattle.std.proofs.lemmas.Grind.{flat_map-append}
 use Rattle.std.proofs.lemmas.List.{append-nil, map-append}
 use Rattle.yaml_base.specs.Characters.{Text}
 use Rattle.yaml_base.specs.Event.{Event}
-use Rattle.yaml_base.specs.Meetings.{Graph, Step, enters, node_numbered, beginning_events, step_events}
+use Rattle.yaml_base.specs.graphs.Meetings.{Graph, Step, enters, node_numbered, beginning_events, step_events}
 use Rattle.yaml_base.specs.Seen.{seen_event, seen_events}
 use Rattle.yaml_base.specs.declared.events.yaml_event_t.{yaml_event_t}
 use Rattle.yaml_dump.specs.Anchors.{IsNumbered, HasPlaces, anchor_of_place, is_numbered}

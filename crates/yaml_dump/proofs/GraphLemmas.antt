@@ -7,15 +7,15 @@ use Rattle.yaml_base.specs.Settings.{Settings}
 use Rattle.yaml_base.specs.Event.{Event, stream_end}
 use Rattle.yaml_base.specs.Ready.{written}
 use Rattle.yaml_base.specs.Seen.{seen_event, seen_events}
-use Rattle.yaml_base.specs.Meetings.{Graph, Step, steps, document_event_list}
-use Rattle.yaml_base.specs.Unfolding.{IsDocument, EventsUnfold}
-use Rattle.yaml_base.specs.Dumped.{AreDumped, GraphsRead}
+use Rattle.yaml_base.specs.graphs.Meetings.{Graph, Step, steps, document_event_list}
+use Rattle.yaml_base.specs.graphs.Unfolding.{IsDocument, EventsUnfold}
+use Rattle.yaml_base.specs.graphs.Dumped.{AreDumped, GraphsRead}
 use Rattle.yaml_base.specs.declared.errors.yaml_error_t.{yaml_error_t}
 use Rattle.yaml_base.specs.declared.events.yaml_event_t.{yaml_event_t}
 use Rattle.yaml_base.proofs.QueueLaws.{stream_written}
 use Rattle.yaml_base.proofs.DocumentsUnfold.{document_unfolds}
-use Rattle.yaml_base.specs.StreamContent.{DocumentTree, agrees}
-use Rattle.yaml_base.specs.StreamReader.{stream_trees}
+use Rattle.yaml_base.specs.streams.StreamContent.{DocumentTree, agrees}
+use Rattle.yaml_base.specs.streams.StreamReader.{stream_trees}
 use Rattle.yaml_base.proofs.ContentsUnfold.{dumped_stream}
 use Rattle.yaml_dump.specs.Dumps.{EmitsAll, EmitsEach, ReadsGraphs, opening, closing}
 use Rattle.yaml_dump.specs.Events.{walk_events}

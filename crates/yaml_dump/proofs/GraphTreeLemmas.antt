@@ -12,11 +12,11 @@ use Rattle.yaml_base.specs.Characters.{Text}
 use Rattle.yaml_base.specs.Event.{Version, TagDirective, Scalar, Event, stream_end, document_start, document_end, scalar, sequence_start, sequence_end, mapping_start, mapping_end}
 use Rattle.yaml_base.specs.Grammar.{Node, alias_node, scalar_node, sequence_node, mapping_node, Nodes, no_nodes, nodes_and, Pairs, no_pairs, pairs_and, Document, Documents, no_documents, documents_and, Stream, node_events, nodes_events, pairs_events, document_events, documents_events, tree_of}
 use Rattle.yaml_base.specs.Refusal.{scalar_tag, collection_tag}
-use Rattle.yaml_base.specs.Content.{content_tag, node_content, nodes_content, pairs_content, document_content, documents_content}
-use Rattle.yaml_base.specs.Meetings.{Graph, GraphNode, Held, scalar_held, sequence_held, mapping_held, Step, enters, leaves, meets_again, steps, string_tag, sequence_tag, mapping_tag, beginning_of, beginning_events, ending_of, ending_events, step_events, document_event_list}
-use Rattle.yaml_base.specs.Unfolding.{NodeKind, scalar_kind, sequence_kind, mapping_kind, Shape, alias_shape, node_shape, Shapes, no_shapes, shapes_and, Unfolds, content_shape, contents_shapes, content_pairs_shapes, tag_told}
-use Rattle.yaml_base.specs.Dumped.{AreDumped, ContentsUnfold}
-use Rattle.yaml_base.specs.StreamContent.{Tagging, with_tag, without_tag, Tree, alias_tree, scalar_tree, sequence_tree, mapping_tree, Trees, no_trees, trees_and, TreePairs, no_tree_pairs, tree_pairs_and, DocumentTree, is_same_text, tagging_agrees, tree_agrees, trees_agree, tree_pairs_agree, is_same_version, are_same_directives, document_agrees, documents_in_order, documents_agree}
+use Rattle.yaml_base.specs.reading.Content.{content_tag, node_content, nodes_content, pairs_content, document_content, documents_content}
+use Rattle.yaml_base.specs.graphs.Meetings.{Graph, GraphNode, Held, scalar_held, sequence_held, mapping_held, Step, enters, leaves, meets_again, steps, string_tag, sequence_tag, mapping_tag, beginning_of, beginning_events, ending_of, ending_events, step_events, document_event_list}
+use Rattle.yaml_base.specs.graphs.Unfolding.{NodeKind, scalar_kind, sequence_kind, mapping_kind, Shape, alias_shape, node_shape, Shapes, no_shapes, shapes_and, Unfolds, content_shape, contents_shapes, content_pairs_shapes, tag_told}
+use Rattle.yaml_base.specs.graphs.Dumped.{AreDumped, ContentsUnfold}
+use Rattle.yaml_base.specs.streams.StreamContent.{Tagging, with_tag, without_tag, Tree, alias_tree, scalar_tree, sequence_tree, mapping_tree, Trees, no_trees, trees_and, TreePairs, no_tree_pairs, tree_pairs_and, DocumentTree, is_same_text, tagging_agrees, tree_agrees, trees_agree, tree_pairs_agree, is_same_version, are_same_directives, document_agrees, documents_in_order, documents_agree}
 use Rattle.yaml_base.proofs.Trees.{tree_of-stream_events}
 use Rattle.yaml_base.proofs.ContentsUnfold.{dumped_stream}
 use Rattle.yaml_dump.specs.GraphTrees.{scalar_tag_read, tree_shape, trees_shapes, tree_pairs_shapes, TreesUnfold, DumpedTreesUnfold}

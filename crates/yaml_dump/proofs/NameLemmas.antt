@@ -8,7 +8,7 @@ use Rattle.std.proofs.lemmas.Str.{chars-IsAscii, IsAscii-append}
 use Rattle.std.proofs.lemmas.Str.Ascii.{IsAscii-nil, IsAscii-cons}
 use Rattle.std.specs.Fmt.{decimal, digits, digits_onto, digit_glyph, format_spec, padded_integral, styled_decimal, char_count}
 use Rattle.std.specs.Str.{IsAscii, chars}
-use Rattle.yaml_base.specs.Meetings.{decimal_digits, numbered_name}
+use Rattle.yaml_base.specs.graphs.Meetings.{decimal_digits, numbered_name}
 use Rattle.yaml_base.specs.Settings.{largest_usize}
 
 ascii_zeros : (count : ℕ) → IsAscii (replicate count 0x30)

@@ -1,8 +1,8 @@
 -- The visits that a walk still has to end make of its steps those of the whole walk.
 use Rattle.std.proofs.Common.{◌≡◌, ℕ, zero, suc, ◌≤◌, Bool, true, false, None, Some, List, [], ◌∷◌, ◌++◌, length, drop, refl, ap, ◌∙◌, arith, length-append}
 use Rattle.std.specs.List.{list_any, fold, slice_get}
-use Rattle.yaml_base.specs.Meetings as meetings
-use Rattle.yaml_base.specs.Meetings.{Graph, children, enters, leaves, meets_again, is_entry_of, steps_from}
+use Rattle.yaml_base.specs.graphs.Meetings as meetings
+use Rattle.yaml_base.specs.graphs.Meetings.{Graph, children, enters, leaves, meets_again, is_entry_of, steps_from}
 use Rattle.yaml_base.proofs.UnfoldSteps.{from_node}
 use Rattle.yaml_dump.specs.declared.walk.Visit.{Visit}
 

@@ -7,8 +7,8 @@ use Rattle.std.proofs.lemmas.List.{get_or-map, length-map, reverse-append, lengt
 use Rattle.std.proofs.lemmas.List.Elements.{All-nil, All-cons, All-head, All-tail, All-push}
 use Rattle.std.proofs.lemmas.List.Folds.{sum_by-replicate}
 use Rattle.std.proofs.lemmas.List.Sums.{sum_by-set}
-use Rattle.yaml_base.specs.Meetings as meetings
-use Rattle.yaml_base.specs.Meetings.{Graph, enters, leaves, meets_again, is_entry_of, steps_from, steps, is_whole}
+use Rattle.yaml_base.specs.graphs.Meetings as meetings
+use Rattle.yaml_base.specs.graphs.Meetings.{Graph, enters, leaves, meets_again, is_entry_of, steps_from, steps, is_whole}
 use Rattle.yaml_dump.specs.WalkState.{WalkState, seen_walker, at_start, with_step, with_visit, with_node, with_meeting, with_child, child_of, with_turn}
 use Rattle.yaml_dump.specs.Named.{IsNamed, AreNamed, number_in}
 use Rattle.yaml_dump.specs.WalkSteps.{seen_step}

@@ -2,7 +2,7 @@
 use Rattle.std.specs.Prelude.{ℕ, zero, suc, ◌+◌, ◌-◌, ◌≤◌, ◌≡◌, ◌==◌, ◌&&◌, Bool, nat_le, Option, None, Some, List, length, position, option_map, unwrap_or, slice_index}
 use Rattle.std.specs.List.{list_all}
 use Rattle.yaml_base.specs.Characters.{Text}
-use Rattle.yaml_base.specs.Meetings.{Step, shared_nodes, numbered_name}
+use Rattle.yaml_base.specs.graphs.Meetings.{Step, shared_nodes, numbered_name}
 use Rattle.yaml_dump.specs.Named.{IsNamed, number_in}
 
 -- a step is about one of so many nodes

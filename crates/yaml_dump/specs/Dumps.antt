@@ -2,8 +2,8 @@
 use Rattle.std.specs.Prelude.{◌≡◌, ◌⊎◌, ◌==◌, ◌||◌, Bool, true, false, None, Some, Result, Ok, Err, List, [], ◌∷◌, ◌++◌, length, if◌then◌else◌}
 use Rattle.yaml_base.specs.Settings.{Settings}
 use Rattle.yaml_base.specs.Event.{Event, stream_start, stream_end}
-use Rattle.yaml_base.specs.Meetings.{Graph, document_event_list}
-use Rattle.yaml_base.specs.Dumped.{AreDumped, GraphsRead}
+use Rattle.yaml_base.specs.graphs.Meetings.{Graph, document_event_list}
+use Rattle.yaml_base.specs.graphs.Dumped.{AreDumped, GraphsRead}
 use Rattle.yaml_base.specs.declared.errors.yaml_error_t.{yaml_error_t}
 use Rattle.yaml_base.specs.declared.errors.yaml_error_t.TheVariants.{Memory}
 use Rattle.yaml_emitter.specs.State.{State}

@@ -2,7 +2,7 @@
 use Rattle.std.specs.Prelude.{ℕ, ◌-◌, ◌<◌, ◌≡◌, Option, None, Some, List, [], ◌∷◌, ◌++◌, length, slice_index}
 use Rattle.std.specs.List.{flat_map}
 use Rattle.yaml_base.specs.Event.{Event, document_start, document_end}
-use Rattle.yaml_base.specs.Meetings.{Graph, Step, meets_again, step_events}
+use Rattle.yaml_base.specs.graphs.Meetings.{Graph, Step, meets_again, step_events}
 use Rattle.yaml_base.specs.Seen.{seen_event}
 use Rattle.yaml_base.specs.declared.events.yaml_event_t.{yaml_event_t}
 use Rattle.yaml_dump.specs.Anchors.{IsNumbered}

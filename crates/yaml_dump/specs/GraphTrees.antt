@@ -4,12 +4,12 @@ use Rattle.std.specs.Prelude.{◌≡◌, Bool, true, false, None, Some, List, []
 use Rattle.yaml_base.specs.Characters.{Text}
 use Rattle.yaml_base.specs.Settings.{Settings}
 use Rattle.yaml_base.specs.Event.{Event}
-use Rattle.yaml_base.specs.Meetings.{Graph, string_tag, sequence_tag, mapping_tag}
-use Rattle.yaml_base.specs.Unfolding.{scalar_kind, sequence_kind, mapping_kind, Shape, alias_shape, node_shape, Shapes, no_shapes, shapes_and, Unfolds}
-use Rattle.yaml_base.specs.Dumped.{AreDumped}
-use Rattle.yaml_base.specs.StreamContent.{Tagging, with_tag, without_tag, Tree, alias_tree, scalar_tree, sequence_tree, mapping_tree, Trees, no_trees, trees_and, TreePairs, no_tree_pairs, tree_pairs_and, DocumentTree, agrees}
-use Rattle.yaml_base.specs.StreamLaw.{is_portable}
-use Rattle.yaml_base.specs.StreamReader.{stream_trees}
+use Rattle.yaml_base.specs.graphs.Meetings.{Graph, string_tag, sequence_tag, mapping_tag}
+use Rattle.yaml_base.specs.graphs.Unfolding.{scalar_kind, sequence_kind, mapping_kind, Shape, alias_shape, node_shape, Shapes, no_shapes, shapes_and, Unfolds}
+use Rattle.yaml_base.specs.graphs.Dumped.{AreDumped}
+use Rattle.yaml_base.specs.streams.StreamContent.{Tagging, with_tag, without_tag, Tree, alias_tree, scalar_tree, sequence_tree, mapping_tree, Trees, no_trees, trees_and, TreePairs, no_tree_pairs, tree_pairs_and, DocumentTree, agrees}
+use Rattle.yaml_base.specs.streams.StreamLaw.{is_portable}
+use Rattle.yaml_base.specs.streams.StreamReader.{stream_trees}
 use Rattle.yaml_emitter.specs.State.{State}
 
 -- the tag of a scalar that was read: without one, that of texts

@@ -1,7 +1,7 @@
 -- Numbers in a walk's steps that name nodes.
 use Rattle.std.specs.Prelude.{ℕ, ◌≤◌, List, All}
-use Rattle.yaml_base.specs.Meetings as meetings
-use Rattle.yaml_base.specs.Meetings.{enters, leaves, meets_again}
+use Rattle.yaml_base.specs.graphs.Meetings as meetings
+use Rattle.yaml_base.specs.graphs.Meetings.{enters, leaves, meets_again}
 use Rattle.yaml_dump.specs.WalkSteps.{seen_step}
 use Rattle.yaml_dump.specs.declared.steps.Step.{Step}
 

@@ -1,6 +1,6 @@
 -- What contracts see of a walk's steps.
-use Rattle.yaml_base.specs.Meetings as meetings
-use Rattle.yaml_base.specs.Meetings.{enters, leaves, meets_again}
+use Rattle.yaml_base.specs.graphs.Meetings as meetings
+use Rattle.yaml_base.specs.graphs.Meetings.{enters, leaves, meets_again}
 use Rattle.yaml_dump.specs.declared.steps.Step.{Step}
 use Rattle.yaml_dump.specs.declared.steps.Step.TheVariants.{Enters, Leaves, MeetsAgain}
 

@@ -1,6 +1,6 @@
 //! The anchors of a document's shared nodes.
 ghost use Rattle.std.specs.Prelude.{◌≡◌, ◌<◌, ◌≤◌, ◌+◌, ◌-◌, ◌++◌, ◌∷◌, [], ℕ, true, List, IfOk, map, length, slice_index};
-ghost use Rattle.yaml_base.specs.Meetings as meetings;
+ghost use Rattle.yaml_base.specs.graphs.Meetings as meetings;
 ghost use Rattle.yaml_base.specs.Seen.{seen_text};
 ghost use Rattle.yaml_dump.specs.Anchors.{IsNumbered, is_numbered, Places, HasPlaces, anchor_of_place};
 ghost use Rattle.yaml_dump.specs.WalkSteps.{seen_step};

@@ -1,12 +1,12 @@
 //! Documents dumped: their events, emitted.
 
 ghost use Rattle.std.specs.Prelude.{◌≡◌, ◌⊎◌, ◌||◌, ◌==◌, ◌++◌, ◌∷◌, [], true, false, None, Some, Ok, Err, List, length, map, IfOk, IfErr, OnOk, OnErr, IsSome};
-ghost use Rattle.yaml_base.specs.Documents.{graph_of};
+ghost use Rattle.yaml_base.specs.graphs.Documents.{graph_of};
 ghost use Rattle.yaml_base.specs.Event.{Event, stream_end};
-ghost use Rattle.yaml_base.specs.Meetings.{document_event_list};
+ghost use Rattle.yaml_base.specs.graphs.Meetings.{document_event_list};
 ghost use Rattle.yaml_base.specs.Seen.{seen_event};
 ghost use Rattle.yaml_base.specs.Settings.{Settings};
-ghost use Rattle.yaml_base.specs.Unfolding.{EventsUnfold};
+ghost use Rattle.yaml_base.specs.graphs.Unfolding.{EventsUnfold};
 ghost use Rattle.yaml_pen.specs.Page.{told};
 ghost use Rattle.yaml_pen.specs.Wrote.{Grows};
 ghost use Rattle.yaml_dump.specs.Dumps.{Dumps, EmitsEach, IsBegun, ReadsGraphs, closing, opening};

@@ -3,10 +3,10 @@ ghost use Rattle.std.specs.Prelude.{◌≡◌, ◌<◌, ◌≤◌, ◌-◌, ◌+
 ghost use Rattle.std.specs.List.{list_all};
 ghost use Rattle.std.specs.Str.{chars};
 ghost use Rattle.yaml_base.specs.Event as seen;
-ghost use Rattle.yaml_base.specs.Meetings as meetings;
+ghost use Rattle.yaml_base.specs.graphs.Meetings as meetings;
 ghost use Rattle.yaml_base.specs.Seen.{seen_text, seen_event, seen_events, seen_directive, seen_scalar_style, seen_sequence_style, seen_mapping_style};
-ghost use Rattle.yaml_base.specs.SeenNodes.{seen_node, seen_held};
-ghost use Rattle.yaml_base.specs.Documents.{graph_of};
+ghost use Rattle.yaml_base.specs.graphs.SeenNodes.{seen_node, seen_held};
+ghost use Rattle.yaml_base.specs.graphs.Documents.{graph_of};
 ghost use Rattle.yaml_dump.specs.Anchors.{IsNumbered, is_numbered, HasPlaces, anchor_of_place};
 ghost use Rattle.yaml_dump.specs.Events.{seen_events_of, IsPlaced, walk_events};
 ghost use Rattle.yaml_dump.specs.WalkSteps.{seen_step};

@@ -2,8 +2,8 @@
 
 ghost use Rattle.std.specs.Prelude.{◌≡◌, true, false, None, List, [], ◌∷◌, ◌++◌, IsSome, OnOk, is_ok, IsOk, Result, Ok, Err};
 ghost use Rattle.yaml_base.specs.Event.{Event, stream_start, stream_end};
-ghost use Rattle.yaml_base.specs.Dumped.{AreDumped, GraphsRead};
-ghost use Rattle.yaml_base.specs.Meetings.{Graph};
+ghost use Rattle.yaml_base.specs.graphs.Dumped.{AreDumped, GraphsRead};
+ghost use Rattle.yaml_base.specs.graphs.Meetings.{Graph};
 ghost use Rattle.yaml_base.specs.Settings.{Settings};
 ghost use Rattle.yaml_pen.specs.Page.{told};
 ghost use Rattle.yaml_pen.specs.Wrote.{Grows};

@@ -1,9 +1,9 @@
 //! The walk over a document's nodes: depth first, from node 1.
 ghost use Rattle.std.specs.Prelude.{◌≡◌, ◌+◌, ◌<◌, ◌≤◌, ◌^◌, ◌==◌, false, map, option_map, length, slice_get, vec_len, IfOk, IfSome};
-ghost use Rattle.yaml_base.specs.Meetings as meetings;
-ghost use Rattle.yaml_base.specs.Meetings.{numbers_held};
-ghost use Rattle.yaml_base.specs.SeenNodes.{seen_number, seen_pair, seen_held};
-ghost use Rattle.yaml_base.specs.Documents.{graph_of};
+ghost use Rattle.yaml_base.specs.graphs.Meetings as meetings;
+ghost use Rattle.yaml_base.specs.graphs.Meetings.{numbers_held};
+ghost use Rattle.yaml_base.specs.graphs.SeenNodes.{seen_number, seen_pair, seen_held};
+ghost use Rattle.yaml_base.specs.graphs.Documents.{graph_of};
 ghost use Rattle.yaml_dump.specs.WalkSteps.{seen_step};
 ghost use Rattle.yaml_dump.specs.WalkState.{pair_numbers, seen_walker, at_start, with_meeting, child_of, with_turn};
 ghost use Rattle.yaml_dump.specs.Named.{IsNamed, AreNamed};

@@ -11,11 +11,11 @@ use Rattle.yaml_base.specs.NodeLayout.{bodies_of}
 use Rattle.yaml_base.specs.Pieces.{list_layout, pieces}
 use Rattle.yaml_base.specs.Output.{settings_for, text_written, bytes_written, output_of, hands_out_last}
 use Rattle.yaml_base.specs.Meaning.{BodyMeans}
-use Rattle.yaml_base.specs.StreamContent.{agrees}
-use Rattle.yaml_base.specs.StreamLaw.{is_portable}
-use Rattle.yaml_base.specs.StreamReader.{stream_trees}
-use Rattle.yaml_base.specs.Content.{content_of}
-use Rattle.yaml_base.specs.CanonicalReader.{canonical_content}
+use Rattle.yaml_base.specs.streams.StreamContent.{agrees}
+use Rattle.yaml_base.specs.streams.StreamLaw.{is_portable}
+use Rattle.yaml_base.specs.streams.StreamReader.{stream_trees}
+use Rattle.yaml_base.specs.reading.Content.{content_of}
+use Rattle.yaml_base.specs.reading.CanonicalReader.{canonical_content}
 use Rattle.yaml_base.specs.TidyBodies.{IsTidy}
 use Rattle.yaml_base.specs.WrittenTexts.{HoldsRaw}
 use Rattle.yaml_base.specs.declared.errors.yaml_error_t.{yaml_error_t}

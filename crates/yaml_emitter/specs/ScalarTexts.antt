@@ -1,6 +1,6 @@
 -- A scalar's text after its lead.
 use Rattle.std.specs.Prelude.{ℕ, Bool, true, ◌&&◌, not, Result, Ok, Err, None, if◌then◌else◌}
-use Rattle.yaml_base.specs.Analysis.{is_empty}
+use Rattle.yaml_base.specs.scalars.Analysis.{is_empty}
 use Rattle.yaml_base.specs.Characters.{Text}
 use Rattle.yaml_base.specs.Cursor.{Cursor, Laid, then_laid}
 use Rattle.yaml_base.specs.Event.{ScalarStyle, literal, folded}

@@ -6,12 +6,12 @@ use Rattle.yaml_base.specs.Event.{Event}
 use Rattle.yaml_base.specs.Refusal.{IsAccepted}
 use Rattle.yaml_base.specs.Pieces.{list_layout}
 use Rattle.yaml_base.specs.Output.{settings_for, bytes_written, output_of}
-use Rattle.yaml_base.specs.Content.{content_of}
-use Rattle.yaml_base.specs.CanonicalReader.{canonical_content}
+use Rattle.yaml_base.specs.reading.Content.{content_of}
+use Rattle.yaml_base.specs.reading.CanonicalReader.{canonical_content}
 use Rattle.yaml_base.specs.Meaning.{has_scalar_texts}
-use Rattle.yaml_base.specs.StreamContent.{DocumentTree, agrees}
-use Rattle.yaml_base.specs.StreamLaw.{is_portable}
-use Rattle.yaml_base.specs.StreamReader.{stream_trees}
+use Rattle.yaml_base.specs.streams.StreamContent.{DocumentTree, agrees}
+use Rattle.yaml_base.specs.streams.StreamLaw.{is_portable}
+use Rattle.yaml_base.specs.streams.StreamReader.{stream_trees}
 
 -- the limit is at least the length of all bytes
 abbrev pub IsUncut : Settings → List Event → Type 0

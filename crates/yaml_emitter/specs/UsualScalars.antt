@@ -2,7 +2,7 @@
 use Rattle.std.specs.Prelude.{◌≡◌, Bool, true, false, ◌&&◌, not, None, is_some}
 use Rattle.yaml_base.specs.Event.{ScalarStyle, any_style, plain}
 use Rattle.yaml_base.specs.Seen.{seen_scalar_style}
-use Rattle.yaml_base.specs.Style.{style_asked}
+use Rattle.yaml_base.specs.scalars.Style.{style_asked}
 use Rattle.yaml_scalar.specs.UsualTexts.{IsUsual}
 use Rattle.yaml_emitter.specs.BorrowedTexts.{seen_name}
 use Rattle.yaml_emitter.specs.declared.writing.contents.ScalarContent.{ScalarContent}

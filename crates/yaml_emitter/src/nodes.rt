@@ -7,7 +7,7 @@ ghost use Rattle.yaml_base.specs.Layout.{asks_flow, end_piece, entry_place, line
 ghost use Rattle.yaml_base.specs.Refusal.{name_or_tag_fault, scalar_tag};
 ghost use Rattle.yaml_base.specs.Seen.{seen_event, seen_mapping_style, seen_scalar_style, seen_sequence_style, seen_text};
 ghost use Rattle.yaml_base.specs.Steps.{is_first};
-ghost use Rattle.yaml_base.specs.Style as style;
+ghost use Rattle.yaml_base.specs.scalars.Style as style;
 ghost use Rattle.yaml_pen.specs.Page.{IsReady};
 ghost use Rattle.yaml_pen.specs.Wrote.{Wrote};
 ghost use Rattle.yaml_scalar.specs.UsualTexts.{IsUsual};

@@ -8,9 +8,9 @@ use Rattle.json.specs.Json.{Json, null, boolean, number, string, array, object, 
 use Rattle.json.specs.Tree.{depth as nesting, items_depth as items_nesting, members_depth as members_nesting}
 use Rattle.yaml_base.specs.Characters.{Text}
 use Rattle.yaml_base.specs.Event.{Event, scalar, sequence_start, sequence_end, mapping_start, mapping_end}
-use Rattle.yaml_base.specs.JsonNumbers.{is_json_integer, yaml_number}
+use Rattle.yaml_base.specs.values.JsonNumbers.{is_json_integer, yaml_number}
 use Rattle.yaml_base.specs.Refusal.{is_sound, IsAccepted, open_count, most_open}
-use Rattle.yaml_base.specs.TypedValues.{int_tag}
+use Rattle.yaml_base.specs.values.TypedValues.{int_tag}
 use Rattle.yaml_emitter.proofs.AcceptedLists.{sound, both_sound, Stays, few_open}
 use Rattle.yaml_writer.specs.NumberParts.{number_in}
 use Rattle.yaml_writer.specs.Writing.{closing, float_tag, opening}

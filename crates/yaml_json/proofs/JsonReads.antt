@@ -12,11 +12,11 @@ use Rattle.yaml_base.specs.Meaning.{has_scalar_texts}
 use Rattle.yaml_base.specs.Output.{bytes_written, settings_for}
 use Rattle.yaml_base.specs.Pieces.{list_layout}
 use Rattle.yaml_base.specs.Refusal.{IsAccepted}
-use Rattle.yaml_base.specs.SchemaCore.{resolved_by_core}
-use Rattle.yaml_base.specs.SchemaOf11.{resolved_by_11}
+use Rattle.yaml_base.specs.values.SchemaCore.{resolved_by_core}
+use Rattle.yaml_base.specs.values.SchemaOf11.{resolved_by_11}
 use Rattle.yaml_base.specs.Settings.{Settings, Effective}
-use Rattle.yaml_base.specs.StreamContent.{DocumentTree, Tree}
-use Rattle.yaml_base.specs.StreamReader.{stream_trees}
+use Rattle.yaml_base.specs.streams.StreamContent.{DocumentTree, Tree}
+use Rattle.yaml_base.specs.streams.StreamReader.{stream_trees}
 use Rattle.yaml_base.specs.Tags.{directives_in_force}
 use Rattle.yaml_base.proofs.stream_documents.StreamWholeReads.{document_trees}
 use Rattle.yaml_base.proofs.stream_nodes.StreamAgrees.{document_tree, node_tree}

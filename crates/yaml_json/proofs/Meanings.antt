@@ -7,21 +7,21 @@ use Rattle.std.specs.Str.{chars}
 use Rattle.std.specs.Str.Parse.{digits_value}
 use Rattle.json.specs.Json.{Json, null, boolean, number, string, array, object, Items, no_items, item, Members, no_members, member}
 use Rattle.json.specs.Tree.{HasNumbers, ItemsHaveNumbers, MembersHaveNumbers}
-use Rattle.yaml_base.specs.Analysis.{Allowances, allowances, is_empty}
+use Rattle.yaml_base.specs.scalars.Analysis.{Allowances, allowances, is_empty}
 use Rattle.yaml_base.specs.Characters.{Text}
 use Rattle.yaml_base.specs.Event.{Scalar, ScalarStyle, any_style, plain, single_quoted, double_quoted, literal, folded, TagDirective}
 use Rattle.yaml_base.specs.Grammar.{scalar_node, Nodes, no_nodes, nodes_and, Pairs, no_pairs, pairs_and}
-use Rattle.yaml_base.specs.JsonNumbers.{JsonNumber, fraction_or, is_json_integer, is_json_number, json_value, means_number, number_meant, value_with, yaml_number}
+use Rattle.yaml_base.specs.values.JsonNumbers.{JsonNumber, fraction_or, is_json_integer, is_json_number, json_value, means_number, number_meant, value_with, yaml_number}
 use Rattle.yaml_base.specs.Layout.{as_item, as_key, as_value, Place, has_no_nodes, has_no_pairs, is_simple, is_simple_at, is_written_in_flow, entry_place}
 use Rattle.yaml_base.specs.NodeLayout.{choice_of}
 use Rattle.yaml_base.specs.Refusal.{collection_tag, scalar_tag}
-use Rattle.yaml_base.specs.Resolved.{Resolved, meant_null, meant_boolean, meant_integer, meant_decimal, meant_text, meant_by_nobody, signed}
-use Rattle.yaml_base.specs.SchemaCore.{resolved_by_core}
-use Rattle.yaml_base.specs.SchemaOf11.{resolved_by_11}
+use Rattle.yaml_base.specs.values.Resolved.{Resolved, meant_null, meant_boolean, meant_integer, meant_decimal, meant_text, meant_by_nobody, signed}
+use Rattle.yaml_base.specs.values.SchemaCore.{resolved_by_core}
+use Rattle.yaml_base.specs.values.SchemaOf11.{resolved_by_11}
 use Rattle.yaml_base.specs.Settings.{Effective}
-use Rattle.yaml_base.specs.StreamContent.{Stood, stood_plain, stood_quoted, Tagging, with_tag, without_tag, Tree, sequence_tree, mapping_tree}
-use Rattle.yaml_base.specs.Style.{Choice, chosen, is_plain}
-use Rattle.yaml_base.specs.TypedValues.{null_tag, bool_tag, int_tag, bool_text}
+use Rattle.yaml_base.specs.streams.StreamContent.{Stood, stood_plain, stood_quoted, Tagging, with_tag, without_tag, Tree, sequence_tree, mapping_tree}
+use Rattle.yaml_base.specs.scalars.Style.{Choice, chosen, is_plain}
+use Rattle.yaml_base.specs.values.TypedValues.{null_tag, bool_tag, int_tag, bool_text}
 use Rattle.yaml_base.proofs.JsonSpelling.{spelling_keeps_value}
 use Rattle.yaml_base.proofs.NumbersRead.{spelling_read}
 use Rattle.yaml_base.proofs.stream_nodes.StreamAgrees.{standing_in, tagging_in, node_tree, nodes_tree, pairs_tree}

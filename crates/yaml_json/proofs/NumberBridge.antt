@@ -10,9 +10,9 @@ use Rattle.std.specs.Prelude.{ℕ, Bool, true, false, cond, Option, None, Some, 
 use Rattle.json.specs.Print as json
 use Rattle.json.specs.Word.{after_digits, after_exponent, after_fraction, after_minus, after_number, after_sign, after_whole}
 use Rattle.yaml_base.specs.Characters.{Text}
-use Rattle.yaml_base.specs.JsonNumbers.{JsonExponent, JsonNumber, exponent_text, is_whole, minus}
-use Rattle.yaml_base.specs.Resolved.{are_digits, is_decimal}
-use Rattle.yaml_base.specs.Script.{is_word}
+use Rattle.yaml_base.specs.values.JsonNumbers.{JsonExponent, JsonNumber, exponent_text, is_whole, minus}
+use Rattle.yaml_base.specs.values.Resolved.{are_digits, is_decimal}
+use Rattle.yaml_base.specs.scripts.Script.{is_word}
 use Rattle.yaml_writer.specs.NumberParts.{IsNumber, number_in}
 use Rattle.yaml_writer.proofs.PartLemmas.{number_found}
 

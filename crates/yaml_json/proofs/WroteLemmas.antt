@@ -3,7 +3,7 @@ use Rattle.std.proofs.Common.{◌≡◌, refl, sym, ap, ap₂, ◌∙◌, subst,
 use Rattle.std.specs.Prelude.{ℕ, Bool, false, Option, None, List, [], ◌∷◌, ◌++◌, OnOk, Result, Ok, Err, is_none}
 use Rattle.yaml_base.specs.Characters.{Text}
 use Rattle.yaml_base.specs.Event.{CollectionStyle, Event, ScalarStyle, plain, scalar, sequence_start, mapping_start}
-use Rattle.yaml_base.specs.JsonNumbers.{JsonNumber, yaml_number}
+use Rattle.yaml_base.specs.values.JsonNumbers.{JsonNumber, yaml_number}
 use Rattle.yaml_emitter.specs.State.{State}
 use Rattle.yaml_writer.proofs.Finishing.{nothing_awaited}
 use Rattle.yaml_writer.proofs.PartLemmas.{number_found}

@@ -6,9 +6,9 @@ use Rattle.yaml_base.specs.Characters.{Text, is_blank, is_break, is_among}
 use Rattle.yaml_base.specs.Event.{TagDirective}
 use Rattle.yaml_base.specs.Percent.{percent_escaped, suffix_escaped, prefix_escaped}
 use Rattle.yaml_base.specs.Tags.{directives_fault, directives_in_force, spelling, spelled}
-use Rattle.yaml_base.specs.ReadPercent.{percent_read}
-use Rattle.yaml_base.specs.ReadTags.{name_said}
-use Rattle.yaml_base.specs.CanonicalReader.{tag_read}
+use Rattle.yaml_base.specs.reading.ReadPercent.{percent_read}
+use Rattle.yaml_base.specs.reading.ReadTags.{name_said}
+use Rattle.yaml_base.specs.reading.CanonicalReader.{tag_read}
 
 -- decoding undoes escaping
 abbrev pub EscapedTextReads : Text → Type 0

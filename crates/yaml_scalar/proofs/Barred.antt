@@ -6,7 +6,7 @@ use Rattle.std.proofs.lemmas.Str.{chars-nil, chars_past_char}
 use Rattle.std.specs.Char.{encode_utf8}
 use Rattle.std.specs.List.{list_all}
 use Rattle.std.specs.Prelude.{ℕ, Bool, true, false, List, [], ◌∷◌, ◌++◌, ◌==◌, ◌||◌, ◌&&◌, codes, length, if◌then◌else◌}
-use Rattle.yaml_base.specs.Analysis.{Charset, begins_with, ends_word, is_empty, is_key_or_comment, is_special, is_trailing_space}
+use Rattle.yaml_base.specs.scalars.Analysis.{Charset, begins_with, ends_word, is_empty, is_key_or_comment, is_special, is_trailing_space}
 use Rattle.yaml_base.specs.Characters.{Text, is_among, is_break, is_space, space, tab}
 use Rattle.yaml_scalar.specs.Barred.{Barred, barred_by, barred_by_space, barred_in, either, is_quiet, none_barred}
 use Rattle.yaml_scalar.specs.WholeRuns.{last_from}

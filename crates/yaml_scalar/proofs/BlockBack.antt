@@ -2,12 +2,12 @@
 use Rattle.std.proofs.lemmas.Int.{ints}
 use Rattle.std.proofs.Common.{◌≡◌, ◌≤◌, ℕ, true, Ok, arith, pos, negsuc, ℤ, ◌≤ℤ◌}
 use Rattle.std.specs.Prelude.{Option}
-use Rattle.yaml_base.specs.Analysis.{Charset, allows_block}
-use Rattle.yaml_base.specs.BlockHeader.{Encloses}
+use Rattle.yaml_base.specs.scalars.Analysis.{Charset, allows_block}
+use Rattle.yaml_base.specs.scalars.BlockHeader.{Encloses}
 use Rattle.yaml_base.specs.Characters.{Text}
-use Rattle.yaml_base.specs.Literal.{literal_body, literal_laid}
-use Rattle.yaml_base.specs.Folded.{folded_body, folded_laid}
-use Rattle.yaml_base.specs.ReadBlock.{read_block}
+use Rattle.yaml_base.specs.scalars.Literal.{literal_body, literal_laid}
+use Rattle.yaml_base.specs.scalars.Folded.{folded_body, folded_laid}
+use Rattle.yaml_base.specs.reading.ReadBlock.{read_block}
 use Rattle.yaml_pen.specs.Page.{Page, natural}
 use Rattle.yaml_pen.specs.Wrote.{Wrote}
 use Rattle.yaml_scalar.specs.ReadsBack.{ReadsBack}

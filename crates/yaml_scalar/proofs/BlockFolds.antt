@@ -2,11 +2,11 @@
 use Rattle.std.proofs.Common.{◌≡◌, refl, ap, ◌∙◌}
 use Rattle.std.proofs.lemmas.Bool.{false≢true, and_parts, not-true, eqb-true}
 use Rattle.std.specs.Prelude.{ℕ, Bool, true, false, List, [], ◌∷◌, ◌++◌, ◌==◌, ◌&&◌, ◌+◌, not, Option, if◌then◌else◌}
-use Rattle.yaml_base.specs.Analysis.{begins_with}
+use Rattle.yaml_base.specs.scalars.Analysis.{begins_with}
 use Rattle.yaml_base.specs.Characters.{Text, is_break, is_space, line_feed, space}
-use Rattle.yaml_base.specs.Lines.{Part, line, line_break, begun}
-use Rattle.yaml_base.specs.Folded.{is_past, folds, cut_from, cut_line, next_even, folded_parts}
-use Rattle.yaml_base.specs.ReadBlock.{joined, unfolded, has_content, final_ends, is_even, even_next}
+use Rattle.yaml_base.specs.scalars.Lines.{Part, line, line_break, begun}
+use Rattle.yaml_base.specs.scalars.Folded.{is_past, folds, cut_from, cut_line, next_even, folded_parts}
+use Rattle.yaml_base.specs.reading.ReadBlock.{joined, unfolded, has_content, final_ends, is_even, even_next}
 use Rattle.yaml_scalar.proofs.BlockParts.{bare, Clean, IsLine, Ordinary, BeginsBroken, BeginsFlush, clean-begun}
 
 -- a line feed is ordinary

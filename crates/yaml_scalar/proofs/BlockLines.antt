@@ -3,16 +3,16 @@
 use Rattle.std.proofs.Common.{◌≡◌, ◌≤◌, refl, ap, ◌∙◌, append_assoc, arith}
 use Rattle.std.proofs.lemmas.Bool.{and_from, or_from, or_left, or_right, not_from_false, ne_eqb}
 use Rattle.std.specs.Prelude.{ℕ, zero, suc, Bool, true, false, List, [], ◌∷◌, ◌++◌, ◌==◌, ◌||◌, ◌+◌, not, Option, Some, replicate}
-use Rattle.yaml_base.specs.Analysis.{Charset, allows_block}
+use Rattle.yaml_base.specs.scalars.Analysis.{Charset, allows_block}
 use Rattle.yaml_base.specs.Characters.{Text, is_break, space, line_feed, carriage_return, next_line, line_separator, paragraph_separator}
 use Rattle.yaml_base.specs.Settings.{LineBreak}
 use Rattle.yaml_base.specs.LineBreaks.{is_laid_text, begins_indented, is_indented_text, with_breaks_written, with_line_breaks_read}
 use Rattle.yaml_base.specs.Cursor.{Cursor}
-use Rattle.yaml_base.specs.Lines.{Part, line, line_break, parts}
-use Rattle.yaml_base.specs.BlockHeader.{Ending, without_break, one_break, more_breaks, ending, begins_blank, ending_hint, block_body, Encloses}
-use Rattle.yaml_base.specs.Literal.{indented, literal_body}
-use Rattle.yaml_base.specs.Folded.{folded_parts, folded_body}
-use Rattle.yaml_base.specs.ReadBlock.{read_block}
+use Rattle.yaml_base.specs.scalars.Lines.{Part, line, line_break, parts}
+use Rattle.yaml_base.specs.scalars.BlockHeader.{Ending, without_break, one_break, more_breaks, ending, begins_blank, ending_hint, block_body, Encloses}
+use Rattle.yaml_base.specs.scalars.Literal.{indented, literal_body}
+use Rattle.yaml_base.specs.scalars.Folded.{folded_parts, folded_body}
+use Rattle.yaml_base.specs.reading.ReadBlock.{read_block}
 use Rattle.yaml_base.proofs.BreakLaws.{breaks-round, laid-append, indented-written}
 use Rattle.yaml_scalar.proofs.BlockParts.{Ordinary, IsLine, Clean, parts-clean}
 use Rattle.yaml_scalar.proofs.BlockFolds.{folded-clean}

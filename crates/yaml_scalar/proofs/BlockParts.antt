@@ -1,12 +1,12 @@
 -- A value's parts, and that a reader cuts indented parts where they were joined.
 use Rattle.std.proofs.Common.{◌≡◌, refl, ap, ◌∙◌}
 use Rattle.std.specs.Prelude.{ℕ, zero, suc, Bool, true, false, List, [], ◌∷◌, ◌++◌, ◌==◌, Some, replicate, option_map, if◌then◌else◌}
-use Rattle.yaml_base.specs.Analysis.{begins_with}
+use Rattle.yaml_base.specs.scalars.Analysis.{begins_with}
 use Rattle.yaml_base.specs.Characters.{Text, is_break, is_blank, is_space, space, carriage_return, next_line}
 use Rattle.yaml_base.specs.LineBreaks.{is_read_break}
-use Rattle.yaml_base.specs.Lines.{Part, line, line_break, begun, parts}
-use Rattle.yaml_base.specs.Literal.{indented}
-use Rattle.yaml_base.specs.ReadBlock.{Element, content, line_end, elements, extended, joined, leading_spaces, detected, unindented, all_unindented}
+use Rattle.yaml_base.specs.scalars.Lines.{Part, line, line_break, begun, parts}
+use Rattle.yaml_base.specs.scalars.Literal.{indented}
+use Rattle.yaml_base.specs.reading.ReadBlock.{Element, content, line_end, elements, extended, joined, leading_spaces, detected, unindented, all_unindented}
 
 -- a character that a writer and a reader take for the same: a break or not, a space or no blank;
 -- and no break that reads as another

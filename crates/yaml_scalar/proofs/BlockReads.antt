@@ -2,14 +2,14 @@
 use Rattle.std.proofs.Common.{◌≡◌, ◌≤◌, refl, sym, ap, ◌∙◌, append_assoc, arith}
 use Rattle.std.proofs.lemmas.Bool.{false≢true, or_parts, not-false, not-true, eqb-true, false_from_ne_true, and_from, le-leb}
 use Rattle.std.specs.Prelude.{ℕ, zero, suc, Bool, true, false, List, [], ◌∷◌, ◌++◌, ◌==◌, ◌&&◌, ◌||◌, ◌+◌, ◌-◌, not, Option, None, Some, option_map, if◌then◌else◌}
-use Rattle.yaml_base.specs.Analysis.{Charset, somewhere, is_empty, is_special, is_trailing_space, bars_block, allows_block}
+use Rattle.yaml_base.specs.scalars.Analysis.{Charset, somewhere, is_empty, is_special, is_trailing_space, bars_block, allows_block}
 use Rattle.yaml_base.specs.Characters.{Text, is_break, is_ascii, is_printable, is_between, is_space, space, tab, line_feed, carriage_return, next_line, line_separator, paragraph_separator}
 use Rattle.yaml_base.specs.Cursor.{Cursor}
-use Rattle.yaml_base.specs.Lines.{Part, line, line_break, begun, parts}
-use Rattle.yaml_base.specs.BlockHeader.{Ending, without_break, one_break, more_breaks, ending, begins_blank, indentation_hint, ending_hint, hint_laid, block_body, Encloses}
-use Rattle.yaml_base.specs.Literal.{indented, literal_body}
-use Rattle.yaml_base.specs.Folded.{folded_parts, folded_body}
-use Rattle.yaml_base.specs.ReadBlock.{elements, unfolded, has_content, kept_lines, final_ends, read_indentation, all_unindented, chomped, lines_read, read_lines, digit_first, after_digit, read_block}
+use Rattle.yaml_base.specs.scalars.Lines.{Part, line, line_break, begun, parts}
+use Rattle.yaml_base.specs.scalars.BlockHeader.{Ending, without_break, one_break, more_breaks, ending, begins_blank, indentation_hint, ending_hint, hint_laid, block_body, Encloses}
+use Rattle.yaml_base.specs.scalars.Literal.{indented, literal_body}
+use Rattle.yaml_base.specs.scalars.Folded.{folded_parts, folded_body}
+use Rattle.yaml_base.specs.reading.ReadBlock.{elements, unfolded, has_content, kept_lines, final_ends, read_indentation, all_unindented, chomped, lines_read, read_lines, digit_first, after_digit, read_block}
 use Rattle.yaml_scalar.proofs.BlockParts.{Ordinary, AllOrdinary, Clean, BeginsFlush, bare, shifted, parts-clean, joined-parts, elements-indented, unindented-shifted, detected-shifted}
 use Rattle.yaml_scalar.proofs.BlockFinal.{ends-parts, chomping_of, chomped-ends, joined-kept, unfolded-kept}
 use Rattle.yaml_scalar.proofs.BlockFolds.{folded-clean, folded-content, folded-reads, folded-ends, folded-flush}

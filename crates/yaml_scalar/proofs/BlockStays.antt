@@ -1,10 +1,10 @@
 -- What stays in a block scalar's line is laid out as itself.
 use Rattle.std.proofs.Common.{◌≡◌, refl, ap, sym, ◌∙◌}
 use Rattle.std.specs.Prelude.{ℕ, Bool, true, false, not, Option, Ok, [], ◌∷◌, if◌then◌else◌}
-use Rattle.yaml_base.specs.Analysis.{begins_with}
+use Rattle.yaml_base.specs.scalars.Analysis.{begins_with}
 use Rattle.yaml_base.specs.Characters.{Text, is_break, is_space}
 use Rattle.yaml_base.specs.Cursor.{Cursor, Laid, text_laid, then_laid, with_flags}
-use Rattle.yaml_base.specs.Folded.{folds, is_past}
+use Rattle.yaml_base.specs.scalars.Folded.{folds, is_past}
 use Rattle.yaml_pen.proofs.Composing.{wrote_all}
 use Rattle.yaml_pen.specs.Page.{Page}
 use Rattle.yaml_pen.specs.Wrote.{Wrote}

@@ -4,13 +4,13 @@ use Rattle.std.proofs.lemmas.Bool.{cases_Bool, and_right, or_from, le-ltb, or_pa
 use Rattle.std.specs.Prelude.{ℕ, zero, suc, Bool, true, false, List, [], ◌∷◌, ◌++◌, ◌==◌, ◌&&◌, ◌||◌, ◌+◌, ◌-◌, not, Option, replicate, nat_lt, if◌then◌else◌}
 use Rattle.yaml_base.specs.Characters.{Text, is_break, space, line_feed}
 use Rattle.yaml_base.specs.Cursor.{Cursor, Laid, first_cursor, then_laid, next_column, column_after, breaks_line, new_line}
-use Rattle.yaml_base.specs.Lines.{Part, line, line_break, begun, parts}
-use Rattle.yaml_base.specs.BlockHeader.{without_break, one_break, more_breaks, ending, ends_in_break, lines_laid}
-use Rattle.yaml_base.specs.Literal.{indented}
+use Rattle.yaml_base.specs.scalars.Lines.{Part, line, line_break, begun, parts}
+use Rattle.yaml_base.specs.scalars.BlockHeader.{without_break, one_break, more_breaks, ending, ends_in_break, lines_laid}
+use Rattle.yaml_base.specs.scalars.Literal.{indented}
 use Rattle.yaml_scalar.specs.declared.block_lines.Place.{Place}
 use Rattle.yaml_scalar.specs.declared.block_lines.Place.TheVariants.{LineStart, Folding, Fixed}
 use Rattle.yaml_scalar.specs.BlockSteps.{place_after, folded_laid, inner_laid, is_doubled, end_laid, step_laid, lines_from}
-use Rattle.yaml_base.specs.Folded.{folds}
+use Rattle.yaml_base.specs.scalars.Folded.{folds}
 
 abbrev first_line : ℕ → Text → Laid
 first_line indent text = record { text = text; cursor = record { column = indent; whitespace = true; indention = true } }

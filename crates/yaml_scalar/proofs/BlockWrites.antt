@@ -2,12 +2,12 @@
 use Rattle.std.proofs.Common.{◌≡◌, refl, sym, ap, ◌∙◌, append_assoc}
 use Rattle.std.specs.Prelude.{ℕ, Bool, true, false, [], ◌∷◌, ◌++◌, Option}
 use Rattle.std.proofs.lemmas.Bool.{false≢true}
-use Rattle.yaml_base.specs.Analysis.{is_empty}
+use Rattle.yaml_base.specs.scalars.Analysis.{is_empty}
 use Rattle.yaml_base.specs.Characters.{Text}
 use Rattle.yaml_base.specs.Cursor.{Cursor, Laid, then_laid, text_laid, space_if, indicator}
-use Rattle.yaml_base.specs.BlockHeader.{hints_laid, header_laid}
-use Rattle.yaml_base.specs.Literal.{literal_laid}
-use Rattle.yaml_base.specs.Folded.{folded_laid}
+use Rattle.yaml_base.specs.scalars.BlockHeader.{hints_laid, header_laid}
+use Rattle.yaml_base.specs.scalars.Literal.{literal_laid}
+use Rattle.yaml_base.specs.scalars.Folded.{folded_laid}
 use Rattle.yaml_pen.specs.Page.{Page}
 use Rattle.yaml_scalar.specs.declared.block_lines.Place.{Place}
 use Rattle.yaml_scalar.specs.declared.block_lines.Place.TheVariants.{LineStart}

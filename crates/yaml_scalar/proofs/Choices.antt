@@ -2,10 +2,10 @@
 use Rattle.std.proofs.Common.{◌≡◌, ◌∙◌, refl, sym, ap}
 use Rattle.std.proofs.lemmas.Bool.{and_parts}
 use Rattle.std.specs.Prelude.{Bool, true, false, [], ◌∷◌, ◌||◌, ◌&&◌, not, if◌then◌else◌}
-use Rattle.yaml_base.specs.Analysis.{Allowances, Charset, allowances, begins_unlike_plain, is_empty}
+use Rattle.yaml_base.specs.scalars.Analysis.{Allowances, Charset, allowances, begins_unlike_plain, is_empty}
 use Rattle.yaml_base.specs.Characters.{Text}
 use Rattle.yaml_base.specs.Event.{ScalarStyle, any_style, plain, single_quoted, double_quoted, literal, folded}
-use Rattle.yaml_base.specs.Style.{Choice, chosen, fits_plain, is_plain, style_asked, style_fitting, style_quoted}
+use Rattle.yaml_base.specs.scalars.Style.{Choice, chosen, fits_plain, is_plain, style_asked, style_fitting, style_quoted}
 use Rattle.yaml_scalar.specs.Barred.{Barred, all_styles, allowed_by, barred_in}
 use Rattle.yaml_scalar.specs.ScalarData.{ChooseAlike}
 use Rattle.yaml_scalar.proofs.Barred.{or_none}

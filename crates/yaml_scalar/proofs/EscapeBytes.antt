@@ -6,7 +6,7 @@ use Rattle.std.specs.List.{list_all, list_any}
 use Rattle.std.specs.Prelude.{ℕ, zero, suc, Bool, true, false, not, Option, None, Some, List, [], ◌∷◌, ◌==◌, ◌&&◌, ◌/◌, ◌%◌, ◌≤◌, nat_le, nat_lt, length, if◌then◌else◌}
 use Rattle.std.specs.Str.{IsAscii}
 use Rattle.yaml_base.specs.Characters.{Text, hex_digit, hex_digits, is_break}
-use Rattle.yaml_base.specs.DoubleQuoted.{ShortEscape, escape_after_backslash, escape_text, letter_among, short_escapes}
+use Rattle.yaml_base.specs.scalars.DoubleQuoted.{ShortEscape, escape_after_backslash, escape_text, letter_among, short_escapes}
 use Rattle.yaml_scalar.specs.EscapeBytes.{is_plain}
 
 pub plain-unbroken : (text : Text) → list_all is_plain text ≡ true → list_any is_break text ≡ false

@@ -2,7 +2,7 @@
 use Rattle.std.proofs.Common.{◌≡◌, refl}
 use Rattle.std.proofs.lemmas.Bool.{agree_below_at}
 use Rattle.std.specs.Prelude.{ℕ, Bool, true, false, ◌<◌, not}
-use Rattle.yaml_base.specs.DoubleQuoted.{needs_escape}
+use Rattle.yaml_base.specs.scalars.DoubleQuoted.{needs_escape}
 use Rattle.yaml_scalar.specs.ByteClasses.{is_free}
 
 -- by computing

@@ -5,9 +5,9 @@ use Rattle.std.proofs.lemmas.Bool.Decides.{nat_tests}
 use Rattle.std.proofs.Math.Utf8.{scalar_cases, scalar}
 use Rattle.std.specs.Prelude.{ℕ, zero, suc, Bool, true, false, Option, None, Some, List, [], ◌∷◌, ◌++◌, ◌==◌, ◌&&◌, ◌+◌, ◌*◌, ◌/◌, ◌%◌, ◌<◌, ◌≤◌, nat_le, if◌then◌else◌}
 use Rattle.yaml_base.specs.Characters.{Text, hex_digit, hex_digits}
-use Rattle.yaml_base.specs.DoubleQuoted.{ShortEscape, escape_after_backslash, escape_text, letter_among, short_escapes}
-use Rattle.yaml_base.specs.ReadDouble.{after_backslash, between, digit_meaning, is_scalar_number, letter_meaning, quoted_from, with_unit, within_digits}
-use Rattle.yaml_base.specs.ReadFolding.{itself}
+use Rattle.yaml_base.specs.scalars.DoubleQuoted.{ShortEscape, escape_after_backslash, escape_text, letter_among, short_escapes}
+use Rattle.yaml_base.specs.reading.ReadDouble.{after_backslash, between, digit_meaning, is_scalar_number, letter_meaning, quoted_from, with_unit, within_digits}
+use Rattle.yaml_base.specs.reading.ReadFolding.{itself}
 
 -- an answer is there and is this number
 abbrev is_answer : Option ℕ → ℕ → Bool

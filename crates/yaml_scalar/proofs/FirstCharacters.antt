@@ -4,7 +4,7 @@ use Rattle.std.proofs.lemmas.Bool.{eqb-true}
 use Rattle.std.proofs.lemmas.Str.{IsUtf8-past_char, chars-nil, chars_past_char}
 use Rattle.std.specs.Char.{encode_utf8}
 use Rattle.std.specs.Prelude.{true, false, ◌==◌, ◌||◌, ◌&&◌}
-use Rattle.yaml_base.specs.Analysis.{begins_like_mark, begins_unlike_plain}
+use Rattle.yaml_base.specs.scalars.Analysis.{begins_like_mark, begins_unlike_plain}
 use Rattle.yaml_base.specs.Characters.{Text}
 use Rattle.yaml_scalar.specs.Barred.{is_ordinary}
 use Rattle.yaml_scalar.proofs.ByteRuns.{false_unless}

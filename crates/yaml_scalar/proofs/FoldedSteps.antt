@@ -2,15 +2,15 @@
 use Rattle.std.proofs.Common.{◌≡◌, refl, sym, ap, ◌∙◌, append_assoc, inl, inr}
 use Rattle.std.proofs.lemmas.Bool.{cases_Bool, false≢true, false_from_ne_true, eqb-true}
 use Rattle.std.specs.Prelude.{ℕ, Bool, true, false, List, [], ◌∷◌, ◌++◌, ◌==◌, ◌&&◌, ◌+◌, not, Option, replicate, if◌then◌else◌}
-use Rattle.yaml_base.specs.Analysis.{begins_with}
+use Rattle.yaml_base.specs.scalars.Analysis.{begins_with}
 use Rattle.yaml_base.specs.Characters.{Text, is_break, is_space, space, line_feed}
 use Rattle.yaml_base.specs.Cursor.{first_cursor}
-use Rattle.yaml_base.specs.Lines.{Part, line, line_break, begun, part_before, parts}
-use Rattle.yaml_base.specs.BlockHeader.{lines_laid}
-use Rattle.yaml_base.specs.Literal.{indented}
+use Rattle.yaml_base.specs.scalars.Lines.{Part, line, line_break, begun, part_before, parts}
+use Rattle.yaml_base.specs.scalars.BlockHeader.{lines_laid}
+use Rattle.yaml_base.specs.scalars.Literal.{indented}
 use Rattle.yaml_scalar.specs.declared.block_lines.Place.TheVariants.{LineStart, Folding, Fixed}
 use Rattle.yaml_scalar.specs.BlockSteps.{step_laid, lines_from}
-use Rattle.yaml_base.specs.Folded.{is_past, folds, cut_from, next_even, folded_parts}
+use Rattle.yaml_base.specs.scalars.Folded.{is_past, folds, cut_from, next_even, folded_parts}
 use Rattle.yaml_scalar.proofs.BlockSteps.{after_text, spot, lines-cursor, ending-last, start-step, from-step, break-step, content-step, continued, laid-by}
 
 -- a line of folded parts goes on, where it is never folded

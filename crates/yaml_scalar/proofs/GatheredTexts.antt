@@ -9,7 +9,7 @@ use Rattle.std.specs.List.{list_all}
 use Rattle.std.specs.Prelude.{ℕ, Bool, true, false, Option, Some, List, [], ◌∷◌, ◌++◌, ◌||◌, ◌&&◌, not, nat_lt, if◌then◌else◌}
 use Rattle.yaml_base.specs.Characters.{Text, is_ascii, is_space}
 use Rattle.yaml_base.specs.Cursor.{Cursor, Laid, column_after, is_past_width, text_laid, then_laid}
-use Rattle.yaml_base.specs.DoubleQuoted.{character_text, double_fold, double_inside, escape_text, may_fold, needs_escape}
+use Rattle.yaml_base.specs.scalars.DoubleQuoted.{character_text, double_fold, double_inside, escape_text, may_fold, needs_escape}
 use Rattle.yaml_pen.proofs.Writing.{column_after-append}
 use Rattle.yaml_base.specs.declared.errors.yaml_error_t.{yaml_error_t}
 use Rattle.yaml_pen.specs.Page.{Page}

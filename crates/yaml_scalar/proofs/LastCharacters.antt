@@ -6,7 +6,7 @@ use Rattle.std.proofs.Math.Utf8.{scalar}
 use Rattle.std.specs.Prelude.{ℕ, true, false, List, [], ◌∷◌, ◌++◌, encode_utf8, if◌then◌else◌, length, take}
 use Rattle.std.specs.Str.{chars, IsUtf8}
 use Rattle.yaml_base.specs.Characters.{Text, is_break}
-use Rattle.yaml_base.specs.BlockHeader.{without_break, one_break, more_breaks, ending}
+use Rattle.yaml_base.specs.scalars.BlockHeader.{without_break, one_break, more_breaks, ending}
 use Rattle.yaml_scalar.proofs.WholeRuns.{last-more}
 use Rattle.yaml_scalar.specs.WholeRuns.{last_from}
 

@@ -5,9 +5,9 @@ use Rattle.std.proofs.lemmas.Bool.{and_from, or_right, eqb-true}
 use Rattle.std.proofs.Math.Bool.{and-false}
 use Rattle.yaml_base.specs.Characters.{Text, is_break, is_space, line_feed, space}
 use Rattle.yaml_base.specs.Cursor.{Cursor, text_laid, is_past_width}
-use Rattle.yaml_base.specs.Analysis.{is_empty}
+use Rattle.yaml_base.specs.scalars.Analysis.{is_empty}
 use Rattle.yaml_base.specs.LineBreaks.{begins_indented, is_indented_text}
-use Rattle.yaml_base.specs.Plain.{Kind, spaces, breaks, others, kind_of, is_same_kind, indentation}
+use Rattle.yaml_base.specs.scalars.Plain.{Kind, spaces, breaks, others, kind_of, is_same_kind, indentation}
 use Rattle.yaml_base.proofs.BreakLaws.{break-begins}
 use Rattle.yaml_scalar.proofs.Unbroken.{unbroken-indented, unbroken-replicate}
 use Rattle.yaml_scalar.specs.LineSteps.{begins_kind, step_text, steps_laid}

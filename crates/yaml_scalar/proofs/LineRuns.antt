@@ -4,10 +4,10 @@ use Rattle.std.specs.Prelude.{Option, ◌==◌, ◌||◌, ◌&&◌, not}
 use Rattle.std.proofs.Math.Bool.{and-false, and-true, or-false}
 use Rattle.yaml_base.specs.Characters.{Text, is_break}
 use Rattle.yaml_base.specs.Cursor.{Cursor, Laid, nothing_laid, then_laid, text_laid, column_after, is_past_width}
-use Rattle.yaml_base.specs.Analysis.{is_empty}
+use Rattle.yaml_base.specs.scalars.Analysis.{is_empty}
 use Rattle.yaml_scalar.specs.LineSteps.{begins_kind, step_text, steps_laid}
 use Rattle.yaml_scalar.proofs.Unbroken.{is_unbroken}
-use Rattle.yaml_base.specs.Plain.{Kind, spaces, breaks, others, kind_of, is_same_kind, Run, joined_to, runs, indentation, run_text, is_last, runs_laid}
+use Rattle.yaml_base.specs.scalars.Plain.{Kind, spaces, breaks, others, kind_of, is_same_kind, Run, joined_to, runs, indentation, run_text, is_last, runs_laid}
 
 -- texts are written character by character, and each but `'` stands for itself
 pub record WritesEach (written : Text → Text) : Type 0 where

@@ -3,15 +3,15 @@ use Rattle.std.proofs.lemmas.Int.{ints}
 use Rattle.std.proofs.Common.{◌≡◌, refl, ap, ◌∙◌, ℕ, ◌≤◌, [], ◌∷◌, ◌++◌, Bool, true, false, Ok, Err, Result, IfOk, arith, pos, negsuc, ℤ, ◌≤ℤ◌}
 use Rattle.std.specs.Prelude.{Option, Some, ◌&&◌, not, if◌then◌else◌}
 use Rattle.std.specs.List.{list_all}
-use Rattle.yaml_base.specs.Analysis.{Charset, allows_plain, allows_single_quoted}
+use Rattle.yaml_base.specs.scalars.Analysis.{Charset, allows_plain, allows_single_quoted}
 use Rattle.yaml_base.specs.Characters.{Text, is_space, space}
 use Rattle.yaml_base.specs.Cursor.{Cursor, Laid, space_if, text_laid, then_laid}
 use Rattle.yaml_base.specs.LineBreaks.{is_indented_text, with_breaks_written, with_line_breaks_read}
-use Rattle.yaml_base.specs.Plain.{plain_body, plain_laid}
-use Rattle.yaml_base.specs.ReadPlain.{read_plain}
-use Rattle.yaml_base.specs.ReadSingle.{read_single}
+use Rattle.yaml_base.specs.scalars.Plain.{plain_body, plain_laid}
+use Rattle.yaml_base.specs.reading.ReadPlain.{read_plain}
+use Rattle.yaml_base.specs.reading.ReadSingle.{read_single}
 use Rattle.yaml_base.specs.Settings.{LineBreak}
-use Rattle.yaml_base.specs.SingleQuoted.{single_quoted_body, single_quoted_laid}
+use Rattle.yaml_base.specs.scalars.SingleQuoted.{single_quoted_body, single_quoted_laid}
 use Rattle.yaml_base.specs.declared.errors.yaml_error_t.{yaml_error_t}
 use Rattle.yaml_pen.specs.Page.{Page, natural}
 use Rattle.yaml_pen.specs.Wrote.{Wrote}

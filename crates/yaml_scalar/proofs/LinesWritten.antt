@@ -4,8 +4,8 @@ use Rattle.std.specs.Prelude.{Option, ◌==◌, ◌&&◌, if◌then◌else◌}
 use Rattle.std.proofs.lemmas.Bool.{eqb-true}
 use Rattle.yaml_base.specs.Characters.{Text}
 use Rattle.yaml_base.specs.Cursor.{Cursor, Laid, indicator, space_if, text_laid, then_laid}
-use Rattle.yaml_base.specs.Plain.{Kind, spaces, runs, runs_laid}
-use Rattle.yaml_base.specs.SingleQuoted.{quotes_doubled, single_quote, single_quoted_laid}
+use Rattle.yaml_base.specs.scalars.Plain.{Kind, spaces, runs, runs_laid}
+use Rattle.yaml_base.specs.scalars.SingleQuoted.{quotes_doubled, single_quote, single_quoted_laid}
 use Rattle.yaml_base.specs.declared.errors.yaml_error_t.{yaml_error_t}
 use Rattle.yaml_pen.specs.Page.{Page}
 use Rattle.yaml_pen.specs.Wrote.{Wrote}

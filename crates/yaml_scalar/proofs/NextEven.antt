@@ -2,8 +2,8 @@
 use Rattle.std.proofs.Common.{◌≡◌, refl}
 use Rattle.std.specs.Prelude.{ℕ, true, false, List, [], ◌∷◌, not}
 use Rattle.yaml_base.specs.Characters.{Text, is_break, is_space}
-use Rattle.yaml_base.specs.Folded.{next_even}
-use Rattle.yaml_base.specs.Lines.{Part, line, line_break, begun, parts}
+use Rattle.yaml_base.specs.scalars.Folded.{next_even}
+use Rattle.yaml_base.specs.scalars.Lines.{Part, line, line_break, begun, parts}
 
 even-begun : (c : ℕ) (ps : List Part) → next_even (begun c ps) ≡ not (is_space c)
 even-begun c [] = refl

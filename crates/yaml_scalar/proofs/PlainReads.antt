@@ -7,10 +7,10 @@ use Rattle.yaml_base.specs.Characters.{Text, is_break, is_space}
 use Rattle.yaml_base.specs.Cursor.{Cursor}
 use Rattle.yaml_base.specs.Settings.{LineBreak}
 use Rattle.yaml_base.specs.LineBreaks.{is_indented_text, is_laid_text, with_breaks_written, with_line_breaks_read}
-use Rattle.yaml_base.specs.Analysis.{Charset, allows_plain, bars_plain, bars_single_quoted, begins_unlike_plain, begins_with, is_empty, somewhere}
-use Rattle.yaml_base.specs.Plain.{plain_body, spaces}
-use Rattle.yaml_base.specs.ReadFolding.{unit_of, folding_read}
-use Rattle.yaml_base.specs.ReadPlain.{begins_no_plain, holds_no_plain, read_plain}
+use Rattle.yaml_base.specs.scalars.Analysis.{Charset, allows_plain, bars_plain, bars_single_quoted, begins_unlike_plain, begins_with, is_empty, somewhere}
+use Rattle.yaml_base.specs.scalars.Plain.{plain_body, spaces}
+use Rattle.yaml_base.specs.reading.ReadFolding.{unit_of, folding_read}
+use Rattle.yaml_base.specs.reading.ReadPlain.{begins_no_plain, holds_no_plain, read_plain}
 use Rattle.yaml_base.proofs.BreakLaws.{breaks-round, indented-written}
 use Rattle.yaml_scalar.specs.LineSteps.{steps_laid}
 use Rattle.yaml_scalar.proofs.LineRuns.{WritesEach, runs_by_steps}

@@ -5,9 +5,9 @@ use Rattle.std.proofs.lemmas.Bool.{eqb-true, or_parts, or_from}
 use Rattle.std.proofs.Math.Bool.{and-false, and-true, and_assoc}
 use Rattle.yaml_base.specs.Characters.{Text, is_among, is_blank, is_break, is_space, line_feed, space}
 use Rattle.yaml_base.specs.Cursor.{Cursor, text_laid, is_past_width}
-use Rattle.yaml_base.specs.Analysis.{Charset, bars_plain, begins_like_mark, begins_unlike_plain, begins_with, ends_word, is_empty, is_gap, somewhere}
-use Rattle.yaml_base.specs.Plain.{Kind, spaces, breaks, others, kind_of, is_same_kind, indentation}
-use Rattle.yaml_base.specs.ReadPlain.{begins_no_plain, begins_with_three, begins_white, begins_with_hash, holds_no_plain, is_read_white}
+use Rattle.yaml_base.specs.scalars.Analysis.{Charset, bars_plain, begins_like_mark, begins_unlike_plain, begins_with, ends_word, is_empty, is_gap, somewhere}
+use Rattle.yaml_base.specs.scalars.Plain.{Kind, spaces, breaks, others, kind_of, is_same_kind, indentation}
+use Rattle.yaml_base.specs.reading.ReadPlain.{begins_no_plain, begins_with_three, begins_white, begins_with_hash, holds_no_plain, is_read_white}
 use Rattle.yaml_scalar.specs.LineSteps.{begins_kind, step_text}
 use Rattle.yaml_scalar.proofs.LineTexts.{bare_steps}
 use Rattle.yaml_scalar.proofs.LineFolds.{spaces_only, breaks_only}

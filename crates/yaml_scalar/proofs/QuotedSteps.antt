@@ -4,8 +4,8 @@ use Rattle.std.specs.Prelude.{ℕ, ◌≤◌, Bool, true, false, Option, None, R
 use Rattle.std.specs.Str.{all_scalars}
 use Rattle.yaml_base.specs.Characters.{Text}
 use Rattle.yaml_base.specs.Cursor.{Cursor, Laid, indicator, then_laid}
-use Rattle.yaml_base.specs.DoubleQuoted.{double_inside, double_quoted_body, double_quoted_laid, quote, quote_laid}
-use Rattle.yaml_base.specs.ReadDouble.{read_double}
+use Rattle.yaml_base.specs.scalars.DoubleQuoted.{double_inside, double_quoted_body, double_quoted_laid, quote, quote_laid}
+use Rattle.yaml_base.specs.reading.ReadDouble.{read_double}
 use Rattle.yaml_base.specs.declared.errors.yaml_error_t.{yaml_error_t}
 use Rattle.yaml_pen.specs.Page.{Page}
 use Rattle.yaml_pen.specs.Wrote.{Wrote}

@@ -7,8 +7,8 @@ use Rattle.std.specs.Prelude.{◌≤◌, ℕ, Bool, true, false, Option, None, L
 use Rattle.std.specs.Str.{chars}
 use Rattle.yaml_base.specs.Characters.{Text}
 use Rattle.yaml_base.specs.Cursor.{Cursor, Laid, text_laid}
-use Rattle.yaml_base.specs.DoubleQuoted.{double_inside}
-use Rattle.yaml_base.specs.Plain.{spaces}
+use Rattle.yaml_base.specs.scalars.DoubleQuoted.{double_inside}
+use Rattle.yaml_base.specs.scalars.Plain.{spaces}
 use Rattle.yaml_scalar.specs.ByteClasses.{IsFreeRun, Tells}
 use Rattle.yaml_scalar.specs.EscapeBytes.{is_plain}
 use Rattle.yaml_scalar.specs.LineSteps.{steps_laid, written_as}

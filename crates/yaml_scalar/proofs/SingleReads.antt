@@ -8,11 +8,11 @@ use Rattle.yaml_base.specs.Characters.{Text, is_break}
 use Rattle.yaml_base.specs.Cursor.{Cursor}
 use Rattle.yaml_base.specs.Settings.{LineBreak}
 use Rattle.yaml_base.specs.LineBreaks.{is_indented_text, is_laid_text, with_breaks_written, with_line_breaks_read}
-use Rattle.yaml_base.specs.Analysis.{Charset, allows_single_quoted}
-use Rattle.yaml_base.specs.Plain.{spaces}
-use Rattle.yaml_base.specs.SingleQuoted.{quotes_doubled, single_quote, single_quoted_body}
-use Rattle.yaml_base.specs.ReadFolding.{unit_of, folding_read}
-use Rattle.yaml_base.specs.ReadSingle.{unquoted, read_single}
+use Rattle.yaml_base.specs.scalars.Analysis.{Charset, allows_single_quoted}
+use Rattle.yaml_base.specs.scalars.Plain.{spaces}
+use Rattle.yaml_base.specs.scalars.SingleQuoted.{quotes_doubled, single_quote, single_quoted_body}
+use Rattle.yaml_base.specs.reading.ReadFolding.{unit_of, folding_read}
+use Rattle.yaml_base.specs.reading.ReadSingle.{unquoted, read_single}
 use Rattle.yaml_base.proofs.BreakLaws.{breaks-round, indented-written, laid-append}
 use Rattle.yaml_scalar.proofs.Unbroken.{is_unbroken}
 use Rattle.yaml_scalar.proofs.LineRuns.{WritesEach, runs_by_steps}

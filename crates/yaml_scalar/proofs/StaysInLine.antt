@@ -10,7 +10,7 @@ use lib.Utf8.{encodes}
 use Rattle.std.specs.Prelude.{ℕ, zero, suc, Bool, true, false, Option, None, Some, List, [], ◌∷◌, ◌++◌, ◌==◌, ◌||◌, ◌&&◌, ◌+◌, ◌<◌, ◌≤◌, length, take, if◌then◌else◌}
 use Rattle.yaml_base.specs.Characters.{Text, is_break, is_space}
 use Rattle.yaml_base.specs.Cursor.{Cursor, Laid, is_past_width, next_column, text_laid, then_laid}
-use Rattle.yaml_base.specs.Plain.{Kind, spaces, breaks, others, kind_of}
+use Rattle.yaml_base.specs.scalars.Plain.{Kind, spaces, breaks, others, kind_of}
 use Rattle.yaml_scalar.specs.LineSteps.{step_text, steps_laid, written_as}
 use Rattle.yaml_scalar.specs.WholeRuns.{HasRoom, IsLineRun, last_from, stays_in_line}
 use Rattle.yaml_scalar.proofs.LinesWritten.{written_each}

@@ -2,14 +2,14 @@
 use Rattle.std.proofs.Common.{◌≡◌, ◌≤◌, refl, sym, ap, ◌∙◌, ℕ, zero, suc, List, [], ◌∷◌, ◌++◌, Bool, true, false, append_assoc, ◌⊎◌, inl, inr}
 use Rattle.std.specs.Prelude.{Option, ◌==◌, ◌||◌, ◌&&◌, ◌+◌, not, replicate, if◌then◌else◌}
 use Rattle.std.proofs.lemmas.Bool.{and_from, true≢false, not-true, or_parts, or_right}
-use Rattle.yaml_base.specs.Analysis.{Charset, allows_block, bars_block, begins_with, is_empty, somewhere}
+use Rattle.yaml_base.specs.scalars.Analysis.{Charset, allows_block, bars_block, begins_with, is_empty, somewhere}
 use Rattle.yaml_base.specs.Characters.{Text, is_break, is_space, line_feed, space}
 use Rattle.yaml_base.specs.Cursor.{Cursor}
-use Rattle.yaml_base.specs.BlockHeader.{Ending, without_break, one_break, more_breaks, ending, begins_blank, ending_hint, block_body}
-use Rattle.yaml_base.specs.Folded.{cut_from, cut_line, folded_body, folded_parts, folds, next_even}
+use Rattle.yaml_base.specs.scalars.BlockHeader.{Ending, without_break, one_break, more_breaks, ending, begins_blank, ending_hint, block_body}
+use Rattle.yaml_base.specs.scalars.Folded.{cut_from, cut_line, folded_body, folded_parts, folds, next_even}
 use Rattle.yaml_base.specs.LineBreaks.{is_read_break}
-use Rattle.yaml_base.specs.Lines.{Part, line, line_break, begun, parts}
-use Rattle.yaml_base.specs.Literal.{indented, literal_body}
+use Rattle.yaml_base.specs.scalars.Lines.{Part, line, line_break, begun, parts}
+use Rattle.yaml_base.specs.scalars.Literal.{indented, literal_body}
 use Rattle.yaml_base.specs.TidyBodies.{begins_with_blank_line, begins_with_deep_line, begins_with_spaces, has_deep_lines}
 use Rattle.yaml_scalar.proofs.BlockFolds.{fold-spaced}
 use Rattle.yaml_scalar.proofs.BlockReads.{block-text, digit_text, ordinary, sign_of}

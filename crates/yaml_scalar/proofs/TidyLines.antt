@@ -3,13 +3,13 @@
 use Rattle.std.proofs.Common.{◌≡◌, ◌≤◌, refl, sym, ap, ◌∙◌, subst, ℕ, [], ◌∷◌, ◌++◌, Bool, true, false, append-nil, append_assoc}
 use Rattle.std.specs.Prelude.{Option, ◌==◌, ◌||◌, ◌&&◌, not, if◌then◌else◌}
 use Rattle.std.proofs.lemmas.Bool.{and_from, and_parts, eqb-true, false≢true, true≢false, not-true, or_from, or_parts}
-use Rattle.yaml_base.specs.Analysis.{Charset, allows_plain, allows_single_quoted, bars_plain, bars_single_quoted, begins_unlike_plain, begins_with, is_empty, is_special, somewhere}
+use Rattle.yaml_base.specs.scalars.Analysis.{Charset, allows_plain, allows_single_quoted, bars_plain, bars_single_quoted, begins_unlike_plain, begins_with, is_empty, is_special, somewhere}
 use Rattle.yaml_base.specs.Characters.{Text, is_break, is_space, line_feed, space}
 use Rattle.yaml_base.specs.Cursor.{Cursor, text_laid, is_past_width}
 use Rattle.yaml_base.specs.LineBreaks.{is_read_break}
-use Rattle.yaml_base.specs.Plain.{Kind, spaces, breaks, others, kind_of, is_same_kind, indentation, plain_body}
-use Rattle.yaml_base.specs.ReadPlain.{is_read_white}
-use Rattle.yaml_base.specs.SingleQuoted.{quotes_doubled, single_quote, single_quoted_body}
+use Rattle.yaml_base.specs.scalars.Plain.{Kind, spaces, breaks, others, kind_of, is_same_kind, indentation, plain_body}
+use Rattle.yaml_base.specs.reading.ReadPlain.{is_read_white}
+use Rattle.yaml_base.specs.scalars.SingleQuoted.{quotes_doubled, single_quote, single_quoted_body}
 use Rattle.yaml_base.specs.TidyBodies.{begins_with_break, ends_white, has_clean_edges}
 use Rattle.yaml_scalar.specs.LineSteps.{begins_kind, step_text, steps_laid}
 use Rattle.yaml_scalar.proofs.BlockReads.{ordinary}

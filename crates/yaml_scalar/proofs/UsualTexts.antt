@@ -5,7 +5,7 @@ use Rattle.std.proofs.lemmas.Str.{chars-nil}
 use Rattle.std.specs.List.{list_all}
 use Rattle.std.specs.Str.{chars}
 use Rattle.std.specs.Prelude.{ℕ, Bool, true, false, Option, List, [], ◌∷◌, ◌==◌, ◌-◌, ◌<◌, ◌||◌, ◌&&◌, not, length, slice_index, if◌then◌else◌}
-use Rattle.yaml_base.specs.Analysis.{Allowances, Charset, allowances, begins_with, is_empty}
+use Rattle.yaml_base.specs.scalars.Analysis.{Allowances, Charset, allowances, begins_with, is_empty}
 use Rattle.yaml_base.specs.Characters.{Text, is_space, space}
 use Rattle.yaml_base.specs.Cursor.{Cursor}
 use Rattle.yaml_scalar.specs.Barred.{Barred, allowed_by, barred_by, barred_in, either, is_ordinary, is_quiet, none_barred}

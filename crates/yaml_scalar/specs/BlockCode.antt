@@ -1,6 +1,6 @@
 -- What contracts see of the block scalars' own types.
 use Rattle.std.specs.Prelude.{ℤ, Result, Ok, Err}
-use Rattle.yaml_base.specs.BlockHeader as layout
+use Rattle.yaml_base.specs.scalars.BlockHeader as layout
 use Rattle.yaml_base.specs.declared.errors.yaml_error_t.{yaml_error_t}
 use Rattle.yaml_scalar.specs.declared.block_header.Ending.{Ending}
 use Rattle.yaml_scalar.specs.declared.block_header.Ending.TheVariants.{WithoutBreak, OneBreak, MoreBreaks}

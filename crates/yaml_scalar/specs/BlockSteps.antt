@@ -1,10 +1,10 @@
 -- The lines of a block scalar one character after another: the layout as its writer goes through it.
 use Rattle.std.specs.Prelude.{ℕ, Bool, true, false, [], ◌∷◌, ◌==◌, ◌&&◌, not, Option, if◌then◌else◌}
 use Rattle.yaml_base.specs.Characters.{Text, is_break, is_space, line_feed}
-use Rattle.yaml_base.specs.BlockHeader.{header_laid}
+use Rattle.yaml_base.specs.scalars.BlockHeader.{header_laid}
 use Rattle.yaml_base.specs.Cursor.{Cursor, Laid, nothing_laid, then_laid, text_laid, with_flags, space_if, new_line}
-use Rattle.yaml_base.specs.Lines.{parts}
-use Rattle.yaml_base.specs.Folded.{folds, next_even}
+use Rattle.yaml_base.specs.scalars.Lines.{parts}
+use Rattle.yaml_base.specs.scalars.Folded.{folds, next_even}
 use Rattle.yaml_scalar.specs.WholeRuns.{has_limit, stays_in_line}
 use Rattle.yaml_scalar.specs.declared.block_lines.Place.{Place}
 use Rattle.yaml_scalar.specs.declared.block_lines.Place.TheVariants.{LineStart, Folding, Fixed}

@@ -5,7 +5,7 @@ use Rattle.std.specs.Str.{chars}
 use Rattle.std.specs.List.{list_all}
 use Rattle.yaml_base.specs.Characters.{Text, is_ascii, is_space}
 use Rattle.yaml_base.specs.Cursor.{text_laid}
-use Rattle.yaml_base.specs.DoubleQuoted.{character_text, needs_escape}
+use Rattle.yaml_base.specs.scalars.DoubleQuoted.{character_text, needs_escape}
 use Rattle.yaml_base.specs.declared.errors.yaml_error_t.{yaml_error_t}
 use Rattle.yaml_pen.specs.Page.{Page}
 use Rattle.yaml_pen.specs.Wrote.{Wrote}

@@ -1,10 +1,10 @@
 -- The lines of plain and single-quoted scalars character by character, as they are written.
 use Rattle.std.specs.Prelude.{ℕ, Bool, true, false, Option, [], ◌∷◌, ◌++◌, ◌==◌, ◌||◌, ◌&&◌, not, if◌then◌else◌}
-use Rattle.yaml_base.specs.Analysis.{is_empty}
+use Rattle.yaml_base.specs.scalars.Analysis.{is_empty}
 use Rattle.yaml_base.specs.Characters.{Text, line_feed}
 use Rattle.yaml_base.specs.Cursor.{Cursor, Laid, is_past_width, nothing_laid, text_laid, then_laid}
-use Rattle.yaml_base.specs.Plain.{Kind, spaces, breaks, others, indentation, is_same_kind, kind_of}
-use Rattle.yaml_base.specs.SingleQuoted.{quotes_doubled}
+use Rattle.yaml_base.specs.scalars.Plain.{Kind, spaces, breaks, others, indentation, is_same_kind, kind_of}
+use Rattle.yaml_base.specs.scalars.SingleQuoted.{quotes_doubled}
 use Rattle.yaml_scalar.specs.declared.lines.CharacterKind.{CharacterKind}
 use Rattle.yaml_scalar.specs.declared.lines.CharacterKind.TheVariants.{Space, Break, Other}
 

@@ -1,9 +1,9 @@
 -- What contracts see of an analysis and of a choice.
 use Rattle.std.specs.Prelude.{◌≡◌, Bool}
-use Rattle.yaml_base.specs.Analysis.{Allowances, Charset}
+use Rattle.yaml_base.specs.scalars.Analysis.{Allowances, Charset}
 use Rattle.yaml_base.specs.Event.{ScalarStyle}
 use Rattle.yaml_base.specs.Seen.{seen_scalar_style}
-use Rattle.yaml_base.specs.Style.{Choice, chosen}
+use Rattle.yaml_base.specs.scalars.Style.{Choice, chosen}
 use Rattle.yaml_base.specs.declared.styles.yaml_scalar_style_t.{yaml_scalar_style_t}
 use Rattle.yaml_scalar.specs.declared.analysis.scalar_data_t.{scalar_data_t}
 use Rattle.yaml_scalar.specs.declared.analysis.CharacterSet.{CharacterSet}

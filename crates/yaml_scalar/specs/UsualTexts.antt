@@ -1,7 +1,7 @@
 -- Usual texts: short, one line, and free in every style.
 use Rattle.std.specs.Prelude.{◌≡◌, ℕ, Bool, true, false, List, ◌&&◌, not}
 use Rattle.std.specs.Str.{chars}
-use Rattle.yaml_base.specs.Analysis.{Allowances, Charset, allowances, begins_with}
+use Rattle.yaml_base.specs.scalars.Analysis.{Allowances, Charset, allowances, begins_with}
 use Rattle.yaml_base.specs.Characters.{is_space}
 use Rattle.yaml_scalar.specs.Barred.{is_ordinary}
 use Rattle.yaml_scalar.specs.ShortRuns.{IsShortRun}

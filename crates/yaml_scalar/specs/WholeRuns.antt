@@ -4,7 +4,7 @@ use Rattle.std.specs.List.{list_all}
 use Rattle.std.specs.Str.{IsCharBoundary, chars}
 use Rattle.yaml_base.specs.Characters.{Text, is_break, is_space}
 use Rattle.yaml_base.specs.Cursor.{Cursor}
-use Rattle.yaml_base.specs.DoubleQuoted.{needs_escape}
+use Rattle.yaml_base.specs.scalars.DoubleQuoted.{needs_escape}
 
 -- some column is past the width
 abbrev pub has_limit : Option ℕ → Bool

@@ -2,7 +2,7 @@
 ghost use Rattle.std.specs.List.{list_any};
 ghost use Rattle.std.specs.Prelude.{◌≡◌, ◌≤◌, ◌==◌, ◌||◌, ◌&&◌, [], false, not, codes, length};
 ghost use Rattle.std.specs.Str.{IsUtf8, chars};
-ghost use Rattle.yaml_base.specs.Analysis as spec;
+ghost use Rattle.yaml_base.specs.scalars.Analysis as spec;
 ghost use Rattle.yaml_base.specs.Characters as class;
 ghost use Rattle.yaml_scalar.specs.Barred.{all_styles, allowed_by, barred_by, barred_by_space, barred_in, either, is_ordinary, is_quiet, seen_barred};
 ghost use Rattle.yaml_scalar.specs.ByteClasses.{Tells};

@@ -1,7 +1,7 @@
 //! The header of literal and folded scalars (YAML 1.1, section 9.2).
 ghost use Rattle.std.specs.Prelude.{◌≡◌, ◌≤ℤ◌, ◌<◌, ◌∷◌, ◌++◌, [], false, true, pos, IfOk, encode_utf8};
 ghost use Rattle.std.specs.Str.{chars};
-ghost use Rattle.yaml_base.specs.BlockHeader as layout;
+ghost use Rattle.yaml_base.specs.scalars.BlockHeader as layout;
 ghost use Rattle.yaml_base.specs.Characters as class;
 ghost use Rattle.yaml_pen.specs.Page.{IsReady, natural};
 ghost use Rattle.yaml_pen.specs.Wrote.{Wrote};

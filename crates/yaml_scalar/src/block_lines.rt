@@ -1,11 +1,11 @@
 //! The lines of literal and folded scalars (YAML 1.1, section 9.3), one character after another.
 ghost use Rattle.std.specs.Prelude.{◌≡◌, ◌≤ℤ◌, pos, true, false};
 ghost use Rattle.std.specs.Str.{chars};
-ghost use Rattle.yaml_base.specs.Analysis as analysis;
+ghost use Rattle.yaml_base.specs.scalars.Analysis as analysis;
 ghost use Rattle.yaml_base.specs.Characters as class;
 ghost use Rattle.yaml_base.specs.Cursor.{new_line, with_flags};
-ghost use Rattle.yaml_base.specs.Folded as layout;
-ghost use Rattle.yaml_base.specs.Lines.{parts};
+ghost use Rattle.yaml_base.specs.scalars.Folded as layout;
+ghost use Rattle.yaml_base.specs.scalars.Lines.{parts};
 ghost use Rattle.yaml_pen.specs.Page.{IsReady, natural};
 ghost use Rattle.yaml_pen.specs.Wrote.{Wrote};
 ghost use Rattle.yaml_scalar.specs.BlockSteps as step;

@@ -2,11 +2,11 @@
 ghost use Rattle.std.specs.Prelude.{◌≡◌, pos, ◌≤ℤ◌, ◌≤◌, ◌<◌, ◌==◌, ◌||◌, ◌&&◌, ◌∷◌, [], true, false, not, Option, None, Some, Bool, IfOk, length};
 ghost use Rattle.std.specs.List.{list_all};
 ghost use Rattle.std.specs.Str.{IsUtf8, chars};
-ghost use Rattle.yaml_base.specs.Analysis.{begins_with};
+ghost use Rattle.yaml_base.specs.scalars.Analysis.{begins_with};
 ghost use Rattle.yaml_base.specs.Characters.{is_space};
 ghost use Rattle.yaml_base.specs.Cursor.{is_past_width, text_laid};
-ghost use Rattle.yaml_base.specs.DoubleQuoted as spec;
-ghost use Rattle.yaml_base.specs.ReadDouble.{read_double};
+ghost use Rattle.yaml_base.specs.scalars.DoubleQuoted as spec;
+ghost use Rattle.yaml_base.specs.reading.ReadDouble.{read_double};
 ghost use Rattle.yaml_pen.specs.Page.{IsReady, natural};
 ghost use Rattle.yaml_pen.specs.Wrote.{Wrote};
 ghost use Rattle.yaml_scalar.specs.ByteClasses.{Tells};

@@ -1,7 +1,7 @@
 //! The escapes of characters between double quotes (YAML 1.1, section 5.6).
 ghost use Rattle.std.specs.Prelude.{◌≡◌, ◌∷◌, ◌%◌, ◌<◌, Bool, None};
 ghost use Rattle.yaml_base.specs.Characters as class;
-ghost use Rattle.yaml_base.specs.DoubleQuoted as spec;
+ghost use Rattle.yaml_base.specs.scalars.DoubleQuoted as spec;
 ghost use Rattle.yaml_scalar.specs.EscapeBytes.{escape_bytes};
 
 use crate::classes::{BREAK, ESCAPED, UNPRINTABLE, is_free};

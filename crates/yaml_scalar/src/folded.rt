@@ -1,10 +1,10 @@
 //! Folded scalars (YAML 1.1, section 9.3.2).
 ghost use Rattle.std.specs.Prelude.{◌≡◌, ◌≤ℤ◌, ℕ, pos, false, true, Option, IfOk};
 ghost use Rattle.std.specs.Str.{chars};
-ghost use Rattle.yaml_base.specs.Analysis.{Charset, allows_block, is_empty};
-ghost use Rattle.yaml_base.specs.BlockHeader.{Encloses, header_mark};
-ghost use Rattle.yaml_base.specs.Folded.{folded_laid};
-ghost use Rattle.yaml_base.specs.ReadBlock.{read_block};
+ghost use Rattle.yaml_base.specs.scalars.Analysis.{Charset, allows_block, is_empty};
+ghost use Rattle.yaml_base.specs.scalars.BlockHeader.{Encloses, header_mark};
+ghost use Rattle.yaml_base.specs.scalars.Folded.{folded_laid};
+ghost use Rattle.yaml_base.specs.reading.ReadBlock.{read_block};
 ghost use Rattle.yaml_pen.specs.Page.{IsReady, natural};
 ghost use Rattle.yaml_pen.specs.Wrote.{Wrote};
 ghost use Rattle.yaml_scalar.specs.BlockCode.{without_mark};

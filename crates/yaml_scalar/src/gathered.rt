@@ -1,7 +1,7 @@
 //! Characters between double quotes whose texts are written at once.
 ghost use Rattle.std.specs.Prelude.{◌≡◌, [], ◌≤◌, ◌<◌, ◌+◌, ◌++◌, ◌∷◌, true, length, IfSome};
 ghost use Rattle.std.specs.Str.{IsUtf8, chars};
-ghost use Rattle.yaml_base.specs.DoubleQuoted as spec;
+ghost use Rattle.yaml_base.specs.scalars.DoubleQuoted as spec;
 ghost use Rattle.yaml_scalar.specs.Gathered.{AreGathered, is_gathered, longest_escape, most_bytes};
 
 use crate::escapes::{Escape, escape_of, needs_escape};

@@ -1,11 +1,11 @@
 //! The lines that plain and single-quoted scalars share: runs of spaces, of breaks and of other characters.
 ghost use Rattle.std.specs.Prelude.{◌≡◌, ◌<◌, ◌==◌, ◌&&◌, ◌||◌, not, ◌++◌, [], ◌∷◌, true, false, if◌then◌else◌};
 ghost use Rattle.std.specs.Str.{chars};
-ghost use Rattle.yaml_base.specs.Analysis as analysis;
+ghost use Rattle.yaml_base.specs.scalars.Analysis as analysis;
 ghost use Rattle.yaml_base.specs.Characters as class;
 ghost use Rattle.yaml_base.specs.Cursor as cursor;
 ghost use Rattle.yaml_base.specs.Cursor.{text_laid};
-ghost use Rattle.yaml_base.specs.Plain as layout;
+ghost use Rattle.yaml_base.specs.scalars.Plain as layout;
 ghost use Rattle.yaml_pen.specs.Page.{IsReady};
 ghost use Rattle.yaml_pen.specs.Wrote.{Wrote};
 ghost use Rattle.yaml_scalar.specs.LineSteps as steps;

@@ -1,9 +1,9 @@
 //! Plain scalars.
 ghost use Rattle.std.specs.Prelude.{◌≡◌, pos, ◌≤ℤ◌, ◌||◌, not, true, false, IfOk};
 ghost use Rattle.std.specs.Str.{chars};
-ghost use Rattle.yaml_base.specs.Analysis.{Charset, allows_plain, is_empty};
-ghost use Rattle.yaml_base.specs.Plain.{plain_body, plain_laid};
-ghost use Rattle.yaml_base.specs.ReadPlain.{read_plain};
+ghost use Rattle.yaml_base.specs.scalars.Analysis.{Charset, allows_plain, is_empty};
+ghost use Rattle.yaml_base.specs.scalars.Plain.{plain_body, plain_laid};
+ghost use Rattle.yaml_base.specs.reading.ReadPlain.{read_plain};
 ghost use Rattle.yaml_pen.specs.Page.{IsReady, natural};
 ghost use Rattle.yaml_pen.specs.Wrote.{Wrote};
 ghost use Rattle.yaml_scalar.specs.ReadsBack.{ReadsBack};

@@ -1,10 +1,10 @@
 //! Single-quoted scalars.
 ghost use Rattle.std.specs.Prelude.{◌≡◌, pos, ◌≤ℤ◌, true, false, IfOk, codes};
 ghost use Rattle.std.specs.Str.{chars};
-ghost use Rattle.yaml_base.specs.Analysis.{Charset, allows_single_quoted};
+ghost use Rattle.yaml_base.specs.scalars.Analysis.{Charset, allows_single_quoted};
 ghost use Rattle.yaml_base.specs.Cursor.{indicator};
-ghost use Rattle.yaml_base.specs.SingleQuoted.{single_quoted_laid};
-ghost use Rattle.yaml_base.specs.ReadSingle.{read_single};
+ghost use Rattle.yaml_base.specs.scalars.SingleQuoted.{single_quoted_laid};
+ghost use Rattle.yaml_base.specs.reading.ReadSingle.{read_single};
 ghost use Rattle.yaml_pen.specs.Page.{IsReady, natural};
 ghost use Rattle.yaml_pen.specs.Wrote.{Wrote};
 ghost use Rattle.yaml_scalar.specs.ReadsBack.{ReadsBack};

@@ -2,7 +2,7 @@
 //! follows it.
 ghost use Rattle.std.specs.Prelude.{◌≡◌, pos, ◌≤ℤ◌, Bool, true, false};
 ghost use Rattle.std.specs.Str.{chars};
-ghost use Rattle.yaml_base.specs.Plain.{plain_body, plain_laid, runs, runs_laid};
+ghost use Rattle.yaml_base.specs.scalars.Plain.{plain_body, plain_laid, runs, runs_laid};
 ghost use Rattle.yaml_pen.specs.Page.{IsReady, natural};
 ghost use Rattle.yaml_pen.specs.Wrote.{Wrote};
 ghost use Rattle.yaml_scalar.specs.Barred.{is_ordinary};

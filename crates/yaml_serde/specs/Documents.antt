@@ -3,7 +3,7 @@ use Rattle.std.specs.Prelude.{◌≡◌, ℕ, ℤ, Bool, true, List, [], ◌++�
 use Rattle.std.specs.List.{All}
 use Rattle.yaml_base.specs.Characters.{Text}
 use Rattle.yaml_base.specs.Event.{Event, block}
-use Rattle.yaml_base.specs.JsonNumbers.{JsonNumber, is_json_number}
+use Rattle.yaml_base.specs.values.JsonNumbers.{JsonNumber, is_json_number}
 use Rattle.yaml_base.specs.Settings.{Settings}
 use Rattle.yaml_emitter.specs.State.{State}
 use Rattle.yaml_writer.specs.Floats.{special_event}

@@ -3,7 +3,7 @@ use Rattle.std.proofs.Common.{◌≡◌, ℕ, Bool, true, false, cond, ◌||◌,
 use Rattle.std.specs.List.{onto_first}
 use Rattle.std.proofs.lemmas.Bool.Decides.{nat_tests}
 use Rattle.yaml_base.specs.Characters.{Text}
-use Rattle.yaml_base.specs.Script.{version_of}
+use Rattle.yaml_base.specs.scripts.Script.{version_of}
 use Rattle.yaml_tool.specs.Cuts.{IsFree, IsCut, cut_at}
 
 -- neither of two tests

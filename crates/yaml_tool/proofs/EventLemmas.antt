@@ -3,7 +3,7 @@ use Rattle.std.proofs.Common.{◌≡◌, ◌++◌, append_assoc, codes, Bool, Op
 use Rattle.std.proofs.lemmas.List.{map-append}
 use Rattle.yaml_base.specs.Characters.{Text}
 use Rattle.yaml_base.specs.Event.{Event, TagDirective, ScalarStyle}
-use Rattle.yaml_base.specs.Script.{Field, bare, quoted, named, flags, scalar_styles, text_or_none, scalar_of, scalar_with, directives_of}
+use Rattle.yaml_base.specs.scripts.Script.{Field, bare, quoted, named, flags, scalar_styles, text_or_none, scalar_of, scalar_with, directives_of}
 use Rattle.yaml_base.specs.declared.directives.yaml_tag_directive_t.{yaml_tag_directive_t}
 use Rattle.yaml_base.specs.Seen.{seen_directive}
 use Rattle.yaml_tool.specs.Fields.{led_by, field_of, no_text, the_text, fields_after}

@@ -4,8 +4,8 @@ use Rattle.std.proofs.lemmas.Bool.Decides.{nat_tests}
 use Rattle.std.specs.List.{onto_first}
 use Rattle.std.specs.Str.{chars, IsUtf8}
 use Rattle.yaml_base.specs.Characters.{Text, space}
-use Rattle.yaml_base.specs.Script as notation
-use Rattle.yaml_base.specs.Script.{outside, inside, escaped, separates, state_after, cut_before, pieces_from, bare, quoted, text_from, at_character, field_read, field_and, each_field, fields_read, quotation_mark, backslash}
+use Rattle.yaml_base.specs.scripts.Script as notation
+use Rattle.yaml_base.specs.scripts.Script.{outside, inside, escaped, separates, state_after, cut_before, pieces_from, bare, quoted, text_from, at_character, field_read, field_and, each_field, fields_read, quotation_mark, backslash}
 use Rattle.yaml_tool.specs.Cuts.{IsFree, SkipsTo, front_of}
 use Rattle.yaml_tool.specs.Fields.{attached, RunsTo, pieces_after, fields_after, text_begun, led_by, HasField}
 use Rattle.yaml_tool.proofs.CutLemmas.{neither}

@@ -2,7 +2,7 @@
 use Rattle.std.proofs.Common.{◌≡◌, ℕ, Option, None, Some, List, [], ◌++◌, ap, sym, subst, ◌∙◌}
 use Rattle.std.specs.Prelude.{⊤, IfSome}
 use Rattle.std.specs.Io.KnownBytes.{Consumes, Keeps, IsAtEnd}
-use Rattle.yaml_base.specs.Script.{Script, script_of}
+use Rattle.yaml_base.specs.scripts.Script.{Script, script_of}
 use Rattle.yaml_tool.specs.declared.answers.run_answer_t.{run_answer_t}
 use Rattle.yaml_tool.specs.declared.parts.Front.{Front}
 use Rattle.yaml_tool.specs.declared.scripts.ScriptError.{ScriptError}

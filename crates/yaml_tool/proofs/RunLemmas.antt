@@ -5,7 +5,7 @@ use Rattle.std.specs.Prelude.{◌⊎◌, ℕ, Option, None, Some, IfSome, Err, L
 use Rattle.std.specs.Io.KnownBytes.{Appends}
 use Rattle.yaml_base.specs.Settings.{Settings}
 use Rattle.yaml_base.specs.Seen.{seen_event}
-use Rattle.yaml_base.specs.Script.{Numbered, Script, script_of}
+use Rattle.yaml_base.specs.scripts.Script.{Numbered, Script, script_of}
 use Rattle.yaml_base.specs.declared.errors.yaml_error_t.{yaml_error_t}
 use Rattle.yaml_pen.specs.Page.{told}
 use Rattle.yaml_pen.specs.Wrote.{Grows}

@@ -3,7 +3,7 @@ use Rattle.std.specs.Result.{IfErr, IsErr, IsErrAnd}
 use Rattle.std.proofs.Common.{◌≡◌, Result, Ok, Err, ℕ, suc, ◌+◌, ◌<◌, add-one, Option, None, Some, List, [], ◌∷◌, ◌++◌, length, length-append, append-nil, append_assoc, refl, ap, sym, subst, ◌∙◌, arith}
 use Rattle.std.specs.Borrow.{Bor}
 use Rattle.yaml_base.specs.Characters.{line_feed}
-use Rattle.yaml_base.specs.Script.{Script, Sofar, bad_line, understood, unset, settings_of, script_from}
+use Rattle.yaml_base.specs.scripts.Script.{Script, Sofar, bad_line, understood, unset, settings_of, script_from}
 use Rattle.yaml_tool.specs.declared.scripts.ScriptError.{ScriptError}
 use Rattle.yaml_tool.specs.Cuts.{IsFree, cut_at}
 use Rattle.yaml_tool.specs.Scripts.{after_line, script_behind, CutsLine, LeavesLine, IsFaultOf}

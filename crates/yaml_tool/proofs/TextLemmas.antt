@@ -7,8 +7,8 @@ use Rattle.std.specs.Str.{IsUtf8, chars, encode_utf8_all}
 use Rattle.std.proofs.lemmas.Str.{chars-append, chars-nil, encodes-append, encodes-chars, IsUtf8-string_bytes, chars_from_encodes}
 use Rattle.yaml_base.specs.Seen.{seen_text}
 use Rattle.yaml_base.specs.Characters.{Text}
-use Rattle.yaml_base.specs.Script as notation
-use Rattle.yaml_base.specs.Script.{goes_on, stands_for, ends, fails, at_character, at_escape, at_digits, at_brace, text_from, numbered_turn, quotation_mark, backslash, turn}
+use Rattle.yaml_base.specs.scripts.Script as notation
+use Rattle.yaml_base.specs.scripts.Script.{goes_on, stands_for, ends, fails, at_character, at_escape, at_digits, at_brace, text_from, numbered_turn, quotation_mark, backslash, turn}
 use Rattle.yaml_tool.specs.Cuts.{IsFree, IsCut, SkipsTo, front_of}
 use Rattle.yaml_tool.specs.Texts.{ReadsOn}
 use Rattle.yaml_tool.proofs.CutLemmas.{neither}

@@ -3,7 +3,7 @@ use Rattle.std.specs.Prelude.{ℕ, Option, None, Some, List, [], ◌∷◌, ◌=
 use Rattle.std.specs.Borrow.{Bor}
 use Rattle.std.specs.Str.{chars}
 use Rattle.yaml_base.specs.Characters.{Text}
-use Rattle.yaml_base.specs.Script.{is_word}
+use Rattle.yaml_base.specs.scripts.Script.{is_word}
 use Rattle.yaml_tool.specs.declared.arguments.Task.{Task}
 use Rattle.yaml_tool.specs.declared.arguments.Task.TheVariants as task
 

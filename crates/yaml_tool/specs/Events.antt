@@ -6,7 +6,7 @@ use Rattle.yaml_base.specs.Event.{Event, Version, TagDirective, scalar, any_styl
 use Rattle.yaml_base.specs.Seen.{seen_text, seen_version, seen_directive}
 use Rattle.yaml_base.specs.declared.directives.yaml_version_directive_t.{yaml_version_directive_t}
 use Rattle.yaml_base.specs.declared.directives.yaml_tag_directive_t.{yaml_tag_directive_t}
-use Rattle.yaml_base.specs.Script.{Field, bare, stream_start_of, alone, document_start_of, document_end_of, alias_of, scalar_of, collection_of}
+use Rattle.yaml_base.specs.scripts.Script.{Field, bare, stream_start_of, alone, document_start_of, document_end_of, alias_of, scalar_of, collection_of}
 use Rattle.yaml_tool.specs.Fields.{field_of}
 use Rattle.yaml_tool.specs.declared.events.CollectionFields.{CollectionFields}
 use Rattle.yaml_tool.specs.declared.words.EventName.{EventName}

@@ -3,8 +3,8 @@ use Rattle.std.specs.Prelude.{ℕ, ◌≡◌, ⊤, false, Option, None, Some, Li
 use Rattle.std.specs.List.{onto_first}
 use Rattle.std.specs.Str.{chars, IsUtf8}
 use Rattle.yaml_base.specs.Characters.{Text, space}
-use Rattle.yaml_base.specs.Script as notation
-use Rattle.yaml_base.specs.Script.{bare, quoted, outside, inside, escaped, pieces_from, quotation_mark}
+use Rattle.yaml_base.specs.scripts.Script as notation
+use Rattle.yaml_base.specs.scripts.Script.{bare, quoted, outside, inside, escaped, pieces_from, quotation_mark}
 use Rattle.yaml_tool.specs.Cuts.{EndsIn, front_of}
 use Rattle.yaml_tool.specs.declared.fields.FieldState.{FieldState}
 use Rattle.yaml_tool.specs.declared.fields.FieldState.TheVariants.{Outside, Inside, Escaped}

@@ -2,8 +2,8 @@
 use Rattle.std.specs.Prelude.{Option, option_map, option_and_then}
 use Rattle.yaml_base.specs.Characters.{Text}
 use Rattle.yaml_base.specs.Seen.{seen_event}
-use Rattle.yaml_base.specs.Script as notation
-use Rattle.yaml_base.specs.Script.{says_nothing, sets, gives}
+use Rattle.yaml_base.specs.scripts.Script as notation
+use Rattle.yaml_base.specs.scripts.Script.{says_nothing, sets, gives}
 use Rattle.yaml_tool.specs.Events.{usual_event}
 use Rattle.yaml_tool.specs.Fields.{the_text, text_begun}
 use Rattle.yaml_tool.specs.Settings.{seen_setting}

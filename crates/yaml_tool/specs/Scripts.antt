@@ -3,7 +3,7 @@ use Rattle.std.specs.Prelude.{◌≡◌, ◌≤◌, ◌+◌, ℕ, Option, None, 
 use Rattle.std.specs.Borrow.{Bor}
 use Rattle.yaml_base.specs.Characters.{line_feed}
 use Rattle.yaml_base.specs.Seen.{seen_event}
-use Rattle.yaml_base.specs.Script as notation
+use Rattle.yaml_base.specs.scripts.Script as notation
 use Rattle.yaml_tool.specs.declared.scripts.NumberedEvent.{NumberedEvent}
 use Rattle.yaml_tool.specs.declared.scripts.Progress.{Progress}
 use Rattle.yaml_tool.specs.declared.parts.Front.{Front}

@@ -1,7 +1,7 @@
 -- What contracts see of a script's settings.
 use Rattle.std.specs.Prelude.{Bool}
-use Rattle.yaml_base.specs.Script as notation
-use Rattle.yaml_base.specs.Script.{limit_set, encoding_set, canonical_set, unicode_set, indent_set, width_set, break_set, breaks12_set, portable_set}
+use Rattle.yaml_base.specs.scripts.Script as notation
+use Rattle.yaml_base.specs.scripts.Script.{limit_set, encoding_set, canonical_set, unicode_set, indent_set, width_set, break_set, breaks12_set, portable_set}
 use Rattle.yaml_base.specs.Settings as given
 use Rattle.yaml_base.specs.Seen.{seen_encoding, seen_break}
 use Rattle.yaml_tool.specs.declared.settings.Setting.{Setting}

@@ -2,8 +2,8 @@
 use Rattle.std.specs.Prelude.{List, ◌≡◌, ℕ, ◌<◌, Option, None, Some, [], ◌∷◌, ◌++◌, length, option_map}
 use Rattle.std.specs.Str.{chars, IsUtf8}
 use Rattle.yaml_base.specs.Characters.{Text}
-use Rattle.yaml_base.specs.Script as notation
-use Rattle.yaml_base.specs.Script.{stands_for, fails}
+use Rattle.yaml_base.specs.scripts.Script as notation
+use Rattle.yaml_base.specs.scripts.Script.{stands_for, fails}
 use Rattle.yaml_tool.specs.declared.texts.Turn.{Turn}
 use Rattle.yaml_tool.specs.declared.texts.Turn.TheVariants.{Ends, StandsFor, Fails}
 

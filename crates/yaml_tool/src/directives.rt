@@ -1,7 +1,7 @@
 //! The versions and directives of a script's document starts.
 ghost use Rattle.std.specs.Prelude.{◌≡◌, ◌∷◌, [], map, option_map, option_and_then, IfOk, MatchOption};
 ghost use Rattle.std.specs.Str.{chars};
-ghost use Rattle.yaml_base.specs.Script as notation;
+ghost use Rattle.yaml_base.specs.scripts.Script as notation;
 ghost use Rattle.yaml_base.specs.Seen.{seen_version, seen_directive};
 ghost use Rattle.yaml_tool.specs.Cuts.{cut_at};
 ghost use Rattle.yaml_tool.specs.Fields.{fields_after};

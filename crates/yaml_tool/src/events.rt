@@ -1,7 +1,7 @@
 //! The events of a script's lines.
 ghost use Rattle.std.specs.Prelude.{◌≡◌, true, None, Some, option_map, option_and_then, MatchOption, IfOk};
 ghost use Rattle.std.specs.Str.{chars};
-ghost use Rattle.yaml_base.specs.Script as notation;
+ghost use Rattle.yaml_base.specs.scripts.Script as notation;
 ghost use Rattle.yaml_base.specs.Seen.{seen_event, seen_text, seen_scalar_style, seen_sequence_style, seen_mapping_style};
 ghost use Rattle.yaml_base.specs.Event.{sequence_start, mapping_start};
 ghost use Rattle.yaml_tool.specs.Events.{event_by, four_fields, seen_versions, seen_directives, usual_event, usual_start_event};

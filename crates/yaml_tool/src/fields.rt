@@ -1,7 +1,7 @@
 //! The fields of a script's line, read one after another.
 ghost use Rattle.std.specs.Prelude.{◌≡◌, ◌<◌, ◌≤◌, true, false, [], ◌∷◌, Some, IfOk, IfSome, MatchOption, length, option_map, option_and_then};
 ghost use Rattle.std.specs.Str.{chars, IsUtf8};
-ghost use Rattle.yaml_base.specs.Script as notation;
+ghost use Rattle.yaml_base.specs.scripts.Script as notation;
 ghost use Rattle.yaml_base.specs.Seen.{seen_text};
 ghost use Rattle.yaml_tool.specs.Fields.{seen_field_state, RunsTo, pieces_after, fields_after, text_begun, led_by, no_text, field_of, the_word, the_text, HasField, HasNoField, HasNoWord, HasNoText, HasNoDash, HasNoChoice};
 

@@ -1,8 +1,8 @@
 //! The lines of a script.
 ghost use Rattle.std.specs.Prelude.{◌≡◌, true, Some, option_map, option_and_then, codes, IfOk, IfSome};
 ghost use Rattle.std.specs.Str.{chars};
-ghost use Rattle.yaml_base.specs.Script as notation;
-ghost use Rattle.yaml_base.specs.Script.{gives};
+ghost use Rattle.yaml_base.specs.scripts.Script as notation;
+ghost use Rattle.yaml_base.specs.scripts.Script.{gives};
 ghost use Rattle.yaml_base.specs.Seen.{seen_event};
 ghost use Rattle.yaml_tool.specs.Events.{usual_start_event};
 ghost use Rattle.yaml_tool.specs.Fields.{fields_after};

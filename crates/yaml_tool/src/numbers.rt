@@ -1,7 +1,7 @@
 //! Decimal numbers of a script's lines. Leading zeros are accepted.
 ghost use Rattle.std.specs.Prelude.{◌≡◌, ◌≤◌, pos, neg_ℤ, option_map};
 ghost use Rattle.std.specs.Str.{chars};
-ghost use Rattle.yaml_base.specs.Script as notation;
+ghost use Rattle.yaml_base.specs.scripts.Script as notation;
 ghost use Rattle.yaml_base.specs.Settings.{largest_i32};
 ghost use Rattle.yaml_tool.specs.Numbers.{number_after};
 

@@ -1,7 +1,7 @@
 //! A script that is read part by part, so that its bytes are never held whole.
 ghost use Rattle.std.specs.Prelude.{◌≡◌, ℕ, false, List, [], ◌++◌, map, IfOk, IfErr, OnOk, IfSome};
 ghost use Rattle.std.specs.Io.KnownBytes.{IsAtEnd};
-ghost use Rattle.yaml_base.specs.Script as notation;
+ghost use Rattle.yaml_base.specs.scripts.Script as notation;
 ghost use Rattle.yaml_tool.specs.Runs.{IsFault};
 ghost use Rattle.yaml_tool.specs.Scripts.{seen_numbered, script_with, GoesOn, IsFaultOf};
 ghost use Rattle.yaml_tool.specs.Settings.{seen_settings};

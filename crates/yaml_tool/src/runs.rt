@@ -1,7 +1,7 @@
 //! A whole run: a script is read, its events are emitted, and the output is written.
 ghost use Rattle.std.specs.Prelude.{◌≡◌, ℕ, None, Some, true, false, List, [], map, IfOk, IfErr, OnOk, IfSome};
 ghost use Rattle.std.specs.Io.KnownBytes.{IsAtEnd};
-ghost use Rattle.yaml_base.specs.Script as notation;
+ghost use Rattle.yaml_base.specs.scripts.Script as notation;
 ghost use Rattle.yaml_base.specs.Settings as given;
 ghost use Rattle.yaml_emitter.specs.Given.{nothing_given};
 ghost use Rattle.yaml_emitter.specs.State.{new_state};

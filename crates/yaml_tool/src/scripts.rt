@@ -1,7 +1,7 @@
 //! Whole scripts.
 ghost use Rattle.std.specs.Prelude.{◌≡◌, ◌≤◌, ◌+◌, ◌-◌, ◌^◌, ℕ, List, ◌++◌, length, map, Some, None, IfOk, IfErr, if◌then◌else◌};
 ghost use Rattle.std.specs.Str.{chars};
-ghost use Rattle.yaml_base.specs.Script as notation;
+ghost use Rattle.yaml_base.specs.scripts.Script as notation;
 ghost use Rattle.yaml_tool.specs.Settings.{seen_setting, seen_settings};
 ghost use Rattle.yaml_tool.specs.Lines.{seen_line, usual_line};
 ghost use Rattle.yaml_tool.specs.Scripts.{seen_progress, seen_numbered, nothing_said, after_line, after_said, script_behind, CutsLine, LeavesLine, IsFaultOf};

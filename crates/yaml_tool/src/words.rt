@@ -2,7 +2,7 @@
 ghost use Rattle.std.specs.Prelude.{◌≡◌, None, List, MatchOption, IfSome, option_map, nat_lt, IsTrue};
 ghost use Rattle.std.specs.List.{list_all};
 ghost use Rattle.std.specs.Str.{bytes_eq, chars};
-ghost use Rattle.yaml_base.specs.Script as notation;
+ghost use Rattle.yaml_base.specs.scripts.Script as notation;
 ghost use Rattle.yaml_base.specs.Seen.{seen_encoding, seen_break, seen_scalar_style, seen_sequence_style, seen_mapping_style};
 ghost use Rattle.yaml_tool.specs.Cuts.{Follows};
 ghost use Rattle.yaml_tool.specs.Events.{event_word};

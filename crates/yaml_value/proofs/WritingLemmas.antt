@@ -9,7 +9,7 @@ use Rattle.yaml_base.specs.Event.{Event}
 use Rattle.yaml_base.specs.Refusal.{IsAccepted}
 use Rattle.yaml_base.specs.Pieces.{list_layout}
 use Rattle.yaml_base.specs.Output.{settings_for, bytes_written}
-use Rattle.yaml_base.specs.TypedValues.{TypedValue, nesting, most_nested, typed_settings, typed_output, value_events, Has64Bits, ReadsAs, WritesValue}
+use Rattle.yaml_base.specs.values.TypedValues.{TypedValue, nesting, most_nested, typed_settings, typed_output, value_events, Has64Bits, ReadsAs, WritesValue}
 use Rattle.yaml_base.specs.declared.errors.yaml_error_t.{yaml_error_t}
 use Rattle.yaml_base.specs.declared.errors.yaml_error_t.TheVariants.{WriteError, TooDeep, Memory}
 use Rattle.yaml_emitter.specs.State.{State}

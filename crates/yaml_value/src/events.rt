@@ -4,10 +4,10 @@ ghost use Rattle.std.specs.Int.Signed.{mag};
 ghost use Rattle.std.specs.Str.{chars};
 ghost use Rattle.yaml_base.specs.Event as seen;
 ghost use Rattle.yaml_base.specs.Grammar.{node_events, pairs_events};
-ghost use Rattle.yaml_base.specs.Meetings.{mapping_tag, sequence_tag};
+ghost use Rattle.yaml_base.specs.graphs.Meetings.{mapping_tag, sequence_tag};
 ghost use Rattle.yaml_base.specs.Seen.{seen_events, seen_text};
-ghost use Rattle.yaml_base.specs.TypedValues as typed;
-ghost use Rattle.yaml_base.specs.TypedValues.{Has64Bits, Have64Bits, PairsHave64Bits, tagged_node, value_node, value_pairs};
+ghost use Rattle.yaml_base.specs.values.TypedValues as typed;
+ghost use Rattle.yaml_base.specs.values.TypedValues.{Has64Bits, Have64Bits, PairsHave64Bits, tagged_node, value_node, value_pairs};
 ghost use Rattle.yaml_value.specs.SeenValues.{seen_value, seen_values, seen_pairs};
 
 use crate::tags::{YAML_BOOL_TAG, YAML_INT_TAG, YAML_NULL_TAG};

@@ -1,6 +1,6 @@
 //! A law of written values, the contract of a function that does nothing.
 ghost use Rattle.std.specs.Prelude.{◌≡◌, List, ℕ};
-ghost use Rattle.yaml_base.specs.TypedValues.{Has64Bits, TypedValue, WritesValue, typed_content};
+ghost use Rattle.yaml_base.specs.values.TypedValues.{Has64Bits, TypedValue, WritesValue, typed_content};
 
 /// Equal bytes were written of equal values alone: kinds and contents are equal, maps as lists of pairs. Nor have two
 /// values the same content.

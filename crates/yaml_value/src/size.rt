@@ -1,6 +1,6 @@
 //! How many values a value holds, and how deep they lie.
 ghost use Rattle.std.specs.Prelude.{◌≡◌, ◌+◌, min, nat_le};
-ghost use Rattle.yaml_base.specs.TypedValues.{nesting, value_count, value_pairs_count, value_pairs_nesting, values_count, values_nesting};
+ghost use Rattle.yaml_base.specs.values.TypedValues.{nesting, value_count, value_pairs_count, value_pairs_nesting, values_count, values_nesting};
 ghost use Rattle.yaml_value.specs.SeenValues.{seen_value, seen_values, seen_pairs};
 ghost use Rattle.yaml_base.specs.Settings.{largest_usize};
 

@@ -1,7 +1,7 @@
 //! Values of YAML's common types.
 
 ghost use Rattle.std.specs.Prelude.{◌≡◌, min};
-ghost use Rattle.yaml_base.specs.TypedValues.{value_count};
+ghost use Rattle.yaml_base.specs.values.TypedValues.{value_count};
 ghost use Rattle.yaml_value.specs.SeenValues.{seen_value};
 ghost use Rattle.yaml_base.specs.Settings.{largest_usize};
 

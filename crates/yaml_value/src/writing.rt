@@ -1,6 +1,6 @@
 //! Values written.
 ghost use Rattle.std.specs.Prelude.{◌≡◌, ◌↔◌, ◌⊎◌, ◌<◌, ◌≤◌, true, None, [], Err, IfOk, IfErr, length};
-ghost use Rattle.yaml_base.specs.TypedValues.{WritesValue, most_nested, nesting, typed_settings};
+ghost use Rattle.yaml_base.specs.values.TypedValues.{WritesValue, most_nested, nesting, typed_settings};
 ghost use Rattle.yaml_emitter.specs.StandsAfter.{StandsAfter};
 ghost use Rattle.yaml_value.specs.SeenValues.{seen_value};
 ghost use Rattle.yaml_base.specs.Settings.{largest_usize};

@@ -5,9 +5,9 @@ use Rattle.std.proofs.lemmas.List.Folds.{list_all-append}
 use Rattle.std.specs.List.{list_all}
 use Rattle.std.specs.Prelude.{ℕ, suc, Bool, true, false, Option, None, Some, List, [], ◌∷◌, ◌++◌, ◌<◌, ◌==◌, ◌||◌, not, length, get_or, codes, option_map, ⊤, if◌then◌else◌}
 use Rattle.yaml_base.specs.Characters.{Text}
-use Rattle.yaml_base.specs.Script.{is_word}
-use Rattle.yaml_base.specs.Resolved.{is_decimal, is_negative, past_sign, are_digits}
-use Rattle.yaml_base.specs.JsonNumbers.{JsonNumber, JsonExponent, minus, is_whole, is_json_number, exponent_text, json_text}
+use Rattle.yaml_base.specs.scripts.Script.{is_word}
+use Rattle.yaml_base.specs.values.Resolved.{is_decimal, is_negative, past_sign, are_digits}
+use Rattle.yaml_base.specs.values.JsonNumbers.{JsonNumber, JsonExponent, minus, is_whole, is_json_number, exponent_text, json_text}
 use Rattle.yaml_base.proofs.NumberCuts.{digit_unlike, minus_read}
 use Rattle.yaml_writer.specs.NumberParts.{cut_at, past_minus, sign_of, exponent_in, around, exponent_cut, around_point, fraction_cut, number_in, IsNumber, IsNoNumber, is_fraction, is_exponent}
 use Rattle.yaml_writer.proofs.ValidNumbers.{Valid, valid_parts}

@@ -3,11 +3,11 @@ use Rattle.std.proofs.Common.{◌≡◌, refl}
 use Rattle.std.specs.List.{list_any}
 use Rattle.std.specs.Prelude.{Bool, true, false, ◌||◌, ◌&&◌, not, if◌then◌else◌}
 use Rattle.yaml_base.proofs.SurelyTexts.{surely_text}
-use Rattle.yaml_base.specs.Analysis.{Allowances}
+use Rattle.yaml_base.specs.scalars.Analysis.{Allowances}
 use Rattle.yaml_base.specs.Characters.{is_break}
 use Rattle.yaml_base.specs.Event.{any_style, plain, single_quoted, double_quoted, literal}
-use Rattle.yaml_base.specs.Style.{style_asked, style_fitting, fits_plain}
-use Rattle.yaml_base.specs.SurelyText.{is_surely_text}
+use Rattle.yaml_base.specs.scalars.Style.{style_asked, style_fitting, fits_plain}
+use Rattle.yaml_base.specs.values.SurelyText.{is_surely_text}
 use Rattle.yaml_writer.specs.PlainTexts.{PlainTextsAreTexts}
 
 -- neither quotes nor a block style are plain

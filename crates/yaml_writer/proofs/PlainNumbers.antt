@@ -7,14 +7,14 @@ use Rattle.std.specs.List.{list_all, list_any}
 use Rattle.std.specs.Prelude.{ℕ, Bool, true, false, [], ◌∷◌, ◌++◌, ◌==◌, ◌||◌, ◌&&◌, not, length, codes, if◌then◌else◌}
 use Rattle.yaml_base.proofs.NumberCuts.{digit_unlike}
 use Rattle.yaml_base.proofs.NumbersRead.{numbers_are_read}
-use Rattle.yaml_base.specs.Analysis.{Allowances, Charset, allowances, allows_plain, bars_plain, begins_like_mark, begins_unlike_plain, begins_with, ends_word, is_empty, is_gap, is_indicator, is_special, somewhere}
+use Rattle.yaml_base.specs.scalars.Analysis.{Allowances, Charset, allowances, allows_plain, bars_plain, begins_like_mark, begins_unlike_plain, begins_with, ends_word, is_empty, is_gap, is_indicator, is_special, somewhere}
 use Rattle.yaml_base.specs.Characters.{Text, is_among, is_ascii, is_break, is_printable, is_space, line_separator, paragraph_separator}
 use Rattle.yaml_base.specs.Event.{plain}
-use Rattle.yaml_base.specs.JsonNumbers.{minus, is_json_integer, fraction_or, exponent_spelled, json_value, means_number, yaml_number}
-use Rattle.yaml_base.specs.Resolved.{is_decimal, are_digits}
-use Rattle.yaml_base.specs.SchemaCore.{resolved_by_core}
-use Rattle.yaml_base.specs.SchemaOf11.{resolved_by_11}
-use Rattle.yaml_base.specs.Style.{fits_plain, style_asked, style_fitting, style_quoted, chosen}
+use Rattle.yaml_base.specs.values.JsonNumbers.{minus, is_json_integer, fraction_or, exponent_spelled, json_value, means_number, yaml_number}
+use Rattle.yaml_base.specs.values.Resolved.{is_decimal, are_digits}
+use Rattle.yaml_base.specs.values.SchemaCore.{resolved_by_core}
+use Rattle.yaml_base.specs.values.SchemaOf11.{resolved_by_11}
+use Rattle.yaml_base.specs.scalars.Style.{fits_plain, style_asked, style_fitting, style_quoted, chosen}
 use Rattle.yaml_writer.specs.ReadNumbers.{WrittenNumbersAreRead}
 use Rattle.yaml_writer.proofs.SpellingLemmas.{PassesNumbers, spelling_passes, whole_digits}
 

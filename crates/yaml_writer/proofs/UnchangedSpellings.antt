@@ -3,8 +3,8 @@ use Rattle.std.proofs.Common.{◌≡◌, refl, ap, ◌∙◌, append_assoc, leng
 use Rattle.std.proofs.lemmas.Bool.{true≢false}
 use Rattle.std.proofs.lemmas.List.{append_cancel_left}
 use Rattle.yaml_base.specs.Characters.{Text}
-use Rattle.yaml_base.specs.Script.{is_word}
-use Rattle.yaml_base.specs.JsonNumbers.{JsonNumber, JsonExponent, minus, json_text, yaml_number}
+use Rattle.yaml_base.specs.scripts.Script.{is_word}
+use Rattle.yaml_base.specs.values.JsonNumbers.{JsonNumber, JsonExponent, minus, json_text, yaml_number}
 use Rattle.yaml_writer.specs.Spellings.{is_spelled}
 
 -- what is put together otherwise, but to the same, has the same length

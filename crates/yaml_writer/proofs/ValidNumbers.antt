@@ -3,8 +3,8 @@ use Rattle.std.proofs.Common.{◌≡◌, refl}
 use Rattle.std.proofs.lemmas.Bool.{and_parts}
 use Rattle.std.specs.Prelude.{Bool, true, Option, None, Some, ◌&&◌}
 use Rattle.yaml_base.specs.Characters.{Text}
-use Rattle.yaml_base.specs.JsonNumbers.{JsonNumber, JsonExponent, is_whole, is_json_number}
-use Rattle.yaml_base.specs.Resolved.{are_digits}
+use Rattle.yaml_base.specs.values.JsonNumbers.{JsonNumber, JsonExponent, is_whole, is_json_number}
+use Rattle.yaml_base.specs.values.Resolved.{are_digits}
 use Rattle.yaml_writer.specs.NumberParts.{is_fraction, is_exponent}
 
 -- the tests of which a number's is made

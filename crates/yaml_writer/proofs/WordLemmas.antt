@@ -6,9 +6,9 @@ use Rattle.std.specs.List.{list_all, filter}
 use Rattle.std.specs.Str.{chars, IsUtf8}
 use Rattle.std.specs.Prelude.{ℕ, Bool, true, false, Some, List, [], ◌∷◌, ◌++◌, ◌||◌, ◌&&◌, not, is_some, if◌then◌else◌}
 use Rattle.yaml_base.specs.Characters.{Text}
-use Rattle.yaml_base.specs.Script.{named, is_word}
-use Rattle.yaml_base.specs.Resolved.{Resolved, words_of_11, first_is, past_sign}
-use Rattle.yaml_base.specs.SurelyText.{begins_number, is_surely_text}
+use Rattle.yaml_base.specs.scripts.Script.{named, is_word}
+use Rattle.yaml_base.specs.values.Resolved.{Resolved, words_of_11, first_is, past_sign}
+use Rattle.yaml_base.specs.values.SurelyText.{begins_number, is_surely_text}
 use Rattle.yaml_base.proofs.AsciiWords.{is_ascii_text, ascii_of, same_word}
 use Rattle.yaml_base.proofs.SchemaWords.{named_either}
 use Rattle.yaml_writer.specs.Words.{empty_word, null_words, true_words, false_words, yes_words, no_words, key_words, is_schema_word}

@@ -2,9 +2,9 @@
 use Rattle.std.specs.Prelude.{◌≡◌, true, false, codes}
 use Rattle.yaml_base.specs.Characters.{Text}
 use Rattle.yaml_base.specs.Event.{Event}
-use Rattle.yaml_base.specs.Resolved.{Resolved, meant_infinity, meant_nan}
-use Rattle.yaml_base.specs.SchemaCore.{resolved_by_core}
-use Rattle.yaml_base.specs.SchemaOf11.{resolved_by_11}
+use Rattle.yaml_base.specs.values.Resolved.{Resolved, meant_infinity, meant_nan}
+use Rattle.yaml_base.specs.values.SchemaCore.{resolved_by_core}
+use Rattle.yaml_base.specs.values.SchemaOf11.{resolved_by_11}
 use Rattle.yaml_writer.specs.Writing.{WriterState, float_tag, word_event}
 use Rattle.yaml_writer.specs.declared.floats.SpecialFloat.{SpecialFloat}
 use Rattle.yaml_writer.specs.declared.floats.SpecialFloat.TheVariants.{Infinity, NegativeInfinity, NotANumber}

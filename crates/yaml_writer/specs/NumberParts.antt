@@ -1,8 +1,8 @@
 -- How a text is cut into the parts of a number of JSON, and what its spelling says of it.
 use Rattle.std.specs.Prelude.{◌≡◌, ℕ, Bool, true, false, Option, None, Some, [], ◌∷◌, ◌==◌, option_map, if◌then◌else◌}
 use Rattle.yaml_base.specs.Characters.{Text}
-use Rattle.yaml_base.specs.Resolved.{is_negative, past_sign, are_digits}
-use Rattle.yaml_base.specs.JsonNumbers.{JsonNumber, JsonExponent, is_json_number, json_text}
+use Rattle.yaml_base.specs.values.Resolved.{is_negative, past_sign, are_digits}
+use Rattle.yaml_base.specs.values.JsonNumbers.{JsonNumber, JsonExponent, is_json_number, json_text}
 
 -- what stands before and after the first of a sign
 abbrev pub cut_at : ℕ → Text → Option (Text × Text)

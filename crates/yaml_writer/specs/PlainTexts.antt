@@ -1,12 +1,12 @@
 -- How the texts of a writer are read.
 use Rattle.std.specs.Prelude.{◌≡◌, Bool}
-use Rattle.yaml_base.specs.Analysis.{Allowances}
+use Rattle.yaml_base.specs.scalars.Analysis.{Allowances}
 use Rattle.yaml_base.specs.Characters.{Text}
 use Rattle.yaml_base.specs.Event.{plain}
-use Rattle.yaml_base.specs.Resolved.{meant_text}
-use Rattle.yaml_base.specs.SchemaCore.{resolved_by_core}
-use Rattle.yaml_base.specs.SchemaOf11.{resolved_by_11}
-use Rattle.yaml_base.specs.Style.{chosen}
+use Rattle.yaml_base.specs.values.Resolved.{meant_text}
+use Rattle.yaml_base.specs.values.SchemaCore.{resolved_by_core}
+use Rattle.yaml_base.specs.values.SchemaOf11.{resolved_by_11}
+use Rattle.yaml_base.specs.scalars.Style.{chosen}
 use Rattle.yaml_writer.specs.Writing.{text_style}
 
 -- wherever a text stands, and whatever it allows: where it is written plain, it means a text by both schemas

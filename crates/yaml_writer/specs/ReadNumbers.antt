@@ -1,11 +1,11 @@
 -- How the numbers of a writer are read.
 use Rattle.std.specs.Prelude.{◌≡◌, Bool, true, false, ◌||◌}
-use Rattle.yaml_base.specs.Analysis.{Charset, allowances, is_empty}
+use Rattle.yaml_base.specs.scalars.Analysis.{Charset, allowances, is_empty}
 use Rattle.yaml_base.specs.Event.{plain}
-use Rattle.yaml_base.specs.JsonNumbers.{JsonNumber, is_json_number, json_value, means_number, yaml_number}
-use Rattle.yaml_base.specs.SchemaCore.{resolved_by_core}
-use Rattle.yaml_base.specs.SchemaOf11.{resolved_by_11}
-use Rattle.yaml_base.specs.Style.{chosen}
+use Rattle.yaml_base.specs.values.JsonNumbers.{JsonNumber, is_json_number, json_value, means_number, yaml_number}
+use Rattle.yaml_base.specs.values.SchemaCore.{resolved_by_core}
+use Rattle.yaml_base.specs.values.SchemaOf11.{resolved_by_11}
+use Rattle.yaml_base.specs.scalars.Style.{chosen}
 
 -- wherever a number of JSON stands outside canonical form, and whichever characters may stand as themselves: with a tag that is
 -- written or the flag for plain text it is written plain, and its text is exactly that number by both schemas

@@ -1,6 +1,6 @@
 -- What contracts see of a number of JSON: its parts.
 use Rattle.std.specs.Prelude.{Bool, true, false, option_map}
-use Rattle.yaml_base.specs.JsonNumbers.{JsonNumber, JsonExponent}
+use Rattle.yaml_base.specs.values.JsonNumbers.{JsonNumber, JsonExponent}
 use Rattle.yaml_writer.specs.declared.numbers.Sign.{Sign}
 use Rattle.yaml_writer.specs.declared.numbers.Sign.TheVariants.{Plus, Minus}
 use Rattle.yaml_writer.specs.declared.numbers.Exponent.{Exponent}

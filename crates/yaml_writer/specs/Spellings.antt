@@ -2,7 +2,7 @@
 use Rattle.std.specs.Prelude.{◌≡◌, List, Bool, true, Option, None, Some, ◌&&◌, ◌||◌, not, is_some, ℕ, [], ◌++◌, codes, if◌then◌else◌}
 use Rattle.std.specs.String.{string_bytes}
 use Rattle.yaml_base.specs.Characters.{Text}
-use Rattle.yaml_base.specs.JsonNumbers.{JsonNumber, JsonExponent, is_json_integer, fraction_or, exponent_spelled, yaml_number}
+use Rattle.yaml_base.specs.values.JsonNumbers.{JsonNumber, JsonExponent, is_json_integer, fraction_or, exponent_spelled, yaml_number}
 use Rattle.yaml_writer.specs.NumberParts.{IsNumber}
 use Rattle.yaml_writer.specs.declared.spelling.Spelling.{Spelling}
 use Rattle.yaml_writer.specs.declared.spelling.Spelling.TheVariants.{Unchanged, Changed}

@@ -4,12 +4,12 @@ use Rattle.std.specs.Fmt.{signed_decimal}
 use Rattle.std.specs.List.{list_any}
 use Rattle.yaml_base.specs.Characters.{Text, is_break}
 use Rattle.yaml_base.specs.Event.{Collection, CollectionStyle, Event, ScalarStyle, any_style, plain, single_quoted, literal, stream_start, stream_end, document_start, document_end, scalar, sequence_start, sequence_end, mapping_start, mapping_end}
-use Rattle.yaml_base.specs.JsonNumbers.{JsonNumber, is_json_integer, yaml_number}
+use Rattle.yaml_base.specs.values.JsonNumbers.{JsonNumber, is_json_integer, yaml_number}
 use Rattle.yaml_base.specs.Prefix.{IsPrefix}
 use Rattle.yaml_base.specs.Refusal.{IsAccepted}
 use Rattle.yaml_base.specs.Settings.{Settings}
-use Rattle.yaml_base.specs.SurelyText.{is_surely_text}
-use Rattle.yaml_base.specs.TypedValues.{null_tag, bool_tag, int_tag, bool_text}
+use Rattle.yaml_base.specs.values.SurelyText.{is_surely_text}
+use Rattle.yaml_base.specs.values.TypedValues.{null_tag, bool_tag, int_tag, bool_text}
 use Rattle.yaml_base.specs.declared.errors.yaml_error_t.{yaml_error_t}
 use Rattle.yaml_base.specs.declared.errors.yaml_error_t.TheVariants.{ExpectedDocumentEnd, ExpectedNode, Memory}
 use Rattle.yaml_pen.specs.Page.{told}

@@ -1,6 +1,6 @@
 //! Laws of the definitions, each the contract of a function that does nothing.
-ghost use Rattle.yaml_base.specs.JsonNumbers.{NumbersAreRead};
-ghost use Rattle.yaml_base.specs.SurelyText.{SurelyTextIsText};
+ghost use Rattle.yaml_base.specs.values.JsonNumbers.{NumbersAreRead};
+ghost use Rattle.yaml_base.specs.values.SurelyText.{SurelyTextIsText};
 ghost use Rattle.yaml_writer.specs.Floats.{SpecialFloatsAreRead};
 ghost use Rattle.yaml_writer.specs.PlainTexts.{PlainTextsAreTexts};
 ghost use Rattle.yaml_writer.specs.ReadNumbers.{WrittenNumbersAreRead};

@@ -1,8 +1,8 @@
 //! Numbers of JSON (RFC 8259, section 6), taken apart.
 ghost use Rattle.std.specs.Prelude.{◌≡◌, ◌<◌, ◌==◌, Some, None, MatchOption, chars, option_map};
 ghost use Rattle.std.specs.List.{list_all};
-ghost use Rattle.yaml_base.specs.JsonNumbers as json;
-ghost use Rattle.yaml_base.specs.Resolved as schema;
+ghost use Rattle.yaml_base.specs.values.JsonNumbers as json;
+ghost use Rattle.yaml_base.specs.values.Resolved as schema;
 ghost use Rattle.yaml_writer.specs.NumberParts as parts;
 ghost use Rattle.yaml_writer.specs.SeenNumbers.{is_minus, seen_exponent, seen_parts};
 
@@ -182,7 +182,7 @@ pub struct Number<'a> {
 }
 
 impl<'a> Model for Number<'a> {
-    ghost use Rattle.yaml_base.specs.JsonNumbers.{JsonNumber};
+    ghost use Rattle.yaml_base.specs.values.JsonNumbers.{JsonNumber};
     ghost use Rattle.yaml_writer.specs.NumberParts.{IsNumber};
     ghost use Rattle.yaml_writer.specs.SeenNumbers.{seen_parts};
 

@@ -1,6 +1,6 @@
 //! Numbers of JSON, spelled so that both schemas of YAML read the same number.
 ghost use Rattle.std.specs.Prelude.{◌≡◌, ◌++◌, [], codes, IfOk, IsOk, MatchOption, chars, string_bytes, option_map, if◌then◌else◌};
-ghost use Rattle.yaml_base.specs.JsonNumbers as json;
+ghost use Rattle.yaml_base.specs.values.JsonNumbers as json;
 ghost use Rattle.yaml_writer.specs.NumberParts.{IsNoNumber};
 ghost use Rattle.yaml_writer.specs.SeenNumbers.{is_minus, seen_exponent, seen_parts};
 ghost use Rattle.yaml_writer.specs.Spellings as spellings;

@@ -1,7 +1,7 @@
 //! Texts that are read as texts, whichever schema reads them.
 ghost use Rattle.std.specs.Prelude.{◌≡◌, chars};
-ghost use Rattle.yaml_base.specs.Resolved as schema;
-ghost use Rattle.yaml_base.specs.SurelyText as surely;
+ghost use Rattle.yaml_base.specs.values.Resolved as schema;
+ghost use Rattle.yaml_base.specs.values.SurelyText as surely;
 
 use crate::words::is_schema_word;
 

@@ -5,10 +5,10 @@ use Rattle.yaml_base.specs.Characters.{Text, line_separator}
 use Rattle.yaml_base.specs.Settings.{both_break}
 use Rattle.yaml_base.specs.LineBreaks.{with_breaks_written, with_line_breaks_read}
 use Rattle.yaml_base.specs.Cursor.{first_cursor}
-use Rattle.yaml_base.specs.BlockHeader.{header_mark}
-use Rattle.yaml_base.specs.Literal.{literal_body, literal_laid}
-use Rattle.yaml_base.specs.Folded.{folded_body, folded_laid}
-use Rattle.yaml_base.specs.ReadBlock.{read_block}
+use Rattle.yaml_base.specs.scalars.BlockHeader.{header_mark}
+use Rattle.yaml_base.specs.scalars.Literal.{literal_body, literal_laid}
+use Rattle.yaml_base.specs.scalars.Folded.{folded_body, folded_laid}
+use Rattle.yaml_base.specs.reading.ReadBlock.{read_block}
 
 -- at the root of a stream, with an indent of 2
 abbrev literal_text : Text → Text

@@ -3,8 +3,8 @@ use Rattle.std.proofs.Common.{◌≡◌, refl}
 use Rattle.std.specs.Prelude.{ℕ, Bool, true, false, Option, None, Some, [], ◌∷◌, ◌++◌, codes}
 use Rattle.yaml_base.specs.Characters.{Text}
 use Rattle.yaml_base.specs.Cursor.{first_cursor}
-use Rattle.yaml_base.specs.DoubleQuoted.{double_quoted_laid}
-use Rattle.yaml_base.specs.ReadDouble.{read_double}
+use Rattle.yaml_base.specs.scalars.DoubleQuoted.{double_quoted_laid}
+use Rattle.yaml_base.specs.reading.ReadDouble.{read_double}
 
 -- a text between two quotes
 abbrev in_quotes : Text → Text

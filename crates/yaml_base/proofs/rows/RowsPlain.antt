@@ -3,10 +3,10 @@ use Rattle.std.proofs.Common.{◌≡◌, refl, ℕ, [], ◌∷◌, ◌++◌, fal
 use Rattle.std.specs.Prelude.{codes, replicate}
 use Rattle.yaml_base.specs.Characters.{Text}
 use Rattle.yaml_base.specs.Cursor.{Cursor, first_cursor}
-use Rattle.yaml_base.specs.Plain.{plain_laid}
-use Rattle.yaml_base.specs.SingleQuoted.{single_quoted_laid}
-use Rattle.yaml_base.specs.ReadPlain.{read_plain}
-use Rattle.yaml_base.specs.ReadSingle.{read_single}
+use Rattle.yaml_base.specs.scalars.Plain.{plain_laid}
+use Rattle.yaml_base.specs.scalars.SingleQuoted.{single_quoted_laid}
+use Rattle.yaml_base.specs.reading.ReadPlain.{read_plain}
+use Rattle.yaml_base.specs.reading.ReadSingle.{read_single}
 
 -- a root in a block, indented by 2
 abbrev plain_root : Option ℕ → Text → Text

@@ -7,8 +7,8 @@ use Rattle.yaml_base.specs.Settings.{Settings, utf16_big, both_break}
 use Rattle.yaml_base.specs.Event.{any_layout, block, flow, Event, document_start, document_end}
 use Rattle.yaml_base.specs.Percent.{suffix_escaped, prefix_escaped}
 use Rattle.yaml_base.specs.Output.{output_of}
-use Rattle.yaml_base.specs.StreamContent.{agrees}
-use Rattle.yaml_base.specs.StreamReader.{stream_trees}
+use Rattle.yaml_base.specs.streams.StreamContent.{agrees}
+use Rattle.yaml_base.specs.streams.StreamReader.{stream_trees}
 use Rattle.yaml_base.proofs.rows.RowEvents.{plain_settings, canonical_settings, leaf, tagged, sequence, mapping, implicit_start, document_of, stream_of, alone, laid_under, laid}
 
 abbrev portable_settings : Settings

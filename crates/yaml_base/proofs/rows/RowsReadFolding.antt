@@ -2,9 +2,9 @@
 use Rattle.std.proofs.Common.{◌≡◌, refl, [], ◌∷◌, Bool, true, false, None, Some}
 use Rattle.std.specs.Prelude.{codes, map}
 use Rattle.yaml_base.specs.Characters.{Text}
-use Rattle.yaml_base.specs.ReadFolding.{unit_of, folding_read}
-use Rattle.yaml_base.specs.ReadPlain.{read_plain}
-use Rattle.yaml_base.specs.ReadSingle.{read_single}
+use Rattle.yaml_base.specs.reading.ReadFolding.{unit_of, folding_read}
+use Rattle.yaml_base.specs.reading.ReadPlain.{read_plain}
+use Rattle.yaml_base.specs.reading.ReadSingle.{read_single}
 
 abbrev read_folded : Bool → Text → Text
 read_folded breaks12 t = folding_read (map (unit_of breaks12) t)

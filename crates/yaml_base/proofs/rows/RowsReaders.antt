@@ -6,12 +6,12 @@ use Rattle.std.specs.Prelude.{is_none}
 use Rattle.std.specs.Str.{chars, is_utf8}
 use Rattle.yaml_base.specs.Characters.{Text, line_separator}
 use Rattle.yaml_base.specs.Event.{TagDirective}
-use Rattle.yaml_base.specs.ReadPlain.{read_plain}
-use Rattle.yaml_base.specs.ReadSingle.{read_single}
-use Rattle.yaml_base.specs.ReadDouble.{read_double}
-use Rattle.yaml_base.specs.ReadBlock.{read_block}
-use Rattle.yaml_base.specs.Content.{ScalarTag, tagged, untagged, Content, scalar_content, sequence_content, mapping_content, no_contents, contents_and, no_content_pairs, content_pairs_and, DocumentContent}
-use Rattle.yaml_base.specs.CanonicalReader.{canonical_content}
+use Rattle.yaml_base.specs.reading.ReadPlain.{read_plain}
+use Rattle.yaml_base.specs.reading.ReadSingle.{read_single}
+use Rattle.yaml_base.specs.reading.ReadDouble.{read_double}
+use Rattle.yaml_base.specs.reading.ReadBlock.{read_block}
+use Rattle.yaml_base.specs.reading.Content.{ScalarTag, tagged, untagged, Content, scalar_content, sequence_content, mapping_content, no_contents, contents_and, no_content_pairs, content_pairs_and, DocumentContent}
+use Rattle.yaml_base.specs.reading.CanonicalReader.{canonical_content}
 
 -- a reader reads none of these texts
 abbrev reads_none : (Text → Option Text) → List Text → Bool

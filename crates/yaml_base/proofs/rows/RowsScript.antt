@@ -4,7 +4,7 @@ use Rattle.std.specs.Char.{encode_utf8}
 use Rattle.std.specs.Str.{chars, is_utf8}
 use Rattle.yaml_base.specs.Settings.{utf16_little, utf16_big, both_break}
 use Rattle.yaml_base.specs.Event.{stream_start, stream_end, document_start, document_end, alias, scalar, sequence_start, sequence_end, mapping_start, mapping_end, any_style, folded, any_layout, flow}
-use Rattle.yaml_base.specs.Script.{script_of, bad_line, understood, unset}
+use Rattle.yaml_base.specs.scripts.Script.{script_of, bad_line, understood, unset}
 
 -- a canonical scalar, from its settings to the stream's end
 a_whole_script : script_of (codes "canonical on\nwidth -1\n+STR any\n+DOC 1 -\n=VAL any 1 1 - - \"a\"\n-DOC 1\n-STR\n")

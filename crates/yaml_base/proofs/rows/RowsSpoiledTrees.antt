@@ -5,8 +5,8 @@ use Rattle.std.specs.Prelude.{ℕ, zero, suc, Bool, true, false, Option, None, S
 use Rattle.yaml_base.specs.Characters.{Text}
 use Rattle.yaml_base.specs.Event.{ScalarStyle, any_style, double_quoted, block}
 use Rattle.yaml_base.specs.Grammar.{Node, alias_node, scalar_node, sequence_node, no_nodes, nodes_and}
-use Rattle.yaml_base.specs.Meetings.{Graph, GraphNode, scalar_held, sequence_held, string_tag, sequence_tag, node_numbered, children}
-use Rattle.yaml_base.specs.Unfolding.{TreeUnfolds, HasShape, node_shape_of, Label, NodeKind, scalar_kind, sequence_kind, mapping_kind, label_of, AreNamed, Occurrence, alias_occurrence, node_occurrence, carries, is_occurrence_of, number_at, occurrences, IsReached, first_reached, child_reached, Placed, alias_placed, node_placed, none_placed, placed_and}
+use Rattle.yaml_base.specs.graphs.Meetings.{Graph, GraphNode, scalar_held, sequence_held, string_tag, sequence_tag, node_numbered, children}
+use Rattle.yaml_base.specs.graphs.Unfolding.{TreeUnfolds, HasShape, node_shape_of, Label, NodeKind, scalar_kind, sequence_kind, mapping_kind, label_of, AreNamed, Occurrence, alias_occurrence, node_occurrence, carries, is_occurrence_of, number_at, occurrences, IsReached, first_reached, child_reached, Placed, alias_placed, node_placed, none_placed, placed_and}
 
 abbrev string_of : Text → GraphNode
 string_of value = record { tag = string_tag; held = scalar_held value any_style }

@@ -2,7 +2,7 @@
 use Rattle.std.specs.Prelude.{◌≡◌, pos, false, true, None, Some, [], ◌∷◌, ◌++◌, codes, refl}
 use Rattle.std.specs.Char.{encode_utf8}
 use Rattle.std.specs.Str.{chars, is_utf8}
-use Rattle.yaml_base.specs.StreamReader.{stream_trees}
+use Rattle.yaml_base.specs.streams.StreamReader.{stream_trees}
 use Rattle.yaml_base.proofs.rows.StreamTrees.{document, only, bare_word, in_quotes, of_tag, items, pair, pairs}
 
 no_documents : (stream_trees false [] ≡ Some []) × (stream_trees false (codes "\n\n") ≡ Some [])

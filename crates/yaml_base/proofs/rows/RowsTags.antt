@@ -6,9 +6,9 @@ use lib.Utf8.{encode}
 use Rattle.yaml_base.specs.Characters.{Text}
 use Rattle.yaml_base.specs.Event.{TagDirective}
 use Rattle.yaml_base.specs.Percent.{percent_escaped}
-use Rattle.yaml_base.specs.ReadPercent.{percent_read}
-use Rattle.yaml_base.specs.ReadTags.{bare_said, name_said}
-use Rattle.yaml_base.specs.CanonicalReader.{tag_read}
+use Rattle.yaml_base.specs.reading.ReadPercent.{percent_read}
+use Rattle.yaml_base.specs.reading.ReadTags.{bare_said, name_said}
+use Rattle.yaml_base.specs.reading.CanonicalReader.{tag_read}
 use Rattle.yaml_base.specs.Tags.{directives_in_force, spelling, spelled, anchor_fault, alias_fault, version_fault, directives_fault, tag_fault}
 use Rattle.yaml_base.specs.declared.errors.yaml_error_t.TheVariants.{IncompatibleVersion, TagHandleEmpty, TagHandleStart, TagHandleEnd, TagHandleAlphabet, TagPrefixEmpty, DuplicateDirective, AnchorEmpty, AnchorAlphabet, AliasEmpty, AliasAlphabet, TagEmpty}
 use Rattle.yaml_base.specs.declared.errors.yaml_error_t.{yaml_error_t}

@@ -4,9 +4,9 @@ use Rattle.std.proofs.lemmas.Bool.Decides.{nat_tests}
 use Rattle.std.specs.Prelude.{ℕ, zero, suc, true, None, Some, [], ◌∷◌, slice_index, Contains, count_by, codes}
 use Rattle.yaml_base.specs.Event.{any_style, block}
 use Rattle.yaml_base.specs.Grammar.{Node, alias_node, scalar_node, sequence_node, mapping_node, no_nodes, nodes_and, no_pairs, pairs_and, document_events}
-use Rattle.yaml_base.specs.Content.{node_content}
-use Rattle.yaml_base.specs.Meetings.{Graph, scalar_held, sequence_held, mapping_held, string_tag, sequence_tag, mapping_tag, children, decimal_digits, document_event_list}
-use Rattle.yaml_base.specs.Unfolding.{TreeUnfolds, ContentUnfolds, HasShape, node_shape_of, number_at, node_occurrence, alias_occurrence, IsReached, first_reached, child_reached, Placed, is_occurrence_of, occurrences, alias_placed, node_placed, none_placed, placed_and}
+use Rattle.yaml_base.specs.reading.Content.{node_content}
+use Rattle.yaml_base.specs.graphs.Meetings.{Graph, scalar_held, sequence_held, mapping_held, string_tag, sequence_tag, mapping_tag, children, decimal_digits, document_event_list}
+use Rattle.yaml_base.specs.graphs.Unfolding.{TreeUnfolds, ContentUnfolds, HasShape, node_shape_of, number_at, node_occurrence, alias_occurrence, IsReached, first_reached, child_reached, Placed, is_occurrence_of, occurrences, alias_placed, node_placed, none_placed, placed_and}
 
 -- a mapping whose one key is a string, and whose value is the mapping
 abbrev graph : Graph

@@ -6,7 +6,7 @@ use Rattle.std.specs.List.{list_all}
 use Rattle.std.specs.Prelude.{Bool, true, List, [], ◌∷◌, ◌++◌}
 use Rattle.yaml_base.specs.Event.{Event}
 use Rattle.yaml_base.specs.Grammar.{Document, Documents, no_documents, documents_and, document_events, documents_events}
-use Rattle.yaml_base.specs.StreamContent.{documents_in_order}
+use Rattle.yaml_base.specs.streams.StreamContent.{documents_in_order}
 
 -- P holds of each of some documents
 abbrev pub AllDocuments : (Document → Type 0) → List Document → Type 0

@@ -14,8 +14,8 @@ use Rattle.yaml_base.specs.Tags.{directives_fault, handle_fault, directives_faul
 use Rattle.yaml_base.specs.Indicators.{indicator_laid, yaml_directive, version_1_1, version_1_2}
 use Rattle.yaml_base.specs.Layout.{line_ended, version_laid, tag_directives_laid}
 use Rattle.yaml_base.specs.Meaning.{directive_scalars}
-use Rattle.yaml_base.specs.StreamLines.{Line, lines_of, text_of_lines}
-use Rattle.yaml_base.specs.StreamDocuments.{begins_with_percent, heading_of}
+use Rattle.yaml_base.specs.streams.StreamLines.{Line, lines_of, text_of_lines}
+use Rattle.yaml_base.specs.streams.StreamDocuments.{begins_with_percent, heading_of}
 use Rattle.yaml_base.proofs.PercentLaws.{prefix_stands}
 use Rattle.yaml_base.proofs.TagForms.{handle_form}
 use Rattle.yaml_base.proofs.TagWords.{handle_ends_no_word}

@@ -7,15 +7,15 @@ use Rattle.yaml_base.specs.Characters.{Text, line_feed, is_printable}
 use Rattle.yaml_base.specs.LineBreaks.{is_read_break}
 use Rattle.yaml_base.specs.Settings.{Effective}
 use Rattle.yaml_base.specs.Event.{ScalarStyle, any_style, plain, single_quoted, double_quoted, literal, folded, TagDirective, Scalar, Collection}
-use Rattle.yaml_base.specs.Analysis.{is_empty}
+use Rattle.yaml_base.specs.scalars.Analysis.{is_empty}
 use Rattle.yaml_base.specs.Grammar.{Node, alias_node, scalar_node, sequence_node, mapping_node, Nodes, Pairs}
 use Rattle.yaml_base.specs.Refusal.{scalar_tag, collection_tag}
 use Rattle.yaml_base.specs.TidyBodies.{has_deep_lines, is_tidy_style}
-use Rattle.yaml_base.specs.StreamScalars.{name_read}
+use Rattle.yaml_base.specs.streams.StreamScalars.{name_read}
 use Rattle.yaml_base.specs.Cursor.{Cursor, Laid, breaks_line, new_line, nothing_laid, then_laid, indicator}
 use Rattle.yaml_base.specs.Layout.{deeper, entries_column, has_no_nodes, has_no_pairs, root_place, properties_laid, alias_laid, separation_laid, body_laid, choice_of, is_written_in_flow, Brackets, square, curly, empty_or_comma, end_laid}
-use Rattle.yaml_base.specs.StreamLines.{character_before, lines_of, spaces}
-use Rattle.yaml_base.specs.StreamDocuments.{mark_of}
+use Rattle.yaml_base.specs.streams.StreamLines.{character_before, lines_of, spaces}
+use Rattle.yaml_base.specs.streams.StreamDocuments.{mark_of}
 use Rattle.yaml_base.proofs.stream_lines.StreamLineLaws.{OneLine, one_line_both}
 use Rattle.yaml_base.proofs.stream_lines.StreamTidyLaws.{first_text, lines_after_first, first_extended, deep_lines_inside}
 use Rattle.yaml_base.proofs.stream_lines.StreamSections.{is_unmarked, AllUnmarked}

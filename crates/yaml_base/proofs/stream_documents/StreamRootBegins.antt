@@ -6,20 +6,20 @@ use Rattle.yaml_base.specs.Characters.{Text, space, tab, is_blank}
 use Rattle.yaml_base.specs.LineBreaks.{is_read_break}
 use Rattle.yaml_base.specs.Settings.{Effective}
 use Rattle.yaml_base.specs.Event.{ScalarStyle, any_style, plain, single_quoted, double_quoted, literal, folded, TagDirective}
-use Rattle.yaml_base.specs.Analysis.{Allowances, is_empty}
-use Rattle.yaml_base.specs.Style.{is_plain, style_fitting}
-use Rattle.yaml_base.specs.Plain.{runs, runs_laid}
-use Rattle.yaml_base.specs.SingleQuoted.{quotes_doubled, single_quote}
-use Rattle.yaml_base.specs.DoubleQuoted.{double_inside, quote_laid}
+use Rattle.yaml_base.specs.scalars.Analysis.{Allowances, is_empty}
+use Rattle.yaml_base.specs.scalars.Style.{is_plain, style_fitting}
+use Rattle.yaml_base.specs.scalars.Plain.{runs, runs_laid}
+use Rattle.yaml_base.specs.scalars.SingleQuoted.{quotes_doubled, single_quote}
+use Rattle.yaml_base.specs.scalars.DoubleQuoted.{double_inside, quote_laid}
 use Rattle.yaml_base.specs.Meaning.{read_in_style}
-use Rattle.yaml_base.specs.ReadPlain.{is_read_white, read_plain}
+use Rattle.yaml_base.specs.reading.ReadPlain.{is_read_white, read_plain}
 use Rattle.yaml_base.specs.TidyBodies.{has_no_space_before_break, has_clean_edges, ends_white, is_tidy_style}
-use Rattle.yaml_base.specs.StreamContent.{Tree}
+use Rattle.yaml_base.specs.streams.StreamContent.{Tree}
 use Rattle.yaml_base.specs.Cursor.{Cursor, Laid, space_if}
 use Rattle.yaml_base.specs.Tags.{spelling, spelled}
 use Rattle.yaml_base.specs.Layout.{alias_laid, properties_laid, body_laid}
-use Rattle.yaml_base.specs.ReadTags.{TagSaid}
-use Rattle.yaml_base.specs.StreamScalars.{Rules}
+use Rattle.yaml_base.specs.reading.ReadTags.{TagSaid}
+use Rattle.yaml_base.specs.streams.StreamScalars.{Rules}
 use Rattle.yaml_base.proofs.stream_nodes.StreamProperties.{IsNamed}
 use Rattle.yaml_base.proofs.stream_flow.StreamPropertyWords.{lead}
 use Rattle.yaml_base.proofs.stream_nodes.StreamStands.{tag_written, tag_meant, TagStands}

@@ -5,12 +5,12 @@ use Rattle.std.specs.List.{list_all, list_any}
 use Rattle.std.specs.Prelude.{ℕ, zero, suc, Bool, true, false, Option, List, [], ◌∷◌, ◌++◌, ◌==◌, ◌||◌, not}
 use Rattle.yaml_base.specs.Characters.{Text, line_feed, space}
 use Rattle.yaml_base.specs.LineBreaks.{is_read_break}
-use Rattle.yaml_base.specs.Analysis.{is_empty}
+use Rattle.yaml_base.specs.scalars.Analysis.{is_empty}
 use Rattle.yaml_base.specs.Cursor.{Laid, nothing_laid}
-use Rattle.yaml_base.specs.StreamLines.{Line, character_before, extending, lines_of, ends_sign, is_spaces, without_blank_lines, spaces}
-use Rattle.yaml_base.specs.StreamScalars.{Rules}
-use Rattle.yaml_base.specs.StreamNodes.{NodeKind}
-use Rattle.yaml_base.specs.StreamDocuments.{mark_of, stands_at_margin}
+use Rattle.yaml_base.specs.streams.StreamLines.{Line, character_before, extending, lines_of, ends_sign, is_spaces, without_blank_lines, spaces}
+use Rattle.yaml_base.specs.streams.StreamScalars.{Rules}
+use Rattle.yaml_base.specs.streams.StreamNodes.{NodeKind}
+use Rattle.yaml_base.specs.streams.StreamDocuments.{mark_of, stands_at_margin}
 use Rattle.yaml_base.proofs.stream_lines.StreamLineLaws.{one_line_both}
 use Rattle.yaml_base.proofs.stream_lines.StreamInside.{not_blank}
 use Rattle.yaml_base.proofs.stream_lines.StreamTidyLaws.{lines_after_first}

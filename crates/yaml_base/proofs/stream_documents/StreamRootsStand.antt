@@ -11,10 +11,10 @@ use Rattle.yaml_base.specs.Tags.{directives_in_force}
 use Rattle.yaml_base.specs.Cursor.{Cursor, Laid, then_laid}
 use Rattle.yaml_base.specs.Grammar.{Node, alias_node, scalar_node, sequence_node, mapping_node, Document, Documents, no_documents, documents_and}
 use Rattle.yaml_base.specs.Layout.{has_no_nodes, has_no_pairs, is_written_in_flow, is_explicit, root_place, has_no_documents, version_laid, tag_directives_laid}
-use Rattle.yaml_base.specs.StreamLines.{lines_of, spaces}
-use Rattle.yaml_base.specs.StreamScalars.{Rules}
-use Rattle.yaml_base.specs.StreamDocuments.{heading_of, begins_with_percent}
-use Rattle.yaml_base.specs.StreamLaw.{is_written_as_nothing}
+use Rattle.yaml_base.specs.streams.StreamLines.{lines_of, spaces}
+use Rattle.yaml_base.specs.streams.StreamScalars.{Rules}
+use Rattle.yaml_base.specs.streams.StreamDocuments.{heading_of, begins_with_percent}
+use Rattle.yaml_base.specs.streams.StreamLaw.{is_written_as_nothing}
 use Rattle.yaml_base.proofs.stream_nodes.StreamTexts.{node_own}
 use Rattle.yaml_base.proofs.stream_lines.StreamLineLaws.{is_closed}
 use Rattle.yaml_base.proofs.stream_lines.StreamTidyLaws.{lines_after_first}

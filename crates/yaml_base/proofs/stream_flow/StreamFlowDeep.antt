@@ -5,18 +5,18 @@ use Rattle.std.specs.List.{list_any, list_all}
 use Rattle.std.specs.Prelude.{ℕ, Bool, true, false, Option, None, Some, List, [], ◌∷◌, ◌++◌, ◌||◌, ◌&&◌, not, codes, if◌then◌else◌}
 use Rattle.yaml_base.specs.Characters.{Text, space, is_printable}
 use Rattle.yaml_base.specs.LineBreaks.{is_read_break}
-use Rattle.yaml_base.specs.ReadPlain.{is_read_white}
+use Rattle.yaml_base.specs.reading.ReadPlain.{is_read_white}
 use Rattle.yaml_base.specs.Settings.{Effective}
 use Rattle.yaml_base.specs.Event.{ScalarStyle, any_style, plain, single_quoted, double_quoted, literal, folded, TagDirective, Scalar, Collection}
 use Rattle.yaml_base.specs.Cursor.{Cursor, Laid, space_if, new_line, nothing_laid, indicator, then_laid, is_past_width}
-use Rattle.yaml_base.specs.Plain.{runs, runs_laid}
-use Rattle.yaml_base.specs.SingleQuoted.{quotes_doubled, single_quote}
-use Rattle.yaml_base.specs.DoubleQuoted.{double_inside, quote_laid}
+use Rattle.yaml_base.specs.scalars.Plain.{runs, runs_laid}
+use Rattle.yaml_base.specs.scalars.SingleQuoted.{quotes_doubled, single_quote}
+use Rattle.yaml_base.specs.scalars.DoubleQuoted.{double_inside, quote_laid}
 use Rattle.yaml_base.specs.Grammar.{Node, alias_node, scalar_node, sequence_node, mapping_node, Nodes, no_nodes, nodes_and, Pairs, no_pairs, pairs_and}
 use Rattle.yaml_base.specs.Refusal.{scalar_tag, collection_tag}
 use Rattle.yaml_base.specs.Layout.{Role, Place, is_in_mapping, entries_column, is_written_in_flow, as_root, as_item, as_key, as_value, is_key, line_column, deeper, has_no_nodes, has_no_pairs, is_simple, is_simple_at, flow_break, opening_or_comma, key_sign, flow_place_laid, place_laid, properties_laid, alias_laid, separation_laid, body_laid, choice_of, Brackets, square, curly, empty_or_comma, end_laid, entry_place}
 use Rattle.yaml_base.specs.TidyBodies.{has_deep_lines, has_no_space_before_break, has_clean_edges, ends_white, is_tidy_style, is_tidy}
-use Rattle.yaml_base.specs.StreamScalars.{name_read}
+use Rattle.yaml_base.specs.streams.StreamScalars.{name_read}
 use Rattle.yaml_base.proofs.stream_lines.StreamLineLaws.{OneLine, one_line_both}
 use Rattle.yaml_base.proofs.stream_lines.StreamTidyLaws.{deep_lines_fewer}
 use Rattle.yaml_base.proofs.stream_lines.StreamClosed.{spaces_line}

@@ -5,17 +5,17 @@ use Rattle.std.specs.List.{list_all}
 use Rattle.std.specs.Prelude.{ℕ, Bool, true, false, Option, None, Some, List, [], ◌∷◌, ◌++◌, ◌==◌, ◌||◌, ◌&&◌, not, if◌then◌else◌}
 use Rattle.yaml_base.specs.Characters.{Text, space, line_feed}
 use Rattle.yaml_base.specs.LineBreaks.{is_read_break}
-use Rattle.yaml_base.specs.ReadPlain.{is_read_white}
+use Rattle.yaml_base.specs.reading.ReadPlain.{is_read_white}
 use Rattle.yaml_base.specs.Settings.{Effective}
 use Rattle.yaml_base.specs.Event.{TagDirective, Collection}
 use Rattle.yaml_base.specs.Cursor.{Cursor, Laid, space_if}
 use Rattle.yaml_base.specs.Grammar.{alias_node, scalar_node, sequence_node, mapping_node, Nodes, Pairs}
 use Rattle.yaml_base.specs.Refusal.{collection_tag}
 use Rattle.yaml_base.specs.Layout.{Place, line_column, deeper, has_no_nodes, has_no_pairs, is_written_in_flow}
-use Rattle.yaml_base.specs.StreamContent.{Tree}
-use Rattle.yaml_base.specs.StreamLines.{Line, lines_of, text_of_lines, character_before, extending, is_inside, all_deeper, spaces}
-use Rattle.yaml_base.specs.StreamScalars.{Rules, Properties}
-use Rattle.yaml_base.specs.StreamNodes.{kind_of_node, begins_properties, text_or_properties, text_read, kind_of_text, text_by_kind}
+use Rattle.yaml_base.specs.streams.StreamContent.{Tree}
+use Rattle.yaml_base.specs.streams.StreamLines.{Line, lines_of, text_of_lines, character_before, extending, is_inside, all_deeper, spaces}
+use Rattle.yaml_base.specs.streams.StreamScalars.{Rules, Properties}
+use Rattle.yaml_base.specs.streams.StreamNodes.{kind_of_node, begins_properties, text_or_properties, text_read, kind_of_text, text_by_kind}
 use Rattle.yaml_base.proofs.stream_lines.StreamLineLaws.{is_closed, OneLine, text_of_lines_of}
 use Rattle.yaml_base.proofs.stream_lines.StreamInside.{AllInside}
 use Rattle.yaml_base.proofs.stream_lines.StreamTidyLaws.{lines_after_first}

@@ -6,14 +6,14 @@ use Rattle.yaml_base.specs.Characters.{Text, space}
 use Rattle.yaml_base.specs.Settings.{Effective}
 use Rattle.yaml_base.specs.Event.{TagDirective, Scalar, Collection}
 use Rattle.yaml_base.specs.Cursor.{Cursor, Laid, space_if}
-use Rattle.yaml_base.specs.Style.{is_plain}
+use Rattle.yaml_base.specs.scalars.Style.{is_plain}
 use Rattle.yaml_base.specs.Grammar.{Node, alias_node, scalar_node, sequence_node, mapping_node, Nodes, no_nodes, nodes_and, Pairs, no_pairs, pairs_and}
 use Rattle.yaml_base.specs.Refusal.{scalar_tag, collection_tag}
 use Rattle.yaml_base.specs.Layout.{Role, is_key, deeper, is_simple, properties_laid, alias_laid, separation_laid, body_laid, choice_of, square, curly, end_laid, entry_place}
-use Rattle.yaml_base.specs.StreamContent.{Tree, alias_tree, sequence_tree, mapping_tree, no_trees, no_tree_pairs}
-use Rattle.yaml_base.specs.StreamScalars.{Rules, name_read}
-use Rattle.yaml_base.specs.StreamTokens.{begins_bracket, class_of}
-use Rattle.yaml_base.specs.StreamFlow.{is_alias, is_key_text, no_key, key_held, Level, in_sequence, in_mapping, ColonPlace, at_once, after_blank, entry_awaited, comma_awaited, colon_awaited, within, with_tree, level_opened}
+use Rattle.yaml_base.specs.streams.StreamContent.{Tree, alias_tree, sequence_tree, mapping_tree, no_trees, no_tree_pairs}
+use Rattle.yaml_base.specs.streams.StreamScalars.{Rules, name_read}
+use Rattle.yaml_base.specs.streams.StreamTokens.{begins_bracket, class_of}
+use Rattle.yaml_base.specs.streams.StreamFlow.{is_alias, is_key_text, no_key, key_held, Level, in_sequence, in_mapping, ColonPlace, at_once, after_blank, entry_awaited, comma_awaited, colon_awaited, within, with_tree, level_opened}
 use Rattle.yaml_base.proofs.stream_nodes.StreamAgrees.{node_tree, nodes_tree, pairs_tree}
 use Rattle.yaml_base.proofs.stream_flow.StreamSays.{bracket_class}
 use Rattle.yaml_base.proofs.stream_flow.StreamTakes.{Takes, takes_both, takes_simple_key}

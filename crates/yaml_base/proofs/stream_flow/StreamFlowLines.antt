@@ -6,14 +6,14 @@ use Rattle.std.specs.Option.{option_or}
 use Rattle.std.specs.Prelude.{ℕ, Bool, true, false, Option, None, Some, [], ◌∷◌, ◌++◌, ◌==◌, ◌&&◌, not, nat_le, length, option_map, option_and_then, if◌then◌else◌}
 use Rattle.yaml_base.specs.Characters.{Text, space}
 use Rattle.yaml_base.specs.Event.{plain}
-use Rattle.yaml_base.specs.ReadPlain.{read_plain}
-use Rattle.yaml_base.specs.ReadTags.{TagSaid}
+use Rattle.yaml_base.specs.reading.ReadPlain.{read_plain}
+use Rattle.yaml_base.specs.reading.ReadTags.{TagSaid}
 use Rattle.yaml_base.specs.TidyBodies.{is_tidy}
-use Rattle.yaml_base.specs.StreamContent.{stood_plain, Tree}
-use Rattle.yaml_base.specs.StreamLines.{ends_sign, begins_with_sign}
-use Rattle.yaml_base.specs.StreamScalars.{Rules, Properties, no_properties, scalar_said, scalar_of_style, empty_sequence, empty_mapping, a_scalar, word_by_kind, word_after}
-use Rattle.yaml_base.specs.StreamFlow.{is_alias, longest_key}
-use Rattle.yaml_base.specs.StreamNodes.{without_last_space, word_of_alias, key_of_text, key_ends, key_from, begins_text, kind_of_node}
+use Rattle.yaml_base.specs.streams.StreamContent.{stood_plain, Tree}
+use Rattle.yaml_base.specs.streams.StreamLines.{ends_sign, begins_with_sign}
+use Rattle.yaml_base.specs.streams.StreamScalars.{Rules, Properties, no_properties, scalar_said, scalar_of_style, empty_sequence, empty_mapping, a_scalar, word_by_kind, word_after}
+use Rattle.yaml_base.specs.streams.StreamFlow.{is_alias, longest_key}
+use Rattle.yaml_base.specs.streams.StreamNodes.{without_last_space, word_of_alias, key_of_text, key_ends, key_from, begins_text, kind_of_node}
 use Rattle.yaml_base.proofs.stream_keys.StreamKeys.{no_alias_before, key_by_word}
 use Rattle.yaml_base.proofs.stream_nodes.StreamProperties.{begins_content}
 use Rattle.yaml_base.proofs.stream_flow.StreamPropertyWords.{lead}

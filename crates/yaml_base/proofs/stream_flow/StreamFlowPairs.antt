@@ -6,10 +6,10 @@ use Rattle.yaml_base.specs.Characters.{Text, space, line_feed}
 use Rattle.yaml_base.specs.Settings.{Effective}
 use Rattle.yaml_base.specs.Cursor.{Cursor, Laid, space_if}
 use Rattle.yaml_base.specs.Layout.{as_value, flow_break, key_sign, flow_place_laid}
-use Rattle.yaml_base.specs.StreamContent.{Tree, Trees, trees_and, TreePairs, tree_pairs_and}
-use Rattle.yaml_base.specs.StreamScalars.{Rules}
-use Rattle.yaml_base.specs.StreamTokens.{is_flow_sign, class_of}
-use Rattle.yaml_base.specs.StreamFlow.{no_key, key_due, key_held, Level, in_sequence, in_mapping, at_once, after_white, entry_awaited, node_awaited, comma_awaited, colon_awaited, within, level_opened}
+use Rattle.yaml_base.specs.streams.StreamContent.{Tree, Trees, trees_and, TreePairs, tree_pairs_and}
+use Rattle.yaml_base.specs.streams.StreamScalars.{Rules}
+use Rattle.yaml_base.specs.streams.StreamTokens.{is_flow_sign, class_of}
+use Rattle.yaml_base.specs.streams.StreamFlow.{no_key, key_due, key_held, Level, in_sequence, in_mapping, at_once, after_white, entry_awaited, node_awaited, comma_awaited, colon_awaited, within, level_opened}
 use Rattle.yaml_base.proofs.stream_flow.StreamPlainWords.{ends_by, ends_word}
 use Rattle.yaml_base.proofs.stream_flow.StreamWhites.{space_class, line_feed_class}
 use Rattle.yaml_base.proofs.stream_flow.StreamSays.{EndsWord, sign_ends, comma_class, colon_class}

@@ -6,17 +6,17 @@ use Rattle.yaml_base.specs.Characters.{Text}
 use Rattle.yaml_base.specs.Settings.{Effective}
 use Rattle.yaml_base.specs.Cursor.{Cursor, Laid, space_if}
 use Rattle.yaml_base.specs.Event.{ScalarStyle, any_style, plain, single_quoted, double_quoted, literal, folded, TagDirective, Scalar}
-use Rattle.yaml_base.specs.Analysis.{Allowances, is_empty, allowances}
-use Rattle.yaml_base.specs.Style.{is_plain, style_asked, style_quoted, style_fitting, fits_plain}
-use Rattle.yaml_base.specs.Plain.{runs, runs_laid}
-use Rattle.yaml_base.specs.SingleQuoted.{quotes_doubled, single_quote}
-use Rattle.yaml_base.specs.DoubleQuoted.{double_inside, quote_laid}
+use Rattle.yaml_base.specs.scalars.Analysis.{Allowances, is_empty, allowances}
+use Rattle.yaml_base.specs.scalars.Style.{is_plain, style_asked, style_quoted, style_fitting, fits_plain}
+use Rattle.yaml_base.specs.scalars.Plain.{runs, runs_laid}
+use Rattle.yaml_base.specs.scalars.SingleQuoted.{quotes_doubled, single_quote}
+use Rattle.yaml_base.specs.scalars.DoubleQuoted.{double_inside, quote_laid}
 use Rattle.yaml_base.specs.Meaning.{read_in_style}
-use Rattle.yaml_base.specs.ReadPlain.{read_plain}
+use Rattle.yaml_base.specs.reading.ReadPlain.{read_plain}
 use Rattle.yaml_base.specs.Layout.{properties_laid, separation_laid, body_laid, choice_of, entry_place, Role}
 use Rattle.yaml_base.specs.Refusal.{scalar_tag}
 use Rattle.yaml_base.specs.TidyBodies.{is_tidy}
-use Rattle.yaml_base.specs.StreamScalars.{Rules}
+use Rattle.yaml_base.specs.streams.StreamScalars.{Rules}
 use Rattle.yaml_base.proofs.stream_lines.StreamCuts.{none_not_some}
 use Rattle.yaml_base.proofs.stream_flow.StreamPropertyWords.{lead}
 use Rattle.yaml_base.proofs.stream_nodes.StreamStands.{tag_written, tag_meant}

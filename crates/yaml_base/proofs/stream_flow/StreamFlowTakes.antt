@@ -6,12 +6,12 @@ use Rattle.yaml_base.specs.Characters.{Text, space, line_feed}
 use Rattle.yaml_base.specs.Settings.{Effective}
 use Rattle.yaml_base.specs.Cursor.{Cursor, Laid, space_if, new_line, indicator}
 use Rattle.yaml_base.specs.Layout.{line_column, Brackets, square, curly, end_laid}
-use Rattle.yaml_base.specs.ReadTags.{TagSaid}
-use Rattle.yaml_base.specs.StreamContent.{Tree, sequence_tree, mapping_tree, Trees, TreePairs}
-use Rattle.yaml_base.specs.StreamLines.{spaces, is_spaces, ends_sign}
-use Rattle.yaml_base.specs.StreamScalars.{Rules, properties_read, collection_tag_said}
-use Rattle.yaml_base.specs.StreamTokens.{word, opens, sign, begins_bracket, class_of, is_pair, flow_tokens, free}
-use Rattle.yaml_base.specs.StreamFlow.{no_key, key_due, key_held, Level, in_sequence, in_mapping, at_once, Awaited, entry_awaited, node_awaited, comma_awaited, colon_awaited, FlowReading, failed, within, with_tree, with_word, word_step, level_opened, opened, may_open, opened_with}
+use Rattle.yaml_base.specs.reading.ReadTags.{TagSaid}
+use Rattle.yaml_base.specs.streams.StreamContent.{Tree, sequence_tree, mapping_tree, Trees, TreePairs}
+use Rattle.yaml_base.specs.streams.StreamLines.{spaces, is_spaces, ends_sign}
+use Rattle.yaml_base.specs.streams.StreamScalars.{Rules, properties_read, collection_tag_said}
+use Rattle.yaml_base.specs.streams.StreamTokens.{word, opens, sign, begins_bracket, class_of, is_pair, flow_tokens, free}
+use Rattle.yaml_base.specs.streams.StreamFlow.{no_key, key_due, key_held, Level, in_sequence, in_mapping, at_once, Awaited, entry_awaited, node_awaited, comma_awaited, colon_awaited, FlowReading, failed, within, with_tree, with_word, word_step, level_opened, opened, may_open, opened_with}
 use Rattle.yaml_base.proofs.stream_lines.StreamInside.{blank_spaces}
 use Rattle.yaml_base.proofs.stream_flow.StreamPlainWords.{ends_word}
 use Rattle.yaml_base.proofs.stream_flow.StreamSays.{EndsWord, sign_ends, says_sign, comma_class, square_class, curly_class}

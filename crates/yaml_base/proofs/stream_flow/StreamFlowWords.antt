@@ -7,16 +7,16 @@ use Rattle.std.specs.Prelude.{â„•, Bool, true, false, Option, None, Some, [], â—
 use Rattle.yaml_base.specs.Characters.{Text, space, is_alpha, is_among, is_blank, is_printable}
 use Rattle.yaml_base.specs.LineBreaks.{is_read_break}
 use Rattle.yaml_base.specs.Event.{ScalarStyle, any_style, plain, single_quoted, double_quoted, literal, folded}
-use Rattle.yaml_base.specs.Style.{is_plain}
-use Rattle.yaml_base.specs.ReadTags.{TagSaid}
-use Rattle.yaml_base.specs.ReadPlain.{is_read_white, begins_white, begins_with_hash, holds_no_plain, read_plain}
-use Rattle.yaml_base.specs.ReadSingle.{read_single}
-use Rattle.yaml_base.specs.ReadDouble.{read_double}
+use Rattle.yaml_base.specs.scalars.Style.{is_plain}
+use Rattle.yaml_base.specs.reading.ReadTags.{TagSaid}
+use Rattle.yaml_base.specs.reading.ReadPlain.{is_read_white, begins_white, begins_with_hash, holds_no_plain, read_plain}
+use Rattle.yaml_base.specs.reading.ReadSingle.{read_single}
+use Rattle.yaml_base.specs.reading.ReadDouble.{read_double}
 use Rattle.yaml_base.specs.TidyBodies.{is_tidy, has_deep_lines, has_no_space_before_break, has_clean_edges}
-use Rattle.yaml_base.specs.StreamContent.{Tree, alias_tree, scalar_tree, sequence_tree, mapping_tree, no_trees, no_tree_pairs}
-use Rattle.yaml_base.specs.StreamLines.{spaces, ends_sign}
-use Rattle.yaml_base.specs.StreamScalars.{Rules, name_read, tagging_said, standing_of, scalar_said, scalar_of_style, collection_tag_said, a_scalar, word_by_kind, kind_of_word, word_after, word_read}
-use Rattle.yaml_base.specs.StreamTokens.{word, begins_plain, class_of, flow_tokens, begun, FlowTurn}
+use Rattle.yaml_base.specs.streams.StreamContent.{Tree, alias_tree, scalar_tree, sequence_tree, mapping_tree, no_trees, no_tree_pairs}
+use Rattle.yaml_base.specs.streams.StreamLines.{spaces, ends_sign}
+use Rattle.yaml_base.specs.streams.StreamScalars.{Rules, name_read, tagging_said, standing_of, scalar_said, scalar_of_style, collection_tag_said, a_scalar, word_by_kind, kind_of_word, word_after, word_read}
+use Rattle.yaml_base.specs.streams.StreamTokens.{word, begins_plain, class_of, flow_tokens, begun, FlowTurn}
 use Rattle.yaml_base.proofs.stream_nodes.StreamAgrees.{tagging_in}
 use Rattle.yaml_base.proofs.stream_lines.StreamTidyLaws.{tidy_at_root}
 use Rattle.yaml_base.proofs.stream_flow.StreamPlainWords.{all_stay, ends_shown, stays_plain, is_white_class, plain_text_word}

@@ -8,9 +8,9 @@ use Rattle.yaml_base.specs.Characters.{Text, space, line_feed}
 use Rattle.yaml_base.specs.Settings.{Effective}
 use Rattle.yaml_base.specs.Cursor.{Cursor, Laid, nothing_laid, then_laid, new_line, breaks_line, space_if, indicator, is_past_width}
 use Rattle.yaml_base.specs.Layout.{line_column, flow_break}
-use Rattle.yaml_base.specs.StreamScalars.{Rules}
-use Rattle.yaml_base.specs.StreamTokens.{sign, blank, line_end, free, is_flow_sign, class_of, FlowTurn, begun, flow_tokens}
-use Rattle.yaml_base.specs.StreamFlow.{Level, at_once, after_white, entry_awaited, node_awaited, comma_awaited, colon_awaited, FlowReading, within, flow_step}
+use Rattle.yaml_base.specs.streams.StreamScalars.{Rules}
+use Rattle.yaml_base.specs.streams.StreamTokens.{sign, blank, line_end, free, is_flow_sign, class_of, FlowTurn, begun, flow_tokens}
+use Rattle.yaml_base.specs.streams.StreamFlow.{Level, at_once, after_white, entry_awaited, node_awaited, comma_awaited, colon_awaited, FlowReading, within, flow_step}
 use Rattle.yaml_base.proofs.stream_flow.StreamWhites.{space_class, line_feed_class}
 use Rattle.yaml_base.proofs.stream_flow.StreamSays.{comma_class, colon_class, question_class}
 use Rattle.yaml_base.proofs.stream_flow.StreamTakes.{Takes, steps}

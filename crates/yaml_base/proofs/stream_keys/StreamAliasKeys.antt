@@ -5,11 +5,11 @@ use Rattle.std.specs.Option.{option_or}
 use Rattle.std.specs.List.{list_all}
 use Rattle.std.specs.Prelude.{ℕ, Bool, true, false, None, Some, [], ◌∷◌, ◌++◌, ◌==◌, ◌&&◌, nat_le, length, option_map, option_and_then, if◌then◌else◌}
 use Rattle.yaml_base.specs.Characters.{Text, space, is_alpha}
-use Rattle.yaml_base.specs.StreamContent.{alias_tree}
-use Rattle.yaml_base.specs.StreamLines.{ends_sign}
-use Rattle.yaml_base.specs.StreamScalars.{Rules, name_read, word_read}
-use Rattle.yaml_base.specs.StreamFlow.{is_alias, longest_key}
-use Rattle.yaml_base.specs.StreamNodes.{without_last_space, word_but_alias, word_of_alias, key_of_line}
+use Rattle.yaml_base.specs.streams.StreamContent.{alias_tree}
+use Rattle.yaml_base.specs.streams.StreamLines.{ends_sign}
+use Rattle.yaml_base.specs.streams.StreamScalars.{Rules, name_read, word_read}
+use Rattle.yaml_base.specs.streams.StreamFlow.{is_alias, longest_key}
+use Rattle.yaml_base.specs.streams.StreamNodes.{without_last_space, word_but_alias, word_of_alias, key_of_line}
 use Rattle.yaml_base.proofs.stream_keys.StreamKeys.{NoKey, found, key_found}
 
 -- a name and a space

@@ -3,13 +3,13 @@ use Rattle.std.proofs.Common.{◌≡◌, refl, sym, ap, ◌∙◌, subst}
 use Rattle.std.proofs.lemmas.Bool.{true≢false, false≢true, eqb-true, or_parts}
 use Rattle.std.specs.Prelude.{ℕ, Bool, true, false, Option, None, Some, [], ◌∷◌, ◌++◌, ◌==◌, ◌||◌, ◌&&◌, codes, if◌then◌else◌}
 use Rattle.yaml_base.specs.Characters.{Text, space, is_among}
-use Rattle.yaml_base.specs.ReadPlain.{is_read_white, begins_white, begins_with_three, begins_no_plain}
-use Rattle.yaml_base.specs.ReadTags.{TagSaid}
-use Rattle.yaml_base.specs.StreamContent.{Tree}
-use Rattle.yaml_base.specs.StreamLines.{ends_sign, begins_with_sign}
-use Rattle.yaml_base.specs.StreamScalars.{Rules}
-use Rattle.yaml_base.specs.StreamNodes.{key_of_text, simple_entry, key_entry, value_entry}
-use Rattle.yaml_base.specs.StreamDocuments.{start_mark, end_mark, no_mark, begins_with_mark, mark_of}
+use Rattle.yaml_base.specs.reading.ReadPlain.{is_read_white, begins_white, begins_with_three, begins_no_plain}
+use Rattle.yaml_base.specs.reading.ReadTags.{TagSaid}
+use Rattle.yaml_base.specs.streams.StreamContent.{Tree}
+use Rattle.yaml_base.specs.streams.StreamLines.{ends_sign, begins_with_sign}
+use Rattle.yaml_base.specs.streams.StreamScalars.{Rules}
+use Rattle.yaml_base.specs.streams.StreamNodes.{key_of_text, simple_entry, key_entry, value_entry}
+use Rattle.yaml_base.specs.streams.StreamDocuments.{start_mark, end_mark, no_mark, begins_with_mark, mark_of}
 use Rattle.yaml_base.proofs.stream_lines.StreamSections.{is_unmarked}
 use Rattle.yaml_base.proofs.stream_nodes.StreamPairs.{KeyFits}
 use Rattle.yaml_base.proofs.stream_keys.StreamKeys.{NoKey, key_found}

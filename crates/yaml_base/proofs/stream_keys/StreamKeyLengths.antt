@@ -11,8 +11,8 @@ use Rattle.yaml_base.specs.Characters.{Text, hex_digits}
 use Rattle.yaml_base.specs.Event.{ScalarStyle, any_style, plain, single_quoted, double_quoted, literal, folded, TagDirective}
 use Rattle.yaml_base.specs.Percent.{is_tag_character, byte_escaped, character_written, percent_escaped, is_suffix_character, suffix_escaped}
 use Rattle.yaml_base.specs.Tags.{Spelling, shorthand, verbatim, spelling, spelled}
-use Rattle.yaml_base.specs.DoubleQuoted.{short_escapes, letter_among, escape_after_backslash, escape_text, needs_escape, character_text}
-use Rattle.yaml_base.specs.SingleQuoted.{quotes_doubled}
+use Rattle.yaml_base.specs.scalars.DoubleQuoted.{short_escapes, letter_among, escape_after_backslash, escape_text, needs_escape, character_text}
+use Rattle.yaml_base.specs.scalars.SingleQuoted.{quotes_doubled}
 use Rattle.yaml_base.specs.Layout.{byte_count, name_count, spelling_count, tag_count}
 use Rattle.yaml_base.proofs.stream_keys.StreamKeyBodies.{key_body, quote_doubled}
 use Rattle.yaml_base.proofs.stream_flow.StreamPropertyWords.{lead}

@@ -4,16 +4,16 @@ use Rattle.std.proofs.lemmas.Bool.{true≢false, false≢true, eqb-true, and_par
 use Rattle.std.specs.Prelude.{ℕ, Bool, true, false, Option, None, Some, [], ◌∷◌, ◌++◌, ◌==◌, ◌&&◌, not, nat_le, length, option_map, option_and_then, if◌then◌else◌}
 use Rattle.yaml_base.specs.Characters.{Text, space}
 use Rattle.yaml_base.specs.Event.{plain, single_quoted, double_quoted}
-use Rattle.yaml_base.specs.ReadTags.{TagSaid}
-use Rattle.yaml_base.specs.ReadPlain.{read_plain}
-use Rattle.yaml_base.specs.ReadSingle.{read_single}
-use Rattle.yaml_base.specs.ReadDouble.{read_double}
+use Rattle.yaml_base.specs.reading.ReadTags.{TagSaid}
+use Rattle.yaml_base.specs.reading.ReadPlain.{read_plain}
+use Rattle.yaml_base.specs.reading.ReadSingle.{read_single}
+use Rattle.yaml_base.specs.reading.ReadDouble.{read_double}
 use Rattle.yaml_base.specs.TidyBodies.{is_tidy}
-use Rattle.yaml_base.specs.StreamContent.{stood_quoted, Tree, sequence_tree, mapping_tree, no_trees, no_tree_pairs}
-use Rattle.yaml_base.specs.StreamLines.{ends_sign}
-use Rattle.yaml_base.specs.StreamScalars.{Rules, Properties, scalar_said, scalar_of_style, an_alias, empty_sequence, empty_mapping, a_scalar, kind_of_word, word_by_kind, word_after, word_read}
-use Rattle.yaml_base.specs.StreamFlow.{is_alias, longest_key}
-use Rattle.yaml_base.specs.StreamNodes.{key_of_text, word_of_alias, without_last_space}
+use Rattle.yaml_base.specs.streams.StreamContent.{stood_quoted, Tree, sequence_tree, mapping_tree, no_trees, no_tree_pairs}
+use Rattle.yaml_base.specs.streams.StreamLines.{ends_sign}
+use Rattle.yaml_base.specs.streams.StreamScalars.{Rules, Properties, scalar_said, scalar_of_style, an_alias, empty_sequence, empty_mapping, a_scalar, kind_of_word, word_by_kind, word_after, word_read}
+use Rattle.yaml_base.specs.streams.StreamFlow.{is_alias, longest_key}
+use Rattle.yaml_base.specs.streams.StreamNodes.{key_of_text, word_of_alias, without_last_space}
 use Rattle.yaml_base.proofs.stream_lines.StreamTidyLaws.{tidy_at_root}
 use Rattle.yaml_base.proofs.stream_lines.StreamCuts.{double_quoted_whole, single_quoted_whole}
 use Rattle.yaml_base.proofs.stream_keys.StreamKeys.{NoKey, no_alias_before, key_by_word}

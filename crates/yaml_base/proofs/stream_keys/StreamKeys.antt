@@ -5,14 +5,14 @@ use Rattle.std.specs.Option.{option_or}
 use Rattle.std.specs.Prelude.{ℕ, Bool, true, false, Option, None, Some, [], ◌∷◌, ◌++◌, ◌==◌, ◌&&◌, nat_le, length, option_map, option_and_then, if◌then◌else◌}
 use Rattle.yaml_base.specs.Characters.{Text, space}
 use Rattle.yaml_base.specs.Event.{single_quoted, double_quoted}
-use Rattle.yaml_base.specs.ReadSingle.{read_single}
-use Rattle.yaml_base.specs.ReadDouble.{read_double}
+use Rattle.yaml_base.specs.reading.ReadSingle.{read_single}
+use Rattle.yaml_base.specs.reading.ReadDouble.{read_double}
 use Rattle.yaml_base.specs.TidyBodies.{is_tidy}
-use Rattle.yaml_base.specs.StreamContent.{Stood, stood_quoted, Tagging, without_tag, Tree, scalar_tree}
-use Rattle.yaml_base.specs.StreamLines.{ends_sign}
-use Rattle.yaml_base.specs.StreamScalars.{Rules, Properties, no_properties, tagging_said, scalar_said, scalar_of_style, word_read}
-use Rattle.yaml_base.specs.StreamFlow.{is_alias, longest_key}
-use Rattle.yaml_base.specs.StreamNodes.{SimpleKey, without_last_space, word_but_alias, word_of_alias, key_of_text, key_ends, key_from, key_of_line}
+use Rattle.yaml_base.specs.streams.StreamContent.{Stood, stood_quoted, Tagging, without_tag, Tree, scalar_tree}
+use Rattle.yaml_base.specs.streams.StreamLines.{ends_sign}
+use Rattle.yaml_base.specs.streams.StreamScalars.{Rules, Properties, no_properties, tagging_said, scalar_said, scalar_of_style, word_read}
+use Rattle.yaml_base.specs.streams.StreamFlow.{is_alias, longest_key}
+use Rattle.yaml_base.specs.streams.StreamNodes.{SimpleKey, without_last_space, word_but_alias, word_of_alias, key_of_text, key_ends, key_from, key_of_line}
 use Rattle.yaml_base.proofs.stream_lines.StreamCuts.{double_quoted_whole, single_quoted_whole}
 
 -- no `:` inside a text ends a key, where so much stands before it and a `:` after it

@@ -10,15 +10,15 @@ use Rattle.yaml_base.specs.LineBreaks.{is_read_break}
 use Rattle.yaml_base.specs.Settings.{Effective}
 use Rattle.yaml_base.specs.Event.{ScalarStyle, any_style, plain, single_quoted, double_quoted, literal, folded, TagDirective, Scalar, Collection}
 use Rattle.yaml_base.specs.Cursor.{Cursor, space_if}
-use Rattle.yaml_base.specs.Analysis.{Allowances, is_empty, allowances}
-use Rattle.yaml_base.specs.Style.{style_asked, style_fitting, fits_plain}
+use Rattle.yaml_base.specs.scalars.Analysis.{Allowances, is_empty, allowances}
+use Rattle.yaml_base.specs.scalars.Style.{style_asked, style_fitting, fits_plain}
 use Rattle.yaml_base.specs.Grammar.{alias_node, scalar_node, sequence_node, mapping_node, no_nodes, nodes_and, no_pairs, pairs_and}
 use Rattle.yaml_base.specs.Refusal.{scalar_tag, collection_tag}
 use Rattle.yaml_base.specs.Layout.{Role, is_key, byte_count, name_count, tag_count, is_short, is_simple, deeper, properties_laid, alias_laid, separation_laid, body_laid, choice_of, entry_place}
 use Rattle.yaml_base.specs.Places.{most_key_bytes}
-use Rattle.yaml_base.specs.StreamContent.{Tree}
-use Rattle.yaml_base.specs.StreamScalars.{name_read}
-use Rattle.yaml_base.specs.StreamFlow.{is_alias, longest_key, key_length, is_key_text}
+use Rattle.yaml_base.specs.streams.StreamContent.{Tree}
+use Rattle.yaml_base.specs.streams.StreamScalars.{name_read}
+use Rattle.yaml_base.specs.streams.StreamFlow.{is_alias, longest_key, key_length, is_key_text}
 use Rattle.yaml_base.proofs.stream_nodes.StreamAgrees.{node_tree}
 use Rattle.yaml_base.proofs.stream_lines.StreamLineLaws.{OneLine, one_line_both}
 use Rattle.yaml_base.proofs.stream_nodes.StreamAliasFits.{name_line}

@@ -5,14 +5,14 @@ use Rattle.std.specs.Prelude.{ℕ, Bool, true, false, Option, None, Some, List, 
 use Rattle.std.specs.List.{list_all}
 use Rattle.yaml_base.specs.Characters.{Text, space, is_among, is_printable}
 use Rattle.yaml_base.specs.Event.{TagDirective, plain}
-use Rattle.yaml_base.specs.ReadFolding.{unit_of, folding_read}
-use Rattle.yaml_base.specs.ReadPlain.{is_read_white, begins_white, begins_with_three, begins_with_hash, begins_no_plain, holds_no_plain, read_plain}
+use Rattle.yaml_base.specs.reading.ReadFolding.{unit_of, folding_read}
+use Rattle.yaml_base.specs.reading.ReadPlain.{is_read_white, begins_white, begins_with_three, begins_with_hash, begins_no_plain, holds_no_plain, read_plain}
 use Rattle.yaml_base.specs.TidyBodies.{is_tidy, has_deep_lines, has_no_space_before_break, has_clean_edges, ends_white}
-use Rattle.yaml_base.specs.StreamContent.{stood_plain, without_tag, Tree, scalar_tree}
-use Rattle.yaml_base.specs.StreamLines.{ends_sign, Indented, indented, indented_step}
-use Rattle.yaml_base.specs.StreamScalars.{Rules, no_properties, properties_read, anchor_of_word, word_cut, tag_first, tag_of_word, scalar_said, scalar_of_style, style_begun, an_alias, a_scalar, kind_of_word, word_by_kind, word_after, word_read}
-use Rattle.yaml_base.specs.StreamFlow.{is_alias, longest_key}
-use Rattle.yaml_base.specs.StreamNodes.{key_of_text, key_of_line, word_of_alias}
+use Rattle.yaml_base.specs.streams.StreamContent.{stood_plain, without_tag, Tree, scalar_tree}
+use Rattle.yaml_base.specs.streams.StreamLines.{ends_sign, Indented, indented, indented_step}
+use Rattle.yaml_base.specs.streams.StreamScalars.{Rules, no_properties, properties_read, anchor_of_word, word_cut, tag_first, tag_of_word, scalar_said, scalar_of_style, style_begun, an_alias, a_scalar, kind_of_word, word_by_kind, word_after, word_read}
+use Rattle.yaml_base.specs.streams.StreamFlow.{is_alias, longest_key}
+use Rattle.yaml_base.specs.streams.StreamNodes.{key_of_text, key_of_line, word_of_alias}
 use Rattle.yaml_base.proofs.stream_lines.StreamCuts.{none_not_some}
 use Rattle.yaml_base.proofs.stream_keys.StreamKeys.{NoKey, found, key_found, scalar_no_alias, scalar_but_alias, no_alias_before, key_by_word}
 

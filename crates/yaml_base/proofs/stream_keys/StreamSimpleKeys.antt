@@ -8,19 +8,19 @@ use Rattle.yaml_base.specs.Characters.{Text, space, is_alpha}
 use Rattle.yaml_base.specs.Settings.{Effective}
 use Rattle.yaml_base.specs.Event.{ScalarStyle, any_style, plain, single_quoted, double_quoted, literal, folded, TagDirective, Scalar, Collection}
 use Rattle.yaml_base.specs.Cursor.{Cursor, Laid, nothing_laid, space_if}
-use Rattle.yaml_base.specs.Analysis.{Allowances, is_empty, allowances}
-use Rattle.yaml_base.specs.Style.{is_plain, style_asked, style_fitting, fits_plain}
+use Rattle.yaml_base.specs.scalars.Analysis.{Allowances, is_empty, allowances}
+use Rattle.yaml_base.specs.scalars.Style.{is_plain, style_asked, style_fitting, fits_plain}
 use Rattle.yaml_base.specs.Grammar.{alias_node, scalar_node, sequence_node, mapping_node, no_nodes, nodes_and, Pairs, no_pairs, pairs_and}
 use Rattle.yaml_base.specs.Refusal.{scalar_tag, collection_tag}
 use Rattle.yaml_base.specs.Meaning.{read_in_style}
 use Rattle.yaml_base.specs.TidyBodies.{is_tidy}
 use Rattle.yaml_base.specs.Layout.{as_key, byte_count, name_count, tag_count, is_short, has_no_pairs, deeper, Body, body_at, properties_laid, separation_laid, body_laid, choice_of, Place, entry_place, Role, alias_laid, asks_flow, is_written_in_flow, Brackets, square, curly, end_laid}
 use Rattle.yaml_base.specs.Places.{most_key_bytes}
-use Rattle.yaml_base.specs.SingleQuoted.{quotes_doubled}
-use Rattle.yaml_base.specs.DoubleQuoted.{character_text}
-use Rattle.yaml_base.specs.StreamContent.{Tree, alias_tree, scalar_tree}
-use Rattle.yaml_base.specs.StreamScalars.{Rules}
-use Rattle.yaml_base.specs.StreamFlow.{longest_key}
+use Rattle.yaml_base.specs.scalars.SingleQuoted.{quotes_doubled}
+use Rattle.yaml_base.specs.scalars.DoubleQuoted.{character_text}
+use Rattle.yaml_base.specs.streams.StreamContent.{Tree, alias_tree, scalar_tree}
+use Rattle.yaml_base.specs.streams.StreamScalars.{Rules}
+use Rattle.yaml_base.specs.streams.StreamFlow.{longest_key}
 use Rattle.yaml_base.proofs.stream_nodes.StreamAgrees.{tagging_in, node_tree}
 use Rattle.yaml_base.proofs.stream_lines.StreamCuts.{none_not_some}
 use Rattle.yaml_base.proofs.stream_lines.StreamTidyLaws.{tidy_at_root}

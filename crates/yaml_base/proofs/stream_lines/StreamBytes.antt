@@ -7,9 +7,9 @@ use Rattle.std.specs.Prelude.{ℕ, Bool, true, false, None, Some, List, [], ◌�
 use Rattle.yaml_base.specs.Characters.{Text, carriage_return, next_line, line_feed, is_printable}
 use Rattle.yaml_base.specs.Settings.{LineBreak, carriage_return_break, line_feed_break, both_break}
 use Rattle.yaml_base.specs.LineBreaks.{break_text, is_laid_text, with_breaks_written, with_line_breaks_read}
-use Rattle.yaml_base.specs.ReadBytes.{characters_read}
-use Rattle.yaml_base.specs.StreamDocuments.{documents_of}
-use Rattle.yaml_base.specs.StreamReader.{may_stand_raw, text_trees, stream_trees}
+use Rattle.yaml_base.specs.reading.ReadBytes.{characters_read}
+use Rattle.yaml_base.specs.streams.StreamDocuments.{documents_of}
+use Rattle.yaml_base.specs.streams.StreamReader.{may_stand_raw, text_trees, stream_trees}
 use Rattle.yaml_base.proofs.BreakLaws.{breaks-round}
 
 -- a character that isn't printable is none of a printable text

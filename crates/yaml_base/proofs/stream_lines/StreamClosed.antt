@@ -6,7 +6,7 @@ use Rattle.std.specs.List.{list_all, list_any}
 use Rattle.yaml_base.specs.Characters.{Text, line_feed, space}
 use Rattle.yaml_base.specs.LineBreaks.{is_read_break}
 use Rattle.yaml_base.specs.Cursor.{Cursor, Laid, new_line}
-use Rattle.yaml_base.specs.StreamLines.{Line, character_before, extending, lines_of, ends_sign, is_inside, spaces}
+use Rattle.yaml_base.specs.streams.StreamLines.{Line, character_before, extending, lines_of, ends_sign, is_inside, spaces}
 use Rattle.yaml_base.proofs.stream_lines.StreamLineLaws.{is_closed, OneLine}
 use Rattle.yaml_base.proofs.stream_lines.StreamInside.{AllInside, inside_deeper}
 use Rattle.yaml_base.proofs.stream_lines.StreamTidyLaws.{lines_after_first}

@@ -5,10 +5,10 @@ use Rattle.std.specs.List.{list_all, list_any}
 use Rattle.std.specs.Prelude.{ℕ, Bool, true, false, List, [], ◌∷◌, ◌++◌, ◌-◌, ◌==◌, ◌||◌, ◌&&◌, not, if◌then◌else◌}
 use Rattle.yaml_base.specs.Characters.{Text, space, line_feed, is_blank}
 use Rattle.yaml_base.specs.LineBreaks.{is_read_break}
-use Rattle.yaml_base.specs.ReadPlain.{is_read_white}
+use Rattle.yaml_base.specs.reading.ReadPlain.{is_read_white}
 use Rattle.yaml_base.specs.Cursor.{Cursor, breaks_line, new_line, space_if}
 use Rattle.yaml_base.specs.TidyBodies.{begins_with_spaces, begins_with_blank_line, begins_with_deep_line, has_deep_lines, begins_with_break, ends_white}
-use Rattle.yaml_base.specs.StreamLines.{Line, character_before, lines_of, is_inside, spaces}
+use Rattle.yaml_base.specs.streams.StreamLines.{Line, character_before, lines_of, is_inside, spaces}
 use Rattle.yaml_base.proofs.stream_lines.StreamLineLaws.{OneLine}
 use Rattle.yaml_base.proofs.stream_lines.StreamInside.{AllInside}
 use Rattle.yaml_base.proofs.stream_lines.StreamTidyLaws.{spaces_fewer, first_text, lines_after_first, after_extended, spaces_inside}

@@ -5,7 +5,7 @@ use Rattle.std.specs.List.{list_any}
 use Rattle.std.specs.Prelude.{ℕ, Bool, true, false, List, [], ◌∷◌, ◌++◌, ◌||◌}
 use Rattle.yaml_base.specs.Characters.{Text}
 use Rattle.yaml_base.specs.LineBreaks.{is_read_break}
-use Rattle.yaml_base.specs.StreamLines.{Line, character_before, lines_of, text_of_lines}
+use Rattle.yaml_base.specs.streams.StreamLines.{Line, character_before, lines_of, text_of_lines}
 
 -- a text is empty, or its last character is a break
 abbrev pub is_closed : Bool → Text → Bool

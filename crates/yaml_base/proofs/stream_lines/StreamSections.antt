@@ -3,8 +3,8 @@ use Rattle.std.proofs.Common.{◌≡◌, refl, sym, ap, ◌∙◌, append_assoc,
 use Rattle.std.proofs.lemmas.Bool.{and_parts, true≢false, false≢true}
 use Rattle.std.specs.List.{list_all}
 use Rattle.std.specs.Prelude.{Bool, true, false, List, [], ◌∷◌, ◌++◌}
-use Rattle.yaml_base.specs.StreamLines.{Line}
-use Rattle.yaml_base.specs.StreamDocuments.{MarkKind, start_mark, end_mark, no_mark, mark_of, Section, Sections, section_before, sections_of}
+use Rattle.yaml_base.specs.streams.StreamLines.{Line}
+use Rattle.yaml_base.specs.streams.StreamDocuments.{MarkKind, start_mark, end_mark, no_mark, mark_of, Section, Sections, section_before, sections_of}
 
 -- a line is no mark
 abbrev pub is_unmarked : MarkKind → Bool

@@ -6,13 +6,13 @@ use Rattle.std.specs.Option.{option_or}
 use Rattle.yaml_base.specs.Characters.{Text}
 use Rattle.yaml_base.specs.Event.{plain}
 use Rattle.yaml_base.specs.TidyBodies.{is_tidy}
-use Rattle.yaml_base.specs.ReadPlain.{read_plain}
-use Rattle.yaml_base.specs.StreamContent.{Tree, stood_plain}
-use Rattle.yaml_base.specs.StreamLines.{Line, text_of_lines, ends_sign, all_deeper}
-use Rattle.yaml_base.specs.StreamScalars.{Rules, Properties, no_properties, scalar_said, word_after, word_read}
-use Rattle.yaml_base.specs.StreamFlow.{is_alias, longest_key}
-use Rattle.yaml_base.specs.StreamNodes.{without_last_space, word_but_alias, word_of_alias, SimpleKey, key_of_text, key_ends, key_from, key_of_line, trimmed, text_by_kind, word_text, kind_of_text, text_read, begins_mapping, begins_text, kind_of_node, node_by_kind, begins_properties, node_read, text_or_properties}
-use Rattle.yaml_base.specs.StreamDocuments.{begins_with_mark, start_mark, end_mark, no_mark, mark_of, begins_with_percent}
+use Rattle.yaml_base.specs.reading.ReadPlain.{read_plain}
+use Rattle.yaml_base.specs.streams.StreamContent.{Tree, stood_plain}
+use Rattle.yaml_base.specs.streams.StreamLines.{Line, text_of_lines, ends_sign, all_deeper}
+use Rattle.yaml_base.specs.streams.StreamScalars.{Rules, Properties, no_properties, scalar_said, word_after, word_read}
+use Rattle.yaml_base.specs.streams.StreamFlow.{is_alias, longest_key}
+use Rattle.yaml_base.specs.streams.StreamNodes.{without_last_space, word_but_alias, word_of_alias, SimpleKey, key_of_text, key_ends, key_from, key_of_line, trimmed, text_by_kind, word_text, kind_of_text, text_read, begins_mapping, begins_text, kind_of_node, node_by_kind, begins_properties, node_read, text_or_properties}
+use Rattle.yaml_base.specs.streams.StreamDocuments.{begins_with_mark, start_mark, end_mark, no_mark, mark_of, begins_with_percent}
 use Rattle.yaml_base.proofs.stream_lines.StreamCuts.{none_not_some}
 use Rattle.yaml_base.proofs.stream_lines.StreamSections.{is_unmarked}
 

@@ -6,16 +6,16 @@ use Rattle.std.specs.Option.{option_or}
 use Rattle.std.specs.Prelude.{ℕ, Bool, true, false, Option, None, Some, List, [], ◌∷◌, ◌++◌, ◌==◌, ◌||◌, ◌&&◌, not, is_some, option_map, if◌then◌else◌}
 use Rattle.yaml_base.specs.Characters.{Text, is_alpha, line_feed, space, tab, line_separator, paragraph_separator}
 use Rattle.yaml_base.specs.LineBreaks.{is_read_break}
-use Rattle.yaml_base.specs.ReadPlain.{is_read_white}
+use Rattle.yaml_base.specs.reading.ReadPlain.{is_read_white}
 use Rattle.yaml_base.specs.Settings.{Effective}
 use Rattle.yaml_base.specs.Event.{TagDirective}
 use Rattle.yaml_base.specs.Cursor.{Cursor}
 use Rattle.yaml_base.specs.Grammar.{alias_node}
 use Rattle.yaml_base.specs.Layout.{Place, is_simple_at, alias_laid}
-use Rattle.yaml_base.specs.StreamContent.{alias_tree}
-use Rattle.yaml_base.specs.StreamLines.{ends_sign, all_deeper, spaces}
-use Rattle.yaml_base.specs.StreamScalars.{Rules, no_properties, word_after}
-use Rattle.yaml_base.specs.StreamNodes.{key_ends, key_from, trimmed, before_trimmed, begins_mapping, begins_text, kind_of_node}
+use Rattle.yaml_base.specs.streams.StreamContent.{alias_tree}
+use Rattle.yaml_base.specs.streams.StreamLines.{ends_sign, all_deeper, spaces}
+use Rattle.yaml_base.specs.streams.StreamScalars.{Rules, no_properties, word_after}
+use Rattle.yaml_base.specs.streams.StreamNodes.{key_ends, key_from, trimmed, before_trimmed, begins_mapping, begins_text, kind_of_node}
 use Rattle.yaml_base.proofs.stream_lines.StreamLineLaws.{is_closed, OneLine}
 use Rattle.yaml_base.proofs.stream_lines.StreamClosed.{closed, lines_broken}
 use Rattle.yaml_base.proofs.stream_nodes.StreamFits.{Fits}

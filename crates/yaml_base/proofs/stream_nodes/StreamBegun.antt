@@ -12,10 +12,10 @@ use Rattle.yaml_base.specs.Cursor.{Cursor, space_if}
 use Rattle.yaml_base.specs.Tags.{spelling, spelled}
 use Rattle.yaml_base.specs.Refusal.{collection_tag}
 use Rattle.yaml_base.specs.Layout.{anchor_laid, properties_laid}
-use Rattle.yaml_base.specs.ReadTags.{TagSaid}
-use Rattle.yaml_base.specs.StreamLines.{is_spaces, spaces, ends_sign}
-use Rattle.yaml_base.specs.StreamScalars.{Rules, properties_read}
-use Rattle.yaml_base.specs.StreamNodes.{begins_sequence, begins_mapping, begins_text, kind_of_node, key_from, key_of_line}
+use Rattle.yaml_base.specs.reading.ReadTags.{TagSaid}
+use Rattle.yaml_base.specs.streams.StreamLines.{is_spaces, spaces, ends_sign}
+use Rattle.yaml_base.specs.streams.StreamScalars.{Rules, properties_read}
+use Rattle.yaml_base.specs.streams.StreamNodes.{begins_sequence, begins_mapping, begins_text, kind_of_node, key_from, key_of_line}
 use Rattle.yaml_base.proofs.stream_lines.StreamLineLaws.{OneLine, one_line_both}
 use Rattle.yaml_base.proofs.stream_lines.StreamInside.{blank_spaces}
 use Rattle.yaml_base.proofs.stream_nodes.StreamBlocks.{Said, BegunKind, unsaid, is_said}

@@ -7,10 +7,10 @@ use Rattle.yaml_base.specs.Settings.{Effective}
 use Rattle.yaml_base.specs.Event.{TagDirective}
 use Rattle.yaml_base.specs.Grammar.{Node, Nodes, no_nodes, nodes_and, Pairs, no_pairs, pairs_and}
 use Rattle.yaml_base.specs.Layout.{has_no_nodes, has_no_pairs, is_simple}
-use Rattle.yaml_base.specs.StreamContent.{sequence_tree, mapping_tree}
-use Rattle.yaml_base.specs.StreamLines.{lines_of, begins_with_sign, Entries as EntriesFound, spaces}
-use Rattle.yaml_base.specs.StreamScalars.{Rules, collection_tag_said}
-use Rattle.yaml_base.specs.StreamNodes.{begins_sequence, begins_mapping, begins_text, key_of_line, kind_of_node, items_read, pairs_held, pairs_read, entries_whole, node_read}
+use Rattle.yaml_base.specs.streams.StreamContent.{sequence_tree, mapping_tree}
+use Rattle.yaml_base.specs.streams.StreamLines.{lines_of, begins_with_sign, Entries as EntriesFound, spaces}
+use Rattle.yaml_base.specs.streams.StreamScalars.{Rules, collection_tag_said}
+use Rattle.yaml_base.specs.streams.StreamNodes.{begins_sequence, begins_mapping, begins_text, key_of_line, kind_of_node, items_read, pairs_held, pairs_read, entries_whole, node_read}
 use Rattle.yaml_base.proofs.stream_nodes.StreamAgrees.{node_tree, nodes_tree, pairs_tree}
 use Rattle.yaml_base.proofs.stream_lines.StreamInside.{splits_alone}
 use Rattle.yaml_base.proofs.stream_lines.StreamClosed.{closed}

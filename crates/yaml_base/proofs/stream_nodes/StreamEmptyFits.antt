@@ -7,11 +7,11 @@ use Rattle.yaml_base.specs.Settings.{Effective}
 use Rattle.yaml_base.specs.Event.{plain, TagDirective}
 use Rattle.yaml_base.specs.Cursor.{Cursor, Laid, nothing_laid}
 use Rattle.yaml_base.specs.Layout.{Place, properties_laid}
-use Rattle.yaml_base.specs.ReadTags.{TagSaid, bare_said, name_said}
-use Rattle.yaml_base.specs.StreamContent.{stood_plain, scalar_tree}
-use Rattle.yaml_base.specs.StreamLines.{Line, lines_of, is_spaces, spaces, blanked}
-use Rattle.yaml_base.specs.StreamScalars.{Rules, no_properties, collection_tag_said, tagging_said}
-use Rattle.yaml_base.specs.StreamNodes.{ReadsText, node_at, begins_properties, after_properties, text_or_properties, text_read, node_read}
+use Rattle.yaml_base.specs.reading.ReadTags.{TagSaid, bare_said, name_said}
+use Rattle.yaml_base.specs.streams.StreamContent.{stood_plain, scalar_tree}
+use Rattle.yaml_base.specs.streams.StreamLines.{Line, lines_of, is_spaces, spaces, blanked}
+use Rattle.yaml_base.specs.streams.StreamScalars.{Rules, no_properties, collection_tag_said, tagging_said}
+use Rattle.yaml_base.specs.streams.StreamNodes.{ReadsText, node_at, begins_properties, after_properties, text_or_properties, text_read, node_read}
 use Rattle.yaml_base.proofs.stream_lines.StreamCuts.{none_not_some}
 use Rattle.yaml_base.proofs.stream_lines.StreamLineLaws.{is_closed}
 use Rattle.yaml_base.proofs.stream_nodes.StreamAgrees.{tagging_in}

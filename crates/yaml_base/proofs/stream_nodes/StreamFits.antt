@@ -9,10 +9,10 @@ use Rattle.yaml_base.specs.Event.{TagDirective}
 use Rattle.yaml_base.specs.Cursor.{Cursor, Laid}
 use Rattle.yaml_base.specs.Grammar.{Node, alias_node, scalar_node, sequence_node, mapping_node, Nodes, no_nodes, nodes_and, Pairs, no_pairs, pairs_and}
 use Rattle.yaml_base.specs.Layout.{Role, Place, is_in_mapping, entry_place}
-use Rattle.yaml_base.specs.StreamContent.{Tree}
-use Rattle.yaml_base.specs.StreamLines.{Line, lines_of, ends_sign, spaces, blanked}
-use Rattle.yaml_base.specs.StreamScalars.{Rules}
-use Rattle.yaml_base.specs.StreamNodes.{node_read}
+use Rattle.yaml_base.specs.streams.StreamContent.{Tree}
+use Rattle.yaml_base.specs.streams.StreamLines.{Line, lines_of, ends_sign, spaces, blanked}
+use Rattle.yaml_base.specs.streams.StreamScalars.{Rules}
+use Rattle.yaml_base.specs.streams.StreamNodes.{node_read}
 use Rattle.yaml_base.proofs.stream_nodes.StreamAgrees.{node_tree}
 use Rattle.yaml_base.proofs.stream_lines.StreamLineLaws.{is_closed, OneLine}
 use Rattle.yaml_base.proofs.stream_lines.StreamInside.{AllInside}

@@ -10,10 +10,10 @@ use Rattle.yaml_base.specs.Event.{TagDirective}
 use Rattle.yaml_base.specs.Cursor.{Cursor, Laid, new_line}
 use Rattle.yaml_base.specs.Grammar.{Node, Nodes, no_nodes, nodes_and}
 use Rattle.yaml_base.specs.Layout.{as_item, Place, has_no_nodes, entry_place}
-use Rattle.yaml_base.specs.StreamContent.{no_trees}
-use Rattle.yaml_base.specs.StreamLines.{Line, lines_of, is_inside, spaces, blanked}
-use Rattle.yaml_base.specs.StreamScalars.{Rules}
-use Rattle.yaml_base.specs.StreamNodes.{item_by_sign, item_read, item_added, node_read}
+use Rattle.yaml_base.specs.streams.StreamContent.{no_trees}
+use Rattle.yaml_base.specs.streams.StreamLines.{Line, lines_of, is_inside, spaces, blanked}
+use Rattle.yaml_base.specs.streams.StreamScalars.{Rules}
+use Rattle.yaml_base.specs.streams.StreamNodes.{item_by_sign, item_read, item_added, node_read}
 use Rattle.yaml_base.proofs.stream_nodes.StreamAgrees.{node_tree, nodes_tree}
 use Rattle.yaml_base.proofs.stream_nodes.StreamTexts.{node_own, items_own}
 use Rattle.yaml_base.proofs.stream_lines.StreamLineLaws.{is_closed, OneLine, lines_after_break}

@@ -7,7 +7,7 @@ use Rattle.yaml_base.specs.Cursor.{Cursor, Laid, space_if}
 use Rattle.yaml_base.specs.Percent.{percent_escaped, suffix_escaped}
 use Rattle.yaml_base.specs.Tags.{Spelling, shorthand, verbatim, spelling, spelled}
 use Rattle.yaml_base.specs.Layout.{anchor_laid, spelling_laid, properties_laid}
-use Rattle.yaml_base.specs.StreamLines.{spaces}
+use Rattle.yaml_base.specs.streams.StreamLines.{spaces}
 use Rattle.yaml_base.proofs.stream_nodes.StreamProperties.{IsTagged, properties_text, has_properties}
 use Rattle.yaml_base.proofs.stream_flow.StreamPropertyWords.{lead}
 use Rattle.yaml_base.proofs.stream_nodes.StreamStands.{tag_written, tag_meant, TagStands}

@@ -9,9 +9,9 @@ use Rattle.yaml_base.specs.Cursor.{Cursor, Laid}
 use Rattle.yaml_base.specs.Grammar.{Node, alias_node, scalar_node, sequence_node, mapping_node, Nodes, no_nodes, nodes_and, Pairs, no_pairs, pairs_and}
 use Rattle.yaml_base.specs.Refusal.{collection_tag}
 use Rattle.yaml_base.specs.Layout.{Role, Place, is_in_mapping, entries_column, has_no_nodes, has_no_pairs, is_simple, asks_flow, is_written_in_flow, properties_laid, square, curly}
-use Rattle.yaml_base.specs.StreamContent.{Tree, sequence_tree, mapping_tree}
-use Rattle.yaml_base.specs.StreamLines.{spaces}
-use Rattle.yaml_base.specs.StreamScalars.{Rules}
+use Rattle.yaml_base.specs.streams.StreamContent.{Tree, sequence_tree, mapping_tree}
+use Rattle.yaml_base.specs.streams.StreamLines.{spaces}
+use Rattle.yaml_base.specs.streams.StreamScalars.{Rules}
 use Rattle.yaml_base.proofs.stream_nodes.StreamAgrees.{node_tree, nodes_tree, pairs_tree}
 use Rattle.yaml_base.proofs.stream_nodes.StreamTexts.{collection_own, node_own, items_own, pairs_own}
 use Rattle.yaml_base.proofs.stream_lines.StreamClosed.{Settled, new_line_closes, sign_cursor, rank}

@@ -7,13 +7,13 @@ use Rattle.std.specs.Prelude.{ℕ, Bool, true, false, Option, None, Some, List, 
 use Rattle.yaml_base.specs.Characters.{Text, is_between, is_printable}
 use Rattle.yaml_base.specs.LineBreaks.{is_read_break}
 use Rattle.yaml_base.specs.Event.{ScalarStyle, literal, folded}
-use Rattle.yaml_base.specs.ReadTags.{TagSaid}
-use Rattle.yaml_base.specs.ReadBlock.{elements, digit_first, after_digit, chomping_first, after_chomping, after_break, read_lines, read_block}
+use Rattle.yaml_base.specs.reading.ReadTags.{TagSaid}
+use Rattle.yaml_base.specs.reading.ReadBlock.{elements, digit_first, after_digit, chomping_first, after_chomping, after_break, read_lines, read_block}
 use Rattle.yaml_base.specs.TidyBodies.{has_deep_lines, is_tidy}
-use Rattle.yaml_base.specs.StreamContent.{stood_quoted}
-use Rattle.yaml_base.specs.StreamLines.{Line, extending, character_before, lines_of}
-use Rattle.yaml_base.specs.StreamScalars.{Rules, Properties, no_properties, scalar_said, a_scalar, kind_of_word, word_by_kind}
-use Rattle.yaml_base.specs.StreamNodes.{key_of_text, word_of_alias}
+use Rattle.yaml_base.specs.streams.StreamContent.{stood_quoted}
+use Rattle.yaml_base.specs.streams.StreamLines.{Line, extending, character_before, lines_of}
+use Rattle.yaml_base.specs.streams.StreamScalars.{Rules, Properties, no_properties, scalar_said, a_scalar, kind_of_word, word_by_kind}
+use Rattle.yaml_base.specs.streams.StreamNodes.{key_of_text, word_of_alias}
 use Rattle.yaml_base.proofs.stream_lines.StreamLineLaws.{OneLine, one_line_both}
 use Rattle.yaml_base.proofs.stream_lines.StreamTidyLaws.{first_text}
 use Rattle.yaml_base.proofs.stream_keys.StreamKeys.{scalar_no_alias}

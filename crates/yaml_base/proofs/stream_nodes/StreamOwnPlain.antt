@@ -7,12 +7,12 @@ use Rattle.std.specs.Prelude.{ℕ, Bool, true, false, Option, None, Some, List, 
 use Rattle.yaml_base.specs.Characters.{Text, tab, is_among, is_blank, is_printable}
 use Rattle.yaml_base.specs.LineBreaks.{is_read_break}
 use Rattle.yaml_base.specs.Event.{plain}
-use Rattle.yaml_base.specs.ReadPlain.{is_read_white, begins_white, begins_with_three, begins_with_hash, begins_no_plain, holds_no_plain, read_plain}
+use Rattle.yaml_base.specs.reading.ReadPlain.{is_read_white, begins_white, begins_with_three, begins_with_hash, begins_no_plain, holds_no_plain, read_plain}
 use Rattle.yaml_base.specs.TidyBodies.{has_deep_lines, ends_white, has_no_space_before_break, has_clean_edges, is_tidy}
-use Rattle.yaml_base.specs.StreamContent.{stood_plain}
-use Rattle.yaml_base.specs.StreamLines.{Line, extending, character_before, lines_of, ends_sign, begins_with_sign}
-use Rattle.yaml_base.specs.StreamScalars.{Rules, scalar_said, scalar_of_style, word_by_kind, word_after}
-use Rattle.yaml_base.specs.StreamNodes.{key_ends, key_from, word_text, kind_of_text, text_by_kind}
+use Rattle.yaml_base.specs.streams.StreamContent.{stood_plain}
+use Rattle.yaml_base.specs.streams.StreamLines.{Line, extending, character_before, lines_of, ends_sign, begins_with_sign}
+use Rattle.yaml_base.specs.streams.StreamScalars.{Rules, scalar_said, scalar_of_style, word_by_kind, word_after}
+use Rattle.yaml_base.specs.streams.StreamNodes.{key_ends, key_from, word_text, kind_of_text, text_by_kind}
 use Rattle.yaml_base.proofs.stream_lines.StreamTidyLaws.{first_text, tidy_at_root}
 use Rattle.yaml_base.proofs.stream_keys.StreamPlainKeys.{Begins, begins, reads_plain, tidy_begins, plain_kind, plain_style}
 use Rattle.yaml_base.proofs.stream_flow.StreamPropertyWords.{lead}

@@ -6,12 +6,12 @@ use Rattle.std.specs.Prelude.{ℕ, Bool, true, false, Option, None, Some, List, 
 use Rattle.yaml_base.specs.Characters.{Text, space}
 use Rattle.yaml_base.specs.LineBreaks.{is_read_break}
 use Rattle.yaml_base.specs.Event.{ScalarStyle}
-use Rattle.yaml_base.specs.Style.{is_plain}
-use Rattle.yaml_base.specs.ReadTags.{TagSaid}
-use Rattle.yaml_base.specs.StreamContent.{scalar_tree}
-use Rattle.yaml_base.specs.StreamLines.{Line, extending, character_before, lines_of, text_of_lines, ends_sign, begins_with_sign, without_blank_lines, all_deeper, Indented, spaces}
-use Rattle.yaml_base.specs.StreamScalars.{Rules, Properties, properties_read, standing_of, scalar_said}
-use Rattle.yaml_base.specs.StreamNodes.{key_of_text, key_ends, key_from, begins_sequence, begins_mapping, begins_text, kind_of_node, kind_of_text, text_by_kind, text_read, Reads, ReadsText, node_by_kind, node_at, node_lines, begins_properties, after_properties, text_or_properties}
+use Rattle.yaml_base.specs.scalars.Style.{is_plain}
+use Rattle.yaml_base.specs.reading.ReadTags.{TagSaid}
+use Rattle.yaml_base.specs.streams.StreamContent.{scalar_tree}
+use Rattle.yaml_base.specs.streams.StreamLines.{Line, extending, character_before, lines_of, text_of_lines, ends_sign, begins_with_sign, without_blank_lines, all_deeper, Indented, spaces}
+use Rattle.yaml_base.specs.streams.StreamScalars.{Rules, Properties, properties_read, standing_of, scalar_said}
+use Rattle.yaml_base.specs.streams.StreamNodes.{key_of_text, key_ends, key_from, begins_sequence, begins_mapping, begins_text, kind_of_node, kind_of_text, text_by_kind, text_read, Reads, ReadsText, node_by_kind, node_at, node_lines, begins_properties, after_properties, text_or_properties}
 use Rattle.yaml_base.proofs.stream_lines.StreamLineLaws.{text_of_lines_of}
 use Rattle.yaml_base.proofs.stream_lines.StreamInside.{AllInside, indented_spaces, not_blank, deeper_inside}
 use Rattle.yaml_base.proofs.stream_lines.StreamTidyLaws.{first_text, lines_after_first}

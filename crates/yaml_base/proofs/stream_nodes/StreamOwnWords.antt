@@ -7,15 +7,15 @@ use Rattle.std.specs.Prelude.{ℕ, Bool, true, false, Option, None, Some, List, 
 use Rattle.yaml_base.specs.Characters.{Text, line_feed, space, is_printable}
 use Rattle.yaml_base.specs.LineBreaks.{is_read_break}
 use Rattle.yaml_base.specs.Event.{ScalarStyle, single_quoted, double_quoted}
-use Rattle.yaml_base.specs.ReadTags.{TagSaid}
-use Rattle.yaml_base.specs.ReadPlain.{is_read_white}
-use Rattle.yaml_base.specs.ReadSingle.{read_single}
-use Rattle.yaml_base.specs.ReadDouble.{read_double}
+use Rattle.yaml_base.specs.reading.ReadTags.{TagSaid}
+use Rattle.yaml_base.specs.reading.ReadPlain.{is_read_white}
+use Rattle.yaml_base.specs.reading.ReadSingle.{read_single}
+use Rattle.yaml_base.specs.reading.ReadDouble.{read_double}
 use Rattle.yaml_base.specs.TidyBodies.{begins_with_spaces, begins_with_blank_line, begins_with_deep_line, has_deep_lines, ends_white, is_tidy_style, is_tidy}
-use Rattle.yaml_base.specs.StreamContent.{Stood, stood_quoted}
-use Rattle.yaml_base.specs.StreamLines.{Line, extending, character_before, lines_of, ends_sign, is_inside}
-use Rattle.yaml_base.specs.StreamScalars.{Rules, Properties, scalar_said, word_by_kind, word_after}
-use Rattle.yaml_base.specs.StreamNodes.{key_of_text, key_ends, key_from, word_of_alias, without_last_space, before_trimmed, trimmed}
+use Rattle.yaml_base.specs.streams.StreamContent.{Stood, stood_quoted}
+use Rattle.yaml_base.specs.streams.StreamLines.{Line, extending, character_before, lines_of, ends_sign, is_inside}
+use Rattle.yaml_base.specs.streams.StreamScalars.{Rules, Properties, scalar_said, word_by_kind, word_after}
+use Rattle.yaml_base.specs.streams.StreamNodes.{key_of_text, key_ends, key_from, word_of_alias, without_last_space, before_trimmed, trimmed}
 use Rattle.yaml_base.proofs.stream_lines.StreamInside.{AllInside}
 use Rattle.yaml_base.proofs.stream_lines.StreamTidyLaws.{first_text, lines_after_first, deep_lines_inside}
 use Rattle.yaml_base.proofs.stream_lines.StreamCuts.{double_quoted_whole, single_quoted_whole}

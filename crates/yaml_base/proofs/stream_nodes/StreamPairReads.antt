@@ -8,10 +8,10 @@ use Rattle.yaml_base.specs.Event.{TagDirective}
 use Rattle.yaml_base.specs.Cursor.{Cursor, Laid, new_line, then_laid}
 use Rattle.yaml_base.specs.Grammar.{Node, Pairs, no_pairs, pairs_and}
 use Rattle.yaml_base.specs.Layout.{Role, as_key, as_value, has_no_pairs, is_simple, entry_place, place_laid}
-use Rattle.yaml_base.specs.StreamContent.{Tree, TreePairs, tree_pairs_and}
-use Rattle.yaml_base.specs.StreamLines.{Line, lines_of, spaces}
-use Rattle.yaml_base.specs.StreamScalars.{Rules}
-use Rattle.yaml_base.specs.StreamNodes.{SimpleKey, HeldPairs, with_key, with_value, simple_pair, key_entry, value_entry, simple_entry, entry_by_kind, entry_at, entry_read, no_pairs_held, node_read}
+use Rattle.yaml_base.specs.streams.StreamContent.{Tree, TreePairs, tree_pairs_and}
+use Rattle.yaml_base.specs.streams.StreamLines.{Line, lines_of, spaces}
+use Rattle.yaml_base.specs.streams.StreamScalars.{Rules}
+use Rattle.yaml_base.specs.streams.StreamNodes.{SimpleKey, HeldPairs, with_key, with_value, simple_pair, key_entry, value_entry, simple_entry, entry_by_kind, entry_at, entry_read, no_pairs_held, node_read}
 use Rattle.yaml_base.proofs.stream_nodes.StreamAgrees.{node_tree, pairs_tree}
 use Rattle.yaml_base.proofs.stream_nodes.StreamTexts.{node_own, pairs_own}
 use Rattle.yaml_base.proofs.stream_lines.StreamInside.{past_spaces}

@@ -10,11 +10,11 @@ use Rattle.yaml_base.specs.Event.{TagDirective}
 use Rattle.yaml_base.specs.Cursor.{Cursor, Laid, indicator}
 use Rattle.yaml_base.specs.Grammar.{Node, Pairs, no_pairs, pairs_and}
 use Rattle.yaml_base.specs.Layout.{Role, as_key, as_value, Place, is_in_mapping, has_no_pairs, is_simple, entry_place}
-use Rattle.yaml_base.specs.StreamContent.{Tree}
-use Rattle.yaml_base.specs.StreamLines.{Line, lines_of, ends_sign, begins_with_sign, is_inside, spaces}
-use Rattle.yaml_base.specs.StreamScalars.{Rules}
-use Rattle.yaml_base.specs.StreamNodes.{key_of_line, simple_entry, kind_of_entry}
-use Rattle.yaml_base.specs.StreamDocuments.{mark_of}
+use Rattle.yaml_base.specs.streams.StreamContent.{Tree}
+use Rattle.yaml_base.specs.streams.StreamLines.{Line, lines_of, ends_sign, begins_with_sign, is_inside, spaces}
+use Rattle.yaml_base.specs.streams.StreamScalars.{Rules}
+use Rattle.yaml_base.specs.streams.StreamNodes.{key_of_line, simple_entry, kind_of_entry}
+use Rattle.yaml_base.specs.streams.StreamDocuments.{mark_of}
 use Rattle.yaml_base.proofs.stream_lines.StreamSections.{is_unmarked}
 use Rattle.yaml_base.proofs.stream_nodes.StreamAgrees.{node_tree}
 use Rattle.yaml_base.proofs.stream_nodes.StreamTexts.{node_own}

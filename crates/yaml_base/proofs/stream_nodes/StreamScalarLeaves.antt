@@ -6,8 +6,8 @@ use Rattle.yaml_base.specs.Characters.{Text}
 use Rattle.yaml_base.specs.Settings.{Effective}
 use Rattle.yaml_base.specs.Cursor.{Cursor}
 use Rattle.yaml_base.specs.Event.{ScalarStyle, TagDirective, any_style, plain, single_quoted, double_quoted, literal, folded}
-use Rattle.yaml_base.specs.Analysis.{Allowances, allowances, allows_block, is_empty}
-use Rattle.yaml_base.specs.Style.{is_plain, style_asked, fits_plain}
+use Rattle.yaml_base.specs.scalars.Analysis.{Allowances, allowances, allows_block, is_empty}
+use Rattle.yaml_base.specs.scalars.Style.{is_plain, style_asked, fits_plain}
 use Rattle.yaml_base.specs.Meaning.{read_in_style}
 use Rattle.yaml_base.specs.TidyBodies.{is_tidy}
 use Rattle.yaml_base.specs.Refusal.{scalar_tag}

@@ -6,21 +6,21 @@ use Rattle.yaml_base.specs.Characters.{Text, space}
 use Rattle.yaml_base.specs.Settings.{Effective}
 use Rattle.yaml_base.specs.Cursor.{Cursor, Laid, then_laid, space_if, column_after, indicator}
 use Rattle.yaml_base.specs.Event.{ScalarStyle, any_style, plain, single_quoted, double_quoted, literal, folded, TagDirective}
-use Rattle.yaml_base.specs.Analysis.{allows_block, is_empty}
-use Rattle.yaml_base.specs.Style.{is_plain}
-use Rattle.yaml_base.specs.Plain.{runs, runs_laid}
-use Rattle.yaml_base.specs.SingleQuoted.{quotes_doubled, single_quote}
-use Rattle.yaml_base.specs.DoubleQuoted.{double_inside, quote_laid}
-use Rattle.yaml_base.specs.Lines.{parts}
-use Rattle.yaml_base.specs.BlockHeader.{ending, ends_in_break, indentation_hint, ending_hint, hint_laid, header_laid, block_body}
-use Rattle.yaml_base.specs.Literal.{indented}
-use Rattle.yaml_base.specs.Folded.{folded_parts}
-use Rattle.yaml_base.specs.ReadBlock.{read_block}
+use Rattle.yaml_base.specs.scalars.Analysis.{allows_block, is_empty}
+use Rattle.yaml_base.specs.scalars.Style.{is_plain}
+use Rattle.yaml_base.specs.scalars.Plain.{runs, runs_laid}
+use Rattle.yaml_base.specs.scalars.SingleQuoted.{quotes_doubled, single_quote}
+use Rattle.yaml_base.specs.scalars.DoubleQuoted.{double_inside, quote_laid}
+use Rattle.yaml_base.specs.scalars.Lines.{parts}
+use Rattle.yaml_base.specs.scalars.BlockHeader.{ending, ends_in_break, indentation_hint, ending_hint, hint_laid, header_laid, block_body}
+use Rattle.yaml_base.specs.scalars.Literal.{indented}
+use Rattle.yaml_base.specs.scalars.Folded.{folded_parts}
+use Rattle.yaml_base.specs.reading.ReadBlock.{read_block}
 use Rattle.yaml_base.specs.Meaning.{read_in_style}
 use Rattle.yaml_base.specs.TidyBodies.{is_tidy}
 use Rattle.yaml_base.specs.Layout.{Place, properties_laid, separation_laid, body_laid}
-use Rattle.yaml_base.specs.StreamLines.{spaces}
-use Rattle.yaml_base.specs.StreamScalars.{Rules}
+use Rattle.yaml_base.specs.streams.StreamLines.{spaces}
+use Rattle.yaml_base.specs.streams.StreamScalars.{Rules}
 use Rattle.yaml_base.proofs.stream_lines.StreamLineLaws.{is_closed}
 use Rattle.yaml_base.proofs.stream_lines.StreamClosed.{closing, closed, Settled, closed_behind}
 use Rattle.yaml_base.proofs.stream_lines.StreamCuts.{none_not_some}

@@ -14,9 +14,9 @@ use Rattle.yaml_base.specs.Layout.{Piece, text_of, layout}
 use Rattle.yaml_base.specs.Pieces.{list_layout}
 use Rattle.yaml_base.specs.Output.{bytes_written}
 use Rattle.yaml_base.specs.Refusal.{IsAccepted}
-use Rattle.yaml_base.specs.Content.{documents_content, content_of}
-use Rattle.yaml_base.specs.CanonicalTokens.{free, tokens_from}
-use Rattle.yaml_base.specs.CanonicalReader.{documents_read, canonical_content}
+use Rattle.yaml_base.specs.reading.Content.{documents_content, content_of}
+use Rattle.yaml_base.specs.reading.CanonicalTokens.{free, tokens_from}
+use Rattle.yaml_base.specs.reading.CanonicalReader.{documents_read, canonical_content}
 use Rattle.yaml_base.specs.Meaning.{has_scalar_texts, CanonicalBytesRead}
 use Rattle.yaml_base.proofs.BreakLaws.{breaks-round}
 use Rattle.yaml_base.proofs.Trees.{tree_of-stream_events}

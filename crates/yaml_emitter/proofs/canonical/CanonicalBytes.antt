@@ -14,7 +14,7 @@ use Rattle.yaml_base.specs.Characters.{Text}
 use Rattle.yaml_base.specs.Settings.{Encoding, utf8, utf16_little, utf16_big}
 use Rattle.yaml_base.specs.Encoding as spec
 use Rattle.yaml_base.specs.Encoding.{utf16_units, upper_first, lower_first, text_bytes}
-use Rattle.yaml_base.specs.ReadBytes.{units_read, utf16_read, utf8_read, characters_read}
+use Rattle.yaml_base.specs.reading.ReadBytes.{units_read, utf16_read, utf8_read, characters_read}
 use Rattle.yaml_base.proofs.Decoding.{units_of, text_bytes-big, text_bytes-little, text_bytes-utf8}
 
 -- UTF-8 has no byte of a mark of UTF-16

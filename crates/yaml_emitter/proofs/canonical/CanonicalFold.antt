@@ -5,12 +5,12 @@ use Rattle.std.specs.Prelude.{Bool, true, false, Option, None, Some, List, [], â
 use Rattle.yaml_base.specs.Characters.{Text}
 use Rattle.yaml_base.specs.Event.{TagDirective, Event, scalar, sequence_start, mapping_start}
 use Rattle.yaml_base.specs.Tags.{directives_in_force, spelling, spelled}
-use Rattle.yaml_base.specs.ReadTags.{TagSaid, bare_said, name_said}
+use Rattle.yaml_base.specs.reading.ReadTags.{TagSaid, bare_said, name_said}
 use Rattle.yaml_base.specs.Grammar.{Node, alias_node, scalar_node, sequence_node, mapping_node, Nodes, no_nodes, nodes_and, Pairs, no_pairs, pairs_and}
 use Rattle.yaml_base.specs.Layout.{has_no_nodes, has_no_pairs}
-use Rattle.yaml_base.specs.Content.{content_tag, scalar_content, Contents, node_content, nodes_content, pairs_content, DocumentContent}
-use Rattle.yaml_base.specs.CanonicalTokens.{Token, scalar_token, opens_sequence, closes_sequence, opens_mapping, closes_mapping, key_token, value_token, comma}
-use Rattle.yaml_base.specs.CanonicalReader.{OpenContent, open_sequence, open_mapping, node_awaited, entry_awaited, comma_awaited, Head, Reading, within, with_content, tag_read, with_tag, token_read}
+use Rattle.yaml_base.specs.reading.Content.{content_tag, scalar_content, Contents, node_content, nodes_content, pairs_content, DocumentContent}
+use Rattle.yaml_base.specs.reading.CanonicalTokens.{Token, scalar_token, opens_sequence, closes_sequence, opens_mapping, closes_mapping, key_token, value_token, comma}
+use Rattle.yaml_base.specs.reading.CanonicalReader.{OpenContent, open_sequence, open_mapping, node_awaited, entry_awaited, comma_awaited, Head, Reading, within, with_content, tag_read, with_tag, token_read}
 use Rattle.yaml_emitter.proofs.canonical.CanonicalTokens.{properties_tokens, entry_sign, node_tokens, nodes_tokens, pairs_tokens}
 use Rattle.yaml_emitter.proofs.canonical.CanonicalEvents.{EachNode, EachItem, EachPair}
 

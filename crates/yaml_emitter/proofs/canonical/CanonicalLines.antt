@@ -15,7 +15,7 @@ use Rattle.yaml_base.specs.Percent.{prefix_escaped}
 use Rattle.yaml_base.specs.Tags.{version_fault, prefix_fault, tag_mark}
 use Rattle.yaml_base.specs.Indicators.{indicator_laid, spaced, document_start, document_end, yaml_directive}
 use Rattle.yaml_base.specs.Layout.{closing_mark_laid, version_laid, tag_directive_laid, tag_directives_laid, document_mark_laid}
-use Rattle.yaml_base.specs.CanonicalTokens.{version_line, tag_line, document_begins, document_ends, free, in_line, tokens_from, words, directive_token, tag_line_of}
+use Rattle.yaml_base.specs.reading.CanonicalTokens.{version_line, tag_line, document_begins, document_ends, free, in_line, tokens_from, words, directive_token, tag_line_of}
 use Rattle.yaml_base.proofs.PercentLaws.{decoded_prefix, prefix_begins}
 use Rattle.yaml_base.proofs.TagForms.{IsHandle}
 use Rattle.yaml_base.proofs.BreakLaws.{laid-append}

@@ -7,12 +7,12 @@ use Rattle.std.specs.Prelude.{Bool, true, false, Option, None, Some, List, [], â
 use Rattle.yaml_base.specs.Characters.{Text, space}
 use Rattle.yaml_base.specs.Settings.{Effective}
 use Rattle.yaml_base.specs.Cursor.{Cursor, new_line, indicator, space_if, then_laid}
-use Rattle.yaml_base.specs.DoubleQuoted.{double_quoted_body}
+use Rattle.yaml_base.specs.scalars.DoubleQuoted.{double_quoted_body}
 use Rattle.yaml_base.specs.Event.{TagDirective, Scalar, Collection, Event, alias, scalar, sequence_start, mapping_start}
 use Rattle.yaml_base.specs.Tags.{directives_fault, directives_in_force}
 use Rattle.yaml_base.specs.Grammar.{Node, alias_node, scalar_node, sequence_node, mapping_node, Nodes, no_nodes, nodes_and, Pairs, no_pairs, pairs_and}
 use Rattle.yaml_base.specs.Layout.{as_item, as_key, as_value, Piece, piece_text, text_of, Standing, PiecesLaid, one_piece, is_key, is_in_mapping, line_column, deeper, has_no_nodes, has_no_pairs, is_simple, place_laid, properties_laid, alias_piece, scalar_piece, start_piece, choice_of, scalar_lead, is_written_in_flow, Brackets, square, curly, end_laid, end_piece, collection_laid, node_laid, nodes_laid, pairs_laid}
-use Rattle.yaml_base.specs.CanonicalTokens.{Token, opens_sequence, closes_sequence, opens_mapping, closes_mapping, scalar_token, alias_token}
+use Rattle.yaml_base.specs.reading.CanonicalTokens.{Token, opens_sequence, closes_sequence, opens_mapping, closes_mapping, scalar_token, alias_token}
 use Rattle.yaml_emitter.proofs.canonical.CanonicalText.{Demand, anything, name_ends, space_next, Says, Opens, opens_append, opens_any, says_then, says_after, says_text, says_tokens, says_less, says_white, space_if-white, new_line-white, indicator_says, and_false}
 use Rattle.yaml_emitter.proofs.canonical.CanonicalNames.{IsName, alias_says}
 use Rattle.yaml_emitter.proofs.canonical.CanonicalQuotes.{body_says}

@@ -6,7 +6,7 @@ use Rattle.yaml_base.specs.Settings.{Settings}
 use Rattle.yaml_base.specs.Event.{Event}
 use Rattle.yaml_base.specs.Pieces.{list_layout}
 use Rattle.yaml_base.specs.Output.{encoding_asked, settings_for, bytes_written}
-use Rattle.yaml_base.specs.CanonicalReader.{canonical_content}
+use Rattle.yaml_base.specs.reading.CanonicalReader.{canonical_content}
 use Rattle.yaml_emitter.specs.Uncut.{OutputReads, OutputTells}
 use Rattle.yaml_emitter.proofs.canonical.Canonical.{canonical_bytes_read}
 

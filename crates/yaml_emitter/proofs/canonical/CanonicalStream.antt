@@ -8,7 +8,7 @@ use Rattle.yaml_base.specs.Cursor.{Cursor, new_line}
 use Rattle.yaml_base.specs.Tags.{directives_in_force}
 use Rattle.yaml_base.specs.Grammar.{Document, Documents, no_documents, documents_and, Stream}
 use Rattle.yaml_base.specs.Layout.{text_of, Standing, PiecesLaid, root_place, node_laid, laid_if, closing_mark_laid, version_laid, tag_directives_laid, has_directives, is_explicit, document_mark_laid, document_start_laid, document_start_piece, document_end_piece, document_laid, has_no_documents, documents_laid, first_standing, stream_start_piece, stream_end_piece, layout}
-use Rattle.yaml_base.specs.CanonicalTokens.{Token, document_begins}
+use Rattle.yaml_base.specs.reading.CanonicalTokens.{Token, document_begins}
 use Rattle.yaml_emitter.proofs.canonical.CanonicalText.{anything, name_ends, Says, Opens, opens_append, says_then, says_after, says_text, says_tokens, says_nothing, says_white, new_line-white}
 use Rattle.yaml_emitter.proofs.canonical.CanonicalPlaces.{in_canonical}
 use Rattle.yaml_emitter.proofs.canonical.CanonicalNodes.{lead_text, more_text, node_after}

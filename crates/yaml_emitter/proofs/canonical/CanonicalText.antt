@@ -5,10 +5,10 @@ use Rattle.std.specs.List.{list_all}
 use Rattle.std.specs.Str.{all_scalars}
 use Rattle.std.specs.Prelude.{Bool, true, false, List, [], ◌∷◌, ◌++◌, ◌&&◌, ◌||◌, ◌-◌, ◌==◌, not, replicate, if◌then◌else◌}
 use Rattle.yaml_base.specs.Characters.{Text, is_alpha, is_space, space, line_feed}
-use Rattle.yaml_base.specs.Analysis.{begins_with}
+use Rattle.yaml_base.specs.scalars.Analysis.{begins_with}
 use Rattle.yaml_base.specs.LineBreaks.{is_laid_text}
 use Rattle.yaml_base.specs.Cursor.{Cursor, breaks_line, new_line, indicator, space_if}
-use Rattle.yaml_base.specs.CanonicalTokens.{Token, free, tokens_from}
+use Rattle.yaml_base.specs.reading.CanonicalTokens.{Token, free, tokens_from}
 use Rattle.yaml_base.proofs.BreakLaws.{laid-append}
 
 -- what may follow a text: anything, no letter of a name, or a space alone

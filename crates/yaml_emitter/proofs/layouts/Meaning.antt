@@ -5,7 +5,7 @@ use Rattle.std.proofs.lemmas.Bool.{and_parts, leb-true}
 use Rattle.std.proofs.lemmas.List.Elements.{All-nil, All-cons}
 use Rattle.std.specs.List.{All, list_all}
 use Rattle.std.specs.Prelude.{ℕ, ℤ, pos, negsuc, Bool, true, false, ◌&&◌, nat_le, Option, None, Some, option_map, unwrap_or, List, [], ◌∷◌, is_some, if◌then◌else◌}
-use Rattle.yaml_base.specs.Analysis.{allowances, is_empty}
+use Rattle.yaml_base.specs.scalars.Analysis.{allowances, is_empty}
 use Rattle.yaml_base.specs.Cursor.{Cursor}
 use Rattle.yaml_base.specs.Event.{ScalarStyle, TagDirective, Scalar, Event, stream_start, stream_end, document_start, document_end, scalar, sequence_end, mapping_end}
 use Rattle.yaml_base.specs.Grammar.{Stream, stream_events}

@@ -2,8 +2,8 @@
 use Rattle.std.proofs.Common.{◌≡◌, ◌≤◌, refl, arith}
 use Rattle.std.specs.Prelude.{ℕ, Bool, true, false, Option, None, Some}
 use Rattle.std.specs.Str.{all_scalars}
-use Rattle.yaml_base.specs.Analysis.{Charset, allowances, allows_plain}
-use Rattle.yaml_base.specs.BlockHeader.{Encloses}
+use Rattle.yaml_base.specs.scalars.Analysis.{Charset, allowances, allows_plain}
+use Rattle.yaml_base.specs.scalars.BlockHeader.{Encloses}
 use Rattle.yaml_base.specs.Characters.{Text}
 use Rattle.yaml_base.specs.Cursor.{Cursor}
 use Rattle.yaml_base.specs.Event.{ScalarStyle, any_style, plain, single_quoted, double_quoted, literal, folded}

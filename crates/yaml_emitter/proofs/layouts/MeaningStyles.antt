@@ -2,9 +2,9 @@
 use Rattle.std.proofs.Common.{◌≡◌, refl}
 use Rattle.std.proofs.lemmas.Bool.{and_parts}
 use Rattle.std.specs.Prelude.{Bool, true, false, ◌||◌, ◌&&◌, not, if◌then◌else◌}
-use Rattle.yaml_base.specs.Analysis.{Allowances}
+use Rattle.yaml_base.specs.scalars.Analysis.{Allowances}
 use Rattle.yaml_base.specs.Event.{ScalarStyle, any_style, plain, single_quoted, double_quoted, literal, folded}
-use Rattle.yaml_base.specs.Style.{chosen, fits_plain, style_asked, style_fitting, style_quoted}
+use Rattle.yaml_base.specs.scalars.Style.{chosen, fits_plain, style_asked, style_fitting, style_quoted}
 
 -- what a style needs of a value
 abbrev pub Allows : Allowances → (flow : Bool) → ScalarStyle → Type 0

@@ -6,10 +6,10 @@ use Rattle.std.proofs.Math.Utf8.{scalar}
 use Rattle.std.specs.Prelude.{Option, List, ◌==◌, ◌&&◌, ◌||◌, not, if◌then◌else◌}
 use Rattle.std.specs.List.{list_all, list_any}
 use Rattle.std.specs.Str.{all_scalars}
-use Rattle.yaml_base.specs.Analysis.{Charset, allowances, is_special}
+use Rattle.yaml_base.specs.scalars.Analysis.{Charset, allowances, is_special}
 use Rattle.yaml_base.specs.Characters.{Text, carriage_return, is_ascii, is_printable, line_feed, line_separator, next_line, paragraph_separator, space}
 use Rattle.yaml_base.specs.Cursor.{Cursor}
-use Rattle.yaml_base.specs.DoubleQuoted.{backslash, needs_escape, quote}
+use Rattle.yaml_base.specs.scalars.DoubleQuoted.{backslash, needs_escape, quote}
 use Rattle.yaml_base.specs.Event.{Event, ScalarStyle, any_style, plain, single_quoted, double_quoted, literal, folded}
 use Rattle.yaml_base.specs.Layout.{Place, deeper, body_laid, first_standing, text_of, Piece}
 use Rattle.yaml_base.specs.LineBreaks.{with_breaks_written, break_text}

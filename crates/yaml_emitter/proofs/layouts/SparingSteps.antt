@@ -4,7 +4,7 @@ use Rattle.std.proofs.Common.{◌≡◌, refl, ℕ, [], ◌∷◌, ◌++◌, Boo
 use Rattle.std.proofs.lemmas.Bool.{and_parts}
 use Rattle.std.specs.Prelude.{Option, None, List, ◌==◌, ◌&&◌, not, is_some, option_and_then, if◌then◌else◌}
 use Rattle.std.specs.List.{list_all, list_any}
-use Rattle.yaml_base.specs.Analysis.{allowances, is_empty}
+use Rattle.yaml_base.specs.scalars.Analysis.{allowances, is_empty}
 use Rattle.yaml_base.specs.Characters.{Text, is_alpha}
 use Rattle.yaml_base.specs.Cursor.{Cursor, Laid, then_laid, new_line}
 use Rattle.yaml_base.specs.Event.{ScalarStyle, TagDirective, Scalar, Collection, Event, stream_start, stream_end, document_start, document_end, alias, scalar, sequence_start, sequence_end, mapping_start, mapping_end}

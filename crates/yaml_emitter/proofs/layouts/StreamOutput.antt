@@ -7,8 +7,8 @@ use Rattle.yaml_base.specs.Settings.{Settings}
 use Rattle.yaml_base.specs.Event.{Event}
 use Rattle.yaml_base.specs.Pieces.{list_layout}
 use Rattle.yaml_base.specs.Output.{encoding_asked, settings_for, bytes_written, output_of}
-use Rattle.yaml_base.specs.StreamContent.{DocumentTree, agrees}
-use Rattle.yaml_base.specs.StreamReader.{stream_trees}
+use Rattle.yaml_base.specs.streams.StreamContent.{DocumentTree, agrees}
+use Rattle.yaml_base.specs.streams.StreamReader.{stream_trees}
 use Rattle.yaml_emitter.specs.Uncut.{OutputReadsBack, OutputTellsContent, HaveSameContent}
 use Rattle.yaml_emitter.proofs.layouts.StreamsReadBack.{stream_reads_back}
 

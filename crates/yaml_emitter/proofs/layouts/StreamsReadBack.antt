@@ -3,7 +3,7 @@ use Rattle.std.proofs.Common.{◌≡◌, ap}
 use Rattle.std.specs.List.{list_all}
 use Rattle.std.specs.Prelude.{true, Option, Some, List, not}
 use Rattle.yaml_base.specs.Characters.{is_printable}
-use Rattle.yaml_base.specs.Analysis.{is_special}
+use Rattle.yaml_base.specs.scalars.Analysis.{is_special}
 use Rattle.yaml_base.specs.Settings.{Encoding, Settings, effective}
 use Rattle.yaml_base.specs.Event.{Event}
 use Rattle.yaml_base.specs.Layout.{text_of}
@@ -11,8 +11,8 @@ use Rattle.yaml_base.specs.Meaning.{has_scalar_texts}
 use Rattle.yaml_base.specs.Pieces.{list_layout}
 use Rattle.yaml_base.specs.Output.{bytes_written, text_written}
 use Rattle.yaml_base.specs.Refusal.{IsAccepted}
-use Rattle.yaml_base.specs.StreamLaw.{StreamReadsBack, is_portable}
-use Rattle.yaml_base.specs.StreamReader.{stream_trees}
+use Rattle.yaml_base.specs.streams.StreamLaw.{StreamReadsBack, is_portable}
+use Rattle.yaml_base.specs.streams.StreamReader.{stream_trees}
 use Rattle.yaml_base.proofs.stream_documents.StreamAllStand.{LayoutsArePrintable, LayoutsAreRead, StreamsStand, streams_read_back, streams_stand}
 use Rattle.yaml_base.proofs.stream_documents.StreamLawStands.{stream_read_back}
 use Rattle.yaml_base.proofs.stream_documents.StreamWholeReads.{document_trees}

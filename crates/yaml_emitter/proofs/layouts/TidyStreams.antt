@@ -3,7 +3,7 @@ use Rattle.std.proofs.Common.{◌≡◌, ◌≤◌, refl, ap, arith}
 use Rattle.std.proofs.lemmas.Bool.{and_from}
 use Rattle.std.specs.Prelude.{ℕ, suc, true, Option, List, [], ◌∷◌, not, unwrap_or}
 use Rattle.std.specs.List.{list_all}
-use Rattle.yaml_base.specs.Analysis.{allowances, is_special}
+use Rattle.yaml_base.specs.scalars.Analysis.{allowances, is_special}
 use Rattle.yaml_base.specs.Characters.{Text, is_printable}
 use Rattle.yaml_base.specs.Cursor.{Cursor}
 use Rattle.yaml_base.specs.Event.{ScalarStyle, any_style, plain, single_quoted, double_quoted, literal, folded, Event}

@@ -2,7 +2,7 @@
 use Rattle.std.proofs.Common.{◌≡◌, ◌+◌, ℕ, Bool, true, false, ◌||◌, ◌&&◌, not, Option, Some, None, Result, List, refl, sym, ap, ◌∙◌, subst, if◌then◌else◌, chars}
 use Rattle.std.proofs.lemmas.Bool.{and_parts, not-true}
 use Rattle.std.specs.Prelude.{[], ◌∷◌, is_some, option_map}
-use Rattle.yaml_base.specs.Analysis.{Allowances, Charset, allows_plain, is_empty}
+use Rattle.yaml_base.specs.scalars.Analysis.{Allowances, Charset, allows_plain, is_empty}
 use Rattle.yaml_base.specs.Characters.{Text}
 use Rattle.yaml_base.specs.Cursor.{Cursor, Laid, then_laid}
 use Rattle.yaml_base.specs.Event.{ScalarStyle, TagDirective, any_style, plain, single_quoted, double_quoted, literal, folded}
@@ -10,7 +10,7 @@ use Rattle.yaml_base.specs.Layout.{Place, anchor_laid, byte_count, choice_of, de
 use Rattle.yaml_base.specs.Refusal.{scalar_tag}
 use Rattle.yaml_base.specs.Seen.{seen_scalar_style}
 use Rattle.yaml_base.specs.Settings.{Effective}
-use Rattle.yaml_base.specs.Style.{Choice, chosen, fits_plain, is_plain, lacks_tag_and_flags, style_asked, style_fitting, style_quoted}
+use Rattle.yaml_base.specs.scalars.Style.{Choice, chosen, fits_plain, is_plain, lacks_tag_and_flags, style_asked, style_fitting, style_quoted}
 use Rattle.yaml_base.specs.Tags.{Spelling, spelling}
 use Rattle.yaml_base.specs.declared.errors.yaml_error_t.{yaml_error_t}
 use Rattle.yaml_pen.specs.Page.{Page}

@@ -7,18 +7,18 @@ use Rattle.std.specs.Result.{IfOk, MatchResult}
 use Rattle.std.specs.Prelude.{option_map}
 use Rattle.std.proofs.lemmas.Bool.{and_parts, cases_Bool}
 use Rattle.std.proofs.lemmas.Result.{err_from_is_err_and}
-use Rattle.yaml_base.specs.Analysis.{Allowances, is_empty, allows_block, somewhere, bars_block, allowances, Charset}
+use Rattle.yaml_base.specs.scalars.Analysis.{Allowances, is_empty, allows_block, somewhere, bars_block, allowances, Charset}
 use Rattle.yaml_base.specs.Characters.{Text}
 use Rattle.yaml_base.specs.Cursor.{Cursor, Laid, then_laid}
-use Rattle.yaml_base.specs.DoubleQuoted.{double_quoted_laid}
+use Rattle.yaml_base.specs.scalars.DoubleQuoted.{double_quoted_laid}
 use Rattle.yaml_base.specs.Event.{ScalarStyle, any_style, plain, single_quoted, double_quoted, literal, folded, Scalar, TagDirective}
-use Rattle.yaml_base.specs.Folded.{folded_laid}
+use Rattle.yaml_base.specs.scalars.Folded.{folded_laid}
 use Rattle.yaml_base.specs.Layout.{Place, anchor_laid, place_laid, properties_laid, choice_of, deeper, scalar_piece, separation_laid, body_laid}
-use Rattle.yaml_base.specs.Plain.{plain_laid}
+use Rattle.yaml_base.specs.scalars.Plain.{plain_laid}
 use Rattle.yaml_base.specs.Refusal.{scalar_tag}
 use Rattle.yaml_base.specs.Settings.{Effective}
-use Rattle.yaml_base.specs.SingleQuoted.{single_quoted_laid}
-use Rattle.yaml_base.specs.Style.{Choice, chosen, fits_plain, is_plain, style_asked, style_fitting, style_quoted}
+use Rattle.yaml_base.specs.scalars.SingleQuoted.{single_quoted_laid}
+use Rattle.yaml_base.specs.scalars.Style.{Choice, chosen, fits_plain, is_plain, style_asked, style_fitting, style_quoted}
 use Rattle.yaml_base.specs.Tags.{Spelling, spelling}
 use Rattle.yaml_base.specs.declared.errors.yaml_error_t.{yaml_error_t}
 use Rattle.yaml_pen.specs.Page.{Page, natural}

@@ -13,10 +13,10 @@ use Rattle.yaml_base.specs.Layout.{Piece}
 use Rattle.yaml_base.specs.Pieces.{list_layout, pieces}
 use Rattle.yaml_base.specs.Steps.{progress}
 use Rattle.yaml_base.specs.Output.{encoding_asked, settings_for, text_written, hands_out_last}
-use Rattle.yaml_base.specs.CanonicalReader.{canonical_content}
+use Rattle.yaml_base.specs.reading.CanonicalReader.{canonical_content}
 use Rattle.yaml_base.specs.Meaning.{has_scalar_texts}
-use Rattle.yaml_base.specs.StreamContent.{agrees}
-use Rattle.yaml_base.specs.StreamReader.{stream_trees}
+use Rattle.yaml_base.specs.streams.StreamContent.{agrees}
+use Rattle.yaml_base.specs.streams.StreamReader.{stream_trees}
 use Rattle.yaml_base.specs.Seen.{seen_event}
 use Rattle.yaml_base.specs.declared.events.yaml_event_t.{yaml_event_t}
 use Rattle.std.specs.List.{list_all}

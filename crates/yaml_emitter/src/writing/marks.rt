@@ -1,7 +1,7 @@
 //! Whether a document's end is still open behind what is written.
 
 ghost use Rattle.std.specs.Prelude.{◌≡◌, ◌==◌, pos, not, if◌then◌else◌};
-ghost use Rattle.yaml_base.specs.BlockHeader.{Ending, ending_mark};
+ghost use Rattle.yaml_base.specs.scalars.BlockHeader.{Ending, ending_mark};
 ghost use Rattle.yaml_emitter.specs.WrittenPieces.{seen_mark};
 
 /// What an explicit `...` would have to close.

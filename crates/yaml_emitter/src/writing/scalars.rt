@@ -1,12 +1,12 @@
 //! Scalars: their style, what stands before them, and their text (YAML 1.1, chapter 9).
 
 ghost use Rattle.std.specs.Prelude.{◌≡◌, ◌&&◌, List, false, true, not, IfOk, IsOk, chars, is_some, option_map};
-ghost use Rattle.yaml_base.specs.Analysis.{is_empty};
+ghost use Rattle.yaml_base.specs.scalars.Analysis.{is_empty};
 ghost use Rattle.yaml_base.specs.Event.{TagDirective, double_quoted};
 ghost use Rattle.yaml_base.specs.Layout.{choice_of, mark_after, scalar_piece};
 ghost use Rattle.yaml_base.specs.Refusal.{scalar_tag};
 ghost use Rattle.yaml_base.specs.Seen.{seen_scalar_style};
-ghost use Rattle.yaml_base.specs.Style.{lacks_tag_and_flags, style_asked};
+ghost use Rattle.yaml_base.specs.scalars.Style.{lacks_tag_and_flags, style_asked};
 ghost use Rattle.yaml_base.specs.Tags.{spelling};
 ghost use Rattle.yaml_pen.specs.Page.{IsReady};
 ghost use Rattle.yaml_pen.specs.Wrote.{Wrote};

@@ -1,8 +1,8 @@
 //! A scalar's text in its style (YAML 1.1, sections 9.1 and 9.3).
 
 ghost use Rattle.std.specs.Prelude.{◌≡◌, ◌+◌, ◌≤ℤ◌, pos, true, false, IfOk, chars};
-ghost use Rattle.yaml_base.specs.BlockHeader.{header_mark};
-ghost use Rattle.yaml_base.specs.Analysis as analysis;
+ghost use Rattle.yaml_base.specs.scalars.BlockHeader.{header_mark};
+ghost use Rattle.yaml_base.specs.scalars.Analysis as analysis;
 ghost use Rattle.yaml_base.specs.Event.{plain, single_quoted, double_quoted, literal, folded};
 ghost use Rattle.yaml_base.specs.Layout.{deeper, mark_after};
 ghost use Rattle.yaml_base.specs.Seen.{seen_scalar_style};

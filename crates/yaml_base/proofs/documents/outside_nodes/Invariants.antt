@@ -1,5 +1,5 @@
 use Rattle.std.proofs.Common.{◌≡◌, drop}
-use Rattle.yaml_base.specs.SeenNodes.{first_outside, all_numbers}
+use Rattle.yaml_base.specs.graphs.SeenNodes.{first_outside, all_numbers}
 use Rattle.yaml_base.proofs.documents.outside_nodes.Given as goal
 
 abbrev pub invariant-loop-node : goal.invariant-loop-node

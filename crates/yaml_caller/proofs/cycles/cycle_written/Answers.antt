@@ -1,5 +1,5 @@
 use Rattle.std.proofs.Common.{◌≡◌, IfOk, false, [], ◌∷◌, ◌∙◌, subst, sym}
-use Rattle.yaml_base.specs.Dumped.{GraphsRead}
+use Rattle.yaml_base.specs.graphs.Dumped.{GraphsRead}
 use Rattle.yaml_dump.specs.GraphTrees.{GraphsReadBack}
 use Rattle.yaml_caller.specs.Cycle.{cycle_graph}
 use Rattle.yaml_caller.proofs.Dumped.{copy_holds}

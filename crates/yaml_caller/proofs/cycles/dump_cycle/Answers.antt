@@ -1,5 +1,5 @@
 use Rattle.std.proofs.Common.{◌∷◌, [], refl, rules}
-use Rattle.yaml_base.specs.Documents.{graph_of}
+use Rattle.yaml_base.specs.graphs.Documents.{graph_of}
 use Rattle.yaml_caller.specs.Letter.{letter_settings}
 use Rattle.yaml_caller.specs.Cycle.{cycle_bytes, cycle_graph}
 use Rattle.yaml_caller.proofs.Written.{stream_bytes}

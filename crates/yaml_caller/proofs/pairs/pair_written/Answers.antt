@@ -1,7 +1,7 @@
 use Rattle.std.proofs.Common.{◌≡◌, ◌∙◌, true, false, sym, subst, List, ℕ}
 use Rattle.yaml_base.specs.Seen.{seen_text}
-use Rattle.yaml_base.specs.StreamContent.{agrees}
-use Rattle.yaml_base.specs.StreamReader.{stream_trees}
+use Rattle.yaml_base.specs.streams.StreamContent.{agrees}
+use Rattle.yaml_base.specs.streams.StreamReader.{stream_trees}
 use Rattle.yaml_caller.specs.Pair.{pair_events}
 use Rattle.yaml_caller.proofs.PairReads.{copy_agrees}
 use Rattle.yaml_caller.proofs.pairs.pair_written.Goals as goal

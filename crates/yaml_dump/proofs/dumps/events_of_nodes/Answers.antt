@@ -1,5 +1,5 @@
 use Rattle.std.proofs.Common.{◌≡◌, ◌∙◌, true, length, map, sym, ap, subst}
-use Rattle.yaml_base.specs.Documents.{graph_of}
+use Rattle.yaml_base.specs.graphs.Documents.{graph_of}
 use Rattle.yaml_dump.specs.Anchors.{is_numbered}
 use Rattle.yaml_dump.specs.WalkSteps.{seen_step}
 use Rattle.yaml_dump.proofs.EventLemmas.{named_numbered}

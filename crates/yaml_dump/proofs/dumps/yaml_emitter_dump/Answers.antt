@@ -1,8 +1,8 @@
 use Rattle.std.proofs.Common.{◌==◌, ◌||◌, ◌++◌, sym, ap, inr, length, map, ◌∙◌}
 use Rattle.std.proofs.Math.Bool.{or-false}
 use Rattle.std.proofs.lemmas.Bool.{false≢true}
-use Rattle.yaml_base.specs.Documents.{graph_of}
-use Rattle.yaml_base.specs.Meetings.{document_event_list}
+use Rattle.yaml_base.specs.graphs.Documents.{graph_of}
+use Rattle.yaml_base.specs.graphs.Meetings.{document_event_list}
 use Rattle.yaml_base.specs.Seen.{seen_event}
 use Rattle.yaml_base.proofs.DocumentsUnfold.{document_unfolds}
 use Rattle.yaml_pen.proofs.Composing.{grows_then}

@@ -1,7 +1,7 @@
 use Rattle.std.proofs.Common.{map, length, sym, ap, ◌∙◌, subst}
-use Rattle.yaml_base.specs.Documents.{graph_of}
+use Rattle.yaml_base.specs.graphs.Documents.{graph_of}
 use Rattle.yaml_base.specs.Event.{document_start}
-use Rattle.yaml_base.specs.Meetings.{step_events}
+use Rattle.yaml_base.specs.graphs.Meetings.{step_events}
 use Rattle.yaml_base.specs.Seen.{seen_events}
 use Rattle.yaml_dump.specs.declared.steps.Step.TheVariants.{Enters}
 use Rattle.yaml_dump.specs.Anchors.{HasPlaces}

@@ -1,8 +1,8 @@
 use Rattle.std.proofs.Common.{◌≡◌, ◌∷◌, map, take}
 use Rattle.std.specs.List.{flat_map}
-use Rattle.yaml_base.specs.Documents.{graph_of}
+use Rattle.yaml_base.specs.graphs.Documents.{graph_of}
 use Rattle.yaml_base.specs.Event.{document_start}
-use Rattle.yaml_base.specs.Meetings.{step_events}
+use Rattle.yaml_base.specs.graphs.Meetings.{step_events}
 use Rattle.yaml_base.specs.Seen.{seen_events}
 use Rattle.yaml_dump.specs.WalkSteps.{seen_step}
 use Rattle.yaml_dump.proofs.events.events_of_walk.Given as goal

@@ -1,7 +1,7 @@
 use Rattle.std.proofs.Common.{◌≡◌, length, subst, sym}
 use Rattle.std.proofs.lemmas.Result.{IfOk-weaker}
-use Rattle.yaml_base.specs.Documents.{graph_of}
-use Rattle.yaml_base.specs.Meetings.{step_events}
+use Rattle.yaml_base.specs.graphs.Documents.{graph_of}
+use Rattle.yaml_base.specs.graphs.Meetings.{step_events}
 use Rattle.yaml_dump.specs.Anchors.{IsNumbered}
 use Rattle.yaml_dump.specs.Events.{seen_events_of}
 use Rattle.yaml_dump.specs.WalkSteps.{seen_step}

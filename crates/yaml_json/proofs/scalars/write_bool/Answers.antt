@@ -1,5 +1,5 @@
 use Rattle.yaml_base.specs.Event.{scalar}
-use Rattle.yaml_base.specs.TypedValues.{bool_tag, bool_text}
+use Rattle.yaml_base.specs.values.TypedValues.{bool_tag, bool_text}
 use Rattle.yaml_writer.specs.Writing.{bool_event}
 use Rattle.yaml_json.proofs.Stopping.{event_failed}
 use Rattle.yaml_json.proofs.WroteLemmas.{word_is, wrote_event}

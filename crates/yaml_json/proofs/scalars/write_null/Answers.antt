@@ -1,6 +1,6 @@
 use Rattle.std.specs.Prelude.{codes}
 use Rattle.yaml_base.specs.Event.{scalar}
-use Rattle.yaml_base.specs.TypedValues.{null_tag}
+use Rattle.yaml_base.specs.values.TypedValues.{null_tag}
 use Rattle.yaml_writer.specs.Writing.{null_event}
 use Rattle.yaml_json.proofs.Stopping.{event_failed}
 use Rattle.yaml_json.proofs.WroteLemmas.{word_is, wrote_event}

@@ -1,7 +1,7 @@
 //! Literal and folded scalars.
 ghost use Rattle.std.specs.Prelude.{◌≡◌, pos, ◌≤ℤ◌, true, false};
 ghost use Rattle.std.specs.Str.{chars};
-ghost use Rattle.yaml_base.specs.Analysis.{is_empty};
+ghost use Rattle.yaml_base.specs.scalars.Analysis.{is_empty};
 ghost use Rattle.yaml_pen.specs.Page.{IsReady};
 
 use super::{

@@ -1,6 +1,6 @@
 use Rattle.std.proofs.Common.{sym, ap, ◌∙◌, encode_utf8, if◌then◌else◌}
 use Rattle.std.proofs.lemmas.Str.{IsUtf8-append, IsUtf8-encode}
-use Rattle.yaml_base.specs.BlockHeader.{more_breaks, one_break}
+use Rattle.yaml_base.specs.scalars.BlockHeader.{more_breaks, one_break}
 use Rattle.yaml_scalar.proofs.LastCharacters.{two-end}
 use Rattle.yaml_scalar.proofs.block_header.break_ending.Goals as goal
 

@@ -1,6 +1,6 @@
 use Rattle.std.proofs.Common.{Ok, Err, rules}
 use Rattle.std.specs.Str.{chars}
-use Rattle.yaml_base.specs.BlockHeader.{hints_laid}
+use Rattle.yaml_base.specs.scalars.BlockHeader.{hints_laid}
 use Rattle.yaml_pen.specs.Page.{natural}
 use Rattle.yaml_pen.specs.Wrote.{Wrote}
 use Rattle.yaml_pen.proofs.Composing.{wrote_exit, wrote_as, wrote_failed, wrote_then}

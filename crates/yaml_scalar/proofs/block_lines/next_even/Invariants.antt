@@ -1,8 +1,8 @@
 use Rattle.std.proofs.Common.{◌≡◌, length}
 use Rattle.std.specs.Str.{chars, IsUtf8}
 use Rattle.std.specs.Str.Iter.{chars_rest}
-use Rattle.yaml_base.specs.Folded.{next_even}
-use Rattle.yaml_base.specs.Lines.{parts}
+use Rattle.yaml_base.specs.scalars.Folded.{next_even}
+use Rattle.yaml_base.specs.scalars.Lines.{parts}
 use Rattle.yaml_scalar.proofs.block_lines.next_even.Given as goal
 
 abbrev pub invariant-loop-character : goal.invariant-loop-character

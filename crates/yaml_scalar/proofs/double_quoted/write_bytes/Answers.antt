@@ -3,7 +3,7 @@ use Rattle.std.specs.List.{list_any}
 use Rattle.std.specs.Str.{IsAscii}
 use Rattle.yaml_base.specs.Characters.{Text, is_break}
 use Rattle.yaml_base.specs.Cursor.{text_laid}
-use Rattle.yaml_base.specs.DoubleQuoted.{escape_text}
+use Rattle.yaml_base.specs.scalars.DoubleQuoted.{escape_text}
 use Rattle.yaml_pen.specs.Wrote.{Wrote}
 use Rattle.yaml_scalar.proofs.EscapeBytes.{escape-plain, escape-short, plain-ascii, plain-unbroken}
 use Rattle.yaml_scalar.proofs.double_quoted.write_bytes.Goals as goal

@@ -2,7 +2,7 @@ use Rattle.std.proofs.Common.{w32}
 use Rattle.std.proofs.lemmas.Int.{to_z-of_z}
 use Rattle.std.specs.Str.{chars}
 use Rattle.yaml_base.specs.Cursor.{text_laid}
-use Rattle.yaml_base.specs.DoubleQuoted.{space_kept}
+use Rattle.yaml_base.specs.scalars.DoubleQuoted.{space_kept}
 use Rattle.yaml_pen.proofs.Composing.{wrote_exit, wrote_failed, wrote_then}
 use Rattle.yaml_scalar.proofs.double_quoted.write_fold.Goals as goal
 

@@ -1,7 +1,7 @@
 use Rattle.std.proofs.Common.{ap, sym, chars, subst, IsUtf8, List, ℕ}
 use Rattle.std.proofs.lemmas.Str.{IsUtf8-past_char}
 use Rattle.std.specs.Prelude.{Some}
-use Rattle.yaml_base.specs.DoubleQuoted.{double_inside}
+use Rattle.yaml_base.specs.scalars.DoubleQuoted.{double_inside}
 use Rattle.yaml_pen.proofs.Composing.{wrote_exit}
 use Rattle.yaml_pen.specs.Page.{natural}
 use Rattle.yaml_scalar.specs.Width.{limit_where}

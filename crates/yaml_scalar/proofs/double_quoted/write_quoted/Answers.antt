@@ -1,6 +1,6 @@
 use Rattle.std.specs.Prelude.{None}
 use Rattle.std.specs.Str.{chars}
-use Rattle.yaml_base.specs.DoubleQuoted.{double_inside, double_quoted_laid, quote_laid}
+use Rattle.yaml_base.specs.scalars.DoubleQuoted.{double_inside, double_quoted_laid, quote_laid}
 use Rattle.yaml_pen.proofs.Composing.{wrote_as, wrote_exit, wrote_failed, wrote_then}
 use Rattle.yaml_pen.specs.Page.{natural}
 use Rattle.yaml_scalar.specs.Width.{limit_where}

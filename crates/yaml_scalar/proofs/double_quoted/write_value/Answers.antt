@@ -1,6 +1,6 @@
 use Rattle.std.proofs.Common.{refl, chars}
 use Rattle.std.specs.Prelude.{None}
-use Rattle.yaml_base.specs.DoubleQuoted.{double_inside}
+use Rattle.yaml_base.specs.scalars.DoubleQuoted.{double_inside}
 use Rattle.yaml_pen.proofs.Composing.{wrote_as}
 use Rattle.yaml_pen.specs.Page.{natural}
 use Rattle.yaml_scalar.specs.Width.{limit_where}

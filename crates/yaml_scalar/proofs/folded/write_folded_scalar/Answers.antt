@@ -1,8 +1,8 @@
 use Rattle.std.proofs.Common.{Ok, rules}
 use Rattle.std.proofs.lemmas.Result.{IfOk-from_err}
 use Rattle.std.specs.Str.{chars}
-use Rattle.yaml_base.specs.Folded.{folded_laid}
-use Rattle.yaml_base.specs.ReadBlock.{read_block}
+use Rattle.yaml_base.specs.scalars.Folded.{folded_laid}
+use Rattle.yaml_base.specs.reading.ReadBlock.{read_block}
 use Rattle.yaml_pen.specs.Page.{natural}
 use Rattle.yaml_pen.specs.Wrote.{Wrote}
 use Rattle.yaml_scalar.specs.ReadsBack.{ReadsBack}

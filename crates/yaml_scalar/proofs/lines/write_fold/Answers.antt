@@ -1,4 +1,4 @@
-use Rattle.yaml_base.specs.Plain.{indentation}
+use Rattle.yaml_base.specs.scalars.Plain.{indentation}
 use Rattle.yaml_pen.proofs.Composing.{wrote_exit, wrote_text_then, wrote_text_failed}
 use Rattle.yaml_scalar.proofs.lines.write_fold.Goals as goal
 

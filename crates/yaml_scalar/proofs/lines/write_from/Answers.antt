@@ -1,7 +1,7 @@
 use Rattle.std.proofs.Common.{◌∙◌, sym, subst, chars, IsUtf8, List, ℕ}
 use Rattle.std.specs.Str.Iter.{chars_rest}
 use Rattle.std.proofs.lemmas.Str.{IsUtf8-drop, IsUtf8-past_char}
-use Rattle.yaml_base.specs.Plain.{Kind, kind_of}
+use Rattle.yaml_base.specs.scalars.Plain.{Kind, kind_of}
 use Rattle.yaml_pen.proofs.Composing.{wrote_exit}
 use Rattle.yaml_scalar.specs.LineSteps.{seen_kind, steps_laid, written_as}
 use Rattle.yaml_scalar.specs.Width.{limit_where}

@@ -2,7 +2,7 @@ use Rattle.std.proofs.Common.{◌≡◌, ◌∙◌, ap, sym, ◌++◌, ◌+◌, 
 use Rattle.std.proofs.lemmas.List.{replicate_more, replicate-append-replicate}
 use Rattle.yaml_base.specs.Characters.{space}
 use Rattle.yaml_base.specs.Cursor.{text_laid}
-use Rattle.yaml_base.specs.Plain.{indentation}
+use Rattle.yaml_base.specs.scalars.Plain.{indentation}
 use Rattle.yaml_pen.specs.Wrote.{Wrote}
 use Rattle.yaml_pen.proofs.Composing.{wrote_exit, wrote_cut, wrote_text_then}
 use Rattle.yaml_scalar.proofs.lines.write_indentation.Goals as goal

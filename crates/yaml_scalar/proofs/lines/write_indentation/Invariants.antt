@@ -1,6 +1,6 @@
 use Rattle.std.proofs.Common.{Ok}
 use Rattle.yaml_base.specs.Cursor.{text_laid}
-use Rattle.yaml_base.specs.Plain.{indentation}
+use Rattle.yaml_base.specs.scalars.Plain.{indentation}
 use Rattle.yaml_pen.specs.Wrote.{Wrote}
 use Rattle.yaml_scalar.proofs.lines.write_indentation.Given as goal
 

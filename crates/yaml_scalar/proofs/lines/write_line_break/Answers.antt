@@ -1,6 +1,6 @@
 use Rattle.std.proofs.Common.{◌∷◌, []}
 use Rattle.std.specs.Prelude.{if◌then◌else◌}
-use Rattle.yaml_base.specs.Plain.{indentation}
+use Rattle.yaml_base.specs.scalars.Plain.{indentation}
 use Rattle.yaml_pen.proofs.Composing.{wrote_exit, wrote_text_then, wrote_text_failed}
 use Rattle.yaml_scalar.proofs.lines.write_line_break.Goals as goal
 

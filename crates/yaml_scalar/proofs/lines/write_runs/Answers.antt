@@ -1,5 +1,5 @@
 use Rattle.std.proofs.Common.{subst, chars}
-use Rattle.yaml_base.specs.Plain.{Kind}
+use Rattle.yaml_base.specs.scalars.Plain.{Kind}
 use Rattle.yaml_pen.proofs.Composing.{wrote_exit}
 use Rattle.yaml_pen.specs.Wrote.{Wrote}
 use Rattle.yaml_scalar.specs.LineSteps.{steps_laid, written_as}

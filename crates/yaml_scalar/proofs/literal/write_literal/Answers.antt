@@ -3,7 +3,7 @@ use Rattle.std.proofs.lemmas.Int.{to_z-of_z}
 use Rattle.std.specs.Str.{chars}
 use mir.Val.{SFits}
 use mir.Syntax.{w32}
-use Rattle.yaml_base.specs.Literal.{literal_laid}
+use Rattle.yaml_base.specs.scalars.Literal.{literal_laid}
 use Rattle.yaml_pen.specs.Page.{natural}
 use Rattle.yaml_pen.proofs.Composing.{wrote_exit, wrote_as, wrote_failed, wrote_then}
 use Rattle.yaml_scalar.specs.Width.{limit_of}

@@ -1,5 +1,5 @@
 use Rattle.std.proofs.Common.{chars}
-use Rattle.yaml_base.specs.SingleQuoted.{single_quote}
+use Rattle.yaml_base.specs.scalars.SingleQuoted.{single_quote}
 use Rattle.yaml_pen.proofs.Composing.{wrote_exit, wrote_failed, wrote_then}
 use Rattle.yaml_scalar.specs.Width.{limit_where}
 use Rattle.yaml_scalar.proofs.LinesWritten.{after_quote, wrote_quoted, wrote_single}

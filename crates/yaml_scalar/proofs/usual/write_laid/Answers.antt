@@ -1,6 +1,6 @@
 use Rattle.std.proofs.Common.{Bool, chars, subst, sym, Ok, Err}
 use Rattle.yaml_base.specs.Cursor.{text_laid, space_if}
-use Rattle.yaml_base.specs.Plain.{plain_body}
+use Rattle.yaml_base.specs.scalars.Plain.{plain_body}
 use Rattle.yaml_pen.specs.Wrote.{Wrote}
 use Rattle.yaml_pen.proofs.Composing.{wrote_exit, wrote_failed, wrote_then}
 use Rattle.yaml_scalar.specs.Width.{limit_where}

@@ -1,5 +1,5 @@
 use Rattle.std.proofs.Common.{arith, chars, length}
-use Rattle.yaml_base.specs.Plain.{spaces}
+use Rattle.yaml_base.specs.scalars.Plain.{spaces}
 use Rattle.yaml_pen.proofs.Composing.{wrote_as}
 use Rattle.yaml_scalar.specs.LineSteps.{steps_laid, written_as}
 use Rattle.yaml_scalar.specs.Width.{limit_where}

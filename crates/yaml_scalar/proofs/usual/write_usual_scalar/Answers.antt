@@ -1,5 +1,5 @@
 use Rattle.std.proofs.Common.{rules, chars}
-use Rattle.yaml_base.specs.Plain.{plain_laid}
+use Rattle.yaml_base.specs.scalars.Plain.{plain_laid}
 use Rattle.yaml_pen.specs.Page.{natural}
 use Rattle.yaml_pen.specs.Wrote.{Wrote}
 use Rattle.yaml_scalar.specs.Width.{limit_where}

@@ -1,7 +1,7 @@
 use Rattle.std.proofs.Common.{option_and_then}
 use Rattle.std.specs.Str.{chars}
 use Rattle.std.proofs.lemmas.Option.{MatchOption-at_some}
-use Rattle.yaml_base.specs.Script as notation
+use Rattle.yaml_base.specs.scripts.Script as notation
 use Rattle.yaml_tool.specs.Fields.{fields_after}
 use Rattle.yaml_tool.proofs.EventLemmas.{directive_read}
 use Rattle.yaml_tool.proofs.directives.directives_of.Goals as goal

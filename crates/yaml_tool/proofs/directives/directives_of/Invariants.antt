@@ -1,6 +1,6 @@
 use Rattle.std.proofs.Common.{◌≡◌, ◌++◌, map, option_map, option_and_then, length}
 use Rattle.std.specs.Str.{chars, IsUtf8}
-use Rattle.yaml_base.specs.Script as notation
+use Rattle.yaml_base.specs.scripts.Script as notation
 use Rattle.yaml_base.specs.Seen.{seen_directive}
 use Rattle.yaml_tool.specs.Fields.{fields_after}
 use Rattle.yaml_tool.proofs.directives.directives_of.Given as goal

@@ -1,6 +1,6 @@
 use Rattle.std.proofs.Common.{◌∷◌, ap, ◌∙◌}
 use Rattle.std.specs.Str.{chars}
-use Rattle.yaml_base.specs.Script.{version_of}
+use Rattle.yaml_base.specs.scripts.Script.{version_of}
 use Rattle.yaml_tool.proofs.CutLemmas.{cut_free, cut_cut, no_version}
 use Rattle.yaml_tool.proofs.directives.two_parts.Goals as goal
 

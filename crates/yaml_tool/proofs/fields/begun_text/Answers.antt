@@ -1,6 +1,6 @@
 use Rattle.std.proofs.Common.{◌≡◌, ◌∷◌, ◌++◌, ap, sym, ◌∙◌}
 use Rattle.std.specs.Str.{chars}
-use Rattle.yaml_base.specs.Script.{quoted, quotation_mark}
+use Rattle.yaml_base.specs.scripts.Script.{quoted, quotation_mark}
 use Rattle.yaml_tool.specs.Cuts.{front_of}
 use Rattle.yaml_tool.specs.Fields.{fields_after, text_begun, led_by}
 use Rattle.yaml_tool.proofs.CharacterLemmas.{passed_to}

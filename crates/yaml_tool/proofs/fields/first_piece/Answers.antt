@@ -1,6 +1,6 @@
 use Rattle.std.proofs.Common.{◌≡◌, ℕ, List, [], ◌∷◌, true, false, ap, sym, ◌∙◌, arith}
 use Rattle.std.specs.Str.{chars}
-use Rattle.yaml_base.specs.Script.{outside, pieces_from, separates, each_field}
+use Rattle.yaml_base.specs.scripts.Script.{outside, pieces_from, separates, each_field}
 use Rattle.yaml_tool.specs.Cuts.{front_of}
 use Rattle.yaml_tool.specs.Fields.{seen_field_state, attached, pieces_after, fields_after}
 use Rattle.yaml_tool.proofs.CharacterLemmas.{nothing_passed, empty_front, one_passed, front_passed, all_passed}

@@ -1,6 +1,6 @@
 use Rattle.std.proofs.Common.{◌≡◌, ◌≤◌, length}
 use Rattle.std.specs.Str.{chars}
-use Rattle.yaml_base.specs.Script.{pieces_from}
+use Rattle.yaml_base.specs.scripts.Script.{pieces_from}
 use Rattle.yaml_tool.specs.Cuts.{front_of}
 use Rattle.yaml_tool.specs.Fields.{seen_field_state, attached}
 use Rattle.yaml_tool.proofs.CharacterLemmas.{Passed}

@@ -2,7 +2,7 @@ use Rattle.std.proofs.Common.{None, option_map, ap, sym, ◌∙◌}
 use Rattle.std.specs.Str.{chars}
 use Rattle.yaml_base.specs.Seen.{seen_event}
 use Rattle.yaml_tool.specs.Fields.{fields_after}
-use Rattle.yaml_base.specs.Script as notation
+use Rattle.yaml_base.specs.scripts.Script as notation
 use Rattle.yaml_tool.proofs.LineLemmas.{event_said, setting_said}
 use Rattle.yaml_tool.proofs.lines.line_of.Goals as goal
 

@@ -1,6 +1,6 @@
 use Rattle.std.proofs.Common.{map, refl}
 use Rattle.std.specs.Prelude.{IfSome}
-use Rattle.yaml_base.specs.Script as notation
+use Rattle.yaml_base.specs.scripts.Script as notation
 use Rattle.yaml_tool.specs.declared.parts.Front.{Front}
 use Rattle.yaml_tool.specs.Runs.{IsFault}
 use Rattle.yaml_tool.specs.Scripts.{seen_numbered}

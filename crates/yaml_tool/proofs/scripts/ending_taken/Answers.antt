@@ -1,5 +1,5 @@
 use Rattle.std.proofs.Common.{Bool, Some, None, [], if◌then◌else◌, map, ap, sym, ◌∙◌}
-use Rattle.yaml_base.specs.Script as notation
+use Rattle.yaml_base.specs.scripts.Script as notation
 use Rattle.yaml_tool.specs.Scripts.{seen_progress, seen_numbered, script_behind, IsFaultOf}
 use Rattle.yaml_tool.specs.Settings.{seen_setting}
 use Rattle.yaml_tool.proofs.ScriptLemmas.{left_alone, bad_last, good_last, fault_alone, exit_with}

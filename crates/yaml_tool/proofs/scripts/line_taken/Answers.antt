@@ -1,7 +1,7 @@
 use Rattle.std.proofs.Common.{◌≡◌, Some, None, subst, sym, ap, ◌∙◌, if◌then◌else◌}
 use Rattle.std.specs.Result.{IfOk}
 use Rattle.std.specs.Str.{chars}
-use Rattle.yaml_base.specs.Script.{line_read}
+use Rattle.yaml_base.specs.scripts.Script.{line_read}
 use Rattle.yaml_tool.specs.Scripts.{seen_progress, after_said}
 use Rattle.yaml_tool.proofs.LineLemmas.{characters_said, bytes_said_nothing}
 use Rattle.yaml_tool.proofs.scripts.line_taken.Goals as goal

@@ -1,7 +1,7 @@
 use Rattle.std.proofs.Common.{◌++◌, option_map, ap, ◌∙◌}
 use Rattle.std.specs.Str.{chars}
 use Rattle.yaml_base.specs.Seen.{seen_text}
-use Rattle.yaml_base.specs.Script.{text_from, at_character}
+use Rattle.yaml_base.specs.scripts.Script.{text_from, at_character}
 use Rattle.yaml_tool.proofs.TextLemmas.{nothing_before, one_more}
 use Rattle.yaml_tool.proofs.texts.text_behind.Goals as goal
 

@@ -1,6 +1,6 @@
 use Rattle.std.proofs.Common.{◌≡◌, ◌++◌, option_map, length}
 use Rattle.std.specs.Str.{chars, IsUtf8}
-use Rattle.yaml_base.specs.Script as notation
+use Rattle.yaml_base.specs.scripts.Script as notation
 use Rattle.yaml_base.specs.Seen.{seen_text}
 use Rattle.yaml_tool.proofs.texts.text_behind.Given as goal
 

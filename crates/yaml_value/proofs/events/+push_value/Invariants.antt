@@ -1,7 +1,7 @@
 use Rattle.std.proofs.Common.{◌≡◌, ◌++◌, take}
 use Rattle.yaml_base.specs.Grammar.{nodes_events}
 use Rattle.yaml_base.specs.Seen.{seen_events}
-use Rattle.yaml_base.specs.TypedValues.{value_nodes, Have64Bits}
+use Rattle.yaml_base.specs.values.TypedValues.{value_nodes, Have64Bits}
 use Rattle.yaml_value.specs.SeenValues.{seen_value, seen_values, seen_pairs}
 use Rattle.yaml_value.proofs.Weights.{weight, weights, pair_weights}
 use Rattle.std.specs.Prelude.{suc}

@@ -1,6 +1,6 @@
 use Rattle.std.proofs.Common.{codes, refl, sym, ap, ◌∙◌}
 use Rattle.yaml_base.specs.Seen.{seen_events}
-use Rattle.yaml_base.specs.TypedValues.{bool_tag, bool_text}
+use Rattle.yaml_base.specs.values.TypedValues.{bool_tag, bool_text}
 use Rattle.yaml_base.proofs.Literals.{chars-literal}
 use Rattle.yaml_value.proofs.EventLemmas.{scalar_pushed}
 use Rattle.yaml_value.proofs.events.push_bool.Goals as goal

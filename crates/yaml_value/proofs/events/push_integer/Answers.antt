@@ -2,7 +2,7 @@ use Rattle.std.proofs.Common.{refl, ◌∙◌, ap, w64}
 use Rattle.std.proofs.lemmas.Int.{to_z-of_z}
 use Rattle.std.specs.Fmt.{signed_decimal}
 use Rattle.yaml_base.specs.Seen.{seen_events}
-use Rattle.yaml_base.specs.TypedValues.{int_tag}
+use Rattle.yaml_base.specs.values.TypedValues.{int_tag}
 use Rattle.yaml_base.proofs.Literals.{chars-literal}
 use Rattle.yaml_emitter.proofs.Digits.{digits_seen, mag_fits}
 use Rattle.yaml_value.proofs.EventLemmas.{scalar_pushed}

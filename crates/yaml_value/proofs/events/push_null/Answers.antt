@@ -1,6 +1,6 @@
 use Rattle.std.proofs.Common.{codes, refl}
 use Rattle.yaml_base.specs.Seen.{seen_events}
-use Rattle.yaml_base.specs.TypedValues.{null_tag}
+use Rattle.yaml_base.specs.values.TypedValues.{null_tag}
 use Rattle.yaml_base.proofs.Literals.{chars-literal}
 use Rattle.yaml_value.proofs.EventLemmas.{scalar_pushed}
 use Rattle.yaml_value.proofs.events.push_null.Goals as goal

@@ -1,6 +1,6 @@
 use Rattle.std.proofs.Common.{◌≡◌, true, ◌&&◌, nat_le, take}
 use Rattle.std.specs.List.{list_all}
-use Rattle.yaml_base.specs.TypedValues.{nesting}
+use Rattle.yaml_base.specs.values.TypedValues.{nesting}
 use Rattle.yaml_value.specs.SeenValues.{seen_value}
 use Rattle.yaml_value.proofs.size.+lies_within.Given as goal
 

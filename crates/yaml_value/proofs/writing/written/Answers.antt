@@ -1,6 +1,6 @@
 use Rattle.std.proofs.Common.{◌≡◌, ◌∙◌, [], ◌<◌, length, OnOk, IfErr, subst}
 use Rattle.yaml_base.specs.Seen.{seen_events}
-use Rattle.yaml_base.specs.TypedValues.{typed_settings, WritesValue}
+use Rattle.yaml_base.specs.values.TypedValues.{typed_settings, WritesValue}
 use Rattle.yaml_base.specs.declared.errors.yaml_error_t.TheVariants.{Memory}
 use Rattle.yaml_value.specs.SeenValues.{seen_value}
 use Rattle.yaml_value.proofs.WritingLemmas.{events_written, copy_written}

@@ -1,5 +1,5 @@
 use Rattle.std.proofs.Common.{sym, ◌∙◌}
-use Rattle.yaml_base.specs.JsonNumbers.{JsonNumber}
+use Rattle.yaml_base.specs.values.JsonNumbers.{JsonNumber}
 use Rattle.yaml_writer.specs.SeenNumbers.{seen_parts}
 use Rattle.yaml_writer.proofs.PartLemmas.{text_is_number, text_is_none}
 use Rattle.yaml_writer.proofs.SpellingLemmas.{none_by_chars, number_by_chars}

@@ -1,6 +1,6 @@
 use Rattle.std.proofs.Common.{refl, sym, ap, ◌∙◌, if◌then◌else◌}
 use Rattle.yaml_base.proofs.Literals.{chars-literal}
-use Rattle.yaml_base.specs.TypedValues.{int_tag}
+use Rattle.yaml_base.specs.values.TypedValues.{int_tag}
 use Rattle.yaml_writer.specs.Writing.{float_tag}
 use Rattle.yaml_writer.proofs.scalars.tag_of_number.Goals as goal
 

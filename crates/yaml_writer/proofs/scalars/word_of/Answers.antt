@@ -1,6 +1,6 @@
 use Rattle.std.proofs.Common.{codes, refl, sym, ap, ◌∙◌}
 use Rattle.yaml_base.proofs.Literals.{chars-literal}
-use Rattle.yaml_base.specs.TypedValues.{bool_text}
+use Rattle.yaml_base.specs.values.TypedValues.{bool_text}
 use Rattle.yaml_writer.proofs.scalars.word_of.Goals as goal
 
 pub returns-then-value : goal.returns-then-value

@@ -2,8 +2,8 @@ use Rattle.std.proofs.Common.{ℕ, List, sym, ap, ◌∙◌, if◌then◌else◌
 use Rattle.std.proofs.lemmas.Str.{chars_past_char}
 use Rattle.std.specs.Str.{chars}
 use Rattle.std.specs.Str.Iter.{chars_rest}
-use Rattle.yaml_base.specs.Resolved as schema
-use Rattle.yaml_base.specs.SurelyText as surely
+use Rattle.yaml_base.specs.values.Resolved as schema
+use Rattle.yaml_base.specs.values.SurelyText as surely
 use Rattle.yaml_writer.proofs.texts.begins_as_number.Goals as goal
 
 -- src/texts.rt:28:1

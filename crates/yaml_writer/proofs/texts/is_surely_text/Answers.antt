@@ -1,7 +1,7 @@
 use Rattle.std.proofs.Common.{not, ◌&&◌, sym, ap, ◌∙◌}
 use Rattle.std.specs.Str.{chars}
-use Rattle.yaml_base.specs.Resolved.{first_is, past_sign}
-use Rattle.yaml_base.specs.SurelyText.{begins_number}
+use Rattle.yaml_base.specs.values.Resolved.{first_is, past_sign}
+use Rattle.yaml_base.specs.values.SurelyText.{begins_number}
 use Rattle.yaml_writer.proofs.WordLemmas.{surely_by_bytes}
 use Rattle.yaml_writer.proofs.texts.is_surely_text.Goals as goal
 

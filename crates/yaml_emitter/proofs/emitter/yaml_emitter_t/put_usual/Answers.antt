@@ -1,7 +1,7 @@
 use Rattle.std.proofs.Common.{ap, subst, sym}
 use Rattle.yaml_base.specs.Event.{scalar}
 use Rattle.yaml_base.specs.Layout.{mark_after}
-use Rattle.yaml_base.specs.Style.{Choice}
+use Rattle.yaml_base.specs.scalars.Style.{Choice}
 use Rattle.yaml_emitter.specs.BorrowedTexts.{seen_scalar}
 use Rattle.yaml_emitter.specs.Given.{seen_effective}
 use Rattle.yaml_emitter.specs.Inside.{state_of}

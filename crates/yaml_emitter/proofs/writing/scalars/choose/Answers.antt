@@ -1,7 +1,7 @@
 use Rattle.std.proofs.Common.{ap, sym, ◌∙◌, Bool}
-use Rattle.yaml_base.specs.Analysis.{allowances, is_empty}
+use Rattle.yaml_base.specs.scalars.Analysis.{allowances, is_empty}
 use Rattle.yaml_base.specs.Event.{double_quoted}
-use Rattle.yaml_base.specs.Style.{Choice, chosen}
+use Rattle.yaml_base.specs.scalars.Style.{Choice, chosen}
 use Rattle.yaml_emitter.specs.BorrowedTexts.{seen_scalar}
 use Rattle.yaml_emitter.proofs.pieces.WritingScalars.{chosen_surely, if_ok_from}
 use Rattle.yaml_emitter.proofs.writing.scalars.choose.Goals as goal

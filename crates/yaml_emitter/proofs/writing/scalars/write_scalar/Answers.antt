@@ -1,6 +1,6 @@
 use Rattle.std.proofs.Common.{ap, ◌∙◌}
 use Rattle.yaml_base.specs.Layout.{deeper}
-use Rattle.yaml_base.specs.Style.{Choice}
+use Rattle.yaml_base.specs.scalars.Style.{Choice}
 use Rattle.yaml_base.specs.Seen.{seen_scalar_style}
 use Rattle.yaml_pen.proofs.Composing.{wrote_then, wrote_failed}
 use Rattle.yaml_emitter.specs.BorrowedTexts.{seen_scalar}

@@ -1,6 +1,6 @@
 use Rattle.std.proofs.Common.{◌≡◌, map, sym, subst, ◌∙◌, append-nil}
 use Rattle.std.specs.Result.{IfOk, IfErr}
-use Rattle.yaml_base.specs.Script as notation
+use Rattle.yaml_base.specs.scripts.Script as notation
 use Rattle.yaml_tool.specs.Scripts.{seen_progress, seen_numbered, script_behind, IsFaultOf}
 use Rattle.yaml_tool.specs.Settings.{seen_settings}
 use Rattle.yaml_tool.proofs.parts.Front.script.Goals as goal

@@ -1,5 +1,5 @@
 use Rattle.std.proofs.Common.{◌≡◌, string_bytes, true≢false, sym, ap, ◌∙◌}
-use Rattle.yaml_base.specs.JsonNumbers.{JsonNumber, json_text, yaml_number}
+use Rattle.yaml_base.specs.values.JsonNumbers.{JsonNumber, json_text, yaml_number}
 use Rattle.yaml_writer.specs.SeenNumbers.{seen_parts}
 use Rattle.yaml_writer.proofs.SpellingLemmas.{number_by_chars, same_spelling, spelling_chars}
 use Rattle.yaml_writer.proofs.UnchangedSpellings.{stands_as_spelled}

@@ -1,0 +1,5 @@
+pub mod Meetings
+pub mod Unfolding
+pub mod Dumped
+pub mod SeenNodes
+pub mod Documents

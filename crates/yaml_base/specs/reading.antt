@@ -1,0 +1,11 @@
+pub mod ReadFolding
+pub mod ReadPlain
+pub mod ReadSingle
+pub mod ReadDouble
+pub mod ReadBlock
+pub mod Content
+pub mod ReadBytes
+pub mod CanonicalTokens
+pub mod CanonicalReader
+pub mod ReadPercent
+pub mod ReadTags

@@ -1,0 +1,153 @@
+-- Reading canonical bytes back, without any word of what writes them: bytes to characters (`ReadBytes`), characters to tokens
+-- (`CanonicalTokens`), and here tokens to contents (YAML 1.1, section 5.2 and chapters 7 to 10, in flow style and double quotes alone).
+--     canonical_content breaks12 bytes      the documents' contents, or nothing
+use Rattle.std.specs.Prelude.{ℕ, Bool, true, false, Option, None, Some, List, [], ◌∷◌, ◌++◌, ◌==◌, not, fold, option_map, option_and_then, is_some, if◌then◌else◌}
+use Rattle.yaml_base.specs.Characters.{Text, space}
+use Rattle.yaml_base.specs.LineBreaks.{with_line_breaks_read}
+use Rattle.yaml_base.specs.Event.{Version, TagDirective}
+use Rattle.yaml_base.specs.reading.ReadPercent.{percent_read}
+use Rattle.yaml_base.specs.reading.ReadTags.{TagSaid, bare_said, name_said, CutText, prefix_among, directives_assumed, cut_after_mark, name_joined, without_end_sign}
+use Rattle.yaml_base.specs.reading.Content.{ScalarTag, tagged, untagged, Content, alias_content, scalar_content, sequence_content, mapping_content, Contents, no_contents, contents_and, ContentPairs, no_content_pairs, content_pairs_and, DocumentContent}
+use Rattle.yaml_base.specs.reading.ReadBytes.{characters_read}
+use Rattle.yaml_base.specs.reading.CanonicalTokens.{Token, tokens_from, version_line, tag_line, document_begins, document_ends, anchor_token, alias_token, tag_token, scalar_token, opens_sequence, closes_sequence, opens_mapping, closes_mapping, key_token, value_token, comma, free}
+
+-- ---- written tags
+
+-- a handle's prefix, by a document's own directives and those assumed, and what stands after the handle
+abbrev pub shorthand_read : List TagDirective → CutText → Option TagSaid
+shorthand_read own text = name_joined (prefix_among (own ++ directives_assumed) text.front) (percent_read text.rest)
+
+-- what stands between `!<` and `>`, where that ends it
+abbrev pub verbatim_read : Option Text → Option TagSaid
+verbatim_read text = option_map name_said (option_and_then percent_read text)
+
+-- a written tag, from its `!` to its last character (section 8.1.1); since a space ends it, it may hold the signs of flow
+abbrev pub tag_read : List TagDirective → Text → Option TagSaid
+tag_read own [] = None
+tag_read own (c ∷ []) = if c == 0x21 then Some bare_said else None
+tag_read own (c ∷ d ∷ rest) =
+    if not (c == 0x21) then None
+    else (if d == 0x3C then verbatim_read (without_end_sign rest) else shorthand_read own (cut_after_mark (c ∷ d ∷ rest)))
+
+-- ---- tokens to contents
+
+-- an open collection: its anchor, its tag, what it holds so far, and in a mapping a key without its value
+pub data OpenContent : Type 0 where
+  open_sequence : Option Text → Option Text → Contents → OpenContent
+  open_mapping : Option Text → Option Text → ContentPairs → Option Content → OpenContent
+
+-- what may come next in a document: a node after these properties, an entry or the collection's end, the comma after
+-- an entry, or the sign between a key and its value
+pub data Awaited : Type 0 where
+  node_awaited : Option Text → Option TagSaid → Awaited
+  entry_awaited : Awaited
+  comma_awaited : Awaited
+  value_awaited : Awaited
+
+-- a document's directives
+pub record Head : Type 0 where
+  pub version : Option Version
+  pub directives : List TagDirective
+
+-- the finished documents, and outside them the directives of the next one and whether `...` may stand; within one its
+-- open collections, the innermost first
+pub data Reading : Type 0 where
+  failed : Reading
+  outside : List DocumentContent → Head → (may_end : Bool) → Reading
+  within : List DocumentContent → Head → List OpenContent → Awaited → Reading
+
+-- nothing said before `---`
+abbrev pub no_head : Head
+no_head = record { version = None; directives = [] }
+
+-- a finished node is the document's root, or takes its place in the innermost open collection
+abbrev pub with_content : List DocumentContent → Head → List OpenContent → Content → Reading
+with_content documents head [] content =
+    outside (documents ++ record { version = head.version; directives = head.directives; root = content } ∷ []) no_head true
+with_content documents head (open_sequence anchor tag items ∷ levels) content =
+    within documents head (open_sequence anchor tag (contents_and items content) ∷ levels) comma_awaited
+with_content documents head (open_mapping anchor tag pairs None ∷ levels) content =
+    within documents head (open_mapping anchor tag pairs (Some content) ∷ levels) value_awaited
+with_content documents head (open_mapping anchor tag pairs (Some key) ∷ levels) content =
+    within documents head (open_mapping anchor tag (content_pairs_and pairs key content) None ∷ levels) comma_awaited
+
+-- a scalar without a tag may go without one where it isn't plain, unless it has the bare tag
+abbrev pub scalar_tag_read : Option TagSaid → ScalarTag
+scalar_tag_read None = untagged true
+scalar_tag_read (Some bare_said) = untagged false
+scalar_tag_read (Some (name_said name)) = tagged name
+
+-- a tag after an anchor or none, read with the document's directives
+abbrev pub with_tag : List DocumentContent → Head → List OpenContent → Option Text → Option TagSaid → Reading
+with_tag documents head levels given None = failed
+with_tag documents head levels given (Some read) = within documents head levels (node_awaited given (Some read))
+
+-- a collection begins; the bare tag isn't one of its own
+abbrev pub with_open : List DocumentContent → Head → List OpenContent → (Option Text → OpenContent) → Option TagSaid → Reading
+with_open documents head levels opened None = within documents head (opened None ∷ levels) entry_awaited
+with_open documents head levels opened (Some (name_said name)) = within documents head (opened (Some name) ∷ levels) entry_awaited
+with_open documents head levels opened (Some bare_said) = failed
+
+-- where a node is awaited: an anchor, then a tag, then the node; an alias has neither
+abbrev pub node_read : List DocumentContent → Head → List OpenContent → Option Text → Option TagSaid → Token → Reading
+node_read documents head levels None None (anchor_token name) = within documents head levels (node_awaited (Some name) None)
+node_read documents head levels given None (tag_token text) = with_tag documents head levels given (tag_read head.directives text)
+node_read documents head levels None None (alias_token name) = with_content documents head levels (alias_content name)
+node_read documents head levels given read (scalar_token value) = with_content documents head levels (scalar_content given (scalar_tag_read read) value)
+node_read documents head levels given read opens_sequence = with_open documents head levels (λ named. open_sequence given named no_contents) read
+node_read documents head levels given read opens_mapping = with_open documents head levels (λ named. open_mapping given named no_content_pairs None) read
+node_read documents head levels _ _ _ = failed
+
+-- where an entry is awaited: the innermost collection ends, or another entry begins
+abbrev pub entry_read : List DocumentContent → Head → List OpenContent → Token → Reading
+entry_read documents head (open_sequence given named items ∷ levels) closes_sequence = with_content documents head levels (sequence_content given named items)
+entry_read documents head (open_sequence given named items ∷ levels) token = node_read documents head (open_sequence given named items ∷ levels) None None token
+entry_read documents head (open_mapping given named pairs None ∷ levels) closes_mapping = with_content documents head levels (mapping_content given named pairs)
+entry_read documents head (open_mapping given named pairs None ∷ levels) key_token = within documents head (open_mapping given named pairs None ∷ levels)
+    (node_awaited None None)
+entry_read documents head _ _ = failed
+
+-- a token within a document
+abbrev pub within_read : List DocumentContent → Head → List OpenContent → Awaited → Token → Reading
+within_read documents head levels (node_awaited given read) token = node_read documents head levels given read token
+within_read documents head levels entry_awaited token = entry_read documents head levels token
+within_read documents head levels comma_awaited comma = within documents head levels entry_awaited
+within_read documents head levels value_awaited value_token = within documents head levels (node_awaited None None)
+within_read documents head levels _ _ = failed
+
+-- a token outside documents: a version once, directives, `---`, and once after a document `...`
+abbrev pub outside_read : List DocumentContent → Head → Bool → Token → Reading
+outside_read documents head may_end (version_line version) =
+    if is_some head.version then failed else outside documents (record head { version = Some version }) false
+outside_read documents head may_end (tag_line directive) =
+    outside documents (record head { directives = head.directives ++ directive ∷ [] }) false
+outside_read documents head may_end document_begins = within documents head [] (node_awaited None None)
+outside_read documents head true document_ends = outside documents head false
+outside_read documents head may_end _ = failed
+
+-- one token more
+abbrev pub token_read : Reading → Token → Reading
+token_read failed token = failed
+token_read (outside documents head may_end) token = outside_read documents head may_end token
+token_read (within documents head levels awaited) token = within_read documents head levels awaited token
+
+-- the documents read, where no directive waits for a document
+abbrev pub without_head : List DocumentContent → Option Version → List TagDirective → Option (List DocumentContent)
+without_head documents None [] = Some documents
+without_head documents _ _ = None
+
+-- the stream may end outside documents, where no directives await one
+abbrev pub documents_at_end : Reading → Option (List DocumentContent)
+documents_at_end (outside documents head may_end) = without_head documents head.version head.directives
+documents_at_end _ = None
+
+-- the documents of a list of tokens
+abbrev pub documents_read : List Token → Option (List DocumentContent)
+documents_read tokens = documents_at_end (fold token_read (outside [] no_head false) tokens)
+
+-- ---- the whole
+
+-- the contents of the documents in canonical bytes
+abbrev pub canonical_content : Bool → List ℕ → Option (List DocumentContent)
+canonical_content breaks12 bytes =
+    option_and_then (λ text. documents_read (tokens_from breaks12 free (with_line_breaks_read text))) (characters_read bytes)

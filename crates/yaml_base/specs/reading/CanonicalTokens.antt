@@ -1,0 +1,150 @@
+-- Characters to the tokens of a canonical stream, without any word of what writes them (YAML 1.1, section 5.2 and chapters 7 to 10, in
+-- flow style and double quotes alone).
+use Rattle.std.specs.Prelude.{ℕ, zero, suc, pos, Bool, Option, None, Some, List, [], ◌∷◌, ◌++◌, ◌==◌, ◌||◌, not, length, filter, codes, bytes_eq, if◌then◌else◌}
+use Rattle.std.specs.List.{slice_split}
+use Rattle.yaml_base.specs.Characters.{Text, is_alpha, is_blank, space}
+use Rattle.yaml_base.specs.LineBreaks.{is_read_break}
+use Rattle.yaml_base.specs.Event.{Version, TagDirective}
+use Rattle.yaml_base.specs.reading.ReadPercent.{percent_read}
+use Rattle.yaml_base.specs.reading.ReadTags.{is_handle_text}
+use Rattle.yaml_base.specs.reading.ReadFolding.{FoldUnit, folding_read}
+use Rattle.yaml_base.specs.reading.ReadDouble.{QuotePlace, between, QuoteStep, goes_on, gives, ends_quotes, has_no_reading, quote_step}
+
+-- the words of a canonical stream, a line for each; bad is a fault of the text
+pub data Token : Type 0 where
+  version_line : Version → Token
+  tag_line : TagDirective → Token
+  document_begins : Token
+  document_ends : Token
+  anchor_token : Text → Token
+  alias_token : Text → Token
+  tag_token : Text → Token
+  scalar_token : Text → Token
+  opens_sequence : Token
+  closes_sequence : Token
+  opens_mapping : Token
+  closes_mapping : Token
+  key_token : Token
+  value_token : Token
+  comma : Token
+  bad : Token
+
+-- a character stands between tokens, in a directive's line, name or tag after these characters, between quotes after
+-- these units, or in a document mark of which so many signs follow the next one
+pub data TokenPlace : Type 0 where
+  free : TokenPlace
+  in_line : Text → TokenPlace
+  in_anchor : Text → TokenPlace
+  in_alias : Text → TokenPlace
+  in_tag : Text → TokenPlace
+  in_quotes : QuotePlace → List FoldUnit → TokenPlace
+  in_mark : (sign more : ℕ) → TokenPlace
+
+-- the tokens that a character completes, and the place after it
+pub record TokenTurn : Type 0 where
+  pub tokens : List Token
+  pub place : TokenPlace
+
+-- a character that ends no token
+abbrev pub goes_to : TokenPlace → TokenTurn
+goes_to place = record { tokens = []; place = place }
+
+-- a character that ends a token
+abbrev pub completes : Token → TokenTurn
+completes token = record { tokens = token ∷ []; place = free }
+
+-- a token, and then a token_turn
+abbrev pub completes_before : Token → TokenTurn → TokenTurn
+completes_before token next = record { tokens = token ∷ next.tokens; place = next.place }
+
+-- a name has at least one character
+abbrev pub anchor_named : Text → Token
+anchor_named [] = bad
+anchor_named (c ∷ rest) = anchor_token (c ∷ rest)
+
+-- an alias has a name of at least one character
+abbrev pub alias_named : Text → Token
+alias_named [] = bad
+alias_named (c ∷ rest) = alias_token (c ∷ rest)
+
+-- the words of a directive's line
+abbrev pub words : Text → List Text
+words line = filter (λ word. not (length word == 0)) (slice_split is_blank line)
+
+-- `%YAML 1.1` and `%YAML 1.2` (section 7.1.1)
+abbrev pub version_named : Text → Token
+version_named word =
+    if bytes_eq word (codes "1.1") then version_line (record { major = pos 1; minor = pos 1 })
+    else (if bytes_eq word (codes "1.2") then version_line (record { major = pos 1; minor = pos 2 }) else bad)
+
+-- a `%TAG` line, whose handle is well-formed and whose prefix is decoded
+abbrev pub tag_line_of : Text → Option Text → Token
+tag_line_of handle None = bad
+tag_line_of handle (Some prefix) = if is_handle_text handle then tag_line (record { handle = handle; prefix = prefix }) else bad
+
+-- a directive by its words; a prefix may hold percent forms
+abbrev pub directive_token : List Text → Token
+directive_token (name ∷ word ∷ []) = if bytes_eq name (codes "%YAML") then version_named word else bad
+directive_token (name ∷ handle ∷ prefix ∷ []) =
+    if bytes_eq name (codes "%TAG") then tag_line_of handle (percent_read prefix) else bad
+directive_token _ = bad
+
+-- the document mark of three `-` or of three `.`
+abbrev pub mark_token : ℕ → Token
+mark_token sign = if sign == 0x2D then document_begins else document_ends
+
+-- a sign that is a token by itself
+abbrev pub sign_token : ℕ → Token
+sign_token c =
+    if c == 0x5B then opens_sequence else (if c == 0x5D then closes_sequence
+    else (if c == 0x7B then opens_mapping else (if c == 0x7D then closes_mapping
+    else (if c == 0x3F then key_token else (if c == 0x3A then value_token else (if c == 0x2C then comma else bad))))))
+
+-- between tokens: blanks and breaks are free, and a first character tells what begins
+abbrev pub free_turn : Bool → ℕ → TokenTurn
+free_turn breaks12 c =
+    if is_blank c || is_read_break breaks12 c then goes_to free
+    else (if c == 0x25 then goes_to (in_line (c ∷ []))
+    else (if c == 0x26 then goes_to (in_anchor [])
+    else (if c == 0x2A then goes_to (in_alias [])
+    else (if c == 0x21 then goes_to (in_tag (c ∷ []))
+    else (if c == 0x22 then goes_to (in_quotes between [])
+    else (if c == 0x2D || c == 0x2E then goes_to (in_mark c 1) else completes (sign_token c)))))))
+
+-- between quotes it is the reader of double quotes that goes on
+abbrev pub quotes_turn : List FoldUnit → QuoteStep → TokenTurn
+quotes_turn units (goes_on place) = goes_to (in_quotes place units)
+quotes_turn units (gives unit) = goes_to (in_quotes between (units ++ unit ∷ []))
+quotes_turn units ends_quotes = completes (scalar_token (folding_read units))
+quotes_turn units has_no_reading = completes bad
+
+-- one more `-` or `.` of a document mark, of which so many are still to come
+abbrev pub mark_turn : (sign more : ℕ) → TokenTurn
+mark_turn sign zero = completes (mark_token sign)
+mark_turn sign (suc more) = goes_to (in_mark sign more)
+
+-- what a character does at a place: a name ends before any other character than its own, a tag at a space, a directive at a break
+abbrev pub token_turn : Bool → TokenPlace → ℕ → TokenTurn
+token_turn breaks12 free c = free_turn breaks12 c
+token_turn breaks12 (in_line line) c =
+    if is_read_break breaks12 c then completes (directive_token (words line)) else goes_to (in_line (line ++ c ∷ []))
+token_turn breaks12 (in_anchor name) c =
+    if is_alpha c then goes_to (in_anchor (name ++ c ∷ [])) else completes_before (anchor_named name) (free_turn breaks12 c)
+token_turn breaks12 (in_alias name) c =
+    if is_alpha c then goes_to (in_alias (name ++ c ∷ [])) else completes_before (alias_named name) (free_turn breaks12 c)
+token_turn breaks12 (in_tag text) c = if c == space then completes (tag_token text) else goes_to (in_tag (text ++ c ∷ []))
+token_turn breaks12 (in_quotes place units) c = quotes_turn units (quote_step breaks12 place c)
+token_turn breaks12 (in_mark sign more) c = if c == sign then mark_turn sign more else completes bad
+
+-- what is left at the end: a name may end there, nothing else
+abbrev pub tokens_at_end : TokenPlace → List Token
+tokens_at_end free = []
+tokens_at_end (in_anchor name) = anchor_named name ∷ []
+tokens_at_end (in_alias name) = alias_named name ∷ []
+tokens_at_end _ = bad ∷ []
+
+-- the tokens of a text from a place on
+abbrev pub tokens_from : Bool → TokenPlace → Text → List Token
+tokens_from breaks12 place [] = tokens_at_end place
+tokens_from breaks12 place (c ∷ rest) =
+    let here = token_turn breaks12 place c in here.tokens ++ tokens_from breaks12 here.place rest

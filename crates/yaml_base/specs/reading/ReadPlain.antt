@@ -1,0 +1,50 @@
+-- Reading a plain scalar (YAML 1.1, section 9.1.3; which texts are read is this library's own rule).
+use Rattle.std.specs.Prelude.{ℕ, Bool, true, false, Option, None, Some, [], ◌∷◌, ◌==◌, ◌||◌, ◌&&◌, map, codes, if◌then◌else◌}
+use Rattle.yaml_base.specs.Characters.{Text, is_among, is_blank}
+use Rattle.yaml_base.specs.LineBreaks.{is_read_break}
+use Rattle.yaml_base.specs.reading.ReadFolding.{unit_of, folding_read}
+
+-- a blank or a break of a text whose line breaks are read
+abbrev pub is_read_white : Bool → ℕ → Bool
+is_read_white breaks12 c = is_blank c || is_read_break breaks12 c
+
+-- a text is empty, or begins with a blank or a break
+abbrev pub begins_white : Bool → Text → Bool
+begins_white breaks12 [] = true
+begins_white breaks12 (c ∷ rest) = is_read_white breaks12 c
+
+-- a text begins with three of this character
+abbrev pub begins_with_three : ℕ → Text → Bool
+begins_with_three mark (a ∷ b ∷ c ∷ rest) = a == mark && b == mark && c == mark
+begins_with_three mark _ = false
+
+-- what no plain text begins with: `---` or `...`, an indicator, or `-`, `?`, `:` before a blank, a break or the end
+abbrev pub begins_no_plain : Bool → Text → Bool
+begins_no_plain breaks12 [] = false
+begins_no_plain breaks12 (c ∷ rest) =
+    begins_with_three 45 (c ∷ rest)
+    || begins_with_three 46 (c ∷ rest)
+    || is_among (codes "#,[]{}&*!|>'\"%@`") c
+    || (is_among (codes "?:-") c && begins_white breaks12 rest)
+
+-- a `#` comes next
+abbrev pub begins_with_hash : Text → Bool
+begins_with_hash [] = false
+begins_with_hash (c ∷ rest) = c == 35
+
+-- what no plain text holds: `:` before a blank, a break or the end, `#` after a blank or break, and in flow any of `,?:[]{}`
+abbrev pub holds_no_plain : (breaks12 flow : Bool) → Text → Bool
+holds_no_plain breaks12 flow [] = false
+holds_no_plain breaks12 flow (c ∷ rest) =
+    (c == 58 && begins_white breaks12 rest)
+    || (is_read_white breaks12 c && begins_with_hash rest)
+    || (flow && is_among (codes ",?:[]{}") c)
+    || holds_no_plain breaks12 flow rest
+
+-- the empty text reads as the empty value in block and has no reading in flow; any other reads by folding
+abbrev pub read_plain : (breaks12 flow : Bool) → Text → Option Text
+read_plain breaks12 flow [] = if flow then None else Some []
+read_plain breaks12 flow (c ∷ rest) =
+    if begins_no_plain breaks12 (c ∷ rest) || holds_no_plain breaks12 flow (c ∷ rest)
+    then None
+    else Some (folding_read (map (unit_of breaks12) (c ∷ rest)))

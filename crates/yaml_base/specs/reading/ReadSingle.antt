@@ -1,0 +1,19 @@
+-- Reading a single-quoted scalar (YAML 1.1, section 9.1.2).
+use Rattle.std.specs.Prelude.{Bool, Option, None, Some, [], ◌∷◌, ◌==◌, map, option_map, if◌then◌else◌}
+use Rattle.yaml_base.specs.Characters.{Text}
+use Rattle.yaml_base.specs.reading.ReadFolding.{unit_of, folding_read}
+
+-- what stands before the closing quote, which ends the text; two quotes stand for one
+abbrev pub unquoted : Text → Option Text
+unquoted [] = None
+unquoted (c ∷ []) = if c == 39 then Some [] else None
+unquoted (c ∷ second ∷ rest) =
+    if c == 39
+    then (if second == 39 then option_map (λ t. 39 ∷ t) (unquoted rest) else None)
+    else option_map (λ t. c ∷ t) (unquoted (second ∷ rest))
+
+-- between two quotes, blanks and breaks fold
+abbrev pub read_single : Bool → Text → Option Text
+read_single breaks12 [] = None
+read_single breaks12 (c ∷ rest) =
+    if c == 39 then option_map (λ t. folding_read (map (unit_of breaks12) t)) (unquoted rest) else None

@@ -1,0 +1,97 @@
+-- Reading written tags and handles (YAML 1.1, sections 7.1.2 and 8.1.1), without any word of what writes them.
+use Rattle.std.specs.Prelude.{ℕ, Bool, false, Option, None, Some, List, [], ◌∷◌, ◌++◌, ◌==◌, ◌||◌, ◌&&◌, not, codes, bytes_eq, option_map, if◌then◌else◌}
+use Rattle.std.specs.List.{list_all, list_any}
+use Rattle.yaml_base.specs.Characters.{Text, is_alpha, is_among}
+use Rattle.yaml_base.specs.Event.{TagDirective}
+use Rattle.yaml_base.specs.reading.ReadPercent.{is_uri_character, percent_read}
+
+-- what a written tag says: the bare tag `!`, or a tag by its name
+pub data TagSaid : Type 0 where
+  bare_said : TagSaid
+  name_said : Text → TagSaid
+
+-- a text cut in two
+pub record CutText : Type 0 where
+  pub front : Text
+  pub rest : Text
+
+-- the prefix that the first directive with this handle gives
+abbrev pub prefix_among : List TagDirective → Text → Option Text
+prefix_among [] handle = None
+prefix_among (directive ∷ rest) handle =
+    if bytes_eq directive.handle handle then Some directive.prefix else prefix_among rest handle
+
+-- what `!` and `!!` stand for where a document doesn't say (section 7.1.2.2)
+abbrev pub directives_assumed : List TagDirective
+directives_assumed =
+    record { handle = codes "!"; prefix = codes "!" }
+    ∷ record { handle = codes "!!"; prefix = codes "tag:yaml.org,2002:" } ∷ []
+
+-- the anchor alphabet, and then `!`
+abbrev pub closes_handle : Text → Bool
+closes_handle [] = false
+closes_handle (c ∷ []) = c == 0x21
+closes_handle (c ∷ d ∷ rest) = is_alpha c && closes_handle (d ∷ rest)
+
+-- `!`, or the anchor alphabet between two `!` (section 7.1.2.2)
+abbrev pub is_handle_text : Text → Bool
+is_handle_text [] = false
+is_handle_text (c ∷ []) = c == 0x21
+is_handle_text (c ∷ d ∷ rest) = c == 0x21 && closes_handle (d ∷ rest)
+
+-- a character before a text that is cut after its last `!`
+abbrev pub before_cut : ℕ → Text → Text → CutText
+before_cut c [] rest = if c == 0x21 then record { front = c ∷ []; rest = rest } else record { front = []; rest = c ∷ rest }
+before_cut c (d ∷ front) rest = record { front = c ∷ d ∷ front; rest = rest }
+
+-- a text cut after its last `!`
+abbrev pub cut_after_mark : Text → CutText
+cut_after_mark [] = record { front = []; rest = [] }
+cut_after_mark (c ∷ text) = let cut = cut_after_mark text in before_cut c cut.front cut.rest
+
+-- may stand after a handle: what may stand in a URI but for the signs of flow
+abbrev pub may_follow_handle : ℕ → Bool
+may_follow_handle c = is_uri_character c && not (is_among (codes ",[]") c)
+
+-- a prefix, and the text that stands after it
+abbrev pub name_joined : Option Text → Option Text → Option TagSaid
+name_joined (Some prefix) (Some suffix) = Some (name_said (prefix ++ suffix))
+name_joined _ _ = None
+
+-- a handle's prefix and what stands after the handle, which is at least one character
+abbrev pub shorthand_said : List TagDirective → Text → Text → Option TagSaid
+shorthand_said own handle [] = None
+shorthand_said own handle (c ∷ suffix) =
+    if list_all may_follow_handle (c ∷ suffix) then name_joined (prefix_among (own ++ directives_assumed) handle) (percent_read (c ∷ suffix))
+    else None
+
+-- a text without a `>` at its end; none where it doesn't end so
+abbrev pub without_end_sign : Text → Option Text
+without_end_sign [] = None
+without_end_sign (c ∷ []) = if c == 0x3E then Some [] else None
+without_end_sign (c ∷ d ∷ rest) = option_map (λ text. c ∷ text) (without_end_sign (d ∷ rest))
+
+-- a name of at least one character
+abbrev pub verbatim_said : Option Text → Option TagSaid
+verbatim_said None = None
+verbatim_said (Some []) = None
+verbatim_said (Some (c ∷ name)) = if list_all is_uri_character (c ∷ name) then option_map name_said (percent_read (c ∷ name)) else None
+
+-- a written tag, from its `!` to its last character, by a document's own directives and those assumed (section 8.1.1)
+abbrev pub tag_said : List TagDirective → Text → Option TagSaid
+tag_said own [] = None
+tag_said own (c ∷ []) = if c == 0x21 then Some bare_said else None
+tag_said own (c ∷ d ∷ rest) =
+    if not (c == 0x21) then None
+    else (if d == 0x3C then verbatim_said (without_end_sign rest)
+    else (let cut = cut_after_mark (c ∷ d ∷ rest) in shorthand_said own cut.front cut.rest))
+
+-- a prefix of a directive: percent forms and characters of a URI, at least one; a `!` may begin it
+abbrev pub prefix_said : Text → Option Text
+prefix_said [] = None
+prefix_said (c ∷ rest) =
+    if (c == 0x21 || is_uri_character c) && list_all is_uri_character rest then percent_read (c ∷ rest) else None
+
+-- some directive gives this handle
+abbrev pub is_given : Text → List TagDirective → Bool
+is_given handle directives = list_any (λ directive. bytes_eq directive.handle handle) directives

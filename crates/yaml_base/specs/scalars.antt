@@ -1,0 +1,9 @@
+pub mod Analysis
+pub mod Style
+pub mod Plain
+pub mod SingleQuoted
+pub mod DoubleQuoted
+pub mod Lines
+pub mod BlockHeader
+pub mod Literal
+pub mod Folded

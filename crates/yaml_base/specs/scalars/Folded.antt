@@ -1,0 +1,55 @@
+-- How a folded scalar is laid out (YAML 1.1, section 9.3.2): as literal, after its long lines are cut.
+use Rattle.std.specs.Prelude.{ℕ, Bool, true, false, Option, None, Some, List, [], ◌∷◌, ◌++◌, ◌==◌, ◌&&◌, ◌+◌, not, nat_lt, if◌then◌else◌}
+use Rattle.yaml_base.specs.Characters.{Text, is_space, line_feed}
+use Rattle.yaml_base.specs.scalars.Analysis.{begins_with}
+use Rattle.yaml_base.specs.Cursor.{Cursor, Laid, then_laid, text_laid, space_if}
+use Rattle.yaml_base.specs.scalars.Lines.{Part, line, line_break, begun, parts}
+use Rattle.yaml_base.specs.scalars.BlockHeader.{block_body}
+use Rattle.yaml_base.specs.scalars.Literal.{indented}
+
+-- a column past the limit; no limit is never passed
+abbrev pub is_past : Option ℕ → ℕ → Bool
+is_past None column = false
+is_past (Some width) column = nat_lt width column
+
+-- a fold stands in place of the last space of a run, where it would be put past the limit
+abbrev pub folds : (limit : Option ℕ) (column c : ℕ) (rest : Text) → Bool
+folds limit column c rest = is_space c && not (begins_with is_space rest) && is_past limit column
+
+-- a line from a column on, cut at its folds; after a fold it goes on at the indentation
+abbrev pub cut_from : (limit : Option ℕ) (indent column : ℕ) → Text → List Part
+cut_from limit indent column [] = line [] ∷ []
+cut_from limit indent column (c ∷ rest) =
+    let fold = folds limit column c rest in
+    let further = cut_from limit indent (if fold then indent else column + 1) rest in
+    if fold then line [] ∷ line_break line_feed ∷ further else begun c further
+
+-- a line that begins with a space is never folded
+abbrev pub cut_line : (limit : Option ℕ) (indent : ℕ) → Text → List Part
+cut_line limit indent text = if begins_with is_space text then line text ∷ [] else cut_from limit indent indent text
+
+-- a next line exists and doesn't begin with a space
+abbrev pub next_even : List Part → Bool
+next_even [] = false
+next_even (line text ∷ rest) = not (begins_with is_space text)
+next_even (line_break b ∷ rest) = next_even rest
+
+-- the value's parts as they are written, after a line that doesn't begin with a space or not: a LF between
+-- two lines that don't is doubled, since alone it would read as a space
+abbrev pub folded_parts : (limit : Option ℕ) (indent : ℕ) (after_even : Bool) → List Part → List Part
+folded_parts limit indent after_even [] = []
+folded_parts limit indent after_even (line text ∷ rest) =
+    cut_line limit indent text ++ folded_parts limit indent (not (begins_with is_space text)) rest
+folded_parts limit indent after_even (line_break b ∷ rest) =
+    (if after_even && b == line_feed && next_even rest then line_break b ∷ line_break b ∷ [] else line_break b ∷ [])
+    ++ folded_parts limit indent false rest
+
+-- `>`, the header and the value's lines
+abbrev pub folded_body : (limit : Option ℕ) (indent best_indent : ℕ) (value : Text) → Cursor → Laid
+folded_body limit indent best_indent value cursor =
+    block_body 62 best_indent value (indented indent (folded_parts limit indent false (parts value))) cursor
+
+-- a separating space where one is needed, and the body
+abbrev pub folded_laid : (limit : Option ℕ) (indent best_indent : ℕ) (value : Text) → Cursor → Laid
+folded_laid limit indent best_indent value cursor =
+    then_laid (text_laid (space_if true cursor) cursor) (folded_body limit indent best_indent value)

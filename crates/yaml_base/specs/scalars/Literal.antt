@@ -1,0 +1,21 @@
+-- How a literal scalar is laid out (YAML 1.1, section 9.3.1).
+use Rattle.std.specs.Prelude.{ℕ, true, List, [], ◌∷◌, ◌++◌, replicate}
+use Rattle.yaml_base.specs.Characters.{Text, space}
+use Rattle.yaml_base.specs.Cursor.{Cursor, Laid, then_laid, text_laid, space_if}
+use Rattle.yaml_base.specs.scalars.Lines.{Part, line, line_break, parts}
+use Rattle.yaml_base.specs.scalars.BlockHeader.{block_body}
+
+-- each line after so many spaces, each break once
+abbrev pub indented : ℕ → List Part → Text
+indented indent [] = []
+indented indent (line text ∷ rest) = replicate indent space ++ text ++ indented indent rest
+indented indent (line_break b ∷ rest) = b ∷ indented indent rest
+
+-- `|`, the header and the value's lines
+abbrev pub literal_body : (indent best_indent : ℕ) (value : Text) → Cursor → Laid
+literal_body indent best_indent value cursor = block_body 124 best_indent value (indented indent (parts value)) cursor
+
+-- a separating space where one is needed, and the body
+abbrev pub literal_laid : (indent best_indent : ℕ) (value : Text) → Cursor → Laid
+literal_laid indent best_indent value cursor =
+    then_laid (text_laid (space_if true cursor) cursor) (literal_body indent best_indent value)

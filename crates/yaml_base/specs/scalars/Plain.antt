@@ -1,0 +1,80 @@
+-- Laying out a plain scalar, and the lines that it shares with single quotes (YAML 1.1, sections 6.5 and 9.1.3;
+-- where folds stand is libyaml's own rule).
+use Rattle.std.specs.Prelude.{ℕ, Bool, true, false, Option, List, [], ◌∷◌, ◌++◌, ◌==◌, ◌||◌, ◌&&◌, not, replicate, if◌then◌else◌}
+use Rattle.yaml_base.specs.Characters.{Text, is_break, is_space, line_feed, space}
+use Rattle.yaml_base.specs.scalars.Analysis.{begins_with, is_empty}
+use Rattle.yaml_base.specs.Cursor.{Cursor, Laid, nothing_laid, then_laid, text_laid, with_flags, space_if, is_past_width}
+
+-- spaces, line breaks, or any other characters
+pub data Kind : Type 0 where
+  spaces : Kind
+  breaks : Kind
+  others : Kind
+
+-- the kind of a character
+abbrev pub kind_of : ℕ → Kind
+kind_of c = if is_space c then spaces else if is_break c then breaks else others
+
+-- two kinds are the same
+abbrev pub is_same_kind : Kind → Kind → Bool
+is_same_kind spaces spaces = true
+is_same_kind breaks breaks = true
+is_same_kind others others = true
+is_same_kind _ _ = false
+
+-- a longest stretch of characters of one kind
+pub record Run : Type 0 where
+  pub kind : Kind
+  pub text : Text
+
+-- a character before runs joins the first of them where that is of its kind
+abbrev pub joined_to : ℕ → List Run → List Run
+joined_to c [] = record { kind = kind_of c; text = c ∷ [] } ∷ []
+joined_to c (first ∷ more) =
+    if is_same_kind (kind_of c) first.kind then record first { text = c ∷ first.text } ∷ more
+    else record { kind = kind_of c; text = c ∷ [] } ∷ first ∷ more
+
+-- a value cut into its runs of spaces, of breaks and of other characters
+abbrev pub runs : Text → List Run
+runs [] = []
+runs (c ∷ rest) = joined_to c (runs rest)
+
+-- a run of one character
+abbrev pub is_lone : Text → Bool
+is_lone (c ∷ []) = true
+is_lone _ = false
+
+-- so many spaces (section 6.1)
+abbrev pub indentation : ℕ → Text
+indentation indent = replicate indent space
+
+-- a run's text: a lone space past the limit, neither first nor last, becomes a break and the indentation;
+-- the first break of a run is written twice if it is LF, and the indentation follows; others stand as they are written
+abbrev pub run_text : (written : Text → Text) (folds : Bool) (indent : ℕ) → Kind → Text → Text
+run_text written folds indent spaces text =
+    if folds && is_lone text then line_feed ∷ indentation indent else text
+run_text written folds indent breaks text =
+    (if begins_with (λ c. c == line_feed) text then line_feed ∷ [] else []) ++ (text ++ indentation indent)
+run_text written folds indent others text = written text
+
+-- no run follows
+abbrev pub is_last : List Run → Bool
+is_last [] = true
+is_last _ = false
+
+-- runs one after another; no fold stands at an edge
+abbrev pub runs_laid : (written : Text → Text) (limit : Option ℕ) (indent : ℕ) (edge : Bool) → List Run → Cursor → Laid
+runs_laid written limit indent edge [] cursor = nothing_laid cursor
+runs_laid written limit indent edge (run ∷ more) cursor =
+    let folds = is_past_width limit cursor && not (edge || is_last more) in
+    then_laid (text_laid (run_text written folds indent run.kind run.text) cursor) (runs_laid written limit indent false more)
+
+-- a plain scalar's characters stand for themselves
+abbrev pub plain_body : (limit : Option ℕ) (indent : ℕ) (value : Text) → Cursor → Laid
+plain_body limit indent value cursor =
+    with_flags false false (runs_laid (λ text. text) limit indent true (runs value) cursor)
+
+-- a space first where one is needed: the empty value needs none in a block
+abbrev pub plain_laid : (flow : Bool) (limit : Option ℕ) (indent : ℕ) (value : Text) → Cursor → Laid
+plain_laid flow limit indent value cursor =
+    then_laid (text_laid (space_if (flow || not (is_empty value)) cursor) cursor) (plain_body limit indent value)

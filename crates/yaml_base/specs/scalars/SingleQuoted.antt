@@ -1,0 +1,25 @@
+-- Laying out a single-quoted scalar (YAML 1.1, section 9.1.2; where folds stand is libyaml's own rule).
+use Rattle.std.specs.Prelude.{ℕ, true, false, Option, [], ◌∷◌, ◌++◌, ◌==◌, codes, if◌then◌else◌}
+use Rattle.yaml_base.specs.Characters.{Text}
+use Rattle.yaml_base.specs.Cursor.{Cursor, Laid, then_laid, text_laid, indicator, space_if}
+use Rattle.yaml_base.specs.scalars.Plain.{runs, runs_laid}
+
+-- every `'` is written twice
+abbrev pub quotes_doubled : Text → Text
+quotes_doubled [] = []
+quotes_doubled (c ∷ rest) = (if c == 39 then 39 ∷ 39 ∷ [] else c ∷ []) ++ quotes_doubled rest
+
+-- an opening or closing quote (section 9.1.2)
+abbrev pub single_quote : Cursor → Laid
+single_quote cursor = indicator (codes "'") false false false cursor
+
+-- the value's lines between two quotes
+abbrev pub single_quoted_body : (limit : Option ℕ) (indent : ℕ) (value : Text) → Cursor → Laid
+single_quoted_body limit indent value cursor =
+    then_laid (single_quote cursor) (λ after_quote.
+    then_laid (runs_laid quotes_doubled limit indent true (runs value) after_quote) single_quote)
+
+-- a space first where one is needed
+abbrev pub single_quoted_laid : (limit : Option ℕ) (indent : ℕ) (value : Text) → Cursor → Laid
+single_quoted_laid limit indent value cursor =
+    then_laid (text_laid (space_if true cursor) cursor) (single_quoted_body limit indent value)

@@ -1,0 +1,58 @@
+-- The style that is chosen for a scalar, and whether the bare tag `!` is written (libyaml's own rules).
+use Rattle.std.specs.Prelude.{Bool, true, false, ◌||◌, ◌&&◌, not, if◌then◌else◌}
+use Rattle.yaml_base.specs.scalars.Analysis.{Allowances}
+use Rattle.yaml_base.specs.Event.{ScalarStyle, any_style, plain, single_quoted, double_quoted, literal, folded}
+
+-- the style that is written, and whether the bare tag stands before it
+pub record Choice : Type 0 where
+  pub style : ScalarStyle
+  pub bare : Bool
+
+-- a scalar needs a written tag or one of its flags
+abbrev pub lacks_tag_and_flags : (tag_written plain_implicit quoted_implicit : Bool) → Bool
+lacks_tag_and_flags tag_written plain_implicit quoted_implicit =
+    not tag_written && not plain_implicit && not quoted_implicit
+
+-- the style is plain
+abbrev pub is_plain : ScalarStyle → Bool
+is_plain plain = true
+is_plain _ = false
+
+-- what is asked for: double quotes where they must stand, else the event's style; any is plain
+abbrev pub style_asked : (must_be_double : Bool) → ScalarStyle → ScalarStyle
+style_asked true style = double_quoted
+style_asked false any_style = plain
+style_asked false style = style
+
+-- single quotes where the value allows them, else double quotes
+abbrev pub style_quoted : Allowances → ScalarStyle
+style_quoted allowed = if allowed.single_quoted then single_quoted else double_quoted
+
+-- the style asked for where it fits; quotes in place of plain, double quotes in place of a block style
+abbrev pub style_fitting : Allowances → (plain_fits block_fits : Bool) → ScalarStyle → ScalarStyle
+style_fitting allowed plain_fits block_fits plain = if plain_fits then plain else style_quoted allowed
+style_fitting allowed plain_fits block_fits single_quoted = style_quoted allowed
+style_fitting allowed plain_fits block_fits literal = if block_fits then literal else double_quoted
+style_fitting allowed plain_fits block_fits folded = if block_fits then folded else double_quoted
+style_fitting allowed plain_fits block_fits _ = double_quoted
+
+-- plain fits where the value allows it in its context, isn't empty in flow or as a simple key, and is
+-- told apart from a quoted scalar by a tag or by its flag
+abbrev pub fits_plain : Allowances → (empty tag_written plain_implicit flow simple_key : Bool) → Bool
+fits_plain allowed empty tag_written plain_implicit flow simple_key =
+    (if flow then allowed.flow_plain else allowed.block_plain)
+    && not (empty && (flow || simple_key))
+    && (tag_written || plain_implicit)
+
+-- double quotes must stand in canonical mode, and for a simple key that holds a break; block styles fit
+-- outside flow and simple keys; the bare tag tells a quoted scalar apart that has no tag and no flag
+abbrev pub chosen :
+    Allowances → ScalarStyle
+    → (empty tag_written plain_implicit quoted_implicit flow simple_key canonical : Bool) → Choice
+chosen allowed asked empty tag_written plain_implicit quoted_implicit flow simple_key canonical =
+    let style =
+    style_fitting allowed
+    (fits_plain allowed empty tag_written plain_implicit flow simple_key)
+    (allowed.block && not flow && not simple_key)
+    (style_asked (canonical || (simple_key && allowed.multiline)) asked) in
+    record { style = style; bare = not tag_written && not quoted_implicit && not (is_plain style) }

@@ -1,0 +1,2 @@
+pub mod ScriptWords
+pub mod Script

@@ -1,0 +1,214 @@
+-- The documents of a stream (YAML 1.1, chapter 7): its lines are cut at the marks `---` and `...`, and what stands before
+-- the first of them is the first document or its directives.
+use Rattle.std.specs.Prelude.{ℕ, suc, pos, Bool, true, false, Option, None, Some, List, [], ◌∷◌, ◌++◌, ◌==◌, ◌&&◌, not, length, fold, codes, bytes_eq, option_map, option_and_then, is_some, if◌then◌else◌}
+use Rattle.std.specs.List.{slice_split}
+use Rattle.yaml_base.specs.Characters.{Text, is_space}
+use Rattle.yaml_base.specs.Event.{Version, TagDirective}
+use Rattle.yaml_base.specs.reading.ReadTags.{is_handle_text, prefix_said, is_given}
+use Rattle.yaml_base.specs.streams.StreamContent.{Tree, DocumentTree}
+use Rattle.yaml_base.specs.streams.StreamLines.{Line, lines_of, is_spaces, without_blank_lines, all_blank, ends_sign, blanked}
+use Rattle.yaml_base.specs.streams.StreamScalars.{Rules}
+use Rattle.yaml_base.specs.streams.StreamNodes.{node_read}
+
+-- Marks
+
+-- a line begins with three of a sign, before a space or its end
+abbrev pub begins_with_mark : ℕ → Text → Bool
+begins_with_mark sign (a ∷ b ∷ c ∷ rest) = a == sign && b == sign && c == sign && ends_sign rest
+begins_with_mark sign _ = false
+
+-- what a line is: it begins a document, ends one, or stands inside
+pub data MarkKind : Type 0 where
+  start_mark : MarkKind
+  end_mark : MarkKind
+  no_mark : MarkKind
+
+-- `---`, `...`, or neither
+abbrev pub mark_of : Text → MarkKind
+mark_of text =
+    if begins_with_mark 0x2D text then start_mark else (if begins_with_mark 0x2E text then end_mark else no_mark)
+
+-- a line with a mark, and those after it up to the next mark
+pub record Section : Type 0 where
+  pub mark : MarkKind
+  pub line : Line
+  pub rest : List Line
+
+-- the lines before the first mark, and then a section for each mark
+pub record Sections : Type 0 where
+  pub before : List Line
+  pub sections : List Section
+
+-- a line before sections
+abbrev pub section_before : MarkKind → Line → Sections → Sections
+section_before no_mark line after = record { before = line ∷ after.before; sections = after.sections }
+section_before mark line after =
+    record { before = []; sections = record { mark = mark; line = line; rest = after.before } ∷ after.sections }
+
+-- the lines of a stream, cut at its marks
+abbrev pub sections_of : List Line → Sections
+sections_of [] = record { before = []; sections = [] }
+sections_of (line ∷ rest) = section_before (mark_of line.text) line (sections_of rest)
+
+-- Directives
+
+-- what is said before `---`
+pub record Heading : Type 0 where
+  pub version : Option Version
+  pub directives : List TagDirective
+
+-- nothing
+abbrev pub no_heading : Heading
+no_heading = record { version = None; directives = [] }
+
+-- nothing is said
+abbrev pub is_no_heading : Heading → Bool
+is_no_heading heading = not (is_some heading.version) && length heading.directives == 0
+
+-- 1.1 and 1.2 (section 7.1.1)
+abbrev pub version_said : Text → Option Version
+version_said word =
+    if bytes_eq word (codes "1.1") then Some (record { major = pos 1; minor = pos 1 })
+    else (if bytes_eq word (codes "1.2") then Some (record { major = pos 1; minor = pos 2 }) else None)
+
+-- a version stands first
+abbrev pub with_version : Heading → Option Version → Option Heading
+with_version heading version =
+    if is_no_heading heading then option_map (λ said. record { version = Some said; directives = [] }) version else None
+
+-- a handle is given once
+abbrev pub with_directive : Heading → Text → Option Text → Option Heading
+with_directive heading handle prefix =
+    if is_handle_text handle && not (is_given handle heading.directives)
+    then option_map
+    (λ said. record { version = heading.version; directives = heading.directives ++ record { handle = handle; prefix = said } ∷ [] })
+    prefix else None
+
+-- a directive by its words (sections 7.1.1 and 7.1.2)
+abbrev pub directive_by_words : Heading → List Text → Option Heading
+directive_by_words heading (name ∷ word ∷ []) = if bytes_eq name (codes "%YAML") then with_version heading (version_said word) else None
+directive_by_words heading (name ∷ handle ∷ prefix ∷ []) =
+    if bytes_eq name (codes "%TAG") then with_directive heading handle (prefix_said prefix) else None
+directive_by_words heading _ = None
+
+-- one line more of directives, whose words stand one space apart
+abbrev pub directive_line : Option Heading → Line → Option Heading
+directive_line None line = None
+directive_line (Some heading) line = directive_by_words heading (slice_split is_space line.text)
+
+-- the directives of some lines
+abbrev pub heading_of : List Line → Option Heading
+heading_of lines = fold directive_line (Some no_heading) lines
+
+-- Documents
+
+-- a line begins with a character that is no space
+abbrev pub stands_at_margin : List Line → Bool
+stands_at_margin [] = true
+stands_at_margin (line ∷ rest) = not (ends_sign line.text)
+
+-- a root on lines of its own, the first of which stands at column 0; nothing is the empty scalar
+abbrev pub root_below : ℕ → Rules → List Line → Option Tree
+root_below depth rules lines = if stands_at_margin lines then node_read depth rules true None lines else None
+
+-- a root on the line of `---` or below it; no block begins on that line
+abbrev pub root_after_mark : (mark_alone : Bool) → ℕ → Rules → Line → List Line → Option Tree
+root_after_mark true depth rules line rest = root_below depth rules (without_blank_lines rest)
+root_after_mark false depth rules line rest = node_read depth rules false None (line ∷ rest)
+
+-- the text after a mark
+abbrev pub after_mark : Text → Text
+after_mark (a ∷ b ∷ c ∷ rest) = rest
+after_mark _ = []
+
+-- the root of a document that begins with `---`
+abbrev pub root_marked : ℕ → Rules → Line → List Line → Option Tree
+root_marked depth rules line rest =
+    root_after_mark (is_spaces (after_mark line.text)) depth rules (blanked 3 (after_mark line.text) line.ending) rest
+
+-- what may come after the documents so far: a mark of either kind, or after directives and `...` only `---`
+pub data StreamPlace : Type 0 where
+  after_root : StreamPlace
+  after_heading : Heading → StreamPlace
+
+-- a stream as far as it is read
+pub record StreamRead : Type 0 where
+  pub documents : List DocumentTree
+  pub place : StreamPlace
+
+-- one document more
+abbrev pub document_added : List DocumentTree → Heading → Option Tree → Option StreamRead
+document_added documents heading root =
+    option_map
+    (λ tree. record {
+      documents = documents ++ record { version = heading.version; directives = heading.directives; root = tree } ∷ [];
+      place = after_root;
+    })
+    root
+
+-- the document of `---`, with the directives before it
+abbrev pub document_read : ℕ → Bool → List DocumentTree → Heading → Section → Option StreamRead
+document_read depth breaks12 documents heading section =
+    document_added documents heading
+    (root_marked depth (record { breaks12 = breaks12; directives = heading.directives }) section.line section.rest)
+
+-- directives before a `---`
+abbrev pub heading_added : List DocumentTree → Option Heading → Option StreamRead
+heading_added documents heading = option_map (λ said. record { documents = documents; place = after_heading said }) heading
+
+-- one section more: `...` stands alone on its line, blank lines may follow it, and then directives
+abbrev pub section_by_kind : MarkKind → ℕ → Bool → List DocumentTree → StreamPlace → Section → Option StreamRead
+section_by_kind start_mark depth breaks12 documents after_root section = document_read depth breaks12 documents no_heading section
+section_by_kind start_mark depth breaks12 documents (after_heading heading) section = document_read depth breaks12 documents heading section
+section_by_kind end_mark depth breaks12 documents after_root section =
+    if length section.line.text == 3 then heading_added documents (heading_of (without_blank_lines section.rest)) else None
+section_by_kind _ depth breaks12 documents place section = None
+
+-- one section more of a stream
+abbrev pub section_read : ℕ → Bool → Option StreamRead → Section → Option StreamRead
+section_read depth breaks12 None section = None
+section_read depth breaks12 (Some read) section = section_by_kind section.mark depth breaks12 read.documents read.place section
+
+-- what the lines before the first mark begin with
+pub data FrontKind : Type 0 where
+  no_lines : FrontKind
+  directive_lines : FrontKind
+  document_lines : FrontKind
+
+-- a line begins with `%`
+abbrev pub begins_with_percent : Text → Bool
+begins_with_percent [] = false
+begins_with_percent (c ∷ rest) = c == 0x25
+
+-- nothing, a `%`, or a document's text
+abbrev pub front_kind : List Line → FrontKind
+front_kind [] = no_lines
+front_kind (line ∷ rest) = if begins_with_percent line.text then directive_lines else document_lines
+
+-- the lines before the first mark: none, directives, or a document that has no `---`
+abbrev pub front_read : FrontKind → ℕ → Bool → List Line → Option StreamRead
+front_read no_lines depth breaks12 lines = Some (record { documents = []; place = after_heading no_heading })
+front_read directive_lines depth breaks12 lines = heading_added [] (heading_of lines)
+front_read document_lines depth breaks12 lines =
+    document_added [] no_heading (root_below depth (record { breaks12 = breaks12; directives = [] }) lines)
+
+-- a stream ends after a document, or where no directives wait for one
+abbrev pub may_end : StreamPlace → Bool
+may_end after_root = true
+may_end (after_heading heading) = is_no_heading heading
+
+-- the documents of a stream that may end
+abbrev pub documents_at_end : StreamRead → Option (List DocumentTree)
+documents_at_end read = if may_end read.place then Some read.documents else None
+
+-- the documents of a stream's lines, cut at its marks
+abbrev pub sections_read : ℕ → Bool → Sections → Option (List DocumentTree)
+sections_read depth breaks12 all =
+    option_and_then documents_at_end
+    (fold (section_read depth breaks12) (front_read (front_kind all.before) depth breaks12 all.before) all.sections)
+
+-- the documents of a text whose line breaks are read; blank lines alone hold none
+abbrev pub documents_of : Bool → Text → Option (List DocumentTree)
+documents_of breaks12 text =
+    let lines = lines_of breaks12 text in
+    if all_blank lines then Some [] else sections_read (suc (length text)) breaks12 (sections_of lines)

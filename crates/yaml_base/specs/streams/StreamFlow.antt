@@ -1,0 +1,190 @@
+-- Flow collections, from tokens to a tree (YAML 1.1, sections 10.1.1 and 10.2.1). White space stands after `[`, `{` and
+-- `,`, blanks after `?` and `:`, a blank after an alias that is a key, and anything white after a key with a `?`.
+use Rattle.std.specs.Prelude.{ℕ, suc, Bool, true, false, Option, None, Some, List, [], ◌∷◌, ◌==◌, ◌&&◌, not, nat_le, length, fold, if◌then◌else◌}
+use Rattle.std.specs.List.{list_any}
+use Rattle.yaml_base.specs.Characters.{Text}
+use Rattle.yaml_base.specs.LineBreaks.{is_read_break}
+use Rattle.yaml_base.specs.streams.StreamContent.{Tree, alias_tree, sequence_tree, mapping_tree, Trees, no_trees, trees_and, TreePairs, no_tree_pairs, tree_pairs_and}
+use Rattle.yaml_base.specs.streams.StreamScalars.{Rules, Properties, PropertiesRead, properties_read, collection_tag_said, word_after, word_read}
+use Rattle.yaml_base.specs.streams.StreamLines.{is_spaces}
+use Rattle.yaml_base.specs.streams.StreamTokens.{FlowToken, word, opens, sign, blank, line_end, free, flow_tokens}
+
+-- Simple keys
+
+-- what is read is an alias
+abbrev pub is_alias : Tree → Bool
+is_alias (alias_tree name) = true
+is_alias _ = false
+
+-- a simple key has at most so many characters up to its `:` (chapter 10)
+abbrev pub longest_key : ℕ
+longest_key = 1024
+
+-- the length of a key's text up to its `:`; a space follows an alias there
+abbrev pub key_length : Tree → Text → ℕ
+key_length key text = if is_alias key then suc (length text) else length text
+
+-- the text of a simple key stands on one line and isn't longer than it may be
+abbrev pub is_key_text : Bool → Tree → Text → Bool
+is_key_text breaks12 key text = nat_le (key_length key text) longest_key && not (list_any (is_read_break breaks12) text)
+
+-- Open collections
+
+-- the key of an open mapping's next pair: none yet, due after `?`, or read
+pub data HeldKey : Type 0 where
+  no_key : HeldKey
+  key_due : HeldKey
+  key_held : Tree → HeldKey
+
+-- an open collection: its anchor, its tag and what it holds so far
+pub data Level : Type 0 where
+  in_sequence : Option Text → Option Text → Trees → Level
+  in_mapping : Option Text → Option Text → TreePairs → HeldKey → Level
+
+-- where the `:` after a key may stand: at once, after one blank, or after something white, which came or didn't yet
+pub data ColonPlace : Type 0 where
+  at_once : ColonPlace
+  after_blank : ColonPlace
+  after_white : (came : Bool) → ColonPlace
+
+-- what may come next: the collection that all is in, whose properties were read; an entry or the end; a node, after a
+-- blank that came or didn't yet; a comma or the end; a `:`
+pub data Awaited : Type 0 where
+  collection_awaited : Properties → Awaited
+  entry_awaited : Awaited
+  node_awaited : (blank_came : Bool) → Awaited
+  comma_awaited : Awaited
+  colon_awaited : ColonPlace → Awaited
+
+-- a fault, the finished collection, or the open ones, the innermost first
+pub data FlowReading : Type 0 where
+  failed : FlowReading
+  done : Tree → FlowReading
+  within : List Level → Awaited → FlowReading
+
+-- Steps
+
+-- a finished node takes its place in the innermost collection; it is no simple key
+abbrev pub with_tree : List Level → Tree → FlowReading
+with_tree [] tree = done tree
+with_tree (in_sequence anchor tag trees ∷ levels) tree = within (in_sequence anchor tag (trees_and trees tree) ∷ levels) comma_awaited
+with_tree (in_mapping anchor tag pairs no_key ∷ levels) tree = failed
+with_tree (in_mapping anchor tag pairs key_due ∷ levels) tree =
+    within (in_mapping anchor tag pairs (key_held tree) ∷ levels) (colon_awaited (after_white false))
+with_tree (in_mapping anchor tag pairs (key_held key) ∷ levels) tree =
+    within (in_mapping anchor tag (tree_pairs_and pairs key tree) no_key ∷ levels) comma_awaited
+
+-- where the `:` after a simple key stands
+abbrev pub colon_after : Tree → ColonPlace
+colon_after key = if is_alias key then after_blank else at_once
+
+-- a word is a simple key where a mapping has none, and a node elsewhere
+abbrev pub with_word : Bool → List Level → Text → Tree → FlowReading
+with_word breaks12 (in_mapping anchor tag pairs no_key ∷ levels) text tree =
+    if is_key_text breaks12 tree text
+    then within (in_mapping anchor tag pairs (key_held tree) ∷ levels) (colon_awaited (colon_after tree)) else failed
+with_word breaks12 levels text tree = with_tree levels tree
+
+-- a word that reads
+abbrev pub word_step : Bool → List Level → Text → Option Tree → FlowReading
+word_step breaks12 levels text None = failed
+word_step breaks12 levels text (Some tree) = with_word breaks12 levels text tree
+
+-- an open collection that holds nothing yet
+abbrev pub level_opened : ℕ → Option Text → Option Text → Level
+level_opened bracket anchor tag =
+    if bracket == 0x5B then in_sequence anchor tag no_trees else in_mapping anchor tag no_tree_pairs no_key
+
+-- a collection opens with its anchor and tag, if its tag is one of its own
+abbrev pub opened : List Level → ℕ → Option Text → Option (Option Text) → FlowReading
+opened levels bracket anchor None = failed
+opened levels bracket anchor (Some tag) = within (level_opened bracket anchor tag ∷ levels) entry_awaited
+
+-- a collection that holds something is no simple key
+abbrev pub may_open : List Level → Bool
+may_open (in_mapping anchor tag pairs no_key ∷ levels) = false
+may_open levels = true
+
+-- properties that fill their text, and a bracket
+abbrev pub opened_with : List Level → ℕ → Option PropertiesRead → FlowReading
+opened_with levels bracket None = failed
+opened_with levels bracket (Some read) =
+    if may_open levels && is_spaces read.text
+    then opened levels bracket read.properties.anchor (collection_tag_said read.properties.tag) else failed
+
+-- where a node may begin
+abbrev pub node_step : Rules → List Level → FlowToken → FlowReading
+node_step rules levels (word text) = word_step rules.breaks12 levels text (word_read rules true text)
+node_step rules levels (opens properties bracket) = opened_with levels bracket (properties_read rules.directives properties)
+node_step rules levels _ = failed
+
+-- the innermost collection ends
+abbrev pub closed : List Level → ℕ → FlowReading
+closed (in_sequence anchor tag trees ∷ levels) c = if c == 0x5D then with_tree levels (sequence_tree anchor tag trees) else failed
+closed (in_mapping anchor tag pairs no_key ∷ levels) c = if c == 0x7D then with_tree levels (mapping_tree anchor tag pairs) else failed
+closed _ c = failed
+
+-- a `?` asks for a key
+abbrev pub key_asked : List Level → FlowReading
+key_asked (in_mapping anchor tag pairs no_key ∷ levels) = within (in_mapping anchor tag pairs key_due ∷ levels) (node_awaited false)
+key_asked levels = failed
+
+-- where an entry may begin or the collection end
+abbrev pub entry_step : Rules → List Level → FlowToken → FlowReading
+entry_step rules levels blank = within levels entry_awaited
+entry_step rules levels line_end = within levels entry_awaited
+entry_step rules levels (sign c) = if c == 0x3F then key_asked levels else closed levels c
+entry_step rules levels token = node_step rules levels token
+
+-- where a node stands on the line of the `?` or `:` before it, after a blank
+abbrev pub spaced_step : Rules → List Level → (blank_came : Bool) → FlowToken → FlowReading
+spaced_step rules levels came blank = within levels (node_awaited true)
+spaced_step rules levels true token = node_step rules levels token
+spaced_step rules levels false token = failed
+
+-- where an entry has ended
+abbrev pub comma_step : List Level → FlowToken → FlowReading
+comma_step levels (sign c) = if c == 0x2C then within levels entry_awaited else closed levels c
+comma_step levels token = failed
+
+-- the `:` itself
+abbrev pub colon_sign : List Level → ℕ → FlowReading
+colon_sign levels c = if c == 0x3A then within levels (node_awaited false) else failed
+
+-- where a key has ended
+abbrev pub colon_step : List Level → ColonPlace → FlowToken → FlowReading
+colon_step levels at_once (sign c) = colon_sign levels c
+colon_step levels after_blank blank = within levels (colon_awaited at_once)
+colon_step levels (after_white came) blank = within levels (colon_awaited (after_white true))
+colon_step levels (after_white came) line_end = within levels (colon_awaited (after_white true))
+colon_step levels (after_white true) (sign c) = colon_sign levels c
+colon_step levels _ token = failed
+
+-- the first token: an empty collection whole, or a bracket
+abbrev pub collection_step : Rules → Properties → FlowToken → FlowReading
+collection_step rules properties (word text) = word_step rules.breaks12 [] text (word_after rules true None properties text)
+collection_step rules properties (opens [] bracket) = opened [] bracket properties.anchor (collection_tag_said properties.tag)
+collection_step rules properties _ = failed
+
+-- one token more within collections
+abbrev pub awaited_step : Rules → List Level → Awaited → FlowToken → FlowReading
+awaited_step rules levels (collection_awaited properties) token = collection_step rules properties token
+awaited_step rules levels entry_awaited token = entry_step rules levels token
+awaited_step rules levels (node_awaited came) token = spaced_step rules levels came token
+awaited_step rules levels comma_awaited token = comma_step levels token
+awaited_step rules levels (colon_awaited place) token = colon_step levels place token
+
+-- one token more; nothing follows a finished collection
+abbrev pub flow_step : Rules → FlowReading → FlowToken → FlowReading
+flow_step rules (within levels awaited) token = awaited_step rules levels awaited token
+flow_step rules _ token = failed
+
+-- a text holds one collection
+abbrev pub tree_at_end : FlowReading → Option Tree
+tree_at_end (done tree) = Some tree
+tree_at_end _ = None
+
+-- a text that is a flow collection, after its properties
+abbrev pub flow_read : Rules → Properties → Text → Option Tree
+flow_read rules properties text =
+    tree_at_end (fold (flow_step rules) (within [] (collection_awaited properties)) (flow_tokens rules.breaks12 free text))

@@ -1,0 +1,24 @@
+-- Reading whole streams back, in every mode, without any word of what writes them: bytes to documents, or nothing. The
+-- reader is strict: it refuses what readers of YAML 1.1 disagree on, tabs, comments and characters that aren't printable
+-- among it, so that a text that it reads means the same to all of them.
+--     stream_trees breaks12 bytes      the documents in some bytes, or nothing
+use Rattle.std.specs.Prelude.{ℕ, Bool, Option, None, List, ◌==◌, ◌||◌, option_and_then, if◌then◌else◌}
+use Rattle.std.specs.List.{list_all}
+use Rattle.yaml_base.specs.Characters.{Text, carriage_return, is_printable}
+use Rattle.yaml_base.specs.LineBreaks.{with_line_breaks_read}
+use Rattle.yaml_base.specs.reading.ReadBytes.{characters_read}
+use Rattle.yaml_base.specs.streams.StreamContent.{DocumentTree}
+use Rattle.yaml_base.specs.streams.StreamDocuments.{documents_of}
+
+-- a character that a stream may hold as itself; CR and LF break its lines
+abbrev pub may_stand_raw : ℕ → Bool
+may_stand_raw c = c == carriage_return || is_printable c
+
+-- the documents of a stream's characters
+abbrev pub text_trees : Bool → Text → Option (List DocumentTree)
+text_trees breaks12 text =
+    if list_all may_stand_raw text then documents_of breaks12 (with_line_breaks_read text) else None
+
+-- the documents in some bytes
+abbrev pub stream_trees : Bool → List ℕ → Option (List DocumentTree)
+stream_trees breaks12 bytes = option_and_then (text_trees breaks12) (characters_read bytes)

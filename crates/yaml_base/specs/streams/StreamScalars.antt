@@ -1,0 +1,179 @@
+-- One node's own text on the stretch that is cut out for it: an alias, an empty collection or a scalar, after its anchor
+-- and its tag (YAML 1.1, sections 8.1 and 9). The scalars' readers are called on tidy text alone.
+use Rattle.std.specs.Prelude.{ℕ, suc, Bool, true, false, Option, None, Some, List, [], ◌∷◌, ◌++◌, ◌==◌, ◌&&◌, ◌+◌, length, option_map, option_and_then, if◌then◌else◌}
+use Rattle.std.specs.List.{list_all}
+use Rattle.yaml_base.specs.Characters.{Text, is_alpha, space}
+use Rattle.yaml_base.specs.Event.{TagDirective, ScalarStyle, any_style, plain, single_quoted, double_quoted, literal, folded}
+use Rattle.yaml_base.specs.reading.ReadPlain.{read_plain}
+use Rattle.yaml_base.specs.reading.ReadSingle.{read_single}
+use Rattle.yaml_base.specs.reading.ReadDouble.{read_double}
+use Rattle.yaml_base.specs.reading.ReadBlock.{read_block}
+use Rattle.yaml_base.specs.reading.ReadTags.{TagSaid, bare_said, name_said, CutText, tag_said}
+use Rattle.yaml_base.specs.TidyBodies.{is_tidy}
+use Rattle.yaml_base.specs.streams.StreamContent.{Stood, stood_plain, stood_quoted, stood_bare, Tagging, with_tag, without_tag, Tree, alias_tree, scalar_tree, sequence_tree, mapping_tree, no_trees, no_tree_pairs}
+use Rattle.yaml_base.specs.streams.StreamLines.{spaces, indented}
+
+-- by what a document's text is read: which characters break lines, and its own directives
+pub record Rules : Type 0 where
+  pub breaks12 : Bool
+  pub directives : List TagDirective
+
+-- Properties
+
+-- a node's anchor and what its tag says
+pub record Properties : Type 0 where
+  pub anchor : Option Text
+  pub tag : Option TagSaid
+
+-- neither anchor nor tag
+abbrev pub no_properties : Properties
+no_properties = record { anchor = None; tag = None }
+
+-- what was read of a text, and the text with spaces in the place of that
+pub record PropertiesRead : Type 0 where
+  pub properties : Properties
+  pub text : Text
+
+-- a space ends a word, any other character is of it
+abbrev pub word_step : (is_space : Bool) → ℕ → Text → CutText → CutText
+word_step true c rest after = record { front = []; rest = c ∷ rest }
+word_step false c rest after = record { front = c ∷ after.front; rest = after.rest }
+
+-- a text cut before its first space
+abbrev pub word_cut : Text → CutText
+word_cut [] = record { front = []; rest = [] }
+word_cut (c ∷ rest) = word_step (c == space) c rest (word_cut rest)
+
+-- a name: at least one character, all of the anchor alphabet
+abbrev pub name_read : Text → Option Text
+name_read [] = None
+name_read (c ∷ rest) = if list_all is_alpha (c ∷ rest) then Some (c ∷ rest) else None
+
+-- an anchor's word after its `&`
+abbrev pub anchor_of_word : CutText → Option PropertiesRead
+anchor_of_word word =
+    option_map
+    (λ name. record { properties = record { anchor = Some name; tag = None }; text = spaces (suc (length word.front)) ++ word.rest })
+    (name_read word.front)
+
+-- the anchor that a text begins with, if it begins with one (section 8.1.2)
+abbrev pub anchor_first : Text → Option PropertiesRead
+anchor_first [] = Some (record { properties = no_properties; text = [] })
+anchor_first (c ∷ rest) =
+    if c == 0x26 then anchor_of_word (word_cut rest) else Some (record { properties = no_properties; text = c ∷ rest })
+
+-- a tag's word, at a column
+abbrev pub tag_of_word : List TagDirective → Option Text → ℕ → CutText → Option PropertiesRead
+tag_of_word directives anchor column word =
+    option_map
+    (λ said. record { properties = record { anchor = anchor; tag = Some said }; text = spaces (column + length word.front) ++ word.rest })
+    (tag_said directives word.front)
+
+-- the tag that a text begins with at a column, if it begins with one (section 8.1.1)
+abbrev pub tag_first : List TagDirective → Option Text → ℕ → Text → Option PropertiesRead
+tag_first directives anchor column [] = Some (record { properties = record { anchor = anchor; tag = None }; text = spaces column })
+tag_first directives anchor column (c ∷ rest) =
+    if c == 0x21 then tag_of_word directives anchor column (word_cut (c ∷ rest))
+    else Some (record { properties = record { anchor = anchor; tag = None }; text = spaces column ++ c ∷ rest })
+
+-- the anchor, and then the tag
+abbrev pub properties_read : List TagDirective → Text → Option PropertiesRead
+properties_read directives text =
+    option_and_then
+    (λ read. let after = indented read.text in tag_first directives read.properties.anchor after.column after.text)
+    (anchor_first text)
+
+-- the tag of a collection: the bare tag isn't one
+abbrev pub collection_tag_said : Option TagSaid → Option (Option Text)
+collection_tag_said None = Some None
+collection_tag_said (Some (name_said name)) = Some (Some name)
+collection_tag_said (Some bare_said) = None
+
+-- how a scalar is tagged that stood so: the bare tag stands before none that is plain
+abbrev pub tagging_said : Option TagSaid → Stood → Option Tagging
+tagging_said None standing = Some (without_tag standing)
+tagging_said (Some (name_said name)) standing = Some (with_tag name)
+tagging_said (Some bare_said) stood_quoted = Some (without_tag stood_bare)
+tagging_said (Some bare_said) _ = None
+
+-- Scalars
+
+-- the style that a text's first character tells
+abbrev pub style_begun : Text → ScalarStyle
+style_begun [] = plain
+style_begun (c ∷ rest) =
+    if c == 0x27 then single_quoted
+    else (if c == 0x22 then double_quoted else (if c == 0x7C then literal else (if c == 0x3E then folded else plain)))
+
+-- what a text of a style reads as; in flow none is of a block style
+abbrev pub value_read : ScalarStyle → (breaks12 flow : Bool) → Option ℕ → Text → Option Text
+value_read plain breaks12 flow column text = read_plain breaks12 flow text
+value_read single_quoted breaks12 flow column text = read_single breaks12 text
+value_read double_quoted breaks12 flow column text = read_double breaks12 text
+value_read any_style breaks12 flow column text = None
+value_read _ breaks12 flow column text = if flow then None else read_block breaks12 column text
+
+-- how a scalar of a style stood
+abbrev pub standing_of : ScalarStyle → Stood
+standing_of plain = stood_plain
+standing_of _ = stood_quoted
+
+-- a scalar after its properties
+abbrev pub scalar_said : Properties → Stood → Option Text → Option Tree
+scalar_said properties standing value =
+    option_and_then (λ text. option_map (λ tagging. scalar_tree properties.anchor tagging text) (tagging_said properties.tag standing)) value
+
+-- a scalar's text, tidy where it stands
+abbrev pub scalar_of_style : ScalarStyle → Rules → (flow : Bool) → Option ℕ → Properties → Text → Option Tree
+scalar_of_style style rules flow column properties text =
+    scalar_said properties (standing_of style)
+    (if is_tidy style rules.breaks12 column text then value_read style rules.breaks12 flow column text else None)
+
+-- the empty plain scalar
+abbrev pub nothing_said : Properties → Option Tree
+nothing_said properties = scalar_said properties stood_plain (Some [])
+
+-- Words
+
+-- an alias has no properties (section 7.1)
+abbrev pub alias_said : Option Text → Option TagSaid → Option Text → Option Tree
+alias_said None None name = option_map alias_tree name
+alias_said _ _ name = None
+
+-- what a word's first character tells
+pub data WordKind : Type 0 where
+  an_alias : WordKind
+  empty_sequence : WordKind
+  empty_mapping : WordKind
+  a_scalar : WordKind
+
+-- `*`, `[]` whole, `{}` whole, or a scalar
+abbrev pub kind_of_word : Text → WordKind
+kind_of_word [] = a_scalar
+kind_of_word (c ∷ []) = if c == 0x2A then an_alias else a_scalar
+kind_of_word (c ∷ d ∷ []) =
+    if c == 0x2A then an_alias
+    else (if c == 0x5B && d == 0x5D then empty_sequence else (if c == 0x7B && d == 0x7D then empty_mapping else a_scalar))
+kind_of_word (c ∷ d ∷ e ∷ rest) = if c == 0x2A then an_alias else a_scalar
+
+-- a word after its properties, by its kind
+abbrev pub word_by_kind : WordKind → Rules → (flow : Bool) → Option ℕ → Properties → Text → Option Tree
+word_by_kind an_alias rules flow column properties [] = None
+word_by_kind an_alias rules flow column properties (c ∷ name) = alias_said properties.anchor properties.tag (name_read name)
+word_by_kind empty_sequence rules flow column properties text =
+    option_map (λ tag. sequence_tree properties.anchor tag no_trees) (collection_tag_said properties.tag)
+word_by_kind empty_mapping rules flow column properties text =
+    option_map (λ tag. mapping_tree properties.anchor tag no_tree_pairs) (collection_tag_said properties.tag)
+word_by_kind a_scalar rules flow column properties [] = None
+word_by_kind a_scalar rules flow column properties (c ∷ rest) = scalar_of_style (style_begun (c ∷ rest)) rules flow column properties (c ∷ rest)
+
+-- a node's own text after its properties: an alias, an empty collection, or a scalar of at least one character
+abbrev pub word_after : Rules → (flow : Bool) → Option ℕ → Properties → Text → Option Tree
+word_after rules flow column properties text = word_by_kind (kind_of_word text) rules flow column properties text
+
+-- a node's own text with its properties
+abbrev pub word_read : Rules → (flow : Bool) → Text → Option Tree
+word_read rules flow text =
+    option_and_then
+    (λ read. word_after rules flow None read.properties (indented read.text).text)
+    (properties_read rules.directives text)

@@ -1,0 +1,210 @@
+-- The type repository of YAML 1.1 (yaml.org/type: null, bool, int, float, timestamp, merge, value): what a plain scalar
+-- without a tag means by it.
+use Rattle.std.specs.Prelude.{ℕ, pos, ℤ, neg_ℤ, Bool, false, Option, None, List, [], ◌∷◌, ◌++◌, ◌==◌, ◌||◌, ◌&&◌, ◌+◌, ◌*◌, ◌^◌, not, nat_le, length, drop, fold, codes, if◌then◌else◌}
+use Rattle.std.specs.List.{list_all, slice_split, filter, concat, prefix_len, take_while}
+use Rattle.std.specs.Char.{is_digit}
+use Rattle.std.specs.Str.Parse.{digits_value}
+use Rattle.yaml_base.specs.Characters.{Text, is_blank}
+use Rattle.yaml_base.specs.scripts.Script.{named, is_word}
+use Rattle.yaml_base.specs.values.Resolved.{Decimal, Resolved, meant_integer, meant_decimal, meant_timestamp, meant_by_nobody, first_reading, reading_if, words_of_11, is_point, is_exponent_mark, is_sign, is_decimal, first_is, past_sign, is_negative, signed, are_digits, counted_digits, pointed, exponent_read, scientific}
+
+-- ---- integers
+
+-- digits may be grouped by underscores
+abbrev pub is_underscore : ℕ → Bool
+is_underscore c = c == 0x5F
+
+-- the digits without the underscores
+abbrev pub ungrouped : Text → Text
+ungrouped text = filter (λ c. not (is_underscore c)) text
+
+-- digits in a base, and underscores
+abbrev pub are_grouped : ℕ → Text → Bool
+are_grouped base text = list_all (λ c. is_digit c base || is_underscore c) text
+
+-- decimal digits and underscores, the first of which is a digit that passes a test
+abbrev pub begins_grouped : (ℕ → Bool) → Text → Bool
+begins_grouped test text = first_is test text && are_grouped 10 text
+
+-- a decimal digit that isn't 0
+abbrev pub is_leading : ℕ → Bool
+is_leading c = is_decimal c && not (c == 0x30)
+
+-- an integer of these digits; where there is none, underscores alone, it is meant by nobody
+abbrev pub integer_of : (negative : Bool) → ℕ → Text → Resolved
+integer_of negative base digits =
+    if length digits == 0 then meant_by_nobody else meant_integer (signed negative (digits_value base digits))
+
+-- `0`, a letter, and digits in its base
+abbrev pub based_11 : (negative : Bool) → (letter base : ℕ) → Text → Option Resolved
+based_11 negative letter base (zero_digit ∷ c ∷ d ∷ digits) =
+    reading_if (zero_digit == 0x30 && c == letter && are_grouped base (d ∷ digits)) (integer_of negative base (ungrouped (d ∷ digits)))
+based_11 negative letter base _ = None
+
+-- `0` and octal digits
+abbrev pub octal_11 : (negative : Bool) → Text → Option Resolved
+octal_11 negative (zero_digit ∷ d ∷ digits) =
+    reading_if (zero_digit == 0x30 && are_grouped 8 (d ∷ digits)) (meant_integer (signed negative (digits_value 8 (ungrouped (d ∷ digits)))))
+octal_11 negative _ = None
+
+-- `0`, or decimal digits of which the first isn't 0
+abbrev pub decimal_11 : (negative : Bool) → Text → Option Resolved
+decimal_11 negative text =
+    reading_if (is_word text (codes "0") || begins_grouped is_leading text) (meant_integer (signed negative (digits_value 10 (ungrouped text))))
+
+-- ---- numbers to the base of sixty
+
+-- one digit, or two of which the first is at most 5
+abbrev pub is_sixtieth : Text → Bool
+is_sixtieth text = counted_digits 1 2 text && nat_le (digits_value 10 text) 59
+
+-- groups of digits as one number to the base of sixty
+abbrev pub sexagesimal : List Text → ℕ
+sexagesimal groups = fold (λ total group. total * 60 + digits_value 10 (ungrouped group)) 0 groups
+
+-- two groups or more, the first of which begins with a digit that passes a test
+abbrev pub are_sixtieths : (ℕ → Bool) → List Text → Bool
+are_sixtieths test (first ∷ second ∷ rest) = begins_grouped test first && list_all is_sixtieth (second ∷ rest)
+are_sixtieths test _ = false
+
+-- the sign between groups
+abbrev pub is_colon : ℕ → Bool
+is_colon c = c == 0x3A
+
+-- groups to the base of sixty: hours, minutes and seconds, as one integer
+abbrev pub sixties_11 : (negative : Bool) → List Text → Option Resolved
+sixties_11 negative groups = reading_if (are_sixtieths is_leading groups) (meant_integer (signed negative (sexagesimal groups)))
+
+-- such groups, a point, and decimals of the last of them
+abbrev pub fine_sixties_11 : (negative : Bool) → List Text → Option Resolved
+fine_sixties_11 negative (whole ∷ fraction ∷ []) =
+    let groups = slice_split is_colon whole in
+    let decimals = ungrouped fraction in
+    reading_if (are_sixtieths is_decimal groups && are_grouped 10 fraction)
+    (meant_decimal (record {
+      digits = signed negative (sexagesimal groups * 10 ^ length decimals + digits_value 10 decimals);
+      exponent = neg_ℤ (pos (length decimals));
+    }))
+fine_sixties_11 negative _ = None
+
+-- ---- floats
+
+-- digits with one point; where one stands before it, underscores may
+abbrev pub mantissa_11 : (negative : Bool) → List Text → Option Decimal
+mantissa_11 negative ([] ∷ fraction ∷ []) = pointed negative [] fraction
+mantissa_11 negative (whole ∷ fraction ∷ []) =
+    if begins_grouped is_decimal whole && are_grouped 10 fraction then pointed negative (ungrouped whole) (ungrouped fraction) else None
+mantissa_11 negative _ = None
+
+-- an exponent has a sign
+abbrev pub exponent_11 : Text → Option ℤ
+exponent_11 text = if first_is is_sign text then exponent_read text else None
+
+-- a mantissa with a point, and an exponent after `e` or `E` or none
+abbrev pub float_11 : (negative : Bool) → Text → Option Resolved
+float_11 negative text =
+    scientific (λ mantissa. mantissa_11 negative (slice_split is_point mantissa)) exponent_11 (slice_split is_exponent_mark text)
+
+-- digits with two points or more
+abbrev pub has_more_points : List Text → Bool
+has_more_points (whole ∷ first ∷ second ∷ rest) =
+    (length whole == 0 || begins_grouped is_decimal whole)
+    && are_digits 10 (ungrouped whole ++ concat (first ∷ second ∷ rest))
+has_more_points _ = false
+
+-- a mantissa with two points or more is meant by nobody
+abbrev pub more_points_11 : List Text → Option Resolved
+more_points_11 (mantissa ∷ []) = reading_if (has_more_points (slice_split is_point mantissa)) meant_by_nobody
+more_points_11 (mantissa ∷ exponent ∷ []) =
+    reading_if (has_more_points (slice_split is_point mantissa) && first_is is_sign exponent && are_digits 10 (past_sign exponent)) meant_by_nobody
+more_points_11 _ = None
+
+-- nor are points alone
+abbrev pub points_11 : Text → Option Resolved
+points_11 text = reading_if (first_is is_point text && list_all is_point text) meant_by_nobody
+
+-- ---- timestamps
+
+-- what stands after the longest front whose characters pass a test
+abbrev pub past : (ℕ → Bool) → Text → Text
+past test text = drop (prefix_len test text) text
+
+-- the sign between a date's parts
+abbrev pub is_hyphen : ℕ → Bool
+is_hyphen c = c == 0x2D
+
+-- a year, a month and a day, of so many digits at least
+abbrev pub is_date : ℕ → List Text → Bool
+is_date least (year ∷ month ∷ day ∷ []) = counted_digits 4 4 year && counted_digits least 2 month && counted_digits least 2 day
+is_date least _ = false
+
+-- seconds, and decimals of them after a point or none
+abbrev pub are_seconds : List Text → Bool
+are_seconds (seconds ∷ []) = counted_digits 2 2 seconds
+are_seconds (seconds ∷ decimals ∷ []) = counted_digits 2 2 seconds && list_all is_decimal decimals
+are_seconds _ = false
+
+-- hours, minutes and seconds
+abbrev pub is_clock : List Text → Bool
+is_clock (hours ∷ minutes ∷ seconds ∷ []) =
+    counted_digits 1 2 hours && counted_digits 2 2 minutes && are_seconds (slice_split is_point seconds)
+is_clock _ = false
+
+-- hours, and minutes or none
+abbrev pub is_offset : List Text → Bool
+is_offset (hours ∷ []) = counted_digits 1 2 hours
+is_offset (hours ∷ minutes ∷ []) = counted_digits 1 2 hours && counted_digits 2 2 minutes
+is_offset _ = false
+
+-- `Z`, or a sign and an offset
+abbrev pub is_zone : Text → Bool
+is_zone [] = false
+is_zone (c ∷ rest) = (c == 0x5A && length rest == 0) || (is_sign c && is_offset (slice_split is_colon rest))
+
+-- may stand in a time of day
+abbrev pub in_clock : ℕ → Bool
+in_clock c = is_decimal c || is_colon c || is_point c
+
+-- a time of day, and a zone after it or none
+abbrev pub is_time : Text → Bool
+is_time text =
+    let rest = past in_clock text in
+    is_clock (slice_split is_colon (take_while in_clock text)) && (length rest == 0 || is_zone (past is_blank rest))
+
+-- `T`, `t` or blanks, and then a time
+abbrev pub is_time_after_date : Text → Bool
+is_time_after_date [] = false
+is_time_after_date (c ∷ rest) =
+    ((c == 0x54 || c == 0x74) && is_time rest) || (is_blank c && is_time (past is_blank rest))
+
+-- may stand in a date
+abbrev pub in_date : ℕ → Bool
+in_date c = is_decimal c || is_hyphen c
+
+-- a date alone, or one with a time of day
+abbrev pub timestamp_11 : Text → Option Resolved
+timestamp_11 text =
+    let date = slice_split is_hyphen (take_while in_date text) in
+    let rest = past in_date text in
+    reading_if ((is_date 2 date && length rest == 0) || (is_date 1 date && is_time_after_date rest)) meant_timestamp
+
+-- ---- all
+
+-- what a number without its sign means
+abbrev pub numbers_11 : (negative : Bool) → Text → List (Option Resolved)
+numbers_11 negative text =
+    float_11 negative text
+    ∷ based_11 negative 0x62 2 text
+    ∷ based_11 negative 0x78 16 text
+    ∷ octal_11 negative text
+    ∷ decimal_11 negative text
+    ∷ sixties_11 negative (slice_split is_colon text)
+    ∷ fine_sixties_11 negative (slice_split is_point text)
+    ∷ more_points_11 (slice_split is_exponent_mark text)
+    ∷ points_11 text
+    ∷ []
+
+-- what a scalar means by the type repository
+abbrev pub resolved_by_11 : Text → Resolved
+resolved_by_11 text =
+    first_reading (named words_of_11 text ∷ timestamp_11 text ∷ numbers_11 (is_negative text) (past_sign text))
