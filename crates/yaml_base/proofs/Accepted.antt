@@ -5,10 +5,13 @@ use Rattle.std.proofs.lemmas.List.Folds.{list_all-append}
 use Rattle.std.proofs.lemmas.Bool.{ltb-true, lt-ltb}
 use Rattle.std.specs.Option.{option_or}
 use Rattle.std.specs.List.{list_all}
-use Rattle.std.specs.Prelude.{ℕ, ◌+◌, ◌≤◌, ◌<◌, Bool, true, false, cond, not, ◌&&◌, nat_lt, Option, None, Some, List, [], ◌∷◌, ◌++◌, length, count_by, is_none, option_and_then, flat_map}
+use Rattle.std.specs.Prelude.{ℕ, ◌+◌, ◌≤◌, ◌<◌, Bool, true, false, cond, not, ◌&&◌, nat_lt, Option, None, Some, List, [], ◌∷◌, ◌++◌, length, count_by, is_none}
+use Rattle.std.specs.Prelude.{option_and_then, flat_map}
 use Rattle.yaml_base.specs.Event.{Event, stream_end, document_end, sequence_start, sequence_end, mapping_start, mapping_end}
-use Rattle.yaml_base.specs.Grammar.{no_nodes, nodes_and, no_pairs, pairs_and, Level, at_item, at_key, at_value, Partial, before_stream, between_documents, within_document, after_root, after_stream, push, pushed, partial_of}
-use Rattle.yaml_base.specs.Refusal.{fault_if, name_or_tag_fault, content_fault, expected, place_fault, most_open, begins_collection, ends_collection, open_levels, depth_fault, refusal_at, refusal, is_sound, open_count, BeginsAccepted, RefusedExactly}
+use Rattle.yaml_base.specs.Grammar.{no_nodes, nodes_and, no_pairs, pairs_and, Level, at_item, at_key, at_value, Partial, before_stream, between_documents}
+use Rattle.yaml_base.specs.Grammar.{within_document, after_root, after_stream, push, pushed, partial_of}
+use Rattle.yaml_base.specs.Refusal.{fault_if, name_or_tag_fault, content_fault, expected, place_fault, most_open, begins_collection, ends_collection}
+use Rattle.yaml_base.specs.Refusal.{open_levels, depth_fault, refusal_at, refusal, is_sound, open_count, BeginsAccepted, RefusedExactly}
 use Rattle.yaml_base.specs.Pieces.{empty_scalar, innermost_missing, outer_missing, levels_missing, missing, missing_after, completion}
 use Rattle.yaml_base.proofs.NoFaults.{neither, is_none_none}
 use Rattle.yaml_base.proofs.Trees.{stream_pushed}

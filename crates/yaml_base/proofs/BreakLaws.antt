@@ -3,7 +3,8 @@ use Rattle.std.proofs.Common.{◌≡◌, refl, inl, inr}
 use Rattle.std.proofs.lemmas.Bool.{and_from, and_parts, or_cases, or_left, or_right, or_parts, not-true, eqb-true}
 use Rattle.std.specs.Prelude.{ℕ, Bool, true, false, not, [], ◌∷◌, ◌++◌, ◌==◌, ◌||◌, ◌&&◌, if◌then◌else◌}
 use Rattle.yaml_base.specs.Characters.{Text, carriage_return, is_break, line_feed, next_line, space}
-use Rattle.yaml_base.specs.LineBreaks.{begins_indented, break_text, is_indented_text, is_laid_text, line_breaks_read_after, with_breaks_written, with_line_breaks_read}
+use Rattle.yaml_base.specs.LineBreaks.{begins_indented, break_text, is_indented_text, is_laid_text, line_breaks_read_after, with_breaks_written}
+use Rattle.yaml_base.specs.LineBreaks.{with_line_breaks_read}
 use Rattle.yaml_base.specs.Settings.{LineBreak, both_break, carriage_return_break, line_feed_break}
 
 -- a laid text's front and rest are laid

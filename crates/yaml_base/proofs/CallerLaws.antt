@@ -8,13 +8,19 @@ use Rattle.yaml_base.specs.Settings.{Encoding, Effective}
 use Rattle.yaml_base.specs.Encoding.{encode, cut}
 use Rattle.yaml_base.specs.Decode.{decode}
 use Rattle.yaml_base.specs.Cursor.{Cursor, Laid, then_laid}
-use Rattle.yaml_base.specs.Event.{ScalarStyle, any_style, plain, single_quoted, double_quoted, literal, folded, TagDirective, Scalar, Collection, Event, stream_start, stream_end, document_start, document_end, alias, scalar, sequence_start, sequence_end, mapping_start, mapping_end}
+use Rattle.yaml_base.specs.Event.{ScalarStyle, any_style, plain, single_quoted, double_quoted, literal, folded, TagDirective, Scalar, Collection, Event}
+use Rattle.yaml_base.specs.Event.{stream_start, stream_end, document_start, document_end, alias, scalar, sequence_start, sequence_end, mapping_start}
+use Rattle.yaml_base.specs.Event.{mapping_end}
 use Rattle.yaml_base.specs.Refusal.{scalar_tag, collection_tag}
 use Rattle.yaml_base.specs.scalars.Style.{Choice}
 use Rattle.yaml_base.specs.Grammar.{Stream, stream_events, tree_of}
 use Rattle.yaml_base.specs.reading.ReadPlain.{is_read_white, begins_white, begins_no_plain, begins_with_hash, holds_no_plain, read_plain}
-use Rattle.yaml_base.specs.Layout.{Role, as_root, as_item, as_key, as_value, Place, is_key, is_in_mapping, deeper, is_simple_alias, is_simple_scalar, is_simple_collection, flow_place_laid, block_place_laid, place_laid, Piece, Standing, PieceLaid, lead_alone, properties_laid, separation_laid, alias_laid, body_laid, mark_after, choice_of, body_at, scalar_piece, is_written_in_flow, Brackets, square, curly, end_laid, first_standing, layout}
-use Rattle.yaml_base.specs.Steps.{Frame, Stage, at_stream, at_document, at_node, at_document_end, next_place, stage_after, is_first, Stepped, leaf_step, frame_opened, start_step, end_step, node_step, step, ends_next, Steps, then_steps, steps}
+use Rattle.yaml_base.specs.Layout.{Role, as_root, as_item, as_key, as_value, Place, is_key, is_in_mapping, deeper, is_simple_alias, is_simple_scalar}
+use Rattle.yaml_base.specs.Layout.{is_simple_collection, flow_place_laid, block_place_laid, place_laid, Piece, Standing, PieceLaid, lead_alone, properties_laid}
+use Rattle.yaml_base.specs.Layout.{separation_laid, alias_laid, body_laid, mark_after, choice_of, body_at, scalar_piece, is_written_in_flow, Brackets, square}
+use Rattle.yaml_base.specs.Layout.{curly, end_laid, first_standing, layout}
+use Rattle.yaml_base.specs.Steps.{Frame, Stage, at_stream, at_document, at_node, at_document_end, next_place, stage_after, is_first, Stepped, leaf_step}
+use Rattle.yaml_base.specs.Steps.{frame_opened, start_step, end_step, node_step, step, ends_next, Steps, then_steps, steps}
 use Rattle.yaml_base.specs.Pieces.{list_layout}
 use Rattle.yaml_base.specs.Output.{settings_for, text_written, bytes_written}
 use Rattle.yaml_base.specs.Laws.{TreeIsFound, IsPlainInside, PlainHoldsNoSign, LimitCuts, EncodingsAgree}

@@ -5,10 +5,14 @@ use Rattle.std.specs.Prelude.{Bool, true, false, flat_map}
 use Rattle.std.proofs.lemmas.List.Elements.{All-head, All-tail}
 use Rattle.yaml_base.specs.Characters.{Text}
 use Rattle.yaml_base.specs.Event.{Event, stream_start, stream_end}
-use Rattle.yaml_base.specs.Grammar.{Node, alias_node, scalar_node, sequence_node, mapping_node, Nodes, no_nodes, nodes_and, Pairs, no_pairs, pairs_and, Documents, no_documents, documents_and, Stream, document_events, documents_events, stream_events}
-use Rattle.yaml_base.specs.reading.Content.{DocumentContent, content_tag, node_content, nodes_content, pairs_content, document_content, documents_content, content_of}
+use Rattle.yaml_base.specs.Grammar.{Node, alias_node, scalar_node, sequence_node, mapping_node, Nodes, no_nodes, nodes_and, Pairs, no_pairs, pairs_and}
+use Rattle.yaml_base.specs.Grammar.{Documents, no_documents, documents_and, Stream, document_events, documents_events, stream_events}
+use Rattle.yaml_base.specs.reading.Content.{DocumentContent, content_tag, node_content, nodes_content, pairs_content, document_content, documents_content}
+use Rattle.yaml_base.specs.reading.Content.{content_of}
 use Rattle.yaml_base.specs.graphs.Meetings.{Graph, GraphNode, Held, scalar_held, sequence_held, mapping_held, node_numbered, document_event_list}
-use Rattle.yaml_base.specs.graphs.Unfolding.{NodeKind, scalar_kind, sequence_kind, mapping_kind, Label, Placed, alias_placed, node_placed, PlacedAll, none_placed, placed_and, kind_held, label_of, tag_told, HasShape, HaveShapes, node_shape_of, nodes_shapes, pairs_shapes, content_shape, contents_shapes, content_pairs_shapes, TreeUnfolds, ContentUnfolds, IsDocument}
+use Rattle.yaml_base.specs.graphs.Unfolding.{NodeKind, scalar_kind, sequence_kind, mapping_kind, Label, Placed, alias_placed, node_placed, PlacedAll}
+use Rattle.yaml_base.specs.graphs.Unfolding.{none_placed, placed_and, kind_held, label_of, tag_told, HasShape, HaveShapes, node_shape_of, nodes_shapes}
+use Rattle.yaml_base.specs.graphs.Unfolding.{pairs_shapes, content_shape, contents_shapes, content_pairs_shapes, TreeUnfolds, ContentUnfolds, IsDocument}
 use Rattle.yaml_base.specs.graphs.Dumped.{AreDumped, ContentsUnfold}
 use Rattle.yaml_base.proofs.Trees.{tree_of-stream_events}
 use Rattle.yaml_base.proofs.DocumentsUnfold.{document_unfolds}

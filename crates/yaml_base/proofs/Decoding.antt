@@ -1,5 +1,6 @@
 -- The bytes of a text decode to the text.
-use Rattle.std.proofs.Common.{◌≡◌, refl, sym, ◌∙◌, ap, ℕ, ◌+◌, ◌-◌, ◌*◌, ◌/◌, ◌%◌, ◌<◌, ◌≤◌, true, false, cond, ◌&&◌, inl, inr, Some, List, [], ◌∷◌, ◌++◌, nat_lt, nat_le, encode_utf8, arith, lt-ltb, le-ltb, le-leb}
+use Rattle.std.proofs.Common.{◌≡◌, refl, sym, ◌∙◌, ap, ℕ, ◌+◌, ◌-◌, ◌*◌, ◌/◌, ◌%◌, ◌<◌, ◌≤◌, true, false, cond, ◌&&◌, inl, inr, Some, List, [], ◌∷◌, ◌++◌}
+use Rattle.std.proofs.Common.{nat_lt, nat_le, encode_utf8, arith, lt-ltb, le-ltb, le-leb}
 use Rattle.std.specs.Char.{IsScalar}
 use Rattle.std.specs.Str.{all_scalars, chars, encode_utf8_all}
 use Rattle.std.proofs.lemmas.Str.{chars-encodes}

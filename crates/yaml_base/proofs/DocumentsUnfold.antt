@@ -1,5 +1,6 @@
 -- The events of a document unfold its graph.
-use Rattle.std.proofs.Common.{◌≡◌, inl, inr, ℕ, suc, ◌+◌, ◌==◌, ◌≤◌, ◌||◌, Bool, true, false, cond, Option, None, Some, unwrap_or, List, [], ◌∷◌, ◌++◌, length, refl, sym, ap, ◌∙◌, subst, arith, append-nil, ne_eqb}
+use Rattle.std.proofs.Common.{◌≡◌, inl, inr, ℕ, suc, ◌+◌, ◌==◌, ◌≤◌, ◌||◌, Bool, true, false, cond, Option, None, Some, unwrap_or, List, [], ◌∷◌, ◌++◌, length}
+use Rattle.std.proofs.Common.{refl, sym, ap, ◌∙◌, subst, arith, append-nil, ne_eqb}
 use Rattle.std.specs.Prelude.{Contains, count_by, bytes_eq, if◌then◌else◌}
 use Rattle.std.specs.List.{list_any, filter_map, flat_map, cons_option}
 use Rattle.std.proofs.Math.Bool.{or-true}
@@ -11,8 +12,10 @@ use Rattle.std.proofs.lemmas.Slice.Eq.{bytes_eq-Decides}
 use Rattle.yaml_base.specs.Characters.{Text}
 use Rattle.yaml_base.specs.Event.{Event, document_start, document_end}
 use Rattle.yaml_base.specs.Grammar.{node_events}
-use Rattle.yaml_base.specs.graphs.Meetings.{Graph, Step, enters, leaves, meets_again, is_entry_of, steps, node_met_again, anchor_of, step_events, document_event_list}
-use Rattle.yaml_base.specs.graphs.Unfolding.{Placed, Occurrence, alias_occurrence, node_occurrence, occurrences, carries, is_occurrence_of, IsNamed, AreNamed, IsReached, first_reached, child_reached, TreeUnfolds, IsDocument, EventsUnfold}
+use Rattle.yaml_base.specs.graphs.Meetings.{Graph, Step, enters, leaves, meets_again, is_entry_of, steps, node_met_again, anchor_of, step_events}
+use Rattle.yaml_base.specs.graphs.Meetings.{document_event_list}
+use Rattle.yaml_base.specs.graphs.Unfolding.{Placed, Occurrence, alias_occurrence, node_occurrence, occurrences, carries, is_occurrence_of, IsNamed, AreNamed}
+use Rattle.yaml_base.specs.graphs.Unfolding.{IsReached, first_reached, child_reached, TreeUnfolds, IsDocument, EventsUnfold}
 use Rattle.yaml_base.proofs.SharedNodes.{has, shared_named, anchors_differ}
 use Rattle.yaml_base.proofs.UnfoldSteps.{FollowEntries, is_meeting_of, IsOrderly, orderly_steps}
 use Rattle.yaml_base.proofs.UnfoldTrees.{placed_steps, Fits, Walks, walk_placed, root_met, children_met, place_of, places_are}
@@ -24,7 +27,8 @@ count_cons : {X : Type 0} (test : X → Bool) (x : X) (xs : List X) → count_by
 count_cons test x xs = sum_by-append (λ y. cond (test y) 1 0) (x ∷ []) xs ∙ omega arith
 
 -- by a test that tells the place of one node
-places_counted : (named : ℕ → Option Text) (test : Occurrence → Bool) (number : ℕ) → ((other : ℕ) → test (node_occurrence (named other) other) ≡ (number == other))
+places_counted : (named : ℕ → Option Text) (test : Occurrence → Bool) (number : ℕ)
+    → ((other : ℕ) → test (node_occurrence (named other) other) ≡ (number == other))
     → ((name : Text) (other : ℕ) → test (alias_occurrence name other) ≡ false)
     → (walk : List Step) → count_by test (filter_map (place_of named) walk) ≡ count_by (is_entry_of number) walk
 places_counted named test number nodes aliases [] = refl
@@ -147,7 +151,8 @@ all_named walk before [] follow names = tt
 all_named walk before (enters number ∷ rest) follow names =
     let all = filter_map (place_of (anchor_of walk)) walk in (
       tt,
-      subst (λ (earlier : List Occurrence). AreNamed all earlier (filter_map (place_of (anchor_of walk)) rest)) (place_more (anchor_of walk) before (enters number))
+      subst (λ (earlier : List Occurrence). AreNamed all earlier (filter_map (place_of (anchor_of walk)) rest))
+          (place_more (anchor_of walk) before (enters number))
           (all_named walk (before ++ enters number ∷ []) rest follow.1 names),
     )
 all_named walk before (leaves number ∷ rest) follow names =

@@ -5,11 +5,13 @@ use Rattle.std.proofs.lemmas.Int.{ints}
 use Rattle.std.proofs.lemmas.Int.Digits.{digits_value_push}
 use Rattle.std.specs.Ordering.{int_eq}
 use Rattle.std.specs.Str.Parse.{digits_value}
-use Rattle.std.specs.Prelude.{ℕ, ℤ, pos, neg_ℤ, negsuc, Bool, true, false, Option, None, Some, [], ◌++◌, ◌+◌, ◌*◌, ◌^◌, ◌+ℤ◌, ◌-ℤ◌, ◌*ℤ◌, ◌&&◌, not, codes, if◌then◌else◌}
+use Rattle.std.specs.Prelude.{ℕ, ℤ, pos, neg_ℤ, negsuc, Bool, true, false, Option, None, Some, [], ◌++◌, ◌+◌, ◌*◌, ◌^◌, ◌+ℤ◌, ◌-ℤ◌, ◌*ℤ◌, ◌&&◌, not, codes}
+use Rattle.std.specs.Prelude.{if◌then◌else◌}
 use Rattle.yaml_base.specs.Characters.{Text}
 use Rattle.yaml_base.specs.scripts.Script.{is_word}
 use Rattle.yaml_base.specs.values.Resolved.{Decimal, meant_integer, meant_decimal, signed}
-use Rattle.yaml_base.specs.values.JsonNumbers.{JsonNumber, JsonExponent, above, is_same_number, means_number, exponent_value, value_with, json_value, number_meant}
+use Rattle.yaml_base.specs.values.JsonNumbers.{JsonNumber, JsonExponent, above, is_same_number, means_number, exponent_value, value_with, json_value}
+use Rattle.yaml_base.specs.values.JsonNumbers.{number_meant}
 
 same_integer : (a b : ℤ) → a ≡ b → int_eq a b ≡ true
 same_integer a b h = (Decides-int_eq a b).1 h

@@ -8,7 +8,8 @@ use Rattle.std.specs.List.{All, list_all, slice_split, take_while}
 use Rattle.std.specs.Prelude.{ℕ, suc, Bool, true, false, Option, None, Some, List, [], ◌∷◌, ◌++◌, ◌==◌, ◌||◌, ◌&&◌, not, length, codes, ⊤, if◌then◌else◌}
 use Rattle.yaml_base.specs.Characters.{Text}
 use Rattle.yaml_base.specs.scripts.Script.{named}
-use Rattle.yaml_base.specs.values.Resolved.{Resolved, meant_timestamp, words_of_core, words_of_11, is_point, is_exponent_mark, is_sign, is_decimal, first_is, past_sign, is_negative, are_digits}
+use Rattle.yaml_base.specs.values.Resolved.{Resolved, meant_timestamp, words_of_core, words_of_11, is_point, is_exponent_mark, is_sign, is_decimal, first_is}
+use Rattle.yaml_base.specs.values.Resolved.{past_sign, is_negative, are_digits}
 use Rattle.yaml_base.specs.values.SchemaOf11.{is_underscore, ungrouped, are_grouped, is_hyphen, past, in_date, is_date, is_time_after_date, timestamp_11}
 use Rattle.yaml_base.specs.values.JsonNumbers.{JsonExponent, minus, exponent_negative, exponent_spelled}
 use Rattle.yaml_base.proofs.SchemaWords.{named_unlike}
@@ -43,7 +44,8 @@ some_digits c digits h =
 -- digits are grouped, and have no underscore
 pub digits_grouped : (digits : Text) → list_all is_decimal digits ≡ true → are_grouped 10 digits ≡ true
 digits_grouped [] h = refl
-digits_grouped (c ∷ digits) h = and_from (is_decimal c || is_underscore c) (are_grouped 10 digits) (or_left (is_decimal c) _ both.0) (digits_grouped digits both.1)
+digits_grouped (c ∷ digits) h = and_from (is_decimal c || is_underscore c) (are_grouped 10 digits) (or_left (is_decimal c) _ both.0)
+    (digits_grouped digits both.1)
   where
     both : (is_decimal c ≡ true) × (list_all is_decimal digits ≡ true)
     both = and_parts (is_decimal c) (list_all is_decimal digits) h
@@ -181,7 +183,8 @@ Short parts = (least : ℕ) → is_date least parts ≡ false
 short_front : (negative : Bool) (digits rest : Text) → list_all is_decimal digits ≡ true → first_is in_date rest ≡ false
     → Short (slice_split is_hyphen (take_while in_date (minus negative ++ (digits ++ rest))))
 short_front true digits rest h g least =
-    ap (λ text. is_date least (slice_split is_hyphen text)) (take_while-cons in_date 0x2D (digits ++ rest) ∙ ap (λ text. 0x2D ∷ text) (date_front digits rest h g))
+    ap (λ text. is_date least (slice_split is_hyphen text)) (take_while-cons in_date 0x2D (digits ++ rest)
+    ∙ ap (λ text. 0x2D ∷ text) (date_front digits rest h g))
     ∙ ap (is_date least) (slice_split-cons_yes is_hyphen 0x2D digits refl ∙ ap (λ parts. [] ∷ parts) (uncut is_hyphen digit_no_hyphen digits h))
 short_front false digits rest h g least =
     ap (λ text. is_date least (slice_split is_hyphen text)) (date_front digits rest h g)
@@ -199,4 +202,5 @@ no_timestamp negative digits rest h g = ap (λ x. if x then Some meant_timestamp
     date = slice_split is_hyphen (take_while in_date text)
 
     neither : ((is_date 2 date && length (past in_date text) == 0) || (is_date 1 date && is_time_after_date (past in_date text))) ≡ false
-    neither = or_from _ _ (and_left (is_date 2 date) _ (short_front negative digits rest h g 2)) (and_left (is_date 1 date) _ (short_front negative digits rest h g 1))
+    neither = or_from _ _ (and_left (is_date 2 date) _ (short_front negative digits rest h g 2))
+        (and_left (is_date 1 date) _ (short_front negative digits rest h g 1))

@@ -7,10 +7,12 @@ use Rattle.std.specs.Str.Parse.{digits_value}
 use Rattle.std.specs.Prelude.{ℕ, ℤ, pos, neg_ℤ, Bool, true, false, Option, None, Some, List, [], ◌∷◌, ◌++◌, ◌==◌, ◌&&◌, ◌+ℤ◌, not, length, codes, if◌then◌else◌}
 use Rattle.yaml_base.specs.Characters.{Text}
 use Rattle.yaml_base.specs.scripts.Script.{named}
-use Rattle.yaml_base.specs.values.Resolved.{Decimal, Resolved, meant_integer, meant_decimal, first_reading, words_of_core, is_point, is_exponent_mark, is_decimal, first_is, past_sign, is_negative, signed, are_digits, pointed, exponent_read, scaled, scientific}
+use Rattle.yaml_base.specs.values.Resolved.{Decimal, Resolved, meant_integer, meant_decimal, first_reading, words_of_core, is_point, is_exponent_mark}
+use Rattle.yaml_base.specs.values.Resolved.{is_decimal, first_is, past_sign, is_negative, signed, are_digits, pointed, exponent_read, scaled, scientific}
 use Rattle.yaml_base.specs.values.SchemaCore.{core_integer, core_based, core_mantissa, core_decimal, resolved_by_core}
 use Rattle.yaml_base.specs.values.JsonNumbers.{JsonExponent, minus, exponent_negative, exponent_value, exponent_spelled}
-use Rattle.yaml_base.proofs.NumberCuts.{digit_unlike, some_digits, at_point, mantissa_of, exponent_parts, HasDigits, at_exponent, past_minus, minus_read, no_word_of_core}
+use Rattle.yaml_base.proofs.NumberCuts.{digit_unlike, some_digits, at_point, mantissa_of, exponent_parts, HasDigits, at_exponent, past_minus, minus_read}
+use Rattle.yaml_base.proofs.NumberCuts.{no_word_of_core}
 
 -- Readings, one after another
 
@@ -55,7 +57,8 @@ exponent_read_signed false digits h = given (are_digits 10 digits) (signed false
 
 -- a mantissa and an exponent that are read give the decimal that both write
 pub scientific_read : (mantissa : Text → Option Decimal) (read : Text → Option ℤ) (text : Text) (decimal : Decimal) (exponent : Option JsonExponent)
-    → ((negative : Bool) (digits : Text) → are_digits 10 digits ≡ true → read (exponent_sign negative ++ digits) ≡ Some (signed negative (digits_value 10 digits)))
+    → ((negative : Bool) (digits : Text) → are_digits 10 digits ≡ true
+    → read (exponent_sign negative ++ digits) ≡ Some (signed negative (digits_value 10 digits)))
     → mantissa text ≡ Some decimal → HasDigits exponent
     → scientific mantissa read (text ∷ exponent_parts exponent)
     ≡ Some (meant_decimal (record { digits = decimal.digits; exponent = decimal.exponent +ℤ exponent_value exponent }))

@@ -1,11 +1,13 @@
 -- The numbers that name no node are sought node by node.
-use Rattle.std.proofs.Common.{IsTrue, is_none, refl, cond, ◌&&◌, nat_le, pos, negsuc, [], map, Bool, ◌≡◌, ℕ, suc, ◌+◌, ◌<◌, ℤ, true, false, not, is_some, Option, None, Some, List, ◌∷◌, length, get_or, drop, drop-cons, add-one, sym, ap, ◌∙◌}
+use Rattle.std.proofs.Common.{IsTrue, is_none, refl, cond, ◌&&◌, nat_le, pos, negsuc, [], map, Bool, ◌≡◌, ℕ, suc, ◌+◌, ◌<◌, ℤ, true, false, not, is_some}
+use Rattle.std.proofs.Common.{Option, None, Some, List, ◌∷◌, length, get_or, drop, drop-cons, add-one, sym, ap, ◌∙◌}
 use Rattle.std.specs.List.{list_all, flat_map}
 use Rattle.std.proofs.lemmas.List.{length-map}
 use Rattle.std.specs.Option.{option_or}
 use Rattle.std.proofs.lemmas.List.Folds.{find-append}
 use Rattle.yaml_base.specs.graphs.Meetings.{numbers_held, is_whole}
-use Rattle.yaml_base.specs.graphs.SeenNodes.{seen_number, seen_pair, seen_held, seen_node, seen_document, names_node, numbers_of, numbers_of_pairs, all_numbers, first_outside}
+use Rattle.yaml_base.specs.graphs.SeenNodes.{seen_number, seen_pair, seen_held, seen_node, seen_document, names_node, numbers_of, numbers_of_pairs, all_numbers}
+use Rattle.yaml_base.specs.graphs.SeenNodes.{first_outside}
 use Rattle.yaml_base.specs.declared.directives.yaml_version_directive_t.{yaml_version_directive_t}
 use Rattle.yaml_base.specs.declared.directives.yaml_tag_directive_t.{yaml_tag_directive_t}
 use Rattle.yaml_base.specs.declared.nodes.yaml_node_pair_t.{yaml_node_pair_t}

@@ -7,13 +7,19 @@ use Rattle.std.specs.Str.Parse.{digits_value}
 use Rattle.std.specs.Prelude.{ℕ, pos, Bool, true, false, Option, None, Some, List, [], ◌∷◌, ◌++◌, ◌==◌, ◌||◌, ◌&&◌, not, length, codes, if◌then◌else◌}
 use Rattle.yaml_base.specs.Characters.{Text}
 use Rattle.yaml_base.specs.scripts.Script.{named, is_word}
-use Rattle.yaml_base.specs.values.Resolved.{Decimal, Resolved, meant_integer, first_reading, words_of_11, is_point, is_exponent_mark, is_decimal, first_is, past_sign, is_negative, signed, are_digits, pointed, scaled, scientific}
+use Rattle.yaml_base.specs.values.Resolved.{Decimal, Resolved, meant_integer, first_reading, words_of_11, is_point, is_exponent_mark, is_decimal, first_is}
+use Rattle.yaml_base.specs.values.Resolved.{past_sign, is_negative, signed, are_digits, pointed, scaled, scientific}
 use Rattle.yaml_base.specs.values.SchemaCore.{resolved_by_core}
-use Rattle.yaml_base.specs.values.SchemaOf11.{ungrouped, are_grouped, integer_of, in_date, is_leading, begins_grouped, based_11, octal_11, decimal_11, sixties_11, fine_sixties_11, is_colon, mantissa_11, exponent_11, float_11, more_points_11, points_11, timestamp_11, numbers_11, resolved_by_11}
-use Rattle.yaml_base.specs.values.JsonNumbers.{JsonNumber, JsonExponent, NumbersAreRead, minus, is_whole, is_json_number, is_json_integer, fraction_or, json_value, yaml_number, number_meant, means_number}
+use Rattle.yaml_base.specs.values.SchemaOf11.{ungrouped, are_grouped, integer_of, in_date, is_leading, begins_grouped, based_11, octal_11, decimal_11}
+use Rattle.yaml_base.specs.values.SchemaOf11.{sixties_11, fine_sixties_11, is_colon, mantissa_11, exponent_11, float_11, more_points_11, points_11}
+use Rattle.yaml_base.specs.values.SchemaOf11.{timestamp_11, numbers_11, resolved_by_11}
+use Rattle.yaml_base.specs.values.JsonNumbers.{JsonNumber, JsonExponent, NumbersAreRead, minus, is_whole, is_json_number, is_json_integer, fraction_or}
+use Rattle.yaml_base.specs.values.JsonNumbers.{json_value, yaml_number, number_meant, means_number}
 use Rattle.yaml_base.proofs.JsonSpelling.{spelling_keeps_value}
-use Rattle.yaml_base.proofs.NumberCuts.{digits_grouped, digits_ungrouped, no_point, no_exponent, at_point, mantissa_of, HasDigits, past_minus, minus_read, no_word_of_11, no_timestamp}
-use Rattle.yaml_base.proofs.NumbersByCore.{passed, found, given, decimal_of, pointed_read, exponent_sign, exponent_read_signed, scientific_read, no_letter, after_whole, cut_read, scientific_of, integer_by_core, decimal_by_core}
+use Rattle.yaml_base.proofs.NumberCuts.{digits_grouped, digits_ungrouped, no_point, no_exponent, at_point, mantissa_of, HasDigits, past_minus, minus_read}
+use Rattle.yaml_base.proofs.NumberCuts.{no_word_of_11, no_timestamp}
+use Rattle.yaml_base.proofs.NumbersByCore.{passed, found, given, decimal_of, pointed_read, exponent_sign, exponent_read_signed, scientific_read, no_letter}
+use Rattle.yaml_base.proofs.NumbersByCore.{after_whole, cut_read, scientific_of, integer_by_core, decimal_by_core}
 
 -- The type repository of YAML 1.1
 
@@ -62,7 +68,8 @@ whole_no_octal negative c digits (leading e) = octal_11_none negative c digits e
 decimal_11_read : (negative : Bool) (c : ℕ) (digits : Text) → list_all is_decimal (c ∷ digits) ≡ true → Whole c digits
     → decimal_11 negative (c ∷ digits) ≡ Some (meant_integer (signed negative (digits_value 10 (c ∷ digits))))
 decimal_11_read negative c digits h whole =
-    ap (λ text. if is_word (c ∷ digits) (codes "0") || begins_grouped is_leading (c ∷ digits) then Some (meant_integer (signed negative (digits_value 10 text))) else None)
+    ap (λ text. if is_word (c ∷ digits) (codes "0") || begins_grouped is_leading (c ∷ digits) then Some
+    (meant_integer (signed negative (digits_value 10 text))) else None)
     (digits_ungrouped (c ∷ digits) h)
     ∙ given (is_word (c ∷ digits) (codes "0") || begins_grouped is_leading (c ∷ digits)) (meant_integer (signed negative (digits_value 10 (c ∷ digits))))
     (by whole)

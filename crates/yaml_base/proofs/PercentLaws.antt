@@ -10,7 +10,8 @@ use Rattle.std.specs.Str.{is_utf8}
 use lib.Utf8.{scalar, scalars, encode, encodes, scalar_cases}
 use Rattle.std.proofs.lemmas.List.Folds.{list_all-append, list_any-append}
 use Rattle.yaml_base.specs.Characters.{Text, hex_digit, is_blank, is_break, is_among, is_alpha}
-use Rattle.yaml_base.specs.Percent.{percent_sign, is_tag_character, byte_escaped, character_written, percent_escaped, is_suffix_character, suffix_escaped, prefix_escaped}
+use Rattle.yaml_base.specs.Percent.{percent_sign, is_tag_character, byte_escaped, character_written, percent_escaped, is_suffix_character, suffix_escaped}
+use Rattle.yaml_base.specs.Percent.{prefix_escaped}
 use Rattle.yaml_base.specs.reading.ReadPercent.{between_forms, digit_given, byte_given, form_bytes, percent_read}
 
 abbrev pub are_bytes : List ℕ → Bool

@@ -3,8 +3,10 @@ use Rattle.std.proofs.Common.{◌≡◌, refl, sym, ap, ◌∙◌}
 use Rattle.std.proofs.lemmas.List.{take_at, length-take-le}
 use Rattle.std.specs.Prelude.{suc, Bool, true, false, ◌&&◌, Option, None, Some, List, [], ◌∷◌, ◌++◌, length, take, option_and_then, option_map, unwrap_or}
 use Rattle.yaml_base.specs.Settings.{Effective}
-use Rattle.yaml_base.specs.Event.{Event, stream_start, stream_end, document_start, document_end, alias, scalar, sequence_start, sequence_end, mapping_start, mapping_end}
-use Rattle.yaml_base.specs.Grammar.{Stream, stream_events, at_item, at_key, no_nodes, no_pairs, Partial, before_stream, within_document, after_stream, push, pushed, partial_of, finished}
+use Rattle.yaml_base.specs.Event.{Event, stream_start, stream_end, document_start, document_end, alias, scalar, sequence_start, sequence_end, mapping_start}
+use Rattle.yaml_base.specs.Event.{mapping_end}
+use Rattle.yaml_base.specs.Grammar.{Stream, stream_events, at_item, at_key, no_nodes, no_pairs, Partial, before_stream, within_document, after_stream, push}
+use Rattle.yaml_base.specs.Grammar.{pushed, partial_of, finished}
 use Rattle.yaml_base.specs.Refusal.{begins_collection, ends_collection}
 use Rattle.yaml_base.specs.Layout.{Standing, first_standing, layout, OnePieceEach}
 use Rattle.yaml_base.specs.Steps.{Stage, at_stream, at_document, at_node, at_document_end, step, ends_next, Steps, then_steps, steps, joined_steps}

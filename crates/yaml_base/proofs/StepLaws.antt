@@ -4,8 +4,13 @@ use Rattle.std.specs.Prelude.{ℕ, Bool, true, false, List, [], ◌∷◌, ◌++
 use Rattle.yaml_base.specs.Settings.{Effective}
 use Rattle.yaml_base.specs.Event.{TagDirective, Event, stream_end, document_start, document_end, sequence_start, sequence_end, mapping_start, mapping_end}
 use Rattle.yaml_base.specs.Tags.{directives_in_force}
-use Rattle.yaml_base.specs.Grammar.{Node, alias_node, scalar_node, sequence_node, mapping_node, Nodes, no_nodes, nodes_and, Pairs, no_pairs, pairs_and, Document, Documents, no_documents, documents_and, Stream, node_events, nodes_events, pairs_events, document_events, documents_events, stream_events}
-use Rattle.yaml_base.specs.Layout.{Piece, Standing, PiecesLaid, one_piece, then_pieces, Role, as_item, as_key, as_value, is_in_mapping, entries_column, has_no_nodes, has_no_pairs, is_simple, is_simple_at, start_piece, is_written_in_flow, square, curly, end_piece, entry_place, root_place, node_laid, nodes_laid, pairs_laid, document_start_piece, document_end_piece, document_laid, has_no_documents, documents_laid, first_standing, stream_start_piece, stream_end_piece, layout}
+use Rattle.yaml_base.specs.Grammar.{Node, alias_node, scalar_node, sequence_node, mapping_node, Nodes, no_nodes, nodes_and, Pairs, no_pairs, pairs_and}
+use Rattle.yaml_base.specs.Grammar.{Document, Documents, no_documents, documents_and, Stream, node_events, nodes_events, pairs_events, document_events}
+use Rattle.yaml_base.specs.Grammar.{documents_events, stream_events}
+use Rattle.yaml_base.specs.Layout.{Piece, Standing, PiecesLaid, one_piece, then_pieces, Role, as_item, as_key, as_value, is_in_mapping, entries_column}
+use Rattle.yaml_base.specs.Layout.{has_no_nodes, has_no_pairs, is_simple, is_simple_at, start_piece, is_written_in_flow, square, curly, end_piece, entry_place}
+use Rattle.yaml_base.specs.Layout.{root_place, node_laid, nodes_laid, pairs_laid, document_start_piece, document_end_piece, document_laid, has_no_documents}
+use Rattle.yaml_base.specs.Layout.{documents_laid, first_standing, stream_start_piece, stream_end_piece, layout}
 use Rattle.yaml_base.specs.Steps.{Frame, at_stream, at_document, at_node, at_nothing, next_place, stage_after, step, ends_next, Steps, then_steps, steps}
 
 -- pieces of a tree, and then steps from where they leave off

@@ -7,9 +7,13 @@ use Rattle.std.specs.List.{slice_split, onto_first, take_while}
 use Rattle.std.specs.Prelude.{ℕ, suc, ℤ, pos, Bool, true, false, Option, None, Some, List, [], ◌∷◌, ◌++◌, ◌==◌, ◌||◌, not, length, is_some, ⊤, if◌then◌else◌}
 use Rattle.yaml_base.specs.Characters.{Text, is_between}
 use Rattle.yaml_base.specs.scripts.Script.{named, is_word}
-use Rattle.yaml_base.specs.values.Resolved.{Resolved, Decimal, meant_text, first_reading, words_of_core, words_besides, words_of_11, is_point, is_exponent_mark, is_decimal, is_sign, is_negative, first_is, past_sign, are_digits, counted_digits, pointed, scaled, scientific, exponent_read}
+use Rattle.yaml_base.specs.values.Resolved.{Resolved, Decimal, meant_text, first_reading, words_of_core, words_besides, words_of_11, is_point, is_exponent_mark}
+use Rattle.yaml_base.specs.values.Resolved.{is_decimal, is_sign, is_negative, first_is, past_sign, are_digits, counted_digits, pointed, scaled, scientific}
+use Rattle.yaml_base.specs.values.Resolved.{exponent_read}
 use Rattle.yaml_base.specs.values.SchemaCore.{core_integer, core_based, core_mantissa, core_decimal, resolved_by_core}
-use Rattle.yaml_base.specs.values.SchemaOf11.{is_leading, begins_grouped, are_grouped, based_11, octal_11, decimal_11, are_sixtieths, is_colon, fine_sixties_11, mantissa_11, exponent_11, has_more_points, more_points_11, is_hyphen, in_date, is_date, timestamp_11, numbers_11, resolved_by_11}
+use Rattle.yaml_base.specs.values.SchemaOf11.{is_leading, begins_grouped, are_grouped, based_11, octal_11, decimal_11, are_sixtieths, is_colon, fine_sixties_11}
+use Rattle.yaml_base.specs.values.SchemaOf11.{mantissa_11, exponent_11, has_more_points, more_points_11, is_hyphen, in_date, is_date, timestamp_11, numbers_11}
+use Rattle.yaml_base.specs.values.SchemaOf11.{resolved_by_11}
 use Rattle.yaml_base.specs.values.SurelyText.{begins_number, SurelyTextIsText}
 
 -- the first of some pieces

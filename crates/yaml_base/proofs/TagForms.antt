@@ -8,7 +8,8 @@ use lib.Utf8.{scalar, scalars}
 use Rattle.yaml_base.specs.Characters.{Text, is_alpha}
 use Rattle.yaml_base.specs.Event.{TagDirective}
 use Rattle.yaml_base.specs.reading.ReadTags.{prefix_among, directives_assumed, without_end_sign}
-use Rattle.yaml_base.specs.Tags.{tag_mark, last_from, without_last, handle_fault, directive_fault, gives_handle, next_directive_fault, directives_fault_after, directives_fault, directives_in_force, behind, Spelling, shorthand, verbatim, spelling_by, spelling, spelled}
+use Rattle.yaml_base.specs.Tags.{tag_mark, last_from, without_last, handle_fault, directive_fault, gives_handle, next_directive_fault, directives_fault_after}
+use Rattle.yaml_base.specs.Tags.{directives_fault, directives_in_force, behind, Spelling, shorthand, verbatim, spelling_by, spelling, spelled}
 use Rattle.yaml_base.proofs.NoFaults.{neither, not_given}
 use Rattle.yaml_base.specs.declared.errors.yaml_error_t.TheVariants.{TagHandleStart, TagHandleEnd, TagHandleAlphabet, DuplicateDirective}
 use Rattle.yaml_base.specs.declared.errors.yaml_error_t.{yaml_error_t}
@@ -36,7 +37,8 @@ pub front_and_last : (c d : ℕ) (rest : Text) → d ∷ rest ≡ without_last (
 front_and_last c d [] = refl
 front_and_last c d (e ∷ rest) = ap (λ x. d ∷ x) (front_and_last d e rest)
 
-handle_tests : (a b t : Bool) → cond {A = Option yaml_error_t} a (Some TagHandleStart) (cond b (Some TagHandleEnd) (cond t None (Some TagHandleAlphabet))) ≡ None → (a ≡ false) × (b ≡ false) × (t ≡ true)
+handle_tests : (a b t : Bool) → cond {A = Option yaml_error_t} a (Some TagHandleStart)
+    (cond b (Some TagHandleEnd) (cond t None (Some TagHandleAlphabet))) ≡ None → (a ≡ false) × (b ≡ false) × (t ≡ true)
 handle_tests true b t e = cc
 handle_tests false true t e = cc
 handle_tests false false true e = (refl, refl, refl)
@@ -149,7 +151,8 @@ all_found : (own before rest : List TagDirective) → own ≡ before ++ rest →
 all_found own before [] e h = tt
 all_found own before (directive ∷ rest) e h =
     let both = neither (next_directive_fault before directive) (directives_fault_after (before ++ directive ∷ []) rest) h in
-    let parts = neither (directive_fault directive) (cond {A = Option yaml_error_t} (gives_handle directive.handle before) (Some DuplicateDirective) None) both.0 in
+    let parts = neither (directive_fault directive) (cond {A = Option yaml_error_t} (gives_handle directive.handle before) (Some DuplicateDirective) None)
+    both.0 in
     let whole : own ++ directives_assumed ≡ before ++ (directive ∷ (rest ++ directives_assumed)) =
     ap (λ x. x ++ directives_assumed) e ∙ append_assoc before (directive ∷ rest) directives_assumed
     in (

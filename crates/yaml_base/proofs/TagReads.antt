@@ -11,7 +11,8 @@ use Rattle.yaml_base.specs.reading.ReadPercent.{percent_read}
 use Rattle.yaml_base.specs.reading.ReadTags.{name_said, prefix_among, directives_assumed, cut_after_mark, name_joined}
 use Rattle.yaml_base.specs.reading.CanonicalReader.{shorthand_read, verbatim_read, tag_read}
 use Rattle.yaml_base.specs.Tags.{tag_mark, handle_fault, directives_fault, directives_in_force, Spelling, verbatim, spelling, spelled}
-use Rattle.yaml_base.proofs.PercentLaws.{decoded_escaped, decoded_suffix, stands_written, suffix_stands, suffix_begins, written_is_no_mark, written_is_no_less, alpha_is_no_less}
+use Rattle.yaml_base.proofs.PercentLaws.{decoded_escaped, decoded_suffix, stands_written, suffix_stands, suffix_begins, written_is_no_mark, written_is_no_less}
+use Rattle.yaml_base.proofs.PercentLaws.{alpha_is_no_less}
 use Rattle.yaml_base.proofs.TagForms.{end_sign_dropped, IsHandle, handle_form, scalars_behind, spelling_is, in_force_found}
 
 -- Verbatim tags

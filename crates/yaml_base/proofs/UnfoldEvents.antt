@@ -1,13 +1,18 @@
 -- The tree of events of a walk's tree: its events are those of the walk's steps, and its shape fits.
-use Rattle.std.proofs.Common.{◌≡◌, ℕ, zero, suc, ◌+◌, Bool, true, false, Option, None, Some, option_map, List, [], ◌∷◌, ◌++◌, length, refl, sym, ap, ◌∙◌, subst, arith, append_assoc, append-nil, length-append}
+use Rattle.std.proofs.Common.{◌≡◌, ℕ, zero, suc, ◌+◌, Bool, true, false, Option, None, Some, option_map, List, [], ◌∷◌, ◌++◌, length, refl, sym, ap, ◌∙◌, subst}
+use Rattle.std.proofs.Common.{arith, append_assoc, append-nil, length-append}
 use Rattle.std.specs.Prelude.{bytes_eq}
 use Rattle.std.specs.List.{flat_map}
 use Rattle.std.proofs.lemmas.Grind.{flat_map-append}
 use Rattle.yaml_base.specs.Characters.{Text}
 use Rattle.yaml_base.specs.Event.{Event, alias, sequence_end, mapping_end}
-use Rattle.yaml_base.specs.Grammar.{Node, alias_node, scalar_node, sequence_node, mapping_node, Nodes, no_nodes, nodes_and, Pairs, no_pairs, pairs_and, node_events, nodes_events, pairs_events}
-use Rattle.yaml_base.specs.graphs.Meetings.{Graph, GraphNode, NumberPair, Held, scalar_held, sequence_held, mapping_held, Step, leaves, node_numbered, numbers_held, numbers_in, children, string_tag, sequence_tag, mapping_tag, beginning_of, beginning_events, ending_of, ending_events, anchor_of, step_events}
-use Rattle.yaml_base.specs.graphs.Unfolding.{Placed, alias_placed, node_placed, PlacedAll, none_placed, placed_and, numbers_at, no_shapes, node_shape_of, nodes_shapes, pairs_shapes, label_of, HasShape, HaveShapes}
+use Rattle.yaml_base.specs.Grammar.{Node, alias_node, scalar_node, sequence_node, mapping_node, Nodes, no_nodes, nodes_and, Pairs, no_pairs, pairs_and}
+use Rattle.yaml_base.specs.Grammar.{node_events, nodes_events, pairs_events}
+use Rattle.yaml_base.specs.graphs.Meetings.{Graph, GraphNode, NumberPair, Held, scalar_held, sequence_held, mapping_held, Step, leaves, node_numbered}
+use Rattle.yaml_base.specs.graphs.Meetings.{numbers_held, numbers_in, children, string_tag, sequence_tag, mapping_tag, beginning_of, beginning_events}
+use Rattle.yaml_base.specs.graphs.Meetings.{ending_of, ending_events, anchor_of, step_events}
+use Rattle.yaml_base.specs.graphs.Unfolding.{Placed, alias_placed, node_placed, PlacedAll, none_placed, placed_and, numbers_at, no_shapes, node_shape_of}
+use Rattle.yaml_base.specs.graphs.Unfolding.{nodes_shapes, pairs_shapes, label_of, HasShape, HaveShapes}
 use Rattle.yaml_base.proofs.UnfoldTrees.{placed_steps, below_steps, Fits, AllFit}
 
 -- ---- the tree of events
@@ -150,8 +155,13 @@ holding_shape : (anchor : Option Text) (tag : Text) (held : Held) (node : GraphN
     → numbers_at below ≡ children graph number → numbers_at below ≡ numbers_held held → HaveShapes true graph below (nodes_shapes (items_at graph below))
     → (are_pairs below ≡ true → HaveShapes true graph below (pairs_shapes (pairs_at graph below)))
     → HasShape true graph (node_placed anchor number below) (node_shape_of (node_holding anchor tag held (items_at graph below) (pairs_at graph below)))
-holding_shape anchor tag (scalar_held value style) node graph number below is all held items pairs =
-    (refl, ap (option_map (label_of true)) is, all, subst (λ (occurrences : PlacedAll). HaveShapes true graph occurrences no_shapes) (sym (none_held below held)) tt)
+holding_shape anchor tag (scalar_held value style) node graph number below is all held items pairs = (
+  refl,
+  ap (option_map (label_of true)) is,
+  all,
+  subst (λ (occurrences : PlacedAll). HaveShapes true graph occurrences no_shapes)
+      (sym (none_held below held)) tt,
+)
 holding_shape anchor tag (sequence_held numbers style) node graph number below is all held items pairs = (refl, ap (option_map (label_of true)) is, all, items)
 holding_shape anchor tag (mapping_held numbers style) node graph number below is all held items pairs =
     (refl, ap (option_map (label_of true)) is, all, pairs (held_pairs below numbers held))

@@ -1,6 +1,7 @@
 -- What a walk keeps, one step at a time: a node is entered once, it is met again only after that, and whatever is entered
 -- is reached.
-use Rattle.std.proofs.Common.{◌≡◌, inl, inr, ℕ, zero, suc, ◌+◌, ◌==◌, ◌||◌, Bool, true, false, cond, List, [], ◌∷◌, ◌++◌, refl, sym, ap, ◌∙◌, subst, arith, append_assoc, append-nil, ne_eqb}
+use Rattle.std.proofs.Common.{◌≡◌, inl, inr, ℕ, zero, suc, ◌+◌, ◌==◌, ◌||◌, Bool, true, false, cond, List, [], ◌∷◌, ◌++◌, refl, sym, ap, ◌∙◌, subst, arith}
+use Rattle.std.proofs.Common.{append_assoc, append-nil, ne_eqb}
 use Rattle.std.specs.Prelude.{⊤, Contains, count_by}
 use Rattle.std.specs.List.{list_any, fold}
 use Rattle.std.proofs.Math.Bool.{or-false, or-true}

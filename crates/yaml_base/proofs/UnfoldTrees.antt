@@ -1,5 +1,6 @@
 -- The tree of a walk: an alias where a node is met again, a node with those below it where it is entered.
-use Rattle.std.proofs.Common.{◌≡◌, inl, inr, ℕ, zero, suc, ◌+◌, ◌==◌, ◌<◌, ◌≤◌, ◌||◌, ◌&&◌, nat_le, Bool, true, false, cond, Option, None, Some, unwrap_or, List, [], ◌∷◌, ◌++◌, length, refl, sym, ap, ◌∙◌, subst, arith, append_assoc, append-nil, eq-eqb}
+use Rattle.std.proofs.Common.{◌≡◌, inl, inr, ℕ, zero, suc, ◌+◌, ◌==◌, ◌<◌, ◌≤◌, ◌||◌, ◌&&◌, nat_le, Bool, true, false, cond, Option, None, Some, unwrap_or}
+use Rattle.std.proofs.Common.{List, [], ◌∷◌, ◌++◌, length, refl, sym, ap, ◌∙◌, subst, arith, append_assoc, append-nil, eq-eqb}
 use Rattle.std.specs.Prelude.{⊤, Contains}
 use Rattle.std.specs.List.{list_any, list_all, filter_map, fold, slice_get}
 use Rattle.std.proofs.Math.Bool.{or-true}
@@ -7,8 +8,10 @@ use Rattle.std.proofs.lemmas.Bool.{cases_eq, or_cases, eqb-true, leb-true}
 use Rattle.std.proofs.lemmas.List.Elements.{Contains-append_cases, filter_map-append}
 use Rattle.std.proofs.lemmas.List.Folds.{list_any-append}
 use Rattle.yaml_base.specs.Characters.{Text}
-use Rattle.yaml_base.specs.graphs.Meetings.{Graph, GraphNode, Step, enters, leaves, meets_again, node_numbered, numbers_held, numbers_in, children, is_entry_of, steps_from, is_whole}
-use Rattle.yaml_base.specs.graphs.Unfolding.{Placed, alias_placed, node_placed, PlacedAll, none_placed, placed_and, number_at, numbers_at, Occurrence, alias_occurrence, node_occurrence, occurrences, occurrences_below}
+use Rattle.yaml_base.specs.graphs.Meetings.{Graph, GraphNode, Step, enters, leaves, meets_again, node_numbered, numbers_held, numbers_in, children, is_entry_of}
+use Rattle.yaml_base.specs.graphs.Meetings.{steps_from, is_whole}
+use Rattle.yaml_base.specs.graphs.Unfolding.{Placed, alias_placed, node_placed, PlacedAll, none_placed, placed_and, number_at, numbers_at, Occurrence}
+use Rattle.yaml_base.specs.graphs.Unfolding.{alias_occurrence, node_occurrence, occurrences, occurrences_below}
 use Rattle.yaml_base.proofs.UnfoldSteps.{from_node, none_added, is_meeting_of}
 
 -- the steps of the walk over a tree

@@ -1,7 +1,10 @@
 -- The errors: the layer that each comes from, and their words (libyaml's own texts).
 use Rattle.std.specs.Prelude.{ℕ, List, codes, Option, None, Some, Result, Ok, Err}
 use Rattle.yaml_base.specs.declared.errors.yaml_error_t.{yaml_error_t}
-use Rattle.yaml_base.specs.declared.errors.yaml_error_t.TheVariants.{ExpectedStreamStart, ExpectedDocumentStart, ExpectedDocumentEnd, ExpectedNode, ExpectedNothing, IncompatibleVersion, TagHandleEmpty, TagHandleStart, TagHandleEnd, TagHandleAlphabet, TagPrefixEmpty, DuplicateDirective, AnchorEmpty, AnchorAlphabet, AliasEmpty, AliasAlphabet, TagEmpty, NoTagNorImplicit, TooDeep, WriteError, Memory}
+use Rattle.yaml_base.specs.declared.errors.yaml_error_t.TheVariants.{ExpectedStreamStart, ExpectedDocumentStart, ExpectedDocumentEnd, ExpectedNode}
+use Rattle.yaml_base.specs.declared.errors.yaml_error_t.TheVariants.{ExpectedNothing, IncompatibleVersion, TagHandleEmpty, TagHandleStart, TagHandleEnd}
+use Rattle.yaml_base.specs.declared.errors.yaml_error_t.TheVariants.{TagHandleAlphabet, TagPrefixEmpty, DuplicateDirective, AnchorEmpty, AnchorAlphabet}
+use Rattle.yaml_base.specs.declared.errors.yaml_error_t.TheVariants.{AliasEmpty, AliasAlphabet, TagEmpty, NoTagNorImplicit, TooDeep, WriteError, Memory}
 use Rattle.yaml_base.specs.declared.errors.yaml_error_type_t.{yaml_error_type_t}
 use Rattle.yaml_base.specs.declared.errors.yaml_error_type_t.TheVariants.{YAML_MEMORY_ERROR, YAML_WRITER_ERROR, YAML_EMITTER_ERROR}
 

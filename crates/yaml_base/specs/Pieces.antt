@@ -4,7 +4,8 @@ use Rattle.std.specs.Prelude.{◌≡◌, ℕ, ◌≤◌, ◌&&◌, length, Bool,
 use Rattle.yaml_base.specs.Characters.{Text}
 use Rattle.yaml_base.specs.Settings.{Effective}
 use Rattle.yaml_base.specs.Event.{any_style, Event, stream_start, stream_end, document_end, scalar, sequence_end, mapping_end}
-use Rattle.yaml_base.specs.Grammar.{no_nodes, nodes_and, no_pairs, pairs_and, Level, at_item, at_key, at_value, Partial, before_stream, between_documents, within_document, after_root, after_stream, partial_of, tree_of}
+use Rattle.yaml_base.specs.Grammar.{no_nodes, nodes_and, no_pairs, pairs_and, Level, at_item, at_key, at_value, Partial, before_stream, between_documents}
+use Rattle.yaml_base.specs.Grammar.{within_document, after_root, after_stream, partial_of, tree_of}
 use Rattle.yaml_base.specs.Refusal.{begins_collection, ends_collection, IsAccepted}
 use Rattle.yaml_base.specs.Layout.{Piece, text_of, layout}
 

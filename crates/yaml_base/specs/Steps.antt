@@ -4,12 +4,17 @@ use Rattle.std.specs.Prelude.{ℕ, Bool, true, false, Option, List, [], ◌∷�
 use Rattle.std.specs.Option.{option_or}
 use Rattle.yaml_base.specs.Settings.{Effective}
 use Rattle.yaml_base.specs.Cursor.{nothing_laid}
-use Rattle.yaml_base.specs.Event.{TagDirective, Collection, Event, stream_start, stream_end, document_start, document_end, alias, scalar, sequence_start, sequence_end, mapping_start, mapping_end}
+use Rattle.yaml_base.specs.Event.{TagDirective, Collection, Event, stream_start, stream_end, document_start, document_end, alias, scalar, sequence_start}
+use Rattle.yaml_base.specs.Event.{sequence_end, mapping_start, mapping_end}
 use Rattle.yaml_base.specs.Tags.{directives_in_force}
 use Rattle.yaml_base.specs.Refusal.{fault_if, name_or_tag_fault, content_fault, most_open, begins_collection, ends_collection}
 use Rattle.yaml_base.specs.Ready.{written}
-use Rattle.yaml_base.specs.Layout.{Piece, Standing, PieceLaid, Role, as_root, as_item, as_key, as_value, Place, is_key, is_in_mapping, entries_column, is_simple_alias, is_simple_scalar, is_simple_collection, lead_alone, scalar_piece, alias_piece, start_piece, is_written_in_flow, Brackets, square, curly, end_piece, entry_place, root_place, document_start_piece, document_end_piece, first_standing, stream_start_piece, stream_end_piece}
-use Rattle.yaml_base.specs.declared.errors.yaml_error_t.TheVariants.{ExpectedStreamStart, ExpectedDocumentStart, ExpectedDocumentEnd, ExpectedNode, ExpectedNothing, TooDeep}
+use Rattle.yaml_base.specs.Layout.{Piece, Standing, PieceLaid, Role, as_root, as_item, as_key, as_value, Place, is_key, is_in_mapping, entries_column}
+use Rattle.yaml_base.specs.Layout.{is_simple_alias, is_simple_scalar, is_simple_collection, lead_alone, scalar_piece, alias_piece, start_piece}
+use Rattle.yaml_base.specs.Layout.{is_written_in_flow, Brackets, square, curly, end_piece, entry_place, root_place, document_start_piece, document_end_piece}
+use Rattle.yaml_base.specs.Layout.{first_standing, stream_start_piece, stream_end_piece}
+use Rattle.yaml_base.specs.declared.errors.yaml_error_t.TheVariants.{ExpectedStreamStart, ExpectedDocumentStart, ExpectedDocumentEnd, ExpectedNode}
+use Rattle.yaml_base.specs.declared.errors.yaml_error_t.TheVariants.{ExpectedNothing, TooDeep}
 use Rattle.yaml_base.specs.declared.errors.yaml_error_t.{yaml_error_t}
 
 -- an open collection: where its next entry stands, and whether it is itself a simple key

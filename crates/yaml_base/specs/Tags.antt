@@ -1,13 +1,16 @@
 -- Names, versions, tag directives and tags: what is refused in them, and how a tag is spelled by the directives in force
 -- (YAML 1.1, sections 7.1 and 8.1, and libyaml's own rules).
-use Rattle.std.specs.Prelude.{ℕ, ℤ, pos, negsuc, Bool, false, Option, None, Some, List, [], ◌∷◌, ◌++◌, ◌==◌, ◌||◌, ◌&&◌, not, codes, bytes_eq, filter, if◌then◌else◌}
+use Rattle.std.specs.Prelude.{ℕ, ℤ, pos, negsuc, Bool, false, Option, None, Some, List, [], ◌∷◌, ◌++◌, ◌==◌, ◌||◌, ◌&&◌, not, codes, bytes_eq, filter}
+use Rattle.std.specs.Prelude.{if◌then◌else◌}
 use Rattle.std.specs.List.{list_any, list_all}
 use Rattle.std.specs.Option.{option_or}
 use Rattle.yaml_base.specs.Characters.{Text, is_alpha}
 use Rattle.yaml_base.specs.Event.{Version, TagDirective}
 use Rattle.yaml_base.specs.Percent.{percent_escaped, suffix_escaped}
 use Rattle.yaml_base.specs.declared.errors.yaml_error_t.{yaml_error_t}
-use Rattle.yaml_base.specs.declared.errors.yaml_error_t.TheVariants.{IncompatibleVersion, TagHandleEmpty, TagHandleStart, TagHandleEnd, TagHandleAlphabet, TagPrefixEmpty, DuplicateDirective, AnchorEmpty, AnchorAlphabet, AliasEmpty, AliasAlphabet, TagEmpty}
+use Rattle.yaml_base.specs.declared.errors.yaml_error_t.TheVariants.{IncompatibleVersion, TagHandleEmpty, TagHandleStart, TagHandleEnd, TagHandleAlphabet}
+use Rattle.yaml_base.specs.declared.errors.yaml_error_t.TheVariants.{TagPrefixEmpty, DuplicateDirective, AnchorEmpty, AnchorAlphabet, AliasEmpty, AliasAlphabet}
+use Rattle.yaml_base.specs.declared.errors.yaml_error_t.TheVariants.{TagEmpty}
 
 -- the refusal of a name: it has at least one character, and all of them are of the anchor alphabet (section 8.1.2;
 -- the alphabet is libyaml's)

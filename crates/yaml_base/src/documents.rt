@@ -3,7 +3,8 @@ ghost use Rattle.std.specs.Prelude.{true, ◌≡◌, ◌≤◌, None, Some, pos,
 ghost use Rattle.yaml_base.specs.graphs.Meetings.{node_numbered};
 ghost use Rattle.yaml_base.specs.Seen.{seen_version, seen_directive};
 ghost use Rattle.yaml_base.specs.graphs.Meetings.{is_whole};
-ghost use Rattle.yaml_base.specs.graphs.SeenNodes.{seen_number, seen_node, seen_document, names_node as is_named, numbers_of, numbers_of_pairs, all_numbers, first_outside};
+ghost use Rattle.yaml_base.specs.graphs.SeenNodes.{seen_number, seen_node, seen_document, names_node as is_named, numbers_of, numbers_of_pairs, all_numbers};
+ghost use Rattle.yaml_base.specs.graphs.SeenNodes.{first_outside};
 ghost use Rattle.yaml_base.specs.Settings.{largest_i32};
 
 use crate::directives::{yaml_tag_directive_t, yaml_version_directive_t};

@@ -1,4 +1,4 @@
-pub mod Written
+pub mod KnownStreams
 pub mod OnlyMemory
 pub mod SameBytes
 pub mod Dumped

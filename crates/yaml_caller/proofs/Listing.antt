@@ -9,7 +9,8 @@ use Rattle.yaml_base.specs.Settings.{Settings}
 use Rattle.yaml_base.specs.values.TypedValues.{null_tag}
 use Rattle.yaml_emitter.specs.State.{State}
 use Rattle.yaml_writer.specs.Given.{default_settings}
-use Rattle.yaml_writer.specs.Writing.{WriterState, AddsAll, Gave, EndsInnermost, Finishes, StandsTaken, closing, end_event, entered, null_event, opening, sequence_event, tag_or, text_event, text_style}
+use Rattle.yaml_writer.specs.Writing.{WriterState, AddsAll, Gave, EndsInnermost, Finishes, StandsTaken, closing, end_event, entered, null_event, opening}
+use Rattle.yaml_writer.specs.Writing.{sequence_event, tag_or, text_event, text_style}
 use Rattle.yaml_writer.specs.declared.kinds.CollectionKind.{CollectionKind}
 use Rattle.yaml_writer.specs.declared.kinds.CollectionKind.TheVariants.{Mapping, Sequence}
 
@@ -103,7 +104,8 @@ list_bytes given first begun said noted ended text bytes is_default is_no stands
     subst (λ (event : Event). StandsTaken default_settings (opening ++ event ∷ []) [] begun.emitter) (sequence_is first bare.0 bare.1)
     (begins.adds default_settings opening [] stands_first) in
     let stands_said =
-    subst (λ (event : Event). StandsTaken default_settings (after_begin ++ event ∷ []) [] said.emitter) (text_is begun text is_no begins.no_anchor begins.no_tag)
+    subst (λ (event : Event). StandsTaken default_settings (after_begin ++ event ∷ []) [] said.emitter)
+    (text_is begun text is_no begins.no_anchor begins.no_tag)
     (says.adds default_settings after_begin [] stands_begun) in
     let stands_noted =
     subst (λ (event : Event). StandsTaken default_settings (after_text ++ event ∷ []) [] noted.emitter)
@@ -115,7 +117,8 @@ list_bytes given first begun said noted ended text bytes is_default is_no stands
     stream.output ∙ stream.written.output ∙ row
 
 -- where all calls succeeded
-pub list_answered : {A E : Type 0} (answer : Result (Vec ℕ A) E) (emitter : State) (wanted : List ℕ) → ((bytes : List ℕ) → Finishes emitter bytes → bytes ≡ wanted)
+pub list_answered : {A E : Type 0} (answer : Result (Vec ℕ A) E) (emitter : State) (wanted : List ℕ)
+    → ((bytes : List ℕ) → Finishes emitter bytes → bytes ≡ wanted)
     → IfOk answer (λ bytes. Finishes emitter bytes.items) → IfOk answer (λ bytes. bytes.items ≡ wanted)
 list_answered (Ok bytes) emitter wanted finishes given = finishes bytes.items given
 list_answered (Err error) emitter wanted finishes given = tt

@@ -2,7 +2,8 @@
 use Rattle.std.proofs.Common.{◌≡◌, refl, sym, ap, ◌∙◌, arith, subst, append_assoc, append-nil}
 use Rattle.std.proofs.lemmas.List.{take-append-drop}
 use Rattle.std.proofs.lemmas.List.Sums.{sum_by-append}
-use Rattle.std.specs.Prelude.{ℕ, ◌+◌, ◌-◌, ◌<◌, ◌≤◌, Bool, true, false, cond, ◌&&◌, Option, None, Some, List, [], ◌∷◌, ◌++◌, length, count_by, is_none, codes, Result, Ok, Err, IfErr, IsErr, IsErrAnd, take, drop}
+use Rattle.std.specs.Prelude.{ℕ, ◌+◌, ◌-◌, ◌<◌, ◌≤◌, Bool, true, false, cond, ◌&&◌, Option, None, Some, List, [], ◌∷◌, ◌++◌, length, count_by, is_none, codes}
+use Rattle.std.specs.Prelude.{Result, Ok, Err, IfErr, IsErr, IsErrAnd, take, drop}
 use Rattle.std.specs.Char.{encode_utf8}
 use Rattle.yaml_base.specs.Characters.{Text}
 use Rattle.yaml_base.specs.Event.{Event, TagDirective, any_style}
@@ -15,7 +16,7 @@ use Rattle.yaml_pen.specs.Page.{told}
 use Rattle.yaml_emitter.specs.State.{State}
 use Rattle.yaml_emitter.specs.Promises.{Promised, RefusedAt, FillsLimit}
 use Rattle.yaml_caller.specs.Letter.{letter_settings, letter_events}
-use Rattle.yaml_caller.proofs.Written.{events_of}
+use Rattle.yaml_caller.proofs.KnownStreams.{events_of}
 
 -- each of some events, after those before it, is refused nowhere
 abbrev unrefused : (before events : List Event) → Bool

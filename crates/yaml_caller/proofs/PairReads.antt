@@ -10,7 +10,7 @@ use Rattle.yaml_pen.specs.Page.{told}
 use Rattle.yaml_emitter.specs.State.{State}
 use Rattle.yaml_emitter.specs.Promises.{Promised}
 use Rattle.yaml_caller.specs.Pair.{pair_with, pair_events, portable_settings, text_scalar}
-use Rattle.yaml_caller.proofs.Written.{told_none, whole}
+use Rattle.yaml_caller.proofs.KnownStreams.{told_none, whole}
 
 -- the events by what they are equal to
 pub pair_promised : (directives : List TagDirective) (first second : Event) (key value : Text) (state : State) → directives ≡ []

@@ -1,5 +1,7 @@
 -- The nodes that a walk meets again, one more step at a time.
-use Rattle.std.proofs.Common.{◌≡◌, ◌≢◌, ℕ, zero, suc, ◌+◌, ◌-◌, ◌==◌, ◌<◌, ◌≤◌, ◌&&◌, ◌||◌, nat_lt, Bool, true, false, cond, not, Option, None, Some, option_map, unwrap_or, List, [], ◌∷◌, ◌++◌, length, get_or, set, refl, sym, ap, ◌∙◌, arith, length-append, add-one, map, take, drop, nat_le, subst}
+use Rattle.std.proofs.Common.{◌≡◌, ◌≢◌, ℕ, zero, suc, ◌+◌, ◌-◌, ◌==◌, ◌<◌, ◌≤◌, ◌&&◌, ◌||◌, nat_lt, Bool, true, false, cond, not, Option, None, Some}
+use Rattle.std.proofs.Common.{option_map, unwrap_or, List, [], ◌∷◌, ◌++◌, length, get_or, set, refl, sym, ap, ◌∙◌, arith, length-append, add-one, map, take}
+use Rattle.std.proofs.Common.{drop, nat_le, subst}
 use Rattle.std.specs.List.{filter, filter_map, position, position_or_len, cons_option}
 use Rattle.std.proofs.lemmas.Bool.Decides.{nat_tests}
 use Rattle.std.proofs.Math.Seq.{take-append_seam}

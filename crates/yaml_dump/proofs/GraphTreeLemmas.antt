@@ -7,16 +7,26 @@ use Rattle.std.proofs.lemmas.List.Folds.{list_all-append}
 use Rattle.std.proofs.lemmas.Slice.Eq.{bytes_eq-Decides}
 use Rattle.std.specs.List.{list_all}
 use Rattle.std.specs.Ordering.{int_eq}
-use Rattle.std.specs.Prelude.{ℤ, ⊤, ◌==◌, length, Bool, true, false, Option, None, Some, option_map, unwrap_or, List, [], ◌∷◌, ◌++◌, ◌||◌, ◌&&◌, not, map, flat_map, bytes_eq, if◌then◌else◌}
+use Rattle.std.specs.Prelude.{ℤ, ⊤, ◌==◌, length, Bool, true, false, Option, None, Some, option_map, unwrap_or, List, [], ◌∷◌, ◌++◌, ◌||◌, ◌&&◌, not, map}
+use Rattle.std.specs.Prelude.{flat_map, bytes_eq, if◌then◌else◌}
 use Rattle.yaml_base.specs.Characters.{Text}
-use Rattle.yaml_base.specs.Event.{Version, TagDirective, Scalar, Event, stream_end, document_start, document_end, scalar, sequence_start, sequence_end, mapping_start, mapping_end}
-use Rattle.yaml_base.specs.Grammar.{Node, alias_node, scalar_node, sequence_node, mapping_node, Nodes, no_nodes, nodes_and, Pairs, no_pairs, pairs_and, Document, Documents, no_documents, documents_and, Stream, node_events, nodes_events, pairs_events, document_events, documents_events, tree_of}
+use Rattle.yaml_base.specs.Event.{Version, TagDirective, Scalar, Event, stream_end, document_start, document_end, scalar, sequence_start, sequence_end}
+use Rattle.yaml_base.specs.Event.{mapping_start, mapping_end}
+use Rattle.yaml_base.specs.Grammar.{Node, alias_node, scalar_node, sequence_node, mapping_node, Nodes, no_nodes, nodes_and, Pairs, no_pairs, pairs_and}
+use Rattle.yaml_base.specs.Grammar.{Document, Documents, no_documents, documents_and, Stream, node_events, nodes_events, pairs_events, document_events}
+use Rattle.yaml_base.specs.Grammar.{documents_events, tree_of}
 use Rattle.yaml_base.specs.Refusal.{scalar_tag, collection_tag}
 use Rattle.yaml_base.specs.reading.Content.{content_tag, node_content, nodes_content, pairs_content, document_content, documents_content}
-use Rattle.yaml_base.specs.graphs.Meetings.{Graph, GraphNode, Held, scalar_held, sequence_held, mapping_held, Step, enters, leaves, meets_again, steps, string_tag, sequence_tag, mapping_tag, beginning_of, beginning_events, ending_of, ending_events, step_events, document_event_list}
-use Rattle.yaml_base.specs.graphs.Unfolding.{NodeKind, scalar_kind, sequence_kind, mapping_kind, Shape, alias_shape, node_shape, Shapes, no_shapes, shapes_and, Unfolds, content_shape, contents_shapes, content_pairs_shapes, tag_told}
+use Rattle.yaml_base.specs.graphs.Meetings.{Graph, GraphNode, Held, scalar_held, sequence_held, mapping_held, Step, enters, leaves, meets_again, steps}
+use Rattle.yaml_base.specs.graphs.Meetings.{string_tag, sequence_tag, mapping_tag, beginning_of, beginning_events, ending_of, ending_events, step_events}
+use Rattle.yaml_base.specs.graphs.Meetings.{document_event_list}
+use Rattle.yaml_base.specs.graphs.Unfolding.{NodeKind, scalar_kind, sequence_kind, mapping_kind, Shape, alias_shape, node_shape, Shapes, no_shapes, shapes_and}
+use Rattle.yaml_base.specs.graphs.Unfolding.{Unfolds, content_shape, contents_shapes, content_pairs_shapes, tag_told}
 use Rattle.yaml_base.specs.graphs.Dumped.{AreDumped, ContentsUnfold}
-use Rattle.yaml_base.specs.streams.StreamContent.{Tagging, with_tag, without_tag, Tree, alias_tree, scalar_tree, sequence_tree, mapping_tree, Trees, no_trees, trees_and, TreePairs, no_tree_pairs, tree_pairs_and, DocumentTree, is_same_text, tagging_agrees, tree_agrees, trees_agree, tree_pairs_agree, is_same_version, are_same_directives, document_agrees, documents_in_order, documents_agree}
+use Rattle.yaml_base.specs.streams.StreamContent.{Tagging, with_tag, without_tag, Tree, alias_tree, scalar_tree, sequence_tree, mapping_tree, Trees, no_trees}
+use Rattle.yaml_base.specs.streams.StreamContent.{trees_and, TreePairs, no_tree_pairs, tree_pairs_and, DocumentTree, is_same_text, tagging_agrees, tree_agrees}
+use Rattle.yaml_base.specs.streams.StreamContent.{trees_agree, tree_pairs_agree, is_same_version, are_same_directives, document_agrees, documents_in_order}
+use Rattle.yaml_base.specs.streams.StreamContent.{documents_agree}
 use Rattle.yaml_base.proofs.Trees.{tree_of-stream_events}
 use Rattle.yaml_base.proofs.ContentsUnfold.{dumped_stream}
 use Rattle.yaml_dump.specs.GraphTrees.{scalar_tag_read, tree_shape, trees_shapes, tree_pairs_shapes, TreesUnfold, DumpedTreesUnfold}

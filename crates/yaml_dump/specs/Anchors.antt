@@ -1,5 +1,6 @@
 -- The anchors of shared nodes, as the code keeps them: for each node its place among the shared ones.
-use Rattle.std.specs.Prelude.{ℕ, zero, suc, ◌+◌, ◌-◌, ◌≤◌, ◌≡◌, ◌==◌, ◌&&◌, Bool, nat_le, Option, None, Some, List, length, position, option_map, unwrap_or, slice_index}
+use Rattle.std.specs.Prelude.{ℕ, zero, suc, ◌+◌, ◌-◌, ◌≤◌, ◌≡◌, ◌==◌, ◌&&◌, Bool, nat_le, Option, None, Some, List, length, position, option_map, unwrap_or}
+use Rattle.std.specs.Prelude.{slice_index}
 use Rattle.std.specs.List.{list_all}
 use Rattle.yaml_base.specs.Characters.{Text}
 use Rattle.yaml_base.specs.graphs.Meetings.{Step, shared_nodes, numbered_name}

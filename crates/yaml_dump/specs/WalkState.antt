@@ -1,5 +1,6 @@
 -- Where a walk over a document's nodes stands.
-use Rattle.std.specs.Prelude.{ℕ, ◌+◌, ◌-◌, Bool, true, false, Option, None, Some, List, [], ◌∷◌, ◌++◌, flat_map, map, replicate, reverse, slice_get, slice_index_or, slice_set}
+use Rattle.std.specs.Prelude.{ℕ, ◌+◌, ◌-◌, Bool, true, false, Option, None, Some, List, [], ◌∷◌, ◌++◌, flat_map, map, replicate, reverse, slice_get}
+use Rattle.std.specs.Prelude.{slice_index_or, slice_set}
 use Rattle.yaml_base.specs.graphs.Meetings as meetings
 use Rattle.yaml_base.specs.graphs.Meetings.{Graph, children, enters, leaves, meets_again}
 use Rattle.yaml_dump.specs.WalkSteps.{seen_step}

@@ -1,5 +1,6 @@
 //! The events of a walk over a document's nodes.
-ghost use Rattle.std.specs.Prelude.{◌≡◌, ◌<◌, ◌≤◌, ◌-◌, ◌++◌, ◌∷◌, ℕ, true, Some, List, Option, unwrap_or, IfOk, IsTrue, nat_lt, map, option_map, length, slice_index, bytes_eq};
+ghost use Rattle.std.specs.Prelude.{◌≡◌, ◌<◌, ◌≤◌, ◌-◌, ◌++◌, ◌∷◌, ℕ, true, Some, List, Option, unwrap_or, IfOk, IsTrue, nat_lt, map, option_map, length};
+ghost use Rattle.std.specs.Prelude.{slice_index, bytes_eq};
 ghost use Rattle.std.specs.List.{list_all};
 ghost use Rattle.std.specs.Str.{chars};
 ghost use Rattle.yaml_base.specs.Event as seen;

@@ -57,7 +57,7 @@ WritesPage event empty before after =
     (after.settings ≡ before.settings) × Wrote (event_laid before event empty) before.page after.page (Ok tt)
 
 -- an event that is written
-pub record Written (event : Event) (empty : Bool) (before after : State) : Type 0 where
+pub record WritesEvent (event : Event) (empty : Bool) (before after : State) : Type 0 where
   pub kept : Keeps before after
   pub accepted : refusal_now before event ≡ None
   pub stage : after.stage ≡ (event_stepped before event empty).stage
@@ -91,7 +91,7 @@ pub record Refused (error : yaml_error_t) (event : Event) (before after : State)
 
 -- an event was written, cut short, or refused
 abbrev pub Processed : Event → (empty : Bool) → State → State → Result (Unit {0}) yaml_error_t → Type 0
-Processed event empty before after (Ok _) = Written event empty before after
+Processed event empty before after (Ok _) = WritesEvent event empty before after
 Processed event empty before after (Err WriteError) = CutShort WriteError event empty before after
 Processed event empty before after (Err Memory) = CutShort Memory event empty before after
 Processed event empty before after (Err error) = Refused error event before after

@@ -3,7 +3,8 @@ use Rattle.std.specs.Prelude.{ℕ, Bool, true, false, Option, List}
 use Rattle.yaml_base.specs.Cursor.{Cursor, Laid, then_laid, new_line}
 use Rattle.yaml_base.specs.Event.{Version, TagDirective}
 use Rattle.yaml_base.specs.Indicators.{indicator_laid, document_end, tag_directive}
-use Rattle.yaml_base.specs.Layout.{PieceLaid, Standing, piece_text, laid_if, closing_mark_laid, version_laid, tag_directives_laid, document_mark_laid, handle_laid}
+use Rattle.yaml_base.specs.Layout.{PieceLaid, Standing, piece_text, laid_if, closing_mark_laid, version_laid, tag_directives_laid, document_mark_laid}
+use Rattle.yaml_base.specs.Layout.{handle_laid}
 use Rattle.yaml_base.specs.Percent.{prefix_escaped}
 use Rattle.yaml_base.specs.Settings.{Effective}
 use Rattle.yaml_emitter.specs.declared.writing.marks.OpenMark.{OpenMark}

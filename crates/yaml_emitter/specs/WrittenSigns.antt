@@ -10,7 +10,10 @@ use Rattle.yaml_base.specs.Settings.{Effective}
 use Rattle.yaml_base.specs.Tags.{Spelling, shorthand}
 use Rattle.yaml_emitter.specs.BorrowedTexts.{seen_spelling}
 use Rattle.yaml_emitter.specs.declared.writing.indicators.Indicator as indicator
-use Rattle.yaml_emitter.specs.declared.writing.indicators.Indicator.TheVariants.{DocumentStart, DocumentEnd, YamlDirective, Version11, Version12, TagDirective, FlowSequenceStart, FlowSequenceEnd, FlowMappingStart, FlowMappingEnd, FlowEntry, FlowKey, FlowValue, BlockEntry, BlockKey, BlockValue, SimpleValue, Anchor, Alias, VerbatimStart, VerbatimEnd}
+use Rattle.yaml_emitter.specs.declared.writing.indicators.Indicator.TheVariants.{DocumentStart, DocumentEnd, YamlDirective, Version11, Version12, TagDirective}
+use Rattle.yaml_emitter.specs.declared.writing.indicators.Indicator.TheVariants.{FlowSequenceStart, FlowSequenceEnd, FlowMappingStart, FlowMappingEnd}
+use Rattle.yaml_emitter.specs.declared.writing.indicators.Indicator.TheVariants.{FlowEntry, FlowKey, FlowValue, BlockEntry, BlockKey, BlockValue, SimpleValue}
+use Rattle.yaml_emitter.specs.declared.writing.indicators.Indicator.TheVariants.{Anchor, Alias, VerbatimStart, VerbatimEnd}
 use Rattle.yaml_emitter.specs.declared.writing.indicators.Row.{Row}
 use Rattle.yaml_emitter.specs.declared.writing.signs.Sign.{Sign}
 use Rattle.yaml_emitter.specs.declared.writing.signs.Sign.TheVariants.{Nothing, Mark, Line, FlowLine, Space, Name, Handle, TagText, Suffix, Prefix}

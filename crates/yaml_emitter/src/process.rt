@@ -1,6 +1,7 @@
 //! One event: what refuses it, what it writes, and what may come next. One function a place.
 
-ghost use Rattle.std.specs.Prelude.{Bool, map, option_map, ◌≡◌, ◌<◌, ◌≤◌, ◌+◌, ◌*◌, ◌∷◌, ℕ, None, Some, false, true, List, length, IsOk, IsSome, OnOk, unwrap_or};
+ghost use Rattle.std.specs.Prelude.{Bool, map, option_map, ◌≡◌, ◌<◌, ◌≤◌, ◌+◌, ◌*◌, ◌∷◌, ℕ, None, Some, false, true, List, length, IsOk, IsSome, OnOk};
+ghost use Rattle.std.specs.Prelude.{unwrap_or};
 ghost use Rattle.yaml_base.specs.Event.{TagDirective, stream_start, stream_end, document_start, document_end};
 ghost use Rattle.yaml_base.specs.Layout.{document_end_piece, stream_end_piece};
 ghost use Rattle.yaml_base.specs.Refusal.{name_or_tag_fault};

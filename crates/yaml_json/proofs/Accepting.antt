@@ -14,7 +14,8 @@ use Rattle.yaml_base.specs.values.TypedValues.{int_tag}
 use Rattle.yaml_emitter.proofs.AcceptedLists.{sound, both_sound, Stays, few_open}
 use Rattle.yaml_writer.specs.NumberParts.{number_in}
 use Rattle.yaml_writer.specs.Writing.{closing, float_tag, opening}
-use Rattle.yaml_json.specs.JsonEvents.{bool_content, collection_in, items_events, json_events, members_events, null_content, number_content, text_content, word_content}
+use Rattle.yaml_json.specs.JsonEvents.{bool_content, collection_in, items_events, json_events, members_events, null_content, number_content, text_content}
+use Rattle.yaml_json.specs.JsonEvents.{word_content}
 use Rattle.yaml_json.proofs.Trees.{json_stream, stream_flat}
 
 -- the events of the stream of a value

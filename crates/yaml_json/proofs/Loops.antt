@@ -3,15 +3,18 @@ use Rattle.std.proofs.Common.{◌≡◌, ℕ, ◌-◌, ◌<◌, ◌≤◌, refl,
 use Rattle.std.specs.Prelude.{Bool, Option, None, Some, List, [], ◌∷◌, ◌++◌, length}
 use Rattle.std.specs.Str.{chars}
 use Rattle.json.specs.Token.{Token, begin_array, begin_object}
-use Rattle.json.specs.Json.{Json, null, array, object, Items, no_items, item, Members, no_members, member, parse_map, after_end_array, read_key, items, members, value}
-use Rattle.json.proofs.Grammar.{value-begin_array, value-begin_object, items_end, items_fail, items_more, members_end, members_fail, members_more, members_no_key, read_key-shorter, read_key_is, skip_value-shorter, left}
+use Rattle.json.specs.Json.{Json, null, array, object, Items, no_items, item, Members, no_members, member, parse_map, after_end_array, read_key, items, members}
+use Rattle.json.specs.Json.{value}
+use Rattle.json.proofs.Grammar.{value-begin_array, value-begin_object, items_end, items_fail, items_more, members_end, members_fail, members_more}
+use Rattle.json.proofs.Grammar.{members_no_key, read_key-shorter, read_key_is, skip_value-shorter, left}
 use Rattle.json.proofs.Nesting.{value-depth}
 use Rattle.json.specs.Tree.{items_depth as items_nesting, members_depth as members_nesting, json_tokens, items_tokens, members_tokens}
 use Rattle.yaml_base.specs.Event.{CollectionStyle, Event, scalar, sequence_start, mapping_start}
 use Rattle.yaml_base.specs.declared.errors.yaml_error_t.{yaml_error_t}
 use Rattle.yaml_writer.specs.Writing.{AddsAll, WriterState, Gave, entered, mapping_event, sequence_event}
 use Rattle.yaml_writer.specs.declared.kinds.CollectionKind.TheVariants.{Mapping, Sequence}
-use Rattle.yaml_json.specs.Failing.{BeginsItems, BeginsMember, BeginsMembers, FailedAfter, FailedAt, FailedInItems, FailedInMember, FailedInMembers, FailedInValue}
+use Rattle.yaml_json.specs.Failing.{BeginsItems, BeginsMember, BeginsMembers, FailedAfter, FailedAt, FailedInItems, FailedInMember, FailedInMembers}
+use Rattle.yaml_json.specs.Failing.{FailedInValue}
 use Rattle.yaml_json.specs.JsonEvents.{collection_in, items_events, json_events, members_events, style_of, text_content}
 use Rattle.yaml_json.specs.TokenEvents.{tokens_events}
 use Rattle.yaml_json.specs.Wrote.{Ends, IsBare, Wrote, WroteEvent, WroteItems, WroteMember, WroteMembers, WroteValue}
@@ -86,7 +89,8 @@ items_begin depth in_flow start was bare =
       given_is = refl;
     }
 
-pub items_go_on : (depth : ℕ) (in_flow : Bool) (start : List Token) (was : WriterState) (ahead : List Token) (now : WriterState) (after : List Token) (later : WriterState)
+pub items_go_on : (depth : ℕ) (in_flow : Bool) (start : List Token) (was : WriterState) (ahead : List Token) (now : WriterState) (after : List Token)
+    (later : WriterState)
     → ItemsSoFar depth in_flow start was ahead now → after_end_array ahead ≡ None → WroteValue depth in_flow ahead now after later
     → ItemsSoFar depth in_flow start was after later
 items_go_on depth in_flow start was ahead now after later so_far unclosed one =
@@ -132,7 +136,8 @@ items_refused depth in_flow start was ahead now so_far unclosed none =
 
 -- the next value failed
 pub items_failed : (depth : ℕ) (in_flow : Bool) (start : List Token) (was : WriterState) (ahead : List Token) (now later : WriterState)
-    → ItemsSoFar depth in_flow start was ahead now → (error : yaml_error_t) → FailedInValue depth in_flow ahead now error later → FailedInItems depth in_flow start was error later
+    → ItemsSoFar depth in_flow start was ahead now → (error : yaml_error_t) → FailedInValue depth in_flow ahead now error later
+    → FailedInItems depth in_flow start was error later
 items_failed depth in_flow start was ahead now later so_far error (inl memory) = inl memory
 items_failed depth in_flow start was ahead now later so_far error (inr (taken, (failed, inside))) =
     let few = inside.nested in
@@ -198,7 +203,8 @@ members_begin depth in_flow start was bare =
       given_is = refl;
     }
 
-pub members_go_on : (depth : ℕ) (in_flow : Bool) (start : List Token) (was : WriterState) (ahead : List Token) (now : WriterState) (key : List ℕ) (inner after : List Token)
+pub members_go_on : (depth : ℕ) (in_flow : Bool) (start : List Token) (was : WriterState) (ahead : List Token) (now : WriterState) (key : List ℕ)
+    (inner after : List Token)
     (later : WriterState)
     → MembersSoFar depth in_flow start was ahead now → read_key ahead ≡ Some (Some key, inner) → WroteMember depth in_flow key inner now after later
     → MembersSoFar depth in_flow start was after later
@@ -219,7 +225,8 @@ members_go_on depth in_flow start was ahead now key inner after later so_far nam
       given = so_far.given ++ events;
       events = λ rest. so_far.events (member key one.json rest) ∙ sym (append_assoc so_far.given events (members_events was.canonical in_flow rest));
       wrote = wrote_then was now later so_far.given events so_far.wrote
-          (subst (λ (canonical : Bool). Wrote now (scalar (text_content (chars key)) ∷ json_events canonical in_flow one.json) later) so_far.wrote.canonical one.wrote);
+          (subst (λ (canonical : Bool). Wrote now (scalar (text_content (chars key)) ∷ json_events canonical in_flow one.json) later) so_far.wrote.canonical
+          one.wrote);
       nested = λ rest fits. so_far.nested (member key one.json rest) (omega (arith, fits, shallow));
       taken = so_far.taken ++ named_tokens;
       parts = append_assoc so_far.taken named_tokens after
@@ -239,7 +246,8 @@ members_done depth in_flow start was ahead now after so_far closed =
           (sym (so_far.events no_members ∙ append-nil so_far.given)) so_far.wrote;
     }
 
-pub members_refused : (depth : ℕ) (in_flow : Bool) (start : List Token) (was : WriterState) (ahead : List Token) (now : WriterState) (key : List ℕ) (inner : List Token)
+pub members_refused : (depth : ℕ) (in_flow : Bool) (start : List Token) (was : WriterState) (ahead : List Token) (now : WriterState) (key : List ℕ)
+    (inner : List Token)
     → MembersSoFar depth in_flow start was ahead now → read_key ahead ≡ Some (Some key, inner) → value depth inner ≡ None
     → members (value depth) (length start) start ≡ None
 members_refused depth in_flow start was ahead now key inner so_far named none =

@@ -11,7 +11,8 @@ use Rattle.yaml_base.specs.scalars.Analysis.{Allowances, allowances, is_empty}
 use Rattle.yaml_base.specs.Characters.{Text}
 use Rattle.yaml_base.specs.Event.{Scalar, ScalarStyle, any_style, plain, single_quoted, double_quoted, literal, folded, TagDirective}
 use Rattle.yaml_base.specs.Grammar.{scalar_node, Nodes, no_nodes, nodes_and, Pairs, no_pairs, pairs_and}
-use Rattle.yaml_base.specs.values.JsonNumbers.{JsonNumber, fraction_or, is_json_integer, is_json_number, json_value, means_number, number_meant, value_with, yaml_number}
+use Rattle.yaml_base.specs.values.JsonNumbers.{JsonNumber, fraction_or, is_json_integer, is_json_number, json_value, means_number, number_meant, value_with}
+use Rattle.yaml_base.specs.values.JsonNumbers.{yaml_number}
 use Rattle.yaml_base.specs.Layout.{as_item, as_key, as_value, Place, has_no_nodes, has_no_pairs, is_simple, is_simple_at, is_written_in_flow, entry_place}
 use Rattle.yaml_base.specs.NodeLayout.{choice_of}
 use Rattle.yaml_base.specs.Refusal.{collection_tag, scalar_tag}
@@ -140,7 +141,8 @@ module _ (schema : Schema) (s : Effective) (place : Place) (simple : Bool) where
       standing_by x = if x then stood_plain else stood_quoted
 
   pub word_means : (own word : Text) (meant : Resolved) → schema word ≡ meant → own ≡ tag_of meant → IsPlainWord word
-      → scalar_meant schema (tagging_in (scalar_tag s.canonical (word_content s.canonical own word)) (choice_of s place simple (word_content s.canonical own word)))
+      → scalar_meant schema (tagging_in (scalar_tag s.canonical (word_content s.canonical own word))
+      (choice_of s place simple (word_content s.canonical own word)))
       word ≡ meant
   word_means own word meant reads is plain_there = word_by own word meant reads is plain_there s.canonical
 
@@ -162,8 +164,10 @@ module _ (schema : Schema) (s : Effective) (place : Place) (simple : Bool) where
       by false h = refl
 
   text_by : (text : Text) → TextsOf schema → (canonical : Bool) → scalar_meant schema (tagging_by (text_content text) canonical) text ≡ meant_text
-  text_by text texts true = as_it_stands text (style_by (text_content text) true).style (texts text (allowances (record { unicode = s.unicode; breaks12 = s.breaks12 }) text) (is_empty text) false true true place.in_flow simple true)
-  text_by text texts false = as_it_stands text (style_by (text_content text) false).style (texts text (allowances (record { unicode = s.unicode; breaks12 = s.breaks12 }) text) (is_empty text) false true true place.in_flow simple false)
+  text_by text texts true = as_it_stands text (style_by (text_content text) true).style
+      (texts text (allowances (record { unicode = s.unicode; breaks12 = s.breaks12 }) text) (is_empty text) false true true place.in_flow simple true)
+  text_by text texts false = as_it_stands text (style_by (text_content text) false).style
+      (texts text (allowances (record { unicode = s.unicode; breaks12 = s.breaks12 }) text) (is_empty text) false true true place.in_flow simple false)
 
   pub text_means : (text : Text) → TextsOf schema
       → scalar_meant schema (tagging_in (scalar_tag s.canonical (text_content text)) (choice_of s place simple (text_content text))) text ≡ meant_text
@@ -176,7 +180,8 @@ number_tagged : (parts : JsonNumber) → number_tag parts ≡ tag_of (number_mea
 number_tagged parts = by (is_json_integer parts)
   where
     by : (x : Bool) → (if x then int_tag else float_tag)
-        ≡ tag_of (if x then meant_integer (signed parts.negative (digits_value 10 parts.whole)) else meant_decimal (value_with parts (fraction_or (codes "0") parts)))
+        ≡ tag_of (if x then meant_integer (signed parts.negative (digits_value 10 parts.whole)) else meant_decimal
+        (value_with parts (fraction_or (codes "0") parts)))
     by true = refl
     by false = refl
 
@@ -200,14 +205,17 @@ module _ (schema : Schema) (reads : ReadsScalars schema) (s : Effective) (direct
   abbrev MembersAfter : Members → Pairs → (flow : Bool) → Type 0
   MembersAfter members before flow =
       (trees : List (Tree × Tree))
-      × (pairs_in_order (pairs_tree (members_pairs members s.canonical in_flow before) s directives flow) ≡ pairs_in_order (pairs_tree before s directives flow) ++ trees)
+      × (pairs_in_order (pairs_tree (members_pairs members s.canonical in_flow before) s directives flow) ≡ pairs_in_order
+      (pairs_tree before s directives flow) ++ trees)
       × MembersMean schema members trees
 
   mutual
     pub node_means : (json : Json) → HasNumbers json → (place : Place) → Means schema json (node_tree (json_node json s.canonical in_flow) s directives place)
-    node_means null numbers place = word_means schema s place (simple_at place (null_content s.canonical)) null_tag (codes "null") meant_null reads.nothing refl (plain_word (codes "null") refl)
+    node_means null numbers place = word_means schema s place (simple_at place (null_content s.canonical)) null_tag (codes "null") meant_null reads.nothing refl
+        (plain_word (codes "null") refl)
     node_means (boolean flag) numbers place =
-        word_means schema s place (simple_at place (bool_content s.canonical flag)) bool_tag (bool_text flag) (meant_boolean flag) (reads.flags flag) refl (plain_flags flag)
+        word_means schema s place (simple_at place (bool_content s.canonical flag)) bool_tag (bool_text flag) (meant_boolean flag) (reads.flags flag) refl
+        (plain_flags flag)
     node_means (number text) numbers place =
         let is = number_is text numbers in
         let parts = number_in text in
@@ -216,7 +224,8 @@ module _ (schema : Schema) (reads : ReadsScalars schema) (s : Effective) (direct
           is_number = is;
           means =
               ap (means_number (json_value parts))
-              (word_means schema s place (simple_at place (number_content s.canonical parts)) (number_tag parts) (yaml_number parts) (number_meant parts) (reads.numbers parts is.valid) (number_tagged parts)
+              (word_means schema s place (simple_at place (number_content s.canonical parts)) (number_tag parts) (yaml_number parts) (number_meant parts)
+              (reads.numbers parts is.valid) (number_tagged parts)
               (plain_numbers parts is.valid))
               ∙ spelling_keeps_value parts;
         }
@@ -224,12 +233,14 @@ module _ (schema : Schema) (reads : ReadsScalars schema) (s : Effective) (direct
     node_means (array items) numbers place =
         let flow = is_written_in_flow s place (collection_in in_flow) (has_no_nodes (items_nodes items s.canonical in_flow no_nodes)) in
         let after = items_mean items numbers no_nodes flow in
-        subst (λ (tag : Option Text). Means schema (array items) (sequence_tree None tag (nodes_tree (items_nodes items s.canonical in_flow no_nodes) s directives flow)))
+        subst (λ (tag : Option Text). Means schema (array items) (sequence_tree None tag
+        (nodes_tree (items_nodes items s.canonical in_flow no_nodes) s directives flow)))
         (sym (untagged s.canonical in_flow)) (subst (ItemsMean schema items) (sym after.1) after.2)
     node_means (object members) numbers place =
         let flow = is_written_in_flow s place (collection_in in_flow) (has_no_pairs (members_pairs members s.canonical in_flow no_pairs)) in
         let after = members_mean members numbers no_pairs flow in
-        subst (λ (tag : Option Text). Means schema (object members) (mapping_tree None tag (pairs_tree (members_pairs members s.canonical in_flow no_pairs) s directives flow)))
+        subst (λ (tag : Option Text). Means schema (object members) (mapping_tree None tag
+        (pairs_tree (members_pairs members s.canonical in_flow no_pairs) s directives flow)))
         (sym (untagged s.canonical in_flow)) (subst (MembersMean schema members) (sym after.1) after.2)
 
     items_mean : (items : Items) → ItemsHaveNumbers items → (before : Nodes) (flow : Bool) → ItemsAfter items before flow
@@ -255,5 +266,9 @@ module _ (schema : Schema) (reads : ReadsScalars schema) (s : Effective) (direct
         let after = members_mean members numbers.1 (pairs_and before named node) flow in (
           pair ∷ after.0,
           after.1 ∙ append_assoc (pairs_in_order (pairs_tree before s directives flow)) (pair ∷ []) after.0,
-          ((text_means schema s key_place (simple_at key_place (text_content (chars key))) (chars key) reads.texts, refl), node_means json numbers.0 place, after.2),
+          (
+            (text_means schema s key_place (simple_at key_place (text_content (chars key))) (chars key) reads.texts, refl),
+            node_means json numbers.0 place,
+            after.2,
+          ),
         )

@@ -6,7 +6,8 @@ use Rattle.std.proofs.lemmas.List.Folds.{length-prefix_len}
 use Rattle.std.proofs.lemmas.List.Sums.{take_while-cons}
 use Rattle.std.specs.Char.{is_ascii_digit}
 use Rattle.std.specs.List.{list_all, prefix_len, take_while}
-use Rattle.std.specs.Prelude.{ℕ, Bool, true, false, cond, Option, None, Some, [], ◌∷◌, ◌++◌, ◌==◌, ◌||◌, ◌&&◌, not, codes, drop, length, nat_le, option_and_then, take, if◌then◌else◌}
+use Rattle.std.specs.Prelude.{ℕ, Bool, true, false, cond, Option, None, Some, [], ◌∷◌, ◌++◌, ◌==◌, ◌||◌, ◌&&◌, not, codes, drop, length, nat_le}
+use Rattle.std.specs.Prelude.{option_and_then, take, if◌then◌else◌}
 use Rattle.json.specs.Print as json
 use Rattle.json.specs.Word.{after_digits, after_exponent, after_fraction, after_minus, after_number, after_sign, after_whole}
 use Rattle.yaml_base.specs.Characters.{Text}
@@ -175,7 +176,8 @@ record Exponent (text rest : Text) : Type 0 where
   is : is_exponent exponent ≡ true
 
 -- an exponent with its letter
-lettered : (capital : Bool) (c : ℕ) (text rest : Text) → c ≡ (if capital then 0x45 else 0x65) → after_digits (after_sign text) ≡ Some rest → Exponent (c ∷ text) rest
+lettered : (capital : Bool) (c : ℕ) (text rest : Text) → c ≡ (if capital then 0x45 else 0x65) → after_digits (after_sign text) ≡ Some rest
+    → Exponent (c ∷ text) rest
 lettered capital c text rest is e =
     let signed = sign_got text in
     let found = digits_got (after_sign text) rest e in
@@ -195,7 +197,8 @@ exponent_got : (text rest : Text) → after_exponent text ≡ Some rest → Expo
 exponent_got [] rest e = record { exponent = None; joined = ap got e; is = refl }
 exponent_got (c ∷ text) rest e = by (c == 0x65) (c == 0x45) refl refl e
   where
-    by : (x y : Bool) → (c == 0x65) ≡ x → (c == 0x45) ≡ y → cond (x || y) (after_digits (after_sign text)) (Some (c ∷ text)) ≡ Some rest → Exponent (c ∷ text) rest
+    by : (x y : Bool) → (c == 0x65) ≡ x → (c == 0x45) ≡ y → cond (x || y) (after_digits (after_sign text)) (Some (c ∷ text)) ≡ Some rest
+        → Exponent (c ∷ text) rest
     by true y is other e = lettered false c text rest (eqb-true c 0x65 is) e
     by false true other is e = lettered true c text rest (eqb-true c 0x45 is) e
     by false false one other e = record { exponent = None; joined = ap got e; is = refl }

@@ -2,7 +2,8 @@
 use Rattle.std.proofs.Common.{◌≡◌, refl, sym, ap, ◌∙◌, arith, subst, append_assoc, inl, inr}
 use Rattle.std.proofs.lemmas.Bool.{and_parts, cases_lt}
 use Rattle.std.proofs.lemmas.List.Folds.{list_all-append}
-use Rattle.std.specs.Prelude.{ℕ, ◌<◌, Bool, true, false, not, ◌&&◌, nat_lt, Option, None, Some, List, [], ◌∷◌, ◌++◌, length, is_none, option_and_then, unwrap_or}
+use Rattle.std.specs.Prelude.{ℕ, ◌<◌, Bool, true, false, not, ◌&&◌, nat_lt, Option, None, Some, List, [], ◌∷◌, ◌++◌, length, is_none, option_and_then}
+use Rattle.std.specs.Prelude.{unwrap_or}
 use Rattle.std.specs.List.{list_all}
 use Rattle.std.specs.Option.{option_or}
 use Rattle.json.specs.Json.{Json}
@@ -13,7 +14,8 @@ use Rattle.yaml_base.proofs.Trees.{stream_pushed}
 use Rattle.yaml_base.specs.Event.{Event}
 use Rattle.yaml_base.specs.Grammar.{Partial, Stream, after_stream, before_stream, partial_of, push, pushed}
 use Rattle.yaml_base.specs.Prefix.{IsPrefix}
-use Rattle.yaml_base.specs.Refusal.{IsAccepted, begins_collection, content_fault, depth_fault, expected, fault_if, is_sound, most_open, name_or_tag_fault, open_levels, place_fault, refusal, refusal_at}
+use Rattle.yaml_base.specs.Refusal.{IsAccepted, begins_collection, content_fault, depth_fault, expected, fault_if, is_sound, most_open, name_or_tag_fault}
+use Rattle.yaml_base.specs.Refusal.{open_levels, place_fault, refusal, refusal_at}
 use Rattle.yaml_base.specs.Settings.{Settings}
 use Rattle.yaml_base.specs.declared.errors.yaml_error_t.{yaml_error_t}
 use Rattle.yaml_base.specs.declared.errors.yaml_error_t.TheVariants.{TooDeep}
@@ -49,7 +51,8 @@ record Placed (canonical : Bool) (front : List Event) (event : Event) : Type 0 w
   is_after : push before event ≡ Some after
   in_order : is_sound canonical event ≡ true
 
-module _ (canonical in_flow : Bool) (json : Json) (front later : List Event) (event : Event) (parts : front ++ event ∷ later ≡ stream_of canonical in_flow json) where
+module _ (canonical in_flow : Bool) (json : Json) (front later : List Event) (event : Event)
+    (parts : front ++ event ∷ later ≡ stream_of canonical in_flow json) where
   abbrev tree : Stream
   tree = json_stream (json ∷ []) canonical in_flow
 

@@ -2,20 +2,23 @@
 use Rattle.std.proofs.Common.{◌≡◌, refl, sym, ap, ◌∙◌, append_assoc, append-nil}
 use Rattle.std.proofs.lemmas.Bool.{and_from, and_right, false≢true, not_from_false, or_from}
 use Rattle.std.specs.List.{list_any}
-use Rattle.std.specs.Prelude.{ℕ, Bool, true, false, Option, Some, List, [], ◌∷◌, ◌++◌, ◌||◌, ◌&&◌, codes, is_some, map, not, option_map, unwrap_or, if◌then◌else◌}
+use Rattle.std.specs.Prelude.{ℕ, Bool, true, false, Option, Some, List, [], ◌∷◌, ◌++◌, ◌||◌, ◌&&◌, codes, is_some, map, not, option_map, unwrap_or}
+use Rattle.std.specs.Prelude.{if◌then◌else◌}
 use Rattle.std.specs.Str.{chars}
 use Rattle.json.specs.Json.{Json, null, boolean, number, string, array, object, Items, no_items, item, Members, no_members, member}
 use Rattle.json.specs.Tree.{HasNumbers}
 use Rattle.yaml_base.specs.scalars.Analysis.{is_empty}
 use Rattle.yaml_base.specs.Characters.{Text}
 use Rattle.yaml_base.specs.Event.{Scalar}
-use Rattle.yaml_base.specs.Grammar.{Document, Documents, no_documents, documents_and, scalar_node, Nodes, no_nodes, nodes_and, Pairs, no_pairs, pairs_and, Stream, tree_of}
+use Rattle.yaml_base.specs.Grammar.{Document, Documents, no_documents, documents_and, scalar_node, Nodes, no_nodes, nodes_and, Pairs, no_pairs, pairs_and}
+use Rattle.yaml_base.specs.Grammar.{Stream, tree_of}
 use Rattle.yaml_base.specs.values.JsonNumbers.{JsonNumber, exponent_spelled, fraction_or, is_json_integer, is_json_number, minus, yaml_number}
 use Rattle.yaml_base.specs.Layout.{is_explicit}
 use Rattle.yaml_base.specs.Refusal.{scalar_tag, collection_tag}
 use Rattle.yaml_base.specs.values.Resolved.{are_digits}
 use Rattle.yaml_base.specs.streams.StreamContent.{documents_in_order}
-use Rattle.yaml_base.specs.streams.StreamLaw.{are_portable, document_has_flow_sign, is_lost, is_portable, is_written_as_nothing, node_has_flow_sign, nodes_have_flow_sign, pairs_have_flow_sign, tag_has_flow_sign}
+use Rattle.yaml_base.specs.streams.StreamLaw.{are_portable, document_has_flow_sign, is_lost, is_portable, is_written_as_nothing, node_has_flow_sign}
+use Rattle.yaml_base.specs.streams.StreamLaw.{nodes_have_flow_sign, pairs_have_flow_sign, tag_has_flow_sign}
 use Rattle.yaml_base.specs.scalars.Style.{is_plain, style_asked}
 use Rattle.yaml_base.specs.Tags.{directives_in_force}
 use Rattle.yaml_base.specs.values.TypedValues.{null_tag, bool_tag, int_tag, bool_text}

@@ -156,7 +156,8 @@ pub array_unfilled : (depth : ℕ) (in_flow : Bool) (style : CollectionStyle) (a
     → (error : yaml_error_t) → FailedInItems (depth - 1) in_flow ahead begun error now → FailedInValue depth in_flow (Token.begin_array ∷ ahead) was error now
 array_unfilled depth in_flow style ahead was begun now deep is bare gave error (inl memory) = inl memory
 array_unfilled depth in_flow style ahead was begun now deep is bare gave error (inr (taken, (failed, inside))) =
-    let starts = starts_collection was begun Sequence (sequence_event was style) (sequence_start (collection_in in_flow)) (sequence_is was in_flow style is bare) gave in
+    let starts = starts_collection was begun Sequence (sequence_event was style) (sequence_start (collection_in in_flow))
+    (sequence_is was in_flow style is bare) gave in
     let whole : FailedAfter in_flow (Token.begin_array ∷ taken) (Token.begin_array ∷ ahead) was error now =
     failed_on in_flow (Token.begin_array ∷ []) taken ahead (Token.begin_array ∷ ahead) was begun now error refl starts gave.canonical failed in
     let few = inside.nested in
@@ -171,10 +172,12 @@ array_unfilled depth in_flow style ahead was begun now deep is bare gave error (
 -- the members of an object failed
 pub object_unfilled : (depth : ℕ) (in_flow : Bool) (style : CollectionStyle) (ahead : List Token) (was begun now : WriterState)
     → 0 < depth → style ≡ style_of in_flow → IsBare was → Gave (entered was Mapping) (mapping_event was style) None begun
-    → (error : yaml_error_t) → FailedInMembers (depth - 1) in_flow ahead begun error now → FailedInValue depth in_flow (Token.begin_object ∷ ahead) was error now
+    → (error : yaml_error_t) → FailedInMembers (depth - 1) in_flow ahead begun error now
+    → FailedInValue depth in_flow (Token.begin_object ∷ ahead) was error now
 object_unfilled depth in_flow style ahead was begun now deep is bare gave error (inl memory) = inl memory
 object_unfilled depth in_flow style ahead was begun now deep is bare gave error (inr (taken, (failed, inside))) =
-    let starts = starts_collection was begun Mapping (mapping_event was style) (mapping_start (collection_in in_flow)) (mapping_is was in_flow style is bare) gave in
+    let starts = starts_collection was begun Mapping (mapping_event was style) (mapping_start (collection_in in_flow))
+    (mapping_is was in_flow style is bare) gave in
     let whole : FailedAfter in_flow (Token.begin_object ∷ taken) (Token.begin_object ∷ ahead) was error now =
     failed_on in_flow (Token.begin_object ∷ []) taken ahead (Token.begin_object ∷ ahead) was begun now error refl starts gave.canonical failed in
     let few = inside.nested in

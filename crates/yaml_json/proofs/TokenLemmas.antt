@@ -5,7 +5,8 @@ use Rattle.std.specs.Prelude.{Bool, Option, None, Some, List, [], ◌∷◌, ◌
 use Rattle.std.specs.Str.{chars}
 use Rattle.json.proofs.Grammar.{closed_array, read_key_is}
 use Rattle.json.specs.Token.{Token}
-use Rattle.json.specs.Json.{Json, null, boolean, number, string, array, object, Items, no_items, item, Members, no_members, member, Parse, parse_map, after_end_array, read_key, items_step, members_step, items, members, value_with, value}
+use Rattle.json.specs.Json.{Json, null, boolean, number, string, array, object, Items, no_items, item, Members, no_members, member, Parse, parse_map}
+use Rattle.json.specs.Json.{after_end_array, read_key, items_step, members_step, items, members, value_with, value}
 use Rattle.json.specs.Tree.{json_tokens, items_tokens, members_tokens}
 use Rattle.yaml_base.specs.Event.{Event, scalar, sequence_start, sequence_end, mapping_start, mapping_end}
 use Rattle.yaml_json.specs.JsonEvents.{collection_in, items_events, json_events, members_events, text_content}

@@ -4,7 +4,9 @@ use Rattle.std.specs.Prelude.{ℕ, Bool, true, None, List, [], ◌∷◌, ◌++�
 use Rattle.std.specs.Str.{chars}
 use Rattle.json.specs.Json.{Json, null, boolean, number, string, array, object, Items, no_items, item, Members, no_members, member}
 use Rattle.yaml_base.specs.Event.{Event, document_end, scalar, sequence_start, sequence_end, mapping_start, mapping_end, stream_end, stream_start}
-use Rattle.yaml_base.specs.Grammar.{Node, scalar_node, sequence_node, mapping_node, Nodes, no_nodes, nodes_and, Pairs, no_pairs, pairs_and, Document, Documents, no_documents, documents_and, Stream, node_events, nodes_events, pairs_events, document_events, documents_events, stream_events}
+use Rattle.yaml_base.specs.Grammar.{Node, scalar_node, sequence_node, mapping_node, Nodes, no_nodes, nodes_and, Pairs, no_pairs, pairs_and, Document, Documents}
+use Rattle.yaml_base.specs.Grammar.{no_documents, documents_and, Stream, node_events, nodes_events, pairs_events, document_events, documents_events}
+use Rattle.yaml_base.specs.Grammar.{stream_events}
 use Rattle.yaml_writer.specs.NumberParts.{number_in}
 use Rattle.yaml_writer.specs.Writing.{closing, opening, plain_start}
 use Rattle.yaml_json.specs.JsonEvents.{bool_content, collection_in, items_events, json_events, members_events, null_content, number_content, text_content}

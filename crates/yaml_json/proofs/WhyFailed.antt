@@ -121,7 +121,8 @@ module _ (given : Settings) (in_flow : Bool) (depth : ℕ) (text : List ℕ) whe
 
   -- ---- the writer of a text
 
-  module _ (first now : WriterState) (error : yaml_error_t) (stands : StandsTaken given opening [] first.emitter) (canonical : first.canonical ≡ given.canonical) where
+  module _ (first now : WriterState) (error : yaml_error_t) (stands : StandsTaken given opening [] first.emitter)
+      (canonical : first.canonical ≡ given.canonical) where
     pub text_failed : FailedInText depth in_flow text first error now → FailsBy given in_flow depth text error
     text_failed (inl memory) = inl memory
     text_failed (inr (taken, (failed, begins))) =

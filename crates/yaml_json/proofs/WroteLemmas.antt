@@ -8,7 +8,8 @@ use Rattle.yaml_emitter.specs.State.{State}
 use Rattle.yaml_writer.proofs.Finishing.{nothing_awaited}
 use Rattle.yaml_writer.proofs.PartLemmas.{number_found}
 use Rattle.yaml_writer.specs.NumberParts.{IsNumber, number_in}
-use Rattle.yaml_writer.specs.Writing.{WriterState, AddsAll, Gave, StandsTaken, awaits_node, end_event, entered, mapping_event, number_event, number_tag, sequence_event, tag_or, text_event, text_style, word_event}
+use Rattle.yaml_writer.specs.Writing.{WriterState, AddsAll, Gave, StandsTaken, awaits_node, end_event, entered, mapping_event, number_event, number_tag}
+use Rattle.yaml_writer.specs.Writing.{sequence_event, tag_or, text_event, text_style, word_event}
 use Rattle.yaml_writer.specs.declared.kinds.CollectionKind.{CollectionKind}
 use Rattle.yaml_json.specs.JsonEvents.{collection_in, number_content, style_of, text_content, word_content}
 use Rattle.yaml_json.specs.Wrote.{Ends, IsBare, Wrote, WroteEvent}
@@ -112,7 +113,8 @@ abbrev rest_of : List CollectionKind → List CollectionKind
 rest_of [] = []
 rest_of (kind ∷ kinds) = kinds
 
-pub same_last : (outer others : List CollectionKind) (kind other : CollectionKind) → outer ++ kind ∷ [] ≡ others ++ other ∷ [] → (outer ≡ others) × (kind ≡ other)
+pub same_last : (outer others : List CollectionKind) (kind other : CollectionKind) → outer ++ kind ∷ [] ≡ others ++ other ∷ [] → (outer ≡ others)
+    × (kind ≡ other)
 same_last [] [] kind other is = (refl, ap (first_of kind) is)
 same_last [] (next ∷ others) kind other is = absurd (none_more others other (sym (ap rest_of is)))
 same_last (first ∷ outer) [] kind other is = absurd (none_more outer kind (ap rest_of is))
@@ -122,7 +124,8 @@ same_last (first ∷ outer) (next ∷ others) kind other is =
 
 -- a collection that was begun is the innermost, and its end is of its kind
 pub ended : (outer : List CollectionKind) (kind : CollectionKind) (before after : WriterState) → before.levels ≡ outer ++ kind ∷ [] → IsBare before
-    → Ends before after → (AddsAll before.emitter (end_event kind ∷ []) after.emitter) × (after.canonical ≡ before.canonical) × (after.levels ≡ outer) × IsBare after
+    → Ends before after → (AddsAll before.emitter (end_event kind ∷ []) after.emitter) × (after.canonical ≡ before.canonical) × (after.levels ≡ outer)
+    × IsBare after
 ended outer kind before after levels bare (inl none) = absurd (none_more outer kind (sym levels ∙ none.0))
 ended outer kind before after levels bare (inr end) =
     let same = same_last end.outer outer end.kind kind (sym end.levels ∙ levels) in (

@@ -3,7 +3,8 @@ use Rattle.std.specs.Prelude.{Bool, true, Option, None, Some, List, [], ◌∷�
 use Rattle.std.specs.Str.{chars}
 use Rattle.json.specs.Json.{Json, null, boolean, number, string, array, object, Items, no_items, item, Members, no_members, member}
 use Rattle.yaml_base.specs.Characters.{Text}
-use Rattle.yaml_base.specs.Event.{Collection, CollectionStyle, block, flow, Event, Scalar, ScalarStyle, plain, scalar, sequence_start, sequence_end, mapping_start, mapping_end}
+use Rattle.yaml_base.specs.Event.{Collection, CollectionStyle, block, flow, Event, Scalar, ScalarStyle, plain, scalar, sequence_start, sequence_end}
+use Rattle.yaml_base.specs.Event.{mapping_start, mapping_end}
 use Rattle.yaml_base.specs.values.JsonNumbers.{JsonNumber, yaml_number}
 use Rattle.yaml_base.specs.values.TypedValues.{null_tag, bool_tag, bool_text}
 use Rattle.yaml_writer.specs.NumberParts.{number_in}

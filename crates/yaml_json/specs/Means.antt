@@ -4,10 +4,12 @@ use Rattle.std.specs.Str.{chars}
 use Rattle.json.specs.Json.{Json, null, boolean, number, string, array, object, Items, no_items, item, Members, no_members, member}
 use Rattle.yaml_base.specs.Characters.{Text}
 use Rattle.yaml_base.specs.values.JsonNumbers.{JsonNumber, json_value, means_number}
-use Rattle.yaml_base.specs.values.Resolved.{Resolved, meant_null, meant_boolean, meant_integer, meant_decimal, meant_infinity, meant_nan, meant_timestamp, meant_merge, meant_value, meant_text, meant_by_nobody}
+use Rattle.yaml_base.specs.values.Resolved.{Resolved, meant_null, meant_boolean, meant_integer, meant_decimal, meant_infinity, meant_nan, meant_timestamp}
+use Rattle.yaml_base.specs.values.Resolved.{meant_merge, meant_value, meant_text, meant_by_nobody}
 use Rattle.yaml_base.specs.values.SchemaCore.{resolved_by_core}
 use Rattle.yaml_base.specs.values.SchemaOf11.{resolved_by_11}
-use Rattle.yaml_base.specs.streams.StreamContent.{DocumentTree, stood_plain, Tagging, with_tag, without_tag, Tree, scalar_tree, sequence_tree, mapping_tree, Trees, no_trees, trees_and, TreePairs, no_tree_pairs, tree_pairs_and}
+use Rattle.yaml_base.specs.streams.StreamContent.{DocumentTree, stood_plain, Tagging, with_tag, without_tag, Tree, scalar_tree, sequence_tree, mapping_tree}
+use Rattle.yaml_base.specs.streams.StreamContent.{Trees, no_trees, trees_and, TreePairs, no_tree_pairs, tree_pairs_and}
 use Rattle.yaml_base.specs.streams.StreamReader.{stream_trees}
 use Rattle.yaml_writer.specs.NumberParts.{IsNumber}
 

@@ -1,10 +1,12 @@
 -- What a text's bytes say of the refusals of names and handles, which go by its characters.
-use Rattle.std.proofs.Common.{◌≡◌, ◌≢◌, ℕ, ◌<◌, Bool, true, false, cond, Option, Some, None, List, [], ◌∷◌, ◌++◌, refl, sym, ◌∙◌, ap, subst, length, get_or, arith, lit<}
+use Rattle.std.proofs.Common.{◌≡◌, ◌≢◌, ℕ, ◌<◌, Bool, true, false, cond, Option, Some, None, List, [], ◌∷◌, ◌++◌, refl, sym, ◌∙◌, ap, subst, length, get_or}
+use Rattle.std.proofs.Common.{arith, lit<}
 use Rattle.std.proofs.lemmas.Bool.{eqb-true, ne_eqb}
 use Rattle.std.proofs.lemmas.List.{length-append}
 use Rattle.std.proofs.lemmas.Grind.{common_steps}
 use Rattle.std.proofs.Math.Seq.{take-append_seam}
-use Rattle.std.proofs.lemmas.Str.{chars-nil, encodes-chars, encode_ascii, encodes-append, chars_past_char, IsUtf8-past_char, IsUtf8-take, IsCharBoundary-before_ascii, chars-append}
+use Rattle.std.proofs.lemmas.Str.{chars-nil, encodes-chars, encode_ascii, encodes-append, chars_past_char, IsUtf8-past_char, IsUtf8-take}
+use Rattle.std.proofs.lemmas.Str.{IsCharBoundary-before_ascii, chars-append}
 use Rattle.std.specs.Prelude.{◌==◌, IsUtf8}
 use Rattle.std.specs.List.{list_all}
 use Rattle.std.specs.Option.{option_or}
@@ -34,7 +36,8 @@ characters_begin bytes u h = begins (chars bytes) bytes (encodes-chars bytes u) 
 pub empty_name : (bytes : List ℕ) (if_empty if_other : yaml_error_t) → (length bytes == 0) ≡ true → Some if_empty ≡ name_fault if_empty if_other (chars bytes)
 empty_name bytes a b h = rw (no_characters bytes h) refl
 
-good : (text : Text) (if_empty if_other : yaml_error_t) (c : ℕ) (rest : Text) → text ≡ c ∷ rest → list_all is_alpha text ≡ true → None ≡ name_fault if_empty if_other text
+good : (text : Text) (if_empty if_other : yaml_error_t) (c : ℕ) (rest : Text) → text ≡ c ∷ rest → list_all is_alpha text ≡ true
+    → None ≡ name_fault if_empty if_other text
 good text a b c rest e h =
     let P : Text → Type 0 = λ t. list_all is_alpha t ≡ true → None ≡ name_fault a b t in
     let Q : (list_all is_alpha (c ∷ rest) ≡ true) → None ≡ name_fault a b (c ∷ rest) = λ k. rw k refl in
@@ -61,7 +64,8 @@ begins_otherwise bytes c rest e h =
     ne_eqb c tag_mark (λ same. h (encodes rest)
     (sym e ∙ ap (λ x. encode x ++ encodes rest) same ∙ ap (λ x. x ++ encodes rest) (encode_ascii tag_mark (lit< tt))))
 
-pub no_start : (bytes : List ℕ) → IsUtf8 bytes → (length bytes == 0) ≡ false → ((more : List ℕ) → bytes ≢ tag_mark ∷ more) → Some TagHandleStart ≡ handle_fault (chars bytes)
+pub no_start : (bytes : List ℕ) → IsUtf8 bytes → (length bytes == 0) ≡ false → ((more : List ℕ) → bytes ≢ tag_mark ∷ more)
+    → Some TagHandleStart ≡ handle_fault (chars bytes)
 no_start bytes u n h =
     let first = characters_begin bytes u n in
     let e : encodes (first.0 ∷ first.1) ≡ bytes = ap encodes (sym first.2) ∙ encodes-chars bytes u in
@@ -113,7 +117,8 @@ front_is_text front u =
     (IsUtf8-take (front ++ tag_mark ∷ []) (length front) u
     (IsCharBoundary-before_ascii (front ++ tag_mark ∷ []) (length front) inside byte))
 
-between : (middle : Text) (kept : Bool) → list_all is_alpha middle ≡ kept → cond kept None (Some TagHandleAlphabet) ≡ handle_fault (tag_mark ∷ (middle ++ tag_mark ∷ []))
+between : (middle : Text) (kept : Bool) → list_all is_alpha middle ≡ kept
+    → cond kept None (Some TagHandleAlphabet) ≡ handle_fault (tag_mark ∷ (middle ++ tag_mark ∷ []))
 between middle kept h = rw (last-append tag_mark middle tag_mark, without_last-append middle tag_mark, h) refl
 
 pub both_marks : (bytes rest middle : List ℕ) (kept : Bool) → IsUtf8 bytes → bytes ≡ tag_mark ∷ rest → rest ≡ middle ++ tag_mark ∷ []

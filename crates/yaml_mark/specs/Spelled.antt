@@ -1,5 +1,6 @@
 -- What the analysis of a tag says, by the tag's bytes.
-use Rattle.std.specs.Prelude.{◌≡◌, ℕ, ◌<◌, Bool, Some, List, length, take, drop, slice_get, chars, encode_utf8_all, is_some, bytes_eq, nat_lt, ◌&&◌, MatchOption}
+use Rattle.std.specs.Prelude.{◌≡◌, ℕ, ◌<◌, Bool, Some, List, length, take, drop, slice_get, chars, encode_utf8_all, is_some, bytes_eq, nat_lt, ◌&&◌}
+use Rattle.std.specs.Prelude.{MatchOption}
 use Rattle.std.specs.Str.{IsCharBoundary}
 use Rattle.yaml_base.specs.Event.{TagDirective}
 use Rattle.yaml_base.specs.Tags.{Spelling, shorthand, verbatim, behind}

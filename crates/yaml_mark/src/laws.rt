@@ -2,7 +2,8 @@
 ghost use Rattle.std.specs.Prelude.{Bool, List};
 ghost use Rattle.yaml_base.specs.Event.{TagDirective};
 ghost use Rattle.yaml_base.specs.Characters.{Text};
-ghost use Rattle.yaml_mark.specs.Laws.{EscapedTextReads, EscapedSuffixReads, EscapedPrefixReads, PortableSuffixHoldsNoFlowSign, EscapedTextSeparatesNothing, WrittenTagReads, WrittenTagIsOneWord, WrittenTagIsNotBare};
+ghost use Rattle.yaml_mark.specs.Laws.{EscapedTextReads, EscapedSuffixReads, EscapedPrefixReads, PortableSuffixHoldsNoFlowSign, EscapedTextSeparatesNothing};
+ghost use Rattle.yaml_mark.specs.Laws.{WrittenTagReads, WrittenTagIsOneWord, WrittenTagIsNotBare};
 
 /// A text whose characters were escaped by percent forms, in a tag, after a handle or in a prefix, is decoded as itself.
 pub fn escaped_text_reads()

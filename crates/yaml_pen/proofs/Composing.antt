@@ -1,5 +1,6 @@
 -- How calls that write compose: one after another, a failure on the way, and changes of the cursor between.
-use Rattle.std.proofs.Common.{◌≡◌, ◌==◌, refl, sym, ◌∙◌, ap, subst, ℕ, Option, None, Some, Result, Ok, Err, [], ◌∷◌, ◌++◌, IsSome, IsErr, IsErrAnd, append_assoc, append-nil, if◌then◌else◌}
+use Rattle.std.proofs.Common.{◌≡◌, ◌==◌, refl, sym, ◌∙◌, ap, subst, ℕ, Option, None, Some, Result, Ok, Err, [], ◌∷◌, ◌++◌, IsSome, IsErr, IsErrAnd}
+use Rattle.std.proofs.Common.{append_assoc, append-nil, if◌then◌else◌}
 use Rattle.std.proofs.lemmas.Bool.{false≢true}
 use Rattle.std.proofs.lemmas.Result.{err_from_is_err_and}
 use Rattle.yaml_base.specs.Characters.{Text, line_feed}
@@ -130,7 +131,12 @@ wrote_changing {lay} change {before} {between} {after} wrote is =
     let changed : P (record between { cursor = change between.cursor }) = record {
       answered = wrote.answered;
       ready = record { begun = wrote.ready.begun; marked = wrote.ready.marked };
-      settings = record { encoding = wrote.settings.encoding; line_break = wrote.settings.line_break; limit = wrote.settings.limit; taken = wrote.settings.taken };
+      settings = record {
+        encoding = wrote.settings.encoding;
+        line_break = wrote.settings.line_break;
+        limit = wrote.settings.limit;
+        taken = wrote.settings.taken;
+      };
       handed = wrote.handed;
       grew = wrote.grew;
       output = wrote.output;

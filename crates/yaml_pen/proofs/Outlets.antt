@@ -26,7 +26,8 @@ whole_append : (taken left more : List ℕ) → whole_output taken (left ++ more
 unfolding whole_output
 whole_append taken left more = sym (append_assoc taken left more)
 
-whole_take : (taken left : List ℕ) (count limit : ℕ) → count ≡ length taken → count ≤ limit → whole_output taken (take (limit - count) left) ≡ take limit (whole_output taken left)
+whole_take : (taken left : List ℕ) (count limit : ℕ) → count ≡ length taken → count ≤ limit
+    → whole_output taken (take (limit - count) left) ≡ take limit (whole_output taken left)
 unfolding whole_output
 whole_take taken left count limit counted within =
     sym (take-append-add taken left (limit - count)) ∙ ap (λ n. take n (taken ++ left)) (omega (arith, counted, within))

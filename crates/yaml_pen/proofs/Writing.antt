@@ -1,5 +1,6 @@
 -- What it does to a pen that its bytes grow by those of a text.
-use Rattle.std.proofs.Common.{◌≡◌, refl, sym, ◌∙◌, ap, ℕ, ◌==◌, ◌+◌, true, false, Bool, Option, None, Some, Ok, List, [], ◌∷◌, ◌++◌, IsSome, IsUtf8, arith, length, min, unwrap_or, if◌then◌else◌, append-nil, subst}
+use Rattle.std.proofs.Common.{◌≡◌, refl, sym, ◌∙◌, ap, ℕ, ◌==◌, ◌+◌, true, false, Bool, Option, None, Some, Ok, List, [], ◌∷◌, ◌++◌, IsSome, IsUtf8, arith}
+use Rattle.std.proofs.Common.{length, min, unwrap_or, if◌then◌else◌, append-nil, subst}
 use Rattle.std.specs.List.{list_any}
 use Rattle.std.specs.Str.{all_scalars, chars, encode_utf8_all}
 use Rattle.std.specs.Char.{IsScalar}

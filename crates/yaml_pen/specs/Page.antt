@@ -1,5 +1,6 @@
 -- What contracts see of a pen.
-use Rattle.std.specs.Prelude.{◌≡◌, ℕ, ℤ, pos, negsuc, ◌<◌, ◌≤◌, ◌⊎◌, Bool, true, false, Option, None, Some, Result, Ok, Err, List, [], IsSome, length, drop, if◌then◌else◌}
+use Rattle.std.specs.Prelude.{◌≡◌, ℕ, ℤ, pos, negsuc, ◌<◌, ◌≤◌, ◌⊎◌, Bool, true, false, Option, None, Some, Result, Ok, Err, List, [], IsSome, length, drop}
+use Rattle.std.specs.Prelude.{if◌then◌else◌}
 use Rattle.yaml_base.specs.Characters.{Text}
 use Rattle.yaml_base.specs.Settings.{Encoding, utf8, LineBreak, line_feed_break}
 use Rattle.yaml_base.specs.Cursor.{Cursor, first_cursor}
@@ -73,7 +74,17 @@ pub record IsHandedOut (bytes : List ℕ) (output : List ℕ) (limit : ℕ) (err
 -- a pen that was made with this limit
 abbrev pub new_page : ℕ → Page
 new_page limit =
-    record { encoding = None; mark_due = false; line_break = line_feed_break; limit = limit; text = []; cursor = first_cursor; output = []; taken = 0; error = None }
+    record {
+      encoding = None;
+      mark_due = false;
+      line_break = line_feed_break;
+      limit = limit;
+      text = [];
+      cursor = first_cursor;
+      output = [];
+      taken = 0;
+      error = None;
+    }
 
 -- a number that isn't negative
 abbrev pub natural : ℤ → ℕ

@@ -3,18 +3,22 @@ use Rattle.std.proofs.Common.{◌≡◌, ◌⊎◌, refl, subst, sym, ◌∙◌,
 use Rattle.std.proofs.lemmas.Bool.{true≢false, and_parts, and_right, eqb-true, lt-ltb, or_left, or_right}
 use Rattle.std.proofs.lemmas.Bool.Decides.{nat_tests}
 use Rattle.std.proofs.Math.Utf8.{scalar}
-use Rattle.std.specs.Prelude.{ℕ, zero, suc, Bool, true, false, not, Option, None, Some, List, [], ◌∷◌, ◌++◌, ◌==◌, ◌||◌, ◌&&◌, ◌+◌, ◌≤◌, replicate, if◌then◌else◌}
+use Rattle.std.specs.Prelude.{ℕ, zero, suc, Bool, true, false, not, Option, None, Some, List, [], ◌∷◌, ◌++◌, ◌==◌, ◌||◌, ◌&&◌, ◌+◌, ◌≤◌, replicate}
+use Rattle.std.specs.Prelude.{if◌then◌else◌}
 use Rattle.std.specs.Str.{all_scalars}
-use Rattle.yaml_base.specs.Characters.{Text, carriage_return, is_blank, is_break, is_printable, is_space, line_feed, line_separator, next_line, paragraph_separator, space}
+use Rattle.yaml_base.specs.Characters.{Text, carriage_return, is_blank, is_break, is_printable, is_space, line_feed, line_separator, next_line}
+use Rattle.yaml_base.specs.Characters.{paragraph_separator, space}
 use Rattle.yaml_base.specs.Cursor.{Cursor, Laid, breaks_line, column_after, is_past_width, text_laid, then_laid}
-use Rattle.yaml_base.specs.scalars.DoubleQuoted.{backslash, character_text, double_fold, double_inside, double_quoted_body, escape_text, is_other, may_fold, needs_escape, quote, quote_laid, space_kept}
+use Rattle.yaml_base.specs.scalars.DoubleQuoted.{backslash, character_text, double_fold, double_inside, double_quoted_body, escape_text, is_other, may_fold}
+use Rattle.yaml_base.specs.scalars.DoubleQuoted.{needs_escape, quote, quote_laid, space_kept}
 use Rattle.yaml_base.specs.LineBreaks.{is_indented_text, is_laid_text, is_read_break, with_breaks_written, with_line_breaks_read}
 use Rattle.yaml_base.specs.Settings.{LineBreak}
 use Rattle.yaml_base.specs.reading.ReadDouble.{QuotedReading, between, double_quoted_front, quoted_from, read_double, value_alone, with_unit}
 use Rattle.yaml_base.specs.reading.ReadFolding.{FoldUnit, Front, folding_read, front_of, front_read, itself, literal_blank, literal_break, unit_before}
 use Rattle.yaml_base.proofs.BreakLaws.{breaks-round, indented-written, laid-append}
 use Rattle.yaml_scalar.proofs.EscapesRead.{escape-reads}
-use Rattle.yaml_scalar.proofs.Unbroken.{character-long, character-unbroken, is_unbroken, unbroken-column, unbroken-indented, unbroken-laid, unbroken-replicate, unescaped}
+use Rattle.yaml_scalar.proofs.Unbroken.{character-long, character-unbroken, is_unbroken, unbroken-column, unbroken-indented, unbroken-laid, unbroken-replicate}
+use Rattle.yaml_scalar.proofs.Unbroken.{unescaped}
 
 -- a printable character other than a space is no blank
 no-blank : (c : ℕ) → is_printable c ≡ true → is_space c ≡ false → is_blank c ≡ false

@@ -3,7 +3,8 @@ use Rattle.std.proofs.Common.{◌≡◌, refl, ◌∙◌, arith, ltb-true}
 use Rattle.std.proofs.lemmas.Bool.{agree_below_at, and_from, and_parts, not-true, or_from}
 use Rattle.std.proofs.lemmas.List.Folds.{list_all-append}
 use Rattle.std.specs.List.{list_all, list_any}
-use Rattle.std.specs.Prelude.{ℕ, zero, suc, Bool, true, false, not, Option, None, Some, List, [], ◌∷◌, ◌==◌, ◌&&◌, ◌/◌, ◌%◌, ◌≤◌, nat_le, nat_lt, length, if◌then◌else◌}
+use Rattle.std.specs.Prelude.{ℕ, zero, suc, Bool, true, false, not, Option, None, Some, List, [], ◌∷◌, ◌==◌, ◌&&◌, ◌/◌, ◌%◌, ◌≤◌, nat_le, nat_lt, length}
+use Rattle.std.specs.Prelude.{if◌then◌else◌}
 use Rattle.std.specs.Str.{IsAscii}
 use Rattle.yaml_base.specs.Characters.{Text, hex_digit, hex_digits, is_break}
 use Rattle.yaml_base.specs.scalars.DoubleQuoted.{ShortEscape, escape_after_backslash, escape_text, letter_among, short_escapes}

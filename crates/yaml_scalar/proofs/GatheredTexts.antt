@@ -111,7 +111,8 @@ gathered_at unicode limit indent before (c ∷ front) rest cursor h =
     ∙ then-joined text (characters_text unicode front) cursor (double_inside unicode limit indent (Some (last_from c front)) rest)
 
 -- so what is still to be written is their texts, and what follows them
-pub gathered_still : (unicode : Bool) (limit : Option ℕ) (indent : ℕ) {whole : Cursor → Laid} {before last : ℕ} {text rest : Text} {bytes : List ℕ} {start here : Page}
+pub gathered_still : (unicode : Bool) (limit : Option ℕ) (indent : ℕ) {whole : Cursor → Laid} {before last : ℕ} {text rest : Text} {bytes : List ℕ}
+    {start here : Page}
     → AreGathered unicode before text bytes last rest
     → StillToWrite (double_inside unicode limit indent (Some before) text) whole start here
     → StillToWrite (λ cursor. then_laid (text_laid bytes cursor) (double_inside unicode limit indent (Some last) rest)) whole start here
@@ -141,7 +142,8 @@ failed_gathered {unicode} {before} {last} {text} {rest} {bytes} {old} {new} {err
     (record { bytes = bytes; last = last; rest = rest; are = are; wrote = wrote; next = tt })
 
 -- and what follows is still to be written
-pub gathered_left : (unicode : Bool) (limit : Option ℕ) (indent : ℕ) {whole : Cursor → Laid} {before : ℕ} {text : Text} {next : ℕ × Bor (List ℕ)} {start here later : Page}
+pub gathered_left : (unicode : Bool) (limit : Option ℕ) (indent : ℕ) {whole : Cursor → Laid} {before : ℕ} {text : Text} {next : ℕ × Bor (List ℕ)}
+    {start here later : Page}
     → WroteGathered unicode before text here later (Ok next) → StillToWrite (double_inside unicode limit indent (Some before) text) whole start here
     → StillToWrite (double_inside unicode limit indent (Some next.0) (chars next.1.now)) whole start later
 gathered_left unicode limit indent {whole} {before} {text} {next} {start} {here} {later} written still =
@@ -149,7 +151,8 @@ gathered_left unicode limit indent {whole} {before} {text} {next} {start} {here}
     (still_same (double_inside unicode limit indent (Some written.last)) (sym written.next.1)
     (still_rest (gathered_still unicode limit indent written.are still) written.wrote))
 
-pub gathered_failed : (unicode : Bool) (limit : Option ℕ) (indent : ℕ) {whole : Cursor → Laid} {before : ℕ} {text : Text} {start here later : Page} {error : yaml_error_t}
+pub gathered_failed : (unicode : Bool) (limit : Option ℕ) (indent : ℕ) {whole : Cursor → Laid} {before : ℕ} {text : Text} {start here later : Page}
+    {error : yaml_error_t}
     → WroteGathered unicode before text here later (Err error) → StillToWrite (double_inside unicode limit indent (Some before) text) whole start here
     → Wrote whole start later (Err error)
 gathered_failed unicode limit indent written still =

@@ -6,7 +6,8 @@ use Rattle.std.specs.List.{list_all}
 use Rattle.std.specs.Prelude.{ℕ, Bool, true, false, Option, None, Some, List, [], ◌∷◌, ◌==◌, ◌||◌, ◌&&◌, not, nat_lt, if◌then◌else◌}
 use Rattle.yaml_base.specs.Characters.{Text, is_ascii, is_break, is_printable, is_space}
 use Rattle.yaml_base.specs.Cursor.{Cursor, Laid, is_past_width, next_column, text_laid, then_laid}
-use Rattle.yaml_base.specs.scalars.DoubleQuoted.{backslash, character_text, double_character, double_fold, double_inside, escape_text, may_fold, needs_escape, quote}
+use Rattle.yaml_base.specs.scalars.DoubleQuoted.{backslash, character_text, double_character, double_fold, double_inside, escape_text, may_fold, needs_escape}
+use Rattle.yaml_base.specs.scalars.DoubleQuoted.{quote}
 use Rattle.yaml_pen.specs.Page.{Page}
 use Rattle.yaml_scalar.proofs.RunsWritten.{StandAlone}
 use Rattle.yaml_scalar.proofs.StillToWrite.{StillToWrite}

@@ -1,9 +1,5 @@
-pub mod BlockParts
-pub mod BlockFinal
-pub mod BlockFolds
+pub mod blocks
 pub mod LineRuns
-pub mod BlockReads
-pub mod BlockLines
 pub mod EscapesRead
 pub mod EscapeBytes
 pub mod EscapedBytes
@@ -19,8 +15,6 @@ pub mod DeepLines
 pub mod TidyLines
 pub mod TidyQuoted
 pub mod TidyBlocks
-pub mod BlockSteps
-pub mod FoldedSteps
 pub mod Barred
 pub mod Choices
 pub mod ByteRuns
@@ -33,13 +27,9 @@ pub mod LinesReadBack
 pub mod WholeRuns
 pub mod RunsWritten
 pub mod StaysInLine
-pub mod BlockStays
 pub mod InsideSteps
 pub mod GatheredTexts
 pub mod QuotedSteps
 pub mod ShortRuns
 pub mod UsualTexts
 pub mod LastCharacters
-pub mod NextEven
-pub mod BlockWrites
-pub mod BlockBack

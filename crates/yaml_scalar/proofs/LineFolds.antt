@@ -9,7 +9,8 @@ use Rattle.yaml_base.specs.Characters.{Text, carriage_return, next_line, is_brea
 use Rattle.yaml_base.specs.Cursor.{Cursor, is_past_width}
 use Rattle.yaml_base.specs.scalars.Analysis.{Charset, is_empty, is_special, begins_with, somewhere, bars_single_quoted}
 use Rattle.yaml_base.specs.scalars.Plain.{Kind, spaces, breaks, others, kind_of, is_same_kind, indentation}
-use Rattle.yaml_base.specs.reading.ReadFolding.{FoldUnit, literal_blank, literal_break, itself, unit_of, Front, run_read, front_read, front_of, unit_before, folding_read}
+use Rattle.yaml_base.specs.reading.ReadFolding.{FoldUnit, literal_blank, literal_break, itself, unit_of, Front, run_read, front_read, front_of, unit_before}
+use Rattle.yaml_base.specs.reading.ReadFolding.{folding_read}
 use Rattle.yaml_scalar.specs.LineSteps.{begins_kind, step_text}
 use Rattle.yaml_scalar.proofs.LineTexts.{bare_steps}
 

@@ -7,7 +7,9 @@ use Rattle.std.proofs.lemmas.Bool.{agree_below_at, and_from, and_parts}
 use Rattle.std.proofs.lemmas.List.Folds.{list_all-append}
 use Rattle.yaml_base.specs.Characters.{Text, is_between, hex_digit, hex_digits, is_space, line_feed, space}
 use Rattle.yaml_base.specs.Cursor.{Cursor, breaks_line, is_past_width, new_line, text_laid}
-use Rattle.yaml_base.specs.scalars.DoubleQuoted.{ShortEscape, backslash, character_text, double_character, double_fold, double_inside, double_quoted_body, escape_after_backslash, escape_text, letter_among, may_fold, needs_escape, quote, quote_laid, short_escapes, space_kept}
+use Rattle.yaml_base.specs.scalars.DoubleQuoted.{ShortEscape, backslash, character_text, double_character, double_fold, double_inside, double_quoted_body}
+use Rattle.yaml_base.specs.scalars.DoubleQuoted.{escape_after_backslash, escape_text, letter_among, may_fold, needs_escape, quote, quote_laid, short_escapes}
+use Rattle.yaml_base.specs.scalars.DoubleQuoted.{space_kept}
 use Rattle.yaml_base.specs.scalars.Plain.{plain_body, spaces}
 use Rattle.yaml_base.specs.scalars.SingleQuoted.{quotes_doubled, single_quote, single_quoted_body}
 use Rattle.yaml_scalar.proofs.LineTexts.{any_bare, any_both, any_cond, any_indentation, any_one}

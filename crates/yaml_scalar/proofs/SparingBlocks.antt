@@ -4,14 +4,15 @@ use Rattle.std.proofs.Common.{◌≡◌, refl, ap, ◌∙◌, ℕ, ◌≤◌, []
 use Rattle.std.specs.Prelude.{Option, ◌==◌, ◌&&◌, ◌+◌, not, replicate, if◌then◌else◌}
 use Rattle.std.specs.List.{list_any}
 use Rattle.std.proofs.lemmas.Bool.{and_from, le-leb, not-true, or_parts}
-use Rattle.yaml_base.specs.scalars.Analysis.{Charset, allows_block, allows_plain, allows_single_quoted, bars_block, bars_single_quoted, begins_with, is_special, somewhere}
+use Rattle.yaml_base.specs.scalars.Analysis.{Charset, allows_block, allows_plain, allows_single_quoted, bars_block, bars_single_quoted, begins_with, is_special}
+use Rattle.yaml_base.specs.scalars.Analysis.{somewhere}
 use Rattle.yaml_base.specs.Characters.{Text, is_break, is_space, line_feed, space}
 use Rattle.yaml_base.specs.Cursor.{Cursor}
 use Rattle.yaml_base.specs.scalars.BlockHeader.{Ending, without_break, one_break, more_breaks, ending, begins_blank, ending_hint, block_body}
 use Rattle.yaml_base.specs.scalars.Lines.{Part, line, line_break, begun, parts}
 use Rattle.yaml_base.specs.scalars.Literal.{indented, literal_body}
 use Rattle.yaml_base.specs.scalars.Folded.{cut_from, cut_line, folded_body, folded_parts, folds, next_even}
-use Rattle.yaml_scalar.proofs.BlockReads.{block-text, digit_text, sign_of}
+use Rattle.yaml_scalar.proofs.blocks.BlockReads.{block-text, digit_text, sign_of}
 use Rattle.yaml_scalar.proofs.LineTexts.{any_both, any_one}
 use Rattle.yaml_scalar.proofs.PlainReads.{plain_bars, plain_is_single}
 use Rattle.yaml_scalar.proofs.Sparing.{Spares, is_graph, lacks_spaces}

@@ -3,7 +3,8 @@
 use Rattle.std.proofs.Common.{◌≡◌, ◌≤◌, refl, sym, ap, ◌∙◌, subst, ℕ, [], ◌∷◌, ◌++◌, Bool, true, false, append-nil, append_assoc}
 use Rattle.std.specs.Prelude.{Option, ◌==◌, ◌||◌, ◌&&◌, not, if◌then◌else◌}
 use Rattle.std.proofs.lemmas.Bool.{and_from, and_parts, eqb-true, false≢true, true≢false, not-true, or_from, or_parts}
-use Rattle.yaml_base.specs.scalars.Analysis.{Charset, allows_plain, allows_single_quoted, bars_plain, bars_single_quoted, begins_unlike_plain, begins_with, is_empty, is_special, somewhere}
+use Rattle.yaml_base.specs.scalars.Analysis.{Charset, allows_plain, allows_single_quoted, bars_plain, bars_single_quoted, begins_unlike_plain, begins_with}
+use Rattle.yaml_base.specs.scalars.Analysis.{is_empty, is_special, somewhere}
 use Rattle.yaml_base.specs.Characters.{Text, is_break, is_space, line_feed, space}
 use Rattle.yaml_base.specs.Cursor.{Cursor, text_laid, is_past_width}
 use Rattle.yaml_base.specs.LineBreaks.{is_read_break}
@@ -12,8 +13,9 @@ use Rattle.yaml_base.specs.reading.ReadPlain.{is_read_white}
 use Rattle.yaml_base.specs.scalars.SingleQuoted.{quotes_doubled, single_quote, single_quoted_body}
 use Rattle.yaml_base.specs.TidyBodies.{begins_with_break, ends_white, has_clean_edges}
 use Rattle.yaml_scalar.specs.LineSteps.{begins_kind, step_text, steps_laid}
-use Rattle.yaml_scalar.proofs.BlockReads.{ordinary}
-use Rattle.yaml_scalar.proofs.DeepLines.{AllInk, BeginsInk, Ink, IsEven, deep_break, even_break, even_ink, even_line, even_nothing, even_space, ink_unbroken, space_unbroken}
+use Rattle.yaml_scalar.proofs.blocks.BlockReads.{ordinary}
+use Rattle.yaml_scalar.proofs.DeepLines.{AllInk, BeginsInk, Ink, IsEven, deep_break, even_break, even_ink, even_line, even_nothing, even_space, ink_unbroken}
+use Rattle.yaml_scalar.proofs.DeepLines.{space_unbroken}
 use Rattle.yaml_scalar.proofs.LineFolds.{breaks_only, spaces_only}
 use Rattle.yaml_scalar.proofs.LineIndents.{others_only}
 use Rattle.yaml_scalar.proofs.LineRuns.{runs_by_steps}

@@ -7,7 +7,8 @@ use Rattle.std.specs.Prelude.{Option, None, Some, ◌&&◌, ◌==◌, replicate,
 use Rattle.std.specs.List.{list_all}
 use Rattle.yaml_base.specs.Characters.{Text, is_space, line_feed, space}
 use Rattle.yaml_base.specs.Cursor.{Cursor, Laid, breaks_line, is_past_width, text_laid, then_laid}
-use Rattle.yaml_base.specs.scalars.DoubleQuoted.{backslash, character_text, double_fold, double_inside, double_quoted_body, escape_text, is_other, may_fold, needs_escape, quote, space_kept}
+use Rattle.yaml_base.specs.scalars.DoubleQuoted.{backslash, character_text, double_fold, double_inside, double_quoted_body, escape_text, is_other, may_fold}
+use Rattle.yaml_base.specs.scalars.DoubleQuoted.{needs_escape, quote, space_kept}
 use Rattle.yaml_base.specs.LineBreaks.{is_read_break}
 use Rattle.yaml_base.specs.TidyBodies.{begins_with_break}
 use Rattle.yaml_scalar.proofs.DeepLines.{AllInk, BeginsInk, Ink, IsEven, even_ink, even_line, even_nothing, even_space, ink_unbroken, space_unbroken}

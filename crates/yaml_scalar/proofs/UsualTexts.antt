@@ -87,7 +87,8 @@ usual_spaced {text} false is =
     ap not (some_allowed charset (chars text) (is.allows charset))
 
 -- it is a line where there is room for it
-pub usual_line : {quoted : Bool} {text : List ℕ} (limit : Option ℕ) (cursor : Cursor) → quoted ≡ false → IsUsual text → HasRoom limit cursor.column (length text)
+pub usual_line : {quoted : Bool} {text : List ℕ} (limit : Option ℕ) (cursor : Cursor) → quoted ≡ false → IsUsual text
+    → HasRoom limit cursor.column (length text)
     → IsShortLine limit quoted cursor text
 usual_line {quoted} {text} limit cursor plain is room =
     record { run = subst (λ (q : Bool). IsShortRun (stays_in_line false q) text) (sym plain) is.line; room = room }

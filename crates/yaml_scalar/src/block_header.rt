@@ -8,7 +8,7 @@ ghost use Rattle.yaml_pen.specs.Wrote.{Wrote};
 ghost use Rattle.yaml_scalar.specs.BlockCode.{seen_ending, without_mark};
 ghost use Rattle.yaml_scalar.specs.BlockSteps as step;
 
-use crate::steps::{ENDS_INDENTION, LEAVES_NO_SPACE, SPACED};
+use crate::shared::{ENDS_INDENTION, LEAVES_NO_SPACE, SPACED};
 use std::alloc::Allocator;
 use yaml_base::{is_break, is_space, yaml_error_t};
 use yaml_pen::Pen;

@@ -15,7 +15,7 @@ ghost use Rattle.yaml_scalar.specs.Width.{limit_of};
 
 use crate::analysis::begins_with_space;
 use crate::runs::{Run, RunEnds, line_run_after};
-use crate::steps::{BREAKS_ALLOWED, has_limit};
+use crate::shared::{BREAKS_ALLOWED, has_limit};
 use crate::width::is_past_width;
 use std::alloc::Allocator;
 use yaml_base::{is_break, is_space, yaml_error_t};

@@ -15,8 +15,8 @@ ghost use Rattle.yaml_scalar.specs.Width.{limit_where};
 
 use crate::analysis::is_at_end;
 use crate::runs::{Run, line_run_within, short_classes};
+use crate::shared::{may_fold_here, room_in_line};
 use crate::short_runs::{is_short_run, write_short_run};
-use crate::steps::{may_fold_here, room_in_line};
 use std::alloc::Allocator;
 use yaml_base::{is_break, is_space, yaml_error_t};
 use yaml_pen::Pen;

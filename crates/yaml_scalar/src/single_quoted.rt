@@ -11,7 +11,7 @@ ghost use Rattle.yaml_scalar.specs.ReadsBack.{ReadsBack};
 ghost use Rattle.yaml_scalar.specs.Width.{limit_where};
 
 use crate::lines::{Lines, write_lines};
-use crate::steps::{ENDS_INDENTION, LEAVES_NO_SPACE, SPACED, TIGHT};
+use crate::shared::{ENDS_INDENTION, LEAVES_NO_SPACE, SPACED, TIGHT};
 use std::alloc::Allocator;
 use yaml_base::yaml_error_t;
 use yaml_pen::Pen;

@@ -11,8 +11,8 @@ ghost use Rattle.yaml_scalar.specs.Width.{limit_where};
 
 use crate::classes::{BREAK, SIGN, UNPRINTABLE, WIDE};
 use crate::lines::{Lines, line_room, write_runs};
+use crate::shared::SPACED;
 use crate::short_runs::{is_short_run, write_short_run};
-use crate::steps::SPACED;
 use std::alloc::Allocator;
 use yaml_base::yaml_error_t;
 use yaml_pen::Pen;

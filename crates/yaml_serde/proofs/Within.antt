@@ -10,7 +10,8 @@ use Rattle.yaml_base.specs.Settings.{Settings}
 use Rattle.yaml_base.specs.declared.errors.yaml_error_t.{yaml_error_t}
 use Rattle.yaml_base.specs.declared.errors.yaml_error_t.TheVariants.{Memory}
 use Rattle.yaml_emitter.specs.State.{State}
-use Rattle.yaml_writer.specs.Writing.{WriterState, Adds, Gave, Failed, EndsInnermost, Finishes, IsStream, NodeExpected, StandsTaken, awaits_node, closing, end_event, opening}
+use Rattle.yaml_writer.specs.Writing.{WriterState, Adds, Gave, Failed, EndsInnermost, Finishes, IsStream, NodeExpected, StandsTaken, awaits_node, closing}
+use Rattle.yaml_writer.specs.Writing.{end_event, opening}
 use Rattle.yaml_serde.specs.Documents.{IsCall, IsWithin, IsDocument, end_call}
 
 module _ (given : Settings) where

@@ -7,7 +7,8 @@ use Rattle.yaml_base.specs.values.JsonNumbers.{JsonNumber, is_json_number}
 use Rattle.yaml_base.specs.Settings.{Settings}
 use Rattle.yaml_emitter.specs.State.{State}
 use Rattle.yaml_writer.specs.Floats.{special_event}
-use Rattle.yaml_writer.specs.Writing.{WriterState, IsStream, StandsTaken, bool_event, closing, end_event, int_event, mapping_event, null_event, number_event, opening, sequence_event, text_event}
+use Rattle.yaml_writer.specs.Writing.{WriterState, IsStream, StandsTaken, bool_event, closing, end_event, int_event, mapping_event, null_event, number_event}
+use Rattle.yaml_writer.specs.Writing.{opening, sequence_event, text_event}
 use Rattle.yaml_writer.specs.declared.floats.SpecialFloat.{SpecialFloat}
 use Rattle.yaml_writer.specs.declared.kinds.CollectionKind.{CollectionKind}
 

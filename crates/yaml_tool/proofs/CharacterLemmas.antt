@@ -4,7 +4,8 @@ use Rattle.std.specs.Char.{encode_utf8}
 use Rattle.std.specs.Str.{chars, IsUtf8, IsCharBoundary, encode_utf8_all}
 use Rattle.std.proofs.lemmas.List.{take-append-drop, take_at, drop_at}
 use Rattle.std.proofs.Math.Nat.{sub_self}
-use Rattle.std.proofs.lemmas.Str.{encodes-append, encodes-chars, chars_from_encodes, IsUtf8-take, IsUtf8-past_char, chars_past_char, chars-append, chars-nil, IsCharBoundary-at_seam}
+use Rattle.std.proofs.lemmas.Str.{encodes-append, encodes-chars, chars_from_encodes, IsUtf8-take, IsUtf8-past_char, chars_past_char, chars-append, chars-nil}
+use Rattle.std.proofs.lemmas.Str.{IsCharBoundary-at_seam}
 use Rattle.std.specs.Prelude.{◌==◌}
 use Rattle.std.specs.List.{list_any}
 use Rattle.std.proofs.lemmas.List.Folds.{list_any-append}

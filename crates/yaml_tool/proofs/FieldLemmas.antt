@@ -1,11 +1,13 @@
 -- A line is cut at its first separator, character by character, and read field by field.
-use Rattle.std.proofs.Common.{◌≡◌, ℕ, Bool, true, false, if◌then◌else◌, ◌==◌, ◌≤◌, length, Option, None, Some, option_map, append-nil, List, [], ◌∷◌, ◌++◌, refl, sym, subst, ap, ◌∙◌, arith}
+use Rattle.std.proofs.Common.{◌≡◌, ℕ, Bool, true, false, if◌then◌else◌, ◌==◌, ◌≤◌, length, Option, None, Some, option_map, append-nil, List, [], ◌∷◌, ◌++◌}
+use Rattle.std.proofs.Common.{refl, sym, subst, ap, ◌∙◌, arith}
 use Rattle.std.proofs.lemmas.Bool.Decides.{nat_tests}
 use Rattle.std.specs.List.{onto_first}
 use Rattle.std.specs.Str.{chars, IsUtf8}
 use Rattle.yaml_base.specs.Characters.{Text, space}
 use Rattle.yaml_base.specs.scripts.Script as notation
-use Rattle.yaml_base.specs.scripts.Script.{outside, inside, escaped, separates, state_after, cut_before, pieces_from, bare, quoted, text_from, at_character, field_read, field_and, each_field, fields_read, quotation_mark, backslash}
+use Rattle.yaml_base.specs.scripts.Script.{outside, inside, escaped, separates, state_after, cut_before, pieces_from, bare, quoted, text_from, at_character}
+use Rattle.yaml_base.specs.scripts.Script.{field_read, field_and, each_field, fields_read, quotation_mark, backslash}
 use Rattle.yaml_tool.specs.Cuts.{IsFree, SkipsTo, front_of}
 use Rattle.yaml_tool.specs.Fields.{attached, RunsTo, pieces_after, fields_after, text_begun, led_by, HasField}
 use Rattle.yaml_tool.proofs.CutLemmas.{neither}
@@ -35,7 +37,8 @@ behind_separator escaped c h = cc
 pub stops_first : (standing : notation.FieldState) (c : ℕ) (front text rest : Text) → text ≡ c ∷ rest → separates standing c ≡ true
     → attached front (pieces_from standing text) ≡ front ∷ pieces_from outside rest
 stops_first standing c front text rest begins is =
-    let opened : pieces_from standing text ≡ cut_before (separates standing c) c (pieces_from (state_after standing c) rest) = ap (pieces_from standing) begins in
+    let opened : pieces_from standing text ≡ cut_before (separates standing c) c (pieces_from (state_after standing c) rest) =
+    ap (pieces_from standing) begins in
     let cut : cut_before (separates standing c) c (pieces_from (state_after standing c) rest) ≡ [] ∷ pieces_from outside rest =
     subst (λ (b : Bool). cut_before b c (pieces_from (state_after standing c) rest) ≡ [] ∷ pieces_from outside rest) (sym is)
     (ap (λ (s : notation.FieldState). [] ∷ pieces_from s rest) (behind_separator standing c is)) in

@@ -1,10 +1,12 @@
 -- What lines say, by their first field and by their bytes.
-use Rattle.std.proofs.Common.{◌≡◌, ℕ, Bor, Bool, true, false, codes, Option, None, Some, option_map, option_and_then, List, [], ◌∷◌, refl, ap, sym, ◌∙◌, if◌then◌else◌}
+use Rattle.std.proofs.Common.{◌≡◌, ℕ, Bor, Bool, true, false, codes, Option, None, Some, option_map, option_and_then, List, [], ◌∷◌, refl, ap, sym, ◌∙◌}
+use Rattle.std.proofs.Common.{if◌then◌else◌}
 use Rattle.std.specs.Option.{option_or, IfSome}
 use Rattle.std.specs.Str.{chars, IsUtf8, is_utf8}
 use Rattle.std.proofs.lemmas.Str.{is_utf8-from_IsUtf8, IsUtf8-from_is_utf8}
 use Rattle.yaml_base.specs.Event.{Event}
-use Rattle.yaml_base.specs.scripts.Script.{Setting, Field, bare, quoted, field_and, sets, gives, setting_of, setting_line, event_of, line_of, line_read, line_understood}
+use Rattle.yaml_base.specs.scripts.Script.{Setting, Field, bare, quoted, field_and, sets, gives, setting_of, setting_line, event_of, line_of, line_read}
+use Rattle.yaml_base.specs.scripts.Script.{line_understood}
 use Rattle.yaml_tool.specs.Cuts.{Follows}
 use Rattle.yaml_tool.specs.Events.{event_word, event_by, usual_event}
 use Rattle.yaml_tool.specs.Fields.{led_by, the_text, text_begun}

@@ -23,7 +23,8 @@ says_first (Some all) front said number line =
     ∙ ap (λ (n : ℕ). script_behind n nothing_said (front.line.items ++ all)) number
     ∙ ap (λ (bytes : List ℕ). script_behind 1 nothing_said (bytes ++ all)) line)
 
-pub says_more : {A : Type 0} (given now next : Option (List ℕ)) (old new : Front A) → StillSays given old now → GoesOn old now new next → StillSays given new next
+pub says_more : {A : Type 0} (given now next : Option (List ℕ)) (old new : Front A) → StillSays given old now → GoesOn old now new next
+    → StillSays given new next
 says_more None now next old new says goes = tt
 says_more (Some all) None next old new says goes = absurd says
 says_more (Some all) (Some left) None old new says goes = absurd goes

@@ -1,5 +1,6 @@
 -- A text is read turn by turn: `\u{..}` is cut at its closing brace.
-use Rattle.std.proofs.Common.{◌≡◌, ℕ, Bool, false, ◌==◌, Option, None, Some, option_map, List, [], ◌∷◌, ◌++◌, length, append_assoc, append-nil, refl, sym, subst, ap, ◌∙◌, if◌then◌else◌}
+use Rattle.std.proofs.Common.{◌≡◌, ℕ, Bool, false, ◌==◌, Option, None, Some, option_map, List, [], ◌∷◌, ◌++◌, length, append_assoc, append-nil, refl, sym}
+use Rattle.std.proofs.Common.{subst, ap, ◌∙◌, if◌then◌else◌}
 use Rattle.std.specs.Prelude.{String}
 use Rattle.std.specs.String.{string_bytes}
 use Rattle.std.specs.Char.{encode_utf8}
@@ -8,7 +9,8 @@ use Rattle.std.proofs.lemmas.Str.{chars-append, chars-nil, encodes-append, encod
 use Rattle.yaml_base.specs.Seen.{seen_text}
 use Rattle.yaml_base.specs.Characters.{Text}
 use Rattle.yaml_base.specs.scripts.Script as notation
-use Rattle.yaml_base.specs.scripts.Script.{goes_on, stands_for, ends, fails, at_character, at_escape, at_digits, at_brace, text_from, numbered_turn, quotation_mark, backslash, turn}
+use Rattle.yaml_base.specs.scripts.Script.{goes_on, stands_for, ends, fails, at_character, at_escape, at_digits, at_brace, text_from, numbered_turn}
+use Rattle.yaml_base.specs.scripts.Script.{quotation_mark, backslash, turn}
 use Rattle.yaml_tool.specs.Cuts.{IsFree, IsCut, SkipsTo, front_of}
 use Rattle.yaml_tool.specs.Texts.{ReadsOn}
 use Rattle.yaml_tool.proofs.CutLemmas.{neither}

@@ -2,7 +2,8 @@
 use Rattle.std.specs.Prelude.{true, Option, None, option_map, option_and_then, List, [], ◌∷◌, map, Vec, codes}
 use Rattle.std.specs.Str.{chars}
 use Rattle.yaml_base.specs.Characters.{Text}
-use Rattle.yaml_base.specs.Event.{Event, Version, TagDirective, scalar, any_style, stream_end, document_start, sequence_start, sequence_end, mapping_start, mapping_end}
+use Rattle.yaml_base.specs.Event.{Event, Version, TagDirective, scalar, any_style, stream_end, document_start, sequence_start, sequence_end, mapping_start}
+use Rattle.yaml_base.specs.Event.{mapping_end}
 use Rattle.yaml_base.specs.Seen.{seen_text, seen_version, seen_directive}
 use Rattle.yaml_base.specs.declared.directives.yaml_version_directive_t.{yaml_version_directive_t}
 use Rattle.yaml_base.specs.declared.directives.yaml_tag_directive_t.{yaml_tag_directive_t}

@@ -3,7 +3,8 @@ ghost use Rattle.std.specs.Prelude.{◌≡◌, ◌<◌, ◌≤◌, true, false, 
 ghost use Rattle.std.specs.Str.{chars, IsUtf8};
 ghost use Rattle.yaml_base.specs.scripts.Script as notation;
 ghost use Rattle.yaml_base.specs.Seen.{seen_text};
-ghost use Rattle.yaml_tool.specs.Fields.{seen_field_state, RunsTo, pieces_after, fields_after, text_begun, led_by, no_text, field_of, the_word, the_text, HasField, HasNoField, HasNoWord, HasNoText, HasNoDash, HasNoChoice};
+ghost use Rattle.yaml_tool.specs.Fields.{seen_field_state, RunsTo, pieces_after, fields_after, text_begun, led_by, no_text, field_of, the_word, the_text};
+ghost use Rattle.yaml_tool.specs.Fields.{HasField, HasNoField, HasNoWord, HasNoText, HasNoDash, HasNoChoice};
 
 use crate::characters::{first_character, from_near_sign, from_sign, front_before};
 use crate::texts::text_behind;

@@ -3,7 +3,7 @@ ghost use Rattle.std.specs.Prelude.{◌≡◌, ◌≤◌, ◌+◌, ◌-◌, ◌^
 ghost use Rattle.std.specs.Str.{chars};
 ghost use Rattle.yaml_base.specs.scripts.Script as notation;
 ghost use Rattle.yaml_tool.specs.Settings.{seen_setting, seen_settings};
-ghost use Rattle.yaml_tool.specs.Lines.{seen_line, usual_line};
+ghost use Rattle.yaml_tool.specs.Lines.{seen_line};
 ghost use Rattle.yaml_tool.specs.Scripts.{seen_progress, seen_numbered, nothing_said, after_line, after_said, script_behind, CutsLine, LeavesLine, IsFaultOf};
 
 use crate::events::{usual_scalar, usual_start};
@@ -69,18 +69,6 @@ impl<A: Allocator> Progress<A> {
         ensures { result ≡ notation.may_be_set (seen_setting setting) (seen_progress self.now) }
     {
         self.events.is_empty() && !is_set(setting, self.settings.as_slice())
-    }
-
-    /// Takes a usual scalar's line, whose value's opening mark stands before this text; answers whether it is good.
-    #[inline(always)]
-    fn take_usual(&mut self, alloc: A, number: u64, behind: &str) -> Result<bool, AllocError>
-        ensures { IfOk result (λ taken. after_said number (seen_progress self.old) (usual_line (chars behind.now))
-            ≡ (if taken then Some (seen_progress self.new) else None)) }
-    {
-        match whole_text(alloc, behind)? {
-            Some(value) => self.take_line(number, Line::Gives(usual_scalar(value))),
-            None => Ok(false),
-        }
     }
 
     /// Takes a line, and answers whether it may stand there.
@@ -215,7 +203,10 @@ fn text_taken<A: Allocator + Copy>(
         ≡ (if taken then Some (seen_progress progress.new) else None)) }
 {
     match usual_value(line) {
-        Some(behind) => progress.take_usual(alloc, number, behind),
+        Some(behind) => match whole_text(alloc, behind)? {
+            Some(value) => progress.take_line(number, Line::Gives(usual_scalar(value))),
+            None => Ok(false),
+        },
         None => match end_named(line) {
             Some(event) => progress.take_line(number, Line::Gives(event)),
             None if is_usual_start(line) => {

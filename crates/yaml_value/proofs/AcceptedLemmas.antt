@@ -5,7 +5,9 @@ use Rattle.std.specs.Prelude.{ℕ, suc, ◌+◌, ◌≤◌, true, max, List, [],
 use Rattle.yaml_base.specs.Event.{Event, stream_end, document_end, sequence_end, mapping_end}
 use Rattle.yaml_base.specs.Grammar.{node_events, nodes_events, pairs_events}
 use Rattle.yaml_base.specs.Refusal.{IsAccepted, open_count, most_open}
-use Rattle.yaml_base.specs.values.TypedValues.{TypedValue, null_value, bool_value, int_value, text_value, list_value, map_value, TypedValues, no_values, values_and, TypedPairs, no_value_pairs, value_pairs_and, nesting, values_nesting, value_pairs_nesting, most_nested, value_node, value_nodes, value_pairs, value_stream, value_events}
+use Rattle.yaml_base.specs.values.TypedValues.{TypedValue, null_value, bool_value, int_value, text_value, list_value, map_value, TypedValues, no_values}
+use Rattle.yaml_base.specs.values.TypedValues.{values_and, TypedPairs, no_value_pairs, value_pairs_and, nesting, values_nesting, value_pairs_nesting}
+use Rattle.yaml_base.specs.values.TypedValues.{most_nested, value_node, value_nodes, value_pairs, value_stream, value_events}
 use Rattle.yaml_emitter.proofs.AcceptedLists.{sound, both_sound, Stays, few_open}
 
 -- ---- each event is in order

@@ -2,14 +2,20 @@
 use Rattle.std.proofs.Common.{◌≡◌, refl, sym, ap, ap₂, ◌∙◌, arith}
 use Rattle.std.proofs.lemmas.Bool.Decides.{nat_tests}
 use Rattle.std.proofs.lemmas.Fmt.{decimal_by_steps, decimal_is_IsNumeral}
-use Rattle.std.specs.Prelude.{ℕ, suc, ℤ, pos, negsuc, ◌+◌, ◌%◌, ◌^◌, ◌<◌, ◌==◌, Bool, true, false, cond, None, Some, List, [], ◌∷◌, ◌++◌, codes, bytes_eq, option_map}
+use Rattle.std.specs.Prelude.{ℕ, suc, ℤ, pos, negsuc, ◌+◌, ◌%◌, ◌^◌, ◌<◌, ◌==◌, Bool, true, false, cond, None, Some, List, [], ◌∷◌, ◌++◌, codes, bytes_eq}
+use Rattle.std.specs.Prelude.{option_map}
 use Rattle.std.specs.Fmt.{decimal, signed_decimal}
 use Rattle.std.specs.Int.Signed.{mag}
 use Rattle.std.specs.Str.Parse.{digits_value}
 use Rattle.std.proofs.Math.IntN.{neg_ℤ}
 use Rattle.yaml_base.specs.Characters.{Text}
-use Rattle.yaml_base.specs.reading.Content.{ScalarTag, tagged, untagged, Content, alias_content, scalar_content, sequence_content, mapping_content, Contents, no_contents, contents_and, ContentPairs, no_content_pairs, content_pairs_and, DocumentContent, node_content, nodes_content, pairs_content, documents_content, content_of}
-use Rattle.yaml_base.specs.values.TypedValues.{TypedValue, null_value, bool_value, int_value, text_value, list_value, map_value, TypedValues, no_values, values_and, TypedPairs, no_value_pairs, value_pairs_and, null_tag, bool_tag, int_tag, bool_text, value_content, values_content, value_pairs_content, typed_content, Has64Bits, Have64Bits, PairsHave64Bits, value_node, value_nodes, value_pairs, value_stream, value_events}
+use Rattle.yaml_base.specs.reading.Content.{ScalarTag, tagged, untagged, Content, alias_content, scalar_content, sequence_content, mapping_content, Contents}
+use Rattle.yaml_base.specs.reading.Content.{no_contents, contents_and, ContentPairs, no_content_pairs, content_pairs_and, DocumentContent, node_content}
+use Rattle.yaml_base.specs.reading.Content.{nodes_content, pairs_content, documents_content, content_of}
+use Rattle.yaml_base.specs.values.TypedValues.{TypedValue, null_value, bool_value, int_value, text_value, list_value, map_value, TypedValues, no_values}
+use Rattle.yaml_base.specs.values.TypedValues.{values_and, TypedPairs, no_value_pairs, value_pairs_and, null_tag, bool_tag, int_tag, bool_text, value_content}
+use Rattle.yaml_base.specs.values.TypedValues.{values_content, value_pairs_content, typed_content, Has64Bits, Have64Bits, PairsHave64Bits, value_node}
+use Rattle.yaml_base.specs.values.TypedValues.{value_nodes, value_pairs, value_stream, value_events}
 use Rattle.yaml_base.specs.graphs.Meetings.{sequence_tag, mapping_tag}
 use Rattle.yaml_base.proofs.Trees.{tree_of-stream_events}
 

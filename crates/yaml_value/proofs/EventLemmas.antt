@@ -8,7 +8,8 @@ use Rattle.yaml_base.specs.Characters.{Text}
 use Rattle.yaml_base.specs.Event.{Event}
 use Rattle.yaml_base.specs.Grammar.{node_events, nodes_events, pairs_events}
 use Rattle.yaml_base.specs.Seen.{seen_event, seen_events}
-use Rattle.yaml_base.specs.values.TypedValues.{TypedPairs, tagged_node, values_and, value_pairs_and, value_node, value_nodes, value_pairs, Has64Bits, Have64Bits, PairsHave64Bits}
+use Rattle.yaml_base.specs.values.TypedValues.{TypedPairs, tagged_node, values_and, value_pairs_and, value_node, value_nodes, value_pairs, Has64Bits}
+use Rattle.yaml_base.specs.values.TypedValues.{Have64Bits, PairsHave64Bits}
 use Rattle.yaml_base.specs.declared.events.yaml_event_t.{yaml_event_t}
 use Rattle.yaml_value.specs.SeenValues.{seen_value, seen_values, seen_pairs}
 use Rattle.yaml_value.specs.declared.value.Value.{Value}

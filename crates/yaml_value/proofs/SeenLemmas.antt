@@ -8,7 +8,8 @@ use Rattle.std.proofs.lemmas.List.{take_more, take_all, map-append}
 use Rattle.std.proofs.lemmas.List.Folds.{list_all-map, list_all_more, list_all_at}
 use Rattle.std.specs.Prelude.{ℕ, ◌+◌, ◌<◌, ◌≤◌, Bool, true, false, ◌&&◌, nat_le, max, min, List, [], ◌∷◌, ◌++◌, length, map, take, get_or}
 use Rattle.std.specs.List.{list_all}
-use Rattle.yaml_base.specs.values.TypedValues.{TypedValue, TypedValues, no_values, values_and, TypedPairs, no_value_pairs, value_pairs_and, nesting, values_nesting, value_pairs_nesting, value_count, values_count, value_pairs_count}
+use Rattle.yaml_base.specs.values.TypedValues.{TypedValue, TypedValues, no_values, values_and, TypedPairs, no_value_pairs, value_pairs_and, nesting}
+use Rattle.yaml_base.specs.values.TypedValues.{values_nesting, value_pairs_nesting, value_count, values_count, value_pairs_count}
 use Rattle.yaml_value.specs.SeenValues.{values_of, pairs_of, seen_value, seen_values, seen_pairs}
 use Rattle.yaml_value.specs.declared.value.Value.{Value}
 use Rattle.yaml_base.specs.Settings.{largest_usize}

@@ -1,7 +1,8 @@
 -- What is inside a value weighs less than the value: so its events are pushed in finite time.
 use Rattle.std.proofs.Common.{◌≡◌, ◌+◌, ◌<◌, ◌≤◌, sym, subst, arith}
 use Rattle.std.specs.Prelude.{ℕ, zero, suc, List, [], ◌∷◌, length, map, get_or}
-use Rattle.yaml_base.specs.values.TypedValues.{TypedValue, list_value, map_value, TypedValues, no_values, values_and, TypedPairs, no_value_pairs, value_pairs_and}
+use Rattle.yaml_base.specs.values.TypedValues.{TypedValue, list_value, map_value, TypedValues, no_values, values_and, TypedPairs, no_value_pairs}
+use Rattle.yaml_base.specs.values.TypedValues.{value_pairs_and}
 use Rattle.yaml_value.specs.SeenValues.{values_of, pairs_of, seen_value, seen_values, seen_pairs}
 use Rattle.yaml_value.specs.declared.value.Value.{Value}
 

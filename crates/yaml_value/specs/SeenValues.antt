@@ -1,7 +1,8 @@
 -- What contracts see of values: no capacity and no allocator, texts as their characters.
 use Rattle.std.specs.Prelude.{List, [], ◌∷◌, map}
 use Rattle.yaml_base.specs.Seen.{seen_text}
-use Rattle.yaml_base.specs.values.TypedValues.{TypedValue, null_value, bool_value, int_value, text_value, list_value, map_value, TypedValues, no_values, values_and, TypedPairs, no_value_pairs, value_pairs_and}
+use Rattle.yaml_base.specs.values.TypedValues.{TypedValue, null_value, bool_value, int_value, text_value, list_value, map_value, TypedValues, no_values}
+use Rattle.yaml_base.specs.values.TypedValues.{values_and, TypedPairs, no_value_pairs, value_pairs_and}
 use Rattle.yaml_value.specs.declared.value.Value.{Value, fold-Value}
 use Rattle.yaml_value.specs.declared.value.Value.TheOpen.{Value-F}
 

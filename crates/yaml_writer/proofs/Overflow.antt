@@ -29,7 +29,8 @@ use Rattle.yaml_emitter.proofs.standing.StandingSteps.{closes_last-append}
 use Rattle.yaml_emitter.proofs.standing.StandingTexts.{begin_taken, front_longer, holds_text}
 use Rattle.yaml_emitter.specs.Processing.{closes_at_once}
 use Rattle.yaml_emitter.specs.Promises.{BeginsOutput, OutputBegins, StopsWriting, stops_before, stops_within}
-use Rattle.yaml_emitter.specs.StandsAfter.{HoldsPiecesWith, StandsCut, StandsSo, StandsStopped, StandsUnflushed, holds_before, holds_part, at_event, between_events}
+use Rattle.yaml_emitter.specs.StandsAfter.{HoldsPiecesWith, StandsCut, StandsSo, StandsStopped, StandsUnflushed, holds_before, holds_part, at_event}
+use Rattle.yaml_emitter.specs.StandsAfter.{between_events}
 use Rattle.yaml_emitter.specs.State.{State}
 use Rattle.yaml_emitter.specs.Uncut.{IsUncut}
 use Rattle.yaml_writer.specs.Unfinished.{PassesLimit}
@@ -170,7 +171,8 @@ pub overflowed : (given : Settings) (all : List Event) (state : State) → Stand
 overflowed given all state stands is =
     stopped_by given all state encoding passes
     (λ accepted uncut.
-    let more = more_bytes (settings_for given all) state.page (list_layout (settings_for given all) all) encoding (stopped_text given all state stopped accepted) in
+    let more = more_bytes (settings_for given all) state.page (list_layout (settings_for given all) all) encoding
+    (stopped_text given all state stopped accepted) in
     omega (arith, passes, uncut, more))
     (subst (λ (error : Option yaml_error_t). OutputBegins given all error state) is (promises_output given all state stands))
   where

@@ -3,13 +3,15 @@ use Rattle.std.proofs.Common.{◌≡◌, ◌≢◌, Bor, MatchOption, refl, sym,
 use Rattle.std.proofs.lemmas.Bool.{true≢false, and_parts, and_from, or_from, not-true, not_from_false, eqb-true, ne_eqb, eq-eqb}
 use Rattle.std.proofs.lemmas.List.Folds.{list_all-append}
 use Rattle.std.specs.List.{list_all}
-use Rattle.std.specs.Prelude.{ℕ, suc, Bool, true, false, Option, None, Some, List, [], ◌∷◌, ◌++◌, ◌<◌, ◌==◌, ◌||◌, not, length, get_or, codes, option_map, ⊤, if◌then◌else◌}
+use Rattle.std.specs.Prelude.{ℕ, suc, Bool, true, false, Option, None, Some, List, [], ◌∷◌, ◌++◌, ◌<◌, ◌==◌, ◌||◌, not, length, get_or, codes, option_map, ⊤}
+use Rattle.std.specs.Prelude.{if◌then◌else◌}
 use Rattle.yaml_base.specs.Characters.{Text}
 use Rattle.yaml_base.specs.scripts.Script.{is_word}
 use Rattle.yaml_base.specs.values.Resolved.{is_decimal, is_negative, past_sign, are_digits}
 use Rattle.yaml_base.specs.values.JsonNumbers.{JsonNumber, JsonExponent, minus, is_whole, is_json_number, exponent_text, json_text}
 use Rattle.yaml_base.proofs.NumberCuts.{digit_unlike, minus_read}
-use Rattle.yaml_writer.specs.NumberParts.{cut_at, past_minus, sign_of, exponent_in, around, exponent_cut, around_point, fraction_cut, number_in, IsNumber, IsNoNumber, is_fraction, is_exponent}
+use Rattle.yaml_writer.specs.NumberParts.{cut_at, past_minus, sign_of, exponent_in, around, exponent_cut, around_point, fraction_cut, number_in, IsNumber}
+use Rattle.yaml_writer.specs.NumberParts.{IsNoNumber, is_fraction, is_exponent}
 use Rattle.yaml_writer.proofs.ValidNumbers.{Valid, valid_parts}
 
 -- Cuts
@@ -161,7 +163,8 @@ fraction_lacks sign (Some digits) other point h =
     and_from (not (0x2E == sign)) (lacks sign digits) (not_from_false (0x2E == sign) point)
     (digits_lack sign digits other (and_parts (not (length digits == 0)) (list_all is_decimal digits) h).1)
 
-fraction_cut_at : (whole : Text) (fraction : Option Text) → list_all is_decimal whole ≡ true → fraction_cut (whole ++ fraction_text fraction) ≡ (whole, fraction)
+fraction_cut_at : (whole : Text) (fraction : Option Text) → list_all is_decimal whole ≡ true
+    → fraction_cut (whole ++ fraction_text fraction) ≡ (whole, fraction)
 fraction_cut_at whole None h =
     ap fraction_cut (append-nil whole) ∙ ap (λ o. around_point o whole) (cut_none 0x2E whole (digits_lack 0x2E whole refl h))
 fraction_cut_at whole (Some digits) h =
@@ -186,7 +189,8 @@ exponent_found capital (Some true) digits h = refl
 exponent_found capital (Some false) digits h = refl
 exponent_found capital None [] h = absurd (true≢false (sym h))
 exponent_found capital None (c ∷ digits) h =
-    ap (λ s. made s (past_sign (c ∷ digits))) unsigned ∙ ap (made None) (ap (λ x. if x then digits else c ∷ digits) (or_from (c == 0x2B) (c == 0x2D) no_plus no_minus))
+    ap (λ s. made s (past_sign (c ∷ digits))) unsigned ∙ ap (made None)
+    (ap (λ x. if x then digits else c ∷ digits) (or_from (c == 0x2B) (c == 0x2D) no_plus no_minus))
   where
     made : Option Bool → Text → JsonExponent
     made sign text = record { capital = capital; sign = sign; digits = text }

@@ -1,13 +1,15 @@
 -- Numbers are written plain, and read as themselves.
 use Rattle.std.proofs.Common.{◌≡◌, refl, sym, ap, ◌∙◌, arith}
-use Rattle.std.proofs.lemmas.Bool.{true≢false, and_parts, and_from, and_left, and_right, or_parts, or_from, not-true, not_from_false, ltb-true, agree_below, agree_below_at}
+use Rattle.std.proofs.lemmas.Bool.{true≢false, and_parts, and_from, and_left, and_right, or_parts, or_from, not-true, not_from_false, ltb-true, agree_below}
+use Rattle.std.proofs.lemmas.Bool.{agree_below_at}
 use Rattle.std.proofs.lemmas.Str.Parse.{digit_from_value}
 use Rattle.std.specs.Char.{digit_value}
 use Rattle.std.specs.List.{list_all, list_any}
 use Rattle.std.specs.Prelude.{ℕ, Bool, true, false, [], ◌∷◌, ◌++◌, ◌==◌, ◌||◌, ◌&&◌, not, length, codes, if◌then◌else◌}
 use Rattle.yaml_base.proofs.NumberCuts.{digit_unlike}
 use Rattle.yaml_base.proofs.NumbersRead.{numbers_are_read}
-use Rattle.yaml_base.specs.scalars.Analysis.{Allowances, Charset, allowances, allows_plain, bars_plain, begins_like_mark, begins_unlike_plain, begins_with, ends_word, is_empty, is_gap, is_indicator, is_special, somewhere}
+use Rattle.yaml_base.specs.scalars.Analysis.{Allowances, Charset, allowances, allows_plain, bars_plain, begins_like_mark, begins_unlike_plain, begins_with}
+use Rattle.yaml_base.specs.scalars.Analysis.{ends_word, is_empty, is_gap, is_indicator, is_special, somewhere}
 use Rattle.yaml_base.specs.Characters.{Text, is_among, is_ascii, is_break, is_printable, is_space, line_separator, paragraph_separator}
 use Rattle.yaml_base.specs.Event.{plain}
 use Rattle.yaml_base.specs.values.JsonNumbers.{minus, is_json_integer, fraction_or, exponent_spelled, json_value, means_number, yaml_number}

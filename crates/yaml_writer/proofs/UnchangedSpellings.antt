@@ -1,5 +1,6 @@
 -- A number's text is its spelling only where it stands as it is spelled.
-use Rattle.std.proofs.Common.{◌≡◌, refl, ap, ◌∙◌, append_assoc, length-append, arith, ℕ, ◌+◌, Bool, true, false, not, ◌&&◌, ◌||◌, Option, None, Some, [], ◌∷◌, ◌++◌, length, codes, ◌⊎◌, inl, inr, ⊎_elim, if◌then◌else◌}
+use Rattle.std.proofs.Common.{◌≡◌, refl, ap, ◌∙◌, append_assoc, length-append, arith, ℕ, ◌+◌, Bool, true, false, not, ◌&&◌, ◌||◌, Option, None, Some, [], ◌∷◌}
+use Rattle.std.proofs.Common.{◌++◌, length, codes, ◌⊎◌, inl, inr, ⊎_elim, if◌then◌else◌}
 use Rattle.std.proofs.lemmas.Bool.{true≢false}
 use Rattle.std.proofs.lemmas.List.{append_cancel_left}
 use Rattle.yaml_base.specs.Characters.{Text}
@@ -25,12 +26,22 @@ apart negative whole (Some fraction) None e = refl
 apart negative whole (Some fraction) (Some exponent) e = by exponent.capital exponent.sign e
   where
     made : Bool → Option Bool → JsonNumber
-    made a s = record { negative = negative; whole = whole; fraction = Some fraction; exponent = Some (record { capital = a; sign = s; digits = exponent.digits }) }
+    made a s = record {
+      negative = negative;
+      whole = whole;
+      fraction = Some fraction;
+      exponent =
+          Some (record { capital = a; sign = s; digits = exponent.digits });
+    }
 
     unsigned : (letter : ℕ) → (minus negative ++ whole) ++ ((codes "." ++ fraction) ++ (0x65 ∷ 0x2B ∷ exponent.digits))
         ≡ (minus negative ++ whole) ++ (codes "." ++ fraction) ++ (letter ∷ exponent.digits) → true ≡ false
     unsigned letter g =
-        absurd (omega (arith, same_length (minus negative ++ whole) (codes "." ++ fraction) (0x65 ∷ 0x2B ∷ exponent.digits) (codes "." ++ fraction) (letter ∷ exponent.digits) g))
+        absurd (omega (
+          arith,
+          same_length (minus negative ++ whole) (codes "." ++ fraction) (0x65 ∷ 0x2B ∷ exponent.digits) (codes "." ++ fraction)
+              (letter ∷ exponent.digits) g,
+        ))
 
     letters : (sign : ℕ) → (minus negative ++ whole) ++ ((codes "." ++ fraction) ++ (0x65 ∷ sign ∷ exponent.digits))
         ≡ (minus negative ++ whole) ++ (codes "." ++ fraction) ++ (0x45 ∷ sign ∷ exponent.digits) → ◌≡◌ {A = ℕ} 0x65 0x45

@@ -3,7 +3,8 @@ ghost use Rattle.std.specs.Prelude.{◌≡◌, IfOk, IfErr, OnOk, chars, option_
 ghost use Rattle.std.specs.Fmt.{signed_decimal};
 ghost use Rattle.yaml_base.specs.Seen.{seen_scalar_style, seen_text};
 ghost use Rattle.yaml_base.specs.values.TypedValues.{bool_text};
-ghost use Rattle.yaml_writer.specs.Writing.{Failed, Gave, bool_event, int_event, null_event, number_event, number_tag, tag_or, text_event, text_style, word_event};
+ghost use Rattle.yaml_writer.specs.Writing.{Failed, Gave, bool_event, int_event, null_event, number_event, number_tag, tag_or, text_event, text_style};
+ghost use Rattle.yaml_writer.specs.Writing.{word_event};
 
 use crate::numbers::Number;
 use crate::tags::{YAML_BOOL_TAG, YAML_FLOAT_TAG, YAML_INT_TAG, YAML_NULL_TAG};

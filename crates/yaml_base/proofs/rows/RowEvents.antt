@@ -2,7 +2,8 @@
 use Rattle.std.specs.Prelude.{ℤ, true, false, Option, None, Some, List, [], ◌∷◌, ◌++◌}
 use Rattle.yaml_base.specs.Characters.{Text}
 use Rattle.yaml_base.specs.Settings.{Settings, effective}
-use Rattle.yaml_base.specs.Event.{ScalarStyle, any_style, CollectionStyle, Collection, Event, stream_start, stream_end, document_start, document_end, scalar, sequence_start, sequence_end, mapping_start, mapping_end}
+use Rattle.yaml_base.specs.Event.{ScalarStyle, any_style, CollectionStyle, Collection, Event, stream_start, stream_end, document_start, document_end, scalar}
+use Rattle.yaml_base.specs.Event.{sequence_start, sequence_end, mapping_start, mapping_end}
 use Rattle.yaml_base.specs.Layout.{text_of}
 use Rattle.yaml_base.specs.Pieces.{list_layout}
 

@@ -3,7 +3,8 @@ use Rattle.std.specs.Prelude.{◌≡◌, pos, true, false, None, Some, [], ◌�
 use Rattle.std.specs.Char.{encode_utf8}
 use Rattle.std.specs.Str.{chars, is_utf8}
 use Rattle.yaml_base.specs.Characters.{Text}
-use Rattle.yaml_base.specs.reading.Content.{tagged, untagged, Content, alias_content, scalar_content, sequence_content, mapping_content, no_contents, contents_and, no_content_pairs, content_pairs_and, DocumentContent}
+use Rattle.yaml_base.specs.reading.Content.{tagged, untagged, Content, alias_content, scalar_content, sequence_content, mapping_content, no_contents}
+use Rattle.yaml_base.specs.reading.Content.{contents_and, no_content_pairs, content_pairs_and, DocumentContent}
 use Rattle.yaml_base.specs.reading.CanonicalReader.{canonical_content}
 
 -- a document without version and directives

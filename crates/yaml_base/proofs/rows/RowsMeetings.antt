@@ -2,9 +2,11 @@
 use Rattle.std.specs.Prelude.{◌≡◌, ℕ, zero, suc, true, false, Option, None, Some, List, [], ◌∷◌, ◌++◌, length, filter_map, flat_map, codes, refl, slice_get}
 use Rattle.std.specs.Char.{encode_utf8}
 use Rattle.yaml_base.specs.Characters.{Text}
-use Rattle.yaml_base.specs.Event.{Event, DocumentStart, document_start, document_end, alias, scalar, sequence_start, sequence_end, mapping_start, mapping_end, any_style, block}
+use Rattle.yaml_base.specs.Event.{Event, DocumentStart, document_start, document_end, alias, scalar, sequence_start, sequence_end, mapping_start, mapping_end}
+use Rattle.yaml_base.specs.Event.{any_style, block}
 use Rattle.yaml_base.specs.Settings.{Settings}
-use Rattle.yaml_base.specs.graphs.Meetings.{NumberPair, GraphNode, Graph, decimal_digits, scalar_held, sequence_held, mapping_held, string_tag, sequence_tag, mapping_tag, meetings, document_event_list}
+use Rattle.yaml_base.specs.graphs.Meetings.{NumberPair, GraphNode, Graph, decimal_digits, scalar_held, sequence_held, mapping_held, string_tag, sequence_tag}
+use Rattle.yaml_base.specs.graphs.Meetings.{mapping_tag, meetings, document_event_list}
 use Rattle.yaml_base.proofs.rows.RowEvents.{plain_settings, canonical_settings, stream_of, laid_under}
 
 -- nodes with the tags of their kinds, in a document without directives whose marks are implicit

@@ -9,7 +9,8 @@ use Rattle.yaml_base.specs.Percent.{suffix_escaped, prefix_escaped}
 use Rattle.yaml_base.specs.Output.{output_of}
 use Rattle.yaml_base.specs.streams.StreamContent.{agrees}
 use Rattle.yaml_base.specs.streams.StreamReader.{stream_trees}
-use Rattle.yaml_base.proofs.rows.RowEvents.{plain_settings, canonical_settings, leaf, tagged, sequence, mapping, implicit_start, document_of, stream_of, alone, laid_under, laid}
+use Rattle.yaml_base.proofs.rows.RowEvents.{plain_settings, canonical_settings, leaf, tagged, sequence, mapping, implicit_start, document_of, stream_of, alone}
+use Rattle.yaml_base.proofs.rows.RowEvents.{laid_under, laid}
 
 abbrev portable_settings : Settings
 portable_settings = record plain_settings { portable = true }

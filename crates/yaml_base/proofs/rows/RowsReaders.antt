@@ -10,7 +10,8 @@ use Rattle.yaml_base.specs.reading.ReadPlain.{read_plain}
 use Rattle.yaml_base.specs.reading.ReadSingle.{read_single}
 use Rattle.yaml_base.specs.reading.ReadDouble.{read_double}
 use Rattle.yaml_base.specs.reading.ReadBlock.{read_block}
-use Rattle.yaml_base.specs.reading.Content.{ScalarTag, tagged, untagged, Content, scalar_content, sequence_content, mapping_content, no_contents, contents_and, no_content_pairs, content_pairs_and, DocumentContent}
+use Rattle.yaml_base.specs.reading.Content.{ScalarTag, tagged, untagged, Content, scalar_content, sequence_content, mapping_content, no_contents, contents_and}
+use Rattle.yaml_base.specs.reading.Content.{no_content_pairs, content_pairs_and, DocumentContent}
 use Rattle.yaml_base.specs.reading.CanonicalReader.{canonical_content}
 
 -- a reader reads none of these texts

@@ -1,7 +1,8 @@
 -- Plain scalars without a tag, computed by both schemas.
 use Rattle.std.specs.Prelude.{◌≡◌, ℤ, pos, negsuc, true, false, List, [], ◌∷◌, map, codes, refl}
 use Rattle.yaml_base.specs.Characters.{Text}
-use Rattle.yaml_base.specs.values.Resolved.{Resolved, meant_null, meant_boolean, meant_integer, meant_decimal, meant_infinity, meant_nan, meant_timestamp, meant_merge, meant_value, meant_text, meant_by_nobody}
+use Rattle.yaml_base.specs.values.Resolved.{Resolved, meant_null, meant_boolean, meant_integer, meant_decimal, meant_infinity, meant_nan, meant_timestamp}
+use Rattle.yaml_base.specs.values.Resolved.{meant_merge, meant_value, meant_text, meant_by_nobody}
 use Rattle.yaml_base.specs.values.SchemaCore.{resolved_by_core}
 use Rattle.yaml_base.specs.values.SchemaOf11.{resolved_by_11}
 

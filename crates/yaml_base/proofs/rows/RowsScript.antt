@@ -3,7 +3,8 @@ use Rattle.std.specs.Prelude.{◌≡◌, pos, negsuc, true, false, None, Some, [
 use Rattle.std.specs.Char.{encode_utf8}
 use Rattle.std.specs.Str.{chars, is_utf8}
 use Rattle.yaml_base.specs.Settings.{utf16_little, utf16_big, both_break}
-use Rattle.yaml_base.specs.Event.{stream_start, stream_end, document_start, document_end, alias, scalar, sequence_start, sequence_end, mapping_start, mapping_end, any_style, folded, any_layout, flow}
+use Rattle.yaml_base.specs.Event.{stream_start, stream_end, document_start, document_end, alias, scalar, sequence_start, sequence_end, mapping_start}
+use Rattle.yaml_base.specs.Event.{mapping_end, any_style, folded, any_layout, flow}
 use Rattle.yaml_base.specs.scripts.Script.{script_of, bad_line, understood, unset}
 
 -- a canonical scalar, from its settings to the stream's end
@@ -22,7 +23,8 @@ unfolding chars is_utf8 encode_utf8
 a_whole_script = refl
 
 -- every setting; comments and empty lines are skipped and counted, zeros in front change nothing
-every_setting : script_of (codes "limit 007\n# c \"x\nencoding utf16be\n\ncanonical on\nunicode on\nindent -007\nwidth 2147483647\nbreak crln\nbreaks12 on\nportable on")
+every_setting : script_of (codes "limit 007\n# c \"x\nencoding utf16be\n\ncanonical on\nunicode on\nindent -007\n"
+    ++ codes "width 2147483647\nbreak crln\nbreaks12 on\nportable on")
     ≡ understood (record {
       encoding = Some utf16_big;
       canonical = true;
@@ -38,7 +40,8 @@ unfolding chars is_utf8 encode_utf8
 every_setting = refl
 
 -- every event, with texts of every kind of escape
-every_event : script_of (codes "+STR utf16le\n+DOC 0 1.02 \"!e!\" \"a b\" \"\" \"\\u{1f600}\"\n+MAP flow 0 - \"t\"\n=ALI \"\"\n=VAL folded 0 1 \"-\" - \"\\\\\\\"\\n #\"\n-MAP\n-DOC 0\n+SEQ any 1 \"a\" -\n-SEQ\n#\n-STR")
+every_event : script_of (codes "+STR utf16le\n+DOC 0 1.02 \"!e!\" \"a b\" \"\" \"\\u{1f600}\"\n+MAP flow 0 - \"t\"\n=ALI \"\"\n"
+    ++ codes "=VAL folded 0 1 \"-\" - \"\\\\\\\"\\n #\"\n-MAP\n-DOC 0\n+SEQ any 1 \"a\" -\n-SEQ\n#\n-STR")
     ≡ understood unset (
     record { line = 1; event = stream_start (Some utf16_little) }
     ∷ record {

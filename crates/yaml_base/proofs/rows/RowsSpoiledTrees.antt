@@ -6,7 +6,9 @@ use Rattle.yaml_base.specs.Characters.{Text}
 use Rattle.yaml_base.specs.Event.{ScalarStyle, any_style, double_quoted, block}
 use Rattle.yaml_base.specs.Grammar.{Node, alias_node, scalar_node, sequence_node, no_nodes, nodes_and}
 use Rattle.yaml_base.specs.graphs.Meetings.{Graph, GraphNode, scalar_held, sequence_held, string_tag, sequence_tag, node_numbered, children}
-use Rattle.yaml_base.specs.graphs.Unfolding.{TreeUnfolds, HasShape, node_shape_of, Label, NodeKind, scalar_kind, sequence_kind, mapping_kind, label_of, AreNamed, Occurrence, alias_occurrence, node_occurrence, carries, is_occurrence_of, number_at, occurrences, IsReached, first_reached, child_reached, Placed, alias_placed, node_placed, none_placed, placed_and}
+use Rattle.yaml_base.specs.graphs.Unfolding.{TreeUnfolds, HasShape, node_shape_of, Label, NodeKind, scalar_kind, sequence_kind, mapping_kind, label_of}
+use Rattle.yaml_base.specs.graphs.Unfolding.{AreNamed, Occurrence, alias_occurrence, node_occurrence, carries, is_occurrence_of, number_at, occurrences}
+use Rattle.yaml_base.specs.graphs.Unfolding.{IsReached, first_reached, child_reached, Placed, alias_placed, node_placed, none_placed, placed_and}
 
 abbrev string_of : Text → GraphNode
 string_of value = record { tag = string_tag; held = scalar_held value any_style }
@@ -37,7 +39,8 @@ abbrev anchor_told : Occurrence → Option Text
 anchor_told (alias_occurrence name number) = None
 anchor_told (node_occurrence anchor number) = anchor
 
-not_before : (anchor : Option Text) (number other : ℕ) (name : Text) → anchor ≡ None → Contains (node_occurrence anchor number ∷ []) (node_occurrence (Some name) other)
+not_before : (anchor : Option Text) (number other : ℕ) (name : Text) → anchor ≡ None
+    → Contains (node_occurrence anchor number ∷ []) (node_occurrence (Some name) other)
     → ⊥
 not_before anchor number other name none (zero, within, is) = let both : None ≡ Some name = sym none ∙ ap anchor_told is in cc
 not_before anchor number other name none (suc k, within, is) = omega (arith, within)
@@ -130,9 +133,12 @@ without_anchor = a_sequence_of_one (a_sequence None (a_string None (codes "a") a
 none_carries : (a b c : Option Text) (w x y z : ℕ) (name : Text) → a ≡ None → b ≡ None → c ≡ None
     → count_by (carries name) (node_occurrence a w ∷ node_occurrence b x ∷ node_occurrence c y ∷ alias_occurrence name z ∷ []) ≡ 1 → ⊥
 none_carries a b c w x y z name is_a is_b is_c counted =
-    let one = subst (λ o. count_by (carries name) (node_occurrence o w ∷ node_occurrence b x ∷ node_occurrence c y ∷ alias_occurrence name z ∷ []) ≡ 1) is_a counted in
-    let two = subst (λ o. count_by (carries name) (node_occurrence None w ∷ node_occurrence o x ∷ node_occurrence c y ∷ alias_occurrence name z ∷ []) ≡ 1) is_b one in
-    let three : 0 ≡ 1 = subst (λ o. count_by (carries name) (node_occurrence None w ∷ node_occurrence None x ∷ node_occurrence o y ∷ alias_occurrence name z ∷ []) ≡ 1) is_c two in
+    let one = subst (λ o. count_by (carries name) (node_occurrence o w ∷ node_occurrence b x ∷ node_occurrence c y ∷ alias_occurrence name z ∷ []) ≡ 1) is_a
+    counted in
+    let two = subst (λ o. count_by (carries name) (node_occurrence None w ∷ node_occurrence o x ∷ node_occurrence c y ∷ alias_occurrence name z ∷ []) ≡ 1) is_b
+    one in
+    let three : 0 ≡ 1 = subst (λ o. count_by (carries name) (node_occurrence None w ∷ node_occurrence None x ∷ node_occurrence o y ∷
+    alias_occurrence name z ∷ []) ≡ 1) is_c two in
     omega (arith, three)
 
 without_anchor_fails : (p : Placed) → HasShape true shared_below p (node_shape_of without_anchor) → AreNamed (occurrences p) [] (occurrences p) → ⊥
@@ -163,7 +169,8 @@ counted_twice a b c number first second root numbers once =
     (ap (λ xs. slice_index xs 1) at_root) two in
     omega (arith, three)
 
-written_twice_fails : (p : Placed) → number_at p ≡ 1 → HasShape true shared p (node_shape_of written_twice) → count_by (is_occurrence_of 2) (occurrences p) ≡ 1 → ⊥
+written_twice_fails : (p : Placed) → number_at p ≡ 1 → HasShape true shared p (node_shape_of written_twice) → count_by (is_occurrence_of 2) (occurrences p) ≡ 1
+    → ⊥
 written_twice_fails (node_placed a number (placed_and (placed_and none_placed (node_placed b first none_placed)) (node_placed c second none_placed))) root fits
     once =
     counted_twice a b c number first second root fits.2 once

@@ -38,7 +38,8 @@ keys = (refl, refl, refl, refl, refl, refl, refl)
 -- the longest simple key has 1,024 characters; with one more it isn't read, but after `? ` it is
 long_keys : (stream_trees false (replicate 1024 120 ++ codes ": v\n") ≡ only (pairs (pair (bare_word (replicate 1024 120)) (bare_word (codes "v")) ∷ [])))
     × (stream_trees false (replicate 1025 120 ++ codes ": v\n") ≡ None)
-    × (stream_trees false (codes "? " ++ (replicate 1025 120 ++ codes "\n: v\n")) ≡ only (pairs (pair (bare_word (replicate 1025 120)) (bare_word (codes "v")) ∷ [])))
+    × (stream_trees false (codes "? " ++ (replicate 1025 120 ++ codes "\n: v\n")) ≡ only
+    (pairs (pair (bare_word (replicate 1025 120)) (bare_word (codes "v")) ∷ [])))
 unfolding chars is_utf8 encode_utf8
 long_keys = (refl, refl, refl)
 

@@ -10,7 +10,9 @@ use Rattle.yaml_base.specs.reading.ReadPercent.{percent_read}
 use Rattle.yaml_base.specs.reading.ReadTags.{bare_said, name_said}
 use Rattle.yaml_base.specs.reading.CanonicalReader.{tag_read}
 use Rattle.yaml_base.specs.Tags.{directives_in_force, spelling, spelled, anchor_fault, alias_fault, version_fault, directives_fault, tag_fault}
-use Rattle.yaml_base.specs.declared.errors.yaml_error_t.TheVariants.{IncompatibleVersion, TagHandleEmpty, TagHandleStart, TagHandleEnd, TagHandleAlphabet, TagPrefixEmpty, DuplicateDirective, AnchorEmpty, AnchorAlphabet, AliasEmpty, AliasAlphabet, TagEmpty}
+use Rattle.yaml_base.specs.declared.errors.yaml_error_t.TheVariants.{IncompatibleVersion, TagHandleEmpty, TagHandleStart, TagHandleEnd, TagHandleAlphabet}
+use Rattle.yaml_base.specs.declared.errors.yaml_error_t.TheVariants.{TagPrefixEmpty, DuplicateDirective, AnchorEmpty, AnchorAlphabet, AliasEmpty, AliasAlphabet}
+use Rattle.yaml_base.specs.declared.errors.yaml_error_t.TheVariants.{TagEmpty}
 use Rattle.yaml_base.specs.declared.errors.yaml_error_t.{yaml_error_t}
 
 abbrev directive : Text → Text → TagDirective
@@ -126,7 +128,8 @@ other_names = (refl, refl)
 abbrev version : ℕ → ℕ → Option yaml_error_t
 version major minor = version_fault (record { major = pos major; minor = pos minor })
 
-versions : (version 1 1 ≡ None) × (version 1 2 ≡ None) × (version 1 0 ≡ Some IncompatibleVersion) × (version 1 3 ≡ Some IncompatibleVersion) × (version 2 1 ≡ Some IncompatibleVersion)
+versions : (version 1 1 ≡ None) × (version 1 2 ≡ None) × (version 1 0 ≡ Some IncompatibleVersion) × (version 1 3 ≡ Some IncompatibleVersion)
+    × (version 2 1 ≡ Some IncompatibleVersion)
 versions = (refl, refl, refl, refl, refl)
 
 abbrev fault_of : Text → Text → Option yaml_error_t

@@ -4,7 +4,8 @@ use Rattle.std.specs.Char.{encode_utf8}
 use Rattle.std.specs.Fmt.{digits}
 use Rattle.std.specs.Str.{chars, is_utf8}
 use Rattle.yaml_base.specs.reading.CanonicalReader.{canonical_content}
-use Rattle.yaml_base.specs.values.TypedValues.{TypedValue, null_value, bool_value, int_value, text_value, list_value, map_value, no_values, values_and, no_value_pairs, value_pairs_and, typed_content, typed_output, value_count, nesting}
+use Rattle.yaml_base.specs.values.TypedValues.{TypedValue, null_value, bool_value, int_value, text_value, list_value, map_value, no_values, values_and}
+use Rattle.yaml_base.specs.values.TypedValues.{no_value_pairs, value_pairs_and, typed_content, typed_output, value_count, nesting}
 
 a_null : typed_output null_value ≡ codes "---\n!!null \"null\"\n"
 unfolding encode_utf8

@@ -5,8 +5,11 @@ use Rattle.std.specs.Prelude.{ℕ, zero, suc, true, None, Some, [], ◌∷◌, s
 use Rattle.yaml_base.specs.Event.{any_style, block}
 use Rattle.yaml_base.specs.Grammar.{Node, alias_node, scalar_node, sequence_node, mapping_node, no_nodes, nodes_and, no_pairs, pairs_and, document_events}
 use Rattle.yaml_base.specs.reading.Content.{node_content}
-use Rattle.yaml_base.specs.graphs.Meetings.{Graph, scalar_held, sequence_held, mapping_held, string_tag, sequence_tag, mapping_tag, children, decimal_digits, document_event_list}
-use Rattle.yaml_base.specs.graphs.Unfolding.{TreeUnfolds, ContentUnfolds, HasShape, node_shape_of, number_at, node_occurrence, alias_occurrence, IsReached, first_reached, child_reached, Placed, is_occurrence_of, occurrences, alias_placed, node_placed, none_placed, placed_and}
+use Rattle.yaml_base.specs.graphs.Meetings.{Graph, scalar_held, sequence_held, mapping_held, string_tag, sequence_tag, mapping_tag, children, decimal_digits}
+use Rattle.yaml_base.specs.graphs.Meetings.{document_event_list}
+use Rattle.yaml_base.specs.graphs.Unfolding.{TreeUnfolds, ContentUnfolds, HasShape, node_shape_of, number_at, node_occurrence, alias_occurrence, IsReached}
+use Rattle.yaml_base.specs.graphs.Unfolding.{first_reached, child_reached, Placed, is_occurrence_of, occurrences, alias_placed, node_placed, none_placed}
+use Rattle.yaml_base.specs.graphs.Unfolding.{placed_and}
 
 -- a mapping whose one key is a string, and whose value is the mapping
 abbrev graph : Graph
@@ -115,13 +118,17 @@ third_reached = child_reached first_reached (1, omega arith, refl)
 
 -- node 3 would have no place but the alias
 third_missing : (number first second : ℕ) → number ≡ 1 → first ∷ second ∷ [] ≡ children two_equal number
-    → count_by (is_occurrence_of 3) (node_occurrence None number ∷ node_occurrence (Some (codes "id001")) first ∷ alias_occurrence (codes "id001") second ∷ []) ≡ 1 → ⊥
+    → count_by (is_occurrence_of 3) (node_occurrence None number ∷ node_occurrence (Some (codes "id001")) first ∷ alias_occurrence
+    (codes "id001") second ∷ []) ≡ 1 → ⊥
 third_missing number first second root numbers once =
     let at_root : first ∷ second ∷ [] ≡ 2 ∷ 3 ∷ [] = subst (λ n. first ∷ second ∷ [] ≡ children two_equal n) root numbers in
     let first_is : first ≡ 2 = ap (λ xs. slice_index xs 0) at_root in
-    let counted : count_by (is_occurrence_of 3) (node_occurrence None 1 ∷ node_occurrence (Some (codes "id001")) 2 ∷ alias_occurrence (codes "id001") second ∷ []) ≡ 1 =
-    subst (λ m. count_by (is_occurrence_of 3) (node_occurrence None 1 ∷ node_occurrence (Some (codes "id001")) m ∷ alias_occurrence (codes "id001") second ∷ []) ≡ 1) first_is
-    (subst (λ n. count_by (is_occurrence_of 3) (node_occurrence None n ∷ node_occurrence (Some (codes "id001")) first ∷ alias_occurrence (codes "id001") second ∷ []) ≡ 1) root
+    let counted : count_by (is_occurrence_of 3) (node_occurrence None 1 ∷ node_occurrence (Some (codes "id001")) 2 ∷ alias_occurrence
+    (codes "id001") second ∷ []) ≡ 1 =
+    subst (λ m. count_by (is_occurrence_of 3) (node_occurrence None 1 ∷ node_occurrence (Some (codes "id001")) m ∷ alias_occurrence
+    (codes "id001") second ∷ []) ≡ 1) first_is
+    (subst (λ n. count_by (is_occurrence_of 3) (node_occurrence None n ∷ node_occurrence (Some (codes "id001")) first ∷ alias_occurrence
+    (codes "id001") second ∷ []) ≡ 1) root
     once) in
     omega (arith, counted)
 

@@ -9,7 +9,8 @@ use Rattle.yaml_base.specs.Cursor.{then_laid}
 use Rattle.yaml_base.specs.Layout.{has_directives, version_laid, tag_directives_laid}
 use Rattle.yaml_base.specs.streams.StreamContent.{DocumentTree}
 use Rattle.yaml_base.specs.streams.StreamLines.{lines_of}
-use Rattle.yaml_base.specs.streams.StreamDocuments.{start_mark, Section, Heading, no_heading, heading_of, StreamPlace, after_root, after_heading, document_read, heading_added, section_by_kind}
+use Rattle.yaml_base.specs.streams.StreamDocuments.{start_mark, Section, Heading, no_heading, heading_of, StreamPlace, after_root, after_heading, document_read}
+use Rattle.yaml_base.specs.streams.StreamDocuments.{heading_added, section_by_kind}
 use Rattle.yaml_base.proofs.stream_lines.StreamLineLaws.{is_closed, OneLine}
 use Rattle.yaml_base.proofs.stream_lines.StreamClosed.{margin_cursor, lines_broken, closed_both}
 use Rattle.yaml_base.proofs.stream_documents.StreamRootsStand.{heading_text, HeadingStands}

@@ -8,7 +8,9 @@ use Rattle.yaml_base.specs.Event.{Version, TagDirective, DocumentStart}
 use Rattle.yaml_base.specs.Tags.{directives_in_force}
 use Rattle.yaml_base.specs.Cursor.{Cursor, Laid, new_line, then_laid}
 use Rattle.yaml_base.specs.Grammar.{Document}
-use Rattle.yaml_base.specs.Layout.{Piece, piece_text, text_of, Standing, PieceLaid, PiecesLaid, one_piece, node_laid, root_place, laid_if, closing_mark_laid, version_laid, tag_directives_laid, has_directives, is_explicit, document_mark_laid, document_start_laid, document_start_piece, document_end_piece, document_laid}
+use Rattle.yaml_base.specs.Layout.{Piece, piece_text, text_of, Standing, PieceLaid, PiecesLaid, one_piece, node_laid, root_place, laid_if, closing_mark_laid}
+use Rattle.yaml_base.specs.Layout.{version_laid, tag_directives_laid, has_directives, is_explicit, document_mark_laid, document_start_laid}
+use Rattle.yaml_base.specs.Layout.{document_start_piece, document_end_piece, document_laid}
 use Rattle.yaml_base.proofs.stream_nodes.StreamTexts.{node_own, node_joined}
 use Rattle.yaml_base.proofs.stream_lines.StreamClosed.{closing, closed, Settled, new_line_closes, margin_cursor}
 use Rattle.yaml_base.proofs.stream_documents.StreamRootsStand.{root_cursor, root_laid, heading_text}

@@ -10,7 +10,8 @@ use Rattle.yaml_base.specs.Settings.{Effective}
 use Rattle.yaml_base.specs.Cursor.{Cursor, Laid, first_cursor, then_laid}
 use Rattle.yaml_base.specs.Event.{Version, TagDirective, DocumentStart}
 use Rattle.yaml_base.specs.Percent.{prefix_escaped}
-use Rattle.yaml_base.specs.Tags.{directives_fault, handle_fault, directives_fault_after, next_directive_fault, directive_fault, gives_handle, prefix_fault, version_fault}
+use Rattle.yaml_base.specs.Tags.{directives_fault, handle_fault, directives_fault_after, next_directive_fault, directive_fault, gives_handle, prefix_fault}
+use Rattle.yaml_base.specs.Tags.{version_fault}
 use Rattle.yaml_base.specs.Indicators.{indicator_laid, yaml_directive, version_1_1, version_1_2}
 use Rattle.yaml_base.specs.Layout.{line_ended, version_laid, tag_directives_laid}
 use Rattle.yaml_base.specs.Meaning.{directive_scalars}

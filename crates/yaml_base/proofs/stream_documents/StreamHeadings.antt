@@ -7,18 +7,21 @@ use Rattle.std.proofs.lemmas.List.Sums.{fold-append}
 use Rattle.std.proofs.lemmas.List.Folds.{list_all-append}
 use Rattle.std.specs.List.{list_all, slice_split, onto_first}
 use Rattle.std.specs.Str.{all_scalars}
-use Rattle.std.specs.Prelude.{ℕ, ℤ, pos, negsuc, Bool, true, false, Option, None, Some, List, [], ◌∷◌, ◌++◌, ◌==◌, ◌||◌, ◌&&◌, not, codes, fold, option_and_then, if◌then◌else◌}
+use Rattle.std.specs.Prelude.{ℕ, ℤ, pos, negsuc, Bool, true, false, Option, None, Some, List, [], ◌∷◌, ◌++◌, ◌==◌, ◌||◌, ◌&&◌, not, codes, fold}
+use Rattle.std.specs.Prelude.{option_and_then, if◌then◌else◌}
 use Rattle.yaml_base.specs.Characters.{Text, space, line_feed, is_space, is_alpha, is_blank, is_break}
 use Rattle.yaml_base.specs.Event.{Version, TagDirective, DocumentStart}
 use Rattle.yaml_base.specs.Percent.{percent_escaped, prefix_escaped, is_tag_character, character_written, percent_sign}
 use Rattle.yaml_base.specs.reading.ReadPercent.{is_uri_character, percent_read}
 use Rattle.yaml_base.specs.reading.ReadTags.{closes_handle, is_handle_text, prefix_said, is_given}
-use Rattle.yaml_base.specs.Tags.{tag_mark, prefix_fault, handle_fault, next_directive_fault, directive_fault, gives_handle, directives_fault_after, version_fault, is_the_number, directives_fault}
+use Rattle.yaml_base.specs.Tags.{tag_mark, prefix_fault, handle_fault, next_directive_fault, directive_fault, gives_handle, directives_fault_after}
+use Rattle.yaml_base.specs.Tags.{version_fault, is_the_number, directives_fault}
 use Rattle.yaml_base.specs.Meaning.{directive_scalars}
 use Rattle.yaml_base.specs.streams.StreamLines.{Line}
 use Rattle.yaml_base.specs.Indicators.{version_1_1, version_1_2}
 use Rattle.yaml_base.specs.Layout.{version_word}
-use Rattle.yaml_base.specs.streams.StreamDocuments.{Heading, with_directive, directive_by_words, directive_line, heading_of, no_heading, version_said, with_version}
+use Rattle.yaml_base.specs.streams.StreamDocuments.{Heading, with_directive, directive_by_words, directive_line, heading_of, no_heading, version_said}
+use Rattle.yaml_base.specs.streams.StreamDocuments.{with_version}
 use Rattle.yaml_base.proofs.PercentLaws.{escaped_stands, stands_in_prefix, prefix_stands, prefix_begins, decoded_prefix, character_stands}
 use Rattle.yaml_base.proofs.TagForms.{IsHandle, handle_form}
 use Rattle.yaml_base.proofs.TagWords.{handle_ends_no_word}

@@ -2,14 +2,18 @@
 use Rattle.std.proofs.Common.{◌≡◌, ◌≤◌, refl, sym, ap, ◌∙◌, arith}
 use Rattle.std.proofs.lemmas.Bool.{false≢true, true≢false, and_parts, and_from, leb-true}
 use Rattle.std.specs.List.{list_all, list_any}
-use Rattle.std.specs.Prelude.{ℕ, ℤ, pos, negsuc, Bool, true, false, Option, None, Some, List, [], ◌∷◌, ◌++◌, ◌||◌, ◌&&◌, not, nat_le, is_some, is_none, option_map, unwrap_or, if◌then◌else◌}
+use Rattle.std.specs.Prelude.{ℕ, ℤ, pos, negsuc, Bool, true, false, Option, None, Some, List, [], ◌∷◌, ◌++◌, ◌||◌, ◌&&◌, not, nat_le, is_some, is_none}
+use Rattle.std.specs.Prelude.{option_map, unwrap_or, if◌then◌else◌}
 use Rattle.std.specs.Option.{option_or}
 use Rattle.yaml_base.specs.Characters.{is_printable}
 use Rattle.yaml_base.specs.Settings.{Encoding, Settings, Effective, effective_indent, effective}
 use Rattle.yaml_base.specs.LineBreaks.{with_breaks_written}
-use Rattle.yaml_base.specs.Event.{Event, stream_start, stream_end, document_start, document_end, scalar, sequence_start, sequence_end, mapping_start, mapping_end, Scalar}
+use Rattle.yaml_base.specs.Event.{Event, stream_start, stream_end, document_start, document_end, scalar, sequence_start, sequence_end, mapping_start}
+use Rattle.yaml_base.specs.Event.{mapping_end, Scalar}
 use Rattle.yaml_base.specs.scalars.Style.{lacks_tag_and_flags}
-use Rattle.yaml_base.specs.Grammar.{Node, alias_node, scalar_node, sequence_node, mapping_node, Nodes, no_nodes, nodes_and, Pairs, no_pairs, pairs_and, Document, Documents, no_documents, documents_and, Stream, node_events, nodes_events, pairs_events, documents_events, stream_events, tree_of}
+use Rattle.yaml_base.specs.Grammar.{Node, alias_node, scalar_node, sequence_node, mapping_node, Nodes, no_nodes, nodes_and, Pairs, no_pairs, pairs_and}
+use Rattle.yaml_base.specs.Grammar.{Document, Documents, no_documents, documents_and, Stream, node_events, nodes_events, pairs_events, documents_events}
+use Rattle.yaml_base.specs.Grammar.{stream_events, tree_of}
 use Rattle.yaml_base.specs.Refusal.{scalar_tag, fault_if, name_or_tag_fault, is_sound, IsAccepted}
 use Rattle.yaml_base.specs.Layout.{Piece, text_of, layout, has_directives, is_explicit}
 use Rattle.yaml_base.specs.Pieces.{list_layout}

@@ -13,7 +13,8 @@ use Rattle.yaml_base.specs.Refusal.{scalar_tag, collection_tag}
 use Rattle.yaml_base.specs.TidyBodies.{has_deep_lines, is_tidy_style}
 use Rattle.yaml_base.specs.streams.StreamScalars.{name_read}
 use Rattle.yaml_base.specs.Cursor.{Cursor, Laid, breaks_line, new_line, nothing_laid, then_laid, indicator}
-use Rattle.yaml_base.specs.Layout.{deeper, entries_column, has_no_nodes, has_no_pairs, root_place, properties_laid, alias_laid, separation_laid, body_laid, choice_of, is_written_in_flow, Brackets, square, curly, empty_or_comma, end_laid}
+use Rattle.yaml_base.specs.Layout.{deeper, entries_column, has_no_nodes, has_no_pairs, root_place, properties_laid, alias_laid, separation_laid, body_laid}
+use Rattle.yaml_base.specs.Layout.{choice_of, is_written_in_flow, Brackets, square, curly, empty_or_comma, end_laid}
 use Rattle.yaml_base.specs.streams.StreamLines.{character_before, lines_of, spaces}
 use Rattle.yaml_base.specs.streams.StreamDocuments.{mark_of}
 use Rattle.yaml_base.proofs.stream_lines.StreamLineLaws.{OneLine, one_line_both}
@@ -27,7 +28,8 @@ use Rattle.yaml_base.proofs.stream_nodes.StreamStands.{TagStands, NamesStand, Bo
 use Rattle.yaml_base.proofs.stream_flow.StreamFlowTakes.{and_false}
 use Rattle.yaml_base.proofs.stream_nodes.StreamOwnWords.{deep_more}
 use Rattle.yaml_base.proofs.stream_documents.StreamRootsStand.{is_leaf}
-use Rattle.yaml_base.proofs.stream_lines.StreamDeepBreaks.{after_breaks, begins_deep, Deep, Keeps, after_both, after_weaker, after_line_of, space_line, deep_keeps, lines_pass, deep_first}
+use Rattle.yaml_base.proofs.stream_lines.StreamDeepBreaks.{after_breaks, begins_deep, Deep, Keeps, after_both, after_weaker, after_line_of, space_line}
+use Rattle.yaml_base.proofs.stream_lines.StreamDeepBreaks.{deep_keeps, lines_pass, deep_first}
 use Rattle.yaml_base.proofs.stream_flow.StreamFlowDeep.{properties_line, signs_line, brackets_line, sign_deep, alias_deep, items_deep, pairs_deep}
 
 -- Collections in flow

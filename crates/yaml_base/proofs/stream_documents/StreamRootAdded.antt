@@ -11,7 +11,8 @@ use Rattle.yaml_base.specs.streams.StreamContent.{Tree, DocumentTree}
 use Rattle.yaml_base.specs.streams.StreamLines.{Line, lines_of, ends_sign, is_spaces, without_blank_lines}
 use Rattle.yaml_base.specs.streams.StreamScalars.{Rules}
 use Rattle.yaml_base.specs.streams.StreamNodes.{node_read}
-use Rattle.yaml_base.specs.streams.StreamDocuments.{start_mark, end_mark, no_mark, begins_with_mark, mark_of, Heading, root_below, stands_at_margin, after_root, document_added, section_by_kind, directive_lines, document_lines, front_kind, front_read}
+use Rattle.yaml_base.specs.streams.StreamDocuments.{start_mark, end_mark, no_mark, begins_with_mark, mark_of, Heading, root_below, stands_at_margin, after_root}
+use Rattle.yaml_base.specs.streams.StreamDocuments.{document_added, section_by_kind, directive_lines, document_lines, front_kind, front_read}
 use Rattle.yaml_base.proofs.stream_nodes.StreamAgrees.{document_tree}
 use Rattle.yaml_base.proofs.stream_lines.StreamLineLaws.{OneLine}
 use Rattle.yaml_base.proofs.stream_lines.StreamTidyLaws.{lines_after_first}

@@ -13,7 +13,8 @@ use Rattle.yaml_base.specs.Layout.{has_no_nodes, has_no_pairs, asks_flow, is_wri
 use Rattle.yaml_base.specs.streams.StreamContent.{Tagging, Tree, scalar_tree, sequence_tree, mapping_tree}
 use Rattle.yaml_base.specs.streams.StreamLines.{Line, lines_of, is_spaces, without_blank_lines, indented, blanked}
 use Rattle.yaml_base.specs.streams.StreamScalars.{Rules, no_properties}
-use Rattle.yaml_base.specs.streams.StreamNodes.{NodeKind, begins_sequence, begins_mapping, begins_text, kind_of_node, Reads, ReadsText, node_by_kind, node_at, begins_properties, text_or_properties, node_read}
+use Rattle.yaml_base.specs.streams.StreamNodes.{NodeKind, begins_sequence, begins_mapping, begins_text, kind_of_node, Reads, ReadsText, node_by_kind, node_at}
+use Rattle.yaml_base.specs.streams.StreamNodes.{begins_properties, text_or_properties, node_read}
 use Rattle.yaml_base.specs.streams.StreamDocuments.{stands_at_margin}
 use Rattle.yaml_base.specs.streams.StreamLaw.{is_written_as_nothing}
 use Rattle.yaml_base.proofs.stream_lines.StreamCuts.{none_not_some}
@@ -26,7 +27,8 @@ use Rattle.yaml_base.proofs.stream_nodes.StreamItems.{items_text, items_lay}
 use Rattle.yaml_base.proofs.stream_nodes.StreamPairs.{pairs_text}
 use Rattle.yaml_base.proofs.stream_nodes.StreamPairReads.{pairs_lay}
 use Rattle.yaml_base.proofs.stream_nodes.StreamCentral.{items_block, pairs_block}
-use Rattle.yaml_base.proofs.stream_nodes.StreamNodesFit.{EitherType, LeafFits, begun_laid, BegunReads, Leaves, ItemLeaves, PairLeaves, Stands, items_fit, pairs_fit, node_fits}
+use Rattle.yaml_base.proofs.stream_nodes.StreamNodesFit.{EitherType, LeafFits, begun_laid, BegunReads, Leaves, ItemLeaves, PairLeaves, Stands, items_fit}
+use Rattle.yaml_base.proofs.stream_nodes.StreamNodesFit.{pairs_fit, node_fits}
 use Rattle.yaml_base.proofs.stream_documents.StreamRoots.{mark_cursor}
 use Rattle.yaml_base.proofs.stream_documents.StreamRootsStand.{rules_of, root_cursor, root_laid, is_leaf, PropertiesStand, RootStands}
 use Rattle.yaml_base.proofs.stream_documents.StreamRootLines.{FirstStands, Stood, begins_stands, block_stands}

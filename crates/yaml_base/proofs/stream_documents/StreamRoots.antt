@@ -7,7 +7,8 @@ use Rattle.yaml_base.specs.Layout.{root_place}
 use Rattle.yaml_base.specs.streams.StreamContent.{Tree}
 use Rattle.yaml_base.specs.streams.StreamLines.{Line, lines_of, is_spaces, without_blank_lines, begins_blank, indented, blanked}
 use Rattle.yaml_base.specs.streams.StreamScalars.{Rules, Properties, no_properties}
-use Rattle.yaml_base.specs.streams.StreamNodes.{NodeKind, begins_sequence, begins_mapping, begins_text, kind_of_node, Reads, ReadsText, node_by_kind, node_at, begins_properties, text_or_properties, node_read}
+use Rattle.yaml_base.specs.streams.StreamNodes.{NodeKind, begins_sequence, begins_mapping, begins_text, kind_of_node, Reads, ReadsText, node_by_kind, node_at}
+use Rattle.yaml_base.specs.streams.StreamNodes.{begins_properties, text_or_properties, node_read}
 use Rattle.yaml_base.specs.streams.StreamDocuments.{stands_at_margin, root_below, root_after_mark, root_marked}
 use Rattle.yaml_base.proofs.stream_lines.StreamCuts.{none_not_some}
 use Rattle.yaml_base.proofs.stream_lines.StreamClosed.{closed, margin_cursor}

@@ -8,7 +8,8 @@ use Rattle.yaml_base.specs.Settings.{Effective}
 use Rattle.yaml_base.specs.Event.{TagDirective, Collection}
 use Rattle.yaml_base.specs.Cursor.{Cursor, Laid, then_laid, new_line, space_if, indicator}
 use Rattle.yaml_base.specs.Grammar.{Node, alias_node, scalar_node, sequence_node, mapping_node, Nodes, no_nodes, nodes_and, Pairs, no_pairs, pairs_and}
-use Rattle.yaml_base.specs.Layout.{Role, as_item, as_key, as_value, Place, is_in_mapping, entries_column, has_no_nodes, has_no_pairs, is_simple, flow_break, opening_or_comma, key_sign, is_written_in_flow, entry_place, place_laid, square, curly, end_laid}
+use Rattle.yaml_base.specs.Layout.{Role, as_item, as_key, as_value, Place, is_in_mapping, entries_column, has_no_nodes, has_no_pairs, is_simple, flow_break}
+use Rattle.yaml_base.specs.Layout.{opening_or_comma, key_sign, is_written_in_flow, entry_place, place_laid, square, curly, end_laid}
 use Rattle.yaml_base.specs.streams.StreamContent.{Tree}
 use Rattle.yaml_base.specs.streams.StreamScalars.{Rules}
 use Rattle.yaml_base.proofs.stream_nodes.StreamAgrees.{node_tree}

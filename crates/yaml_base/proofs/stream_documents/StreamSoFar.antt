@@ -6,7 +6,9 @@ use Rattle.std.specs.List.{list_all}
 use Rattle.std.specs.Prelude.{ℕ, Bool, true, false, None, Some, List, [], ◌∷◌, ◌++◌, fold, option_and_then, if◌then◌else◌}
 use Rattle.yaml_base.specs.Characters.{Text}
 use Rattle.yaml_base.specs.streams.StreamLines.{Line, lines_of, is_spaces, without_blank_lines}
-use Rattle.yaml_base.specs.streams.StreamDocuments.{mark_of, Section, sections_of, Heading, heading_of, after_heading, StreamRead, section_read, begins_with_percent, directive_lines, document_lines, front_kind, front_read, heading_added, may_end, documents_at_end, sections_read}
+use Rattle.yaml_base.specs.streams.StreamDocuments.{mark_of, Section, sections_of, Heading, heading_of, after_heading, StreamRead, section_read}
+use Rattle.yaml_base.specs.streams.StreamDocuments.{begins_with_percent, directive_lines, document_lines, front_kind, front_read, heading_added, may_end}
+use Rattle.yaml_base.specs.streams.StreamDocuments.{documents_at_end, sections_read}
 use Rattle.yaml_base.proofs.stream_lines.StreamLineLaws.{is_closed, lines_after_break}
 use Rattle.yaml_base.proofs.stream_lines.StreamClosed.{closed_both}
 use Rattle.yaml_base.proofs.stream_lines.StreamSections.{is_unmarked, AllUnmarked, unmarked_before, IsMark, marks_one}

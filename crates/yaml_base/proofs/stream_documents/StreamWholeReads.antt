@@ -10,11 +10,13 @@ use Rattle.yaml_base.specs.Settings.{Effective}
 use Rattle.yaml_base.specs.Tags.{directives_in_force}
 use Rattle.yaml_base.specs.Cursor.{Laid}
 use Rattle.yaml_base.specs.Grammar.{Document, Documents, no_documents, documents_and, Stream}
-use Rattle.yaml_base.specs.Layout.{piece_text, text_of, PiecesLaid, laid_if, closing_mark_laid, is_explicit, root_place, document_laid, documents_laid, first_standing, stream_end_piece, layout}
+use Rattle.yaml_base.specs.Layout.{piece_text, text_of, PiecesLaid, laid_if, closing_mark_laid, is_explicit, root_place, document_laid, documents_laid}
+use Rattle.yaml_base.specs.Layout.{first_standing, stream_end_piece, layout}
 use Rattle.yaml_base.specs.streams.StreamContent.{DocumentTree, documents_in_order}
 use Rattle.yaml_base.specs.streams.StreamLines.{Line, lines_of, is_spaces, all_blank, ends_sign}
 use Rattle.yaml_base.specs.streams.StreamNodes.{node_read}
-use Rattle.yaml_base.specs.streams.StreamDocuments.{mark_of, Sections, sections_of, no_heading, document_added, sections_read, documents_at_end, begins_with_percent, directive_lines, document_lines, front_kind, front_read, documents_of}
+use Rattle.yaml_base.specs.streams.StreamDocuments.{mark_of, Sections, sections_of, no_heading, document_added, sections_read, documents_at_end}
+use Rattle.yaml_base.specs.streams.StreamDocuments.{begins_with_percent, directive_lines, document_lines, front_kind, front_read, documents_of}
 use Rattle.yaml_base.specs.streams.StreamLaw.{is_written_as_nothing}
 use Rattle.yaml_base.proofs.stream_lines.StreamCuts.{none_not_some}
 use Rattle.yaml_base.proofs.stream_lines.StreamSections.{is_unmarked, AllUnmarked, unmarked_before}

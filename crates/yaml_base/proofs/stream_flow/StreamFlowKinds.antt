@@ -9,11 +9,13 @@ use Rattle.yaml_base.specs.Cursor.{Cursor, Laid, space_if}
 use Rattle.yaml_base.specs.scalars.Style.{is_plain}
 use Rattle.yaml_base.specs.Grammar.{Node, alias_node, scalar_node, sequence_node, mapping_node, Nodes, no_nodes, nodes_and, Pairs, no_pairs, pairs_and}
 use Rattle.yaml_base.specs.Refusal.{scalar_tag, collection_tag}
-use Rattle.yaml_base.specs.Layout.{Role, is_key, deeper, is_simple, properties_laid, alias_laid, separation_laid, body_laid, choice_of, square, curly, end_laid, entry_place}
+use Rattle.yaml_base.specs.Layout.{Role, is_key, deeper, is_simple, properties_laid, alias_laid, separation_laid, body_laid, choice_of, square, curly, end_laid}
+use Rattle.yaml_base.specs.Layout.{entry_place}
 use Rattle.yaml_base.specs.streams.StreamContent.{Tree, alias_tree, sequence_tree, mapping_tree, no_trees, no_tree_pairs}
 use Rattle.yaml_base.specs.streams.StreamScalars.{Rules, name_read}
 use Rattle.yaml_base.specs.streams.StreamTokens.{begins_bracket, class_of}
-use Rattle.yaml_base.specs.streams.StreamFlow.{is_alias, is_key_text, no_key, key_held, Level, in_sequence, in_mapping, ColonPlace, at_once, after_blank, entry_awaited, comma_awaited, colon_awaited, within, with_tree, level_opened}
+use Rattle.yaml_base.specs.streams.StreamFlow.{is_alias, is_key_text, no_key, key_held, Level, in_sequence, in_mapping, ColonPlace, at_once, after_blank}
+use Rattle.yaml_base.specs.streams.StreamFlow.{entry_awaited, comma_awaited, colon_awaited, within, with_tree, level_opened}
 use Rattle.yaml_base.proofs.stream_nodes.StreamAgrees.{node_tree, nodes_tree, pairs_tree}
 use Rattle.yaml_base.proofs.stream_flow.StreamSays.{bracket_class}
 use Rattle.yaml_base.proofs.stream_flow.StreamTakes.{Takes, takes_both, takes_simple_key}
@@ -24,7 +26,8 @@ use Rattle.yaml_base.proofs.stream_nodes.StreamStands.{tag_written, tag_meant, N
 use Rattle.yaml_base.proofs.stream_nodes.StreamLeads.{Ended, lead_laid, tag_is_written}
 use Rattle.yaml_base.proofs.stream_flow.StreamFlowWords.{opens_inside, FlowWord, Given, lead_opens, alias_flow_word, empty_sequence_word, empty_mapping_word}
 use Rattle.yaml_base.proofs.stream_flow.StreamFlowScalars.{rules_of, chosen_in_flow, bare_not_plain, body_flow_word, body_ended, scalar_whole}
-use Rattle.yaml_base.proofs.stream_flow.StreamFlowTakes.{FlowNode, FlowEntries, FlowEnd, takes_word, takes_collection, opens_more, and_false, sequence_ends, mapping_ends}
+use Rattle.yaml_base.proofs.stream_flow.StreamFlowTakes.{FlowNode, FlowEntries, FlowEnd, takes_word, takes_collection, opens_more, and_false, sequence_ends}
+use Rattle.yaml_base.proofs.stream_flow.StreamFlowTakes.{mapping_ends}
 
 -- the space after an alias that is a simple key
 abbrev pub alias_space : Node → Text

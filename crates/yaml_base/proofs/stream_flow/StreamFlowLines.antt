@@ -3,7 +3,8 @@
 use Rattle.std.proofs.Common.{◌≡◌, refl, ap, ◌∙◌, append_assoc}
 use Rattle.std.proofs.lemmas.Bool.{false≢true, and_parts}
 use Rattle.std.specs.Option.{option_or}
-use Rattle.std.specs.Prelude.{ℕ, Bool, true, false, Option, None, Some, [], ◌∷◌, ◌++◌, ◌==◌, ◌&&◌, not, nat_le, length, option_map, option_and_then, if◌then◌else◌}
+use Rattle.std.specs.Prelude.{ℕ, Bool, true, false, Option, None, Some, [], ◌∷◌, ◌++◌, ◌==◌, ◌&&◌, not, nat_le, length, option_map, option_and_then}
+use Rattle.std.specs.Prelude.{if◌then◌else◌}
 use Rattle.yaml_base.specs.Characters.{Text, space}
 use Rattle.yaml_base.specs.Event.{plain}
 use Rattle.yaml_base.specs.reading.ReadPlain.{read_plain}
@@ -11,7 +12,8 @@ use Rattle.yaml_base.specs.reading.ReadTags.{TagSaid}
 use Rattle.yaml_base.specs.TidyBodies.{is_tidy}
 use Rattle.yaml_base.specs.streams.StreamContent.{stood_plain, Tree}
 use Rattle.yaml_base.specs.streams.StreamLines.{ends_sign, begins_with_sign}
-use Rattle.yaml_base.specs.streams.StreamScalars.{Rules, Properties, no_properties, scalar_said, scalar_of_style, empty_sequence, empty_mapping, a_scalar, word_by_kind, word_after}
+use Rattle.yaml_base.specs.streams.StreamScalars.{Rules, Properties, no_properties, scalar_said, scalar_of_style, empty_sequence, empty_mapping, a_scalar}
+use Rattle.yaml_base.specs.streams.StreamScalars.{word_by_kind, word_after}
 use Rattle.yaml_base.specs.streams.StreamFlow.{is_alias, longest_key}
 use Rattle.yaml_base.specs.streams.StreamNodes.{without_last_space, word_of_alias, key_of_text, key_ends, key_from, begins_text, kind_of_node}
 use Rattle.yaml_base.proofs.stream_keys.StreamKeys.{no_alias_before, key_by_word}

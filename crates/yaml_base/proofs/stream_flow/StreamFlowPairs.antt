@@ -9,13 +9,16 @@ use Rattle.yaml_base.specs.Layout.{as_value, flow_break, key_sign, flow_place_la
 use Rattle.yaml_base.specs.streams.StreamContent.{Tree, Trees, trees_and, TreePairs, tree_pairs_and}
 use Rattle.yaml_base.specs.streams.StreamScalars.{Rules}
 use Rattle.yaml_base.specs.streams.StreamTokens.{is_flow_sign, class_of}
-use Rattle.yaml_base.specs.streams.StreamFlow.{no_key, key_due, key_held, Level, in_sequence, in_mapping, at_once, after_white, entry_awaited, node_awaited, comma_awaited, colon_awaited, within, level_opened}
+use Rattle.yaml_base.specs.streams.StreamFlow.{no_key, key_due, key_held, Level, in_sequence, in_mapping, at_once, after_white, entry_awaited, node_awaited}
+use Rattle.yaml_base.specs.streams.StreamFlow.{comma_awaited, colon_awaited, within, level_opened}
 use Rattle.yaml_base.proofs.stream_flow.StreamPlainWords.{ends_by, ends_word}
 use Rattle.yaml_base.proofs.stream_flow.StreamWhites.{space_class, line_feed_class}
 use Rattle.yaml_base.proofs.stream_flow.StreamSays.{EndsWord, sign_ends, comma_class, colon_class}
 use Rattle.yaml_base.proofs.stream_flow.StreamTakes.{Takes, takes_both}
 use Rattle.yaml_base.proofs.stream_nodes.StreamLeads.{Ended}
-use Rattle.yaml_base.proofs.stream_flow.StreamPasses.{passes_both, passes_then, takes_text, passes_comma, passes_colon, passes_late_colon, passes_question, passes_node_space, passes_entry_white, passes_colon_white, is_white_text, flow_break_white, space_white, white_both, WhiteThen, late_colon}
+use Rattle.yaml_base.proofs.stream_flow.StreamPasses.{passes_both, passes_then, takes_text, passes_comma, passes_colon, passes_late_colon, passes_question}
+use Rattle.yaml_base.proofs.stream_flow.StreamPasses.{passes_node_space, passes_entry_white, passes_colon_white, is_white_text, flow_break_white, space_white}
+use Rattle.yaml_base.proofs.stream_flow.StreamPasses.{white_both, WhiteThen, late_colon}
 use Rattle.yaml_base.proofs.stream_flow.StreamFlowTakes.{FlowNode, FlowEntries, opens_more, white_opens}
 use Rattle.yaml_base.proofs.stream_flow.StreamFlowWords.{opens_inside}
 

@@ -9,13 +9,15 @@ use Rattle.yaml_base.specs.Event.{TagDirective, Collection}
 use Rattle.yaml_base.specs.Cursor.{Cursor, Laid, space_if, new_line, indicator}
 use Rattle.yaml_base.specs.Grammar.{sequence_node, mapping_node, Nodes, no_nodes, nodes_and, Pairs, no_pairs, pairs_and}
 use Rattle.yaml_base.specs.Refusal.{collection_tag}
-use Rattle.yaml_base.specs.Layout.{Place, is_in_mapping, line_column, deeper, entries_column, has_no_nodes, has_no_pairs, properties_laid, is_written_in_flow, Brackets, square, curly, end_laid}
+use Rattle.yaml_base.specs.Layout.{Place, is_in_mapping, line_column, deeper, entries_column, has_no_nodes, has_no_pairs, properties_laid, is_written_in_flow}
+use Rattle.yaml_base.specs.Layout.{Brackets, square, curly, end_laid}
 use Rattle.yaml_base.specs.reading.ReadPlain.{is_read_white}
 use Rattle.yaml_base.specs.reading.ReadTags.{TagSaid}
 use Rattle.yaml_base.specs.streams.StreamContent.{Tree, sequence_tree, mapping_tree, no_trees, no_tree_pairs}
 use Rattle.yaml_base.specs.streams.StreamScalars.{Rules, Properties, word_after}
 use Rattle.yaml_base.specs.streams.StreamTokens.{sign, free, is_flow_sign, begins_bracket, class_of, is_pair, FlowTurn, begun, bracket_turn, flow_tokens}
-use Rattle.yaml_base.specs.streams.StreamFlow.{no_key, Level, in_sequence, in_mapping, Awaited, collection_awaited, entry_awaited, comma_awaited, FlowReading, done, within, level_opened, opened, word_step, flow_step, tree_at_end, flow_read}
+use Rattle.yaml_base.specs.streams.StreamFlow.{no_key, Level, in_sequence, in_mapping, Awaited, collection_awaited, entry_awaited, comma_awaited, FlowReading}
+use Rattle.yaml_base.specs.streams.StreamFlow.{done, within, level_opened, opened, word_step, flow_step, tree_at_end, flow_read}
 use Rattle.yaml_base.specs.streams.StreamNodes.{before_trimmed, trimmed, flow_text, kind_of_text, text_by_kind, begins_text, kind_of_node}
 use Rattle.yaml_base.proofs.stream_lines.StreamLineLaws.{OneLine}
 use Rattle.yaml_base.proofs.stream_nodes.StreamProperties.{begins_content}

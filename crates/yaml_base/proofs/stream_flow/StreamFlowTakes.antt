@@ -11,7 +11,9 @@ use Rattle.yaml_base.specs.streams.StreamContent.{Tree, sequence_tree, mapping_t
 use Rattle.yaml_base.specs.streams.StreamLines.{spaces, is_spaces, ends_sign}
 use Rattle.yaml_base.specs.streams.StreamScalars.{Rules, properties_read, collection_tag_said}
 use Rattle.yaml_base.specs.streams.StreamTokens.{word, opens, sign, begins_bracket, class_of, is_pair, flow_tokens, free}
-use Rattle.yaml_base.specs.streams.StreamFlow.{no_key, key_due, key_held, Level, in_sequence, in_mapping, at_once, Awaited, entry_awaited, node_awaited, comma_awaited, colon_awaited, FlowReading, failed, within, with_tree, with_word, word_step, level_opened, opened, may_open, opened_with}
+use Rattle.yaml_base.specs.streams.StreamFlow.{no_key, key_due, key_held, Level, in_sequence, in_mapping, at_once, Awaited, entry_awaited, node_awaited}
+use Rattle.yaml_base.specs.streams.StreamFlow.{comma_awaited, colon_awaited, FlowReading, failed, within, with_tree, with_word, word_step, level_opened, opened}
+use Rattle.yaml_base.specs.streams.StreamFlow.{may_open, opened_with}
 use Rattle.yaml_base.proofs.stream_lines.StreamInside.{blank_spaces}
 use Rattle.yaml_base.proofs.stream_flow.StreamPlainWords.{ends_word}
 use Rattle.yaml_base.proofs.stream_flow.StreamSays.{EndsWord, sign_ends, says_sign, comma_class, square_class, curly_class}

@@ -15,7 +15,8 @@ use Rattle.yaml_base.specs.reading.ReadDouble.{read_double}
 use Rattle.yaml_base.specs.TidyBodies.{is_tidy, has_deep_lines, has_no_space_before_break, has_clean_edges}
 use Rattle.yaml_base.specs.streams.StreamContent.{Tree, alias_tree, scalar_tree, sequence_tree, mapping_tree, no_trees, no_tree_pairs}
 use Rattle.yaml_base.specs.streams.StreamLines.{spaces, ends_sign}
-use Rattle.yaml_base.specs.streams.StreamScalars.{Rules, name_read, tagging_said, standing_of, scalar_said, scalar_of_style, collection_tag_said, a_scalar, word_by_kind, kind_of_word, word_after, word_read}
+use Rattle.yaml_base.specs.streams.StreamScalars.{Rules, name_read, tagging_said, standing_of, scalar_said, scalar_of_style, collection_tag_said, a_scalar}
+use Rattle.yaml_base.specs.streams.StreamScalars.{word_by_kind, kind_of_word, word_after, word_read}
 use Rattle.yaml_base.specs.streams.StreamTokens.{word, begins_plain, class_of, flow_tokens, begun, FlowTurn}
 use Rattle.yaml_base.proofs.stream_nodes.StreamAgrees.{tagging_in}
 use Rattle.yaml_base.proofs.stream_lines.StreamTidyLaws.{tidy_at_root}

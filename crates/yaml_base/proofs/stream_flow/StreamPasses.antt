@@ -10,7 +10,8 @@ use Rattle.yaml_base.specs.Cursor.{Cursor, Laid, nothing_laid, then_laid, new_li
 use Rattle.yaml_base.specs.Layout.{line_column, flow_break}
 use Rattle.yaml_base.specs.streams.StreamScalars.{Rules}
 use Rattle.yaml_base.specs.streams.StreamTokens.{sign, blank, line_end, free, is_flow_sign, class_of, FlowTurn, begun, flow_tokens}
-use Rattle.yaml_base.specs.streams.StreamFlow.{Level, at_once, after_white, entry_awaited, node_awaited, comma_awaited, colon_awaited, FlowReading, within, flow_step}
+use Rattle.yaml_base.specs.streams.StreamFlow.{Level, at_once, after_white, entry_awaited, node_awaited, comma_awaited, colon_awaited, FlowReading, within}
+use Rattle.yaml_base.specs.streams.StreamFlow.{flow_step}
 use Rattle.yaml_base.proofs.stream_flow.StreamWhites.{space_class, line_feed_class}
 use Rattle.yaml_base.proofs.stream_flow.StreamSays.{comma_class, colon_class, question_class}
 use Rattle.yaml_base.proofs.stream_flow.StreamTakes.{Takes, steps}

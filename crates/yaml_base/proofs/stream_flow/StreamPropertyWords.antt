@@ -10,7 +10,9 @@ use Rattle.yaml_base.specs.reading.ReadPlain.{is_read_white, read_plain}
 use Rattle.yaml_base.specs.reading.ReadSingle.{read_single}
 use Rattle.yaml_base.specs.reading.ReadDouble.{read_double}
 use Rattle.yaml_base.specs.TidyBodies.{has_clean_edges}
-use Rattle.yaml_base.specs.streams.StreamTokens.{word, opens, FlowPlace, free, in_property, after_property, FlowClass, is_white_blank, is_white_break, is_flow_sign, begins_property, begins_double, begins_single, begins_bracket, begins_plain, class_of, FlowTurn, begun, begun_after_property, property_turn, bracket_turn, is_pair, flow_tokens}
+use Rattle.yaml_base.specs.streams.StreamTokens.{word, opens, FlowPlace, free, in_property, after_property, FlowClass, is_white_blank, is_white_break}
+use Rattle.yaml_base.specs.streams.StreamTokens.{is_flow_sign, begins_property, begins_double, begins_single, begins_bracket, begins_plain, class_of, FlowTurn}
+use Rattle.yaml_base.specs.streams.StreamTokens.{begun, begun_after_property, property_turn, bracket_turn, is_pair, flow_tokens}
 use Rattle.yaml_base.proofs.stream_flow.StreamWords.{shifted, double_quoted_word, single_quoted_word}
 use Rattle.yaml_base.proofs.stream_flow.StreamPlainWords.{is_white_class, shown_at, plain_word}
 use Rattle.yaml_base.proofs.stream_flow.StreamWhites.{space_class}

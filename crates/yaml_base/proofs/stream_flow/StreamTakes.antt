@@ -5,7 +5,9 @@ use Rattle.yaml_base.specs.Characters.{Text}
 use Rattle.yaml_base.specs.streams.StreamContent.{Tree, sequence_tree, mapping_tree, Trees, trees_and, TreePairs, tree_pairs_and}
 use Rattle.yaml_base.specs.streams.StreamScalars.{Rules, Properties, word_read}
 use Rattle.yaml_base.specs.streams.StreamTokens.{FlowToken, word, sign, free, is_flow_sign, class_of, begun, FlowTurn, flow_tokens}
-use Rattle.yaml_base.specs.streams.StreamFlow.{is_key_text, no_key, key_due, key_held, Level, in_sequence, in_mapping, at_once, after_white, Awaited, collection_awaited, entry_awaited, node_awaited, comma_awaited, colon_awaited, FlowReading, failed, done, within, with_tree, word_step, colon_after, flow_step, tree_at_end, flow_read}
+use Rattle.yaml_base.specs.streams.StreamFlow.{is_key_text, no_key, key_due, key_held, Level, in_sequence, in_mapping, at_once, after_white, Awaited}
+use Rattle.yaml_base.specs.streams.StreamFlow.{collection_awaited, entry_awaited, node_awaited, comma_awaited, colon_awaited, FlowReading, failed, done, within}
+use Rattle.yaml_base.specs.streams.StreamFlow.{with_tree, word_step, colon_after, flow_step, tree_at_end, flow_read}
 use Rattle.yaml_base.proofs.stream_flow.StreamPlainWords.{ends_by, ends_word}
 use Rattle.yaml_base.proofs.stream_flow.StreamSays.{Says, EndsWord, says_sign, comma_class, colon_class, question_class, square_class, curly_class}
 

@@ -4,9 +4,12 @@ use Rattle.std.proofs.lemmas.Bool.{false≢true, eqb-true}
 use Rattle.std.specs.Prelude.{ℕ, zero, suc, Bool, true, false, Option, None, Some, List, [], ◌∷◌, ◌++◌, ◌==◌, ◌+◌, ◌*◌, map, option_map, if◌then◌else◌}
 use Rattle.yaml_base.specs.Characters.{Text}
 use Rattle.yaml_base.specs.reading.ReadFolding.{FoldUnit, itself, unit_of, folding_read}
-use Rattle.yaml_base.specs.reading.ReadDouble.{QuotePlace, between, after_backslash as backslash_place, within_digits, goes_on, gives, ends_quotes, has_no_reading, escape_step, digit_step, is_scalar_number, letter_meaning, digits_after_first, digit_meaning, Quoted, with_unit, after_step, quoted_from, quoted_reading, value_before, value_alone, read_double}
+use Rattle.yaml_base.specs.reading.ReadDouble.{QuotePlace, between, after_backslash as backslash_place, within_digits, goes_on, gives, ends_quotes}
+use Rattle.yaml_base.specs.reading.ReadDouble.{has_no_reading, escape_step, digit_step, is_scalar_number, letter_meaning, digits_after_first, digit_meaning}
+use Rattle.yaml_base.specs.reading.ReadDouble.{Quoted, with_unit, after_step, quoted_from, quoted_reading, value_before, value_alone, read_double}
 use Rattle.yaml_base.specs.reading.ReadSingle.{unquoted, read_single}
-use Rattle.yaml_base.specs.streams.StreamTokens.{FlowToken, word, FlowPlace, free, in_double, after_backslash, in_single, after_quote, FlowTurn, goes_to, completes, tokens_before, class_of, begun, flow_tokens}
+use Rattle.yaml_base.specs.streams.StreamTokens.{FlowToken, word, FlowPlace, free, in_double, after_backslash, in_single, after_quote, FlowTurn, goes_to}
+use Rattle.yaml_base.specs.streams.StreamTokens.{completes, tokens_before, class_of, begun, flow_tokens}
 use Rattle.yaml_base.proofs.stream_lines.StreamCuts.{none_not_some}
 
 -- a character more at the end of what stands before a text

@@ -12,7 +12,8 @@ use Rattle.yaml_base.specs.Event.{ScalarStyle, any_style, plain, single_quoted, 
 use Rattle.yaml_base.specs.Cursor.{Cursor, then_laid, text_laid}
 use Rattle.yaml_base.specs.scalars.Plain.{Kind, spaces, breaks, others, is_same_kind, Run, joined_to, runs, run_text, runs_laid}
 use Rattle.yaml_base.specs.scalars.SingleQuoted.{quotes_doubled, single_quote}
-use Rattle.yaml_base.specs.scalars.DoubleQuoted.{ShortEscape, quote, short_escapes, letter_among, escape_after_backslash, escape_text, needs_escape, character_text, may_fold, double_fold, double_inside, quote_laid}
+use Rattle.yaml_base.specs.scalars.DoubleQuoted.{ShortEscape, quote, short_escapes, letter_among, escape_after_backslash, escape_text, needs_escape}
+use Rattle.yaml_base.specs.scalars.DoubleQuoted.{character_text, may_fold, double_fold, double_inside, quote_laid}
 use Rattle.yaml_base.specs.Layout.{body_laid}
 use Rattle.yaml_base.proofs.stream_lines.StreamLineLaws.{OneLine}
 use Rattle.yaml_base.proofs.stream_flow.StreamFlowScalars.{is_flow_style}

@@ -3,17 +3,21 @@ use Rattle.std.proofs.Common.{◌≡◌, suc, refl, sym, ap, ◌∙◌, append_a
 use Rattle.std.proofs.lemmas.Bool.{true≢false, false≢true, eqb-true, and_parts, and_from}
 use Rattle.std.specs.List.{list_all}
 use Rattle.std.specs.Option.{option_or}
-use Rattle.std.specs.Prelude.{ℕ, Bool, true, false, Option, None, Some, [], ◌∷◌, ◌++◌, ◌==◌, ◌||◌, ◌&&◌, ◌+◌, not, is_some, nat_le, length, option_map, option_and_then, if◌then◌else◌}
+use Rattle.std.specs.Prelude.{ℕ, Bool, true, false, Option, None, Some, [], ◌∷◌, ◌++◌, ◌==◌, ◌||◌, ◌&&◌, ◌+◌, not, is_some, nat_le, length, option_map}
+use Rattle.std.specs.Prelude.{option_and_then, if◌then◌else◌}
 use Rattle.yaml_base.specs.Characters.{Text, space, is_alpha}
 use Rattle.yaml_base.specs.streams.StreamContent.{Stood, Tagging, Tree, scalar_tree, sequence_tree, mapping_tree, no_trees, no_tree_pairs}
 use Rattle.yaml_base.specs.streams.StreamLines.{Indented, indented, spaces, ends_sign}
 use Rattle.yaml_base.specs.reading.ReadTags.{TagSaid, tag_said}
-use Rattle.yaml_base.specs.streams.StreamScalars.{Rules, Properties, PropertiesRead, word_cut, name_read, tag_of_word, tag_first, collection_tag_said, tagging_said, scalar_said, standing_of, style_begun, value_read, alias_said, WordKind, an_alias, empty_sequence, empty_mapping, a_scalar, kind_of_word, word_by_kind, word_after, word_read}
+use Rattle.yaml_base.specs.streams.StreamScalars.{Rules, Properties, PropertiesRead, word_cut, name_read, tag_of_word, tag_first, collection_tag_said}
+use Rattle.yaml_base.specs.streams.StreamScalars.{tagging_said, scalar_said, standing_of, style_begun, value_read, alias_said, WordKind, an_alias}
+use Rattle.yaml_base.specs.streams.StreamScalars.{empty_sequence, empty_mapping, a_scalar, kind_of_word, word_by_kind, word_after, word_read}
 use Rattle.yaml_base.specs.TidyBodies.{is_tidy}
 use Rattle.yaml_base.specs.streams.StreamFlow.{is_alias, longest_key}
 use Rattle.yaml_base.specs.streams.StreamNodes.{key_ends, key_of_text, key_from, word_of_alias, without_last_space}
 use Rattle.yaml_base.proofs.stream_lines.StreamInside.{indented_spaces}
-use Rattle.yaml_base.proofs.stream_nodes.StreamProperties.{WrittenTag, IsTagged, IsNamed, properties_text, has_no_space, word_whole, no_white_no_space, content_indented, space_after, with_anchor, name_letters}
+use Rattle.yaml_base.proofs.stream_nodes.StreamProperties.{WrittenTag, IsTagged, IsNamed, properties_text, has_no_space, word_whole, no_white_no_space}
+use Rattle.yaml_base.proofs.stream_nodes.StreamProperties.{content_indented, space_after, with_anchor, name_letters}
 use Rattle.yaml_base.proofs.stream_flow.StreamPropertyWords.{lead}
 use Rattle.yaml_base.proofs.stream_keys.StreamKeys.{NoKey, no_alias_before, key_by_word}
 

@@ -1,7 +1,8 @@
 -- A plain simple key is found where its text ends, before the `:` that follows it.
 use Rattle.std.proofs.Common.{◌≡◌, refl, sym, ap, ◌∙◌}
 use Rattle.std.proofs.lemmas.Bool.{true≢false, false≢true, eqb-true, and_parts, or_parts}
-use Rattle.std.specs.Prelude.{ℕ, Bool, true, false, Option, None, Some, List, [], ◌∷◌, ◌++◌, ◌==◌, ◌||◌, ◌&&◌, not, map, nat_le, length, codes, option_and_then, if◌then◌else◌}
+use Rattle.std.specs.Prelude.{ℕ, Bool, true, false, Option, None, Some, List, [], ◌∷◌, ◌++◌, ◌==◌, ◌||◌, ◌&&◌, not, map, nat_le, length, codes, option_and_then}
+use Rattle.std.specs.Prelude.{if◌then◌else◌}
 use Rattle.std.specs.List.{list_all}
 use Rattle.yaml_base.specs.Characters.{Text, space, is_among, is_printable}
 use Rattle.yaml_base.specs.Event.{TagDirective, plain}
@@ -10,7 +11,8 @@ use Rattle.yaml_base.specs.reading.ReadPlain.{is_read_white, begins_white, begin
 use Rattle.yaml_base.specs.TidyBodies.{is_tidy, has_deep_lines, has_no_space_before_break, has_clean_edges, ends_white}
 use Rattle.yaml_base.specs.streams.StreamContent.{stood_plain, without_tag, Tree, scalar_tree}
 use Rattle.yaml_base.specs.streams.StreamLines.{ends_sign, Indented, indented, indented_step}
-use Rattle.yaml_base.specs.streams.StreamScalars.{Rules, no_properties, properties_read, anchor_of_word, word_cut, tag_first, tag_of_word, scalar_said, scalar_of_style, style_begun, an_alias, a_scalar, kind_of_word, word_by_kind, word_after, word_read}
+use Rattle.yaml_base.specs.streams.StreamScalars.{Rules, no_properties, properties_read, anchor_of_word, word_cut, tag_first, tag_of_word, scalar_said}
+use Rattle.yaml_base.specs.streams.StreamScalars.{scalar_of_style, style_begun, an_alias, a_scalar, kind_of_word, word_by_kind, word_after, word_read}
 use Rattle.yaml_base.specs.streams.StreamFlow.{is_alias, longest_key}
 use Rattle.yaml_base.specs.streams.StreamNodes.{key_of_text, key_of_line, word_of_alias}
 use Rattle.yaml_base.proofs.stream_lines.StreamCuts.{none_not_some}

@@ -14,7 +14,8 @@ use Rattle.yaml_base.specs.Grammar.{alias_node, scalar_node, sequence_node, mapp
 use Rattle.yaml_base.specs.Refusal.{scalar_tag, collection_tag}
 use Rattle.yaml_base.specs.Meaning.{read_in_style}
 use Rattle.yaml_base.specs.TidyBodies.{is_tidy}
-use Rattle.yaml_base.specs.Layout.{as_key, byte_count, name_count, tag_count, is_short, has_no_pairs, deeper, Body, body_at, properties_laid, separation_laid, body_laid, choice_of, Place, entry_place, Role, alias_laid, asks_flow, is_written_in_flow, Brackets, square, curly, end_laid}
+use Rattle.yaml_base.specs.Layout.{as_key, byte_count, name_count, tag_count, is_short, has_no_pairs, deeper, Body, body_at, properties_laid, separation_laid}
+use Rattle.yaml_base.specs.Layout.{body_laid, choice_of, Place, entry_place, Role, alias_laid, asks_flow, is_written_in_flow, Brackets, square, curly, end_laid}
 use Rattle.yaml_base.specs.Places.{most_key_bytes}
 use Rattle.yaml_base.specs.scalars.SingleQuoted.{quotes_doubled}
 use Rattle.yaml_base.specs.scalars.DoubleQuoted.{character_text}
@@ -38,7 +39,8 @@ use Rattle.yaml_base.proofs.stream_flow.StreamFlowWords.{Given, scalar_in}
 use Rattle.yaml_base.proofs.stream_flow.StreamFlowKinds.{empty_whole}
 use Rattle.yaml_base.proofs.stream_flow.StreamFlowScalars.{rules_of, is_flow_style, bare_not_plain}
 use Rattle.yaml_base.proofs.stream_keys.StreamKeyBodies.{key_body, body_alone}
-use Rattle.yaml_base.proofs.stream_keys.StreamKeysFit.{KeyText, key_style, SimpleScalar, simple_scalar, scalar_key_text, alias_key_text, empty_key_text, square_line, curly_line, simple_collection}
+use Rattle.yaml_base.proofs.stream_keys.StreamKeysFit.{KeyText, key_style, SimpleScalar, simple_scalar, scalar_key_text, alias_key_text, empty_key_text}
+use Rattle.yaml_base.proofs.stream_keys.StreamKeysFit.{square_line, curly_line, simple_collection}
 use Rattle.yaml_base.proofs.stream_keys.StreamKeyFronts.{front_unmarked, key_fits, other_front, lead_front, plain_front}
 use Rattle.yaml_base.proofs.stream_keys.StreamKeyReads.{double_key_read, single_key_read, plain_key_read, square_key_read, curly_key_read}
 use Rattle.yaml_base.proofs.stream_nodes.StreamNodesFit.{begun_laid}

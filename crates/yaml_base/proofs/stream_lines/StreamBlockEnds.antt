@@ -10,7 +10,8 @@ use Rattle.yaml_base.specs.Event.{ScalarStyle, any_style, plain, single_quoted, 
 use Rattle.yaml_base.specs.scalars.Analysis.{Charset, Allowances, somewhere, begins_with, is_empty, is_special, is_trailing_space, bars_block, allows_block}
 use Rattle.yaml_base.specs.scalars.Style.{style_fitting}
 use Rattle.yaml_base.specs.scalars.Lines.{Part, line, line_break, begun, parts}
-use Rattle.yaml_base.specs.scalars.BlockHeader.{Ending, without_break, one_break, more_breaks, ending, begins_blank, indentation_hint, ending_hint, hint_laid, ends_in_break}
+use Rattle.yaml_base.specs.scalars.BlockHeader.{Ending, without_break, one_break, more_breaks, ending, begins_blank, indentation_hint, ending_hint, hint_laid}
+use Rattle.yaml_base.specs.scalars.BlockHeader.{ends_in_break}
 use Rattle.yaml_base.specs.scalars.Literal.{indented}
 use Rattle.yaml_base.specs.scalars.Folded.{cut_line, next_even, folded_parts}
 use Rattle.yaml_base.specs.reading.ReadBlock.{strip, chomping_first, after_digit}

@@ -4,7 +4,8 @@ use Rattle.std.proofs.lemmas.Bool.{and_parts, and_from, false≢true}
 use Rattle.std.specs.List.{list_all}
 use Rattle.std.specs.Prelude.{ℕ, Bool, true, false, Some, List, [], ◌∷◌, ◌++◌, ◌&&◌, ◌||◌, ◌==◌, not}
 use Rattle.yaml_base.specs.Characters.{Text, space}
-use Rattle.yaml_base.specs.streams.StreamLines.{Line, ends_sign, begins_with_sign, is_inside, line_before, entries_at, all_deeper, spaces, is_spaces, past_column, indented, indented_step}
+use Rattle.yaml_base.specs.streams.StreamLines.{Line, ends_sign, begins_with_sign, is_inside, line_before, entries_at, all_deeper, spaces, is_spaces}
+use Rattle.yaml_base.specs.streams.StreamLines.{past_column, indented, indented_step}
 
 -- a line deeper than a column is inside it
 pub inside_deeper : (s : Bool) (d e : ℕ) (t : Text) → d < e → is_inside s d (spaces e ++ t) ≡ true

@@ -4,7 +4,9 @@ use Rattle.std.proofs.lemmas.Bool.{true≢false}
 use Rattle.std.specs.Prelude.{ℕ, Bool, true, false, Option, None, Some, List, [], ◌∷◌, ◌++◌, ◌==◌, ◌||◌, option_map, option_and_then, if◌then◌else◌}
 use Rattle.yaml_base.specs.Characters.{Text, is_between, line_feed}
 use Rattle.yaml_base.specs.LineBreaks.{is_read_break}
-use Rattle.yaml_base.specs.reading.ReadBlock.{Element, content, line_end, extended, element_before, elements, detected, read_indentation, element_unindented, all_unindented, has_content, kept_lines, joined, unfolded, Chomping, strip, clip, lines_read, digit_first, after_digit, chomping_first, after_chomping, after_break, read_lines, read_block}
+use Rattle.yaml_base.specs.reading.ReadBlock.{Element, content, line_end, extended, element_before, elements, detected, read_indentation, element_unindented}
+use Rattle.yaml_base.specs.reading.ReadBlock.{all_unindented, has_content, kept_lines, joined, unfolded, Chomping, strip, clip, lines_read, digit_first}
+use Rattle.yaml_base.specs.reading.ReadBlock.{after_digit, chomping_first, after_chomping, after_break, read_lines, read_block}
 use Rattle.yaml_base.proofs.stream_lines.StreamCuts.{none_not_some}
 
 -- a break at the end, as text and as an element

@@ -20,7 +20,9 @@ use Rattle.yaml_base.proofs.stream_lines.StreamSections.{is_unmarked, AllUnmarke
 use Rattle.yaml_base.proofs.stream_lines.StreamClosed.{closed, sign_cursor}
 use Rattle.yaml_base.proofs.stream_nodes.StreamFits.{size, Fits, signed_lines}
 use Rattle.yaml_base.proofs.stream_nodes.StreamItems.{items_text, ItemsFit, items_inside}
-use Rattle.yaml_base.proofs.stream_nodes.StreamPairs.{key_place, value_place, colon_cursor, simple_key, signed_key, simple_value, signed_value, pair_text, pairs_text, PairFits, PairsFit, question_line, colon_line, keyed_lines, rest_inside, signed_pair_lines, pairs_lines}
+use Rattle.yaml_base.proofs.stream_nodes.StreamPairs.{key_place, value_place, colon_cursor, simple_key, signed_key, simple_value, signed_value, pair_text}
+use Rattle.yaml_base.proofs.stream_nodes.StreamPairs.{pairs_text, PairFits, PairsFit, question_line, colon_line, keyed_lines, rest_inside, signed_pair_lines}
+use Rattle.yaml_base.proofs.stream_nodes.StreamPairs.{pairs_lines}
 
 -- a line that begins with a space is no mark
 space_unmarked : (t : Text) → is_unmarked (mark_of (space ∷ t)) ≡ true

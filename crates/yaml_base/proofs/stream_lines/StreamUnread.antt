@@ -1,7 +1,8 @@
 -- No node is read of a line that begins with a directive's `%` or that is a document's mark: so what reads as a node is neither.
 use Rattle.std.proofs.Common.{◌≡◌, zero, suc, refl, sym, ap, ◌∙◌, append_assoc}
 use Rattle.std.proofs.lemmas.Bool.{false≢true, eqb-true, and_parts}
-use Rattle.std.specs.Prelude.{ℕ, Bool, true, false, Option, None, Some, List, [], ◌∷◌, ◌++◌, ◌==◌, ◌||◌, ◌&&◌, nat_le, length, codes, is_some, option_map, option_and_then, if◌then◌else◌}
+use Rattle.std.specs.Prelude.{ℕ, Bool, true, false, Option, None, Some, List, [], ◌∷◌, ◌++◌, ◌==◌, ◌||◌, ◌&&◌, nat_le, length, codes, is_some, option_map}
+use Rattle.std.specs.Prelude.{option_and_then, if◌then◌else◌}
 use Rattle.std.specs.Option.{option_or}
 use Rattle.yaml_base.specs.Characters.{Text}
 use Rattle.yaml_base.specs.Event.{plain}
@@ -11,7 +12,9 @@ use Rattle.yaml_base.specs.streams.StreamContent.{Tree, stood_plain}
 use Rattle.yaml_base.specs.streams.StreamLines.{Line, text_of_lines, ends_sign, all_deeper}
 use Rattle.yaml_base.specs.streams.StreamScalars.{Rules, Properties, no_properties, scalar_said, word_after, word_read}
 use Rattle.yaml_base.specs.streams.StreamFlow.{is_alias, longest_key}
-use Rattle.yaml_base.specs.streams.StreamNodes.{without_last_space, word_but_alias, word_of_alias, SimpleKey, key_of_text, key_ends, key_from, key_of_line, trimmed, text_by_kind, word_text, kind_of_text, text_read, begins_mapping, begins_text, kind_of_node, node_by_kind, begins_properties, node_read, text_or_properties}
+use Rattle.yaml_base.specs.streams.StreamNodes.{without_last_space, word_but_alias, word_of_alias, SimpleKey, key_of_text, key_ends, key_from, key_of_line}
+use Rattle.yaml_base.specs.streams.StreamNodes.{trimmed, text_by_kind, word_text, kind_of_text, text_read, begins_mapping, begins_text, kind_of_node}
+use Rattle.yaml_base.specs.streams.StreamNodes.{node_by_kind, begins_properties, node_read, text_or_properties}
 use Rattle.yaml_base.specs.streams.StreamDocuments.{begins_with_mark, start_mark, end_mark, no_mark, mark_of, begins_with_percent}
 use Rattle.yaml_base.proofs.stream_lines.StreamCuts.{none_not_some}
 use Rattle.yaml_base.proofs.stream_lines.StreamSections.{is_unmarked}

@@ -11,10 +11,15 @@ use Rattle.yaml_base.specs.Event.{ScalarStyle, any_style, plain, single_quoted, 
 use Rattle.yaml_base.specs.Tags.{directives_in_force}
 use Rattle.yaml_base.specs.scalars.Analysis.{Allowances, is_empty, allowances}
 use Rattle.yaml_base.specs.scalars.Style.{Choice, lacks_tag_and_flags, is_plain, style_asked, style_quoted, style_fitting, fits_plain}
-use Rattle.yaml_base.specs.Grammar.{Node, alias_node, scalar_node, sequence_node, mapping_node, Nodes, no_nodes, nodes_and, Pairs, no_pairs, pairs_and, Document}
+use Rattle.yaml_base.specs.Grammar.{Node, alias_node, scalar_node, sequence_node, mapping_node, Nodes, no_nodes, nodes_and, Pairs, no_pairs, pairs_and}
+use Rattle.yaml_base.specs.Grammar.{Document}
 use Rattle.yaml_base.specs.Refusal.{scalar_tag, collection_tag}
-use Rattle.yaml_base.specs.Layout.{as_item, as_key, as_value, Place, has_no_nodes, has_no_pairs, is_simple, is_simple_at, choice_of, is_written_in_flow, entry_place, root_place}
-use Rattle.yaml_base.specs.streams.StreamContent.{Stood, stood_plain, stood_quoted, stood_bare, Tagging, with_tag, without_tag, Tree, alias_tree, scalar_tree, sequence_tree, mapping_tree, Trees, no_trees, trees_and, TreePairs, no_tree_pairs, tree_pairs_and, DocumentTree, may_stand, is_same_text, tagging_agrees, tree_agrees, trees_agree, tree_pairs_agree, is_same_version, are_same_directives, document_agrees}
+use Rattle.yaml_base.specs.Layout.{as_item, as_key, as_value, Place, has_no_nodes, has_no_pairs, is_simple, is_simple_at, choice_of, is_written_in_flow}
+use Rattle.yaml_base.specs.Layout.{entry_place, root_place}
+use Rattle.yaml_base.specs.streams.StreamContent.{Stood, stood_plain, stood_quoted, stood_bare, Tagging, with_tag, without_tag, Tree, alias_tree, scalar_tree}
+use Rattle.yaml_base.specs.streams.StreamContent.{sequence_tree, mapping_tree, Trees, no_trees, trees_and, TreePairs, no_tree_pairs, tree_pairs_and}
+use Rattle.yaml_base.specs.streams.StreamContent.{DocumentTree, may_stand, is_same_text, tagging_agrees, tree_agrees, trees_agree, tree_pairs_agree}
+use Rattle.yaml_base.specs.streams.StreamContent.{is_same_version, are_same_directives, document_agrees}
 
 -- how a scalar stands in a style, after the bare tag or not
 abbrev pub standing_in : ScalarStyle → (bare : Bool) → Stood

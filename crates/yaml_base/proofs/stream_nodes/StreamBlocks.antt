@@ -10,11 +10,13 @@ use Rattle.yaml_base.specs.Layout.{Place}
 use Rattle.yaml_base.specs.streams.StreamContent.{Tree}
 use Rattle.yaml_base.specs.streams.StreamLines.{Line, lines_of, ends_sign, is_spaces, without_blank_lines, begins_blank, is_inside, Indented, spaces, blanked}
 use Rattle.yaml_base.specs.streams.StreamScalars.{Rules, Properties, no_properties, PropertiesRead, properties_read, collection_tag_said}
-use Rattle.yaml_base.specs.streams.StreamNodes.{NodeKind, begins_text, kind_of_node, Reads, ReadsText, node_by_kind, node_at, node_lines, begins_properties, after_properties, text_or_properties, text_read, node_read}
+use Rattle.yaml_base.specs.streams.StreamNodes.{NodeKind, begins_text, kind_of_node, Reads, ReadsText, node_by_kind, node_at, node_lines, begins_properties}
+use Rattle.yaml_base.specs.streams.StreamNodes.{after_properties, text_or_properties, text_read, node_read}
 use Rattle.yaml_base.proofs.stream_lines.StreamLineLaws.{is_closed, OneLine, one_line_both}
 use Rattle.yaml_base.proofs.stream_lines.StreamInside.{AllInside, indented_spaces, not_blank, blank_spaces}
 use Rattle.yaml_base.proofs.stream_lines.StreamTidyLaws.{lines_after_first}
-use Rattle.yaml_base.proofs.stream_lines.StreamClosed.{closing, closed, Settled, spaces_line, lines_broken, lines_behind, begins_cons, after_line, closed_both, closed_alike}
+use Rattle.yaml_base.proofs.stream_lines.StreamClosed.{closing, closed, Settled, spaces_line, lines_broken, lines_behind, begins_cons, after_line, closed_both}
+use Rattle.yaml_base.proofs.stream_lines.StreamClosed.{closed_alike}
 use Rattle.yaml_base.proofs.stream_nodes.StreamFits.{WithinColumn, Opens, Fits}
 use Rattle.yaml_base.proofs.stream_nodes.StreamItems.{Lays}
 

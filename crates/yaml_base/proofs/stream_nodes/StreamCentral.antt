@@ -10,13 +10,15 @@ use Rattle.yaml_base.specs.Layout.{has_no_nodes, has_no_pairs, is_simple}
 use Rattle.yaml_base.specs.streams.StreamContent.{sequence_tree, mapping_tree}
 use Rattle.yaml_base.specs.streams.StreamLines.{lines_of, begins_with_sign, Entries as EntriesFound, spaces}
 use Rattle.yaml_base.specs.streams.StreamScalars.{Rules, collection_tag_said}
-use Rattle.yaml_base.specs.streams.StreamNodes.{begins_sequence, begins_mapping, begins_text, key_of_line, kind_of_node, items_read, pairs_held, pairs_read, entries_whole, node_read}
+use Rattle.yaml_base.specs.streams.StreamNodes.{begins_sequence, begins_mapping, begins_text, key_of_line, kind_of_node, items_read, pairs_held, pairs_read}
+use Rattle.yaml_base.specs.streams.StreamNodes.{entries_whole, node_read}
 use Rattle.yaml_base.proofs.stream_nodes.StreamAgrees.{node_tree, nodes_tree, pairs_tree}
 use Rattle.yaml_base.proofs.stream_lines.StreamInside.{splits_alone}
 use Rattle.yaml_base.proofs.stream_lines.StreamClosed.{closed}
 use Rattle.yaml_base.proofs.stream_nodes.StreamFits.{items_size, pairs_size, signed_lines}
 use Rattle.yaml_base.proofs.stream_nodes.StreamItems.{item_text, items_text, item_entries, ItemsFit, items_lines, items_split, items_read_back, dash_line}
-use Rattle.yaml_base.proofs.stream_nodes.StreamPairs.{key_place, simple_key, signed_key, simple_value, signed_value, pair_text, pairs_text, pair_entries, PairFits, PairsFit, question_line, keyed_lines, signed_pair_lines, pairs_lines, pairs_split}
+use Rattle.yaml_base.proofs.stream_nodes.StreamPairs.{key_place, simple_key, signed_key, simple_value, signed_value, pair_text, pairs_text, pair_entries}
+use Rattle.yaml_base.proofs.stream_nodes.StreamPairs.{PairFits, PairsFit, question_line, keyed_lines, signed_pair_lines, pairs_lines, pairs_split}
 use Rattle.yaml_base.proofs.stream_nodes.StreamPairReads.{pairs_read_back}
 use Rattle.yaml_base.proofs.stream_nodes.StreamBlocks.{Opened, opened_more, opened_reads, Block}
 

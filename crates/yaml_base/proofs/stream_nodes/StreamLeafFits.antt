@@ -9,7 +9,8 @@ use Rattle.yaml_base.specs.Layout.{Place, is_in_mapping}
 use Rattle.yaml_base.specs.streams.StreamContent.{Tree}
 use Rattle.yaml_base.specs.streams.StreamLines.{Line, lines_of, ends_sign, without_blank_lines, is_inside, Indented, spaces}
 use Rattle.yaml_base.specs.streams.StreamScalars.{Rules, no_properties}
-use Rattle.yaml_base.specs.streams.StreamNodes.{begins_text, kind_of_node, Reads, ReadsText, node_by_kind, node_at, begins_properties, text_or_properties, node_read}
+use Rattle.yaml_base.specs.streams.StreamNodes.{begins_text, kind_of_node, Reads, ReadsText, node_by_kind, node_at, begins_properties, text_or_properties}
+use Rattle.yaml_base.specs.streams.StreamNodes.{node_read}
 use Rattle.yaml_base.proofs.stream_lines.StreamLineLaws.{is_closed}
 use Rattle.yaml_base.proofs.stream_lines.StreamInside.{AllInside, indented_spaces, not_blank, inside_mapping}
 use Rattle.yaml_base.proofs.stream_lines.StreamTidyLaws.{lines_after_first}

@@ -8,7 +8,8 @@ use Rattle.yaml_base.specs.Settings.{Effective}
 use Rattle.yaml_base.specs.Event.{TagDirective, Scalar, Collection}
 use Rattle.yaml_base.specs.Cursor.{Cursor, Laid}
 use Rattle.yaml_base.specs.Grammar.{Node, alias_node, scalar_node, sequence_node, mapping_node, Nodes, no_nodes, nodes_and, Pairs, no_pairs, pairs_and}
-use Rattle.yaml_base.specs.Layout.{Role, as_item, as_key, as_value, is_key, is_in_mapping, Place, entries_column, has_no_nodes, has_no_pairs, is_simple, place_laid, asks_flow, is_written_in_flow}
+use Rattle.yaml_base.specs.Layout.{Role, as_item, as_key, as_value, is_key, is_in_mapping, Place, entries_column, has_no_nodes, has_no_pairs, is_simple}
+use Rattle.yaml_base.specs.Layout.{place_laid, asks_flow, is_written_in_flow}
 use Rattle.yaml_base.specs.streams.StreamScalars.{name_read}
 use Rattle.yaml_base.proofs.stream_nodes.StreamAgrees.{node_tree}
 use Rattle.yaml_base.proofs.stream_lines.StreamCuts.{none_not_some}

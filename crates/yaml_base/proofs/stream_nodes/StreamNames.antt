@@ -4,17 +4,21 @@ use Rattle.std.proofs.lemmas.Bool.{false≢true, and_parts, and_from}
 use Rattle.std.specs.List.{list_all, list_any}
 use Rattle.std.specs.Option.{option_or}
 use Rattle.std.specs.Str.{all_scalars}
-use Rattle.std.specs.Prelude.{ℕ, Bool, true, false, Option, None, Some, List, [], ◌∷◌, ◌++◌, ◌||◌, ◌&&◌, not, option_map, option_and_then, unwrap_or, if◌then◌else◌}
+use Rattle.std.specs.Prelude.{ℕ, Bool, true, false, Option, None, Some, List, [], ◌∷◌, ◌++◌, ◌||◌, ◌&&◌, not, option_map, option_and_then, unwrap_or}
+use Rattle.std.specs.Prelude.{if◌then◌else◌}
 use Rattle.yaml_base.specs.Characters.{Text, is_alpha}
 use Rattle.yaml_base.specs.Settings.{Settings}
-use Rattle.yaml_base.specs.Event.{TagDirective, Event, stream_start, stream_end, document_start, document_end, alias, scalar, sequence_start, sequence_end, mapping_start, mapping_end}
+use Rattle.yaml_base.specs.Event.{TagDirective, Event, stream_start, stream_end, document_start, document_end, alias, scalar, sequence_start, sequence_end}
+use Rattle.yaml_base.specs.Event.{mapping_start, mapping_end}
 use Rattle.yaml_base.specs.Tags.{name_fault, anchor_fault, tag_fault, version_fault, directives_fault, directives_in_force}
-use Rattle.yaml_base.specs.Grammar.{Node, alias_node, scalar_node, sequence_node, mapping_node, Nodes, no_nodes, nodes_and, Pairs, no_pairs, pairs_and, Document, node_events, nodes_events, pairs_events, document_events, documents_events, Stream, stream_events, tree_of}
+use Rattle.yaml_base.specs.Grammar.{Node, alias_node, scalar_node, sequence_node, mapping_node, Nodes, no_nodes, nodes_and, Pairs, no_pairs, pairs_and}
+use Rattle.yaml_base.specs.Grammar.{Document, node_events, nodes_events, pairs_events, document_events, documents_events, Stream, stream_events, tree_of}
 use Rattle.yaml_base.specs.Refusal.{scalar_tag, collection_tag, properties_fault, name_or_tag_fault, content_fault, is_sound, IsAccepted}
 use Rattle.yaml_base.specs.Meaning.{option_scalars, directive_scalars, has_scalar_texts}
 use Rattle.yaml_base.specs.streams.StreamContent.{documents_in_order}
 use Rattle.yaml_base.specs.streams.StreamScalars.{name_read}
-use Rattle.yaml_base.specs.streams.StreamLaw.{tag_has_flow_sign, node_has_flow_sign, nodes_have_flow_sign, pairs_have_flow_sign, document_has_flow_sign, is_lost, are_portable, is_portable}
+use Rattle.yaml_base.specs.streams.StreamLaw.{tag_has_flow_sign, node_has_flow_sign, nodes_have_flow_sign, pairs_have_flow_sign, document_has_flow_sign}
+use Rattle.yaml_base.specs.streams.StreamLaw.{is_lost, are_portable, is_portable}
 use Rattle.yaml_base.proofs.Trees.{tree_of-stream_events}
 use Rattle.yaml_base.proofs.NoFaults.{neither, is_none_none}
 use Rattle.yaml_base.proofs.stream_nodes.StreamProperties.{IsNamed}

@@ -8,7 +8,8 @@ use Rattle.yaml_base.specs.Event.{TagDirective, Collection}
 use Rattle.yaml_base.specs.Cursor.{Cursor, Laid}
 use Rattle.yaml_base.specs.Grammar.{Node, alias_node, scalar_node, sequence_node, mapping_node, Nodes, no_nodes, nodes_and, Pairs, no_pairs, pairs_and}
 use Rattle.yaml_base.specs.Refusal.{collection_tag}
-use Rattle.yaml_base.specs.Layout.{Role, Place, is_in_mapping, entries_column, has_no_nodes, has_no_pairs, is_simple, asks_flow, is_written_in_flow, properties_laid, square, curly}
+use Rattle.yaml_base.specs.Layout.{Role, Place, is_in_mapping, entries_column, has_no_nodes, has_no_pairs, is_simple, asks_flow, is_written_in_flow}
+use Rattle.yaml_base.specs.Layout.{properties_laid, square, curly}
 use Rattle.yaml_base.specs.streams.StreamContent.{Tree, sequence_tree, mapping_tree}
 use Rattle.yaml_base.specs.streams.StreamLines.{spaces}
 use Rattle.yaml_base.specs.streams.StreamScalars.{Rules}
@@ -17,7 +18,8 @@ use Rattle.yaml_base.proofs.stream_nodes.StreamTexts.{collection_own, node_own, 
 use Rattle.yaml_base.proofs.stream_lines.StreamClosed.{Settled, new_line_closes, sign_cursor, rank}
 use Rattle.yaml_base.proofs.stream_nodes.StreamFits.{size, items_size, pairs_size, WithinColumn, Fits}
 use Rattle.yaml_base.proofs.stream_nodes.StreamItems.{item_place, items_text, ItemsFit, items_settled, items_end, items_inside, items_lay}
-use Rattle.yaml_base.proofs.stream_nodes.StreamPairs.{KeyFits, key_place, value_place, colon_cursor, simple_key, pairs_text, PairFits, PairsFit, pairs_end, pairs_inside}
+use Rattle.yaml_base.proofs.stream_nodes.StreamPairs.{KeyFits, key_place, value_place, colon_cursor, simple_key, pairs_text, PairFits, PairsFit, pairs_end}
+use Rattle.yaml_base.proofs.stream_nodes.StreamPairs.{pairs_inside}
 use Rattle.yaml_base.proofs.stream_nodes.StreamPairReads.{pairs_settled, pairs_lay, colon_ends}
 use Rattle.yaml_base.proofs.stream_nodes.StreamBlocks.{Compact, BegunKind, unsaid, is_said, block_fits}
 use Rattle.yaml_base.proofs.stream_nodes.StreamCentral.{items_block, pairs_block}

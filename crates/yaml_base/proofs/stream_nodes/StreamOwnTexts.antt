@@ -2,16 +2,20 @@
 use Rattle.std.proofs.Common.{◌≡◌, refl, sym, ap, ◌∙◌, append_assoc, append-nil}
 use Rattle.std.proofs.lemmas.Bool.{false≢true, and_parts}
 use Rattle.std.specs.Option.{option_or}
-use Rattle.std.specs.Prelude.{ℕ, Bool, true, false, Option, None, Some, List, [], ◌∷◌, ◌++◌, ◌==◌, ◌||◌, ◌&&◌, ◌+◌, not, is_some, length, option_map, if◌then◌else◌}
+use Rattle.std.specs.Prelude.{ℕ, Bool, true, false, Option, None, Some, List, [], ◌∷◌, ◌++◌, ◌==◌, ◌||◌, ◌&&◌, ◌+◌, not, is_some, length, option_map}
+use Rattle.std.specs.Prelude.{if◌then◌else◌}
 use Rattle.yaml_base.specs.Characters.{Text, space}
 use Rattle.yaml_base.specs.LineBreaks.{is_read_break}
 use Rattle.yaml_base.specs.Event.{ScalarStyle}
 use Rattle.yaml_base.specs.scalars.Style.{is_plain}
 use Rattle.yaml_base.specs.reading.ReadTags.{TagSaid}
 use Rattle.yaml_base.specs.streams.StreamContent.{scalar_tree}
-use Rattle.yaml_base.specs.streams.StreamLines.{Line, extending, character_before, lines_of, text_of_lines, ends_sign, begins_with_sign, without_blank_lines, all_deeper, Indented, spaces}
+use Rattle.yaml_base.specs.streams.StreamLines.{Line, extending, character_before, lines_of, text_of_lines, ends_sign, begins_with_sign, without_blank_lines}
+use Rattle.yaml_base.specs.streams.StreamLines.{all_deeper, Indented, spaces}
 use Rattle.yaml_base.specs.streams.StreamScalars.{Rules, Properties, properties_read, standing_of, scalar_said}
-use Rattle.yaml_base.specs.streams.StreamNodes.{key_of_text, key_ends, key_from, begins_sequence, begins_mapping, begins_text, kind_of_node, kind_of_text, text_by_kind, text_read, Reads, ReadsText, node_by_kind, node_at, node_lines, begins_properties, after_properties, text_or_properties}
+use Rattle.yaml_base.specs.streams.StreamNodes.{key_of_text, key_ends, key_from, begins_sequence, begins_mapping, begins_text, kind_of_node, kind_of_text}
+use Rattle.yaml_base.specs.streams.StreamNodes.{text_by_kind, text_read, Reads, ReadsText, node_by_kind, node_at, node_lines, begins_properties}
+use Rattle.yaml_base.specs.streams.StreamNodes.{after_properties, text_or_properties}
 use Rattle.yaml_base.proofs.stream_lines.StreamLineLaws.{text_of_lines_of}
 use Rattle.yaml_base.proofs.stream_lines.StreamInside.{AllInside, indented_spaces, not_blank, deeper_inside}
 use Rattle.yaml_base.proofs.stream_lines.StreamTidyLaws.{first_text, lines_after_first}

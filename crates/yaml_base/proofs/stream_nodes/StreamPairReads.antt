@@ -11,14 +11,17 @@ use Rattle.yaml_base.specs.Layout.{Role, as_key, as_value, has_no_pairs, is_simp
 use Rattle.yaml_base.specs.streams.StreamContent.{Tree, TreePairs, tree_pairs_and}
 use Rattle.yaml_base.specs.streams.StreamLines.{Line, lines_of, spaces}
 use Rattle.yaml_base.specs.streams.StreamScalars.{Rules}
-use Rattle.yaml_base.specs.streams.StreamNodes.{SimpleKey, HeldPairs, with_key, with_value, simple_pair, key_entry, value_entry, simple_entry, entry_by_kind, entry_at, entry_read, no_pairs_held, node_read}
+use Rattle.yaml_base.specs.streams.StreamNodes.{SimpleKey, HeldPairs, with_key, with_value, simple_pair, key_entry, value_entry, simple_entry, entry_by_kind}
+use Rattle.yaml_base.specs.streams.StreamNodes.{entry_at, entry_read, no_pairs_held, node_read}
 use Rattle.yaml_base.proofs.stream_nodes.StreamAgrees.{node_tree, pairs_tree}
 use Rattle.yaml_base.proofs.stream_nodes.StreamTexts.{node_own, pairs_own}
 use Rattle.yaml_base.proofs.stream_lines.StreamInside.{past_spaces}
 use Rattle.yaml_base.proofs.stream_lines.StreamClosed.{closing, closed, Settled, new_line_closes, sign_cursor}
 use Rattle.yaml_base.proofs.stream_nodes.StreamFits.{size, pairs_size, Fits, tree_anywhere, signed_lines, blanked_lines}
 use Rattle.yaml_base.proofs.stream_nodes.StreamItems.{Lays, regrouped}
-use Rattle.yaml_base.proofs.stream_nodes.StreamPairs.{KeyFits, key_place, value_place, colon_cursor, simple_key, signed_key, simple_value, signed_value, pair_text, pairs_text, entries_of_pair, pair_entries, PairFits, PairsFit, question_line, colon_line, keyed_lines}
+use Rattle.yaml_base.proofs.stream_nodes.StreamPairs.{KeyFits, key_place, value_place, colon_cursor, simple_key, signed_key, simple_value, signed_value}
+use Rattle.yaml_base.proofs.stream_nodes.StreamPairs.{pair_text, pairs_text, entries_of_pair, pair_entries, PairFits, PairsFit, question_line, colon_line}
+use Rattle.yaml_base.proofs.stream_nodes.StreamPairs.{keyed_lines}
 
 -- Reading
 

@@ -21,7 +21,8 @@ use Rattle.yaml_base.proofs.stream_nodes.StreamTexts.{node_own}
 use Rattle.yaml_base.proofs.stream_lines.StreamLineLaws.{is_closed, OneLine, lines_after_break}
 use Rattle.yaml_base.proofs.stream_lines.StreamInside.{AllInside, Splits, splits_none, splits_both, splits_one, begins_entry, outside, inside_deeper}
 use Rattle.yaml_base.proofs.stream_lines.StreamTidyLaws.{lines_after_first}
-use Rattle.yaml_base.proofs.stream_lines.StreamClosed.{closed, sign_cursor, margin_cursor, spaces_line, lines_behind, closed_behind, closed_both, rank, inside_both}
+use Rattle.yaml_base.proofs.stream_lines.StreamClosed.{closed, sign_cursor, margin_cursor, spaces_line, lines_behind, closed_behind, closed_both, rank}
+use Rattle.yaml_base.proofs.stream_lines.StreamClosed.{inside_both}
 use Rattle.yaml_base.proofs.stream_nodes.StreamFits.{size, Opens, Fits, signed_lines, signed_ends}
 
 -- what the text of a simple key is to the reader, before `:` and what a sign opens: a line begins with it, no sign of an

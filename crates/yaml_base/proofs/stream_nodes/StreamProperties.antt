@@ -3,12 +3,14 @@ use Rattle.std.proofs.Common.{◌≡◌, zero, suc, refl, sym, ap, ◌∙◌, ap
 use Rattle.std.proofs.lemmas.Bool.{false≢true, eqb-true, and_parts, or_parts}
 use Rattle.std.proofs.lemmas.List.{length-append}
 use Rattle.std.specs.List.{list_all, list_any}
-use Rattle.std.specs.Prelude.{ℕ, Bool, true, false, Option, None, Some, List, [], ◌∷◌, ◌++◌, ◌==◌, ◌||◌, ◌&&◌, ◌+◌, not, length, option_map, option_and_then, if◌then◌else◌}
+use Rattle.std.specs.Prelude.{ℕ, Bool, true, false, Option, None, Some, List, [], ◌∷◌, ◌++◌, ◌==◌, ◌||◌, ◌&&◌, ◌+◌, not, length, option_map, option_and_then}
+use Rattle.std.specs.Prelude.{if◌then◌else◌}
 use Rattle.yaml_base.specs.Characters.{Text, space, is_alpha, is_blank, is_break}
 use Rattle.yaml_base.specs.Event.{TagDirective}
 use Rattle.yaml_base.specs.reading.ReadTags.{TagSaid, CutText, tag_said}
 use Rattle.yaml_base.specs.streams.StreamLines.{Indented, indented, indented_step, spaces, ends_sign}
-use Rattle.yaml_base.specs.streams.StreamScalars.{Rules, no_properties, PropertiesRead, word_step, word_cut, name_read, anchor_of_word, anchor_first, tag_of_word, tag_first, properties_read, word_after, word_read}
+use Rattle.yaml_base.specs.streams.StreamScalars.{Rules, no_properties, PropertiesRead, word_step, word_cut, name_read, anchor_of_word, anchor_first}
+use Rattle.yaml_base.specs.streams.StreamScalars.{tag_of_word, tag_first, properties_read, word_after, word_read}
 use Rattle.yaml_base.proofs.stream_lines.StreamCuts.{none_not_some}
 
 -- a text holds a blank or a break

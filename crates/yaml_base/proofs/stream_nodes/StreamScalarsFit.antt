@@ -38,7 +38,8 @@ use Rattle.yaml_base.proofs.stream_nodes.StreamOwnTexts.{OwnText, own_reads}
 use Rattle.yaml_base.proofs.stream_nodes.StreamOwnWords.{feed, own_double, own_single}
 use Rattle.yaml_base.proofs.stream_nodes.StreamOwnPlain.{own_plain}
 use Rattle.yaml_base.proofs.stream_nodes.StreamOwnBlocks.{block_sign, block_style, own_block, block_tidy_more}
-use Rattle.yaml_base.proofs.stream_lines.StreamBlockEnds.{EndsBreak, ending_breaks, EndsLines, literal_end, folded_lines_end, column_ended, last_is_read, hint_text, strips, is_block}
+use Rattle.yaml_base.proofs.stream_lines.StreamBlockEnds.{EndsBreak, ending_breaks, EndsLines, literal_end, folded_lines_end, column_ended, last_is_read}
+use Rattle.yaml_base.proofs.stream_lines.StreamBlockEnds.{hint_text, strips, is_block}
 
 -- Bodies
 

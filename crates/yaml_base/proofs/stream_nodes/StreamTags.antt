@@ -10,11 +10,13 @@ use Rattle.yaml_base.specs.Characters.{Text, is_alpha, is_among}
 use Rattle.yaml_base.specs.Event.{TagDirective}
 use Rattle.yaml_base.specs.Percent.{character_written, percent_escaped, suffix_escaped, is_tag_character}
 use Rattle.yaml_base.specs.reading.ReadPercent.{is_uri_character, percent_read}
-use Rattle.yaml_base.specs.reading.ReadTags.{bare_said, name_said, CutText, cut_after_mark, may_follow_handle, verbatim_said, shorthand_said, tag_said, without_end_sign, name_joined, prefix_among, directives_assumed}
+use Rattle.yaml_base.specs.reading.ReadTags.{bare_said, name_said, CutText, cut_after_mark, may_follow_handle, verbatim_said, shorthand_said, tag_said}
+use Rattle.yaml_base.specs.reading.ReadTags.{without_end_sign, name_joined, prefix_among, directives_assumed}
 use Rattle.yaml_base.specs.reading.CanonicalReader.{shorthand_read, tag_read, verbatim_read}
 use Rattle.yaml_base.specs.Tags.{tag_mark, directives_fault, directives_in_force, Spelling, verbatim, spelling, spelled}
 use Rattle.yaml_base.specs.streams.StreamLaw.{has_flow_sign}
-use Rattle.yaml_base.proofs.PercentLaws.{character_is_no_flow_sign, stands_written, escaped_stands, suffix_stands, escaped_begins, suffix_begins, written_is_no_less, alpha_is_no_less, portable_suffix_has_no_flow_sign}
+use Rattle.yaml_base.proofs.PercentLaws.{character_is_no_flow_sign, stands_written, escaped_stands, suffix_stands, escaped_begins, suffix_begins}
+use Rattle.yaml_base.proofs.PercentLaws.{written_is_no_less, alpha_is_no_less, portable_suffix_has_no_flow_sign}
 use Rattle.yaml_base.proofs.TagForms.{end_sign_dropped, IsHandle, handle_form, in_force_found, spelling_is}
 use Rattle.yaml_base.proofs.TagReads.{stands_no_mark, cut_at_handle, written_tag_reads}
 use Rattle.yaml_base.proofs.TagWords.{written_tag_ends_no_word}

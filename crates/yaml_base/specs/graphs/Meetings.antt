@@ -1,10 +1,12 @@
 -- A document as a graph of numbered nodes, the walk over it, and its events (libyaml's dumper; here a shared node gets
 -- its anchor however deep it lies).
-use Rattle.std.specs.Prelude.{ℕ, zero, suc, Bool, true, false, Option, None, Some, List, [], ◌∷◌, ◌++◌, ◌==◌, ◌+◌, ◌-◌, ◌&&◌, nat_le, not, length, replicate, filter, filter_map, flat_map, fold, position, codes, bytes_eq, slice_get, option_map, unwrap_or, if◌then◌else◌}
+use Rattle.std.specs.Prelude.{ℕ, zero, suc, Bool, true, false, Option, None, Some, List, [], ◌∷◌, ◌++◌, ◌==◌, ◌+◌, ◌-◌, ◌&&◌, nat_le, not, length, replicate}
+use Rattle.std.specs.Prelude.{filter, filter_map, flat_map, fold, position, codes, bytes_eq, slice_get, option_map, unwrap_or, if◌then◌else◌}
 use Rattle.std.specs.List.{list_any, list_all}
 use Rattle.std.specs.Fmt.{digits_onto}
 use Rattle.yaml_base.specs.Characters.{Text}
-use Rattle.yaml_base.specs.Event.{Event, DocumentStart, ScalarStyle, CollectionStyle, document_start, document_end, alias, scalar, sequence_start, sequence_end, mapping_start, mapping_end}
+use Rattle.yaml_base.specs.Event.{Event, DocumentStart, ScalarStyle, CollectionStyle, document_start, document_end, alias, scalar, sequence_start, sequence_end}
+use Rattle.yaml_base.specs.Event.{mapping_start, mapping_end}
 
 -- ---- documents of nodes
 

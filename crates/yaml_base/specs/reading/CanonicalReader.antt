@@ -1,15 +1,20 @@
 -- Reading canonical bytes back, without any word of what writes them: bytes to characters (`ReadBytes`), characters to tokens
 -- (`CanonicalTokens`), and here tokens to contents (YAML 1.1, section 5.2 and chapters 7 to 10, in flow style and double quotes alone).
 --     canonical_content breaks12 bytes      the documents' contents, or nothing
-use Rattle.std.specs.Prelude.{ℕ, Bool, true, false, Option, None, Some, List, [], ◌∷◌, ◌++◌, ◌==◌, not, fold, option_map, option_and_then, is_some, if◌then◌else◌}
+use Rattle.std.specs.Prelude.{ℕ, Bool, true, false, Option, None, Some, List, [], ◌∷◌, ◌++◌, ◌==◌, not, fold, option_map, option_and_then, is_some}
+use Rattle.std.specs.Prelude.{if◌then◌else◌}
 use Rattle.yaml_base.specs.Characters.{Text, space}
 use Rattle.yaml_base.specs.LineBreaks.{with_line_breaks_read}
 use Rattle.yaml_base.specs.Event.{Version, TagDirective}
 use Rattle.yaml_base.specs.reading.ReadPercent.{percent_read}
-use Rattle.yaml_base.specs.reading.ReadTags.{TagSaid, bare_said, name_said, CutText, prefix_among, directives_assumed, cut_after_mark, name_joined, without_end_sign}
-use Rattle.yaml_base.specs.reading.Content.{ScalarTag, tagged, untagged, Content, alias_content, scalar_content, sequence_content, mapping_content, Contents, no_contents, contents_and, ContentPairs, no_content_pairs, content_pairs_and, DocumentContent}
+use Rattle.yaml_base.specs.reading.ReadTags.{TagSaid, bare_said, name_said, CutText, prefix_among, directives_assumed, cut_after_mark, name_joined}
+use Rattle.yaml_base.specs.reading.ReadTags.{without_end_sign}
+use Rattle.yaml_base.specs.reading.Content.{ScalarTag, tagged, untagged, Content, alias_content, scalar_content, sequence_content, mapping_content, Contents}
+use Rattle.yaml_base.specs.reading.Content.{no_contents, contents_and, ContentPairs, no_content_pairs, content_pairs_and, DocumentContent}
 use Rattle.yaml_base.specs.reading.ReadBytes.{characters_read}
-use Rattle.yaml_base.specs.reading.CanonicalTokens.{Token, tokens_from, version_line, tag_line, document_begins, document_ends, anchor_token, alias_token, tag_token, scalar_token, opens_sequence, closes_sequence, opens_mapping, closes_mapping, key_token, value_token, comma, free}
+use Rattle.yaml_base.specs.reading.CanonicalTokens.{Token, tokens_from, version_line, tag_line, document_begins, document_ends, anchor_token, alias_token}
+use Rattle.yaml_base.specs.reading.CanonicalTokens.{tag_token, scalar_token, opens_sequence, closes_sequence, opens_mapping, closes_mapping, key_token}
+use Rattle.yaml_base.specs.reading.CanonicalTokens.{value_token, comma, free}
 
 -- ---- written tags
 

@@ -1,6 +1,7 @@
 -- How literal and folded scalars are read (this project's profile of YAML 1.1, sections 9.2 and 9.3),
 -- once line breaks are read.
-use Rattle.std.specs.Prelude.{ℕ, zero, suc, Bool, true, false, Option, None, Some, List, [], ◌∷◌, ◌++◌, ◌==◌, ◌||◌, ◌&&◌, ◌+◌, ◌-◌, not, take, option_map, option_and_then, if◌then◌else◌}
+use Rattle.std.specs.Prelude.{ℕ, zero, suc, Bool, true, false, Option, None, Some, List, [], ◌∷◌, ◌++◌, ◌==◌, ◌||◌, ◌&&◌, ◌+◌, ◌-◌, not, take, option_map}
+use Rattle.std.specs.Prelude.{option_and_then, if◌then◌else◌}
 use Rattle.yaml_base.specs.Characters.{Text, is_between, is_space, is_blank, line_feed, space}
 use Rattle.yaml_base.specs.LineBreaks.{is_read_break}
 

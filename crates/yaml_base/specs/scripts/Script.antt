@@ -1,14 +1,20 @@
 -- Scripts of events: what the bytes of a script say, line by line (this project's own notation).
 --     line_read text       what a line says, or nothing where it is bad by itself
 --     script_of bytes      the settings and the numbered events of a script, or the number of its first bad line
-use Rattle.std.specs.Prelude.{ℕ, suc, ℤ, pos, Bool, false, Option, None, Some, List, [], ◌∷◌, ◌++◌, ◌==◌, ◌&&◌, not, length, codes, chars, option_map, option_and_then, if◌then◌else◌}
+use Rattle.std.specs.Prelude.{ℕ, suc, ℤ, pos, Bool, false, Option, None, Some, List, [], ◌∷◌, ◌++◌, ◌==◌, ◌&&◌, not, length, codes, chars, option_map}
+use Rattle.std.specs.Prelude.{option_and_then, if◌then◌else◌}
 use Rattle.std.specs.Option.{option_or}
 use Rattle.std.specs.List.{list_any, slice_split}
 use Rattle.std.specs.Str.{is_utf8}
 use Rattle.yaml_base.specs.Characters.{Text, line_feed, carriage_return}
 use Rattle.yaml_base.specs.Settings.{largest_i32, Settings, Encoding, LineBreak}
-use Rattle.yaml_base.specs.Event.{Event, stream_start, stream_end, document_start, document_end, alias, scalar, sequence_start, sequence_end, mapping_start, mapping_end, ScalarStyle, CollectionStyle, Version, TagDirective, Collection}
-pub use Rattle.yaml_base.specs.scripts.ScriptWords.{quotation_mark, number_sign, backslash, is_word, Within, Turn, numbered_turn, turn, text_from, Field, FieldState, state_after, separates, cut_before, pieces_from, field_read, field_and, each_field, fields_read, named, flags, switches, encodings, line_breaks, scalar_styles, collection_styles, number_up_to, signed_number, at_character, at_escape, at_brace, at_digits, goes_on, stands_for, ends, fails, bare, quoted, outside, inside, escaped}
+use Rattle.yaml_base.specs.Event.{Event, stream_start, stream_end, document_start, document_end, alias, scalar, sequence_start, sequence_end, mapping_start}
+use Rattle.yaml_base.specs.Event.{mapping_end, ScalarStyle, CollectionStyle, Version, TagDirective, Collection}
+pub use Rattle.yaml_base.specs.scripts.ScriptWords.{quotation_mark, number_sign, backslash, is_word, Within, Turn, numbered_turn, turn, text_from, Field}
+pub use Rattle.yaml_base.specs.scripts.ScriptWords.{FieldState, state_after, separates, cut_before, pieces_from, field_read, field_and, each_field, fields_read}
+pub use Rattle.yaml_base.specs.scripts.ScriptWords.{named, flags, switches, encodings, line_breaks, scalar_styles, collection_styles, number_up_to}
+pub use Rattle.yaml_base.specs.scripts.ScriptWords.{signed_number, at_character, at_escape, at_brace, at_digits, goes_on, stands_for, ends, fails, bare, quoted}
+pub use Rattle.yaml_base.specs.scripts.ScriptWords.{outside, inside, escaped}
 
 -- ---- what a script says
 

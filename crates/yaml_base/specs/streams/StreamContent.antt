@@ -4,7 +4,8 @@ use Rattle.std.specs.Prelude.{Bool, true, false, Option, None, Some, List, [], â
 use Rattle.std.specs.Ordering.{int_eq}
 use Rattle.yaml_base.specs.Characters.{Text}
 use Rattle.yaml_base.specs.Event.{Version, TagDirective, Scalar, Event}
-use Rattle.yaml_base.specs.Grammar.{Node, alias_node, scalar_node, sequence_node, mapping_node, Nodes, no_nodes, nodes_and, Pairs, no_pairs, pairs_and, Document, Documents, no_documents, documents_and, tree_of}
+use Rattle.yaml_base.specs.Grammar.{Node, alias_node, scalar_node, sequence_node, mapping_node, Nodes, no_nodes, nodes_and, Pairs, no_pairs, pairs_and}
+use Rattle.yaml_base.specs.Grammar.{Document, Documents, no_documents, documents_and, tree_of}
 use Rattle.yaml_base.specs.Refusal.{scalar_tag, collection_tag}
 
 -- how a scalar without a tag stood: plain, in quotes or a block style, or so after the bare tag `!`

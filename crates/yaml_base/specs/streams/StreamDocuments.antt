@@ -1,6 +1,7 @@
 -- The documents of a stream (YAML 1.1, chapter 7): its lines are cut at the marks `---` and `...`, and what stands before
 -- the first of them is the first document or its directives.
-use Rattle.std.specs.Prelude.{ℕ, suc, pos, Bool, true, false, Option, None, Some, List, [], ◌∷◌, ◌++◌, ◌==◌, ◌&&◌, not, length, fold, codes, bytes_eq, option_map, option_and_then, is_some, if◌then◌else◌}
+use Rattle.std.specs.Prelude.{ℕ, suc, pos, Bool, true, false, Option, None, Some, List, [], ◌∷◌, ◌++◌, ◌==◌, ◌&&◌, not, length, fold, codes, bytes_eq}
+use Rattle.std.specs.Prelude.{option_map, option_and_then, is_some, if◌then◌else◌}
 use Rattle.std.specs.List.{slice_split}
 use Rattle.yaml_base.specs.Characters.{Text, is_space}
 use Rattle.yaml_base.specs.Event.{Version, TagDirective}

@@ -4,7 +4,8 @@ use Rattle.std.specs.Prelude.{ℕ, suc, Bool, true, false, Option, None, Some, L
 use Rattle.std.specs.List.{list_any}
 use Rattle.yaml_base.specs.Characters.{Text}
 use Rattle.yaml_base.specs.LineBreaks.{is_read_break}
-use Rattle.yaml_base.specs.streams.StreamContent.{Tree, alias_tree, sequence_tree, mapping_tree, Trees, no_trees, trees_and, TreePairs, no_tree_pairs, tree_pairs_and}
+use Rattle.yaml_base.specs.streams.StreamContent.{Tree, alias_tree, sequence_tree, mapping_tree, Trees, no_trees, trees_and, TreePairs, no_tree_pairs}
+use Rattle.yaml_base.specs.streams.StreamContent.{tree_pairs_and}
 use Rattle.yaml_base.specs.streams.StreamScalars.{Rules, Properties, PropertiesRead, properties_read, collection_tag_said, word_after, word_read}
 use Rattle.yaml_base.specs.streams.StreamLines.{is_spaces}
 use Rattle.yaml_base.specs.streams.StreamTokens.{FlowToken, word, opens, sign, blank, line_end, free, flow_tokens}

@@ -7,7 +7,8 @@ use Rattle.yaml_base.specs.Event.{TagDirective, Event}
 use Rattle.yaml_base.specs.Tags.{Spelling, shorthand, verbatim, spelling, directives_in_force}
 use Rattle.yaml_base.specs.scalars.Analysis.{is_empty}
 use Rattle.yaml_base.specs.scalars.Style.{is_plain, style_asked}
-use Rattle.yaml_base.specs.Grammar.{Node, alias_node, scalar_node, sequence_node, mapping_node, Nodes, no_nodes, nodes_and, Pairs, no_pairs, pairs_and, Document, tree_of}
+use Rattle.yaml_base.specs.Grammar.{Node, alias_node, scalar_node, sequence_node, mapping_node, Nodes, no_nodes, nodes_and, Pairs, no_pairs, pairs_and}
+use Rattle.yaml_base.specs.Grammar.{Document, tree_of}
 use Rattle.yaml_base.specs.Refusal.{scalar_tag, collection_tag, IsAccepted}
 use Rattle.yaml_base.specs.Layout.{is_explicit}
 use Rattle.yaml_base.specs.Pieces.{list_layout}

@@ -1,12 +1,15 @@
 -- Nodes in block, by lines and columns (YAML 1.1, sections 8 to 10): the lines inside a column are a node, and each entry of
 -- a collection is read as lines of its own. The depth of reading is bounded by a number that the text's length gives.
-use Rattle.std.specs.Prelude.{ℕ, zero, suc, Bool, true, false, Option, None, Some, List, [], ◌∷◌, ◌++◌, ◌==◌, ◌||◌, ◌&&◌, ◌+◌, not, nat_le, length, fold, option_map, option_and_then, is_some, if◌then◌else◌}
+use Rattle.std.specs.Prelude.{ℕ, zero, suc, Bool, true, false, Option, None, Some, List, [], ◌∷◌, ◌++◌, ◌==◌, ◌||◌, ◌&&◌, ◌+◌, not, nat_le, length, fold}
+use Rattle.std.specs.Prelude.{option_map, option_and_then, is_some, if◌then◌else◌}
 use Rattle.std.specs.Option.{option_or}
 use Rattle.yaml_base.specs.Characters.{Text, space}
 use Rattle.yaml_base.specs.reading.ReadPlain.{is_read_white}
 use Rattle.yaml_base.specs.streams.StreamContent.{Tree, sequence_tree, mapping_tree, Trees, no_trees, trees_and, TreePairs, no_tree_pairs, tree_pairs_and}
-use Rattle.yaml_base.specs.streams.StreamLines.{Line, text_of_lines, without_blank_lines, begins_blank, ends_sign, begins_with_sign, Entries, entries_at, all_deeper, Indented, indented, past_column, blanked}
-use Rattle.yaml_base.specs.streams.StreamScalars.{Rules, Properties, no_properties, PropertiesRead, properties_read, collection_tag_said, style_begun, scalar_of_style, nothing_said, word_after, word_read}
+use Rattle.yaml_base.specs.streams.StreamLines.{Line, text_of_lines, without_blank_lines, begins_blank, ends_sign, begins_with_sign, Entries, entries_at}
+use Rattle.yaml_base.specs.streams.StreamLines.{all_deeper, Indented, indented, past_column, blanked}
+use Rattle.yaml_base.specs.streams.StreamScalars.{Rules, Properties, no_properties, PropertiesRead, properties_read, collection_tag_said, style_begun}
+use Rattle.yaml_base.specs.streams.StreamScalars.{scalar_of_style, nothing_said, word_after, word_read}
 use Rattle.yaml_base.specs.streams.StreamFlow.{is_alias, longest_key, flow_read}
 
 -- Simple keys

@@ -1,6 +1,7 @@
 -- One node's own text on the stretch that is cut out for it: an alias, an empty collection or a scalar, after its anchor
 -- and its tag (YAML 1.1, sections 8.1 and 9). The scalars' readers are called on tidy text alone.
-use Rattle.std.specs.Prelude.{ℕ, suc, Bool, true, false, Option, None, Some, List, [], ◌∷◌, ◌++◌, ◌==◌, ◌&&◌, ◌+◌, length, option_map, option_and_then, if◌then◌else◌}
+use Rattle.std.specs.Prelude.{ℕ, suc, Bool, true, false, Option, None, Some, List, [], ◌∷◌, ◌++◌, ◌==◌, ◌&&◌, ◌+◌, length, option_map, option_and_then}
+use Rattle.std.specs.Prelude.{if◌then◌else◌}
 use Rattle.std.specs.List.{list_all}
 use Rattle.yaml_base.specs.Characters.{Text, is_alpha, space}
 use Rattle.yaml_base.specs.Event.{TagDirective, ScalarStyle, any_style, plain, single_quoted, double_quoted, literal, folded}
@@ -10,7 +11,8 @@ use Rattle.yaml_base.specs.reading.ReadDouble.{read_double}
 use Rattle.yaml_base.specs.reading.ReadBlock.{read_block}
 use Rattle.yaml_base.specs.reading.ReadTags.{TagSaid, bare_said, name_said, CutText, tag_said}
 use Rattle.yaml_base.specs.TidyBodies.{is_tidy}
-use Rattle.yaml_base.specs.streams.StreamContent.{Stood, stood_plain, stood_quoted, stood_bare, Tagging, with_tag, without_tag, Tree, alias_tree, scalar_tree, sequence_tree, mapping_tree, no_trees, no_tree_pairs}
+use Rattle.yaml_base.specs.streams.StreamContent.{Stood, stood_plain, stood_quoted, stood_bare, Tagging, with_tag, without_tag, Tree, alias_tree, scalar_tree}
+use Rattle.yaml_base.specs.streams.StreamContent.{sequence_tree, mapping_tree, no_trees, no_tree_pairs}
 use Rattle.yaml_base.specs.streams.StreamLines.{spaces, indented}
 
 -- by what a document's text is read: which characters break lines, and its own directives

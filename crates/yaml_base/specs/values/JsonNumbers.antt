@@ -1,5 +1,6 @@
 -- Numbers of JSON (RFC 8259, section 6), and the spelling in which both schemas of YAML read the same number.
-use Rattle.std.specs.Prelude.{◌≡◌, ℕ, ℤ, pos, neg_ℤ, negsuc, Bool, true, false, Option, None, Some, [], ◌++◌, ◌==◌, ◌||◌, ◌&&◌, ◌^◌, ◌+ℤ◌, ◌-ℤ◌, ◌*ℤ◌, not, length, codes, is_some, if◌then◌else◌}
+use Rattle.std.specs.Prelude.{◌≡◌, ℕ, ℤ, pos, neg_ℤ, negsuc, Bool, true, false, Option, None, Some, [], ◌++◌, ◌==◌, ◌||◌, ◌&&◌, ◌^◌, ◌+ℤ◌, ◌-ℤ◌, ◌*ℤ◌, not}
+use Rattle.std.specs.Prelude.{length, codes, is_some, if◌then◌else◌}
 use Rattle.std.specs.Str.Parse.{digits_value}
 use Rattle.std.specs.Ordering.{int_eq}
 use Rattle.yaml_base.specs.Characters.{Text}

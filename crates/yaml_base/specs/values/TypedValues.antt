@@ -6,9 +6,11 @@ use Rattle.std.specs.Int.Signed.{mag}
 use Rattle.yaml_base.specs.Characters.{Text}
 use Rattle.yaml_base.specs.Settings.{largest_usize, Settings, utf8, line_feed_break}
 use Rattle.yaml_base.specs.Event.{Event, Collection, any_style, any_layout}
-use Rattle.yaml_base.specs.Grammar.{Node, scalar_node, sequence_node, mapping_node, Nodes, no_nodes, nodes_and, Pairs, no_pairs, pairs_and, Stream, no_documents, documents_and, stream_events}
+use Rattle.yaml_base.specs.Grammar.{Node, scalar_node, sequence_node, mapping_node, Nodes, no_nodes, nodes_and, Pairs, no_pairs, pairs_and, Stream}
+use Rattle.yaml_base.specs.Grammar.{no_documents, documents_and, stream_events}
 use Rattle.yaml_base.specs.Output.{output_of}
-use Rattle.yaml_base.specs.reading.Content.{tagged, Content, scalar_content, sequence_content, mapping_content, Contents, no_contents, contents_and, ContentPairs, no_content_pairs, content_pairs_and, DocumentContent}
+use Rattle.yaml_base.specs.reading.Content.{tagged, Content, scalar_content, sequence_content, mapping_content, Contents, no_contents, contents_and}
+use Rattle.yaml_base.specs.reading.Content.{ContentPairs, no_content_pairs, content_pairs_and, DocumentContent}
 use Rattle.yaml_base.specs.reading.CanonicalReader.{canonical_content}
 use Rattle.yaml_base.specs.graphs.Meetings.{string_tag, sequence_tag, mapping_tag}
 

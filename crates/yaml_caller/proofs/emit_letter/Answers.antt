@@ -2,7 +2,7 @@ use Rattle.std.proofs.Common.{[], Err, map, codes, refl, ap, subst}
 use Rattle.yaml_base.specs.Seen.{seen_directive, seen_text}
 use Rattle.yaml_emitter.specs.Promises.{Promised}
 use Rattle.yaml_caller.specs.Letter.{letter_settings}
-use Rattle.yaml_caller.proofs.Written.{events_of, letter_bytes}
+use Rattle.yaml_caller.proofs.KnownStreams.{events_of, letter_bytes}
 use Rattle.yaml_caller.proofs.OnlyMemory.{call_memory, exit_memory}
 use Rattle.yaml_caller.proofs.emit_letter.Goals as goal
 

@@ -79,7 +79,8 @@ list_read : (s : Effective) (breaks12 : Bool) (events : List Event) → 2 ≤ s.
     → canonical_content breaks12 (bytes_written s (list_layout s events)) ≡ content_of events
 list_read s breaks12 events wide e accepted texts =
     let stream = accepted.stream in
-    let good : list_all is_good_canonical (stream_events stream) ≡ true = ap (list_all is_good_canonical) accepted.is_stream ∙ all_good true events accepted.sound texts in
+    let good : list_all is_good_canonical (stream_events stream) ≡ true =
+    ap (list_all is_good_canonical) accepted.is_stream ∙ all_good true events accepted.sound texts in
     let same : s ≡ in_canonical s = ap (λ b. let made : Effective = record s { canonical = b } in made) e in
     let tree : tree_of events ≡ Some stream = ap tree_of (sym accepted.is_stream) ∙ tree_of-stream_events stream in
     let laid : list_layout s events ≡ layout s stream = ap (λ (t : Option Stream). unwrap_or (option_map (layout s) t) []) tree in

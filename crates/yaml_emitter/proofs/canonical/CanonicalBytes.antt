@@ -1,5 +1,6 @@
 -- The canonical reader finds a text in its bytes.
-use Rattle.std.proofs.Common.{◌≡◌, refl, ap, ◌∙◌, ℕ, ◌+◌, ◌-◌, ◌*◌, ◌/◌, ◌%◌, ◌<◌, ◌≤◌, Bool, true, false, ◌&&◌, inl, inr, ⊎_elim, Some, None, List, [], ◌∷◌, ◌++◌, nat_lt, nat_le, arith, lt-ltb, le-ltb, le-leb}
+use Rattle.std.proofs.Common.{◌≡◌, refl, ap, ◌∙◌, ℕ, ◌+◌, ◌-◌, ◌*◌, ◌/◌, ◌%◌, ◌<◌, ◌≤◌, Bool, true, false, ◌&&◌, inl, inr, ⊎_elim, Some, None, List, [], ◌∷◌}
+use Rattle.std.proofs.Common.{◌++◌, nat_lt, nat_le, arith, lt-ltb, le-ltb, le-leb}
 use Rattle.std.specs.Prelude.{◌==◌, option_map, option_and_then}
 use Rattle.std.specs.Char.{IsScalar}
 use Rattle.std.specs.Char.Utf16.{is_high_surrogate, is_low_surrogate}

@@ -8,7 +8,8 @@ use Rattle.yaml_base.specs.Layout.{has_directives}
 use Rattle.yaml_base.specs.reading.Content.{DocumentContent, document_content, documents_content}
 use Rattle.yaml_base.specs.reading.CanonicalTokens.{Token, document_begins}
 use Rattle.yaml_base.specs.reading.CanonicalReader.{Head, no_head, Reading, outside, within, node_awaited, token_read, documents_at_end, documents_read}
-use Rattle.yaml_emitter.proofs.canonical.CanonicalTokens.{node_tokens, version_tokens, tag_line_tokens, end_tokens, document_tokens, left_open, documents_tokens}
+use Rattle.yaml_emitter.proofs.canonical.CanonicalTokens.{node_tokens, version_tokens, tag_line_tokens, end_tokens, document_tokens, left_open}
+use Rattle.yaml_emitter.proofs.canonical.CanonicalTokens.{documents_tokens}
 use Rattle.yaml_emitter.proofs.canonical.CanonicalEvents.{EachNode}
 use Rattle.yaml_emitter.proofs.canonical.CanonicalFold.{TagOf, node_fold}
 

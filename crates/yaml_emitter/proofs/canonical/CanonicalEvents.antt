@@ -4,7 +4,8 @@ use Rattle.std.proofs.lemmas.Bool.{and_parts}
 use Rattle.std.specs.List.{list_all}
 use Rattle.std.specs.Prelude.{Bool, true, [], ◌∷◌, ◌++◌}
 use Rattle.yaml_base.specs.Event.{Event, alias, scalar, sequence_start, sequence_end, mapping_start, mapping_end}
-use Rattle.yaml_base.specs.Grammar.{Node, alias_node, scalar_node, sequence_node, mapping_node, Nodes, no_nodes, nodes_and, Pairs, no_pairs, pairs_and, node_events, nodes_events, pairs_events}
+use Rattle.yaml_base.specs.Grammar.{Node, alias_node, scalar_node, sequence_node, mapping_node, Nodes, no_nodes, nodes_and, Pairs, no_pairs, pairs_and}
+use Rattle.yaml_base.specs.Grammar.{node_events, nodes_events, pairs_events}
 use Rattle.yaml_base.proofs.stream_documents.StreamEachDocument.{all_of_both}
 
 abbrev mutual

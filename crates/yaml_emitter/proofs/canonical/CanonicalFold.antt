@@ -9,8 +9,10 @@ use Rattle.yaml_base.specs.reading.ReadTags.{TagSaid, bare_said, name_said}
 use Rattle.yaml_base.specs.Grammar.{Node, alias_node, scalar_node, sequence_node, mapping_node, Nodes, no_nodes, nodes_and, Pairs, no_pairs, pairs_and}
 use Rattle.yaml_base.specs.Layout.{has_no_nodes, has_no_pairs}
 use Rattle.yaml_base.specs.reading.Content.{content_tag, scalar_content, Contents, node_content, nodes_content, pairs_content, DocumentContent}
-use Rattle.yaml_base.specs.reading.CanonicalTokens.{Token, scalar_token, opens_sequence, closes_sequence, opens_mapping, closes_mapping, key_token, value_token, comma}
-use Rattle.yaml_base.specs.reading.CanonicalReader.{OpenContent, open_sequence, open_mapping, node_awaited, entry_awaited, comma_awaited, Head, Reading, within, with_content, tag_read, with_tag, token_read}
+use Rattle.yaml_base.specs.reading.CanonicalTokens.{Token, scalar_token, opens_sequence, closes_sequence, opens_mapping, closes_mapping, key_token, value_token}
+use Rattle.yaml_base.specs.reading.CanonicalTokens.{comma}
+use Rattle.yaml_base.specs.reading.CanonicalReader.{OpenContent, open_sequence, open_mapping, node_awaited, entry_awaited, comma_awaited, Head, Reading, within}
+use Rattle.yaml_base.specs.reading.CanonicalReader.{with_content, tag_read, with_tag, token_read}
 use Rattle.yaml_emitter.proofs.canonical.CanonicalTokens.{properties_tokens, entry_sign, node_tokens, nodes_tokens, pairs_tokens}
 use Rattle.yaml_emitter.proofs.canonical.CanonicalEvents.{EachNode, EachItem, EachPair}
 
@@ -212,5 +214,6 @@ module _ (portable : Bool) (documents : List DocumentContent) (head : Head) wher
         (value_token ∷ node_tokens portable value head.directives)) (pairs_fold pairs levels anchor tag h.0)
         ∙ ap (λ r. fold token_read (fold token_read (token_read r key_token) (node_tokens portable key head.directives))
         (value_token ∷ node_tokens portable value head.directives)) (mapping_sign levels anchor tag pairs)
-        ∙ ap (λ r. fold token_read r (value_token ∷ node_tokens portable value head.directives)) (node_fold key (open_mapping anchor tag held None ∷ levels) h.1)
+        ∙ ap (λ r. fold token_read r (value_token ∷ node_tokens portable value head.directives))
+        (node_fold key (open_mapping anchor tag held None ∷ levels) h.1)
         ∙ node_fold value (open_mapping anchor tag held (Some (node_content key)) ∷ levels) h.2

@@ -15,12 +15,14 @@ use Rattle.yaml_base.specs.Percent.{prefix_escaped}
 use Rattle.yaml_base.specs.Tags.{version_fault, prefix_fault, tag_mark}
 use Rattle.yaml_base.specs.Indicators.{indicator_laid, spaced, document_start, document_end, yaml_directive}
 use Rattle.yaml_base.specs.Layout.{closing_mark_laid, version_laid, tag_directive_laid, tag_directives_laid, document_mark_laid}
-use Rattle.yaml_base.specs.reading.CanonicalTokens.{version_line, tag_line, document_begins, document_ends, free, in_line, tokens_from, words, directive_token, tag_line_of}
+use Rattle.yaml_base.specs.reading.CanonicalTokens.{version_line, tag_line, document_begins, document_ends, free, in_line, tokens_from, words, directive_token}
+use Rattle.yaml_base.specs.reading.CanonicalTokens.{tag_line_of}
 use Rattle.yaml_base.proofs.PercentLaws.{decoded_prefix, prefix_begins}
 use Rattle.yaml_base.proofs.TagForms.{IsHandle}
 use Rattle.yaml_base.proofs.BreakLaws.{laid-append}
 use Rattle.yaml_base.proofs.stream_documents.StreamHeadings.{handle_reads, version_of, version_form}
-use Rattle.yaml_emitter.proofs.canonical.CanonicalText.{anything, Says, says_after, says_text, says_nothing, says_white, space_if-white, new_line-white, indicator_says, scalars-append, and_false}
+use Rattle.yaml_emitter.proofs.canonical.CanonicalText.{anything, Says, says_after, says_text, says_nothing, says_white, space_if-white, new_line-white}
+use Rattle.yaml_emitter.proofs.canonical.CanonicalText.{indicator_says, scalars-append, and_false}
 use Rattle.yaml_emitter.proofs.canonical.CanonicalNames.{is_written, all_written, all-scalars, all-laid, prefix-written, handle_text}
 use Rattle.yaml_emitter.proofs.canonical.CanonicalTokens.{version_tokens, tag_line_tokens}
 

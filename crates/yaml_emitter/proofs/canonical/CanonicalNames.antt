@@ -13,7 +13,8 @@ use Rattle.yaml_base.specs.LineBreaks.{is_laid_text}
 use Rattle.yaml_base.specs.Event.{TagDirective}
 use Rattle.yaml_base.specs.Percent.{percent_escaped, suffix_escaped, prefix_escaped}
 use Rattle.yaml_base.specs.Tags.{Spelling, spelling, spelled, directives_fault, directives_in_force, tag_mark}
-use Rattle.yaml_base.specs.reading.CanonicalTokens.{anchor_token, alias_token, tag_token, anchor_named, alias_named, free, in_anchor, in_alias, in_tag, tokens_from, free_turn, goes_to}
+use Rattle.yaml_base.specs.reading.CanonicalTokens.{anchor_token, alias_token, tag_token, anchor_named, alias_named, free, in_anchor, in_alias, in_tag}
+use Rattle.yaml_base.specs.reading.CanonicalTokens.{tokens_from, free_turn, goes_to}
 use Rattle.yaml_base.proofs.PercentLaws.{stands_written, escaped_stands, suffix_stands, stands_in_prefix, prefix_stands}
 use Rattle.yaml_base.proofs.TagForms.{IsHandle, handle_form, spelling_is, in_force_found}
 use Rattle.yaml_emitter.proofs.canonical.CanonicalText.{name_ends, space_next, Says}

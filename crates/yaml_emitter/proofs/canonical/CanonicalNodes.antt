@@ -11,12 +11,19 @@ use Rattle.yaml_base.specs.scalars.DoubleQuoted.{double_quoted_body}
 use Rattle.yaml_base.specs.Event.{TagDirective, Scalar, Collection, Event, alias, scalar, sequence_start, mapping_start}
 use Rattle.yaml_base.specs.Tags.{directives_fault, directives_in_force}
 use Rattle.yaml_base.specs.Grammar.{Node, alias_node, scalar_node, sequence_node, mapping_node, Nodes, no_nodes, nodes_and, Pairs, no_pairs, pairs_and}
-use Rattle.yaml_base.specs.Layout.{as_item, as_key, as_value, Piece, piece_text, text_of, Standing, PiecesLaid, one_piece, is_key, is_in_mapping, line_column, deeper, has_no_nodes, has_no_pairs, is_simple, place_laid, properties_laid, alias_piece, scalar_piece, start_piece, choice_of, scalar_lead, is_written_in_flow, Brackets, square, curly, end_laid, end_piece, collection_laid, node_laid, nodes_laid, pairs_laid}
+use Rattle.yaml_base.specs.Layout.{as_item, as_key, as_value, Piece, piece_text, text_of, Standing, PiecesLaid, one_piece, is_key, is_in_mapping, line_column}
+use Rattle.yaml_base.specs.Layout.{deeper, has_no_nodes, has_no_pairs, is_simple, place_laid, properties_laid, alias_piece, scalar_piece, start_piece}
+use Rattle.yaml_base.specs.Layout.{choice_of, scalar_lead, is_written_in_flow, Brackets, square, curly, end_laid, end_piece, collection_laid, node_laid}
+use Rattle.yaml_base.specs.Layout.{nodes_laid, pairs_laid}
 use Rattle.yaml_base.specs.reading.CanonicalTokens.{Token, opens_sequence, closes_sequence, opens_mapping, closes_mapping, scalar_token, alias_token}
-use Rattle.yaml_emitter.proofs.canonical.CanonicalText.{Demand, anything, name_ends, space_next, Says, Opens, opens_append, opens_any, says_then, says_after, says_text, says_tokens, says_less, says_white, space_if-white, new_line-white, indicator_says, and_false}
+use Rattle.yaml_emitter.proofs.canonical.CanonicalText.{Demand, anything, name_ends, space_next, Says, Opens, opens_append, opens_any, says_then, says_after}
+use Rattle.yaml_emitter.proofs.canonical.CanonicalText.{says_text, says_tokens, says_less, says_white, space_if-white, new_line-white, indicator_says}
+use Rattle.yaml_emitter.proofs.canonical.CanonicalText.{and_false}
 use Rattle.yaml_emitter.proofs.canonical.CanonicalNames.{IsName, alias_says}
 use Rattle.yaml_emitter.proofs.canonical.CanonicalQuotes.{body_says}
-use Rattle.yaml_emitter.proofs.canonical.CanonicalPlaces.{in_canonical, Spot, place_of, spot_tokens, Fits, Entered, Follows, says_square, says_square_end, says_curly, says_curly_end, says_comma, place_says, opening_opens, place_opens, AnchorOk, demand_of, properties_say, properties_fit}
+use Rattle.yaml_emitter.proofs.canonical.CanonicalPlaces.{in_canonical, Spot, place_of, spot_tokens, Fits, Entered, Follows, says_square, says_square_end}
+use Rattle.yaml_emitter.proofs.canonical.CanonicalPlaces.{says_curly, says_curly_end, says_comma, place_says, opening_opens, place_opens, AnchorOk, demand_of}
+use Rattle.yaml_emitter.proofs.canonical.CanonicalPlaces.{properties_say, properties_fit}
 use Rattle.yaml_emitter.proofs.canonical.CanonicalTokens.{anchor_tokens, tag_tokens, properties_tokens, entry_sign, node_tokens, nodes_tokens, pairs_tokens}
 use Rattle.yaml_emitter.proofs.canonical.CanonicalEvents.{EachNode, EachItem, EachPair}
 

@@ -7,9 +7,13 @@ use Rattle.yaml_base.specs.Cursor.{Cursor, new_line, indicator, space_if}
 use Rattle.yaml_base.specs.Event.{TagDirective}
 use Rattle.yaml_base.specs.Percent.{percent_escaped, suffix_escaped}
 use Rattle.yaml_base.specs.Tags.{Spelling, shorthand, verbatim, spelling, spelled, directives_fault, directives_in_force}
-use Rattle.yaml_base.specs.Layout.{Role, as_root, as_item, as_key, as_value, Place, opening_or_comma, place_laid, root_place, entry_place, anchor_laid, spelling_laid, properties_laid}
-use Rattle.yaml_base.specs.reading.CanonicalTokens.{Token, opens_sequence, closes_sequence, opens_mapping, closes_mapping, key_token, value_token, comma, tag_token}
-use Rattle.yaml_emitter.proofs.canonical.CanonicalText.{Demand, anything, name_ends, space_next, Says, Opens, opens_append, opens_any, says_then, says_after, says_text, says_nothing, says_white, white-opens, space_if-white, new_line-white, indicator_says, indicator_opens, space_first}
+use Rattle.yaml_base.specs.Layout.{Role, as_root, as_item, as_key, as_value, Place, opening_or_comma, place_laid, root_place, entry_place, anchor_laid}
+use Rattle.yaml_base.specs.Layout.{spelling_laid, properties_laid}
+use Rattle.yaml_base.specs.reading.CanonicalTokens.{Token, opens_sequence, closes_sequence, opens_mapping, closes_mapping, key_token, value_token, comma}
+use Rattle.yaml_base.specs.reading.CanonicalTokens.{tag_token}
+use Rattle.yaml_emitter.proofs.canonical.CanonicalText.{Demand, anything, name_ends, space_next, Says, Opens, opens_append, opens_any, says_then, says_after}
+use Rattle.yaml_emitter.proofs.canonical.CanonicalText.{says_text, says_nothing, says_white, white-opens, space_if-white, new_line-white, indicator_says}
+use Rattle.yaml_emitter.proofs.canonical.CanonicalText.{indicator_opens, space_first}
 use Rattle.yaml_emitter.proofs.canonical.CanonicalNames.{IsName, anchor_says, tag_says, IsTagText, tag_text}
 use Rattle.yaml_emitter.proofs.canonical.CanonicalTokens.{anchor_tokens, properties_tokens, entry_sign}
 

@@ -6,9 +6,12 @@ use Rattle.std.specs.Prelude.{Bool, true, false, Option, None, Some, List, [], â
 use lib.Utf8.{scalar}
 use Rattle.yaml_base.specs.Characters.{Text, is_space, hex_digit, hex_digits}
 use Rattle.yaml_base.specs.Cursor.{Cursor, new_line, is_past_width, text_laid}
-use Rattle.yaml_base.specs.scalars.DoubleQuoted.{quote, backslash, ShortEscape, short_escapes, letter_among, escape_after_backslash, escape_text, needs_escape, character_text, may_fold, space_kept, double_character, double_inside, double_quoted_body, quote_laid, double_fold}
+use Rattle.yaml_base.specs.scalars.DoubleQuoted.{quote, backslash, ShortEscape, short_escapes, letter_among, escape_after_backslash, escape_text, needs_escape}
+use Rattle.yaml_base.specs.scalars.DoubleQuoted.{character_text, may_fold, space_kept, double_character, double_inside, double_quoted_body, quote_laid}
+use Rattle.yaml_base.specs.scalars.DoubleQuoted.{double_fold}
 use Rattle.yaml_base.specs.reading.ReadFolding.{FoldUnit, folding_read}
-use Rattle.yaml_base.specs.reading.ReadDouble.{QuotePlace, between, QuoteStep, goes_on, gives, ends_quotes, has_no_reading, quote_step, Quoted, QuotedReading, with_unit, after_step, quoted_from, quoted_reading, double_quoted_front}
+use Rattle.yaml_base.specs.reading.ReadDouble.{QuotePlace, between, QuoteStep, goes_on, gives, ends_quotes, has_no_reading, quote_step, Quoted, QuotedReading}
+use Rattle.yaml_base.specs.reading.ReadDouble.{with_unit, after_step, quoted_from, quoted_reading, double_quoted_front}
 use Rattle.yaml_base.specs.reading.CanonicalTokens.{Token, scalar_token, free, in_quotes, tokens_from, quotes_turn, free_turn, goes_to}
 use Rattle.yaml_scalar.proofs.DoubleReads.{double-front, double-laid}
 use Rattle.yaml_emitter.proofs.canonical.CanonicalText.{anything, Says, says_white, new_line-white, scalars-append}

@@ -7,7 +7,8 @@ use Rattle.std.specs.Str.{all_scalars}
 use Rattle.std.specs.Prelude.{Bool, true, false, Option, None, Some, List, [], ◌∷◌, ◌++◌, option_and_then, if◌then◌else◌}
 use Rattle.yaml_base.specs.Characters.{Text, is_alpha}
 use Rattle.yaml_base.specs.Event.{Version, TagDirective, Event, document_start, document_end, alias, scalar, sequence_start, mapping_start}
-use Rattle.yaml_base.specs.Tags.{name_fault, anchor_fault, tag_fault, handle_fault, prefix_fault, directive_fault, next_directive_fault, directives_fault_after, directives_fault, version_fault, gives_handle}
+use Rattle.yaml_base.specs.Tags.{name_fault, anchor_fault, tag_fault, handle_fault, prefix_fault, directive_fault, next_directive_fault, directives_fault_after}
+use Rattle.yaml_base.specs.Tags.{directives_fault, version_fault, gives_handle}
 use Rattle.yaml_base.specs.Refusal.{properties_fault}
 use Rattle.yaml_base.specs.Grammar.{Document, Documents, no_documents, documents_and, node_events, document_events, documents_events}
 use Rattle.yaml_base.specs.Meaning.{option_scalars, directive_scalars}
@@ -99,7 +100,8 @@ document_ok document h =
       version = version_ok document.start.version both.0;
       directives = directives_ok [] document.start.directives both.1 facts.2;
       root = each_node document.root EventOk is_good_canonical event_ok root;
-      tags = λ portable. each_node document.root (TagOf portable document.start.directives) is_good_canonical (tag_of portable document.start.directives both.1) root;
+      tags = λ portable. each_node document.root (TagOf portable document.start.directives) is_good_canonical
+          (tag_of portable document.start.directives both.1) root;
     }
 
 abbrev pub DocumentsOk : Documents → Type 0

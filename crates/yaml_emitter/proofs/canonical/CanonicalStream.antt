@@ -7,14 +7,18 @@ use Rattle.yaml_base.specs.Settings.{Effective}
 use Rattle.yaml_base.specs.Cursor.{Cursor, new_line}
 use Rattle.yaml_base.specs.Tags.{directives_in_force}
 use Rattle.yaml_base.specs.Grammar.{Document, Documents, no_documents, documents_and, Stream}
-use Rattle.yaml_base.specs.Layout.{text_of, Standing, PiecesLaid, root_place, node_laid, laid_if, closing_mark_laid, version_laid, tag_directives_laid, has_directives, is_explicit, document_mark_laid, document_start_laid, document_start_piece, document_end_piece, document_laid, has_no_documents, documents_laid, first_standing, stream_start_piece, stream_end_piece, layout}
+use Rattle.yaml_base.specs.Layout.{text_of, Standing, PiecesLaid, root_place, node_laid, laid_if, closing_mark_laid, version_laid, tag_directives_laid}
+use Rattle.yaml_base.specs.Layout.{has_directives, is_explicit, document_mark_laid, document_start_laid, document_start_piece, document_end_piece}
+use Rattle.yaml_base.specs.Layout.{document_laid, has_no_documents, documents_laid, first_standing, stream_start_piece, stream_end_piece, layout}
 use Rattle.yaml_base.specs.reading.CanonicalTokens.{Token, document_begins}
-use Rattle.yaml_emitter.proofs.canonical.CanonicalText.{anything, name_ends, Says, Opens, opens_append, says_then, says_after, says_text, says_tokens, says_nothing, says_white, new_line-white}
+use Rattle.yaml_emitter.proofs.canonical.CanonicalText.{anything, name_ends, Says, Opens, opens_append, says_then, says_after, says_text, says_tokens}
+use Rattle.yaml_emitter.proofs.canonical.CanonicalText.{says_nothing, says_white, new_line-white}
 use Rattle.yaml_emitter.proofs.canonical.CanonicalPlaces.{in_canonical}
 use Rattle.yaml_emitter.proofs.canonical.CanonicalNodes.{lead_text, more_text, node_after}
 use Rattle.yaml_emitter.proofs.canonical.CanonicalLines.{closing_says, mark_says, version_says, directives_say, line_breaks}
 use Rattle.yaml_emitter.proofs.canonical.CanonicalSound.{DocumentOk, DocumentsOk}
-use Rattle.yaml_emitter.proofs.canonical.CanonicalTokens.{node_tokens, version_tokens, tag_line_tokens, end_tokens, document_tokens, left_open, documents_tokens}
+use Rattle.yaml_emitter.proofs.canonical.CanonicalTokens.{node_tokens, version_tokens, tag_line_tokens, end_tokens, document_tokens, left_open}
+use Rattle.yaml_emitter.proofs.canonical.CanonicalTokens.{documents_tokens}
 
 -- the open mark between documents, after one that was left open or not
 abbrev mark_of : Bool → ℕ

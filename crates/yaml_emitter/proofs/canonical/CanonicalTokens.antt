@@ -3,9 +3,11 @@ use Rattle.std.specs.Prelude.{Bool, true, false, Option, None, Some, List, [], â
 use Rattle.yaml_base.specs.Characters.{Text}
 use Rattle.yaml_base.specs.Event.{Version, TagDirective}
 use Rattle.yaml_base.specs.Tags.{directives_in_force, spelling, spelled}
-use Rattle.yaml_base.specs.Grammar.{Node, alias_node, scalar_node, sequence_node, mapping_node, Nodes, no_nodes, nodes_and, Pairs, no_pairs, pairs_and, Document, Documents, no_documents, documents_and}
+use Rattle.yaml_base.specs.Grammar.{Node, alias_node, scalar_node, sequence_node, mapping_node, Nodes, no_nodes, nodes_and, Pairs, no_pairs, pairs_and}
+use Rattle.yaml_base.specs.Grammar.{Document, Documents, no_documents, documents_and}
 use Rattle.yaml_base.specs.Layout.{has_no_nodes, has_no_pairs, has_directives}
-use Rattle.yaml_base.specs.reading.CanonicalTokens.{Token, version_line, tag_line, document_begins, document_ends, anchor_token, alias_token, tag_token, scalar_token, opens_sequence, closes_sequence, opens_mapping, closes_mapping, key_token, value_token, comma}
+use Rattle.yaml_base.specs.reading.CanonicalTokens.{Token, version_line, tag_line, document_begins, document_ends, anchor_token, alias_token, tag_token}
+use Rattle.yaml_base.specs.reading.CanonicalTokens.{scalar_token, opens_sequence, closes_sequence, opens_mapping, closes_mapping, key_token, value_token, comma}
 
 abbrev pub anchor_tokens : Option Text â†’ List Token
 anchor_tokens None = []

@@ -44,9 +44,11 @@ start_refusal : (canonical : Bool) (directives : List TagDirective) (frames : Li
     → nat_lt (length frames) most_open ≡ room
     → stage_refusal canonical (at_node directives frames) (start_event mapping start) ≡ fault_if (not room) TooDeep
 start_refusal canonical directives frames true start room none is =
-    ap (λ (o : Option yaml_error_t). option_or o (fault_if (not (nat_lt (length frames) most_open)) TooDeep)) none ∙ ap (λ (b : Bool). fault_if (not b) TooDeep) is
+    ap (λ (o : Option yaml_error_t). option_or o (fault_if (not (nat_lt (length frames) most_open)) TooDeep)) none
+    ∙ ap (λ (b : Bool). fault_if (not b) TooDeep) is
 start_refusal canonical directives frames false start room none is =
-    ap (λ (o : Option yaml_error_t). option_or o (fault_if (not (nat_lt (length frames) most_open)) TooDeep)) none ∙ ap (λ (b : Bool). fault_if (not b) TooDeep) is
+    ap (λ (o : Option yaml_error_t). option_or o (fault_if (not (nat_lt (length frames) most_open)) TooDeep)) none
+    ∙ ap (λ (b : Bool). fault_if (not b) TooDeep) is
 
 pub start_refused : (before : State) (directives : List TagDirective) (frames : List Frame) (mapping : Bool) (start : Collection) (empty : Bool)
     → before.stage ≡ at_node directives frames

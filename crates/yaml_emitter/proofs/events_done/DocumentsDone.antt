@@ -4,13 +4,17 @@ use Rattle.std.specs.Prelude.{nat_lt, if◌then◌else◌, option_and_then}
 use Rattle.std.specs.Option.{option_or}
 use Rattle.std.specs.List.{list_all}
 use Rattle.yaml_base.specs.Characters.{Text, is_alpha}
-use Rattle.yaml_base.specs.Event.{Version, TagDirective, DocumentStart, Event, stream_start, stream_end, document_start, document_end, alias, scalar, sequence_start, sequence_end, mapping_start, mapping_end}
-use Rattle.yaml_base.specs.Tags.{anchor_fault, tag_fault, name_fault, version_fault, handle_fault, prefix_fault, directive_fault, next_directive_fault, directives_fault, directives_fault_after, directives_in_force, gives_handle, is_the_number, last_from, without_last, tag_mark}
+use Rattle.yaml_base.specs.Event.{Version, TagDirective, DocumentStart, Event, stream_start, stream_end, document_start, document_end, alias, scalar}
+use Rattle.yaml_base.specs.Event.{sequence_start, sequence_end, mapping_start, mapping_end}
+use Rattle.yaml_base.specs.Tags.{anchor_fault, tag_fault, name_fault, version_fault, handle_fault, prefix_fault, directive_fault, next_directive_fault}
+use Rattle.yaml_base.specs.Tags.{directives_fault, directives_fault_after, directives_in_force, gives_handle, is_the_number, last_from, without_last, tag_mark}
 use Rattle.yaml_base.specs.Refusal.{content_fault, properties_fault, name_or_tag_fault, scalar_tag, collection_tag, fault_if, begins_collection, most_open}
 use Rattle.yaml_base.specs.Layout.{document_start_piece}
 use Rattle.yaml_base.specs.Steps.{Frame, Stage, at_document, at_node, stage_refusal, stage_allows, stage_expected, open_frames}
 use Rattle.yaml_base.specs.declared.errors.yaml_error_t.{yaml_error_t}
-use Rattle.yaml_base.specs.declared.errors.yaml_error_t.TheVariants.{WriteError, Memory, TooDeep, IncompatibleVersion, TagHandleStart, TagHandleEnd, TagHandleAlphabet, DuplicateDirective, AnchorEmpty, AnchorAlphabet, AliasEmpty, AliasAlphabet}
+use Rattle.yaml_base.specs.declared.errors.yaml_error_t.TheVariants.{WriteError, Memory, TooDeep, IncompatibleVersion, TagHandleStart, TagHandleEnd}
+use Rattle.yaml_base.specs.declared.errors.yaml_error_t.TheVariants.{TagHandleAlphabet, DuplicateDirective, AnchorEmpty, AnchorAlphabet, AliasEmpty}
+use Rattle.yaml_base.specs.declared.errors.yaml_error_t.TheVariants.{AliasAlphabet}
 use Rattle.yaml_pen.specs.Page.{Page}
 use Rattle.yaml_pen.specs.Wrote.{Wrote}
 use Rattle.yaml_emitter.specs.State.{State}

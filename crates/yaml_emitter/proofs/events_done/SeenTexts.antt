@@ -10,7 +10,9 @@ use Rattle.yaml_base.specs.Seen.{seen_text, seen_directive, seen_event}
 use Rattle.yaml_base.specs.Meaning.{has_scalar_values, option_scalars, directive_scalars, has_scalar_texts}
 use Rattle.yaml_base.specs.declared.directives.yaml_tag_directive_t.{yaml_tag_directive_t}
 use Rattle.yaml_base.specs.declared.events.yaml_event_t.{yaml_event_t}
-use Rattle.yaml_base.specs.declared.events.yaml_event_t.TheVariants.{YAML_STREAM_START_EVENT, YAML_STREAM_END_EVENT, YAML_DOCUMENT_START_EVENT, YAML_DOCUMENT_END_EVENT, YAML_ALIAS_EVENT, YAML_SCALAR_EVENT, YAML_SEQUENCE_START_EVENT, YAML_SEQUENCE_END_EVENT, YAML_MAPPING_START_EVENT, YAML_MAPPING_END_EVENT}
+use Rattle.yaml_base.specs.declared.events.yaml_event_t.TheVariants.{YAML_STREAM_START_EVENT, YAML_STREAM_END_EVENT, YAML_DOCUMENT_START_EVENT}
+use Rattle.yaml_base.specs.declared.events.yaml_event_t.TheVariants.{YAML_DOCUMENT_END_EVENT, YAML_ALIAS_EVENT, YAML_SCALAR_EVENT, YAML_SEQUENCE_START_EVENT}
+use Rattle.yaml_base.specs.declared.events.yaml_event_t.TheVariants.{YAML_SEQUENCE_END_EVENT, YAML_MAPPING_START_EVENT, YAML_MAPPING_END_EVENT}
 
 string_scalars : {A : Type 0} (text : String A) → all_scalars (seen_text text) ≡ true
 string_scalars text = scalars-chars (string_bytes text) (IsUtf8-string_bytes text)

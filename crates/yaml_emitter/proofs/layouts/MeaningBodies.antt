@@ -14,7 +14,7 @@ use Rattle.yaml_base.specs.Settings.{Effective}
 use Rattle.yaml_scalar.proofs.PlainReads.{plain-reads, plain-indented}
 use Rattle.yaml_scalar.proofs.SingleReads.{single-reads, single-indented}
 use Rattle.yaml_scalar.proofs.DoubleReads.{double-reads, double-indented}
-use Rattle.yaml_scalar.proofs.BlockLines.{literal-kept, folded-kept}
+use Rattle.yaml_scalar.proofs.blocks.BlockLines.{literal-kept, folded-kept}
 use Rattle.yaml_emitter.proofs.layouts.MeaningStyles.{Allows}
 
 -- an indent that settings come to

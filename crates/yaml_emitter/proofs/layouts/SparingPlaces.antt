@@ -12,7 +12,10 @@ use Rattle.yaml_base.specs.Percent.{percent_escaped, suffix_escaped, prefix_esca
 use Rattle.yaml_base.specs.Settings.{Effective}
 use Rattle.yaml_base.specs.Tags.{Spelling, spelling, tag_mark}
 use Rattle.yaml_base.specs.Indicators.{indicator_laid, spaced, document_start, document_end, yaml_directive, version_1_1, version_1_2, tag_directive}
-use Rattle.yaml_base.specs.Layout.{line_column, Role, as_root, as_item, as_key, as_value, Place, flow_break, opening_or_comma, key_sign, flow_place_laid, block_place_laid, place_laid, anchor_laid, handle_laid, spelling_laid, tag_laid, properties_laid, alias_laid, separation_laid, Brackets, empty_or_comma, end_laid, Standing, line_ended, laid_if, closing_mark_laid, version_word, version_laid, tag_directive_laid, tag_directives_laid, has_directives, is_explicit, document_mark_laid, document_start_laid}
+use Rattle.yaml_base.specs.Layout.{line_column, Role, as_root, as_item, as_key, as_value, Place, flow_break, opening_or_comma, key_sign, flow_place_laid}
+use Rattle.yaml_base.specs.Layout.{block_place_laid, place_laid, anchor_laid, handle_laid, spelling_laid, tag_laid, properties_laid, alias_laid}
+use Rattle.yaml_base.specs.Layout.{separation_laid, Brackets, empty_or_comma, end_laid, Standing, line_ended, laid_if, closing_mark_laid, version_word}
+use Rattle.yaml_base.specs.Layout.{version_laid, tag_directive_laid, tag_directives_laid, has_directives, is_explicit, document_mark_laid, document_start_laid}
 use Rattle.yaml_base.proofs.TagForms.{IsHandle, handle_form, AreFound, spelling_is}
 use Rattle.yaml_scalar.proofs.LineTexts.{any_both, any_cond, any_one}
 use Rattle.yaml_scalar.proofs.Sparing.{Spares, is_graph, lacks_graph, lacks_line}

@@ -7,11 +7,15 @@ use Rattle.std.specs.List.{list_all, list_any}
 use Rattle.yaml_base.specs.scalars.Analysis.{allowances, is_empty}
 use Rattle.yaml_base.specs.Characters.{Text, is_alpha}
 use Rattle.yaml_base.specs.Cursor.{Cursor, Laid, then_laid, new_line}
-use Rattle.yaml_base.specs.Event.{ScalarStyle, TagDirective, Scalar, Collection, Event, stream_start, stream_end, document_start, document_end, alias, scalar, sequence_start, sequence_end, mapping_start, mapping_end}
-use Rattle.yaml_base.specs.Layout.{Place, Piece, piece_text, text_of, Standing, deeper, body_laid, choice_of, scalar_lead, scalar_piece, place_laid, properties_laid, separation_laid, alias_laid, start_piece, Brackets, square, curly, end_laid, end_piece, laid_if, closing_mark_laid, is_key, is_simple_alias, document_start_laid, document_end_piece}
+use Rattle.yaml_base.specs.Event.{ScalarStyle, TagDirective, Scalar, Collection, Event, stream_start, stream_end, document_start, document_end, alias, scalar}
+use Rattle.yaml_base.specs.Event.{sequence_start, sequence_end, mapping_start, mapping_end}
+use Rattle.yaml_base.specs.Layout.{Place, Piece, piece_text, text_of, Standing, deeper, body_laid, choice_of, scalar_lead, scalar_piece, place_laid}
+use Rattle.yaml_base.specs.Layout.{properties_laid, separation_laid, alias_laid, start_piece, Brackets, square, curly, end_laid, end_piece, laid_if}
+use Rattle.yaml_base.specs.Layout.{closing_mark_laid, is_key, is_simple_alias, document_start_laid, document_end_piece}
 use Rattle.yaml_base.specs.Refusal.{is_sound, name_or_tag_fault, content_fault, scalar_tag, collection_tag}
 use Rattle.yaml_base.specs.Settings.{Effective}
-use Rattle.yaml_base.specs.Steps.{Frame, Stage, at_stream, at_document, at_node, at_document_end, next_place, stage_after, is_first, step, node_step, ends_next, steps}
+use Rattle.yaml_base.specs.Steps.{Frame, Stage, at_stream, at_document, at_node, at_document_end, next_place, stage_after, is_first, step, node_step, ends_next}
+use Rattle.yaml_base.specs.Steps.{steps}
 use Rattle.yaml_base.specs.Tags.{version_fault, directives_fault}
 use Rattle.yaml_base.proofs.TagForms.{AreFound, in_force_found}
 use Rattle.yaml_scalar.proofs.LineTexts.{any_both}
@@ -21,7 +25,8 @@ use Rattle.yaml_emitter.proofs.canonical.CanonicalSound.{anchor_is, name_is}
 use Rattle.yaml_base.proofs.NoFaults.{neither, is_none_none}
 use Rattle.yaml_emitter.proofs.layouts.MeaningBodies.{charset_of}
 use Rattle.yaml_emitter.proofs.layouts.MeaningStyles.{Allows, chosen_allowed}
-use Rattle.yaml_emitter.proofs.layouts.SparingPlaces.{Lacks, lacks_alias, lacks_closing, lacks_document, lacks_end, lacks_if, lacks_place, lacks_properties, lacks_separation, lacks_then}
+use Rattle.yaml_emitter.proofs.layouts.SparingPlaces.{Lacks, lacks_alias, lacks_closing, lacks_document, lacks_end, lacks_if, lacks_place, lacks_properties}
+use Rattle.yaml_emitter.proofs.layouts.SparingPlaces.{lacks_separation, lacks_then}
 use Rattle.yaml_base.specs.declared.errors.yaml_error_t.TheVariants.{AliasEmpty, AliasAlphabet}
 
 -- the names of an event are of the anchor alphabet, and no directive of it is refused

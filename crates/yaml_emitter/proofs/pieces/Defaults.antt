@@ -1,5 +1,6 @@
 -- Adding both defaults in turn gives the directives in force.
-use Rattle.std.proofs.Common.{◌≡◌, Bool, true, false, not, List, [], ◌∷◌, ◌++◌, refl, sym, ap, ◌∙◌, append_assoc, append-nil, codes, bytes_eq, ℕ, Result, Ok, Err, OnOk, Some}
+use Rattle.std.proofs.Common.{◌≡◌, Bool, true, false, not, List, [], ◌∷◌, ◌++◌, refl, sym, ap, ◌∙◌, append_assoc, append-nil, codes, bytes_eq, ℕ, Result, Ok}
+use Rattle.std.proofs.Common.{Err, OnOk, Some}
 use Rattle.std.specs.Prelude.{if◌then◌else◌, length, slice_get}
 use Rattle.std.specs.List.{list_any}
 use Rattle.std.specs.Str.{chars}

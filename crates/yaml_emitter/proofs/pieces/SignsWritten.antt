@@ -4,7 +4,8 @@ use Rattle.std.specs.Prelude.{option_map, is_some, ◌++◌}
 use Rattle.yaml_base.specs.Characters.{Text}
 use Rattle.yaml_base.specs.Cursor.{Cursor, Laid, nothing_laid, then_laid}
 use Rattle.yaml_base.specs.Event.{TagDirective}
-use Rattle.yaml_base.specs.Layout.{Place, Role, as_root, as_item, as_key, as_value, Brackets, flow_place_laid, line_column, block_place_laid, place_laid, anchor_laid, tag_laid, properties_laid, end_laid, end_piece, tag_count}
+use Rattle.yaml_base.specs.Layout.{Place, Role, as_root, as_item, as_key, as_value, Brackets, flow_place_laid, line_column, block_place_laid, place_laid}
+use Rattle.yaml_base.specs.Layout.{anchor_laid, tag_laid, properties_laid, end_laid, end_piece, tag_count}
 use Rattle.yaml_base.specs.Settings.{Effective}
 use Rattle.yaml_base.specs.Tags.{Spelling, spelling}
 use Rattle.yaml_base.specs.declared.errors.yaml_error_t.{yaml_error_t}

@@ -1,12 +1,14 @@
 -- A scalar that stands plain as it is: plain is chosen for it, and nothing but its place stands before it.
-use Rattle.std.proofs.Common.{◌≡◌, ◌+◌, ℕ, Bool, true, false, ◌||◌, ◌&&◌, not, Option, Some, None, Result, List, refl, sym, ap, ◌∙◌, subst, if◌then◌else◌, chars}
+use Rattle.std.proofs.Common.{◌≡◌, ◌+◌, ℕ, Bool, true, false, ◌||◌, ◌&&◌, not, Option, Some, None, Result, List, refl, sym, ap, ◌∙◌, subst, if◌then◌else◌}
+use Rattle.std.proofs.Common.{chars}
 use Rattle.std.proofs.lemmas.Bool.{and_parts, not-true}
 use Rattle.std.specs.Prelude.{[], ◌∷◌, is_some, option_map}
 use Rattle.yaml_base.specs.scalars.Analysis.{Allowances, Charset, allows_plain, is_empty}
 use Rattle.yaml_base.specs.Characters.{Text}
 use Rattle.yaml_base.specs.Cursor.{Cursor, Laid, then_laid}
 use Rattle.yaml_base.specs.Event.{ScalarStyle, TagDirective, any_style, plain, single_quoted, double_quoted, literal, folded}
-use Rattle.yaml_base.specs.Layout.{Place, anchor_laid, byte_count, choice_of, deeper, is_short, is_simple_scalar, name_count, place_laid, scalar_piece, tag_count}
+use Rattle.yaml_base.specs.Layout.{Place, anchor_laid, byte_count, choice_of, deeper, is_short, is_simple_scalar, name_count, place_laid, scalar_piece}
+use Rattle.yaml_base.specs.Layout.{tag_count}
 use Rattle.yaml_base.specs.Refusal.{scalar_tag}
 use Rattle.yaml_base.specs.Seen.{seen_scalar_style}
 use Rattle.yaml_base.specs.Settings.{Effective}

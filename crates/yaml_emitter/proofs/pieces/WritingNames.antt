@@ -1,5 +1,6 @@
 -- Names and handles that aren't refused hold no break.
-use Rattle.std.proofs.Common.{◌≡◌, ℕ, Bool, true, false, not, ◌||◌, ◌==◌, cond, Option, None, Some, List, [], ◌∷◌, ◌++◌, refl, ap, ◌∙◌, arith, filter, if◌then◌else◌}
+use Rattle.std.proofs.Common.{◌≡◌, ℕ, Bool, true, false, not, ◌||◌, ◌==◌, cond, Option, None, Some, List, [], ◌∷◌, ◌++◌, refl, ap, ◌∙◌, arith, filter}
+use Rattle.std.proofs.Common.{if◌then◌else◌}
 use Rattle.std.proofs.lemmas.Bool.{and_parts, or_parts, eqb-true}
 use Rattle.std.proofs.lemmas.Bool.Decides.{nat_tests}
 use Rattle.std.specs.List.{list_any, list_all}
@@ -7,10 +8,12 @@ use Rattle.std.specs.Option.{option_or}
 use Rattle.std.specs.Prelude.{option_and_then}
 use Rattle.yaml_base.specs.Characters.{Text, is_alpha, is_break}
 use Rattle.yaml_base.specs.Event.{TagDirective}
-use Rattle.yaml_base.specs.Tags.{name_fault, anchor_fault, alias_fault, handle_fault, directive_fault, next_directive_fault, directives_fault, directives_fault_after, gives_handle, default_directives, directives_in_force, tag_mark, last_from, without_last, prefix_fault}
+use Rattle.yaml_base.specs.Tags.{name_fault, anchor_fault, alias_fault, handle_fault, directive_fault, next_directive_fault, directives_fault}
+use Rattle.yaml_base.specs.Tags.{directives_fault_after, gives_handle, default_directives, directives_in_force, tag_mark, last_from, without_last, prefix_fault}
 use Rattle.yaml_base.proofs.TagForms.{front_and_last}
 use Rattle.yaml_emitter.specs.Signs.{name_breaks, some_handle_breaks}
-use Rattle.yaml_base.specs.declared.errors.yaml_error_t.TheVariants.{TagHandleStart, TagHandleEnd, TagHandleAlphabet, AnchorEmpty, AnchorAlphabet, AliasEmpty, AliasAlphabet}
+use Rattle.yaml_base.specs.declared.errors.yaml_error_t.TheVariants.{TagHandleStart, TagHandleEnd, TagHandleAlphabet, AnchorEmpty, AnchorAlphabet, AliasEmpty}
+use Rattle.yaml_base.specs.declared.errors.yaml_error_t.TheVariants.{AliasAlphabet}
 use Rattle.yaml_base.specs.declared.errors.yaml_error_t.{yaml_error_t}
 
 letter_is_no_break : (c : ℕ) → is_alpha c ≡ true → is_break c ≡ false

@@ -1,6 +1,7 @@
 -- Scalars: what the writers of the styles write is the text that the layout puts there, and with what stands before it
 -- the scalar's piece.
-use Rattle.std.proofs.Common.{◌≡◌, ℕ, ℤ, pos, negsuc, ◌≤ℤ◌, Bool, true, false, ◌||◌, ◌&&◌, not, ◌==◌, inl, inr, length, Option, None, Result, Ok, Err, IsErr, IsErrAnd, List, refl, sym, ap, ◌∙◌, subst, append_assoc, if◌then◌else◌, arith}
+use Rattle.std.proofs.Common.{◌≡◌, ℕ, ℤ, pos, negsuc, ◌≤ℤ◌, Bool, true, false, ◌||◌, ◌&&◌, not, ◌==◌, inl, inr, length, Option, None, Result, Ok, Err, IsErr}
+use Rattle.std.proofs.Common.{IsErrAnd, List, refl, sym, ap, ◌∙◌, subst, append_assoc, if◌then◌else◌, arith}
 use Rattle.std.proofs.lemmas.Int.{ints}
 use Rattle.std.specs.Str.{chars, IsUtf8}
 use Rattle.std.specs.Result.{IfOk, MatchResult}
@@ -137,7 +138,8 @@ chosen_fits s place simple content =
     (not_either (is_empty content.value) (somewhere (bars_block charset) content.value)))
 
 -- where double quotes are asked for in any case, they are chosen, whatever the value allows
-surely_asked : (canonical other : Bool) (asked : ScalarStyle) → style_asked canonical asked ≡ double_quoted → style_asked (canonical || other) asked ≡ double_quoted
+surely_asked : (canonical other : Bool) (asked : ScalarStyle) → style_asked canonical asked ≡ double_quoted
+    → style_asked (canonical || other) asked ≡ double_quoted
 surely_asked true other asked h = h
 surely_asked false true asked h = refl
 surely_asked false false asked h = h

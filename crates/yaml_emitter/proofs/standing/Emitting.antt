@@ -1,7 +1,9 @@
 -- The events that wait are written one after another.
-use Rattle.std.proofs.Common.{ℕ, arith, ◌≡◌, ◌≤◌, true, None, Result, Ok, Err, List, [], ◌∷◌, ◌++◌, length, take, sym, ap, subst, false, ◌+◌, suc, Bool, refl, ◌∙◌}
+use Rattle.std.proofs.Common.{ℕ, arith, ◌≡◌, ◌≤◌, true, None, Result, Ok, Err, List, [], ◌∷◌, ◌++◌, length, take, sym, ap, subst, false, ◌+◌, suc, Bool, refl}
+use Rattle.std.proofs.Common.{◌∙◌}
 use Rattle.yaml_base.specs.Settings.{Settings}
-use Rattle.yaml_base.specs.Event.{Event, alias, document_end, document_start, mapping_end, mapping_start, scalar, sequence_end, sequence_start, stream_end, stream_start}
+use Rattle.yaml_base.specs.Event.{Event, alias, document_end, document_start, mapping_end, mapping_start, scalar, sequence_end, sequence_start, stream_end}
+use Rattle.yaml_base.specs.Event.{stream_start}
 use Rattle.std.specs.Prelude.{if◌then◌else◌}
 use Rattle.yaml_base.specs.Ready.{is_ready, written, held_back}
 use Rattle.yaml_base.proofs.Progress.{written-append}

@@ -25,7 +25,7 @@ use Rattle.yaml_pen.specs.Page.{Page, encoded, new_page}
 use Rattle.yaml_pen.specs.Wrote.{Wrote, named_text}
 use Rattle.yaml_pen.proofs.Composing.{with_breaks_written-append, wrote_all, wrote_no_error}
 use Rattle.yaml_emitter.specs.State.{State, standing_of}
-use Rattle.yaml_emitter.specs.Processing.{closes_at_once, event_laid, refusal_now, WritesPage, Written}
+use Rattle.yaml_emitter.specs.Processing.{closes_at_once, event_laid, refusal_now, WritesPage, WritesEvent}
 use Rattle.yaml_emitter.specs.StandsAfter.{IsPage, HoldsPieces, IsSettled, HasTaken, StandsWell, closes_last, Reached}
 
 -- Settings are those of the first event.
@@ -270,7 +270,7 @@ pub taken_first : (event : Event) (rest : List Event) (given : Settings) (empty 
     → IsStreamStart event
     → HasTaken given (event ∷ rest) [] (steps (settings_for given (event ∷ rest)) false [] at_stream first_standing) before
     → BeginsAccepted given.canonical (event ∷ [])
-    → Written event empty before after
+    → WritesEvent event empty before after
     → HasTaken given (event ∷ rest) (event ∷ []) (steps (settings_for given (event ∷ rest)) empty (event ∷ []) at_stream first_standing) after
 taken_first (stream_start encoding) rest given empty before after start h begun done =
     let kept : after.given ≡ before.given = ap (λ (s : State). s.given) done.kept in

@@ -5,7 +5,8 @@ use Rattle.std.specs.Prelude.{ℕ, zero, suc, ◌≤◌, Bool, false, Option, No
 use Rattle.yaml_base.specs.Settings.{Settings, Effective}
 use Rattle.yaml_base.specs.Encoding.{encode, cut}
 use Rattle.yaml_base.specs.Event.{Event, stream_end}
-use Rattle.yaml_base.specs.Grammar.{at_item, at_key, at_value, Stream, stream_events, Partial, before_stream, between_documents, within_document, after_stream, pushed, partial_of}
+use Rattle.yaml_base.specs.Grammar.{at_item, at_key, at_value, Stream, stream_events, Partial, before_stream, between_documents, within_document, after_stream}
+use Rattle.yaml_base.specs.Grammar.{pushed, partial_of}
 use Rattle.yaml_base.specs.Refusal.{IsAccepted, BeginsAccepted}
 use Rattle.yaml_base.specs.Ready.{written}
 use Rattle.yaml_base.specs.Layout.{first_standing}

@@ -18,7 +18,8 @@ use Rattle.yaml_pen.specs.Page.{Page}
 use Rattle.yaml_pen.specs.Wrote.{Wrote}
 use Rattle.yaml_emitter.specs.State.{State}
 use Rattle.yaml_emitter.specs.Processing.{closes_at_once, event_stepped, event_laid, CutShort, unwritten, partly_written, Refused, Processed}
-use Rattle.yaml_emitter.specs.StandsAfter.{IsPage, HoldsPieces, HasTaken, FailedAt, closes_last, StandsRefused, holds_before, holds_part, StandsCut, StandsSo, Reached, failed_by, at_event}
+use Rattle.yaml_emitter.specs.StandsAfter.{IsPage, HoldsPieces, HasTaken, FailedAt, closes_last, StandsRefused, holds_before, holds_part, StandsCut, StandsSo}
+use Rattle.yaml_emitter.specs.StandsAfter.{Reached, failed_by, at_event}
 use Rattle.yaml_emitter.proofs.standing.Standing.{taken_same, refusal_same, accepted_next, named_more, is_page_wrote}
 use Rattle.yaml_emitter.proofs.standing.StandingSteps.{stepped_steps}
 

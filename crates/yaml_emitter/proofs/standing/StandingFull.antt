@@ -153,4 +153,7 @@ unflushed_fills given all state h =
 pub promises_full : (given : Settings) (all : List Event) (state : State) → StandsSo given all state → state.error ≡ Some WriteError
     → FillsLimit given all state
 promises_full given all state h failed =
-    elim (stands_failed given all state WriteError h failed) [ at_event cut ↦ cut_fills given all state cut | between_events other ↦ unflushed_fills given all state other ]
+    elim (stands_failed given all state WriteError h failed) [
+      | at_event cut ↦ cut_fills given all state cut
+      | between_events other ↦ unflushed_fills given all state other
+    ]

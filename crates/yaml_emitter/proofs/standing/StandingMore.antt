@@ -1,7 +1,8 @@
 -- An emitter that failed stands after all events that are still given; a new one and one that was flushed stand too.
 use Rattle.std.proofs.Common.{◌≡◌, refl, sym, ap, ◌∙◌, subst, arith, append_assoc, append-nil, inl, inr}
 use Rattle.std.proofs.lemmas.List.{take-append-drop}
-use Rattle.std.specs.Prelude.{ℕ, zero, suc, ◌<◌, ◌≤◌, Bool, true, false, Option, None, Some, Result, Ok, Err, List, [], ◌∷◌, ◌++◌, length, take, drop, if◌then◌else◌}
+use Rattle.std.specs.Prelude.{ℕ, zero, suc, ◌<◌, ◌≤◌, Bool, true, false, Option, None, Some, Result, Ok, Err, List, [], ◌∷◌, ◌++◌, length, take, drop}
+use Rattle.std.specs.Prelude.{if◌then◌else◌}
 use Rattle.yaml_base.specs.Settings.{Settings, Effective}
 use Rattle.yaml_base.specs.Event.{Event, sequence_start, sequence_end, mapping_start, mapping_end}
 use Rattle.yaml_base.specs.Grammar.{before_stream}
@@ -20,7 +21,8 @@ use Rattle.yaml_pen.specs.Wrote.{Flushed}
 use Rattle.yaml_pen.proofs.Writing.{none_from_told}
 use Rattle.yaml_emitter.specs.State.{State}
 use Rattle.yaml_emitter.specs.Processing.{closes_at_once}
-use Rattle.yaml_emitter.specs.StandsAfter.{HoldsPieces, HoldsPiecesWith, StandsWell, FailedAt, closes_last, StandsRefused, HoldsCut, StandsCut, StandsUnflushed, StandsStopped, StandsFailed, StandsBy, StandsSo, failed_by, at_event, between_events}
+use Rattle.yaml_emitter.specs.StandsAfter.{HoldsPieces, HoldsPiecesWith, StandsWell, FailedAt, closes_last, StandsRefused, HoldsCut, StandsCut, StandsUnflushed}
+use Rattle.yaml_emitter.specs.StandsAfter.{StandsStopped, StandsFailed, StandsBy, StandsSo, failed_by, at_event, between_events}
 use Rattle.yaml_emitter.proofs.standing.Standing.{settings_grown, settled_same, taken_same, taken_grown}
 
 -- two states differ in what was begun, set, opened and closed alone

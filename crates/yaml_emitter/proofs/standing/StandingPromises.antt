@@ -25,8 +25,10 @@ use Rattle.yaml_pen.specs.Page.{Page}
 use Rattle.yaml_emitter.specs.State.{State}
 use Rattle.yaml_emitter.specs.Queue.{is_head_ready}
 use Rattle.yaml_emitter.specs.Processing.{closes_at_once}
-use Rattle.yaml_emitter.specs.StandsAfter.{HoldsPiecesWith, StandsWell, closes_last, StandsRefused, holds_before, holds_part, StandsCut, StandsUnflushed, StandsStopped, StandsFailed, StandsBy, StandsSo, at_event, between_events}
-use Rattle.yaml_emitter.specs.Promises.{HasText, begins_with_start, most_held, HoldsWaiting, RefusedAt, BeginsOutput, StopsWriting, stops_before, stops_within, OutputBegins, IsRefusal}
+use Rattle.yaml_emitter.specs.StandsAfter.{HoldsPiecesWith, StandsWell, closes_last, StandsRefused, holds_before, holds_part, StandsCut, StandsUnflushed}
+use Rattle.yaml_emitter.specs.StandsAfter.{StandsStopped, StandsFailed, StandsBy, StandsSo, at_event, between_events}
+use Rattle.yaml_emitter.specs.Promises.{HasText, begins_with_start, most_held, HoldsWaiting, RefusedAt, BeginsOutput, StopsWriting, stops_before, stops_within}
+use Rattle.yaml_emitter.specs.Promises.{OutputBegins, IsRefusal}
 use Rattle.yaml_emitter.proofs.standing.Standing.{open_last, end_next}
 use Rattle.yaml_emitter.proofs.standing.StandingSteps.{awaits_few, closes_last-append}
 use Rattle.yaml_emitter.proofs.standing.StandingFailed.{own_accepted}
@@ -247,7 +249,10 @@ refused_output given all error state h =
 
 stopped_output : (given : Settings) (all : List Event) (error : yaml_error_t) (state : State) → StandsStopped given all error state
     → StopsWriting given all state
-stopped_output given all error state h = elim h [ at_event cut ↦ cut_output given all error state cut | between_events other ↦ unflushed_output given all error state other ]
+stopped_output given all error state h = elim h [
+  | at_event cut ↦ cut_output given all error state cut
+  | between_events other ↦ unflushed_output given all error state other
+]
 
 failed_output : (error : yaml_error_t) (given : Settings) (all : List Event) (state : State) → StandsFailed given all error state → StopsWriting given all state
 failed_output WriteError given all state h = stopped_output given all WriteError state h

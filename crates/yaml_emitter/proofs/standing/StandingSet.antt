@@ -14,7 +14,8 @@ use Rattle.yaml_pen.specs.Wrote.{Flushed}
 use Rattle.yaml_emitter.specs.State.{State}
 use Rattle.yaml_emitter.specs.Inside.{state_of}
 use Rattle.yaml_emitter.specs.declared.emitter.yaml_emitter_t.TheInside.{Inside}
-use Rattle.yaml_emitter.specs.StandsAfter.{HoldsPiecesWith, FailedAt, StandsWell, StandsUnflushed, StandsStopped, StandsFailed, StandsBy, StandsSo, StandsAfter, at_event, between_events}
+use Rattle.yaml_emitter.specs.StandsAfter.{HoldsPiecesWith, FailedAt, StandsWell, StandsUnflushed, StandsStopped, StandsFailed, StandsBy, StandsSo, StandsAfter}
+use Rattle.yaml_emitter.specs.StandsAfter.{at_event, between_events}
 use Rattle.yaml_emitter.proofs.standing.StandingMore.{nothing_begins, flushed_stands}
 use Rattle.yaml_emitter.proofs.standing.StandingPromises.{stands_well}
 

@@ -17,9 +17,10 @@ use Rattle.yaml_base.proofs.QueueLaws.{no_end_held}
 use Rattle.yaml_pen.proofs.Composing.{wrote_all}
 use Rattle.yaml_emitter.specs.State.{State, standing_of}
 use Rattle.yaml_emitter.specs.Queue.{is_head_ready}
-use Rattle.yaml_emitter.specs.Processing.{closes_at_once, event_stepped, event_laid, Written, Processed}
+use Rattle.yaml_emitter.specs.Processing.{closes_at_once, event_stepped, event_laid, WritesEvent, Processed}
 use Rattle.yaml_emitter.specs.StandsAfter.{HasTaken, StandsWell, closes_last, Reached}
-use Rattle.yaml_emitter.proofs.standing.Standing.{open_last, taken_same, IsLater, starts_only, not_begun, pushes_later, one_more, next_steps, accepted_next, page_more, writes_later, taken_first}
+use Rattle.yaml_emitter.proofs.standing.Standing.{open_last, taken_same, IsLater, starts_only, not_begun, pushes_later, one_more, next_steps, accepted_next}
+use Rattle.yaml_emitter.proofs.standing.Standing.{page_more, writes_later, taken_first}
 
 -- Any later event: its piece is the next.
 pub stepped_steps : (given : Settings) (all : List Event) (x : Event) (front rest : List Event) (event : Event) (q : Partial) (before : State)
@@ -48,7 +49,7 @@ taken_later : (given : Settings) (all : List Event) (x : Event) (front rest : Li
     → HasTaken given all (x ∷ front) (steps (settings_for given all) (closes_last (x ∷ front) (event ∷ rest)) (x ∷ front) at_stream first_standing) before
     → partial_of ((x ∷ front) ++ event ∷ []) ≡ Some q
     → BeginsAccepted given.canonical ((x ∷ front) ++ event ∷ [])
-    → Written event (closes_at_once event rest) before after
+    → WritesEvent event (closes_at_once event rest) before after
     → HasTaken given all ((x ∷ front) ++ event ∷ [])
     (steps (settings_for given all) (closes_at_once event rest) ((x ∷ front) ++ event ∷ []) at_stream first_standing) after
 taken_later given all x front rest event q before after later h pushes begun done =
@@ -76,7 +77,7 @@ taken_next : (front rest : List Event) (given : Settings) (all : List Event) (ev
     → HasTaken given all front (steps (settings_for given all) (closes_last front (event ∷ rest)) front at_stream first_standing) before
     → partial_of (front ++ event ∷ []) ≡ Some q
     → BeginsAccepted given.canonical (front ++ event ∷ [])
-    → Written event (closes_at_once event rest) before after
+    → WritesEvent event (closes_at_once event rest) before after
     → HasTaken given all (front ++ event ∷ []) (steps (settings_for given all) (closes_at_once event rest) (front ++ event ∷ []) at_stream first_standing) after
 taken_next [] rest given all event q before after parts h pushes begun done =
     let empty = closes_at_once event rest in

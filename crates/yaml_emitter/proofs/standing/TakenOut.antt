@@ -1,5 +1,6 @@
 -- An emitter whose queue was taken out writes the queue's events as if they waited in it.
-use Rattle.std.proofs.Common.{ℕ, arith, ◌≡◌, ◌≤◌, ◌+◌, ◌-◌, Bool, None, Option, Result, Ok, Err, List, ◌∷◌, length, map, take, drop, refl, sym, ap, subst, ◌∙◌, suc}
+use Rattle.std.proofs.Common.{ℕ, arith, ◌≡◌, ◌≤◌, ◌+◌, ◌-◌, Bool, None, Option, Result, Ok, Err, List, ◌∷◌, length, map, take, drop, refl, sym, ap, subst, ◌∙◌}
+use Rattle.std.proofs.Common.{suc}
 use Rattle.std.proofs.lemmas.List.{drop-drop, drop-map, length-drop, length-map, take_rest}
 use Rattle.yaml_base.specs.Settings.{Settings}
 use Rattle.yaml_base.specs.Event.{Event, stream_start}

@@ -13,7 +13,8 @@ use Rattle.yaml_emitter.specs.Inside.{IsEmitter}
 use Rattle.yaml_emitter.specs.State.{FitsPage, State, with_all_taken}
 use Rattle.yaml_emitter.specs.Processing.{closes_at_once}
 use Rattle.yaml_emitter.specs.Stages.{seen_stage}
-use Rattle.yaml_emitter.specs.StandsAfter.{HasTaken, HoldsCut, HoldsPiecesWith, IsPage, StandsAfter, StandsBy, StandsFailed, StandsRefused, StandsStopped, closes_last, holds_before, holds_part, at_event, between_events}
+use Rattle.yaml_emitter.specs.StandsAfter.{HasTaken, HoldsCut, HoldsPiecesWith, IsPage, StandsAfter, StandsBy, StandsFailed, StandsRefused, StandsStopped}
+use Rattle.yaml_emitter.specs.StandsAfter.{closes_last, holds_before, holds_part, at_event, between_events}
 use Rattle.yaml_emitter.specs.declared.emitter.yaml_emitter_t.TheInside.{Inside}
 use Rattle.yaml_emitter.proofs.standing.Standing.{settled_same}
 

@@ -2,7 +2,7 @@ use Rattle.std.proofs.Common.{◌∷◌, [], refl, rules}
 use Rattle.yaml_base.specs.graphs.Documents.{graph_of}
 use Rattle.yaml_caller.specs.Letter.{letter_settings}
 use Rattle.yaml_caller.specs.Cycle.{cycle_bytes, cycle_graph}
-use Rattle.yaml_caller.proofs.Written.{stream_bytes}
+use Rattle.yaml_caller.proofs.KnownStreams.{stream_bytes}
 use Rattle.yaml_caller.proofs.OnlyMemory.{front_memory, exit_memory}
 use Rattle.yaml_caller.proofs.CycleFits.{cycle_fits, dump_memory}
 use Rattle.yaml_caller.proofs.Dumped.{dumped_cycle, cycle_events, none_waits, cycle_row, all_portable, one_dumped, after_dump, still_open, then_ok}

@@ -12,5 +12,6 @@ returns g c =
     record {
       reads =
           copy_agrees (seen_text c.args.key) (seen_text c.args.value) c.copied.result _ c.copied.ensures.bytes
-          (subst (λ (bytes : List ℕ). agrees false events (stream_trees false bytes) ≡ true) (sym (c.output.ensures.untaken (c.emit_pair.ensures.taken ∙ c.in_ok-emitter.ensures.untaken))) c.in_ok-emit_pair.ensures.reads);
+          (subst (λ (bytes : List ℕ). agrees false events (stream_trees false bytes) ≡ true)
+          (sym (c.output.ensures.untaken (c.emit_pair.ensures.taken ∙ c.in_ok-emitter.ensures.untaken))) c.in_ok-emit_pair.ensures.reads);
     }

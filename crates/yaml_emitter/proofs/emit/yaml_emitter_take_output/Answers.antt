@@ -11,7 +11,8 @@ use Rattle.yaml_emitter.proofs.emit.yaml_emitter_take_output.Goals as goal
 
 pub invariant_of-emitter : goal.invariant_of-emitter
 invariant_of-emitter g c =
-    subst (λ (pen : Page). IsEmitter (record c.emitter.inside { pen = pen })) (sym c.take_output.ensures.taken) (kept_taken c.emitter.inside c.emitter.invariant)
+    subst (λ (pen : Page). IsEmitter (record c.emitter.inside { pen = pen })) (sym c.take_output.ensures.taken)
+    (kept_taken c.emitter.inside c.emitter.invariant)
 
 pub returns-clause-taken : goal.returns-clause-taken
 returns-clause-taken g c =

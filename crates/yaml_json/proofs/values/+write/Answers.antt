@@ -10,7 +10,9 @@ use Rattle.json.proofs.Grammar.{read_key-shorter, value_is}
 use Rattle.yaml_base.specs.Seen.{seen_mapping_style, seen_sequence_style}
 use Rattle.yaml_writer.specs.NumberParts.{number_in}
 use Rattle.yaml_json.proofs.ByToken.{failed_boolean, failed_null, failed_number, failed_string, no_token, wrote_boolean, wrote_null, wrote_number, wrote_string}
-use Rattle.yaml_json.proofs.Loops.{array_refused, array_too_deep, items_begin, items_done, items_failed, items_go_on, items_refused, key_failed, members_begin, members_done, members_failed, members_go_on, members_refused, members_unnamed, named_failed, object_refused, object_too_deep, value_takes, wrote_array, wrote_member, wrote_object}
+use Rattle.yaml_json.proofs.Loops.{array_refused, array_too_deep, items_begin, items_done, items_failed, items_go_on, items_refused, key_failed, members_begin}
+use Rattle.yaml_json.proofs.Loops.{members_done, members_failed, members_go_on, members_refused, members_unnamed, named_failed, object_refused, object_too_deep}
+use Rattle.yaml_json.proofs.Loops.{value_takes, wrote_array, wrote_member, wrote_object}
 use Rattle.yaml_json.proofs.NumberBridge.{number_is}
 use Rattle.yaml_json.proofs.Stopping.{array_unbegun, array_unended, array_unfilled, if_some, object_unbegun, object_unended, object_unfilled}
 use Rattle.yaml_json.proofs.WroteLemmas.{on_ok}
@@ -38,21 +40,27 @@ write_value-returns-in-Null-clause-written g t c =
 
 pub write_value-returns-in-Bool-clause-written : goal.write_value-returns-in-Bool-clause-written
 write_value-returns-in-Bool-clause-written g t c =
-    let first : c.args.reader.now ≡ tokens.boolean c.in-Bool.flag ∷ c.next.new.self = c.in-Some.ensures.value ∙ ap (λ k. token_of k ∷ c.next.new.self) c.in-Bool.is in
+    let first : c.args.reader.now ≡ tokens.boolean c.in-Bool.flag ∷ c.next.new.self =
+    c.in-Some.ensures.value ∙ ap (λ k. token_of k ∷ c.next.new.self) c.in-Bool.is in
     on_ok c.write_bool.result
-    (wrote_boolean c.args.depth c.args.reader.now c.next.new.self c.args.in_flow c.args.writer.now c.write_bool.new.writer c.in-Bool.flag first) c.write_bool.ensures.written
+    (wrote_boolean c.args.depth c.args.reader.now c.next.new.self c.args.in_flow c.args.writer.now c.write_bool.new.writer c.in-Bool.flag first)
+    c.write_bool.ensures.written
 
 pub write_value-returns-in-Number-clause-written : goal.write_value-returns-in-Number-clause-written
 write_value-returns-in-Number-clause-written g t c =
-    let first : c.args.reader.now ≡ tokens.number c.in-Number.text.now ∷ c.next.new.self = c.in-Some.ensures.value ∙ ap (λ k. token_of k ∷ c.next.new.self) c.in-Number.is in
+    let first : c.args.reader.now ≡ tokens.number c.in-Number.text.now ∷ c.next.new.self =
+    c.in-Some.ensures.value ∙ ap (λ k. token_of k ∷ c.next.new.self) c.in-Number.is in
     on_ok c.write_number.result
-    (wrote_number c.args.depth c.args.reader.now c.next.new.self c.args.in_flow c.args.writer.now c.write_number.new.writer c.in-Number.text.now first) c.write_number.ensures.written
+    (wrote_number c.args.depth c.args.reader.now c.next.new.self c.args.in_flow c.args.writer.now c.write_number.new.writer c.in-Number.text.now first)
+    c.write_number.ensures.written
 
 pub write_value-returns-in-String-clause-written : goal.write_value-returns-in-String-clause-written
 write_value-returns-in-String-clause-written g t c =
-    let first : c.args.reader.now ≡ tokens.string c.in-String.text.now ∷ c.next.new.self = c.in-Some.ensures.value ∙ ap (λ k. token_of k ∷ c.next.new.self) c.in-String.is in
+    let first : c.args.reader.now ≡ tokens.string c.in-String.text.now ∷ c.next.new.self =
+    c.in-Some.ensures.value ∙ ap (λ k. token_of k ∷ c.next.new.self) c.in-String.is in
     on_ok c.write_text.result
-    (wrote_string c.args.depth c.args.reader.now c.next.new.self c.args.in_flow c.args.writer.now c.write_text.new.writer c.in-String.text.now first) c.write_text.ensures.written
+    (wrote_string c.args.depth c.args.reader.now c.next.new.self c.args.in_flow c.args.writer.now c.write_text.new.writer c.in-String.text.now first)
+    c.write_text.ensures.written
 
 pub write_value-returns-in-Null-clause-stopped : goal.write_value-returns-in-Null-clause-stopped
 write_value-returns-in-Null-clause-stopped g t c =
@@ -62,27 +70,35 @@ write_value-returns-in-Null-clause-stopped g t c =
 
 pub write_value-returns-in-Bool-clause-stopped : goal.write_value-returns-in-Bool-clause-stopped
 write_value-returns-in-Bool-clause-stopped g t c =
-    let first : c.args.reader.now ≡ tokens.boolean c.in-Bool.flag ∷ c.next.new.self = c.in-Some.ensures.value ∙ ap (λ k. token_of k ∷ c.next.new.self) c.in-Bool.is in
+    let first : c.args.reader.now ≡ tokens.boolean c.in-Bool.flag ∷ c.next.new.self =
+    c.in-Some.ensures.value ∙ ap (λ k. token_of k ∷ c.next.new.self) c.in-Bool.is in
     if_some (failure c.write_bool.result)
-    (failed_boolean c.args.depth c.args.reader.now c.next.new.self c.args.in_flow c.args.writer.now c.write_bool.new.writer c.in-Bool.flag first) c.write_bool.ensures.stopped
+    (failed_boolean c.args.depth c.args.reader.now c.next.new.self c.args.in_flow c.args.writer.now c.write_bool.new.writer c.in-Bool.flag first)
+    c.write_bool.ensures.stopped
 
 pub write_value-returns-in-Number-clause-stopped : goal.write_value-returns-in-Number-clause-stopped
 write_value-returns-in-Number-clause-stopped g t c =
-    let first : c.args.reader.now ≡ tokens.number c.in-Number.text.now ∷ c.next.new.self = c.in-Some.ensures.value ∙ ap (λ k. token_of k ∷ c.next.new.self) c.in-Number.is in
+    let first : c.args.reader.now ≡ tokens.number c.in-Number.text.now ∷ c.next.new.self =
+    c.in-Some.ensures.value ∙ ap (λ k. token_of k ∷ c.next.new.self) c.in-Number.is in
     if_some (failure c.write_number.result)
-    (failed_number c.args.depth c.args.reader.now c.next.new.self c.args.in_flow c.args.writer.now c.write_number.new.writer c.in-Number.text.now first) c.write_number.ensures.stopped
+    (failed_number c.args.depth c.args.reader.now c.next.new.self c.args.in_flow c.args.writer.now c.write_number.new.writer c.in-Number.text.now first)
+    c.write_number.ensures.stopped
 
 pub write_value-returns-in-String-clause-stopped : goal.write_value-returns-in-String-clause-stopped
 write_value-returns-in-String-clause-stopped g t c =
-    let first : c.args.reader.now ≡ tokens.string c.in-String.text.now ∷ c.next.new.self = c.in-Some.ensures.value ∙ ap (λ k. token_of k ∷ c.next.new.self) c.in-String.is in
+    let first : c.args.reader.now ≡ tokens.string c.in-String.text.now ∷ c.next.new.self =
+    c.in-Some.ensures.value ∙ ap (λ k. token_of k ∷ c.next.new.self) c.in-String.is in
     if_some (failure c.write_text.result)
-    (failed_string c.args.depth c.args.reader.now c.next.new.self c.args.in_flow c.args.writer.now c.write_text.new.writer c.in-String.text.now first) c.write_text.ensures.stopped
+    (failed_string c.args.depth c.args.reader.now c.next.new.self c.args.in_flow c.args.writer.now c.write_text.new.writer c.in-String.text.now first)
+    c.write_text.ensures.stopped
 
 pub write_value-returns-in-Number-clause-refused : goal.write_value-returns-in-Number-clause-refused
 write_value-returns-in-Number-clause-refused g t c refused =
     let good : json.IsNumber c.in-Number.text.now =
-    subst (λ k. IsPrintable (token_of k)) c.in-Number.is (c.in-Some.ensures.printable (λ bad. number_apart c.in-Number.text c.in-Some.token c.in-Number.is bad)) in
-    absurd {A = value c.args.depth c.args.reader.now ≡ None} (c.write_number.ensures.refused refused (number_in c.in-Number.text.now) (number_is c.in-Number.text.now good))
+    subst (λ k. IsPrintable (token_of k)) c.in-Number.is (c.in-Some.ensures.printable
+    (λ bad. number_apart c.in-Number.text c.in-Some.token c.in-Number.is bad)) in
+    absurd {A = value c.args.depth c.args.reader.now ≡ None} (c.write_number.ensures.refused refused (number_in c.in-Number.text.now)
+    (number_is c.in-Number.text.now good))
 
 pub write_value-returns-in-EndObject-clause-refused : goal.write_value-returns-in-EndObject-clause-refused
 write_value-returns-in-EndObject-clause-refused g t c refused =
@@ -101,7 +117,8 @@ write_array-returns-in-Err-write_items-clause-refused g t c refused =
 pub write_array-returns-clause-written : goal.write_array-returns-clause-written
 write_array-returns-clause-written g t c =
     on_ok c.end.result
-    (λ ends. wrote_array c.args.depth c.args.in_flow (seen_sequence_style c.sequence_style.result) c.args.reader.now c.write_items.new.reader c.args.writer.now c.begin_sequence.new.self
+    (λ ends. wrote_array c.args.depth c.args.in_flow (seen_sequence_style c.sequence_style.result) c.args.reader.now c.write_items.new.reader c.args.writer.now
+    c.begin_sequence.new.self
     c.write_items.new.writer c.end.new.writer (omega arith) c.sequence_style.ensures c.requires c.in_default.ensures.given
     c.in_default-write_items.ensures.written ends)
     c.end.ensures.ended
@@ -135,8 +152,10 @@ pub write_items-each_item-preserved : goal.write_items-each_item-preserved
 write_items-each_item-preserved g t c =
     let l = c.each_item in
     let going : (after_end_array l.reader ≡ None) × (c.take_end_array.new.self ≡ l.reader) = grind arith in
-    items_go_on c.args.depth c.args.in_flow c.args.reader.now c.args.writer.now l.reader l.writer c.write_value.new.reader c.write_value.new.writer l.invariant going.0
-    (subst (λ start. WroteValue c.args.depth c.args.in_flow start l.writer c.write_value.new.reader c.write_value.new.writer) going.1 c.in_default.ensures.written)
+    items_go_on c.args.depth c.args.in_flow c.args.reader.now c.args.writer.now l.reader l.writer c.write_value.new.reader c.write_value.new.writer l.invariant
+    going.0
+    (subst (λ start. WroteValue c.args.depth c.args.in_flow start l.writer c.write_value.new.reader c.write_value.new.writer) going.1
+    c.in_default.ensures.written)
 
 pub write_items-each_item-smaller : goal.write_items-each_item-smaller
 write_items-each_item-smaller g t c =
@@ -178,7 +197,8 @@ write_object-returns-in-Err-write_members-clause-refused g t c refused =
 pub write_object-returns-clause-written : goal.write_object-returns-clause-written
 write_object-returns-clause-written g t c =
     on_ok c.end.result
-    (λ ends. wrote_object c.args.depth c.args.in_flow (seen_mapping_style c.mapping_style.result) c.args.reader.now c.write_members.new.reader c.args.writer.now c.begin_mapping.new.self
+    (λ ends. wrote_object c.args.depth c.args.in_flow (seen_mapping_style c.mapping_style.result) c.args.reader.now c.write_members.new.reader c.args.writer.now
+    c.begin_mapping.new.self
     c.write_members.new.writer c.end.new.writer (omega arith) c.mapping_style.ensures c.requires c.in_default.ensures.given
     c.in_default-write_members.ensures.written ends)
     c.end.ensures.ended
@@ -231,8 +251,8 @@ pub write_members-each_member-preserved : goal.write_members-each_member-preserv
 write_members-each_member-preserved g t c =
     let l = c.each_member in
     let named : read_key l.reader ≡ Some (Some c.in-Ok-Some.key.now, c.next_key.new.self) = grind arith in
-    members_go_on c.args.depth c.args.in_flow c.args.reader.now c.args.writer.now l.reader l.writer c.in-Ok-Some.key.now c.next_key.new.self c.write_member.new.reader
-    c.write_member.new.writer l.invariant named c.in_default.ensures.written
+    members_go_on c.args.depth c.args.in_flow c.args.reader.now c.args.writer.now l.reader l.writer c.in-Ok-Some.key.now c.next_key.new.self
+    c.write_member.new.reader c.write_member.new.writer l.invariant named c.in_default.ensures.written
 
 pub write_members-each_member-smaller : goal.write_members-each_member-smaller
 write_members-each_member-smaller g t c =

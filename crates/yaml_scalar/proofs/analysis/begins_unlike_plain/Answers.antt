@@ -21,7 +21,8 @@ returns-in-Some-2 c =
     let parts : chars c.args.value.now ≡ first ∷ chars rest =
     chars_past_char c.args.value.now rest first c.utf8.value (sym c.chars-chars.ensures.rest ∙ c.in-Some.ensures.steps.0) in
     c.first_bars_plain.ensures
-    ∙ ap (λ (t : Text). is_space first || begins_like_mark t || is_indicator first || (is_among (codes "?:-") first && ends_word (chars c.as_str.result.now))) parts
+    ∙ ap (λ (t : Text). is_space first || begins_like_mark t || is_indicator first || (is_among (codes "?:-") first && ends_word (chars c.as_str.result.now)))
+    parts
     ∙ ap (λ (l : List ℕ). is_space first || begins_like_mark (first ∷ chars rest) || is_indicator first
     || (is_among (codes "?:-") first && ends_word (chars l))) c.as_str.ensures
     ∙ sym (ap begins_unlike_plain parts)

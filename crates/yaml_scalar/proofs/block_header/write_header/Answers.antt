@@ -5,7 +5,7 @@ use Rattle.yaml_pen.specs.Page.{natural}
 use Rattle.yaml_pen.specs.Wrote.{Wrote}
 use Rattle.yaml_pen.proofs.Composing.{wrote_exit, wrote_as, wrote_failed, wrote_then}
 use Rattle.yaml_scalar.specs.BlockSteps.{separated_header, header_end}
-use Rattle.yaml_scalar.proofs.BlockWrites.{header-steps}
+use Rattle.yaml_scalar.proofs.blocks.BlockWrites.{header-steps}
 use Rattle.yaml_scalar.proofs.block_header.write_header.Goals as goal
 
 pub returns-in_err-write_indicator : goal.returns-in_err-write_indicator

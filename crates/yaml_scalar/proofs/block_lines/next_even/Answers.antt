@@ -6,7 +6,7 @@ use Rattle.std.proofs.lemmas.Str.{chars_past_char, IsUtf8-past_char, chars-nil}
 use Rattle.yaml_base.specs.Characters.{Text}
 use Rattle.yaml_base.specs.scalars.Folded.{next_even}
 use Rattle.yaml_base.specs.scalars.Lines.{parts}
-use Rattle.yaml_scalar.proofs.NextEven.{even-line, even-break}
+use Rattle.yaml_scalar.proofs.blocks.NextEven.{even-line, even-break}
 use Rattle.yaml_scalar.proofs.block_lines.next_even.Goals as goal
 
 pub returns-then-not-is_break : goal.returns-then-not-is_break

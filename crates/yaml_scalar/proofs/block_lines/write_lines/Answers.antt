@@ -8,8 +8,8 @@ use Rattle.yaml_pen.proofs.Composing.{wrote_exit}
 use Rattle.yaml_scalar.specs.Width.{limit_of}
 use Rattle.yaml_scalar.specs.BlockSteps.{lines_from, place_after}
 use Rattle.yaml_scalar.specs.declared.block_lines.Place.{Place}
-use Rattle.yaml_scalar.proofs.BlockStays.{block_alone, stays_unbroken}
-use Rattle.yaml_scalar.proofs.BlockWrites.{LinesLeft}
+use Rattle.yaml_scalar.proofs.blocks.BlockStays.{block_alone, stays_unbroken}
+use Rattle.yaml_scalar.proofs.blocks.BlockWrites.{LinesLeft}
 use Rattle.yaml_scalar.proofs.RunsWritten.{character_still, end_still, run_failed, run_more}
 use Rattle.yaml_scalar.proofs.StillToWrite.{still_failed, still_rest}
 use Rattle.yaml_scalar.proofs.WholeRuns.{run_unbroken}

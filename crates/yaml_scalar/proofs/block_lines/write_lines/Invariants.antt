@@ -3,7 +3,7 @@ use Rattle.std.specs.Str.Iter.{chars_rest}
 use Rattle.std.proofs.Common.{length}
 use Rattle.yaml_pen.specs.Page.{natural}
 use Rattle.yaml_scalar.specs.Width.{limit_of}
-use Rattle.yaml_scalar.proofs.BlockWrites.{LinesLeft}
+use Rattle.yaml_scalar.proofs.blocks.BlockWrites.{LinesLeft}
 use Rattle.yaml_scalar.proofs.block_lines.write_lines.Given as goal
 
 abbrev pub invariant-loop-character : goal.invariant-loop-character

@@ -9,7 +9,7 @@ use Rattle.yaml_pen.proofs.Composing.{wrote_exit, wrote_as, wrote_failed, wrote_
 use Rattle.yaml_scalar.specs.Width.{limit_of}
 use Rattle.yaml_scalar.specs.BlockSteps.{lines_from}
 use Rattle.yaml_scalar.specs.declared.block_lines.Place.TheVariants.{LineStart}
-use Rattle.yaml_scalar.proofs.BlockWrites.{some-folded}
+use Rattle.yaml_scalar.proofs.blocks.BlockWrites.{some-folded}
 use Rattle.yaml_scalar.proofs.folded.write_folded.Goals as goal
 
 pub returns-in_err-write_header : goal.returns-in_err-write_header

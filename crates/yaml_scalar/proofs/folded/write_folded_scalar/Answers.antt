@@ -7,7 +7,7 @@ use Rattle.yaml_pen.specs.Page.{natural}
 use Rattle.yaml_pen.specs.Wrote.{Wrote}
 use Rattle.yaml_scalar.specs.ReadsBack.{ReadsBack}
 use Rattle.yaml_scalar.specs.Width.{limit_of}
-use Rattle.yaml_scalar.proofs.BlockBack.{folded_back, indents}
+use Rattle.yaml_scalar.proofs.blocks.BlockBack.{folded_back, indents}
 use Rattle.yaml_scalar.proofs.folded.write_folded_scalar.Goals as goal
 
 pub returns-in_err-write_folded-clause-reads : goal.returns-in_err-write_folded-clause-reads

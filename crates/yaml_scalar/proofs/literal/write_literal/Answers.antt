@@ -9,7 +9,7 @@ use Rattle.yaml_pen.proofs.Composing.{wrote_exit, wrote_as, wrote_failed, wrote_
 use Rattle.yaml_scalar.specs.Width.{limit_of}
 use Rattle.yaml_scalar.specs.BlockSteps.{lines_from}
 use Rattle.yaml_scalar.specs.declared.block_lines.Place.TheVariants.{LineStart}
-use Rattle.yaml_scalar.proofs.BlockWrites.{some-literal}
+use Rattle.yaml_scalar.proofs.blocks.BlockWrites.{some-literal}
 use Rattle.yaml_scalar.proofs.literal.write_literal.Goals as goal
 use Rattle.yaml_base.specs.Settings.{largest_i32}
 

@@ -6,7 +6,7 @@ use Rattle.yaml_base.specs.reading.ReadBlock.{read_block}
 use Rattle.yaml_pen.specs.Page.{natural}
 use Rattle.yaml_pen.specs.Wrote.{Wrote}
 use Rattle.yaml_scalar.specs.ReadsBack.{ReadsBack}
-use Rattle.yaml_scalar.proofs.BlockBack.{literal_back, indents}
+use Rattle.yaml_scalar.proofs.blocks.BlockBack.{literal_back, indents}
 use Rattle.yaml_scalar.proofs.literal.write_literal_scalar.Goals as goal
 
 pub returns-in_err-write_literal-clause-reads : goal.returns-in_err-write_literal-clause-reads

@@ -17,14 +17,16 @@ parts-init g c =
 pub returns-in_err-read_part-clause-fault : goal.returns-in_err-read_part-clause-fault
 returns-in_err-read_part-clause-fault g c =
     let given = g.R.Read.remaining c.args.reader.now in
-    exit_with (λ answer. IfSome given (λ left. IsFault answer (notation.script_of left))) c.in_err-read_part.field-0.0 c.from_residual.result c.from_residual.ensures
+    exit_with (λ answer. IfSome given (λ left. IsFault answer (notation.script_of left))) c.in_err-read_part.field-0.0 c.from_residual.result
+    c.from_residual.ensures
     (bad_front given (g.R.Read.remaining c.parts.reader) c.parts.front c.in_err-read_part.field-0.0 c.parts.invariant c.in_err-read_part.ensures.fault)
 
 pub returns-in-Ok-clause-understood : goal.returns-in-Ok-clause-understood
 returns-in-Ok-clause-understood g c =
     let given = g.R.Read.remaining c.args.reader.now in
     let left = g.R.Read.remaining c.read_part.new.reader in
-    let says = says_more given (g.R.Read.remaining c.parts.reader) left c.parts.front c.read_part.new.front c.parts.invariant c.in_ok-read_part.ensures.goes_on in
+    let says = says_more given (g.R.Read.remaining c.parts.reader) left c.parts.front c.read_part.new.front c.parts.invariant
+    c.in_ok-read_part.ensures.goes_on in
     says_all given left c.read_part.new.front (notation.understood (seen_settings c.in-Ok.script.settings) (map seen_numbered c.in-Ok.script.events.items))
     says (c.in_ok-read_part.ensures.end c.if-not-branch.true) c.in-Ok.ensures.understood
 
@@ -35,7 +37,8 @@ pub returns-in-Err-clause-fault : goal.returns-in-Err-clause-fault
 returns-in-Err-clause-fault g c =
     let given = g.R.Read.remaining c.args.reader.now in
     let left = g.R.Read.remaining c.read_part.new.reader in
-    let says = says_more given (g.R.Read.remaining c.parts.reader) left c.parts.front c.read_part.new.front c.parts.invariant c.in_ok-read_part.ensures.goes_on in
+    let says = says_more given (g.R.Read.remaining c.parts.reader) left c.parts.front c.read_part.new.front c.parts.invariant
+    c.in_ok-read_part.ensures.goes_on in
     bad_all given left c.read_part.new.front c.in-Err.error c.answer_of.result says (c.in_ok-read_part.ensures.end c.if-not-branch.true)
     c.in-Err.ensures.fault c.answer_of.ensures
 

@@ -9,7 +9,8 @@ use Rattle.yaml_tool.proofs.runs.emit_script.Goals as goal
 pub returns-clause-told : goal.returns-clause-told
 returns-clause-told g c =
     let set = seen_settings c.args.script.settings in
-    let emits = c.emit_all-answer.ensures.emits set (subst (λ given. StandsAfter given [] c.set_all.new.emitter) c.set_all.ensures.given c.set_all.ensures.stands) in
+    let emits = c.emit_all-answer.ensures.emits set (subst (λ given. StandsAfter given [] c.set_all.new.emitter) c.set_all.ensures.given
+    c.set_all.ensures.stands) in
     told_written set (map seen_numbered c.args.script.events.items) c.emit_all-answer.result c.write_out.result c.emit_all-answer.new.emitter
     c.output.result.now
     (g.W.Write.contents c.args.writer.now) (g.W.Write.contents c.write_out.new.writer) emits
@@ -18,6 +19,7 @@ returns-clause-told g c =
 pub returns-clause-unwritten : goal.returns-clause-unwritten
 returns-clause-unwritten g c =
     let set = seen_settings c.args.script.settings in
-    let emits = c.emit_all-answer.ensures.emits set (subst (λ given. StandsAfter given [] c.set_all.new.emitter) c.set_all.ensures.given c.set_all.ensures.stands) in
+    let emits = c.emit_all-answer.ensures.emits set (subst (λ given. StandsAfter given [] c.set_all.new.emitter) c.set_all.ensures.given
+    c.set_all.ensures.stands) in
     none_silent set (map seen_numbered c.args.script.events.items) c.emit_all-answer.result c.write_out.result c.emit_all-answer.new.emitter c.output.result.now
     (g.W.Write.contents c.args.writer.now) (g.W.Write.contents c.write_out.new.writer) emits c.write_out.ensures

@@ -8,7 +8,8 @@ use Rattle.yaml_tool.proofs.scripts.ending_taken.Goals as goal
 pub returns-in_err-number-clause-fault : goal.returns-in_err-number-clause-fault
 returns-in_err-number-clause-fault g c =
     let before = seen_progress c.args.progress in
-    exit_with (λ error. IsFaultOf error (script_behind c.args.number before c.args.bytes.now)) c.in_err-number.field-0.0 c.from_residual.result c.from_residual.ensures
+    exit_with (λ error. IsFaultOf error (script_behind c.args.number before c.args.bytes.now)) c.in_err-number.field-0.0 c.from_residual.result
+    c.from_residual.ensures
     (fault_alone c.in_err-number.field-0.0 c.args.number before c.args.bytes.now (c.in_err-number.ensures.fault []))
 
 pub returns-else-is_good-clause-fault : goal.returns-else-is_good-clause-fault

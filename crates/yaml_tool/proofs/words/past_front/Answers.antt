@@ -10,7 +10,8 @@ range_from-requires c positive =
     let front = c.args.front.now in
     let text = c.args.text.now in
     let begins : take (length front) text ≡ front =
-    ap (take (length front)) (sym c.as_bytes.ensures.value) ∙ (bytes_eq-Decides _ _).0 (sym c.is_same.ensures ∙ c.if-is_same.true) ∙ c.as_bytes-2.ensures.value in
+    ap (take (length front)) (sym c.as_bytes.ensures.value) ∙ (bytes_eq-Decides _ _).0 (sym c.is_same.ensures ∙ c.if-is_same.true)
+    ∙ c.as_bytes-2.ensures.value in
     cut_behind front text (ascii_of front c.requires) c.utf8.text begins
 
 pub returns-then-is_same : goal.returns-then-is_same
@@ -18,5 +19,6 @@ returns-then-is_same c =
     let front = c.args.front.now in
     let text = c.args.text.now in
     let begins : take (length front) text ≡ front =
-    ap (take (length front)) (sym c.as_bytes.ensures.value) ∙ (bytes_eq-Decides _ _).0 (sym c.is_same.ensures ∙ c.if-is_same.true) ∙ c.as_bytes-2.ensures.value in
+    ap (take (length front)) (sym c.as_bytes.ensures.value) ∙ (bytes_eq-Decides _ _).0 (sym c.is_same.ensures ∙ c.if-is_same.true)
+    ∙ c.as_bytes-2.ensures.value in
     subst (Follows front text) (sym c.range_from.ensures.value) (follows front text (ascii_of front c.requires) c.utf8.text begins)

@@ -12,7 +12,8 @@ use Rattle.yaml_emitter.specs.NodeEvents.{start_event}
 use Rattle.yaml_emitter.specs.Places.{is_mapping, seen_frame, seen_place}
 use Rattle.yaml_emitter.specs.Stages.{seen_stage}
 use Rattle.yaml_emitter.proofs.events_done.ProcessedBy.{exit_by_memory, processed_exit}
-use Rattle.yaml_emitter.proofs.events_done.NodesDone.{at_node_inside, ready_inside, output_at_node, seen_at_node, kept_at_node, names_inside, collection_anchor, pushed_at_node}
+use Rattle.yaml_emitter.proofs.events_done.NodesDone.{at_node_inside, ready_inside, output_at_node, seen_at_node, kept_at_node, names_inside, collection_anchor}
+use Rattle.yaml_emitter.proofs.events_done.NodesDone.{pushed_at_node}
 use Rattle.yaml_emitter.proofs.events_done.CollectionsDone.{of_any_style, room_here, full_here, start_refused, start_cut, start_unkept, start_written}
 use Rattle.yaml_emitter.proofs.emitter.yaml_emitter_t.open_collection.Goals as goal
 

@@ -9,7 +9,8 @@ use Rattle.yaml_emitter.specs.BorrowedTexts.{seen_scalar}
 use Rattle.yaml_emitter.specs.Inside.{state_of}
 use Rattle.yaml_emitter.specs.Places.{seen_place}
 use Rattle.yaml_emitter.proofs.events_done.ProcessedBy.{processed_exit}
-use Rattle.yaml_emitter.proofs.events_done.NodesDone.{at_node_inside, ready_inside, output_at_node, seen_at_node, kept_at_node, kept_advancing, lacks_given, names_inside, scalar_anchor, scalar_refused, scalar_cut, scalar_written}
+use Rattle.yaml_emitter.proofs.events_done.NodesDone.{at_node_inside, ready_inside, output_at_node, seen_at_node, kept_at_node, kept_advancing, lacks_given}
+use Rattle.yaml_emitter.proofs.events_done.NodesDone.{names_inside, scalar_anchor, scalar_refused, scalar_cut, scalar_written}
 use Rattle.yaml_emitter.proofs.emitter.yaml_emitter_t.put_chosen.Goals as goal
 
 pub returns-then-lacks_flag : goal.returns-then-lacks_flag

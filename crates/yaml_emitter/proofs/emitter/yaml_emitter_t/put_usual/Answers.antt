@@ -10,7 +10,8 @@ use Rattle.yaml_emitter.specs.State.{State}
 use Rattle.yaml_emitter.specs.UsualScalars.{StandsPlain}
 use Rattle.yaml_emitter.specs.WrittenPieces.{seen_mark}
 use Rattle.yaml_emitter.proofs.events_done.ProcessedBy.{processed_exit}
-use Rattle.yaml_emitter.proofs.events_done.NodesDone.{at_node_inside, ready_inside, output_at_node, seen_at_node, kept_at_node, kept_advancing, names_inside, scalar_cut, scalar_written}
+use Rattle.yaml_emitter.proofs.events_done.NodesDone.{at_node_inside, ready_inside, output_at_node, seen_at_node, kept_at_node, kept_advancing, names_inside}
+use Rattle.yaml_emitter.proofs.events_done.NodesDone.{scalar_cut, scalar_written}
 use Rattle.yaml_emitter.proofs.pieces.UsualChoices.{not_lacking, usual_choice}
 use Rattle.yaml_emitter.proofs.emitter.yaml_emitter_t.put_usual.Goals as goal
 

@@ -7,7 +7,8 @@ use Rattle.yaml_emitter.specs.Signs.{some_handle_breaks}
 use Rattle.yaml_emitter.specs.Inside.{state_of}
 use Rattle.yaml_emitter.specs.Processing.{Processed}
 use Rattle.yaml_emitter.specs.State.{State}
-use Rattle.yaml_emitter.proofs.events_done.KeptInside.{kept_without, seen_without, fits_ready, kept_writing, kept_beginning, output_behind, stage_inside, behind_start}
+use Rattle.yaml_emitter.proofs.events_done.KeptInside.{kept_without, seen_without, fits_ready, kept_writing, kept_beginning, output_behind, stage_inside}
+use Rattle.yaml_emitter.proofs.events_done.KeptInside.{behind_start}
 use Rattle.yaml_emitter.proofs.events_done.ProcessedBy.{processed_exit}
 use Rattle.yaml_emitter.proofs.events_done.DocumentsDone.{document_refused, document_start_cut, document_begun, none_behind}
 use Rattle.yaml_emitter.proofs.pieces.WritingNames.{sound_handles, sound_in_force}

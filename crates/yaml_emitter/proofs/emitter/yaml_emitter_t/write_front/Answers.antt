@@ -55,7 +55,8 @@ pub returns-in-Err-clause-waits : goal.returns-in-Err-clause-waits
 returns-in-Err-clause-waits g c none =
     let n = c.events.count in
     let part = seen_behind seen_event c.args.waiting.now n in
-    let ready : is_head_ready (drop n (seen_events c.args.waiting.now)) ≡ true = ap is_head_ready (sym part) ∙ sym c.is_next_ready.ensures ∙ c.events-test.true in
+    let ready : is_head_ready (drop n (seen_events c.args.waiting.now)) ≡ true =
+    ap is_head_ready (sym part) ∙ sym c.is_next_ready.ensures ∙ c.events-test.true in
     absurd (false≢true (sym (c.events.invariant.waits none) ∙ ready))
 
 pub returns-in-Err-clause-grows : goal.returns-in-Err-clause-grows

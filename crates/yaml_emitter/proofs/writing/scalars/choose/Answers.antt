@@ -15,7 +15,8 @@ returns-clause-choice c =
     if_ok_from _ _ _ c.select_scalar_style.result
     (λ given holds.
     holds.1
-    ∙ c.analyze_for_style-data.ensures content.style c.is_empty_value.result c.args.tag_written content.plain_implicit content.quoted_implicit flow c.args.site.now.simple canonical
+    ∙ c.analyze_for_style-data.ensures content.style c.is_empty_value.result c.args.tag_written content.plain_implicit content.quoted_implicit flow
+    c.args.site.now.simple canonical
     ∙ ap (λ (e : Bool). chosen allowed content.style e c.args.tag_written content.plain_implicit content.quoted_implicit flow c.args.site.now.simple canonical)
     c.is_empty_value.ensures
     ∙ ap (λ (t : Bool). chosen allowed content.style

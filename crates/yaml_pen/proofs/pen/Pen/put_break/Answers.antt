@@ -2,7 +2,8 @@ use Rattle.std.proofs.Common.{sym, ◌∙◌, ap, subst, [], ◌∷◌, min}
 use Rattle.yaml_base.specs.Characters.{line_feed}
 use Rattle.yaml_pen.specs.Page.{Page, IsReady}
 use Rattle.yaml_base.specs.Cursor.{text_laid}
-use Rattle.yaml_pen.proofs.Writing.{Adds-appended, IsPen-added, Wrote-added, known_encoding, scalar-break, break-column, Names, Names-break, break_of, line_break_of}
+use Rattle.yaml_pen.proofs.Writing.{Adds-appended, IsPen-added, Wrote-added, known_encoding, scalar-break, break-column, Names, Names-break, break_of}
+use Rattle.yaml_pen.proofs.Writing.{line_break_of}
 use Rattle.yaml_pen.proofs.pen.Pen.put_break.Goals as goal
 
 pub invariant_of-self-2 : goal.invariant_of-self-2

@@ -7,7 +7,7 @@ use Rattle.yaml_base.specs.Characters.{Text, is_break, is_space, line_feed, spac
 use Rattle.yaml_base.specs.scalars.Lines.{Part, line, line_break, begun}
 use Rattle.yaml_base.specs.scalars.Folded.{is_past, folds, cut_from, cut_line, next_even, folded_parts}
 use Rattle.yaml_base.specs.reading.ReadBlock.{joined, unfolded, has_content, final_ends, is_even, even_next}
-use Rattle.yaml_scalar.proofs.BlockParts.{bare, Clean, IsLine, Ordinary, BeginsBroken, BeginsFlush, clean-begun}
+use Rattle.yaml_scalar.proofs.blocks.BlockParts.{bare, Clean, IsLine, Ordinary, BeginsBroken, BeginsFlush, clean-begun}
 
 -- a line feed is ordinary
 feed-ordinary : (breaks12 : Bool) → Ordinary breaks12 line_feed

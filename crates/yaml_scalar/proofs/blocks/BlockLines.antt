@@ -14,9 +14,9 @@ use Rattle.yaml_base.specs.scalars.Literal.{indented, literal_body}
 use Rattle.yaml_base.specs.scalars.Folded.{folded_parts, folded_body}
 use Rattle.yaml_base.specs.reading.ReadBlock.{read_block}
 use Rattle.yaml_base.proofs.BreakLaws.{breaks-round, laid-append, indented-written}
-use Rattle.yaml_scalar.proofs.BlockParts.{Ordinary, IsLine, Clean, parts-clean}
-use Rattle.yaml_scalar.proofs.BlockFolds.{folded-clean}
-use Rattle.yaml_scalar.proofs.BlockReads.{allowed-ordinary, digit_text, sign_of, block-text, literal-reads, folded-read}
+use Rattle.yaml_scalar.proofs.blocks.BlockParts.{Ordinary, IsLine, Clean, parts-clean}
+use Rattle.yaml_scalar.proofs.blocks.BlockFolds.{folded-clean}
+use Rattle.yaml_scalar.proofs.blocks.BlockReads.{allowed-ordinary, digit_text, sign_of, block-text, literal-reads, folded-read}
 
 -- an ordinary character may stand in a laid text
 ordinary-laid : (breaks12 : Bool) (c : ℕ) → Ordinary breaks12 c → not (c == carriage_return || c == next_line) ≡ true

@@ -1,18 +1,23 @@
 -- A literal or folded body is read as exactly its value.
 use Rattle.std.proofs.Common.{◌≡◌, ◌≤◌, refl, sym, ap, ◌∙◌, append_assoc, arith}
 use Rattle.std.proofs.lemmas.Bool.{false≢true, or_parts, not-false, not-true, eqb-true, false_from_ne_true, and_from, le-leb}
-use Rattle.std.specs.Prelude.{ℕ, zero, suc, Bool, true, false, List, [], ◌∷◌, ◌++◌, ◌==◌, ◌&&◌, ◌||◌, ◌+◌, ◌-◌, not, Option, None, Some, option_map, if◌then◌else◌}
+use Rattle.std.specs.Prelude.{ℕ, zero, suc, Bool, true, false, List, [], ◌∷◌, ◌++◌, ◌==◌, ◌&&◌, ◌||◌, ◌+◌, ◌-◌, not, Option, None, Some, option_map}
+use Rattle.std.specs.Prelude.{if◌then◌else◌}
 use Rattle.yaml_base.specs.scalars.Analysis.{Charset, somewhere, is_empty, is_special, is_trailing_space, bars_block, allows_block}
-use Rattle.yaml_base.specs.Characters.{Text, is_break, is_ascii, is_printable, is_between, is_space, space, tab, line_feed, carriage_return, next_line, line_separator, paragraph_separator}
+use Rattle.yaml_base.specs.Characters.{Text, is_break, is_ascii, is_printable, is_between, is_space, space, tab, line_feed, carriage_return, next_line}
+use Rattle.yaml_base.specs.Characters.{line_separator, paragraph_separator}
 use Rattle.yaml_base.specs.Cursor.{Cursor}
 use Rattle.yaml_base.specs.scalars.Lines.{Part, line, line_break, begun, parts}
-use Rattle.yaml_base.specs.scalars.BlockHeader.{Ending, without_break, one_break, more_breaks, ending, begins_blank, indentation_hint, ending_hint, hint_laid, block_body, Encloses}
+use Rattle.yaml_base.specs.scalars.BlockHeader.{Ending, without_break, one_break, more_breaks, ending, begins_blank, indentation_hint, ending_hint, hint_laid}
+use Rattle.yaml_base.specs.scalars.BlockHeader.{block_body, Encloses}
 use Rattle.yaml_base.specs.scalars.Literal.{indented, literal_body}
 use Rattle.yaml_base.specs.scalars.Folded.{folded_parts, folded_body}
-use Rattle.yaml_base.specs.reading.ReadBlock.{elements, unfolded, has_content, kept_lines, final_ends, read_indentation, all_unindented, chomped, lines_read, read_lines, digit_first, after_digit, read_block}
-use Rattle.yaml_scalar.proofs.BlockParts.{Ordinary, AllOrdinary, Clean, BeginsFlush, bare, shifted, parts-clean, joined-parts, elements-indented, unindented-shifted, detected-shifted}
-use Rattle.yaml_scalar.proofs.BlockFinal.{ends-parts, chomping_of, chomped-ends, joined-kept, unfolded-kept}
-use Rattle.yaml_scalar.proofs.BlockFolds.{folded-clean, folded-content, folded-reads, folded-ends, folded-flush}
+use Rattle.yaml_base.specs.reading.ReadBlock.{elements, unfolded, has_content, kept_lines, final_ends, read_indentation, all_unindented, chomped, lines_read}
+use Rattle.yaml_base.specs.reading.ReadBlock.{read_lines, digit_first, after_digit, read_block}
+use Rattle.yaml_scalar.proofs.blocks.BlockParts.{Ordinary, AllOrdinary, Clean, BeginsFlush, bare, shifted, parts-clean, joined-parts, elements-indented}
+use Rattle.yaml_scalar.proofs.blocks.BlockParts.{unindented-shifted, detected-shifted}
+use Rattle.yaml_scalar.proofs.blocks.BlockFinal.{ends-parts, chomping_of, chomped-ends, joined-kept, unfolded-kept}
+use Rattle.yaml_scalar.proofs.blocks.BlockFolds.{folded-clean, folded-content, folded-reads, folded-ends, folded-flush}
 
 -- what isn't printable isn't among printable characters
 other-than : (c d : ℕ) → is_printable c ≡ true → is_printable d ≡ false → (c == d) ≡ false

@@ -13,8 +13,8 @@ use Rattle.yaml_scalar.specs.declared.block_lines.Place.{Place}
 use Rattle.yaml_scalar.specs.declared.block_lines.Place.TheVariants.{LineStart}
 use Rattle.yaml_scalar.specs.BlockSteps.{lines_from, sign_of, separated_header, header_end, block_laid}
 use Rattle.yaml_scalar.proofs.StillToWrite.{StillToWrite}
-use Rattle.yaml_scalar.proofs.BlockSteps.{literal-lines-from}
-use Rattle.yaml_scalar.proofs.FoldedSteps.{folded-lines-from}
+use Rattle.yaml_scalar.proofs.blocks.BlockSteps.{literal-lines-from}
+use Rattle.yaml_scalar.proofs.blocks.FoldedSteps.{folded-lines-from}
 
 -- one after another, in either grouping
 then-assoc : (a : Laid) (f g : Cursor → Laid) → then_laid (then_laid a f) g ≡ then_laid a (λ k. then_laid (f k) g)

@@ -11,7 +11,7 @@ use Rattle.yaml_base.specs.reading.ReadBlock.{read_block}
 use Rattle.yaml_pen.specs.Page.{Page, natural}
 use Rattle.yaml_pen.specs.Wrote.{Wrote}
 use Rattle.yaml_scalar.specs.ReadsBack.{ReadsBack}
-use Rattle.yaml_scalar.proofs.BlockLines.{literal-kept, folded-kept}
+use Rattle.yaml_scalar.proofs.blocks.BlockLines.{literal-kept, folded-kept}
 use Rattle.yaml_scalar.proofs.LinesReadBack.{body_back, two_or_more}
 
 -- the conditions on the two indents, as whole numbers

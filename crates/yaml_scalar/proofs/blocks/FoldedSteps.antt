@@ -11,7 +11,8 @@ use Rattle.yaml_base.specs.scalars.Literal.{indented}
 use Rattle.yaml_scalar.specs.declared.block_lines.Place.TheVariants.{LineStart, Folding, Fixed}
 use Rattle.yaml_scalar.specs.BlockSteps.{step_laid, lines_from}
 use Rattle.yaml_base.specs.scalars.Folded.{is_past, folds, cut_from, next_even, folded_parts}
-use Rattle.yaml_scalar.proofs.BlockSteps.{after_text, spot, lines-cursor, ending-last, start-step, from-step, break-step, content-step, continued, laid-by}
+use Rattle.yaml_scalar.proofs.blocks.BlockSteps.{after_text, spot, lines-cursor, ending-last, start-step, from-step, break-step, content-step, continued}
+use Rattle.yaml_scalar.proofs.blocks.BlockSteps.{laid-by}
 
 -- a line of folded parts goes on, where it is never folded
 abbrev fixed_text : Option ℕ → ℕ → List Part → Text

@@ -5,8 +5,9 @@ use Rattle.std.specs.Prelude.{ℕ, Bool, true, false, List, [], ◌∷◌, ◌++
 use Rattle.yaml_base.specs.Characters.{Text, is_break, line_feed}
 use Rattle.yaml_base.specs.scalars.Lines.{Part, line, line_break, begun, parts}
 use Rattle.yaml_base.specs.scalars.BlockHeader.{Ending, without_break, one_break, more_breaks, ending}
-use Rattle.yaml_base.specs.reading.ReadBlock.{Element, content, line_end, joined, unfolded, has_content, kept_lines, final_ends, is_even, even_next, fold_read, Chomping, strip, clip, keep, chomped}
-use Rattle.yaml_scalar.proofs.BlockParts.{bare}
+use Rattle.yaml_base.specs.reading.ReadBlock.{Element, content, line_end, joined, unfolded, has_content, kept_lines, final_ends, is_even, even_next, fold_read}
+use Rattle.yaml_base.specs.reading.ReadBlock.{Chomping, strip, clip, keep, chomped}
+use Rattle.yaml_scalar.proofs.blocks.BlockParts.{bare}
 
 -- where there is no content, nothing is kept
 kept-none : (es : List Element) → has_content es ≡ false → kept_lines es ≡ []

@@ -1,0 +1,11 @@
+pub mod BlockParts
+pub mod BlockFinal
+pub mod BlockFolds
+pub mod BlockReads
+pub mod BlockLines
+pub mod BlockSteps
+pub mod FoldedSteps
+pub mod BlockStays
+pub mod NextEven
+pub mod BlockWrites
+pub mod BlockBack
