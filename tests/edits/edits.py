@@ -1,21 +1,25 @@
 """Wrong edits, and how the goals that refuse them are searched for."""
 import sys
 
-# How a goal without an answer is searched for, and shorter ways, the shortest first: the bound on the lemmas that fit, a
-# thousand where there is none, and for each call of grind the set of lemmas and the steps, in hundred thousands.
+# How a goal without an answer is searched for, and shorter ways, the shortest first: the bound on the lemmas that fit (none
+# for no search by lemmas), and for each call of grind the set of lemmas and the steps, in hundred thousands.
 SEARCHES = {
-    "few": (" fits 100", []),
-    "rules": ("", []),
-    "short": ("", [("common_steps", 3), ("elements", 3)]),
-    "": ("", [("common_steps", 20), ("elements", 20), ("common_steps", 40)]),
+    "few": ("fits 100", []),
+    "rules": ("fits 1000", []),
+    "common": ("", [("common_steps", 3)]),
+    "elements": ("", [("elements", 3)]),
+    "long common": ("", [("common_steps", 20)]),
+    "long elements": ("", [("elements", 20)]),
+    "": ("fits 1000", [("common_steps", 20), ("elements", 20), ("common_steps", 40)]),
 }
 
 
 def search_of(how, std, grind):
     """Returns the term of antt that searches for a goal, given what the file calls the modules of the lemmas."""
     bound, grinds = SEARCHES[how]
-    calls = [f"search {std}.rules{bound}", *(f"grind ({std}.arith, {grind}.{steps}) steps {most}00000" for steps, most in grinds)]
-    return f"first_of ({', '.join(calls)})" if grinds else calls[0]
+    calls = [f"search {std}.rules {bound}"] if bound else []
+    calls += [f"grind ({std}.arith, {grind}.{steps}) steps {most}00000" for steps, most in grinds]
+    return f"first_of ({', '.join(calls)})" if len(calls) > 1 else calls[0]
 
 
 class Edit:
