@@ -3,6 +3,9 @@ import re
 
 from edits import search_of
 
+# The line that begins an impl of a trait.
+OF_TRAIT = re.compile(r"impl(?:<.*?>)? (?:\w+::)*(\w+)(?:<.*>)? for (\w+)(?:<.*>)? \{")
+
 
 class Code:
     """The functions of a crate that a hole can stand for, by their paths, each with the names of those that it seems to call."""
@@ -20,18 +23,26 @@ class Code:
 
     def lines(self, module, text):
         """Yields the lines of a module, each with the path of the function that it belongs to and whether it begins it. Functions of
-        impls of traits have no path here."""
+        an impl of a trait have a path by the type and the trait, but none where a type has several of that trait."""
         place, name = module, None
         for line in text.splitlines():
             found = re.match(r'((?:    )?)(?:pub(?:\([^)]*\))? )?(?:const )?(?:extern "C" )?fn (\w+)', line)
-            impl = re.match(r"impl(?:<.*?>)? (\w+)(?:<[^ ]*>)? \{", line)
             if line.startswith("impl"):
-                place = f"{self.of_type.get(impl[1], module)}{impl[1]}::" if impl else None
+                place = self.place_of(module, text, line)
             elif line == "}":
                 place, name = module, None
             elif found:
                 name = f"{place if found[1] else module}{found[2]}" if place is not None else None
             yield line, name, bool(found)
+
+    def place_of(self, module, text, line):
+        """Returns the path of what stands in the impl that begins in this line, or None."""
+        of_trait, own = OF_TRAIT.match(line), re.match(r"impl(?:<.*?>)? (\w+)(?:<.*>)? \{", line)
+        if not of_trait:
+            return own and f"{self.of_type.get(own[1], module)}{own[1]}::"
+        trait, name = of_trait.groups()
+        several = sum(it.groups() == (trait, name) for it in map(OF_TRAIT.match, text.splitlines()) if it) > 1
+        return None if several else f"{module}{name[0].upper()}{name[1:]}{trait}::"
 
     def read(self, module, text):
         """Notes the functions of a module and of its types, what their goals unfold, and the members of each cycle of calls."""
