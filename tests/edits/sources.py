@@ -116,6 +116,8 @@ def leave_others_out(copy, crate, code, goals):
     cycles = [it for it, members in code.cycles.items() if not members & {*goals}]
     for function in [*(it for it in code.calls if it not in goals), *cycles]:
         leave_out(copy, crate, function)
+    for folder in {code.folders[it] for it in goals if it in code.folders}:
+        keep_needed(copy / "proofs" / folder / "Answers.antt", [named for it, named in goals.items() if code.folders.get(it) == folder])
     for function, named in goals.items():
         if named:
             answer(copy, crate, code.folders[function], named, code.unfolds[function])
@@ -132,6 +134,22 @@ def leave_out(copy, crate, function):
     lines = [f"use Rattle.{crate}.proofs.{stated_in}.{{statement}}", ""]
     lines += [f"pub {name}_spec : {{M : Type 1}} → statement M", f"{name}_spec = ?", ""]
     (copy / "proofs" / path / "Proof.antt").write_text("\n".join(lines), encoding="utf-8")
+
+
+def keep_needed(file, goals):
+    """Leaves in a file of answers those to goals that are named, and what they cite, where goals of all its functions are named."""
+    if not file.exists() or not all(goals):
+        return
+    others, items, name = [], {}, None
+    for part in re.split(r"^(?=[^\s)\]}])", file.read_text(encoding="utf-8"), flags=re.M):
+        head = re.match(r"(?:pub )?(\S+) :(?=\s)", part)
+        name = None if part.startswith(("use ", "--")) else head[1] if head else name
+        (items.setdefault(name, []) if name else others).append(part)
+    kept, left = set(), {goal[0] for named in goals for goal, _ in named}
+    while left:
+        kept |= left
+        left = {word for it in left for part in items.get(it, ()) for word in re.findall(r"[^\s()\[\]{},.]+", part)} & items.keys() - kept
+    file.write_text("".join([*others, *(part for it in items if it in kept for part in items[it])]), encoding="utf-8")
 
 
 def answer(copy, crate, folder, goals, unfolds):

@@ -1,4 +1,4 @@
--- Texts, the classes of characters (YAML 1.1, sections 5.1 to 5.5) and the escapes of double quotes (section 5.6).
+-- Texts, the classes of characters (YAML 1.1, sections 5.1 to 5.5) and the escapes of double quotes (YAML 1.1, section 5.6).
 use Rattle.std.specs.Prelude.{ℕ, zero, suc, Bool, List, [], ◌∷◌, ◌++◌, ◌==◌, ◌||◌, ◌&&◌, ◌+◌, ◌/◌, ◌%◌, not, nat_le, nat_lt, if◌then◌else◌}
 use Rattle.std.specs.List.{list_any}
 
@@ -51,15 +51,15 @@ is_ascii c = nat_le c 0x7F
 abbrev pub is_space : ℕ → Bool
 is_space c = c == space
 
--- a space or a tab (section 5.5)
+-- a space or a tab (YAML 1.1, section 5.5)
 abbrev pub is_blank : ℕ → Bool
 is_blank c = c == space || c == tab
 
--- a line break of YAML 1.1 (section 5.4)
+-- a line break of YAML 1.1 (YAML 1.1, section 5.4)
 abbrev pub is_break : ℕ → Bool
 is_break c = c == line_feed || c == carriage_return || c == next_line || c == line_separator || c == paragraph_separator
 
--- the byte order mark (section 5.2)
+-- the byte order mark (YAML 1.1, section 5.2)
 abbrev pub is_bom : ℕ → Bool
 is_bom c = c == byte_order_mark
 

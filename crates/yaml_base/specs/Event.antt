@@ -18,12 +18,12 @@ pub data CollectionStyle : Type 0 where
   block : CollectionStyle
   flow : CollectionStyle
 
--- the version of a `%YAML` directive (section 7.1.1)
+-- the version of a `%YAML` directive (YAML 1.1, section 7.1.1)
 pub record Version : Type 0 where
   pub major : ℤ
   pub minor : ℤ
 
--- a handle, and the prefix that it stands for (section 7.1.2)
+-- a handle, and the prefix that it stands for (YAML 1.1, section 7.1.2)
 pub record TagDirective : Type 0 where
   pub handle : Text
   pub prefix : Text

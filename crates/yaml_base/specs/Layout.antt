@@ -35,13 +35,13 @@ closing_mark_laid cursor = line_ended (indicator_laid document_end cursor)
 abbrev pub version_word : Version → Indicator
 version_word version = if int_eq version.minor (pos 2) then version_1_2 else version_1_1
 
--- the `%YAML` line (section 7.1.1)
+-- the `%YAML` line (YAML 1.1, section 7.1.1)
 abbrev pub version_laid : Option Version → Cursor → Laid
 version_laid None cursor = nothing_laid cursor
 version_laid (Some version) cursor =
     line_ended (then_laid (indicator_laid yaml_directive cursor) (indicator_laid (version_word version)))
 
--- a `%TAG` line (section 7.1.2)
+-- a `%TAG` line (YAML 1.1, section 7.1.2)
 abbrev pub tag_directive_laid : (portable : Bool) → TagDirective → Cursor → Laid
 tag_directive_laid portable directive cursor =
     line_ended
@@ -63,7 +63,7 @@ has_directives start = is_some start.version || not (length start.directives == 
 abbrev pub is_explicit : (each : Bool) → (first : Bool) → DocumentStart → Bool
 is_explicit each first start = not start.implicit || not first || each || has_directives start
 
--- `---` on a new line, and in canonical mode a new line after it (section 7.2)
+-- `---` on a new line, and in canonical mode a new line after it (YAML 1.1, section 7.2)
 abbrev pub document_mark_laid : Bool → Cursor → Laid
 document_mark_laid canonical cursor =
     then_laid (then_laid (new_line 0 cursor) (indicator_laid document_start)) (laid_if canonical (new_line 0))

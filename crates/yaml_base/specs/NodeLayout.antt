@@ -93,7 +93,7 @@ lead_alone mark laid =
 
 -- Anchors and tags
 
--- `&` and the name, where there is an anchor (section 8.1.2)
+-- `&` and the name, where there is an anchor (YAML 1.1, section 8.1.2)
 abbrev pub anchor_laid : Option Text → Cursor → Laid
 anchor_laid None cursor = nothing_laid cursor
 anchor_laid (Some name) cursor = then_laid (indicators.indicator_laid indicators.anchor cursor) (name_laid name)
@@ -102,7 +102,7 @@ anchor_laid (Some name) cursor = then_laid (indicators.indicator_laid indicators
 abbrev pub handle_laid : Text → Cursor → Laid
 handle_laid handle cursor = name_laid (space_if true cursor ++ handle) cursor
 
--- a tag as it is spelled (section 8.1.1)
+-- a tag as it is spelled (YAML 1.1, section 8.1.1)
 abbrev pub spelling_laid : (portable : Bool) → Spelling → Cursor → Laid
 spelling_laid portable (shorthand handle suffix) cursor =
     then_laid (handle_laid handle cursor) (name_laid (suffix_escaped portable suffix))
@@ -117,7 +117,7 @@ tag_laid portable directives (Some tag) bare cursor = spelling_laid portable (sp
 tag_laid portable directives None true cursor = handle_laid (codes "!") cursor
 tag_laid portable directives None false cursor = nothing_laid cursor
 
--- the anchor, and then the tag (section 8.1)
+-- the anchor, and then the tag (YAML 1.1, section 8.1)
 abbrev pub properties_laid :
     (portable : Bool) → List TagDirective → Option Text → Option Text → (bare : Bool) → Cursor → Laid
 properties_laid portable directives anchor tag bare cursor =
@@ -211,11 +211,11 @@ pub record Brackets : Type 0 where
   pub opening : Text
   pub closing : Text
 
--- the brackets of a sequence in flow (section 10.1.1)
+-- the brackets of a sequence in flow (YAML 1.1, section 10.1.1)
 abbrev pub square : Brackets
 square = record { opening = codes "["; closing = codes "]" }
 
--- the brackets of a mapping in flow (section 10.2.1)
+-- the brackets of a mapping in flow (YAML 1.1, section 10.2.1)
 abbrev pub curly : Brackets
 curly = record { opening = codes "{"; closing = codes "}" }
 

@@ -137,7 +137,7 @@ abbrev pub key_sign : (simple in_block : Bool) → Cursor → Laid
 key_sign true in_block cursor = nothing_laid cursor
 key_sign false in_block cursor = indicator_laid (key in_block) cursor
 
--- what a place in flow puts before its node (sections 10.1.1 and 10.2.1)
+-- what a place in flow puts before its node (YAML 1.1, sections 10.1.1 and 10.2.1)
 abbrev pub flow_place_laid : Effective → Role → (simple : Bool) → Option ℕ → Cursor → Laid
 flow_place_laid s as_root simple column cursor = nothing_laid cursor
 flow_place_laid s (as_item first) simple column cursor =
@@ -148,7 +148,7 @@ flow_place_laid s (as_value true) simple column cursor = indicator_laid simple_v
 flow_place_laid s (as_value false) simple column cursor =
     then_laid (flow_break s column cursor) (indicator_laid flow_value)
 
--- what a place in a block puts before its node (sections 10.1.2 and 10.2.2)
+-- what a place in a block puts before its node (YAML 1.1, sections 10.1.2 and 10.2.2)
 abbrev pub block_place_laid : Role → (simple : Bool) → Option ℕ → Cursor → Laid
 block_place_laid as_root simple column cursor = nothing_laid cursor
 block_place_laid (as_item first) simple column cursor =

@@ -9,13 +9,13 @@ largest_i32 = 2147483647
 abbrev pub largest_usize : ℕ
 largest_usize = 18446744073709551615
 
--- how characters become bytes (section 5.2)
+-- how characters become bytes (YAML 1.1, section 5.2)
 pub data Encoding : Type 0 where
   utf8 : Encoding
   utf16_little : Encoding
   utf16_big : Encoding
 
--- how a line is ended (section 5.4)
+-- how a line is ended (YAML 1.1, section 5.4)
 pub data LineBreak : Type 0 where
   carriage_return_break : LineBreak
   line_feed_break : LineBreak

@@ -12,7 +12,7 @@ use Rattle.yaml_base.specs.declared.errors.yaml_error_t.TheVariants.{Incompatibl
 use Rattle.yaml_base.specs.declared.errors.yaml_error_t.TheVariants.{TagPrefixEmpty, DuplicateDirective, AnchorEmpty, AnchorAlphabet, AliasEmpty, AliasAlphabet}
 use Rattle.yaml_base.specs.declared.errors.yaml_error_t.TheVariants.{TagEmpty}
 
--- the refusal of a name: it has at least one character, and all of them are of the anchor alphabet (section 8.1.2;
+-- the refusal of a name: it has at least one character, and all of them are of the anchor alphabet (YAML 1.1, section 8.1.2;
 -- the alphabet is libyaml's)
 abbrev pub name_fault : (if_empty if_other : yaml_error_t) → Text → Option yaml_error_t
 name_fault if_empty if_other [] = Some if_empty
@@ -36,13 +36,13 @@ abbrev pub is_the_number : ℕ → ℤ → Bool
 is_the_number n (pos m) = n == m
 is_the_number n (negsuc _) = false
 
--- the refusal of a version: it is 1.1 or 1.2 (section 7.1.1)
+-- the refusal of a version: it is 1.1 or 1.2 (YAML 1.1, section 7.1.1)
 abbrev pub version_fault : Version → Option yaml_error_t
 version_fault version =
     if is_the_number 1 version.major && (is_the_number 1 version.minor || is_the_number 2 version.minor) then None
     else Some IncompatibleVersion
 
--- the sign that begins a tag and stands at both ends of a handle (section 7.1.2.2)
+-- the sign that begins a tag and stands at both ends of a handle (YAML 1.1, section 7.1.2.2)
 abbrev pub tag_mark : ℕ
 tag_mark = 0x21
 
@@ -57,7 +57,7 @@ without_last [] = []
 without_last (c ∷ []) = []
 without_last (c ∷ next ∷ rest) = c ∷ without_last (next ∷ rest)
 
--- the refusal of a handle: it is `!`, or any number of characters of the anchor alphabet between two `!` (section 7.1.2.2)
+-- the refusal of a handle: it is `!`, or any number of characters of the anchor alphabet between two `!` (YAML 1.1, section 7.1.2.2)
 abbrev pub handle_fault : Text → Option yaml_error_t
 handle_fault [] = Some TagHandleEmpty
 handle_fault (c ∷ rest) =
@@ -65,7 +65,7 @@ handle_fault (c ∷ rest) =
     else (if not (last_from c rest == tag_mark) then Some TagHandleEnd
     else (if list_all is_alpha (without_last rest) then None else Some TagHandleAlphabet))
 
--- the refusal of a prefix: it has at least one character (section 7.1.2.1)
+-- the refusal of a prefix: it has at least one character (YAML 1.1, section 7.1.2.1)
 abbrev pub prefix_fault : Text → Option yaml_error_t
 prefix_fault [] = Some TagPrefixEmpty
 prefix_fault (_ ∷ _) = None
@@ -78,7 +78,7 @@ directive_fault directive = option_or (handle_fault directive.handle) (prefix_fa
 abbrev pub gives_handle : Text → List TagDirective → Bool
 gives_handle handle directives = list_any (λ directive. bytes_eq directive.handle handle) directives
 
--- the refusal of a directive after those before it: each handle is given once (section 7.1.2)
+-- the refusal of a directive after those before it: each handle is given once (YAML 1.1, section 7.1.2)
 abbrev pub next_directive_fault : List TagDirective → TagDirective → Option yaml_error_t
 next_directive_fault before directive =
     option_or (directive_fault directive)
@@ -94,7 +94,7 @@ directives_fault_after before (directive ∷ rest) =
 abbrev pub directives_fault : List TagDirective → Option yaml_error_t
 directives_fault directives = directives_fault_after [] directives
 
--- `!` stands for itself and `!!` for YAML's own types, where a document doesn't say otherwise (section 7.1.2.2)
+-- `!` stands for itself and `!!` for YAML's own types, where a document doesn't say otherwise (YAML 1.1, section 7.1.2.2)
 abbrev pub default_directives : List TagDirective
 default_directives =
     record { handle = codes "!"; prefix = codes "!" }
@@ -111,7 +111,7 @@ behind [] (c ∷ rest) = Some (c ∷ rest)
 behind (p ∷ prefix) [] = None
 behind (p ∷ prefix) (c ∷ rest) = if p == c then behind prefix rest else None
 
--- a tag as a handle and what stands behind the handle's prefix, or as it is (section 8.1.1)
+-- a tag as a handle and what stands behind the handle's prefix, or as it is (YAML 1.1, section 8.1.1)
 pub data Spelling : Type 0 where
   shorthand : Text → Text → Spelling
   verbatim : Text → Spelling
@@ -126,7 +126,7 @@ abbrev pub spelling : List TagDirective → Text → Spelling
 spelling [] tag = verbatim tag
 spelling (directive ∷ rest) tag = spelling_by directive.handle (behind directive.prefix tag) (spelling rest tag)
 
--- the text of a spelling (section 8.1.1)
+-- the text of a spelling (YAML 1.1, section 8.1.1)
 abbrev pub spelled : (portable : Bool) → Spelling → Text
 spelled portable (shorthand handle suffix) = handle ++ suffix_escaped portable suffix
 spelled portable (verbatim tag) = codes "!<" ++ percent_escaped tag ++ codes ">"

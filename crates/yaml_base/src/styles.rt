@@ -5,15 +5,15 @@
 pub enum yaml_scalar_style_t {
     /// Plain where that can be, else quoted.
     YAML_ANY_SCALAR_STYLE,
-    /// Without quotes (section 9.1.3).
+    /// Without quotes (YAML 1.1, section 9.1.3).
     YAML_PLAIN_SCALAR_STYLE,
-    /// Between `'` and `'` (section 9.1.2).
+    /// Between `'` and `'` (YAML 1.1, section 9.1.2).
     YAML_SINGLE_QUOTED_SCALAR_STYLE,
-    /// Between `"` and `"`, with escapes (section 9.1.1).
+    /// Between `"` and `"`, with escapes (YAML 1.1, section 9.1.1).
     YAML_DOUBLE_QUOTED_SCALAR_STYLE,
-    /// A block after `|`, line for line (section 9.3.1).
+    /// A block after `|`, line for line (YAML 1.1, section 9.3.1).
     YAML_LITERAL_SCALAR_STYLE,
-    /// A block after `>`, whose lines are folded (section 9.3.2).
+    /// A block after `>`, whose lines are folded (YAML 1.1, section 9.3.2).
     YAML_FOLDED_SCALAR_STYLE,
 }
 

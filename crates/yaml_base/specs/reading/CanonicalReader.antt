@@ -26,7 +26,7 @@ shorthand_read own text = name_joined (prefix_among (own ++ directives_assumed) 
 abbrev pub verbatim_read : Option Text → Option TagSaid
 verbatim_read text = option_map name_said (option_and_then percent_read text)
 
--- a written tag, from its `!` to its last character (section 8.1.1); since a space ends it, it may hold the signs of flow
+-- a written tag, from its `!` to its last character (YAML 1.1, section 8.1.1); since a space ends it, it may hold the signs of flow
 abbrev pub tag_read : List TagDirective → Text → Option TagSaid
 tag_read own [] = None
 tag_read own (c ∷ []) = if c == 0x21 then Some bare_said else None

@@ -71,7 +71,7 @@ alias_named (c ∷ rest) = alias_token (c ∷ rest)
 abbrev pub words : Text → List Text
 words line = filter (λ word. not (length word == 0)) (slice_split is_blank line)
 
--- `%YAML 1.1` and `%YAML 1.2` (section 7.1.1)
+-- `%YAML 1.1` and `%YAML 1.2` (YAML 1.1, section 7.1.1)
 abbrev pub version_named : Text → Token
 version_named word =
     if bytes_eq word (codes "1.1") then version_line (record { major = pos 1; minor = pos 1 })

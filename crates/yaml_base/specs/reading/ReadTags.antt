@@ -21,7 +21,7 @@ prefix_among [] handle = None
 prefix_among (directive ∷ rest) handle =
     if bytes_eq directive.handle handle then Some directive.prefix else prefix_among rest handle
 
--- what `!` and `!!` stand for where a document doesn't say (section 7.1.2.2)
+-- what `!` and `!!` stand for where a document doesn't say (YAML 1.1, section 7.1.2.2)
 abbrev pub directives_assumed : List TagDirective
 directives_assumed =
     record { handle = codes "!"; prefix = codes "!" }
@@ -33,7 +33,7 @@ closes_handle [] = false
 closes_handle (c ∷ []) = c == 0x21
 closes_handle (c ∷ d ∷ rest) = is_alpha c && closes_handle (d ∷ rest)
 
--- `!`, or the anchor alphabet between two `!` (section 7.1.2.2)
+-- `!`, or the anchor alphabet between two `!` (YAML 1.1, section 7.1.2.2)
 abbrev pub is_handle_text : Text → Bool
 is_handle_text [] = false
 is_handle_text (c ∷ []) = c == 0x21
@@ -77,7 +77,7 @@ verbatim_said None = None
 verbatim_said (Some []) = None
 verbatim_said (Some (c ∷ name)) = if list_all is_uri_character (c ∷ name) then option_map name_said (percent_read (c ∷ name)) else None
 
--- a written tag, from its `!` to its last character, by a document's own directives and those assumed (section 8.1.1)
+-- a written tag, from its `!` to its last character, by a document's own directives and those assumed (YAML 1.1, section 8.1.1)
 abbrev pub tag_said : List TagDirective → Text → Option TagSaid
 tag_said own [] = None
 tag_said own (c ∷ []) = if c == 0x21 then Some bare_said else None

@@ -21,11 +21,11 @@ ending (c ∷ d ∷ e ∷ rest) = ending (d ∷ e ∷ rest)
 abbrev pub begins_blank : Text → Bool
 begins_blank value = begins_with (λ c. is_space c || is_break c) value
 
--- the digit of the indent, where the first line would not show the indentation (section 9.2.2)
+-- the digit of the indent, where the first line would not show the indentation (YAML 1.1, section 9.2.2)
 abbrev pub indentation_hint : ℕ → Text → Text
 indentation_hint best_indent value = if begins_blank value then (48 + best_indent) ∷ [] else []
 
--- `-`, nothing or `+`: what becomes of the final breaks (section 9.2.3)
+-- `-`, nothing or `+`: what becomes of the final breaks (YAML 1.1, section 9.2.3)
 abbrev pub ending_hint : Ending → Text
 ending_hint without_break = 45 ∷ []
 ending_hint one_break = []
@@ -69,7 +69,7 @@ ends_in_break more_breaks = true
 abbrev pub lines_laid : (value lines : Text) → Cursor → Laid
 lines_laid value lines cursor = with_flags true (ends_in_break (ending value)) (text_laid lines cursor)
 
--- a block scalar's text: its header, and then its lines (section 9.3)
+-- a block scalar's text: its header, and then its lines (YAML 1.1, section 9.3)
 abbrev pub block_body : (sign best_indent : ℕ) (value lines : Text) → Cursor → Laid
 block_body sign best_indent value lines cursor =
     then_laid (header_laid sign best_indent value cursor) (lines_laid value lines)

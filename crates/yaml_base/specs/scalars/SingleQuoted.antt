@@ -9,7 +9,7 @@ abbrev pub quotes_doubled : Text → Text
 quotes_doubled [] = []
 quotes_doubled (c ∷ rest) = (if c == 39 then 39 ∷ 39 ∷ [] else c ∷ []) ++ quotes_doubled rest
 
--- an opening or closing quote (section 9.1.2)
+-- an opening or closing quote (YAML 1.1, section 9.1.2)
 abbrev pub single_quote : Cursor → Laid
 single_quote cursor = indicator (codes "'") false false false cursor
 

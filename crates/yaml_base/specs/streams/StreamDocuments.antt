@@ -66,7 +66,7 @@ no_heading = record { version = None; directives = [] }
 abbrev pub is_no_heading : Heading → Bool
 is_no_heading heading = not (is_some heading.version) && length heading.directives == 0
 
--- 1.1 and 1.2 (section 7.1.1)
+-- 1.1 and 1.2 (YAML 1.1, section 7.1.1)
 abbrev pub version_said : Text → Option Version
 version_said word =
     if bytes_eq word (codes "1.1") then Some (record { major = pos 1; minor = pos 1 })
@@ -85,7 +85,7 @@ with_directive heading handle prefix =
     (λ said. record { version = heading.version; directives = heading.directives ++ record { handle = handle; prefix = said } ∷ [] })
     prefix else None
 
--- a directive by its words (sections 7.1.1 and 7.1.2)
+-- a directive by its words (YAML 1.1, sections 7.1.1 and 7.1.2)
 abbrev pub directive_by_words : Heading → List Text → Option Heading
 directive_by_words heading (name ∷ word ∷ []) = if bytes_eq name (codes "%YAML") then with_version heading (version_said word) else None
 directive_by_words heading (name ∷ handle ∷ prefix ∷ []) =

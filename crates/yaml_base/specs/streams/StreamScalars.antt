@@ -58,7 +58,7 @@ anchor_of_word word =
     (λ name. record { properties = record { anchor = Some name; tag = None }; text = spaces (suc (length word.front)) ++ word.rest })
     (name_read word.front)
 
--- the anchor that a text begins with, if it begins with one (section 8.1.2)
+-- the anchor that a text begins with, if it begins with one (YAML 1.1, section 8.1.2)
 abbrev pub anchor_first : Text → Option PropertiesRead
 anchor_first [] = Some (record { properties = no_properties; text = [] })
 anchor_first (c ∷ rest) =
@@ -71,7 +71,7 @@ tag_of_word directives anchor column word =
     (λ said. record { properties = record { anchor = anchor; tag = Some said }; text = spaces (column + length word.front) ++ word.rest })
     (tag_said directives word.front)
 
--- the tag that a text begins with at a column, if it begins with one (section 8.1.1)
+-- the tag that a text begins with at a column, if it begins with one (YAML 1.1, section 8.1.1)
 abbrev pub tag_first : List TagDirective → Option Text → ℕ → Text → Option PropertiesRead
 tag_first directives anchor column [] = Some (record { properties = record { anchor = anchor; tag = None }; text = spaces column })
 tag_first directives anchor column (c ∷ rest) =
@@ -137,7 +137,7 @@ nothing_said properties = scalar_said properties stood_plain (Some [])
 
 -- Words
 
--- an alias has no properties (section 7.1)
+-- an alias has no properties (YAML 1.1, section 7.1)
 abbrev pub alias_said : Option Text → Option TagSaid → Option Text → Option Tree
 alias_said None None name = option_map alias_tree name
 alias_said _ _ name = None

@@ -1,4 +1,5 @@
-use Rattle.std.proofs.Common.{subst}
+use Rattle.std.proofs.Common.{subst, arith}
+use Rattle.std.proofs.lemmas.Grind.{elements}
 use Rattle.yaml_base.specs.Prefix.{IsPrefix}
 use Rattle.yaml_pen.specs.Outlet.{Bytes, whole_output}
 use Rattle.yaml_pen.proofs.Outlets.{hands_out_grows}
@@ -11,3 +12,9 @@ returns-in-Err-clause-output g c =
     subst (λ (bytes : Bytes). IsPrefix bytes.output after) c.self.view_is
     (hands_out_grows c.as_slice.result.now (whole_output taken c.self.inside.output.items) after c.self.inside.limit c.hand_on-answer.result
     c.self.invariant.handed.within c.hand_on-answer.ensures.handed)
+
+pub invariant_of-self-in-Err : goal.invariant_of-self-in-Err
+invariant_of-self-in-Err g c = grind (arith, elements) steps 300000
+
+pub returns-in-Err-clause-emptied : goal.returns-in-Err-clause-emptied
+returns-in-Err-clause-emptied g c = grind (arith, elements) steps 300000
