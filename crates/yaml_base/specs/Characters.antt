@@ -55,7 +55,7 @@ is_space c = c == space
 abbrev pub is_blank : ℕ → Bool
 is_blank c = c == space || c == tab
 
--- a line break of YAML 1.1 (YAML 1.1, section 5.4)
+-- a line break (YAML 1.1, section 5.4)
 abbrev pub is_break : ℕ → Bool
 is_break c = c == line_feed || c == carriage_return || c == next_line || c == line_separator || c == paragraph_separator
 

@@ -1,5 +1,5 @@
 -- What a plain scalar without a tag can mean, and the words and digits of which both schemas are made: the type
--- repository of YAML 1.1 (yaml.org/type) and the core schema of YAML 1.2 (YAML 1.1, section 10.3).
+-- repository of YAML 1.1 (yaml.org/type) and the core schema of YAML 1.2 (section 10.3 of its text).
 use Rattle.std.specs.Prelude.{ℕ, ℤ, pos, neg_ℤ, Bool, true, false, Option, None, Some, List, [], ◌∷◌, ◌++◌, ◌==◌, ◌||◌, ◌&&◌, ◌+ℤ◌, not, length, codes, map}
 use Rattle.std.specs.Prelude.{if◌then◌else◌}
 use Rattle.std.specs.List.{list_all, slice_split}

@@ -1,4 +1,4 @@
--- The core schema of YAML 1.2 (YAML 1.1, section 10.3.2): what a plain scalar without a tag means there.
+-- The core schema of YAML 1.2 (section 10.3.2 of its text): what a plain scalar without a tag means there.
 use Rattle.std.specs.Prelude.{ℕ, pos, Bool, Option, None, List, [], ◌∷◌, ◌==◌, ◌&&◌}
 use Rattle.std.specs.List.{slice_split}
 use Rattle.std.specs.Str.Parse.{digits_value}
