@@ -69,6 +69,7 @@ class Room:
             for function in [it for it, named in goals.items() if code and named != []]:
                 texts = code.left_to_answers(texts, function)
             for file, text in texts.items():
+                pathlib.Path(copy, file).parent.mkdir(parents=True, exist_ok=True)
                 pathlib.Path(copy, file).write_text(text, encoding="utf-8")
             if code:
                 leave_others_out(pathlib.Path(copy), crate, code, goals)
@@ -99,7 +100,8 @@ def read(room, crate):
     """Returns the functions of a crate, and the texts of its code and proofs by their paths."""
     own = room.folder / "crates" / crate
     files = [*own.glob("src/**/*.rt"), *own.glob("proofs/**/*.antt")]
-    return Code(own), {str(it.relative_to(own)): it.read_text(encoding="utf-8") for it in files}
+    texts = {str(it.relative_to(own)): it.read_text(encoding="utf-8") for it in files}
+    return Code(texts), texts
 
 
 def proved(crate, function, said):

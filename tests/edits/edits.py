@@ -52,6 +52,12 @@ class Edit:
         lines[1:1] = [*(f"goal: {' '.join(it)}" for it in self.goals), *([f"search: {self.search}"] if self.search else [])]
         self.path.write_text("\n".join(lines) + "\n", encoding="utf-8")
 
+    def without_changes(self):
+        """Returns this edit with nothing changed in the places where it changes something."""
+        edit = Edit(self.path)
+        edit.changes = [(file, old, old) for file, old, _ in self.changes[:1]]
+        return edit
+
     def apply(self, texts):
         """Returns the texts with this edit, or None where an old text doesn't stand in its file exactly once."""
         changed = dict(texts)

@@ -10,13 +10,14 @@ OF_TRAIT = re.compile(r"impl(?:<.*?>)? (?:\w+::)*(\w+)(?:<.*>)? for (\w+)(?:<.*>
 class Code:
     """The functions of a crate that a hole can stand for, by their paths, each with the names of those that it seems to call."""
 
-    def __init__(self, folder):
+    def __init__(self, files):
+        """Reads them in the texts of the crate's files, by the files' paths."""
         self.calls, self.cycles, self.files, self.modules, self.unfolds, self.folders, texts = {}, {}, {}, {}, {}, {}, {}
-        for file in sorted((folder / "src").glob("**/*.rt")):
-            parts = file.relative_to(folder / "src").with_suffix("").parts
+        for file in sorted(it for it in files if it.startswith("src/")):
+            parts = file.removeprefix("src/").removesuffix(".rt").split("/")
             if "tests" not in parts:
                 module = "".join(f"{it}::" for it in parts if it not in ("lib", "main"))
-                texts[module], self.files[module] = file.read_text(encoding="utf-8"), str(file.relative_to(folder))
+                texts[module], self.files[module] = files[file], file
         self.of_type = {name: module for module, text in texts.items() for name in re.findall(r"\b(?:struct|enum) (\w+)", text)}
         for module, text in texts.items():
             self.read(module, text)
@@ -66,6 +67,18 @@ class Code:
         """Returns the functions that are proved with this one: those of its cycle of calls, or itself alone."""
         return next((it for it in self.cycles.values() if function in it), {function})
 
+    def extent(self, texts, function):
+        """Returns the lines of a function's file, and between which of them it stands with its attributes and comments."""
+        module = self.modules[function]
+        lines = [*self.lines(module, texts[self.files[module]])]
+        head = next(at for at, (_, name, begins) in enumerate(lines) if begins and name == function)
+        lines = [line for line, _, _ in lines]
+        indent = lines[head][: len(lines[head]) - len(lines[head].lstrip())]
+        begin = head
+        while lines[begin - 1].strip() and not lines[begin - 1].endswith(("{", "}", ";")):
+            begin -= 1
+        return lines, begin, lines.index(indent + "}", head) + 1
+
     def left_to_answers(self, texts, function):
         """Returns the texts, in which no goal of this function, and of those of its cycle, is searched for but where an answer says so."""
         module, lines = self.modules[function], []
@@ -106,6 +119,26 @@ class Code:
         """Returns whether one of these functions seems to call the other."""
         pairs = ((one, other), (other, one))
         return any(its.rpartition("::")[2] in self.calls.get(it, ()) for it, its in pairs)
+
+
+def copy_of(texts, code, edit, name):
+    """Returns the text of a copy under this name of the function that refuses an edit, and the files of its proof, with the edit made
+    in them. Returns None where the function can't be copied, or where the edit changes more than it and its proof."""
+    *path, function = edit.refused.split("::")
+    folder, new_folder = (f"proofs/{'/'.join([*path, it])}/" for it in (function, name))
+    if edit.refused not in code.calls or f"{folder}Proof.antt" in texts:
+        return None
+    file = code.files[code.modules[edit.refused]]
+    lines, begin, end = code.extent(texts, edit.refused)
+    # (functions of an impl of a trait have no copies)
+    above = next((it for it in reversed(lines[:begin]) if it.startswith("impl") or it == "}"), "}")
+    proofs = {it: text for it, text in texts.items() if it.startswith(folder)}
+    changed = edit.apply({**proofs, file: "\n".join(lines[begin:end])})
+    if OF_TRAIT.match(above) or changed is None:
+        return None
+    old, new = (f"Rattle.{edit.crate}.proofs.{'.'.join([*path, it])}." for it in (function, name))
+    copy = re.sub(rf"\bfn {function}\b", f"fn {name}", changed.pop(file), count=1)
+    return copy, {it.replace(folder, new_folder, 1): text.replace(old, new) for it, text in changed.items()}
 
 
 def leave_others_out(copy, crate, code, goals):
