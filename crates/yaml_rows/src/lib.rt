@@ -1,4 +1,4 @@
-//! Tests of the crates below the emitter. There is nothing else here.
+//! Tests of types, pens, marks, scalars, emitters, dumps and scripts. There is nothing else here.
 #![tactic(auto)]
 
 #[cfg(test)]

@@ -1,9 +1,16 @@
-//! Rows of types, of marks, of pens, and of scalars.
+//! Rows of types, marks, pens and scalars; emitters call by call, documents dumped, and errors in a caller; the program's
+//! options, scripts that are read, and whole runs.
 ghost use Rattle.yaml_pen.specs.Page.{IsReady};
 
+mod dumps;
+mod emitters;
+mod errors;
 mod marks;
+mod options;
 mod pens;
+mod runs;
 mod scalars;
+mod scripts;
 mod types;
 
 use std::alloc::{Allocator, Global};
@@ -21,6 +28,11 @@ fn equal<T: PartialEq + Debug>(rt: &impl Abort, got: &T, wanted: &T) {
 /// A text that a test hands over, for which there is memory.
 fn owned<A: Allocator>(rt: &impl Abort, alloc: A, s: &str) -> String<A> {
     String::from_str(alloc, s).expect(rt, "no memory")
+}
+
+/// These texts in one, for which there is memory.
+fn joined(rt: &impl Abort, alloc: Global, parts: &[&str]) -> String {
+    parts.concat(alloc).expect(rt, "no memory")
 }
 
 /// This was written.

@@ -1,4 +1,5 @@
-use Rattle.std.proofs.Common.{◌++◌, ◌∷◌, [], take, sym, subst, ap, refl, ◌∙◌, ◌≡◌, false, true}
+use Rattle.std.proofs.Common.{arith, ◌++◌, ◌∷◌, [], take, sym, subst, ap, refl, ◌∙◌, ◌≡◌, false, true}
+use Rattle.std.proofs.lemmas.Grind.{common_steps}
 use Rattle.std.proofs.lemmas.Bool.{false≢true}
 use Rattle.yaml_base.specs.Ready.{written}
 use Rattle.yaml_base.specs.Seen.{seen_event, seen_events}
@@ -104,3 +105,12 @@ returns-then-is_ready_alone-clause-waits g c given all stands none same =
 pub returns-then-is_ready_alone-clause-grows : goal.returns-then-is_ready_alone-clause-grows
 returns-then-is_ready_alone-clause-grows g c =
     subst (λ (p : Page). Grows p c.write_at_once.new.self.page) (ap (λ (s : State). s.page) c.emitter.view_is) c.write_at_once.ensures.grows
+
+pub returns-then-is_ready_alone-clause-set : goal.returns-then-is_ready_alone-clause-set
+returns-then-is_ready_alone-clause-set g c = grind (arith, common_steps) steps 4000000
+
+pub returns-in_err-enqueue-clause-set : goal.returns-in_err-enqueue-clause-set
+returns-in_err-enqueue-clause-set g c = grind (arith, common_steps) steps 4000000
+
+pub returns-clause-set : goal.returns-clause-set
+returns-clause-set g c = grind (arith, common_steps) steps 4000000

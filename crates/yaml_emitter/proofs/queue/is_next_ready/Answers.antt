@@ -1,4 +1,5 @@
 use Rattle.std.proofs.Common.{◌≡◌, ◌∙◌, ℕ, List, [], ◌∷◌, Bool, false, ◌≤◌, ◌==◌, ◌||◌, length, map, get_or, refl, sym, ap, arith, ne_eqb}
+use Rattle.std.proofs.lemmas.Grind.{common_steps}
 use Rattle.std.proofs.lemmas.Bool.{le-ltb}
 use Rattle.std.specs.List.{list_any}
 use Rattle.std.specs.Prelude.{nat_lt}
@@ -29,3 +30,12 @@ returns-else-events-gt1 g c =
     (ap (λ (n : ℕ). nat_lt n (length c.args.events.now)) (sym c.followers-awaits.ensures)
     ∙ le-ltb c.followers-awaits.result (length c.args.events.now) (omega (arith, c.if-awaits-events.false)))
     c.if-events-eq0.false (omega (arith, c.if-events-gt1.false))
+
+pub returns-then-events-eq0 : goal.returns-then-events-eq0
+returns-then-events-eq0 g c = grind (arith, common_steps) steps 2000000
+
+pub returns-then-events-gt1 : goal.returns-then-events-gt1
+returns-then-events-gt1 g c = grind (arith, common_steps) steps 2000000
+
+pub returns-then-awaits-eq0 : goal.returns-then-awaits-eq0
+returns-then-awaits-eq0 g c = grind (arith, common_steps) steps 4000000

@@ -1,4 +1,5 @@
-use Rattle.std.proofs.Common.{ap, ◌∙◌}
+use Rattle.std.proofs.Common.{arith, ap, ◌∙◌}
+use Rattle.std.proofs.lemmas.Grind.{common_steps}
 use Rattle.yaml_base.specs.Layout.{Place}
 use Rattle.yaml_base.specs.Steps.{at_node}
 use Rattle.yaml_emitter.specs.Inside.{state_of}
@@ -52,3 +53,6 @@ returns-in_ok-write_collection_end-in-Some g c = λ empty.
     (ap (λ (p : Place). p.column) c.next_place-around.ensures.place)
     (c.advance-self-inside.ensures.stage c.self.inside.directives)
     (c.in_ok-write_collection_end-in-Some.ensures (state_of c.self.inside).mark))
+
+pub returns-then-not-may_end : goal.returns-then-not-may_end
+returns-then-not-may_end g c = grind (arith, common_steps) steps 4000000

@@ -1,4 +1,5 @@
-use Rattle.std.proofs.Common.{ap, ◌∙◌, option_map}
+use Rattle.std.proofs.Common.{arith, ap, ◌∙◌, option_map}
+use Rattle.std.proofs.lemmas.Grind.{common_steps}
 use Rattle.std.specs.Prelude.{length, nat_lt}
 use Rattle.yaml_base.specs.Event.{any_layout}
 use Rattle.yaml_base.specs.Refusal.{collection_tag, most_open}
@@ -115,3 +116,9 @@ returns g c = λ style asked.
     (at_node_inside c.self.inside c.self.view_is c.requires.stage) c.in_ok-push.ensures.ok)
     (c.in_ok-write_collection_start.ensures.written c.self.inside.directives style (state_of c.self.inside).mark
     (c.spell-tag.ensures ∙ ap (option_map (spelling c.self.inside.directives)) (c.written_collection_tag-written.ensures style))))
+
+pub opened_frame-frame-requires : goal.opened_frame-frame-requires
+opened_frame-frame-requires g c = grind (arith, common_steps) steps 4000000
+
+pub push-requires-clause-room : goal.push-requires-clause-room
+push-requires-clause-room g c = grind (arith, common_steps) steps 4000000

@@ -1,3 +1,5 @@
+use Rattle.std.proofs.Common.{arith}
+use Rattle.std.proofs.lemmas.Grind.{elements}
 use Rattle.yaml_base.specs.Seen.{seen_directive}
 use Rattle.yaml_pen.proofs.Composing.{wrote_exit}
 use Rattle.yaml_emitter.proofs.pieces.WritingDirectives.{wrote_next_directive, failed_next_directive, next_handle}
@@ -20,3 +22,9 @@ loop-directive-preserved g c =
     wrote_next_directive c.args.settings.now.portable seen_directive c.args.directives.now c.loop-directive.directive-index c.directive-item.result
     c.loop-directive-test.true c.directive-item.is
     c.loop-directive.invariant c.in_ok-write_tag_directive.ensures
+
+pub returns-in_err-write_nothing : goal.returns-in_err-write_nothing
+returns-in_err-write_nothing g c = grind (arith, elements) steps 2000000
+
+pub returns : goal.returns
+returns g c = grind (arith, elements) steps 2000000
