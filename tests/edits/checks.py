@@ -15,8 +15,8 @@ GONE = re.compile(r"has no field|is not in scope|has no `|was not admitted")
 
 
 def crates_listed():
-    """Returns the libraries that each crate of crates.txt uses, by the crate's name, lower crates first. A static library is
-    tried as a library."""
+    """Returns the libraries that each crate of crates.txt uses, by the crate's name, lower crates first. A static library and a
+    program are tried as libraries."""
     lines = (ROOT / "crates.txt").read_text(encoding="utf-8").splitlines()
     found = (line.partition(":") for line in lines if ":" in line and not line.startswith("#"))
     return {name.split()[0]: used.split() for name, _, used in found}
@@ -26,6 +26,14 @@ def kit():
     """Returns the toolchain's folder."""
     page = subprocess.run(["rt", "doc"], capture_output=True, text=True, check=True).stdout.strip()
     return pathlib.Path(page).parent
+
+
+def as_library(texts):
+    """Returns the texts of a program's files as those of a library, which is checked without the code of all libraries below it."""
+    texts = dict(texts)
+    if "src/main.rt" in texts:
+        texts["src/lib.rt"] = texts.pop("src/main.rt").replace("fn main(", "pub fn main_of_program(")
+    return texts
 
 
 def below(crates, name):
@@ -63,18 +71,17 @@ class Room:
         with tempfile.TemporaryDirectory(prefix="edits-", dir=self.folder) as copy:
             for part in PARTS:
                 if (own / part).is_dir():
-                    shutil.copytree(own / part, f"{copy}/{part}")
+                    shutil.copytree(own / part, f"{copy}/{part}", ignore=shutil.ignore_patterns("main.rt"))
             if code:
                 texts = code.without_bodies(texts, goals)
             for function in [it for it, named in goals.items() if code and named != []]:
                 texts = code.left_to_answers(texts, function)
-            for file, text in texts.items():
+            for file, text in as_library(texts).items():
                 pathlib.Path(copy, file).parent.mkdir(parents=True, exist_ok=True)
                 pathlib.Path(copy, file).write_text(text, encoding="utf-8")
             if code:
                 leave_others_out(pathlib.Path(copy), crate, code, goals)
-            root = "src/main.rt" if (own / "src/main.rt").exists() else "src/lib.rt"
-            words = ["rattle", "check", "--crate-name", crate, root]
+            words = ["rattle", "check", "--crate-name", crate, "src/lib.rt"]
             for used in self.crates[crate]:
                 words += ["--extern", f"{used}={self.rlib(used)}"]
             words += ["-L", f"dependency={self.kit}/rlibs"]

@@ -1,7 +1,7 @@
 -- An emitter that failed stands after all events that are still given; a new one and one that was flushed stand too.
 use Rattle.std.proofs.Common.{◌≡◌, refl, sym, ap, ◌∙◌, subst, arith, append_assoc, append-nil, inl, inr}
 use Rattle.std.proofs.lemmas.List.{take-append-drop}
-use Rattle.std.specs.Prelude.{ℕ, zero, suc, ◌<◌, ◌≤◌, Bool, true, false, Option, None, Some, Result, Ok, Err, List, [], ◌∷◌, ◌++◌, length, take, drop}
+use Rattle.std.specs.Prelude.{ℕ, zero, suc, ◌<◌, ◌≤◌, ◌⊎◌, Bool, true, false, Option, None, Some, Result, Ok, Err, List, [], ◌∷◌, ◌++◌, length, take, drop}
 use Rattle.std.specs.Prelude.{if◌then◌else◌}
 use Rattle.yaml_base.specs.Settings.{Settings, Effective}
 use Rattle.yaml_base.specs.Event.{Event, sequence_start, sequence_end, mapping_start, mapping_end}
@@ -272,17 +272,32 @@ unflushed_stands given all state page error h flushed =
     }
 
 -- A flush that fails does so by the output's limit or by memory.
+limit_or_memory : (given : Option yaml_error_t) (error : yaml_error_t) → given ≡ Some error
+    → (given ≡ None) ⊎ (given ≡ Some WriteError) ⊎ (given ≡ Some Memory)
+    → (error ≡ WriteError) ⊎ (error ≡ Memory)
+limit_or_memory given error is named =
+    elim named [
+      | inl none ↦ let wrong : Some error ≡ None = sym is ∙ none in cc
+      | inr other ↦ elim other [
+        | inl full ↦ let same : Some error ≡ Some WriteError = sym is ∙ full in inl cc
+        | inr memory ↦ let same : Some error ≡ Some Memory = sym is ∙ memory in inr cc
+      ]
+    ]
+
+failed_if_stopped : (given : Settings) (all : List Event) (error : yaml_error_t) (state : State) → (error ≡ WriteError) ⊎ (error ≡ Memory)
+    → StandsStopped given all error state → StandsFailed given all error state
+failed_if_stopped given all error state why stopped =
+    elim why [
+      | inl full ↦ subst (λ e. StandsFailed given all e state) (sym full) (subst (λ e. StandsStopped given all e state) full stopped)
+      | inr memory ↦ subst (λ e. StandsFailed given all e state) (sym memory) (subst (λ e. StandsStopped given all e state) memory stopped)
+    ]
+
 pub flush_failed : (given : Settings) (all : List Event) (state : State) (page : Page) (error : yaml_error_t) → StandsWell given all state
     → Flushed state.page page (Err error)
     → StandsSo given all (failed_by error (record state { page = page }))
-flush_failed given all state page WriteError h flushed = (refl, between_events (unflushed_stands given all state page WriteError h flushed))
-flush_failed given all state page Memory h flushed = (refl, between_events (unflushed_stands given all state page Memory h flushed))
-flush_failed given all state page error h flushed =
-    let failed = some_from_told page.error error flushed.answered in
-    elim flushed.handed.named [
-      | inl none ↦ let wrong : Some error ≡ None = sym failed ∙ none in cc
-      | inr other ↦ elim other [
-        | inl full ↦ let wrong : Some error ≡ Some WriteError = sym failed ∙ full in cc
-        | inr memory ↦ let wrong : Some error ≡ Some Memory = sym failed ∙ memory in cc
-      ]
-    ]
+flush_failed given all state page error h flushed = (
+  refl,
+  failed_if_stopped given all error (failed_by error (record state { page = page }))
+      (limit_or_memory page.error error (some_from_told page.error error flushed.answered) flushed.handed.named)
+      (between_events (unflushed_stands given all state page error h flushed)),
+)

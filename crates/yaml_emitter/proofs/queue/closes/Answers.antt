@@ -1,4 +1,5 @@
 use Rattle.std.proofs.Common.{◌+◌, ◌||◌, drop, ap, sym, ◌∙◌, arith, eq-eqb, ne_eqb}
+use Rattle.std.proofs.lemmas.Grind.{common_steps}
 use Rattle.std.proofs.lemmas.List.{drop_all}
 use Rattle.yaml_base.specs.Seen.{seen_event, seen_events}
 use Rattle.yaml_emitter.proofs.standing.Fronts.{one_if, closes_after, closes_after-none, closes_after-next, one_if-le-one}
@@ -40,3 +41,9 @@ returns g c =
     ∙ sym c.loop-event.invariant.what_is_left
     ∙ ap (λ events. closes_after c.loop-event.starts c.loop-event.ended (seen_events events))
     (drop_all c.loop-event.event-index c.args.events.now c.loop-event-test.false))
+
+pub overflow_add-starts : goal.overflow_add-starts
+overflow_add-starts g c = grind (arith, common_steps) steps 2000000
+
+pub overflow_add-ended : goal.overflow_add-ended
+overflow_add-ended g c = grind (arith, common_steps) steps 2000000

@@ -1,3 +1,5 @@
+use Rattle.std.proofs.Common.{arith}
+use Rattle.std.proofs.lemmas.Grind.{common_steps}
 use Rattle.yaml_base.specs.Seen.{seen_event}
 use Rattle.yaml_emitter.specs.Inside.{state_of}
 use Rattle.yaml_emitter.proofs.events_done.ProcessedBy.{processed_exit}
@@ -25,3 +27,18 @@ returns-in-Nothing g c = c.expect_nothing.ensures c.args.empty
 
 pub returns-in-Node : goal.returns-in-Node
 returns-in-Node g c = c.expect_node.ensures
+
+pub expect_stream_start-requires-clause-names : goal.expect_stream_start-requires-clause-names
+expect_stream_start-requires-clause-names g c = grind (arith, common_steps) steps 2000000
+
+pub expect_document-requires-clause-names : goal.expect_document-requires-clause-names
+expect_document-requires-clause-names g c = grind (arith, common_steps) steps 2000000
+
+pub expect_node-requires-clause-names : goal.expect_node-requires-clause-names
+expect_node-requires-clause-names g c = grind (arith, common_steps) steps 2000000
+
+pub expect_document_end-requires-clause-names : goal.expect_document_end-requires-clause-names
+expect_document_end-requires-clause-names g c = grind (arith, common_steps) steps 2000000
+
+pub expect_nothing-requires-clause-names : goal.expect_nothing-requires-clause-names
+expect_nothing-requires-clause-names g c = grind (arith, common_steps) steps 2000000

@@ -1,3 +1,5 @@
+use Rattle.std.proofs.Common.{arith}
+use Rattle.std.proofs.lemmas.Grind.{common_steps}
 use Rattle.yaml_emitter.proofs.emitter.yaml_emitter_t.take_queue.Goals as goal
 
 pub invariant_of-self : goal.invariant_of-self
@@ -11,3 +13,6 @@ invariant_of-self g c =
       canonical = c.self.invariant.canonical;
       page = c.self.invariant.page;
     }
+
+pub returns-clause-room : goal.returns-clause-room
+returns-clause-room g c = grind (arith, common_steps) steps 2000000

@@ -1,4 +1,5 @@
 use Rattle.std.proofs.Common.{◌≡◌, ◌+◌, true, drop, ap, sym, arith, ◌∙◌, Ok, Err, refl}
+use Rattle.std.proofs.lemmas.Grind.{common_steps}
 use Rattle.std.proofs.lemmas.Bool.{false≢true}
 use Rattle.std.proofs.lemmas.List.{length-map}
 use Rattle.yaml_base.specs.Seen.{seen_event, seen_events}
@@ -74,3 +75,6 @@ returns-clause-written g c =
       reached = c.events.invariant.reached;
       ended = ap is_head_ready (sym (seen_behind seen_event c.args.waiting.now c.events.count)) ∙ sym c.is_next_ready.ensures ∙ c.events-test.false;
     }
+
+pub events-smaller : goal.events-smaller
+events-smaller g c = grind (arith, common_steps) steps 2000000
