@@ -2,9 +2,10 @@
 use Rattle.std.proofs.Common.{◌≡◌, refl, sym, ap, subst, ◌∙◌, arith, inl, inr, true≢false, IsUtf8}
 use Rattle.std.proofs.lemmas.Bool.{agree_below, agree_below_at, and_from, and_parts, cases_lt, eqb-true, le-ltb, lt-ltb}
 use Rattle.std.proofs.lemmas.Bool.Decides.{nat_tests}
-use Rattle.std.proofs.lemmas.List.{take_more}
-use Rattle.std.proofs.lemmas.List.Folds.{list_all-append}
-use Rattle.std.proofs.lemmas.Str.{IsUtf8-take, chars_from_encodes, encode_ascii}
+use Rattle.std.proofs.Math.Bool.{and-true}
+use Rattle.std.proofs.lemmas.List.{take_all, take_more}
+use Rattle.std.proofs.lemmas.List.Folds.{list_all-append, list_all_at}
+use Rattle.std.proofs.lemmas.Str.{IsUtf8-take, chars_from_encodes, encode_ascii, encodes-chars, scalars-chars}
 use Rattle.std.specs.Int.Bits.{bit_and}
 use Rattle.std.specs.List.{list_all}
 use Rattle.std.specs.Prelude.{ℕ, Bool, true, false, List, [], ◌∷◌, ◌==◌, ◌||◌, ◌&&◌, not, ◌+◌, ◌-◌, ◌/◌, ◌%◌, ◌<◌, ◌≤◌, ◌⊎◌, codes, length, slice_index, take}
@@ -177,6 +178,43 @@ wide_never classes c none wide s free =
             (rw (le-ltb c 128 wide, le-ltb c 2048 more, le-ltb c 65536 four) at free) (at (240 + c / 262144) (omega arith) (omega arith))
       ]
     ]
+
+-- A text of bytes of no class: it is the whole of such a run,
+pub whole_free : {classes size : ℕ} {text : List ℕ} → IsFreeRun classes text size → (size == length text) ≡ list_all (is_free classes) text
+whole_free {classes} {size} {text} is = elim (cases_lt size (length text)) [
+  | inl below ↦
+      let short : (size == length text) ≡ false = grind (arith, nat_tests) in
+      short ∙ sym (list_all_at (is_free classes) text size 0 below (is.stops below))
+  | inr whole ↦
+      let same : (size == length text) ≡ true = grind (arith, nat_tests, is.within) in
+      same ∙ sym (ap (list_all (is_free classes)) (sym (take_all size text whole)) ∙ is.all)
+]
+
+-- and its characters are those that pass a test, where a byte of ASCII is of no class exactly where it passes, and nothing past ASCII does
+free_exactly : (classes : ℕ) (test : ℕ → Bool) → agree_below (is_free classes) test 128 ≡ true → agree_below (λ k. is_free classes (k + 192)) (λ k. false) 64 ≡ true
+    → ((c : ℕ) → test c ≡ true → c < 128) → (c : ℕ) → scalar c ≡ true → list_all (is_free classes) (encode c) ≡ test c
+free_exactly classes test computed none ascii c s = elim (cases_lt c 128) [
+  | inl low ↦ ap (list_all (is_free classes)) (encode_ascii c low) ∙ and-true (is_free classes c) ∙ agree_below_at (is_free classes) test 128 c computed low
+  | inr wide ↦
+      false_unless (list_all (is_free classes) (encode c)) (wide_never classes c none wide s)
+      ∙ sym (false_unless (test c) (λ passes. absurd (omega (arith, wide, ascii c passes))))
+]
+
+all_free : (classes : ℕ) (test : ℕ → Bool) → ((c : ℕ) → scalar c ≡ true → list_all (is_free classes) (encode c) ≡ test c) → (text : Text)
+    → scalars text ≡ true → list_all (is_free classes) (encodes text) ≡ list_all test text
+all_free classes test each [] s = refl
+all_free classes test each (c ∷ rest) s =
+    let p = and_parts (scalar c) (scalars rest) s in
+    list_all-append (is_free classes) (encode c) (encodes rest)
+    ∙ ap (λ b. b && list_all (is_free classes) (encodes rest)) (each c p.0)
+    ∙ ap (λ b. test c && b) (all_free classes test each rest p.1)
+
+pub free_characters : (classes : ℕ) (test : ℕ → Bool) {text : List ℕ} → agree_below (is_free classes) test 128 ≡ true
+    → agree_below (λ k. is_free classes (k + 192)) (λ k. false) 64 ≡ true → ((c : ℕ) → test c ≡ true → c < 128) → IsUtf8 text
+    → list_all (is_free classes) text ≡ list_all test (chars text)
+free_characters classes test {text} computed none ascii is_text =
+    ap (list_all (is_free classes)) (sym (encodes-chars text is_text))
+    ∙ all_free classes test (free_exactly classes test computed none ascii) (chars text) (scalars-chars text is_text)
 
 -- a test by what it says of ASCII and of what is past it
 pub tells_by : (classes : ℕ) (test : ℕ → Bool) → agree_below (λ b. not (is_free classes b) || test b) (λ b. true) 128 ≡ true

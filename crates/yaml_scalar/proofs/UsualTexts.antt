@@ -1,21 +1,21 @@
 -- Usual texts: every style may hold them.
-use Rattle.std.proofs.Common.{◌≡◌, ◌∙◌, refl, ap, arith, subst, sym, append-nil, true≢false}
-use Rattle.std.proofs.lemmas.Bool.{and_parts, not-true}
+use Rattle.std.proofs.Common.{◌≡◌, ◌∙◌, refl, ap, arith, subst, sym, append-nil, true≢false, IsUtf8}
+use Rattle.std.proofs.lemmas.Bool.{and_parts, leb-true, not-true}
 use Rattle.std.proofs.lemmas.Str.{chars-nil}
 use Rattle.std.specs.List.{list_all}
 use Rattle.std.specs.Str.{chars}
 use Rattle.std.specs.Prelude.{ℕ, Bool, true, false, Option, List, [], ◌∷◌, ◌==◌, ◌-◌, ◌<◌, ◌||◌, ◌&&◌, not, length, slice_index, if◌then◌else◌}
 use Rattle.yaml_base.specs.scalars.Analysis.{Allowances, Charset, allowances, begins_with, is_empty}
-use Rattle.yaml_base.specs.Characters.{Text, is_space, space}
+use Rattle.yaml_base.specs.Characters.{Text, is_between, is_space, space}
 use Rattle.yaml_base.specs.Cursor.{Cursor}
 use Rattle.yaml_scalar.specs.Barred.{Barred, allowed_by, barred_by, barred_in, either, is_ordinary, is_quiet, none_barred}
-use Rattle.yaml_scalar.specs.ByteClasses.{Tells}
+use Rattle.yaml_scalar.specs.ByteClasses.{Tells, is_free}
 use Rattle.yaml_scalar.specs.EscapeBytes.{is_plain}
 use Rattle.yaml_scalar.specs.ShortRuns.{IsShortLine, IsShortRun}
-use Rattle.yaml_scalar.specs.UsualTexts.{IsUsual, all_allowed, has_usual_ends}
+use Rattle.yaml_scalar.specs.UsualTexts.{IsUsual, all_allowed, has_usual_ends, is_usual_character}
 use Rattle.yaml_scalar.specs.WholeRuns.{HasRoom, last_from, stays_in_line}
 use Rattle.yaml_scalar.proofs.Barred.{quiet_run}
-use Rattle.yaml_scalar.proofs.ByteRuns.{ascii_only_tells}
+use Rattle.yaml_scalar.proofs.ByteRuns.{ascii_only_tells, free_characters}
 use Rattle.yaml_scalar.proofs.Choices.{allowed_whole}
 use Rattle.yaml_scalar.proofs.FirstCharacters.{ordinary_plain}
 
@@ -33,7 +33,16 @@ usual_ends (first ∷ rest) ordinary =
     ∙ ap (λ c. not (is_space c)) (sym (last_at 0 first rest))
     ∙ sym (ap (λ b. b && not (is_space (last_from 0 (first ∷ rest)))) ordinary)
 
--- what the classes of bytes that no usual text holds say of characters
+-- what the classes of bytes that no usual text holds say of its characters
+usual_is_ascii : (c : ℕ) → is_usual_character c ≡ true → c < 128
+usual_is_ascii c is =
+    let within = and_parts (is_between 0x20 0x7E c) _ is in
+    omega (arith, leb-true c 0x7E (and_parts _ _ within.0).1)
+
+pub usual_characters : {text : List ℕ} → IsUtf8 text → list_all (is_free 57) text ≡ list_all is_usual_character (chars text)
+usual_characters is_text = free_characters 57 is_usual_character refl refl usual_is_ascii is_text
+
+-- and of other tests
 quiet_tells : (unicode breaks12 : Bool) → Tells 57 (is_quiet (record { unicode = unicode; breaks12 = breaks12 }))
 quiet_tells true true = ascii_only_tells 57 (is_quiet (record { unicode = true; breaks12 = true })) refl refl
 quiet_tells true false = ascii_only_tells 57 (is_quiet (record { unicode = true; breaks12 = false })) refl refl

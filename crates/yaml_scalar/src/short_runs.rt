@@ -1,10 +1,10 @@
 //! Short texts of ASCII that are handed to the pen at once, as they are.
 ghost use Rattle.std.specs.List.{list_all};
-ghost use Rattle.std.specs.Prelude.{◌≡◌, ◌≤◌, ℕ, Bool, true, length};
+ghost use Rattle.std.specs.Prelude.{◌≡◌, ◌≤◌, ◌&&◌, ℕ, Bool, true, length, nat_le};
 ghost use Rattle.yaml_base.specs.Cursor.{text_laid};
 ghost use Rattle.yaml_pen.specs.Page.{IsReady};
 ghost use Rattle.yaml_pen.specs.Wrote.{Wrote};
-ghost use Rattle.yaml_scalar.specs.ByteClasses.{Tells};
+ghost use Rattle.yaml_scalar.specs.ByteClasses.{Tells, is_free};
 ghost use Rattle.yaml_scalar.specs.EscapeBytes.{is_plain};
 ghost use Rattle.yaml_scalar.specs.ShortRuns.{IsShortRun, most_short};
 
@@ -19,7 +19,8 @@ const MOST_BYTES: usize = 512;
 /// A text is short and holds no byte of some classes, which tell what is not of ASCII.
 #[inline(always)]
 pub(crate) fn is_short_run(text: &str, classes: u8) -> bool
-    ensures { result ≡ true → (test : ℕ → Bool) → Tells classes is_plain → Tells classes test → IsShortRun test text.now }
+    ensures value { result ≡ (nat_le (length text.now) most_short && list_all (is_free classes) text.now) }
+    ensures run { result ≡ true → (test : ℕ → Bool) → Tells classes is_plain → Tells classes test → IsShortRun test text.now }
 {
     text.len() <= MOST_BYTES && free_length(text, classes) == text.len()
 }

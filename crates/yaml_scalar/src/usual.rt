@@ -6,7 +6,7 @@ ghost use Rattle.yaml_base.specs.scalars.Plain.{plain_body, plain_laid, runs, ru
 ghost use Rattle.yaml_pen.specs.Page.{IsReady, natural};
 ghost use Rattle.yaml_pen.specs.Wrote.{Wrote};
 ghost use Rattle.yaml_scalar.specs.Barred.{is_ordinary};
-ghost use Rattle.yaml_scalar.specs.UsualTexts.{IsUsual, has_usual_ends};
+ghost use Rattle.yaml_scalar.specs.UsualTexts.{IsUsual, has_usual_ends, is_usual};
 ghost use Rattle.yaml_scalar.specs.Width.{limit_where};
 
 use crate::classes::{BREAK, SIGN, UNPRINTABLE, WIDE};
@@ -20,11 +20,12 @@ use yaml_pen::Pen;
 /// The classes of bytes that no usual text holds.
 const UNUSUAL: u8 = BREAK | UNPRINTABLE | SIGN | WIDE;
 
-/// A text is known to be usual: at most 512 bytes of ASCII, a letter or a digit first and no space last, without
-/// a break, a control character, `#`, `:`, `?` and the signs of flow collections. Every style may hold it.
+/// Returns whether a text is usual: at most 512 bytes of ASCII, a letter or a digit first and no space last, without
+/// a break, a control character, `#`, `:`, `?` and the signs of flow collections. Every style may hold such a text.
 #[inline(always)]
 pub fn is_usual(text: &str) -> bool
-    ensures { result ≡ true → IsUsual text.now }
+    ensures value { result ≡ is_usual text.now }
+    ensures usual { result ≡ true → IsUsual text.now }
 {
     has_usual_ends(text.as_bytes()) && is_short_run(text, UNUSUAL)
 }
