@@ -1,8 +1,10 @@
 -- A text that begins with ASCII is cut after it.
-use Rattle.std.proofs.Common.{◌≡◌, ℕ, List, [], ◌∷◌, ◌++◌, length, take, drop, sym, subst, ap, ◌∙◌, zero, suc}
+use Rattle.std.proofs.Common.{◌≡◌, ◌≤◌, arith, length-append, ℕ, List, [], ◌∷◌, ◌++◌, length, take, drop, sym, subst, ap, ◌∙◌, zero, suc}
 use Rattle.std.specs.Str.{chars, IsUtf8, IsAscii, IsCharBoundary}
-use Rattle.std.proofs.lemmas.Str.{chars-IsAscii, chars-append, encode_ascii, IsUtf8-from_ascii, IsUtf8-past_char, IsCharBoundary-at_seam}
+use Rattle.std.proofs.lemmas.Str.{chars-IsAscii, chars-append, encode_ascii, encodes-append, encodes-chars, encodes-IsAscii, IsUtf8-from_ascii, IsUtf8-past_char, IsCharBoundary-at_seam}
 use Rattle.std.proofs.lemmas.List.{take-append-drop}
+use Rattle.std.proofs.Math.Seq.{take-append_seam}
+use lib.Utf8.{encodes}
 use Rattle.yaml_tool.specs.Cuts.{Follows}
 
 -- what follows an ASCII front is UTF-8 where the whole is
@@ -14,6 +16,23 @@ past_ascii (c ∷ front) rest ascii is = past_ascii front rest (λ i. ascii (suc
 -- a text whose first bytes are an ASCII front
 pub front_seam : (front text : List ℕ) → take (length front) text ≡ front → text ≡ front ++ drop (length front) text
 front_seam front text is = sym (take-append-drop (length front) text) ∙ ap (λ (bs : List ℕ). bs ++ drop (length front) text) is
+
+-- a text whose first characters are an ASCII front
+pub front_first : (front text rest : List ℕ) → IsAscii front → IsUtf8 text → chars text ≡ front ++ rest → text ≡ front ++ encodes rest
+front_first front text rest ascii is all =
+    sym (encodes-chars text is)
+    ∙ ap encodes all
+    ∙ encodes-append front rest
+    ∙ ap (λ (bs : List ℕ). bs ++ encodes rest) (encodes-IsAscii front ascii)
+
+pub front_taken : (front text rest : List ℕ) → IsAscii front → IsUtf8 text → chars text ≡ front ++ rest → take (length front) text ≡ front
+front_taken front text rest ascii is all =
+    ap (take (length front)) (front_first front text rest ascii is all) ∙ take-append_seam front (encodes rest)
+
+pub front_fits : (front text rest : List ℕ) → IsAscii front → IsUtf8 text → chars text ≡ front ++ rest → length front ≤ length text
+front_fits front text rest ascii is all =
+    let same = ap length (front_first front text rest ascii is all) ∙ length-append front (encodes rest) in
+    omega (arith, same)
 
 -- its characters are those of the front, then the rest's
 pub follows : (front text : List ℕ) → IsAscii front → IsUtf8 text → take (length front) text ≡ front → Follows front text (drop (length front) text)

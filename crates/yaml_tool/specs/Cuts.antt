@@ -34,3 +34,7 @@ pub record SkipsTo (first second : ℕ) (text end : List ℕ) : Type 0 where
 pub record Follows (front text rest : List ℕ) : Type 0 where
   pub is_rest : IsUtf8 rest
   pub all : chars text ≡ front ++ chars rest
+
+-- the text doesn't begin with these characters
+abbrev pub Lacks : (front text : List ℕ) → Type 0
+Lacks front text = (rest : List ℕ) → chars text ≡ front ++ rest → ⊥

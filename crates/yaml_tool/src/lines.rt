@@ -1,13 +1,14 @@
 //! The lines of a script.
-ghost use Rattle.std.specs.Prelude.{◌≡◌, true, Some, option_map, option_and_then, codes, IfOk, IfSome};
+ghost use Rattle.std.specs.Prelude.{◌≡◌, true, Some, option_map, option_and_then, codes, IfNone, IfOk, IfSome};
 ghost use Rattle.std.specs.Str.{chars};
 ghost use Rattle.yaml_base.specs.scripts.Script as notation;
 ghost use Rattle.yaml_base.specs.scripts.Script.{gives};
 ghost use Rattle.yaml_base.specs.Seen.{seen_event};
+ghost use Rattle.yaml_tool.specs.Cuts.{Lacks};
 ghost use Rattle.yaml_tool.specs.Events.{usual_start_event};
 ghost use Rattle.yaml_tool.specs.Fields.{fields_after};
 ghost use Rattle.yaml_tool.specs.Settings.{seen_setting};
-ghost use Rattle.yaml_tool.specs.Lines.{seen_line, usual_line};
+ghost use Rattle.yaml_tool.specs.Lines.{named_end, seen_line, usual_line};
 
 use crate::characters::{cut_once, first_character};
 use crate::events::event_of;
@@ -57,7 +58,8 @@ fn line_of<A: Allocator + Copy>(alloc: A, line: &str) -> Result<Option<Line<A>>,
 /// What follows the opening mark of the value, where a scalar's style is `any`, both flags are set, and it has no anchor and no tag.
 #[inline(always)]
 pub fn usual_value(line: &str) -> Option<&str>
-    ensures { IfSome result (λ behind. notation.line_read (chars line.now) ≡ usual_line (chars behind.now)) }
+    ensures said { IfSome result (λ behind. notation.line_read (chars line.now) ≡ usual_line (chars behind.now)) }
+    ensures lacks { IfNone result (Lacks (codes "=VAL any 1 1 - - \"") line.now) }
 {
     past_front(line, "=VAL any 1 1 - - \"")
 }
@@ -65,7 +67,8 @@ pub fn usual_value(line: &str) -> Option<&str>
 /// The end of a collection, or of a document that is implicit, where a line says no more.
 #[inline(always)]
 pub fn end_named<A: Allocator>(line: &str) -> Option<yaml_event_t<A>>
-    ensures { IfSome result (λ event. notation.line_read (chars line.now) ≡ Some (gives (seen_event event))) }
+    ensures named { option_map seen_event result ≡ named_end (chars line.now) }
+    ensures said { IfSome result (λ event. notation.line_read (chars line.now) ≡ Some (gives (seen_event event))) }
 {
     if is_word(line, "-MAP") {
         Some(yaml_event_t::YAML_MAPPING_END_EVENT)

@@ -1,10 +1,10 @@
 //! The words of a script's lines, and what they mean.
-ghost use Rattle.std.specs.Prelude.{◌≡◌, None, List, MatchOption, IfSome, option_map, nat_lt, IsTrue};
+ghost use Rattle.std.specs.Prelude.{◌≡◌, None, List, MatchOption, IfNone, IfSome, option_map, nat_lt, IsTrue};
 ghost use Rattle.std.specs.List.{list_all};
 ghost use Rattle.std.specs.Str.{bytes_eq, chars};
 ghost use Rattle.yaml_base.specs.scripts.Script as notation;
 ghost use Rattle.yaml_base.specs.Seen.{seen_encoding, seen_break, seen_scalar_style, seen_sequence_style, seen_mapping_style};
-ghost use Rattle.yaml_tool.specs.Cuts.{Follows};
+ghost use Rattle.yaml_tool.specs.Cuts.{Follows, Lacks};
 ghost use Rattle.yaml_tool.specs.Events.{event_word};
 
 use yaml_base::{
@@ -46,7 +46,8 @@ fn is_same(word: &[u8], name: &[u8]) -> bool
 #[inline(always)]
 pub fn past_front<'a>(text: &'a str, front: &'static str) -> Option<&'a str>
     requires { IsTrue (list_all (λ byte. nat_lt byte 128) front.now) }
-    ensures { IfSome result (λ rest. Follows front.now text.now rest.now) }
+    ensures follows { IfSome result (λ rest. Follows front.now text.now rest.now) }
+    ensures lacks { IfNone result (Lacks front.now text.now) }
 {
     if text.len() < front.len() {
         return None;
