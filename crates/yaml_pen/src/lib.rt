@@ -1,7 +1,6 @@
 //! The pen: an output buffer with an encoding, a cursor and a limit.
 #![tactic(auto)]
 
-mod buffer;
 mod counting;
 mod encoded;
 mod outlet;

@@ -1,19 +1,22 @@
 //! Bytes on their way out: a buffer, and the output that it is flushed to, within a limit.
-ghost use Rattle.std.specs.Prelude.{◌≡◌, ◌≤◌, [], ◌∷◌, ◌+◌, length, take, drop, IfOk};
+ghost use Rattle.std.specs.Prelude.{◌≡◌, ◌≤◌, [], ◌∷◌, ◌+◌, length, drop, IfOk};
 ghost use Rattle.yaml_base.specs.Prefix.{IsPrefix};
 ghost use Rattle.yaml_pen.specs.Page.{buffer_size};
 ghost use Rattle.yaml_pen.specs.Outlet.{Appended, Emptied, HandsOut, IsSound, whole_output};
 
-use crate::buffer::Buffer;
 use crate::taken::TakenBytes;
+use arrayvec::ArrayVec;
 use std::alloc::{AllocError, Allocator};
 use std::marker::Model;
 use std::mem;
 use yaml_base::yaml_error_t;
 
+/// The bytes that the buffer holds.
+pub(crate) const BUFFER_SIZE: usize = 16_384;
+
 #[derive(Drop)]
 pub(crate) struct Outlet<A: Allocator> {
-    buffer: Box<Buffer, A>,
+    buffer: Box<ArrayVec<u8, BUFFER_SIZE>, A>,
     // What the caller hasn't taken.
     output: Vec<u8, A>,
     taken: TakenBytes,
@@ -29,9 +32,9 @@ impl<A: Allocator> Model for Outlet<A> {
 
     ghost Value = { Bytes };
 
-    ghost view = { λ o. bytes_of o.kept o.buffer.value o.taken.bytes o.output.items o.limit o.error };
+    ghost view = { λ o. bytes_of o.kept o.buffer.value.items o.taken.bytes o.output.items o.limit o.error };
 
-    ghost invariant = { λ o. IsOutlet o.kept o.taken_count o.buffer.value o.taken.bytes o.output.items o.limit o.error };
+    ghost invariant = { λ o. IsOutlet o.kept o.taken_count o.buffer.value.items o.taken.bytes o.output.items o.limit o.error };
 }
 
 impl<A: Allocator> Outlet<A> {
@@ -41,7 +44,7 @@ impl<A: Allocator> Outlet<A> {
         A: Copy,
         ensures { IfOk result (λ o. o ≡ record { all = []; output = []; taken = 0; limit = usize.MAX; error = None }) }
     {
-        let buffer = Box::new(alloc, Buffer::new()).map_err(|_| AllocError)?;
+        let buffer = Box::new(alloc, ArrayVec::new()).map_err(|_| AllocError)?;
         Ok(Outlet {
             buffer,
             output: Vec::new(alloc),
@@ -70,7 +73,7 @@ impl<A: Allocator> Outlet<A> {
         ensures bytes { self.new ≡ record self.old { all = bytes.now } }
         ensures sound { IsSound self.new }
     {
-        self.buffer.append(bytes);
+        let _ = self.buffer.try_extend_from_slice(bytes);
     }
 
     /// Empties the buffer into the output.
@@ -156,30 +159,10 @@ impl<A: Allocator> Outlet<A> {
         if let Some(error) = self.error {
             return Err(error);
         }
-        if self.buffer.room() < bytes.len() {
+        if self.buffer.remaining_capacity() < bytes.len() {
             self.flush()?;
         }
-        self.buffer.append(bytes);
-        Ok(())
-    }
-
-    /// Appends the first few of 32 bytes, likewise.
-    #[inline(always)]
-    pub(crate) fn append_front(
-        &mut self,
-        piece: &[u8; 32],
-        count: usize,
-    ) -> Result<(), yaml_error_t>
-        requires { count ≤ 32 }
-        ensures { Appended (take count piece.now) self.old self.new result }
-    {
-        if let Some(error) = self.error {
-            return Err(error);
-        }
-        if self.buffer.room() < 32 {
-            self.flush()?;
-        }
-        self.buffer.append_front(piece, count);
+        let _ = self.buffer.try_extend_from_slice(bytes);
         Ok(())
     }
 
@@ -191,7 +174,7 @@ impl<A: Allocator> Outlet<A> {
         if let Some(error) = self.error {
             return Err(error);
         }
-        if self.buffer.room() == 0 {
+        if self.buffer.is_full() {
             self.flush()?;
         }
         self.buffer.push(byte);

@@ -7,9 +7,9 @@ ghost use Rattle.yaml_base.specs.Cursor.{text_laid, nothing_laid};
 ghost use Rattle.yaml_pen.specs.Page.{buffer_size, IsReady, has_mark};
 ghost use Rattle.yaml_pen.specs.Wrote.{Wrote};
 
-use crate::buffer::BUFFER_SIZE;
 use crate::counting::{character_count, next_column};
 use crate::encoded::{encoded_break, encoded_character};
+use crate::outlet::BUFFER_SIZE;
 use crate::pen::{Pen, has_mark};
 use std::alloc::Allocator;
 use yaml_base::yaml_error_t;

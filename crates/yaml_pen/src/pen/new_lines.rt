@@ -85,7 +85,7 @@ impl<A: Allocator> Pen<A> {
         ensures written { Wrote (line_begun at) self.old self.new result }
         ensures stays { IsSome self.old.error → self.new ≡ self.old }
     {
-        self.outlet.append_front(&LINE_START, at as usize + 1)?;
+        self.outlet.append(&LINE_START[..at as usize + 1])?;
         self.column = at;
         Ok(())
     }

@@ -32,8 +32,8 @@ invariant_of-self-2 g c =
     let is_utf8 = unmarked _ ready.begun (ap (λ (p : Page). has_mark p.encoding) c.self.view_is ∙ c.requires.unmarked) in
     let ascii = line_start_ascii c.args.at in
     let bytes = line_start c.args.at c.requires.few ∙ ascii-bytes raw ascii in
-    let adds = Adds-appended utf8 raw _ c.self.inside.outlet c.append_front.new.self c.in_ok-append_front.ensures bytes in
-    IsPen-added utf8 raw c.self.inside.encoding c.self.inside.line_break c.self.inside.outlet c.append_front.new.self c.self.inside.whitespace
+    let adds = Adds-appended utf8 raw _ c.self.inside.outlet c.append.new.self c.in_ok-append.ensures bytes in
+    IsPen-added utf8 raw c.self.inside.encoding c.self.inside.line_break c.self.inside.outlet c.append.new.self c.self.inside.whitespace
     c.self.inside.indention
     c.self.inside.mark_due c.self.inside.column _ c.self.invariant ready.marked is_utf8 (ascii-scalars raw ascii) adds
     (at_column c.args.at (column_after (decode (seen_encoding c.self.inside.encoding) c.self.inside.outlet.all) 0) c.requires.few)
@@ -45,9 +45,9 @@ returns-clause-written g c =
     let is_utf8 = unmarked _ ready.begun (ap (λ (p : Page). has_mark p.encoding) c.self.view_is ∙ c.requires.unmarked) in
     let ascii = line_start_ascii c.args.at in
     let bytes = line_start c.args.at c.requires.few ∙ ascii-bytes raw ascii in
-    let adds = Adds-appended utf8 raw _ c.self.inside.outlet c.append_front.new.self c.in_ok-append_front.ensures bytes in
+    let adds = Adds-appended utf8 raw _ c.self.inside.outlet c.append.new.self c.in_ok-append.ensures bytes in
     wrote_as (line_begun c.args.at) (broken_begun c.args.at c.args.self.now.cursor c.requires.breaks)
-    (Wrote-added utf8 raw c.self.inside.encoding c.self.inside.line_break c.self.inside.outlet c.append_front.new.self c.self.inside.whitespace
+    (Wrote-added utf8 raw c.self.inside.encoding c.self.inside.line_break c.self.inside.outlet c.append.new.self c.self.inside.whitespace
     c.self.inside.indention
     c.self.inside.mark_due c.self.inside.column c.args.self.now (text_laid raw) c.self.invariant is_utf8
     (ascii-scalars raw ascii) adds c.self.view_is

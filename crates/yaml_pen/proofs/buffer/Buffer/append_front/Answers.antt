@@ -1,6 +1,0 @@
-use Rattle.std.proofs.Common.{arith}
-use Rattle.std.proofs.lemmas.Grind.{elements}
-use Rattle.yaml_pen.proofs.buffer.Buffer.append_front.Goals as goal
-
-pub returns : goal.returns
-returns c = grind (arith, elements) steps 2000000
