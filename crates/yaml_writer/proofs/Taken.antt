@@ -51,16 +51,17 @@ left_taken given all sent bytes before after was left now stands =
 -- Calls that pass events on
 
 pub passed : (inside before : WriterState) (events : List Event) (answer : Result (Unit {0}) yaml_error_t) (emitter : State) → inside ≡ before
-    → AddsAll inside.emitter events emitter → answer ≡ told emitter.error
+    → AddsAll inside.emitter events emitter → Grows inside.emitter.page emitter.page → answer ≡ told emitter.error
     → Passed before events answer (record inside { emitter = emitter })
-passed inside before events answer emitter is adds answered =
+passed inside before events answer emitter is adds grows answered =
     subst (λ (writer : WriterState). Passed writer events answer (record inside { emitter = emitter })) is
-    (record { adds = adds; answered = answered; rest = refl })
+    (record { adds = adds; grows = grows; answered = answered; rest = refl })
 
 -- Calls that give an event with the properties of the next node
 
 module _ (inside before : WriterState) (emitter : State) (anchor tag : Option Text) (given event : Event) (answer : Result (Unit {0}) yaml_error_t)
-    (view : inside ≡ before) (is : given ≡ event) (adds : Adds inside.emitter given emitter) (answered : answer ≡ told emitter.error)
+    (view : inside ≡ before) (is : given ≡ event) (adds : Adds inside.emitter given emitter)
+    (grows : Grows inside.emitter.page emitter.page) (answered : answer ≡ told emitter.error)
     (no_anchor : anchor ≡ None) (no_tag : tag ≡ None) where
   abbrev after : WriterState
   after = record inside { emitter = emitter; anchor = anchor; tag = tag }
@@ -69,6 +70,7 @@ module _ (inside before : WriterState) (emitter : State) (anchor tag : Option Te
   gave error error_is =
       record {
         adds = subst (λ (w : WriterState). Adds w.emitter event emitter) view (subst (λ (e : Event). Adds inside.emitter e emitter) is adds);
+        grows = subst (λ (w : WriterState). Grows w.emitter.page emitter.page) view grows;
         error_is = error_is;
         canonical = ap (λ (w : WriterState). w.canonical) view;
         levels = ap (λ (w : WriterState). w.levels) view;

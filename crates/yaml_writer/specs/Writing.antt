@@ -15,6 +15,7 @@ use Rattle.yaml_base.specs.values.TypedValues.{null_tag, bool_tag, int_tag, bool
 use Rattle.yaml_base.specs.declared.errors.yaml_error_t.{yaml_error_t}
 use Rattle.yaml_base.specs.declared.errors.yaml_error_t.TheVariants.{ExpectedDocumentEnd, ExpectedNode, Memory}
 use Rattle.yaml_pen.specs.Page.{told}
+use Rattle.yaml_pen.specs.Wrote.{Grows}
 use Rattle.yaml_emitter.specs.State.{State}
 use Rattle.yaml_emitter.specs.StandsAfter.{StandsAfter}
 use Rattle.yaml_emitter.specs.Promises.{IsWritten}
@@ -142,15 +143,18 @@ abbrev pub Takes : State → List ℕ → State → Type 0
 Takes before bytes after =
     (given : Settings) (all : List Event) (sent : List ℕ) → StandsTaken given all sent before → StandsTaken given all (sent ++ bytes) after
 
--- these events were given to the emitter, whose error is told; nothing else changes
+-- these events were given to the emitter, whose error is told; its text and its output only grow, and nothing else changes
 pub record Passed (before : WriterState) (events : List Event) (answer : Result (Unit {0}) yaml_error_t) (after : WriterState) : Type 0 where
   pub adds : AddsAll before.emitter events after.emitter
+  pub grows : Grows before.emitter.page after.emitter.page
   pub answered : answer ≡ told after.emitter.error
   pub rest : after ≡ record before { emitter = after.emitter }
 
--- the event was given to the emitter, which has this error; the next node has no properties yet
+-- the event was given to the emitter, which has this error, and whose text and output only grow; the next node has no
+-- properties yet
 pub record Gave (before : WriterState) (event : Event) (error : Option yaml_error_t) (after : WriterState) : Type 0 where
   pub adds : Adds before.emitter event after.emitter
+  pub grows : Grows before.emitter.page after.emitter.page
   pub error_is : after.emitter.error ≡ error
   pub canonical : after.canonical ≡ before.canonical
   pub levels : after.levels ≡ before.levels
@@ -161,12 +165,13 @@ pub record Gave (before : WriterState) (event : Event) (error : Option yaml_erro
 abbrev pub Failed : WriterState → Event → yaml_error_t → WriterState → Type 0
 Failed before event error after = Gave before event (Some error) after ⊎ ((error ≡ Memory) × (after ≡ before))
 
--- the innermost collection was ended
+-- the innermost collection was ended; the emitter's text and output only grow
 pub record Ended (before : WriterState) (answer : Result (Unit {0}) yaml_error_t) (after : WriterState) : Type 0 where
   pub outer : List CollectionKind
   pub kind : CollectionKind
   pub levels : before.levels ≡ outer ++ kind ∷ []
   pub adds : Adds before.emitter (end_event kind) after.emitter
+  pub grows : Grows before.emitter.page after.emitter.page
   pub answered : answer ≡ told after.emitter.error
   pub rest : after ≡ record before { emitter = after.emitter; levels = outer }
 

@@ -4,6 +4,7 @@ ghost use Rattle.yaml_base.specs.Event.{Event, alias, document_end, mapping_star
 ghost use Rattle.yaml_base.specs.Seen.{seen_event, seen_mapping_style, seen_scalar_style, seen_sequence_style, seen_text};
 ghost use Rattle.yaml_base.specs.Settings.{Settings};
 ghost use Rattle.yaml_pen.specs.Page.{output_left, told};
+ghost use Rattle.yaml_pen.specs.Wrote.{Grows};
 ghost use Rattle.yaml_writer.specs.Unfinished.{IsUnfinished};
 ghost use Rattle.yaml_writer.specs.Writing.{Adds, AddsAll, Finishes, StandsTaken, end_event, opening, plain_start as document_begins};
 
@@ -36,6 +37,7 @@ fn give<A: Allocator + Copy>(
 ) -> Result<(), yaml_error_t>
     requires output { emitter.old.has_output ≡ true }
     ensures adds { Adds emitter.old (seen_event event) emitter.new }
+    ensures grows { Grows emitter.old.page emitter.new.page }
     ensures answered { result ≡ told emitter.new.error }
     ensures output { emitter.new.has_output ≡ true }
 {
@@ -76,6 +78,7 @@ pub(crate) fn give_scalar<A: Allocator + Copy>(
           style = seen_scalar_style style;
         }))
         emitter.new }
+    ensures grows { Grows emitter.old.page emitter.new.page }
     ensures answered { result ≡ told emitter.new.error }
     ensures output { emitter.new.has_output ≡ true }
 {
@@ -105,6 +108,7 @@ pub(crate) fn give_mapping<A: Allocator + Copy>(
         (mapping_start
         (record { anchor = option_map seen_text anchor; tag = option_map seen_text tag; implicit = is_none tag; style = seen_mapping_style style }))
         emitter.new }
+    ensures grows { Grows emitter.old.page emitter.new.page }
     ensures answered { result ≡ told emitter.new.error }
     ensures output { emitter.new.has_output ≡ true }
 {
@@ -132,6 +136,7 @@ pub(crate) fn give_sequence<A: Allocator + Copy>(
         (sequence_start
         (record { anchor = option_map seen_text anchor; tag = option_map seen_text tag; implicit = is_none tag; style = seen_sequence_style style }))
         emitter.new }
+    ensures grows { Grows emitter.old.page emitter.new.page }
     ensures answered { result ≡ told emitter.new.error }
     ensures output { emitter.new.has_output ≡ true }
 {
@@ -154,6 +159,7 @@ pub(crate) fn give_end<A: Allocator + Copy>(
 ) -> Result<(), yaml_error_t>
     requires output { emitter.old.has_output ≡ true }
     ensures adds { Adds emitter.old (end_event kind) emitter.new }
+    ensures grows { Grows emitter.old.page emitter.new.page }
     ensures answered { result ≡ told emitter.new.error }
     ensures output { emitter.new.has_output ≡ true }
 {
@@ -171,6 +177,7 @@ pub(crate) fn give_alias<A: Allocator + Copy>(
 ) -> Result<(), yaml_error_t>
     requires output { emitter.old.has_output ≡ true }
     ensures adds { AddsAll emitter.old (alias (seen_text anchor) ∷ []) emitter.new }
+    ensures grows { Grows emitter.old.page emitter.new.page }
     ensures answered { result ≡ told emitter.new.error }
     ensures output { emitter.new.has_output ≡ true }
 {
@@ -184,6 +191,7 @@ pub(crate) fn give_next<A: Allocator + Copy>(
 ) -> Result<(), yaml_error_t>
     requires output { emitter.old.has_output ≡ true }
     ensures adds { AddsAll emitter.old (document_end true ∷ document_begins ∷ []) emitter.new }
+    ensures grows { Grows emitter.old.page emitter.new.page }
     ensures answered { result ≡ told emitter.new.error }
     ensures output { emitter.new.has_output ≡ true }
 {

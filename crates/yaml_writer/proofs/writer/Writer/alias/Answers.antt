@@ -12,4 +12,4 @@ returns-clause-passed g c none =
     inr
     (passed (state_of c.self.inside) c.args.self.now (alias (chars c.args.name.now) ∷ []) c.give_alias.result after c.self.view_is
     (subst (λ (name : Text). AddsAll c.self.inside.emitter (alias name ∷ []) after) c.in_ok-name.ensures.text c.give_alias.ensures.adds)
-    c.give_alias.ensures.answered)
+    c.give_alias.ensures.grows c.give_alias.ensures.answered)

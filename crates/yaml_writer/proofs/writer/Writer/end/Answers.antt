@@ -1,4 +1,5 @@
 use Rattle.std.proofs.Common.{inr, rules, subst}
+use Rattle.yaml_pen.specs.Wrote.{Grows}
 use Rattle.yaml_writer.specs.Writing.{Adds, WriterState, end_event}
 use Rattle.yaml_writer.proofs.writer.Writer.end.Goals as goal
 
@@ -10,6 +11,7 @@ returns-in-Some-clause-ended g c none =
       kind = c.in-Some.kind;
       levels = search rules;
       adds = subst (λ (writer : WriterState). Adds writer.emitter (end_event c.in-Some.kind) c.give_end.new.emitter) c.self.view_is c.give_end.ensures.adds;
+      grows = subst (λ (writer : WriterState). Grows writer.emitter.page c.give_end.new.emitter.page) c.self.view_is c.give_end.ensures.grows;
       answered = c.give_end.ensures.answered;
       rest = search rules;
     })

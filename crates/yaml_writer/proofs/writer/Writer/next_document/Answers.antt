@@ -8,4 +8,4 @@ use Rattle.yaml_writer.proofs.writer.Writer.next_document.Goals as goal
 pub returns-else-awaits_node-clause-passed : goal.returns-else-awaits_node-clause-passed
 returns-else-awaits_node-clause-passed g c none =
     passed (state_of c.self.inside) c.args.self.now (document_end true ∷ plain_start ∷ []) c.give_next.result c.give_next.new.emitter c.self.view_is
-    c.give_next.ensures.adds c.give_next.ensures.answered
+    c.give_next.ensures.adds c.give_next.ensures.grows c.give_next.ensures.answered

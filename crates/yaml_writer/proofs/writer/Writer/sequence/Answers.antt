@@ -21,6 +21,6 @@ returns g c =
     let both =
     gave_either (state_of c.self.inside) c.args.self.now c.give_sequence.new.emitter (option_map seen_text c.take-anchor.new.self)
     (option_map seen_text c.take-tag.new.self) given event c.give_sequence.result c.self.view_is same c.give_sequence.ensures.adds
-    c.give_sequence.ensures.answered
+    c.give_sequence.ensures.grows c.give_sequence.ensures.answered
     (ap (option_map seen_text) c.take-anchor.ensures.after) (ap (option_map seen_text) c.take-tag.ensures.after) in
     record { given = both.0; failed = both.1 }
