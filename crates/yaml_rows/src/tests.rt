@@ -1,12 +1,11 @@
-//! Rows of types, marks, pens and scalars; emitters call by call, documents dumped, and errors in a caller; the program's
-//! options, scripts that are read, and whole runs.
+//! Rows of types, marks, pens and scalars; emitters call by call, documents dumped, and errors in a caller; scripts that are
+//! read, and whole runs.
 ghost use Rattle.yaml_pen.specs.Page.{IsReady};
 
 mod dumps;
 mod emitters;
 mod errors;
 mod marks;
-mod options;
 mod pens;
 mod runs;
 mod scalars;

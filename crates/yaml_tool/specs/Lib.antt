@@ -1,5 +1,4 @@
 pub mod Answers
-pub mod Arguments
 pub mod Cuts
 pub mod Events
 pub mod Fields

@@ -1,10 +1,10 @@
 //! How a run ends, and what is told of it.
-ghost use Rattle.std.specs.Prelude.{◌≡◌, IsOk, None};
-ghost use Rattle.yaml_tool.specs.Answers.{status_of};
+ghost use Rattle.std.specs.Prelude.{◌≡◌, IsOk, OnOk};
+ghost use Rattle.std.specs.Io.KnownBytes.{Appends};
+ghost use Rattle.yaml_tool.specs.Answers.{status_of, line_of};
 
 use std::io;
 use std::io::Write;
-use thiserror::Error;
 use yaml_base::yaml_error_t;
 
 /// How a run ended.
@@ -36,40 +36,21 @@ pub fn status(answer: &run_answer_t) -> u8
     }
 }
 
-/// What went wrong, in a line.
-#[derive(Debug, Drop, Error)]
-enum Fault {
-    #[error("yamlemit: line {0}: {1}")]
-    Refused(u64, yaml_error_t),
-    #[error("yamlemit: line {0}: cannot be read")]
-    BadLine(u64),
-    #[error("yamlemit: cannot read")]
-    ReadFailed,
-    #[error("yamlemit: cannot write")]
-    WriteFailed,
-    #[error("yamlemit: out of memory")]
-    NoMemory,
-}
-
-fn fault_of(answer: &run_answer_t) -> Option<Fault>
-    ensures { answer.now ≡ run_answer_t.Done → result ≡ None }
-{
-    match answer {
-        run_answer_t::Done => None,
-        run_answer_t::Refused(line, error) => Some(Fault::Refused(*line, *error)),
-        run_answer_t::BadLine(line) => Some(Fault::BadLine(*line)),
-        run_answer_t::ReadFailed => Some(Fault::ReadFailed),
-        run_answer_t::WriteFailed => Some(Fault::WriteFailed),
-        run_answer_t::NoMemory => Some(Fault::NoMemory),
-    }
-}
-
-/// Writes what went wrong and a line break; nothing where the run is done. Answers as the writer did.
+/// Writes the program's line about a result, and a line break; nothing where the run is done.
+///
+/// # Errors
+///
+/// Returns the writer's error.
 pub fn write_line<W: Write>(answer: &run_answer_t, writer: &mut W) -> io::Result<()>
     ensures done { answer.now ≡ run_answer_t.Done → IsOk result × (W.contents writer.new ≡ W.contents writer.old) }
+    ensures line { OnOk result (Appends (W.contents writer.old) (W.contents writer.new) (line_of answer.now)) }
 {
-    match fault_of(answer) {
-        Some(fault) => writeln!(writer, "{fault}"),
-        None => Ok(()),
+    match answer {
+        run_answer_t::Done => Ok(()),
+        run_answer_t::Refused(line, error) => writeln!(writer, "yamlemit: line {line}: {error}"),
+        run_answer_t::BadLine(line) => writeln!(writer, "yamlemit: line {line}: cannot be read"),
+        run_answer_t::ReadFailed => writeln!(writer, "yamlemit: cannot read"),
+        run_answer_t::WriteFailed => writeln!(writer, "yamlemit: cannot write"),
+        run_answer_t::NoMemory => writeln!(writer, "yamlemit: out of memory"),
     }
 }

@@ -2,7 +2,6 @@
 #![tactic(auto)]
 
 mod answers;
-mod arguments;
 mod characters;
 mod directives;
 mod events;
@@ -10,7 +9,6 @@ mod fields;
 mod lines;
 mod numbers;
 mod parts;
-mod program;
 mod runs;
 mod scripts;
 mod settings;
@@ -19,8 +17,6 @@ mod texts;
 mod words;
 
 pub use answers::{run_answer_t, status, write_line};
-pub use arguments::{Task, task_of};
-pub use program::{read_arguments, serve};
 pub use runs::run;
 pub use scripts::{NumberedEvent, Script, ScriptError, read_script};
 pub use settings::Settings;

@@ -43,7 +43,7 @@ pub fn run<A: Allocator + Copy, R: Read, W: Write>(
 }
 
 /// What a script says. It is read part by part, and to its end also where a line is bad.
-pub fn script_in<A: Allocator + Copy, R: Read>(
+fn script_in<A: Allocator + Copy, R: Read>(
     alloc: A,
     reader: &mut R,
 ) -> Result<Script<A>, run_answer_t>
@@ -67,7 +67,7 @@ pub fn script_in<A: Allocator + Copy, R: Read>(
 }
 
 /// Emits a script's events, and writes what came out.
-pub fn emit_script<A: Allocator + Copy, W: Write>(
+fn emit_script<A: Allocator + Copy, W: Write>(
     alloc: A,
     script: Script<A>,
     writer: &mut W,

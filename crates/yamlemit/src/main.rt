@@ -1,18 +1,14 @@
-//! The program: a script of YAML events, from a file or from standard input, and its YAML.
+//! The program: reads a script of YAML events from standard input, and writes its YAML to standard output.
 #![tactic(auto)]
 
 use std::io;
-use std::io::IsTerminal;
 use std::process::ExitCode;
-use yaml_tool::{read_arguments, serve};
+use yaml_tool::{run, status, write_line};
 
-/// Ends with the run's status, also where what went wrong can't be told.
+/// Ends with the run's status, also where what went wrong can't be told. Arguments are ignored.
 fn main(rt: HostRuntime) -> ExitCode {
-    let Ok(words) = read_arguments(&rt) else {
-        return ExitCode::from(3);
-    };
-    let at_terminal = rt.stdin().is_terminal();
+    let answer = run(rt.alloc(), &mut rt.reader(), &mut io::writer(&rt));
     let stderr = rt.stderr();
-    let status = serve(&rt, words.as_slice(), at_terminal, &mut io::writer(&stderr));
-    ExitCode::from(status)
+    let _told = write_line(&answer, &mut io::writer(&stderr));
+    ExitCode::from(status(&answer))
 }
