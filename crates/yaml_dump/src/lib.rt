@@ -67,6 +67,7 @@ pub use yaml_emitter::bytes_have_one_text;
 pub use yaml_emitter::canonical_bytes_read;
 pub use yaml_emitter::canonical_output_reads;
 pub use yaml_emitter::documents_unfold;
+pub use yaml_emitter::encoded_alike;
 pub use yaml_emitter::encodings_agree;
 pub use yaml_emitter::escaped_text_reads;
 pub use yaml_emitter::hex_digit;

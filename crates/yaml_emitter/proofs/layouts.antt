@@ -4,6 +4,7 @@ pub mod Meaning
 pub mod SparingPlaces
 pub mod SparingSteps
 pub mod RawTexts
+pub mod EncodedAlike
 pub mod TidyStreams
 pub mod StreamsReadBack
 pub mod StreamOutput

@@ -16,5 +16,6 @@ pub mod Inside
 pub mod Processing
 pub mod StandsAfter
 pub mod Uncut
+pub mod EncodedAlike
 pub mod Promises
 pub mod NodeEvents

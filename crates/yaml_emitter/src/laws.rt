@@ -5,6 +5,7 @@ ghost use Rattle.yaml_base.specs.Meaning.{CanonicalBytesRead, MeaningIsKept};
 ghost use Rattle.yaml_base.specs.Settings.{Settings};
 ghost use Rattle.yaml_base.specs.streams.StreamLaw.{StreamReadsBack};
 ghost use Rattle.yaml_base.specs.WrittenTexts.{BodiesAreTidy, StreamsAgree, TextsHoldRaw};
+ghost use Rattle.yaml_emitter.specs.EncodedAlike as encoded;
 ghost use Rattle.yaml_emitter.specs.Promises.{Promised};
 ghost use Rattle.yaml_emitter.specs.StandsAfter.{StandsAfter};
 ghost use Rattle.yaml_emitter.specs.State.{State};
@@ -33,6 +34,12 @@ pub fn bodies_are_tidy()
 /// their mark they give the same characters.
 pub fn streams_agree()
     ensures { StreamsAgree }
+{}
+
+/// Output in UTF-16 says what output in UTF-8 says: its first two bytes are the mark, and what follows decodes to the
+/// characters of the UTF-8 output, where no limit cuts them.
+pub fn encoded_alike()
+    ensures { encoded.EncodedAlike }
 {}
 
 /// In canonical mode the bytes of an accepted list, where no limit cuts them, read back: a reader that shares no word

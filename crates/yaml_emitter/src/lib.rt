@@ -25,6 +25,7 @@ pub use emitter::yaml_emitter_t;
 pub use laws::bodies_are_tidy;
 pub use laws::canonical_bytes_read;
 pub use laws::canonical_output_reads;
+pub use laws::encoded_alike;
 pub use laws::meaning_is_kept;
 pub use laws::output_tells_content;
 pub use laws::standing_is_promised;

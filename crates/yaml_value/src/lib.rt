@@ -64,6 +64,7 @@ pub use yaml_dump::document_events;
 pub use yaml_dump::documents_unfold;
 pub use yaml_dump::dumped_trees_unfold;
 pub use yaml_dump::emit_each;
+pub use yaml_dump::encoded_alike;
 pub use yaml_dump::encodings_agree;
 pub use yaml_dump::escaped_text_reads;
 pub use yaml_dump::hex_digit;

@@ -1,0 +1,50 @@
+-- Output in every encoding, without its mark, has the characters of output in UTF-8.
+use Rattle.std.proofs.Common.{◌≡◌, refl, sym, ap, ◌∙◌}
+use Rattle.std.proofs.lemmas.List.{take_all}
+use Rattle.std.specs.Prelude.{ℕ, Some, List, ◌++◌}
+use Rattle.yaml_base.specs.Characters.{Text}
+use Rattle.yaml_base.specs.Settings.{Encoding, utf8, utf16_little, utf16_big, Settings}
+use Rattle.yaml_base.specs.Event.{Event}
+use Rattle.yaml_base.specs.Encoding.{text_bytes, encode}
+use Rattle.yaml_base.specs.Decode.{text_of_bytes, decode}
+use Rattle.yaml_base.specs.Pieces.{list_layout}
+use Rattle.yaml_base.specs.Output.{settings_for, text_written, bytes_written, output_of}
+use Rattle.yaml_emitter.specs.Uncut.{IsUncut}
+use Rattle.yaml_emitter.specs.EncodedAlike as spec
+use Rattle.yaml_emitter.specs.EncodedAlike.{mark_bytes}
+use Rattle.yaml_emitter.proofs.layouts.RawTexts.{streams_agree}
+
+-- bytes begin with their mark
+marked : (encoding : Encoding) (text : Text) → mark_bytes encoding ++ text_bytes encoding text ≡ encode (Some encoding) text
+marked utf8 text = refl
+marked utf16_little text = refl
+marked utf16_big text = refl
+
+-- to decode is to read what follows the mark
+unmarked : (encoding : Encoding) (text : Text) → text_of_bytes encoding (text_bytes encoding text) ≡ decode (Some encoding) (encode (Some encoding) text)
+unfolding decode
+unmarked utf8 text = refl
+unmarked utf16_little text = refl
+unmarked utf16_big text = refl
+
+of_utf8 : (bytes : List ℕ) → decode (Some utf8) bytes ≡ text_of_bytes utf8 bytes
+unfolding decode
+of_utf8 bytes = refl
+
+uncut_output : (given : Settings) (events : List Event) → IsUncut given events
+    → output_of given events ≡ bytes_written (settings_for given events) (list_layout (settings_for given events) events)
+uncut_output given events uncut = take_all given.limit _ uncut
+
+pub encoded_alike : spec.EncodedAlike
+encoded_alike given encoding events accepted uncut uncut_utf8 =
+    let own : Settings = record given { encoding = Some encoding } in
+    let narrow : Settings = record given { encoding = Some utf8 } in
+    let text = text_written (settings_for own events) (list_layout (settings_for own events) events) in
+    record {
+      unmarked = text_bytes encoding text;
+      begins = marked encoding text ∙ sym (uncut_output own events uncut);
+      decodes =
+          unmarked encoding text ∙ streams_agree given encoding events accepted ∙ sym (streams_agree given utf8 events accepted)
+          ∙ of_utf8 (bytes_written (settings_for narrow events) (list_layout (settings_for narrow events) events))
+          ∙ ap (text_of_bytes utf8) (sym (uncut_output narrow events uncut_utf8));
+    }
