@@ -5,8 +5,10 @@ pub mod StandingFailed
 pub mod StandingMore
 pub mod StandingTexts
 pub mod StandingPromises
+pub mod Room
 pub mod StandingFull
 pub mod StandingEnds
+pub mod PromisingRoom
 pub mod HandingOut
 pub mod Emitting
 pub mod StandingSet

@@ -88,12 +88,19 @@ abbrev pub OutputBegins : Settings → List Event → Option yaml_error_t → St
 OutputBegins given all None state = BeginsOutput given all (take (written all) all) (written all) state
 OutputBegins given all (Some error) state = StopsWriting given all state
 
+-- an accepted list begins with these events whose bytes are within the limit
+pub record FitsLimit (given : Settings) (all : List Event) : Type 0 where
+  pub more : List Event
+  pub accepted : IsAccepted given.canonical (all ++ more)
+  pub uncut : IsUncut given (all ++ more)
+
 -- the bytes of the text pass the limit, and the output is full: it is that of every accepted list that begins with all
--- events
+-- events, and no such list fits the limit
 pub record FillsLimit (given : Settings) (all : List Event) (state : State) : Type 0 where
   pub passed : given.limit < length (encoded state.page)
   pub full : length state.page.output ≡ given.limit
   pub output : (more : List Event) → IsAccepted given.canonical (all ++ more) → state.page.output ≡ output_of given (all ++ more)
+  pub unfit : FitsLimit given all → ⊥
 
 -- an error of an event that can't be written: neither the output's limit nor memory
 abbrev pub IsRefusal : yaml_error_t → Type 0
@@ -105,6 +112,11 @@ IsRefusal error = Unit {0}
 abbrev pub HasRoom : Option yaml_error_t → Type 0
 HasRoom None = Unit {0}
 HasRoom (Some error) = IsRefusal error
+
+-- nothing failed but for want of memory
+abbrev pub FailsOnlyByMemory : Option yaml_error_t → Type 0
+FailsOnlyByMemory None = Unit {0}
+FailsOnlyByMemory (Some error) = error ≡ Memory
 
 -- the last of some events is the stream's end
 abbrev pub ends_stream : List Event → Bool
@@ -156,6 +168,7 @@ pub record Promised (given : Settings) (all : List Event) (state : State) : Type
   pub output : OutputBegins given all state.error state
   pub within : length state.page.output ≤ given.limit
   pub full : state.error ≡ Some WriteError → FillsLimit given all state
+  pub fits : FitsLimit given all → FailsOnlyByMemory state.error
   pub handed_out : state.error ≡ None → hands_out_last (take (written all) all) ≡ true → HasAllBytes given all state
   pub ends : ends_stream all ≡ true → EndsExactly given all state
   pub whole : state.error ≡ None → IsAccepted given.canonical all → IsWritten given all state

@@ -33,6 +33,7 @@ use Rattle.yaml_emitter.proofs.layouts.TidyStreams.{bodies_are_tidy}
 use Rattle.yaml_emitter.specs.Promises.{bytes_of_some, HasAllBytes, ends_stream, EndsExactly, IsWritten, Promised}
 use Rattle.yaml_emitter.proofs.standing.StandingPromises.{stands_well, promises_text, promises_held, promises_refusal, promises_output, promises_within}
 use Rattle.yaml_emitter.proofs.standing.StandingFull.{take-length, promises_full}
+use Rattle.yaml_emitter.proofs.standing.PromisingRoom.{promises_fits}
 use Rattle.yaml_emitter.proofs.standing.StandingEnds.{promises_end, all_written, whole_text}
 use Rattle.yaml_emitter.proofs.layouts.Meaning.{meaning_is_kept}
 use Rattle.yaml_emitter.proofs.canonical.CanonicalOutput.{output_reads}
@@ -139,6 +140,7 @@ promised given all state h =
       output = promises_output given all state h.so;
       within = promises_within given all state h.so;
       full = promises_full given all state h.so;
+      fits = promises_fits given all state h.so;
       handed_out = λ none hands. promises_bytes given all state h.so none ((stands_well given all state h.so none).taken.handed_out hands);
       ends = promises_ends given all state h.so;
       whole = promises_whole given all state h;

@@ -43,7 +43,7 @@ nothing_after : (rest : List Event) (t : Stream) (q : Partial) → pushed (after
 nothing_after [] t q h = refl
 nothing_after (x ∷ rest) t q h = cc
 
-whole_accepted : (canonical : Bool) (all : List Event) → BeginsAccepted canonical (all ++ stream_end ∷ []) → IsAccepted canonical (all ++ stream_end ∷ [])
+pub whole_accepted : (canonical : Bool) (all : List Event) → BeginsAccepted canonical (all ++ stream_end ∷ []) → IsAccepted canonical (all ++ stream_end ∷ [])
 whole_accepted canonical all begins =
     let events = all ++ stream_end ∷ [] in
     let stands = stands_from_begins canonical events begins in

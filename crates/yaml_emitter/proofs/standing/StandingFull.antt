@@ -1,7 +1,7 @@
 -- What an emitter that stands promises where the output's limit was passed.
 use Rattle.std.proofs.Common.{◌≡◌, refl, sym, ap, ◌∙◌, subst, arith, append_assoc}
 use Rattle.std.proofs.lemmas.List.{take-append-drop}
-use Rattle.std.specs.Prelude.{ℕ, ◌<◌, Bool, true, false, Some, List, [], ◌∷◌, ◌++◌, length, take, drop}
+use Rattle.std.specs.Prelude.{ℕ, ◌<◌, ◌≤◌, Bool, true, false, Some, List, [], ◌∷◌, ◌++◌, length, take, drop}
 use Rattle.yaml_base.specs.Settings.{Settings, Effective}
 use Rattle.yaml_base.specs.Encoding.{cut}
 use Rattle.yaml_base.specs.Prefix.{IsPrefix}
@@ -9,7 +9,7 @@ use Rattle.yaml_base.specs.Event.{Event, sequence_start, mapping_start}
 use Rattle.yaml_base.specs.Grammar.{Partial, before_stream, after_stream, partial_of}
 use Rattle.yaml_base.specs.Refusal.{begins_collection, IsAccepted}
 use Rattle.yaml_base.specs.Ready.{is_ready, written}
-use Rattle.yaml_base.specs.Layout.{first_standing}
+use Rattle.yaml_base.specs.Layout.{Piece, first_standing}
 use Rattle.yaml_base.specs.Steps.{Steps, at_stream, ends_next, steps}
 use Rattle.yaml_base.specs.Pieces.{list_layout, pieces, begins_last, ends_first}
 use Rattle.yaml_base.specs.Pieces as closes
@@ -23,8 +23,10 @@ use Rattle.yaml_base.proofs.QueueLaws.{open_at_written}
 use Rattle.yaml_pen.specs.Page.{Page, encoded, IsHandedOut}
 use Rattle.yaml_emitter.specs.State.{State}
 use Rattle.yaml_emitter.specs.Processing.{closes_at_once}
-use Rattle.yaml_emitter.specs.StandsAfter.{HoldsPiecesWith, holds_before, holds_part, StandsCut, StandsUnflushed, StandsSo, at_event, between_events}
+use Rattle.yaml_emitter.specs.StandsAfter.{IsPage, HoldsPiecesWith, holds_before, holds_part, StandsCut, StandsUnflushed, StandsSo, at_event, between_events}
 use Rattle.yaml_emitter.specs.Promises.{FillsLimit}
+use Rattle.yaml_emitter.specs.Uncut.{IsUncut}
+use Rattle.yaml_emitter.proofs.standing.Room.{more_bytes}
 use Rattle.yaml_emitter.proofs.standing.Standing.{own_end, settings_grown}
 use Rattle.yaml_emitter.proofs.standing.StandingSteps.{closes_last-append}
 use Rattle.yaml_emitter.proofs.standing.StandingMore.{ready_at, settings_failed}
@@ -76,39 +78,69 @@ layout_begins canonical s front rest accepted =
     (sym (list_layout_steps (front ++ rest) accepted.stream s (ap partial_of (sym accepted.is_stream) ∙ stream_pushed accepted.stream)))
     (steps_begin front rest s false)
 
+-- the pieces up to an event that was ready begin every layout that goes on
+begun_layout : (canonical : Bool) (s : Effective) (front later more all : List Event) (event : Event) → (front ++ event ∷ []) ++ later ≡ all
+    → is_ready event later ≡ true → IsAccepted canonical (all ++ more)
+    → IsPrefix (steps s (closes_at_once event later) (front ++ event ∷ []) at_stream first_standing).pieces (list_layout s (all ++ more))
+begun_layout canonical s front later more all event parts ready accepted =
+    let longer = front ++ event ∷ [] in
+    let begun = (steps s (closes_at_once event later) longer at_stream first_standing).pieces in
+    let whole : longer ++ (later ++ more) ≡ all ++ more = sym (append_assoc longer later more) ∙ ap (λ events. events ++ more) parts in
+    let pushes : partial_of ((longer ++ later) ++ more) ≡ Some (after_stream accepted.stream) =
+    ap (λ events. partial_of (events ++ more)) parts ∙ ap partial_of (sym accepted.is_stream) ∙ stream_pushed accepted.stream in
+    let same : (steps s (ends_next (later ++ more) false) longer at_stream first_standing).pieces ≡ begun =
+    follows_ready front later more event s (begins_collection event) refl ready (after_stream accepted.stream) pushes in
+    subst (λ pieces. IsPrefix pieces (list_layout s (all ++ more))) same
+    (subst (λ events. IsPrefix (steps s (ends_next (later ++ more) false) longer at_stream first_standing).pieces (list_layout s events)) whole
+    (layout_begins canonical s longer (later ++ more) (subst (IsAccepted canonical) (sym whole) accepted)))
+
 passes : (limit : ℕ) (page : Page) → page.limit ≡ limit → page.limit < length (encoded page) → limit < length (encoded page)
 passes limit page is h = subst (λ limit. limit < length (encoded page)) is h
+
+-- A page whose bytes pass the limit, and begin those of every accepted list that begins with the events.
+fills_by : (given : Settings) (all : List Event) (state : State) (begun : List Piece) → IsPage (settings_for given all) state.page
+    → state.page.error ≡ Some WriteError
+    → IsPrefix state.page.text (text_written (settings_for given all) begun)
+    → ((more : List Event) → settings_for given (all ++ more) ≡ settings_for given all)
+    → ((more : List Event) → IsAccepted given.canonical (all ++ more) → IsPrefix begun (list_layout (settings_for given all) (all ++ more)))
+    → FillsLimit given all state
+fills_by given all state begun page failed most same begins =
+    record {
+      passed = passed;
+      full = (output_fills s state.page begun page most failed).0;
+      output = λ more accepted.
+          (output_fills s state.page (list_layout s (all ++ more)) page (text more accepted) failed).1
+          ∙ ap (λ (s : Effective). cut s.limit (bytes_written s (list_layout s (all ++ more)))) (sym (same more));
+      unfit = λ fits. unfit fits.more fits.accepted fits.uncut;
+    }
+  where
+    s : Effective
+    s = settings_for given all
+
+    passed : given.limit < length (encoded state.page)
+    passed = passes given.limit state.page page.limit (page.handed.full failed).0
+
+    text : (more : List Event) → IsAccepted given.canonical (all ++ more) → IsPrefix state.page.text (text_written s (list_layout s (all ++ more)))
+    text more accepted = front_longer s state.page.text begun (list_layout s (all ++ more)) most (begins more accepted)
+
+    unfit : (more : List Event) → IsAccepted given.canonical (all ++ more) → IsUncut given (all ++ more) → ⊥
+    unfit more accepted uncut =
+        let within : length (bytes_written s (list_layout s (all ++ more))) ≤ given.limit =
+        subst (λ (s : Effective). length (bytes_written s (list_layout s (all ++ more))) ≤ given.limit) (same more) uncut in
+        omega (arith, passed, within, more_bytes s state.page (list_layout s (all ++ more)) page.encoding (text more accepted))
 
 cut_fills : (given : Settings) (all : List Event) (state : State) → StandsCut given all WriteError state → FillsLimit given all state
 cut_fills given all state h =
     let s = settings_for given all in
     let longer = h.front ++ h.event ∷ [] in
-    let empty = closes_at_once h.event h.later in
-    let begun_pieces = (steps s empty longer at_stream first_standing).pieces in
     let parts : longer ++ h.later ≡ all = append_assoc h.front (h.event ∷ []) h.later ∙ h.failed.parts in
     let ready = ready_at h.front h.event h.later (subst (λ events. length h.front < written events) (sym h.failed.parts) h.failed.became_ready) in
     elim h.page [
       | holds_before memory page ↦ absurd (not_memory memory)
       | holds_part begun page told least most ↦
-          let failed = told refl in
-          record {
-            passed = passes given.limit state.page page.limit (page.handed.full failed).0;
-            full = (output_fills s state.page begun_pieces page most failed).0;
-            output = (λ more accepted.
-                let whole : longer ++ (h.later ++ more) ≡ all ++ more = sym (append_assoc longer h.later more) ∙ ap (λ events. events ++ more) parts in
-                let pushes : partial_of ((longer ++ h.later) ++ more) ≡ Some (after_stream accepted.stream) =
-                ap (λ events. partial_of (events ++ more)) parts ∙ ap partial_of (sym accepted.is_stream) ∙ stream_pushed accepted.stream in
-                let same : (steps s (ends_next (h.later ++ more) false) longer at_stream first_standing).pieces ≡ begun_pieces =
-                follows_ready h.front h.later more h.event s (begins_collection h.event) refl ready (after_stream accepted.stream) pushes in
-                let begins : IsPrefix begun_pieces (list_layout s (all ++ more)) =
-                subst (λ pieces. IsPrefix pieces (list_layout s (all ++ more))) same
-                (subst (λ events. IsPrefix (steps s (ends_next (h.later ++ more) false) longer at_stream first_standing).pieces (list_layout s events)) whole
-                (layout_begins given.canonical s longer (h.later ++ more) (subst (IsAccepted given.canonical) (sym whole) accepted))) in
-                (output_fills s state.page (list_layout s (all ++ more)) page
-                (front_longer s state.page.text begun_pieces (list_layout s (all ++ more)) most begins) failed).1
-                ∙ ap (λ (s : Effective). cut s.limit (bytes_written s (list_layout s (all ++ more))))
-                (sym (settings_failed h.front given all h.event h.later more h.failed.parts)));
-          }
+          fills_by given all state (steps s (closes_at_once h.event h.later) longer at_stream first_standing).pieces page (told refl) most
+          (λ more. settings_failed h.front given all h.event h.later more h.failed.parts)
+          (λ more accepted. begun_layout given.canonical s h.front h.later more all h.event parts ready accepted)
     ]
 
 between_fills : (front rest : List Event) (given : Settings) (all : List Event) (state : State) → front ++ rest ≡ all
@@ -123,22 +155,15 @@ between_fills [] rest given all state parts h handed opens =
 between_fills (x ∷ front) rest given all state parts h handed opens =
     let s = settings_for given all in
     let begun_pieces = (steps s false (x ∷ front) at_stream first_standing).pieces in
-    let text = prefix_same state.page.text (text_written s begun_pieces) h.1 in
-    record {
-      passed = passes given.limit state.page h.0.limit (h.0.handed.full h.2).0;
-      full = (output_fills s state.page begun_pieces h.0 text h.2).0;
-      output = (λ more accepted.
-          let whole : (x ∷ front) ++ (rest ++ more) ≡ all ++ more = sym (append_assoc (x ∷ front) rest more) ∙ ap (λ events. events ++ more) parts in
-          let pushes : partial_of ((x ∷ front) ++ (rest ++ more)) ≡ Some (after_stream accepted.stream) =
-          ap partial_of whole ∙ ap partial_of (sym accepted.is_stream) ∙ stream_pushed accepted.stream in
-          let begins : IsPrefix begun_pieces (list_layout s (all ++ more)) =
-          subst (λ events. IsPrefix begun_pieces (list_layout s events)) whole
-          (begin_taken (length (x ∷ front)) begun_pieces (list_layout s ((x ∷ front) ++ (rest ++ more)))
-          (front_layout (x ∷ front) (rest ++ more) accepted.stream s pushes (opens more))) in
-          (output_fills s state.page (list_layout s (all ++ more)) h.0
-          (front_longer s state.page.text begun_pieces (list_layout s (all ++ more)) text begins) h.2).1
-          ∙ ap (λ (s : Effective). cut s.limit (bytes_written s (list_layout s (all ++ more)))) (sym (settings_grown given x front rest all more parts)));
-    }
+    fills_by given all state begun_pieces h.0 h.2 (prefix_same state.page.text (text_written s begun_pieces) h.1)
+    (λ more. settings_grown given x front rest all more parts)
+    (λ more accepted.
+    let whole : (x ∷ front) ++ (rest ++ more) ≡ all ++ more = sym (append_assoc (x ∷ front) rest more) ∙ ap (λ events. events ++ more) parts in
+    let pushes : partial_of ((x ∷ front) ++ (rest ++ more)) ≡ Some (after_stream accepted.stream) =
+    ap partial_of whole ∙ ap partial_of (sym accepted.is_stream) ∙ stream_pushed accepted.stream in
+    subst (λ events. IsPrefix begun_pieces (list_layout s events)) whole
+    (begin_taken (length (x ∷ front)) begun_pieces (list_layout s ((x ∷ front) ++ (rest ++ more)))
+    (front_layout (x ∷ front) (rest ++ more) accepted.stream s pushes (opens more))))
 
 unflushed_fills : (given : Settings) (all : List Event) (state : State) → StandsUnflushed given all WriteError state → FillsLimit given all state
 unflushed_fills given all state h =

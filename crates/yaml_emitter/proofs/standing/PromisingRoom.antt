@@ -1,0 +1,41 @@
+-- Where an accepted list fits the limit, an emitter that stands failed only for want of memory.
+use Rattle.std.proofs.Common.{◌≡◌, refl, sym, ap, ◌∙◌, subst, append_assoc}
+use Rattle.std.specs.Prelude.{Option, None, Some, List, [], ◌∷◌, ◌++◌}
+use Rattle.yaml_base.specs.Event.{Event}
+use Rattle.yaml_base.specs.Refusal.{IsAccepted}
+use Rattle.yaml_base.specs.Settings.{Settings}
+use Rattle.yaml_base.specs.declared.errors.yaml_error_t.{yaml_error_t}
+use Rattle.yaml_base.specs.declared.errors.yaml_error_t.TheVariants.{WriteError, Memory}
+use Rattle.yaml_emitter.specs.State.{State}
+use Rattle.yaml_emitter.specs.StandsAfter.{StandsSo}
+use Rattle.yaml_emitter.specs.Promises.{RefusedAt, FitsLimit, FailsOnlyByMemory}
+use Rattle.yaml_emitter.proofs.standing.StandingPromises.{promises_refusal}
+use Rattle.yaml_emitter.proofs.standing.StandingFull.{promises_full}
+
+-- no event of an accepted list is refused
+refused_unfit : (given : Settings) (all : List Event) (error : yaml_error_t) (state : State) → RefusedAt given all error state → FitsLimit given all → ⊥
+refused_unfit given all error state h fits =
+    h.ends
+    (record {
+      rest = h.later ++ fits.more;
+      accepted = subst (IsAccepted given.canonical) (sym whole) fits.accepted;
+    })
+  where
+    whole : (h.front ++ h.event ∷ []) ++ (h.later ++ fits.more) ≡ all ++ fits.more
+    whole =
+        sym (append_assoc (h.front ++ h.event ∷ []) h.later fits.more)
+        ∙ ap (λ (events : List Event). events ++ fits.more) (append_assoc h.front (h.event ∷ []) h.later ∙ h.parts)
+
+by_memory : (error : yaml_error_t) (given : Settings) (all : List Event) (state : State) → StandsSo given all state → state.error ≡ Some error
+    → FitsLimit given all → error ≡ Memory
+by_memory WriteError given all state h is fits = absurd ((promises_full given all state h is).unfit fits)
+by_memory Memory given all state h is fits = refl
+by_memory error given all state h is fits = absurd (refused_unfit given all error state (promises_refusal given all state error h is tt) fits)
+
+by_error : (error : Option yaml_error_t) (given : Settings) (all : List Event) (state : State) → StandsSo given all state → state.error ≡ error
+    → FitsLimit given all → FailsOnlyByMemory error
+by_error None given all state h is fits = tt
+by_error (Some error) given all state h is fits = by_memory error given all state h is fits
+
+pub promises_fits : (given : Settings) (all : List Event) (state : State) → StandsSo given all state → FitsLimit given all → FailsOnlyByMemory state.error
+promises_fits given all state h = by_error state.error given all state h refl
