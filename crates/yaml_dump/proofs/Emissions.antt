@@ -11,6 +11,7 @@ use Rattle.yaml_base.specs.Seen.{seen_event}
 use Rattle.yaml_base.specs.declared.errors.yaml_error_t.{yaml_error_t}
 use Rattle.yaml_base.specs.declared.events.yaml_event_t.{yaml_event_t}
 use Rattle.yaml_pen.specs.Page.{told}
+use Rattle.yaml_pen.specs.Wrote.{Grows}
 use Rattle.yaml_pen.proofs.Writing.{none_from_told}
 use Rattle.yaml_emitter.specs.State.{State, KeepsSet}
 use Rattle.yaml_emitter.specs.StandsAfter.{StandsAfter}
@@ -60,8 +61,9 @@ pub failed_at : {A : Type 0} (given : Settings) (all : List Event) (emitted : Li
     → state.error ≡ Some error
     → StandsAfter given ((all ++ map seen_event emitted) ++ seen_event next ∷ []) state
     → Promised given ((all ++ map seen_event emitted) ++ seen_event next ∷ []) state
+    → Grows earlier.page state.page
     → FailsAt given all (map seen_event events) error state
-failed_at given all emitted next rest left events error earlier state parts is none stood failed stands kept =
+failed_at given all emitted next rest left events error earlier state parts is none stood failed stands kept grew =
     record {
       before = map seen_event emitted;
       event = seen_event next;
@@ -72,6 +74,7 @@ failed_at given all emitted next rest left events error earlier state parts is n
       no_error = none;
       stands = stands;
       promised = kept;
+      grew = grew;
       failed = failed;
     }
 
@@ -88,10 +91,10 @@ emits_nothing given all state stands kept none =
 -- one event
 pub emits_one : (given : Settings) (all : List Event) (event : Event) (before after : State) (answer : Result (Unit {0}) yaml_error_t)
     → before.error ≡ None → StandsAfter given all before → StandsAfter given (all ++ event ∷ []) after → Promised given (all ++ event ∷ []) after
-    → answer ≡ told after.error → EmitsEach given all (event ∷ []) answer after
-emits_one given all event before after (Ok _) none stood stands kept is =
+    → Grows before.page after.page → answer ≡ told after.error → EmitsEach given all (event ∷ []) answer after
+emits_one given all event before after (Ok _) none stood stands kept grew is =
     record { stands = stands; promised = kept; no_error = none_from_told after.error is }
-emits_one given all event before after (Err error) none stood stands kept is =
+emits_one given all event before after (Err error) none stood stands kept grew is =
     record {
       before = [];
       event = event;
@@ -102,6 +105,7 @@ emits_one given all event before after (Err error) none stood stands kept is =
       no_error = none;
       stands = subst (λ events. StandsAfter given (events ++ event ∷ []) after) (sym (append-nil all)) stands;
       promised = subst (λ events. Promised given (events ++ event ∷ []) after) (sym (append-nil all)) kept;
+      grew = grew;
       failed = some_told after.error error is;
     }
 
@@ -128,6 +132,7 @@ emits_then given all first second middle after (Err error) begun more =
       no_error = more.no_error;
       stands = subst (λ events. StandsAfter given (events ++ more.event ∷ []) after) joined more.stands;
       promised = subst (λ events. Promised given (events ++ more.event ∷ []) after) joined more.promised;
+      grew = more.grew;
       failed = more.failed;
     }
 
@@ -145,6 +150,7 @@ emits_failed given all first second error after h =
       no_error = h.no_error;
       stands = h.stands;
       promised = h.promised;
+      grew = h.grew;
       failed = h.failed;
     }
 

@@ -6,6 +6,7 @@ use Rattle.yaml_base.specs.graphs.Meetings.{Graph, document_event_list}
 use Rattle.yaml_base.specs.graphs.Dumped.{AreDumped, GraphsRead}
 use Rattle.yaml_base.specs.declared.errors.yaml_error_t.{yaml_error_t}
 use Rattle.yaml_base.specs.declared.errors.yaml_error_t.TheVariants.{Memory}
+use Rattle.yaml_pen.specs.Wrote.{Grows}
 use Rattle.yaml_emitter.specs.State.{State}
 use Rattle.yaml_emitter.specs.StandsAfter.{StandsAfter}
 use Rattle.yaml_emitter.specs.Promises.{Promised}
@@ -16,7 +17,8 @@ pub record EmitsAll (given : Settings) (all events : List Event) (state : State)
   pub promised : Promised given (all ++ events) state
   pub no_error : state.error ≡ None
 
--- up to the first whose call answered an error, this one; none after it was given
+-- up to the first whose call answered an error, this one; none after it was given. What the events before it wrote is kept: its
+-- text and its output are prefixes of those after the error
 pub record FailsAt (given : Settings) (all events : List Event) (error : yaml_error_t) (state : State) : Type 0 where
   pub before : List Event
   pub event : Event
@@ -27,6 +29,7 @@ pub record FailsAt (given : Settings) (all events : List Event) (error : yaml_er
   pub no_error : earlier.error ≡ None
   pub stands : StandsAfter given (all ++ before ++ event ∷ []) state
   pub promised : Promised given (all ++ before ++ event ∷ []) state
+  pub grew : Grows earlier.page state.page
   pub failed : state.error ≡ Some error
 
 -- nothing was done, or the stream was begun

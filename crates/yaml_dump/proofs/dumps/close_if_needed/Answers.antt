@@ -1,6 +1,7 @@
 use Rattle.std.proofs.Common.{refl, inl, inr, sym, subst, ◌∙◌, Bool}
-use Rattle.yaml_dump.specs.Dumps.{EmitsAll, closing}
-use Rattle.yaml_dump.proofs.Emissions.{emits_nothing}
+use Rattle.yaml_base.specs.Event.{stream_end}
+use Rattle.yaml_dump.specs.Dumps.{EmitsAll, EmitsEach, closing}
+use Rattle.yaml_dump.proofs.Emissions.{emits_nothing, emits_one}
 use Rattle.yaml_dump.proofs.dumps.close_if_needed.Goals as goal
 
 pub returns-then-is_closed-clause-emits : goal.returns-then-is_closed-clause-emits
@@ -13,3 +14,11 @@ returns-then-is_closed-clause-begun g c = inl refl
 
 pub returns-clause-begun : goal.returns-clause-begun
 returns-clause-begun g c = inr (c.yaml_emitter_close.ensures.set (sym c.is_closed.ensures ∙ c.if-is_closed.false)).started
+
+pub returns-clause-emits : goal.returns-clause-emits
+returns-clause-emits g c given all stands =
+    let unclosed = sym c.is_closed.ensures ∙ c.if-is_closed.false in
+    subst (λ (closed : Bool). EmitsEach given all (closing closed) c.yaml_emitter_close.result c.yaml_emitter_close.new.emitter) (sym unclosed)
+    (emits_one given all stream_end c.args.emitter.now c.yaml_emitter_close.new.emitter c.yaml_emitter_close.result c.requires.no_error stands
+    (c.yaml_emitter_close.ensures.stands unclosed given all stands) (c.yaml_emitter_close.ensures.promised unclosed given all stands)
+    c.yaml_emitter_close.ensures.grows (c.yaml_emitter_close.ensures.answered unclosed))

@@ -21,4 +21,5 @@ returns-clause-emits g c given all stands =
     subst (λ (opened : Bool). EmitsEach given all (opening opened) c.yaml_emitter_open.result c.yaml_emitter_open.new.emitter)
     (sym c.if-is_opened.false ∙ c.is_opened.ensures.value)
     (emits_one given all (stream_start None) c.args.emitter.now c.yaml_emitter_open.new.emitter c.yaml_emitter_open.result c.requires.no_error stands
-    (c.yaml_emitter_open.ensures.stands given all stands) (c.yaml_emitter_open.ensures.promised given all stands) c.yaml_emitter_open.ensures.answered)
+    (c.yaml_emitter_open.ensures.stands given all stands) (c.yaml_emitter_open.ensures.promised given all stands)
+    c.yaml_emitter_open.ensures.grows c.yaml_emitter_open.ensures.answered)

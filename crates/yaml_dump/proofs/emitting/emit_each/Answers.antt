@@ -18,7 +18,7 @@ returns-in-Err-clause-emits g c given all stands =
     (into_iter_items now.event-iterator) c.args.events.items c.in-Err.error now.emitter c.yaml_emitter_emit.new.emitter
     now.invariant.4 c.in-Some.ensures.steps.0 now.invariant.3 stood (some_told c.yaml_emitter_emit.new.emitter.error c.in-Err.error c.in-Err.ensures.answered)
     (c.yaml_emitter_emit.ensures.stands given (all ++ map seen_event now.yielded) stood)
-    (c.yaml_emitter_emit.ensures.promised given (all ++ map seen_event now.yielded) stood)
+    (c.yaml_emitter_emit.ensures.promised given (all ++ map seen_event now.yielded) stood) c.yaml_emitter_emit.ensures.grows
 
 pub loop-event-preserved : goal.loop-event-preserved
 loop-event-preserved g c =
