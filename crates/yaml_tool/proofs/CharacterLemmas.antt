@@ -1,4 +1,4 @@
--- A text goes on from character to character; what was passed over is its front.
+-- A text goes on from character to character; what was passed over is its prefix.
 use Rattle.std.proofs.Common.{◌≡◌, ℕ, ◌-◌, List, [], ◌∷◌, ◌++◌, length, take, drop, length-append, append_assoc, append-nil, refl, sym, subst, ap, ◌∙◌, arith}
 use Rattle.std.specs.Char.{encode_utf8}
 use Rattle.std.specs.Str.{chars, IsUtf8, IsCharBoundary, encode_utf8_all}
@@ -10,43 +10,43 @@ use Rattle.std.specs.Prelude.{◌==◌}
 use Rattle.std.specs.List.{list_any}
 use Rattle.std.proofs.lemmas.List.Folds.{list_any-append}
 use Rattle.std.proofs.lemmas.Bool.Decides.{nat_tests}
-use Rattle.yaml_tool.specs.Cuts.{EndsIn, front_of, IsFree}
+use Rattle.yaml_tool.specs.Cuts.{EndsIn, prefix_of, IsFree}
 
--- a text is its front and its end
-pub front_and_end : (text end : List ℕ) → EndsIn text end → text ≡ front_of text end ++ end
-front_and_end text end ends = sym (take-append-drop (length text - length end) text) ∙ ap (λ (bs : List ℕ). front_of text end ++ bs) ends.same
+-- a text is its prefix and its end
+pub prefix_and_end : (text end : List ℕ) → EndsIn text end → text ≡ prefix_of text end ++ end
+prefix_and_end text end ends = sym (take-append-drop (length text - length end) text) ∙ ap (λ (bs : List ℕ). prefix_of text end ++ bs) ends.same
 
-pub length_front : (text end : List ℕ) → EndsIn text end → length (front_of text end) ≡ length text - length end
-length_front text end ends = omega (arith, ap length (front_and_end text end ends), length-append (front_of text end) end)
+pub length_prefix : (text end : List ℕ) → EndsIn text end → length (prefix_of text end) ≡ length text - length end
+length_prefix text end ends = omega (arith, ap length (prefix_and_end text end ends), length-append (prefix_of text end) end)
 
 -- it may be cut there
 pub cut_before_end : (text end : List ℕ) → EndsIn text end → IsUtf8 end → IsCharBoundary text (length text - length end)
-cut_before_end text end ends is = subst (IsCharBoundary text) (length_front text end ends)
-    (IsCharBoundary-at_seam text (front_of text end) end (front_and_end text end ends) is)
+cut_before_end text end ends is = subst (IsCharBoundary text) (length_prefix text end ends)
+    (IsCharBoundary-at_seam text (prefix_of text end) end (prefix_and_end text end ends) is)
 
 pub ends_in_itself : (text : List ℕ) → EndsIn text text
 ends_in_itself text = record { within = omega arith; same = ap (λ (n : ℕ). drop n text) (sub_self (length text)) }
 
-pub front_of_itself : (text : List ℕ) → front_of text text ≡ []
-front_of_itself text = ap (λ (n : ℕ). take n text) (sub_self (length text))
+pub prefix_of_itself : (text : List ℕ) → prefix_of text text ≡ []
+prefix_of_itself text = ap (λ (n : ℕ). take n text) (sub_self (length text))
 
--- a front and an end tell where the text is cut
-pub take_seam : (text front end : List ℕ) → text ≡ front ++ end → front_of text end ≡ front
-take_seam text front end is =
-    let before : length text - length end ≡ length front = omega (arith, ap length is, length-append front end) in
-    ap (λ (n : ℕ). take n text) before ∙ ap (λ (bs : List ℕ). take (length front) bs) is ∙ take_at front end (length front) refl
+-- a prefix and an end tell where the text is cut
+pub take_seam : (text prefix end : List ℕ) → text ≡ prefix ++ end → prefix_of text end ≡ prefix
+take_seam text prefix end is =
+    let before : length text - length end ≡ length prefix = omega (arith, ap length is, length-append prefix end) in
+    ap (λ (n : ℕ). take n text) before ∙ ap (λ (bs : List ℕ). take (length prefix) bs) is ∙ take_at prefix end (length prefix) refl
 
-drop_seam : (text front end : List ℕ) → text ≡ front ++ end → drop (length text - length end) text ≡ end
-drop_seam text front end is =
-    let before : length text - length end ≡ length front = omega (arith, ap length is, length-append front end) in
-    ap (λ (n : ℕ). drop n text) before ∙ ap (λ (bs : List ℕ). drop (length front) bs) is ∙ drop_at front end (length front) refl
+drop_seam : (text prefix end : List ℕ) → text ≡ prefix ++ end → drop (length text - length end) text ≡ end
+drop_seam text prefix end is =
+    let before : length text - length end ≡ length prefix = omega (arith, ap length is, length-append prefix end) in
+    ap (λ (n : ℕ). drop n text) before ∙ ap (λ (bs : List ℕ). drop (length prefix) bs) is ∙ drop_at prefix end (length prefix) refl
 
-pub ends_at_seam : (text front end : List ℕ) → text ≡ front ++ end → EndsIn text end
-ends_at_seam text front end is = record { within = omega (arith, ap length is, length-append front end); same = drop_seam text front end is }
+pub ends_at_seam : (text prefix end : List ℕ) → text ≡ prefix ++ end → EndsIn text end
+ends_at_seam text prefix end is = record { within = omega (arith, ap length is, length-append prefix end); same = drop_seam text prefix end is }
 
-all_pieces : (text end piece behind : List ℕ) → EndsIn text end → end ≡ piece ++ behind → text ≡ (front_of text end ++ piece) ++ behind
+all_pieces : (text end piece behind : List ℕ) → EndsIn text end → end ≡ piece ++ behind → text ≡ (prefix_of text end ++ piece) ++ behind
 all_pieces text end piece behind ends is =
-    front_and_end text end ends ∙ ap (λ (bs : List ℕ). front_of text end ++ bs) is ∙ sym (append_assoc (front_of text end) piece behind)
+    prefix_and_end text end ends ∙ ap (λ (bs : List ℕ). prefix_of text end ++ bs) is ∙ sym (append_assoc (prefix_of text end) piece behind)
 
 -- past one more piece
 pub ends_further : (text end piece behind : List ℕ) → EndsIn text end → end ≡ piece ++ behind → EndsIn text behind
@@ -55,34 +55,34 @@ ends_further text end piece behind ends is =
     let longer = ap length is in
     record {
       within = omega (arith, ends.within, lengths, longer);
-      same = drop_seam text (front_of text end ++ piece) behind (all_pieces text end piece behind ends is);
+      same = drop_seam text (prefix_of text end ++ piece) behind (all_pieces text end piece behind ends is);
     }
 
-pub front_further : (text end piece behind : List ℕ) → EndsIn text end → end ≡ piece ++ behind → front_of text behind ≡ front_of text end ++ piece
-front_further text end piece behind ends is = take_seam text (front_of text end ++ piece) behind (all_pieces text end piece behind ends is)
+pub prefix_further : (text end piece behind : List ℕ) → EndsIn text end → end ≡ piece ++ behind → prefix_of text behind ≡ prefix_of text end ++ piece
+prefix_further text end piece behind ends is = take_seam text (prefix_of text end ++ piece) behind (all_pieces text end piece behind ends is)
 
--- past one more character, the front has one character more
-pub front_grows : (text end behind : List ℕ) (c : ℕ) → IsUtf8 text → IsUtf8 end → IsUtf8 behind → EndsIn text end → end ≡ encode_utf8 c ++ behind
-    → chars (front_of text behind) ≡ chars (front_of text end) ++ c ∷ []
-front_grows text end behind c is_text is_end is_behind ends is =
-    let front = front_of text end in
-    let is_front = IsUtf8-take text (length text - length end) is_text (cut_before_end text end ends is_end) in
+-- past one more character, the prefix has one character more
+pub prefix_grows : (text end behind : List ℕ) (c : ℕ) → IsUtf8 text → IsUtf8 end → IsUtf8 behind → EndsIn text end → end ≡ encode_utf8 c ++ behind
+    → chars (prefix_of text behind) ≡ chars (prefix_of text end) ++ c ∷ []
+prefix_grows text end behind c is_text is_end is_behind ends is =
+    let prefix = prefix_of text end in
+    let is_prefix = IsUtf8-take text (length text - length end) is_text (cut_before_end text end ends is_end) in
     let is_grown = IsUtf8-take text (length text - length behind) is_text
     (cut_before_end text behind (ends_further text end (encode_utf8 c) behind ends is) is_behind) in
-    let spelled : encode_utf8_all (chars front ++ c ∷ []) ≡ front_of text behind =
-    encodes-append (chars front) (c ∷ []) ∙ ap (λ (bs : List ℕ). bs ++ encode_utf8_all (c ∷ [])) (encodes-chars front is_front)
-    ∙ ap (λ (bs : List ℕ). front ++ bs) (append-nil (encode_utf8 c)) ∙ sym (front_further text end (encode_utf8 c) behind ends is) in
-    sym (chars_from_encodes (chars front ++ c ∷ []) (front_of text behind) is_grown spelled)
+    let spelled : encode_utf8_all (chars prefix ++ c ∷ []) ≡ prefix_of text behind =
+    encodes-append (chars prefix) (c ∷ []) ∙ ap (λ (bs : List ℕ). bs ++ encode_utf8_all (c ∷ [])) (encodes-chars prefix is_prefix)
+    ∙ ap (λ (bs : List ℕ). prefix ++ bs) (append-nil (encode_utf8 c)) ∙ sym (prefix_further text end (encode_utf8 c) behind ends is) in
+    sym (chars_from_encodes (chars prefix ++ c ∷ []) (prefix_of text behind) is_grown spelled)
 
-pub is_front : (text end : List ℕ) → EndsIn text end → IsUtf8 text → IsUtf8 end → IsUtf8 (front_of text end)
-is_front text end ends is_text is_end = IsUtf8-take text (length text - length end) is_text (cut_before_end text end ends is_end)
+pub is_prefix : (text end : List ℕ) → EndsIn text end → IsUtf8 text → IsUtf8 end → IsUtf8 (prefix_of text end)
+is_prefix text end ends is_text is_end = IsUtf8-take text (length text - length end) is_text (cut_before_end text end ends is_end)
 
 -- a text that was passed over up to its end
 pub record Passed (text end : List ℕ) : Type 0 where
   pub ends : EndsIn text end
   pub is_text : IsUtf8 text
   pub is_end : IsUtf8 end
-  pub all : chars text ≡ chars (front_of text end) ++ chars end
+  pub all : chars text ≡ chars (prefix_of text end) ++ chars end
 
 -- it is passed wherever it ends in characters
 pub passed_to : (text end : List ℕ) → EndsIn text end → IsUtf8 text → IsUtf8 end → Passed text end
@@ -90,7 +90,7 @@ passed_to text end ends is_text is_end = record {
   ends = ends;
   is_text = is_text;
   is_end = is_end;
-  all = ap chars (front_and_end text end ends) ∙ chars-append (front_of text end) end (is_front text end ends is_text is_end);
+  all = ap chars (prefix_and_end text end ends) ∙ chars-append (prefix_of text end) end (is_prefix text end ends is_text is_end);
 }
 
 pub nothing_passed : (text : List ℕ) → IsUtf8 text → Passed text text
@@ -98,50 +98,50 @@ nothing_passed text is = record {
   ends = ends_in_itself text;
   is_text = is;
   is_end = is;
-  all = ap (λ (front : List ℕ). front ++ chars text) (sym (ap chars (front_of_itself text) ∙ chars-nil));
+  all = ap (λ (prefix : List ℕ). prefix ++ chars text) (sym (ap chars (prefix_of_itself text) ∙ chars-nil));
 }
 
-pub empty_front : (text : List ℕ) → chars (front_of text text) ≡ []
-empty_front text = ap chars (front_of_itself text) ∙ chars-nil
+pub empty_prefix : (text : List ℕ) → chars (prefix_of text text) ≡ []
+empty_prefix text = ap chars (prefix_of_itself text) ∙ chars-nil
 
 pub one_passed : (text end behind : List ℕ) (c : ℕ) → Passed text end → end ≡ encode_utf8 c ++ behind → Passed text behind
 one_passed text end behind c passed is =
     let is_behind = IsUtf8-past_char end behind c passed.is_end is in
-    let grown = front_grows text end behind c passed.is_text passed.is_end is_behind passed.ends is in
+    let grown = prefix_grows text end behind c passed.is_text passed.is_end is_behind passed.ends is in
     record {
       ends = ends_further text end (encode_utf8 c) behind passed.ends is;
       is_text = passed.is_text;
       is_end = is_behind;
       all =
           passed.all
-          ∙ ap (λ (rest : List ℕ). chars (front_of text end) ++ rest) (chars_past_char end behind c passed.is_end is)
-          ∙ sym (append_assoc (chars (front_of text end)) (c ∷ []) (chars behind))
-          ∙ ap (λ (front : List ℕ). front ++ chars behind) (sym grown);
+          ∙ ap (λ (rest : List ℕ). chars (prefix_of text end) ++ rest) (chars_past_char end behind c passed.is_end is)
+          ∙ sym (append_assoc (chars (prefix_of text end)) (c ∷ []) (chars behind))
+          ∙ ap (λ (prefix : List ℕ). prefix ++ chars behind) (sym grown);
     }
 
-pub front_passed : (text end behind : List ℕ) (c : ℕ) → Passed text end → end ≡ encode_utf8 c ++ behind
-    → chars (front_of text behind) ≡ chars (front_of text end) ++ c ∷ []
-front_passed text end behind c passed is = front_grows text end behind c passed.is_text passed.is_end
+pub prefix_passed : (text end behind : List ℕ) (c : ℕ) → Passed text end → end ≡ encode_utf8 c ++ behind
+    → chars (prefix_of text behind) ≡ chars (prefix_of text end) ++ c ∷ []
+prefix_passed text end behind c passed is = prefix_grows text end behind c passed.is_text passed.is_end
     (IsUtf8-past_char end behind c passed.is_end is) passed.ends is
 
 -- one run of characters after another
 pub run_passed : (text end further : List ℕ) → Passed text end → EndsIn end further → IsUtf8 further → Passed text further
 run_passed text end further passed ends is =
-    passed_to text further (ends_further text end (front_of end further) further passed.ends (front_and_end end further ends)) passed.is_text is
+    passed_to text further (ends_further text end (prefix_of end further) further passed.ends (prefix_and_end end further ends)) passed.is_text is
 
-pub run_front : (text end further : List ℕ) → Passed text end → EndsIn end further
-    → chars (front_of text further) ≡ chars (front_of text end) ++ chars (front_of end further)
-run_front text end further passed ends =
-    ap chars (front_further text end (front_of end further) further passed.ends (front_and_end end further ends))
-    ∙ chars-append (front_of text end) (front_of end further) (is_front text end passed.ends passed.is_text passed.is_end)
+pub run_prefix : (text end further : List ℕ) → Passed text end → EndsIn end further
+    → chars (prefix_of text further) ≡ chars (prefix_of text end) ++ chars (prefix_of end further)
+run_prefix text end further passed ends =
+    ap chars (prefix_further text end (prefix_of end further) further passed.ends (prefix_and_end end further ends))
+    ∙ chars-append (prefix_of text end) (prefix_of end further) (is_prefix text end passed.ends passed.is_text passed.is_end)
 
--- where nothing is left the front is all
-pub all_passed : (text end : List ℕ) → Passed text end → chars end ≡ [] → chars text ≡ chars (front_of text end)
-all_passed text end passed is = passed.all ∙ ap (λ (rest : List ℕ). chars (front_of text end) ++ rest) is ∙ append-nil (chars (front_of text end))
+-- where nothing is left the prefix is all
+pub all_passed : (text end : List ℕ) → Passed text end → chars end ≡ [] → chars text ≡ chars (prefix_of text end)
+all_passed text end passed is = passed.all ∙ ap (λ (rest : List ℕ). chars (prefix_of text end) ++ rest) is ∙ append-nil (chars (prefix_of text end))
 
--- a character that isn't sought leaves the front free
-pub still_free : (sign c : ℕ) (front grown : List ℕ) → IsFree sign front → (c ≡ sign → ⊥) → grown ≡ front ++ c ∷ [] → IsFree sign grown
-still_free sign c front grown free is_not is =
+-- a character that isn't sought leaves the prefix free
+pub still_free : (sign c : ℕ) (prefix grown : List ℕ) → IsFree sign prefix → (c ≡ sign → ⊥) → grown ≡ prefix ++ c ∷ [] → IsFree sign grown
+still_free sign c prefix grown free is_not is =
     ap (λ (text : List ℕ). list_any (λ character. character == sign) text) is
-    ∙ list_any-append (λ character. character == sign) front (c ∷ [])
+    ∙ list_any-append (λ character. character == sign) prefix (c ∷ [])
     ∙ grind (arith, nat_tests, free, is_not)

@@ -14,13 +14,13 @@ neither true b h = cc
 one_cut : ℕ → List Text → Bool → List Text
 one_cut c pieces is = cond is ([] ∷ pieces) (onto_first c pieces)
 
-cut_front : (sign : ℕ) (front : Text) (back : List Text) (text : Text) → IsFree sign front → cut_at sign text ≡ [] ∷ back
-    → cut_at sign (front ++ text) ≡ front ∷ back
+cut_prefix : (sign : ℕ) (prefix : Text) (back : List Text) (text : Text) → IsFree sign prefix → cut_at sign text ≡ [] ∷ back
+    → cut_at sign (prefix ++ text) ≡ prefix ∷ back
 unfolding one_cut
-cut_front sign [] back text free is = is
-cut_front sign (c ∷ front) back text free is =
+cut_prefix sign [] back text free is = is
+cut_prefix sign (c ∷ prefix) back text free is =
     let both = neither (c == sign) _ free in
-    ap (one_cut c (cut_at sign (front ++ text))) both.0 ∙ ap (onto_first c) (cut_front sign front back text both.1 is)
+    ap (one_cut c (cut_at sign (prefix ++ text))) both.0 ∙ ap (onto_first c) (cut_prefix sign prefix back text both.1 is)
 
 at_sign : (sign : ℕ) → (sign == sign) ≡ true
 at_sign sign = grind (arith, nat_tests)
@@ -33,11 +33,11 @@ cut_free sign (c ∷ rest) free =
     let both = neither (c == sign) _ free in
     ap (one_cut c (cut_at sign rest)) both.0 ∙ ap (onto_first c) (cut_free sign rest both.1)
 
--- the front is the first piece, and the back gives the others
-pub cut_cut : (sign : ℕ) (text front back : Text) → IsCut sign text front back → cut_at sign text ≡ front ∷ cut_at sign back
+-- the prefix is the first piece, and the back gives the others
+pub cut_cut : (sign : ℕ) (text prefix back : Text) → IsCut sign text prefix back → cut_at sign text ≡ prefix ∷ cut_at sign back
 unfolding one_cut
-cut_cut sign text front back cut =
-    ap (cut_at sign) cut.0 ∙ cut_front sign front (cut_at sign back) (sign ∷ back) cut.1 (ap (one_cut sign (cut_at sign back)) (at_sign sign))
+cut_cut sign text prefix back cut =
+    ap (cut_at sign) cut.0 ∙ cut_prefix sign prefix (cut_at sign back) (sign ∷ back) cut.1 (ap (one_cut sign (cut_at sign back)) (at_sign sign))
 
 three : (major minor : Text) (first : Bool) (c : ℕ) (pieces : List Text) → version_of (major ∷ minor ∷ one_cut c pieces first) ≡ None
 unfolding one_cut

@@ -1,52 +1,112 @@
 -- A line's fields, read one after another, are those that the notation asks for.
-use Rattle.std.proofs.Common.{◌≡◌, ◌++◌, append_assoc, codes, Bool, Option, None, Some, option_map, option_and_then, List, [], ◌∷◌, map, refl, sym, ap, ◌∙◌}
+use Rattle.std.proofs.Common.{◌≡◌, ◌++◌, append_assoc, Bool, Option, None, Some, option_map, option_and_then, List, [], ◌∷◌, map, refl, sym, ap, ◌∙◌}
 use Rattle.std.proofs.lemmas.List.{map-append}
 use Rattle.yaml_base.specs.Characters.{Text}
-use Rattle.yaml_base.specs.Event.{Event, TagDirective, ScalarStyle}
-use Rattle.yaml_base.specs.scripts.Script.{Field, bare, quoted, named, flags, scalar_styles, text_or_none, scalar_of, scalar_with, directives_of}
+use Rattle.yaml_base.specs.Event.{Event, TagDirective, ScalarStyle, CollectionStyle}
+use Rattle.yaml_base.specs.scripts.Script.{Field, bare, quoted, named, flags, scalar_styles, text_or_none, scalar_of, scalar_with, collection_of, collection_with}
+use Rattle.yaml_base.specs.scripts.Script.{collection_styles, directives_of}
 use Rattle.yaml_base.specs.declared.directives.yaml_tag_directive_t.{yaml_tag_directive_t}
 use Rattle.yaml_base.specs.Seen.{seen_directive}
-use Rattle.yaml_tool.specs.Fields.{led_by, field_of, no_text, the_text, fields_after}
+use Rattle.yaml_tool.specs.declared.events.CollectionKind.{CollectionKind}
+use Rattle.yaml_tool.specs.Events.{start_of}
+use Rattle.yaml_tool.specs.Fields.{led_by, field_of, HasField}
 
 -- the field that stands for a choice is read as it
 choice_read : (choice : Option Text) → text_or_none (field_of choice) ≡ Some choice
 choice_read None = refl
 choice_read (Some text) = refl
 
-scalar_parts : (style plain quoted' value : Text) (anchor tag : Option Text) (fields : Option (List Field)) → Some value ≡ option_and_then the_text fields
-    → option_and_then scalar_of (led_by (bare style) (led_by (bare plain) (led_by (bare quoted') (led_by (field_of anchor) (led_by (field_of tag) fields)))))
+scalar_parts : (style plain quoted' value : Text) (anchor tag : Option Text)
+    → option_and_then scalar_of (led_by (bare style) (led_by (bare plain) (led_by (bare quoted') (led_by (field_of anchor) (led_by (field_of tag)
+    (led_by (quoted value) (Some [])))))))
     ≡ scalar_with (named scalar_styles style) (named flags plain) (named flags quoted') (Some anchor) (Some tag) value
-scalar_parts style plain quoted' value anchor tag None is = cc
-scalar_parts style plain quoted' value anchor tag (Some []) is = cc
-scalar_parts style plain quoted' value anchor tag (Some (bare word ∷ rest)) is = cc
-scalar_parts style plain quoted' value anchor tag (Some (quoted text ∷ other ∷ rest)) is = cc
-scalar_parts style plain quoted' value anchor tag (Some (quoted text ∷ [])) is =
-    let same : text ≡ value = cc in
-    ap (λ choice. scalar_with (named scalar_styles style) (named flags plain) (named flags quoted') choice (text_or_none (field_of tag)) text)
+scalar_parts style plain quoted' value anchor tag =
+    ap (λ choice. scalar_with (named scalar_styles style) (named flags plain) (named flags quoted') choice (text_or_none (field_of tag)) value)
     (choice_read anchor)
-    ∙ ap (λ choice. scalar_with (named scalar_styles style) (named flags plain) (named flags quoted') (Some anchor) choice text) (choice_read tag)
-    ∙ ap (scalar_with (named scalar_styles style) (named flags plain) (named flags quoted') (Some anchor) (Some tag)) same
+    ∙ ap (λ choice. scalar_with (named scalar_styles style) (named flags plain) (named flags quoted') (Some anchor) choice value) (choice_read tag)
 
--- a scalar's parts, each read by itself, are the scalar
-pub scalar_joined : (style plain quoted' value : Text) (anchor tag : Option Text) (f0 f1 f2 f3 f4 f5 : Option (List Field)) (result : Option Event)
+-- a scalar's fields, each read by itself
+pub record ScalarRead (style plain quoted' value : Text) (anchor tag : Option Text) (f0 f1 f2 f3 f4 f5 f6 : Option (List Field)) : Type 0 where
+  pub style_read : f0 ≡ led_by (bare style) f1
+  pub plain_read : f1 ≡ led_by (bare plain) f2
+  pub quoted_read : f2 ≡ led_by (bare quoted') f3
+  pub anchor_read : f3 ≡ led_by (field_of anchor) f4
+  pub tag_read : f4 ≡ led_by (field_of tag) f5
+  pub value_read : f5 ≡ led_by (quoted value) f6
+
+scalar_fields : (style plain quoted' value : Text) (anchor tag : Option Text) (f0 f1 f2 f3 f4 f5 f6 : Option (List Field))
+    → ScalarRead style plain quoted' value anchor tag f0 f1 f2 f3 f4 f5 f6
+    → f0 ≡ led_by (bare style) (led_by (bare plain) (led_by (bare quoted') (led_by (field_of anchor) (led_by (field_of tag) (led_by (quoted value) f6)))))
+scalar_fields style plain quoted' value anchor tag f0 f1 f2 f3 f4 f5 f6 read =
+    read.style_read ∙ ap (led_by (bare style)) (read.plain_read ∙ ap (led_by (bare plain)) (read.quoted_read ∙ ap (led_by (bare quoted'))
+    (read.anchor_read ∙ ap (led_by (field_of anchor)) (read.tag_read ∙ ap (led_by (field_of tag)) read.value_read))))
+
+-- are the scalar
+pub scalar_joined : (style plain quoted' value : Text) (anchor tag : Option Text) (f0 f1 f2 f3 f4 f5 f6 : Option (List Field)) (result : Option Event)
     → (a : Option ScalarStyle) (b c : Option Bool)
-    → f0 ≡ led_by (bare style) f1 → f1 ≡ led_by (bare plain) f2 → f2 ≡ led_by (bare quoted') f3 → f3 ≡ led_by (field_of anchor) f4
-    → f4 ≡ led_by (field_of tag) f5 → Some value ≡ option_and_then the_text f5
+    → ScalarRead style plain quoted' value anchor tag f0 f1 f2 f3 f4 f5 f6 → f6 ≡ Some []
     → a ≡ named scalar_styles style → b ≡ named flags plain → c ≡ named flags quoted'
     → result ≡ scalar_with a b c (Some anchor) (Some tag) value → result ≡ option_and_then scalar_of f0
-scalar_joined style plain quoted' value anchor tag f0 f1 f2 f3 f4 f5 result a b c e0 e1 e2 e3 e4 e5 is_a is_b is_c gives =
+scalar_joined style plain quoted' value anchor tag f0 f1 f2 f3 f4 f5 f6 result a b c read end is_a is_b is_c gives =
     gives
     ∙ ap (λ x. scalar_with x b c (Some anchor) (Some tag) value) is_a
     ∙ ap (λ x. scalar_with (named scalar_styles style) x c (Some anchor) (Some tag) value) is_b
     ∙ ap (λ x. scalar_with (named scalar_styles style) (named flags plain) x (Some anchor) (Some tag) value) is_c
-    ∙ sym (scalar_parts style plain quoted' value anchor tag f5 e5)
-    ∙ sym (ap (option_and_then scalar_of)
-    (e0 ∙ ap (led_by (bare style)) (e1 ∙ ap (led_by (bare plain)) (e2 ∙ ap (led_by (bare quoted')) (e3 ∙ ap (led_by (field_of anchor)) e4)))))
+    ∙ sym (scalar_parts style plain quoted' value anchor tag)
+    ∙ sym (ap (option_and_then scalar_of) (scalar_fields style plain quoted' value anchor tag f0 f1 f2 f3 f4 f5 f6 read
+    ∙ ap (λ fields. led_by (bare style) (led_by (bare plain) (led_by (bare quoted') (led_by (field_of anchor) (led_by (field_of tag)
+    (led_by (quoted value) fields)))))) end))
 
--- a collection of which no more than its style is said
-pub usual_collection : (style text : Text) (fields : Option (List Field)) → fields ≡ led_by (bare style) (fields_after text) → text ≡ codes " 1 - -"
-    → fields ≡ Some (bare style ∷ bare (codes "1") ∷ no_text ∷ no_text ∷ [])
-usual_collection style text fields led is = led ∙ ap (λ (t : Text). led_by (bare style) (fields_after t)) is
+-- and where a further field follows, there is no scalar
+pub no_scalar : (style plain quoted' value : Text) (anchor tag : Option Text) (f0 f1 f2 f3 f4 f5 f6 : Option (List Field))
+    → ScalarRead style plain quoted' value anchor tag f0 f1 f2 f3 f4 f5 f6 → HasField f6 → None ≡ option_and_then scalar_of f0
+no_scalar style plain quoted' value anchor tag f0 f1 f2 f3 f4 f5 f6 read has =
+    none f6 has ∙ sym (ap (option_and_then scalar_of) (scalar_fields style plain quoted' value anchor tag f0 f1 f2 f3 f4 f5 f6 read))
+  where
+    none : (fields : Option (List Field)) → HasField fields
+        → None ≡ option_and_then scalar_of (led_by (bare style) (led_by (bare plain) (led_by (bare quoted') (led_by (field_of anchor) (led_by (field_of tag)
+        (led_by (quoted value) fields))))))
+    none None has = refl
+    none (Some []) has = absurd has
+    none (Some (field ∷ rest)) has = refl
+
+collection_parts : (style implicit : Text) (anchor tag : Option Text)
+    → option_and_then collection_of (led_by (bare style) (led_by (bare implicit) (led_by (field_of anchor) (led_by (field_of tag) (Some [])))))
+    ≡ collection_with (named collection_styles style) (named flags implicit) (Some anchor) (Some tag)
+collection_parts style implicit anchor tag =
+    ap (λ choice. collection_with (named collection_styles style) (named flags implicit) choice (text_or_none (field_of tag))) (choice_read anchor)
+    ∙ ap (λ choice. collection_with (named collection_styles style) (named flags implicit) (Some anchor) choice) (choice_read tag)
+
+-- a collection's parts, each read by itself, are its start
+pub collection_joined : (kind : CollectionKind) (style implicit : Text) (anchor tag : Option Text) (f0 f1 f2 f3 f4 : Option (List Field)) (result : Option Event)
+    → (a : Option CollectionStyle) (b : Option Bool)
+    → f0 ≡ led_by (bare style) f1 → f1 ≡ led_by (bare implicit) f2 → f2 ≡ led_by (field_of anchor) f3 → f3 ≡ led_by (field_of tag) f4 → f4 ≡ Some []
+    → a ≡ named collection_styles style → b ≡ named flags implicit
+    → result ≡ option_map (start_of kind) (collection_with a b (Some anchor) (Some tag))
+    → result ≡ option_map (start_of kind) (option_and_then collection_of f0)
+collection_joined kind style implicit anchor tag f0 f1 f2 f3 f4 result a b e0 e1 e2 e3 e4 is_a is_b gives =
+    gives
+    ∙ ap (λ x. option_map (start_of kind) (collection_with x b (Some anchor) (Some tag))) is_a
+    ∙ ap (λ x. option_map (start_of kind) (collection_with (named collection_styles style) x (Some anchor) (Some tag))) is_b
+    ∙ ap (option_map (start_of kind)) (sym (collection_parts style implicit anchor tag))
+    ∙ sym (ap (λ fields. option_map (start_of kind) (option_and_then collection_of fields))
+    (e0 ∙ ap (led_by (bare style)) (e1 ∙ ap (led_by (bare implicit)) (e2 ∙ ap (led_by (field_of anchor)) (e3 ∙ ap (led_by (field_of tag)) e4)))))
+
+-- a further field is one too many
+pub no_collection : (kind : CollectionKind) (style implicit : Text) (anchor tag : Option Text) (f0 f1 f2 f3 f4 : Option (List Field))
+    → f0 ≡ led_by (bare style) f1 → f1 ≡ led_by (bare implicit) f2 → f2 ≡ led_by (field_of anchor) f3 → f3 ≡ led_by (field_of tag) f4 → HasField f4
+    → None ≡ option_map (start_of kind) (option_and_then collection_of f0)
+no_collection kind style implicit anchor tag f0 f1 f2 f3 f4 e0 e1 e2 e3 has =
+    none f4 has
+    ∙ sym (ap (λ fields. option_map (start_of kind) (option_and_then collection_of fields))
+    (e0 ∙ ap (led_by (bare style)) (e1 ∙ ap (led_by (bare implicit)) (e2 ∙ ap (led_by (field_of anchor)) e3))))
+  where
+    none : (fields : Option (List Field)) → HasField fields
+        → None ≡ option_map (start_of kind) (option_and_then collection_of (led_by (bare style) (led_by (bare implicit) (led_by (field_of anchor)
+        (led_by (field_of tag) fields)))))
+    none None has = refl
+    none (Some []) has = absurd has
+    none (Some (field ∷ rest)) has = refl
 
 -- ---- directives
 

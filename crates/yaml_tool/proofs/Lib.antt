@@ -1,4 +1,3 @@
-pub mod WordLemmas
 pub mod NumberLemmas
 pub mod TextLemmas
 pub mod FieldLemmas

@@ -1,19 +1,20 @@
 -- What lines say, by their first field and by their bytes.
-use Rattle.std.proofs.Common.{◌≡◌, ℕ, Bor, Bool, true, false, codes, Option, None, Some, option_map, option_and_then, List, [], ◌∷◌, refl, ap, sym, ◌∙◌}
-use Rattle.std.proofs.Common.{if◌then◌else◌}
-use Rattle.std.specs.Option.{option_or, IfSome}
+use Rattle.std.proofs.Common.{◌≡◌, ℕ, Bool, true, false, ◌==◌, Option, None, Some, option_map, option_and_then, List, [], ◌∷◌, refl, ap, sym}
+use Rattle.std.proofs.Common.{◌∙◌, if◌then◌else◌, arith}
+use Rattle.std.proofs.lemmas.Bool.Decides.{nat_tests}
+use Rattle.std.specs.List.{list_any}
+use Rattle.std.specs.Option.{option_or}
 use Rattle.std.specs.Str.{chars, IsUtf8, is_utf8}
 use Rattle.std.proofs.lemmas.Str.{is_utf8-from_IsUtf8, IsUtf8-from_is_utf8}
 use Rattle.yaml_base.specs.Event.{Event}
-use Rattle.yaml_base.specs.scripts.Script.{Setting, Field, bare, quoted, field_and, sets, gives, setting_of, setting_line, event_of, line_of, line_read}
-use Rattle.yaml_base.specs.scripts.Script.{line_understood}
-use Rattle.yaml_tool.specs.Cuts.{Follows}
-use Rattle.yaml_tool.specs.Events.{event_word, event_by, usual_event}
-use Rattle.yaml_tool.specs.Fields.{led_by, the_text, text_begun}
-use Rattle.yaml_tool.specs.Lines.{usual_line}
+use Rattle.yaml_base.specs.scripts.Script.{Setting, Field, Line, bare, quoted, says_nothing, sets, gives, setting_of, setting_line, event_of, line_of, line_read}
+use Rattle.yaml_base.specs.scripts.Script.{line_understood, fields_read, number_sign}
+use Rattle.yaml_tool.specs.Cuts.{IsFree}
+use Rattle.yaml_tool.specs.Events.{event_word, event_by}
+use Rattle.yaml_tool.specs.Fields.{led_by}
 use Rattle.yaml_tool.specs.declared.words.EventName.{EventName}
 use Rattle.yaml_tool.specs.declared.words.EventName.TheVariants as name
-use Rattle.yaml_base.specs.Characters.{Text}
+use Rattle.yaml_base.specs.Characters.{Text, carriage_return}
 
 -- the name of an event sets nothing
 no_setting : (name : EventName) (value : Text) → setting_of (event_word name) value ≡ None
@@ -67,9 +68,8 @@ line_said name (Some fields) =
     ap (option_map gives) (sym (gives_event name fields))
     ∙ ap (λ setting. option_or (option_map sets setting) (option_map gives (event_of (event_word name) fields))) (sym (sets_nothing name fields))
 
-pub event_said : (name : EventName) (word : Text) (line rest : Option (List Field)) (event : Event) → word ≡ event_word name → line ≡ led_by (bare word) rest
-    → Some event ≡ event_by name rest
-    → Some (gives event) ≡ option_and_then line_of line
+pub event_said : (name : EventName) (word : Text) (line rest : Option (List Field)) (event : Option Event) → word ≡ event_word name
+    → line ≡ led_by (bare word) rest → event ≡ event_by name rest → option_map gives event ≡ option_and_then line_of line
 event_said name word line rest event is begins given =
     ap (option_map gives) given ∙ line_said name rest ∙ sym (ap (option_and_then line_of) (begins ∙ ap (λ w. led_by (bare w) rest) is))
 
@@ -89,7 +89,7 @@ setting_said word line rest setting no_event begins given = ap (option_map sets)
         ∙ ap (λ event. option_or (option_map sets (setting_line word fields)) (option_map gives event)) (sym (no_event fields))
 
 -- a line in UTF-8 says what its characters say
-pub characters_said : (bytes : List ℕ) → IsUtf8 bytes → line_understood bytes ≡ line_read (chars bytes)
+characters_said : (bytes : List ℕ) → IsUtf8 bytes → line_understood bytes ≡ line_read (chars bytes)
 characters_said bytes is = ap (λ (b : Bool). if b then line_read (chars bytes) else None) (is_utf8-from_IsUtf8 bytes is)
 
 no_utf8 : (bytes : List ℕ) (b : Bool) → (b ≡ true → IsUtf8 bytes) → ¬ (IsUtf8 bytes) → b ≡ false
@@ -101,20 +101,19 @@ pub bytes_said_nothing : (bytes : List ℕ) → ¬ (IsUtf8 bytes) → line_under
 bytes_said_nothing bytes is_not = ap (λ (b : Bool). if b then line_read (chars bytes) else None)
     (no_utf8 bytes (is_utf8 bytes) (IsUtf8-from_is_utf8 bytes) is_not)
 
--- ---- a usual scalar's line
+pub bytes_said : (bytes text : List ℕ) (said : Option Line) → text ≡ bytes → IsUtf8 bytes → said ≡ line_read (chars text) → said ≡ line_understood bytes
+bytes_said bytes text said same is reads = reads ∙ ap (λ (b : List ℕ). line_read (chars b)) same ∙ sym (characters_said bytes is)
 
-usual_fields : (fields : Option (List Field))
-    → option_and_then line_of (field_and (Some (bare (codes "=VAL"))) (field_and (Some (bare (codes "any"))) (field_and (Some (bare (codes "1")))
-    (field_and (Some (bare (codes "1"))) (field_and (Some (bare (codes "-"))) (field_and (Some (bare (codes "-"))) fields))))))
-    ≡ option_map (λ value. gives (usual_event value)) (option_and_then the_text fields)
-usual_fields None = refl
-usual_fields (Some []) = refl
-usual_fields (Some (bare word ∷ rest)) = refl
-usual_fields (Some (quoted text ∷ [])) = refl
-usual_fields (Some (quoted text ∷ other ∷ rest)) = refl
+-- a comment says nothing
+pub comment_said : (text comment : Text) → text ≡ number_sign ∷ comment → IsFree carriage_return comment → Some says_nothing ≡ line_read text
+comment_said text comment begins free =
+    sym (ap line_read begins ∙ ap (λ (b : Bool). let said : Option Line = if b then None else Some says_nothing in said) free)
 
--- it says a scalar whose value is all that follows
-pub usual_said : (line : List ℕ) (end : Option (Bor (List ℕ))) → IfSome end (λ rest. Follows (codes "=VAL any 1 1 - - \"") line rest.now)
-    → IfSome end (λ behind. line_read (chars line) ≡ usual_line (chars behind.now))
-usual_said line None follows = tt
-usual_said line (Some behind) follows = ap line_read follows.all ∙ usual_fields (text_begun (chars behind.now))
+-- any other line says what its fields do
+pub fields_said : (text rest : Text) (c : ℕ) → text ≡ c ∷ rest → ¬ (c ≡ number_sign) → option_and_then line_of (fields_read text) ≡ line_read text
+fields_said text rest c begins is_not =
+    ap (λ (t : Text). option_and_then line_of (fields_read t)) begins ∙ sym (ap line_read begins ∙ ap (λ (b : Bool). if b
+    then (if list_any (λ d. d == carriage_return) rest then None else Some says_nothing) else option_and_then line_of (fields_read (c ∷ rest))) other)
+  where
+    other : (c == number_sign) ≡ false
+    other = grind (arith, nat_tests, is_not)

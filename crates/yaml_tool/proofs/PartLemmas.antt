@@ -4,26 +4,33 @@ use Rattle.std.specs.Prelude.{⊤, IfSome}
 use Rattle.std.specs.Io.KnownBytes.{Consumes, Keeps, IsAtEnd}
 use Rattle.yaml_base.specs.scripts.Script.{Script, script_of}
 use Rattle.yaml_tool.specs.declared.answers.run_answer_t.{run_answer_t}
-use Rattle.yaml_tool.specs.declared.parts.Front.{Front}
+use Rattle.yaml_tool.specs.declared.answers.run_answer_t.TheVariants.{Done, Refused, BadLine, ReadFailed, WriteFailed, NoMemory}
+use Rattle.yaml_tool.specs.declared.parts.ScriptPrefix.{ScriptPrefix}
 use Rattle.yaml_tool.specs.declared.scripts.ScriptError.{ScriptError}
-use Rattle.yaml_tool.specs.Runs.{IsFault}
+use Rattle.yaml_tool.specs.Runs.{IsFault, ReadsAll}
 use Rattle.yaml_tool.specs.Scripts.{seen_progress, nothing_said, script_behind, script_with, GoesOn, IsFaultOf}
 
+-- at the end of the input the whole script was read
+pub reads_at_end : (answer : run_answer_t) (left : Option (List ℕ)) → IsAtEnd left → ReadsAll answer left
+reads_at_end Done left end = end
+reads_at_end (Refused line error) left end = end
+reads_at_end (BadLine line) left end = end
+reads_at_end ReadFailed left end = tt
+reads_at_end WriteFailed left end = end
+reads_at_end NoMemory left end = tt
+
 -- what was read and what is left are the script that there was, where it is known
-abbrev pub StillSays : {A : Type 0} → Option (List ℕ) → Front A → Option (List ℕ) → Type 0
-StillSays None front left = ⊤
-StillSays (Some all) front None = ⊥
-StillSays (Some all) front (Some left) = script_of all ≡ script_with front left
+abbrev pub StillSays : {A : Type 0} → Option (List ℕ) → ScriptPrefix A → Option (List ℕ) → Type 0
+StillSays None prefix left = ⊤
+StillSays (Some all) prefix None = ⊥
+StillSays (Some all) prefix (Some left) = script_of all ≡ script_with prefix left
 
-pub says_first : {A : Type 0} (given : Option (List ℕ)) (front : Front A) → seen_progress front.progress ≡ nothing_said → front.number ≡ 1
-    → front.line.items ≡ [] → StillSays given front given
-says_first None front said number line = tt
-says_first (Some all) front said number line =
-    sym (ap (λ said. script_behind front.number said (front.line.items ++ all)) said
-    ∙ ap (λ (n : ℕ). script_behind n nothing_said (front.line.items ++ all)) number
-    ∙ ap (λ (bytes : List ℕ). script_behind 1 nothing_said (bytes ++ all)) line)
+pub says_first : {A : Type 0} (given : Option (List ℕ)) (prefix : ScriptPrefix A) → ((bytes : List ℕ) → script_with prefix bytes ≡ script_of bytes)
+    → StillSays given prefix given
+says_first None prefix is = tt
+says_first (Some all) prefix is = sym (is all)
 
-pub says_more : {A : Type 0} (given now next : Option (List ℕ)) (old new : Front A) → StillSays given old now → GoesOn old now new next
+pub says_more : {A : Type 0} (given now next : Option (List ℕ)) (old new : ScriptPrefix A) → StillSays given old now → GoesOn old now new next
     → StillSays given new next
 says_more None now next old new says goes = tt
 says_more (Some all) None next old new says goes = absurd says
@@ -31,44 +38,44 @@ says_more (Some all) (Some left) None old new says goes = absurd goes
 says_more (Some all) (Some left) (Some after) old new says goes = says ∙ goes
 
 -- a script whose end was reached
-pub says_all : {A : Type 0} (given left : Option (List ℕ)) (front : Front A) (script : Script) → StillSays given front left → IsAtEnd left
-    → script_with front [] ≡ script → IfSome given (λ all. script_of all ≡ script)
-says_all None left front script says end is = tt
-says_all (Some all) None front script says end is = absurd says
-says_all (Some all) (Some left) front script says end is = says ∙ ap (script_with front) end ∙ is
+pub says_all : {A : Type 0} (given left : Option (List ℕ)) (prefix : ScriptPrefix A) (script : Script) → StillSays given prefix left → IsAtEnd left
+    → script_with prefix [] ≡ script → IfSome given (λ all. script_of all ≡ script)
+says_all None left prefix script says end is = tt
+says_all (Some all) None prefix script says end is = absurd says
+says_all (Some all) (Some left) prefix script says end is = says ∙ ap (script_with prefix) end ∙ is
 
-pub bad_all : {A : Type 0} (given left : Option (List ℕ)) (front : Front A) (error : ScriptError) (answer : run_answer_t) → StillSays given front left
-    → IsAtEnd left → IsFaultOf error (script_with front []) → ((script : Script) → IsFaultOf error script → IsFault answer script)
+pub bad_all : {A : Type 0} (given left : Option (List ℕ)) (prefix : ScriptPrefix A) (error : ScriptError) (answer : run_answer_t) → StillSays given prefix left
+    → IsAtEnd left → IsFaultOf error (script_with prefix []) → ((script : Script) → IsFaultOf error script → IsFault answer script)
     → IfSome given (λ all. IsFault answer (script_of all))
-bad_all None left front error answer says end bad told = tt
-bad_all (Some all) None front error answer says end bad told = absurd says
-bad_all (Some all) (Some left) front error answer says end bad told =
-    subst (IsFault answer) (sym (says ∙ ap (script_with front) end)) (told (script_with front []) bad)
+bad_all None left prefix error answer says end bad told = tt
+bad_all (Some all) None prefix error answer says end bad told = absurd says
+bad_all (Some all) (Some left) prefix error answer says end bad told =
+    subst (IsFault answer) (sym (says ∙ ap (script_with prefix) end)) (told (script_with prefix []) bad)
 
-pub bad_front : {A : Type 0} (given left : Option (List ℕ)) (front : Front A) (answer : run_answer_t) → StillSays given front left
-    → IfSome left (λ bytes. IsFault answer (script_with front bytes)) → IfSome given (λ all. IsFault answer (script_of all))
-bad_front None left front answer says bad = tt
-bad_front (Some all) None front answer says bad = absurd says
-bad_front (Some all) (Some left) front answer says bad = subst (IsFault answer) (sym says) bad
+pub bad_prefix : {A : Type 0} (given left : Option (List ℕ)) (prefix : ScriptPrefix A) (answer : run_answer_t) → StillSays given prefix left
+    → IfSome left (λ bytes. IsFault answer (script_with prefix bytes)) → IfSome given (λ all. IsFault answer (script_of all))
+bad_prefix None left prefix answer says bad = tt
+bad_prefix (Some all) None prefix answer says bad = absurd says
+bad_prefix (Some all) (Some left) prefix answer says bad = subst (IsFault answer) (sym says) bad
 
 -- a part that was read and taken
-pub goes_past : {A : Type 0} (left next : Option (List ℕ)) (part : List ℕ) (old new : Front A) → Consumes left next part
+pub goes_past : {A : Type 0} (left next : Option (List ℕ)) (part : List ℕ) (old new : ScriptPrefix A) → Consumes left next part
     → ((more : List ℕ) → script_with old (part ++ more) ≡ script_with new more) → GoesOn old left new next
 goes_past None next part old new consumes taken = tt
 goes_past (Some before) None part old new consumes taken = absurd consumes
 goes_past (Some before) (Some after) part old new consumes taken = ap (script_with old) consumes ∙ taken after
 
 -- one that wasn't read
-pub goes_nowhere : {A : Type 0} (left next : Option (List ℕ)) (front : Front A) → Keeps left next → GoesOn front left front next
-goes_nowhere None next front keeps = tt
-goes_nowhere (Some before) None front keeps = absurd keeps
-goes_nowhere (Some before) (Some after) front keeps = ap (script_with front) (sym keeps)
+pub goes_nowhere : {A : Type 0} (left next : Option (List ℕ)) (prefix : ScriptPrefix A) → Keeps left next → GoesOn prefix left prefix next
+goes_nowhere None next prefix keeps = tt
+goes_nowhere (Some before) None prefix keeps = absurd keeps
+goes_nowhere (Some before) (Some after) prefix keeps = ap (script_with prefix) (sym keeps)
 
 -- one in which a line is bad
-pub bad_past : {A : Type 0} (left next : Option (List ℕ)) (part : List ℕ) (front : Front A) (error : ScriptError) (answer : run_answer_t)
-    → Consumes left next part → ((more : List ℕ) → IsFaultOf error (script_with front (part ++ more)))
-    → ((script : Script) → IsFaultOf error script → IsFault answer script) → IfSome left (λ bytes. IsFault answer (script_with front bytes))
-bad_past None next part front error answer consumes bad told = tt
-bad_past (Some before) None part front error answer consumes bad told = absurd consumes
-bad_past (Some before) (Some after) part front error answer consumes bad told =
-    subst (λ bytes. IsFault answer (script_with front bytes)) (sym consumes) (told (script_with front (part ++ after)) (bad after))
+pub bad_past : {A : Type 0} (left next : Option (List ℕ)) (part : List ℕ) (prefix : ScriptPrefix A) (error : ScriptError) (answer : run_answer_t)
+    → Consumes left next part → ((more : List ℕ) → IsFaultOf error (script_with prefix (part ++ more)))
+    → ((script : Script) → IsFaultOf error script → IsFault answer script) → IfSome left (λ bytes. IsFault answer (script_with prefix bytes))
+bad_past None next part prefix error answer consumes bad told = tt
+bad_past (Some before) None part prefix error answer consumes bad told = absurd consumes
+bad_past (Some before) (Some after) part prefix error answer consumes bad told =
+    subst (λ bytes. IsFault answer (script_with prefix bytes)) (sym consumes) (told (script_with prefix (part ++ after)) (bad after))

@@ -5,7 +5,7 @@ use Rattle.std.specs.Prelude.{◌⊎◌, ℕ, Option, None, Some, IfSome, Err, L
 use Rattle.std.specs.Io.KnownBytes.{Appends}
 use Rattle.yaml_base.specs.Settings.{Settings}
 use Rattle.yaml_base.specs.Seen.{seen_event}
-use Rattle.yaml_base.specs.scripts.Script.{Numbered, Script, script_of}
+use Rattle.yaml_base.specs.scripts.Script.{Numbered, understood, script_of}
 use Rattle.yaml_base.specs.declared.errors.yaml_error_t.{yaml_error_t}
 use Rattle.yaml_pen.specs.Page.{told}
 use Rattle.yaml_pen.specs.Wrote.{Grows}
@@ -16,13 +16,14 @@ use Rattle.yaml_tool.specs.declared.answers.run_answer_t.{run_answer_t}
 use Rattle.yaml_tool.specs.declared.answers.run_answer_t.TheVariants.{Done, Refused, BadLine, ReadFailed, WriteFailed, NoMemory}
 use Rattle.yaml_tool.specs.declared.scripts.NumberedEvent.{NumberedEvent}
 use Rattle.yaml_tool.specs.Scripts.{seen_numbered}
-use Rattle.yaml_tool.specs.Runs.{events_in, EmitsAll, RefusesAt, Emits, EndsAt, LastLine, FlushesLast, TellsEvents, WritesNothing}
+use Rattle.yaml_tool.specs.Runs.{events_in, EmitsAll, RefusesAt, Emits, EndsAt, LastLine, FlushesLast, TellsEvents, Tells, WritesNothing}
 
--- what is understood of the bytes that were read is understood of what the reader had left
-pub script_read : (left : Option (List ℕ)) (read bytes : List ℕ) (script : Script) → IfSome left (λ all. read ≡ all) → bytes ≡ read → script_of bytes ≡ script
-    → IfSome left (λ all. script_of all ≡ script)
-script_read None read bytes script whole is h = tt
-script_read (Some all) read bytes script whole is h = ap script_of (sym (is ∙ whole)) ∙ h
+-- what an answer says of a script's events it says of the bytes that were left
+pub tells_all : (left : Option (List ℕ)) (given : Settings) (all : List Numbered) (answer : run_answer_t) (old new : Option (List ℕ))
+    → IfSome left (λ bytes. script_of bytes ≡ understood given all) → TellsEvents given all answer old new
+    → IfSome left (λ bytes. Tells (script_of bytes) answer old new)
+tells_all None given all answer old new is tells = tt
+tells_all (Some bytes) given all answer old new is tells = subst (λ script. Tells script answer old new) (sym is) tells
 
 -- an error that was told
 pub some_told : (given : Option yaml_error_t) (error : yaml_error_t) → Err error ≡ told given → given ≡ Some error
@@ -119,7 +120,7 @@ ended_without set all None state is stands kept none ends =
 ended_without set all (Some line) state is stands kept none ends = cc
 
 -- what is told where the output was written, or couldn't be
-told_answer : (set : Settings) (all : List Numbered) (answer : run_answer_t) (state : State) (old new : Option (List ℕ)) → Emits set all answer state
+pub told_answer : (set : Settings) (all : List Numbered) (answer : run_answer_t) (state : State) (old new : Option (List ℕ)) → Emits set all answer state
     → Appends old new state.page.output → TellsEvents set all answer old new
 told_answer set all Done state old new emits appends = (state, emits, appends)
 told_answer set all (Refused line error) state old new emits appends = (state, emits, appends)
@@ -128,17 +129,7 @@ told_answer set all ReadFailed state old new emits appends = tt
 told_answer set all WriteFailed state old new emits appends = tt
 told_answer set all NoMemory state old new emits appends = tt
 
-pub told_written : (set : Settings) (all : List Numbered) (answer result : run_answer_t) (state : State) (output : List ℕ) (old new : Option (List ℕ))
-    → Emits set all answer state → output ≡ state.page.output
-    → (result ≡ WriteFailed) ⊎ ((result ≡ answer) × Appends old new output) → TellsEvents set all result old new
-told_written set all answer result state output old new emits is wrote =
-    elim wrote [
-      | inl failed ↦ subst (λ result. TellsEvents set all result old new) (sym failed) tt
-      | inr done ↦ subst (λ result. TellsEvents set all result old new) (sym done.0)
-          (told_answer set all answer state old new emits (subst (Appends old new) is done.1))
-    ]
-
-silent_only : (set : Settings) (all : List Numbered) (answer : run_answer_t) (state : State) (old new : Option (List ℕ)) → Emits set all answer state
+pub silent_only : (set : Settings) (all : List Numbered) (answer : run_answer_t) (state : State) (old new : Option (List ℕ)) → Emits set all answer state
     → WritesNothing answer old new
 silent_only set all Done state old new emits = tt
 silent_only set all (Refused line error) state old new emits = tt
@@ -146,12 +137,3 @@ silent_only set all (BadLine line) state old new emits = absurd emits
 silent_only set all ReadFailed state old new emits = absurd emits
 silent_only set all WriteFailed state old new emits = tt
 silent_only set all NoMemory state old new emits = absurd emits
-
-pub none_silent : (set : Settings) (all : List Numbered) (answer result : run_answer_t) (state : State) (output : List ℕ) (old new : Option (List ℕ))
-    → Emits set all answer state
-    → (result ≡ WriteFailed) ⊎ ((result ≡ answer) × Appends old new output) → WritesNothing result old new
-none_silent set all answer result state output old new emits wrote =
-    elim wrote [
-      | inl failed ↦ subst (λ result. WritesNothing result old new) (sym failed) tt
-      | inr done ↦ subst (λ result. WritesNothing result old new) (sym done.0) (silent_only set all answer state old new emits)
-    ]

@@ -2,12 +2,12 @@
 use Rattle.std.specs.Result.{IfErr, IsErr, IsErrAnd}
 use Rattle.std.proofs.Common.{◌≡◌, Result, Ok, Err, ℕ, suc, ◌+◌, ◌<◌, add-one, Option, None, Some, List, [], ◌∷◌, ◌++◌, length, length-append, append-nil}
 use Rattle.std.proofs.Common.{append_assoc, refl, ap, sym, subst, ◌∙◌, arith}
-use Rattle.std.specs.Borrow.{Bor}
 use Rattle.yaml_base.specs.Characters.{line_feed}
 use Rattle.yaml_base.specs.scripts.Script.{Script, Sofar, bad_line, understood, unset, settings_of, script_from}
 use Rattle.yaml_tool.specs.declared.scripts.ScriptError.{ScriptError}
-use Rattle.yaml_tool.specs.Cuts.{IsFree, cut_at}
-use Rattle.yaml_tool.specs.Scripts.{after_line, script_behind, CutsLine, LeavesLine, IsFaultOf}
+use Rattle.yaml_tool.specs.declared.scripts.ScriptError.TheVariants.{BadLine, OutOfMemory}
+use Rattle.yaml_tool.specs.Cuts.{IsFree, IsCut, cut_at}
+use Rattle.yaml_tool.specs.Scripts.{after_line, script_behind, LeavesLine, IsFaultOf, IsFaultAt}
 use Rattle.yaml_tool.proofs.CutLemmas.{cut_free, cut_cut}
 
 -- what a script's line and those behind it come to
@@ -37,41 +37,34 @@ line_is_good number before after line rest good =
     one_line number rest (after_line number before line) ∙ ap (goes_on number rest) good ∙ ap (λ n. script_from n after rest) (sym (add-one number))
 
 -- what follows a line is shorter
-pub shorter : (bytes line : List ℕ) (behind : Option (Bor (List ℕ))) (others : Bor (List ℕ)) → CutsLine bytes line behind → behind ≡ Some others
-    → length others.now < length bytes
-shorter bytes line None others cut is = cc
-shorter bytes line (Some behind) others cut is =
-    let same : behind ≡ others = cc in
-    subst (λ (o : Bor (List ℕ)). length o.now < length bytes) same (rw cut.0 (omega (arith, length-append line (line_feed ∷ behind.now))))
+pub shorter : (bytes line rest : List ℕ) → IsCut line_feed bytes line rest → length rest < length bytes
+shorter bytes line rest cut = rw cut.0 (omega (arith, length-append line (line_feed ∷ rest)))
 
 -- the first line that ends is that of the bytes, whatever stands behind them
-first_more : (bytes line : List ℕ) (behind : Option (Bor (List ℕ))) (others : Bor (List ℕ)) (more : List ℕ) → CutsLine bytes line behind → behind ≡ Some others
-    → cut_at line_feed (bytes ++ more) ≡ line ∷ cut_at line_feed (others.now ++ more)
-first_more bytes line None others more cut is = cc
-first_more bytes line (Some behind) others more cut is =
-    let same : behind ≡ others = cc in
-    subst (λ (o : Bor (List ℕ)). cut_at line_feed (bytes ++ more) ≡ line ∷ cut_at line_feed (o.now ++ more)) same
-    (cut_cut line_feed (bytes ++ more) line (behind.now ++ more)
-    (ap (λ (b : List ℕ). b ++ more) cut.0 ∙ append_assoc line (line_feed ∷ behind.now) more, cut.1))
+first_more : (bytes line rest more : List ℕ) → IsCut line_feed bytes line rest → cut_at line_feed (bytes ++ more) ≡ line ∷ cut_at line_feed (rest ++ more)
+first_more bytes line rest more cut =
+    cut_cut line_feed (bytes ++ more) line (rest ++ more) (ap (λ (b : List ℕ). b ++ more) cut.0 ∙ append_assoc line (line_feed ∷ rest) more, cut.1)
 
--- both, for a script that is still to be cut
-pub bad_first : (number : ℕ) (before : Sofar) (bytes line : List ℕ) (behind : Option (Bor (List ℕ))) (others : Bor (List ℕ)) (more : List ℕ)
-    → CutsLine bytes line behind → behind ≡ Some others → after_line number before line ≡ None → script_behind number before (bytes ++ more) ≡ bad_line number
-bad_first number before bytes line behind others more cut is bad =
-    ap (script_from number before) (first_more bytes line behind others more cut is)
-    ∙ line_is_bad number before line (cut_at line_feed (others.now ++ more)) bad
+-- its fault is the script's
+pub fault_first : (error : ScriptError) (number : ℕ) (before : Sofar) (bytes line rest more : List ℕ) → IsCut line_feed bytes line rest
+    → IsFaultAt error number (after_line number before line) → IsFaultOf error (script_behind number before (bytes ++ more))
+fault_first (BadLine told) number before bytes line rest more cut fault =
+    ap (script_from number before) (first_more bytes line rest more cut)
+    ∙ line_is_bad number before line (cut_at line_feed (rest ++ more)) fault.1 ∙ ap bad_line (sym fault.0)
+fault_first OutOfMemory number before bytes line rest more cut fault = tt
 
-pub good_first : (number : ℕ) (before after : Sofar) (bytes line : List ℕ) (behind : Option (Bor (List ℕ))) (others : Bor (List ℕ)) (more : List ℕ)
-    → CutsLine bytes line behind → behind ≡ Some others → after_line number before line ≡ Some after
-    → script_behind number before (bytes ++ more) ≡ script_behind (number + 1) after (others.now ++ more)
-good_first number before after bytes line behind others more cut is good =
-    ap (script_from number before) (first_more bytes line behind others more cut is)
-    ∙ line_is_good number before after line (cut_at line_feed (others.now ++ more)) good
+pub good_first : (number : ℕ) (before after : Sofar) (bytes line rest more : List ℕ) → IsCut line_feed bytes line rest
+    → after_line number before line ≡ Some after
+    → script_behind number before (bytes ++ more) ≡ script_behind (number + 1) after (rest ++ more)
+good_first number before after bytes line rest more cut good =
+    ap (script_from number before) (first_more bytes line rest more cut) ∙ line_is_good number before after line (cut_at line_feed (rest ++ more)) good
 
 -- the last line, behind which nothing stands
-pub bad_last : (number : ℕ) (before : Sofar) (line : List ℕ) → IsFree line_feed line → after_line number before line ≡ None
-    → script_behind number before line ≡ bad_line number
-bad_last number before line free bad = ap (script_from number before) (cut_free line_feed line free) ∙ line_is_bad number before line [] bad
+pub fault_last : (error : ScriptError) (number : ℕ) (before : Sofar) (line : List ℕ) → IsFree line_feed line
+    → IsFaultAt error number (after_line number before line) → IsFaultOf error (script_behind number before line)
+fault_last (BadLine told) number before line free fault =
+    ap (script_from number before) (cut_free line_feed line free) ∙ line_is_bad number before line [] fault.1 ∙ ap bad_line (sym fault.0)
+fault_last OutOfMemory number before line free fault = tt
 
 pub good_last : (number : ℕ) (before after : Sofar) (line : List ℕ) → IsFree line_feed line → after_line number before line ≡ Some after
     → script_behind number before line ≡ understood (settings_of unset after.settings) after.events

@@ -1,4 +1,4 @@
--- What a search of bytes tells of the front before the byte that it found.
+-- What a search of bytes tells of the prefix before the byte that it found.
 use Rattle.std.proofs.Common.{◌≡◌, ℕ, zero, suc, ◌+◌, ◌-◌, ◌<◌, ◌≤◌, ◌==◌, Bool, true, false, ◌||◌, List, [], ◌∷◌, ◌++◌, length, take, drop, add-one, take_all}
 use Rattle.std.proofs.Common.{le_refl, append-nil, refl, sym, subst, ap, ◌∙◌, arith}
 use Rattle.std.specs.Prelude.{slice_index}
@@ -65,19 +65,19 @@ passes_first first second = grind (arith, nat_tests)
 passes_second : (first second : ℕ) → is_byte2 first second second ≡ true
 passes_second first second = grind (arith, nat_tests)
 
-skips : (first second : ℕ) (text front end : List ℕ) → first < 128 → second < 128 → text ≡ front ++ end → IsUtf8 front → IsUtf8 end
-    → list_any (is_byte2 first second) front ≡ false → SkipsTo first second text end
-skips first second text front end first_ascii second_ascii all is_front is_end none =
+skips : (first second : ℕ) (text prefix end : List ℕ) → first < 128 → second < 128 → text ≡ prefix ++ end → IsUtf8 prefix → IsUtf8 end
+    → list_any (is_byte2 first second) prefix ≡ false → SkipsTo first second text end
+skips first second text prefix end first_ascii second_ascii all is_prefix is_end none =
     let test = is_byte2 first second in
-    let spelled = ap (list_any test) (encodes-chars front is_front) ∙ none in
-    let before = take_seam text front end all in record {
-      ends = ends_at_seam text front end all;
+    let spelled = ap (list_any test) (encodes-chars prefix is_prefix) ∙ none in
+    let before = take_seam text prefix end all in record {
+      ends = ends_at_seam text prefix end all;
       is_end = is_end;
       free = (
         ap (λ (bytes : List ℕ). list_any (λ c. c == first) (chars bytes)) before
-            ∙ free_characters test first (chars front) first_ascii (passes_first first second) spelled,
+            ∙ free_characters test first (chars prefix) first_ascii (passes_first first second) spelled,
         ap (λ (bytes : List ℕ). list_any (λ c. c == second) (chars bytes)) before
-            ∙ free_characters test second (chars front) second_ascii (passes_second first second) spelled,
+            ∙ free_characters test second (chars prefix) second_ascii (passes_second first second) spelled,
       );
     }
 

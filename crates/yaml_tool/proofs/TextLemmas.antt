@@ -11,7 +11,7 @@ use Rattle.yaml_base.specs.Characters.{Text}
 use Rattle.yaml_base.specs.scripts.Script as notation
 use Rattle.yaml_base.specs.scripts.Script.{goes_on, stands_for, ends, fails, at_character, at_escape, at_digits, at_brace, text_from, numbered_turn}
 use Rattle.yaml_base.specs.scripts.Script.{quotation_mark, backslash, turn}
-use Rattle.yaml_tool.specs.Cuts.{IsFree, IsCut, SkipsTo, front_of}
+use Rattle.yaml_tool.specs.Cuts.{IsFree, IsCut, SkipsTo, prefix_of}
 use Rattle.yaml_tool.specs.Texts.{ReadsOn}
 use Rattle.yaml_tool.proofs.CutLemmas.{neither}
 use Rattle.yaml_tool.proofs.CharacterLemmas.{passed_to}
@@ -42,27 +42,27 @@ digit_goes_on digits c h = subst
     (λ (b : Bool). (if b then numbered_turn digits else goes_on (at_digits (digits ++ c ∷ []))) ≡ goes_on (at_digits (digits ++ c ∷ []))) (sym h) refl
 
 -- no closing brace, no character
-digits_without_end : (digits front : Text) → IsFree 0x7D front → text_from (at_digits digits) front ≡ None
+digits_without_end : (digits prefix : Text) → IsFree 0x7D prefix → text_from (at_digits digits) prefix ≡ None
 digits_without_end digits [] free = refl
-digits_without_end digits (c ∷ front) free =
+digits_without_end digits (c ∷ prefix) free =
     let both = neither (c == 0x7D) _ free in
-    first_turn (at_digits digits) c front
-    ∙ ap (λ t. read_turn t front) (digit_goes_on digits c both.0) ∙ digits_without_end (digits ++ c ∷ []) front both.1
+    first_turn (at_digits digits) c prefix
+    ∙ ap (λ t. read_turn t prefix) (digit_goes_on digits c both.0) ∙ digits_without_end (digits ++ c ∷ []) prefix both.1
 
 -- up to the first closing brace they are one character
-digits_with_end : (digits front back : Text) → IsFree 0x7D front
-    → text_from (at_digits digits) (front ++ (0x7D ∷ back)) ≡ read_turn (numbered_turn (digits ++ front)) back
+digits_with_end : (digits prefix back : Text) → IsFree 0x7D prefix
+    → text_from (at_digits digits) (prefix ++ (0x7D ∷ back)) ≡ read_turn (numbered_turn (digits ++ prefix)) back
 digits_with_end digits [] back free = first_turn (at_digits digits) 0x7D back ∙ ap (λ (ds : Text). read_turn (numbered_turn ds) back) (sym (append-nil digits))
-digits_with_end digits (c ∷ front) back free =
+digits_with_end digits (c ∷ prefix) back free =
     let both = neither (c == 0x7D) _ free in
-    first_turn (at_digits digits) c (front ++ (0x7D ∷ back))
-    ∙ ap (λ t. read_turn t (front ++ (0x7D ∷ back))) (digit_goes_on digits c both.0)
-    ∙ digits_with_end (digits ++ c ∷ []) front back both.1
-    ∙ ap (λ (ds : Text). read_turn (numbered_turn ds) back) (append_assoc digits (c ∷ []) front)
+    first_turn (at_digits digits) c (prefix ++ (0x7D ∷ back))
+    ∙ ap (λ t. read_turn t (prefix ++ (0x7D ∷ back))) (digit_goes_on digits c both.0)
+    ∙ digits_with_end (digits ++ c ∷ []) prefix back both.1
+    ∙ ap (λ (ds : Text). read_turn (numbered_turn ds) back) (append_assoc digits (c ∷ []) prefix)
 
-pub braced : (behind digits front back : Text) → behind ≡ 0x7B ∷ digits → IsCut 0x7D digits front back
-    → text_from at_brace behind ≡ read_turn (numbered_turn front) back
-braced behind digits front back opened cut = rw (opened, cut.0) (digits_with_end [] front back cut.1)
+pub braced : (behind digits prefix back : Text) → behind ≡ 0x7B ∷ digits → IsCut 0x7D digits prefix back
+    → text_from at_brace behind ≡ read_turn (numbered_turn prefix) back
+braced behind digits prefix back opened cut = rw (opened, cut.0) (digits_with_end [] prefix back cut.1)
 
 pub unbraced : (behind digits : Text) → behind ≡ 0x7B ∷ digits → IsFree 0x7D digits → text_from at_brace behind ≡ None
 unbraced behind digits opened free = rw opened (digits_without_end [] digits free)
@@ -83,30 +83,30 @@ pub one_more : {A : Type 0} (text grown : String A) (c : ℕ) (others : Option T
 one_more text grown c None grows = refl
 one_more text grown c (Some more) grows =
     ap (λ (all : List ℕ). Some all)
-    (sym (append_assoc (seen_text text) (c ∷ []) more) ∙ ap (λ (front : List ℕ). front ++ more) (sym (seen_pushed text grown c grows)))
+    (sym (append_assoc (seen_text text) (c ∷ []) more) ∙ ap (λ (prefix : List ℕ). prefix ++ more) (sym (seen_pushed text grown c grows)))
 
 -- an empty string has no characters
 pub nothing_before : {A : Type 0} (text : String A) (read : Option Text) → string_bytes text ≡ [] → read ≡ option_map (λ more. seen_text text ++ more) read
 nothing_before text None empty = refl
-nothing_before text (Some more) empty = ap (λ (front : List ℕ). Some (front ++ more)) (sym (ap chars empty ∙ chars-nil))
+nothing_before text (Some more) empty = ap (λ (prefix : List ℕ). Some (prefix ++ more)) (sym (ap chars empty ∙ chars-nil))
 
 -- characters other than a quotation mark and a backslash stand for themselves
-pub reads_front : (front behind : Text) → IsFree quotation_mark front → IsFree backslash front → ReadsOn (front ++ behind) front behind
-reads_front [] behind no_mark no_backslash = go (text_from at_character behind)
+pub reads_prefix : (prefix behind : Text) → IsFree quotation_mark prefix → IsFree backslash prefix → ReadsOn (prefix ++ behind) prefix behind
+reads_prefix [] behind no_mark no_backslash = go (text_from at_character behind)
   where
     go : (read : Option Text) → read ≡ option_map (λ more. [] ++ more) read
     go None = refl
     go (Some more) = refl
-reads_front (c ∷ front) behind no_mark no_backslash =
-    first_turn at_character c (front ++ behind)
-    ∙ ap (λ t. read_turn t (front ++ behind)) stands
-    ∙ ap (option_map (λ value. c ∷ value)) (reads_front front behind mark.1 slash.1)
+reads_prefix (c ∷ prefix) behind no_mark no_backslash =
+    first_turn at_character c (prefix ++ behind)
+    ∙ ap (λ t. read_turn t (prefix ++ behind)) stands
+    ∙ ap (option_map (λ value. c ∷ value)) (reads_prefix prefix behind mark.1 slash.1)
     ∙ go (text_from at_character behind)
   where
-    mark : ((c == quotation_mark) ≡ false) × IsFree quotation_mark front
+    mark : ((c == quotation_mark) ≡ false) × IsFree quotation_mark prefix
     mark = neither (c == quotation_mark) _ no_mark
 
-    slash : ((c == backslash) ≡ false) × IsFree backslash front
+    slash : ((c == backslash) ≡ false) × IsFree backslash prefix
     slash = neither (c == backslash) _ no_backslash
 
     stands : turn at_character c ≡ stands_for c
@@ -114,27 +114,27 @@ reads_front (c ∷ front) behind no_mark no_backslash =
         ap (λ (b : Bool). if b then ends else (if c == backslash then goes_on at_escape else stands_for c)) mark.0
         ∙ ap (λ (b : Bool). if b then goes_on at_escape else stands_for c) slash.0
 
-    go : (read : Option Text) → option_map (λ value. c ∷ value) (option_map (λ more. front ++ more) read) ≡ option_map (λ more. (c ∷ front) ++ more) read
+    go : (read : Option Text) → option_map (λ value. c ∷ value) (option_map (λ more. prefix ++ more) read) ≡ option_map (λ more. (c ∷ prefix) ++ more) read
     go None = refl
     go (Some more) = refl
 
 -- so does what stands before the first of them
-pub reads_skipped : (text behind front : List ℕ) → IsUtf8 text → SkipsTo quotation_mark backslash text behind → front ≡ front_of text behind
-    → ReadsOn (chars text) (chars front) (chars behind)
-reads_skipped text behind front is skipped begins =
+pub reads_skipped : (text behind prefix : List ℕ) → IsUtf8 text → SkipsTo quotation_mark backslash text behind → prefix ≡ prefix_of text behind
+    → ReadsOn (chars text) (chars prefix) (chars behind)
+reads_skipped text behind prefix is skipped begins =
     ap (text_from at_character) (passed_to text behind skipped.ends is skipped.is_end).all
-    ∙ reads_front (chars (front_of text behind)) (chars behind) skipped.free.0 skipped.free.1
+    ∙ reads_prefix (chars (prefix_of text behind)) (chars behind) skipped.free.0 skipped.free.1
     ∙ ap (λ (bytes : List ℕ). option_map (λ more. chars bytes ++ more) (text_from at_character (chars behind))) (sym begins)
 
--- bytes that have grown by those of a front
-pub front_taken : (text grown front : List ℕ) (whole behind : Text) → IsUtf8 text → grown ≡ text ++ front → ReadsOn whole (chars front) behind
+-- bytes that have grown by those of a prefix
+pub prefix_taken : (text grown prefix : List ℕ) (whole behind : Text) → IsUtf8 text → grown ≡ text ++ prefix → ReadsOn whole (chars prefix) behind
     → option_map (λ more. chars text ++ more) (text_from at_character whole) ≡ option_map (λ more. chars grown ++ more) (text_from at_character behind)
-front_taken text grown front whole behind is grows reads = ap (option_map (λ more. chars text ++ more)) reads ∙ go (text_from at_character behind)
+prefix_taken text grown prefix whole behind is grows reads = ap (option_map (λ more. chars text ++ more)) reads ∙ go (text_from at_character behind)
   where
-    seen : chars grown ≡ chars text ++ chars front
-    seen = ap chars grows ∙ chars-append text front is
+    seen : chars grown ≡ chars text ++ chars prefix
+    seen = ap chars grows ∙ chars-append text prefix is
 
-    go : (read : Option Text) → option_map (λ more. chars text ++ more) (option_map (λ more. chars front ++ more) read)
+    go : (read : Option Text) → option_map (λ more. chars text ++ more) (option_map (λ more. chars prefix ++ more) read)
         ≡ option_map (λ more. chars grown ++ more) read
     go None = refl
-    go (Some more) = ap (λ (t : Text). Some t) (sym (append_assoc (chars text) (chars front) more) ∙ ap (λ (t : Text). t ++ more) (sym seen))
+    go (Some more) = ap (λ (t : Text). Some t) (sym (append_assoc (chars text) (chars prefix) more) ∙ ap (λ (t : Text). t ++ more) (sym seen))

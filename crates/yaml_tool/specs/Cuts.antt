@@ -7,9 +7,9 @@ use Rattle.std.specs.Str.{chars, IsUtf8}
 abbrev pub IsFree : ℕ → List ℕ → Type 0
 IsFree sign text = list_any (λ character. character == sign) text ≡ false
 
--- the text is the front, the character and the back, and the character doesn't stand in the front
+-- the text is the prefix, the character and the back, and the character doesn't stand in the prefix
 abbrev pub IsCut : ℕ → List ℕ → List ℕ → List ℕ → Type 0
-IsCut sign text front back = (text ≡ front ++ (sign ∷ back)) × IsFree sign front
+IsCut sign text prefix back = (text ≡ prefix ++ (sign ∷ back)) × IsFree sign prefix
 
 -- the pieces of the text between the characters
 abbrev pub cut_at : ℕ → List ℕ → List (List ℕ)
@@ -21,20 +21,11 @@ pub record EndsIn (text end : List ℕ) : Type 0 where
   pub same : drop (length text - length end) text ≡ end
 
 -- the bytes before an end of so many
-abbrev pub front_of : List ℕ → List ℕ → List ℕ
-front_of text end = take (length text - length end) text
+abbrev pub prefix_of : List ℕ → List ℕ → List ℕ
+prefix_of text end = take (length text - length end) text
 
 -- the text ends in a text before which neither of two characters stands
 pub record SkipsTo (first second : ℕ) (text end : List ℕ) : Type 0 where
   pub ends : EndsIn text end
   pub is_end : IsUtf8 end
-  pub free : IsFree first (chars (front_of text end)) × IsFree second (chars (front_of text end))
-
--- the text is these characters, then those of the rest
-pub record Follows (front text rest : List ℕ) : Type 0 where
-  pub is_rest : IsUtf8 rest
-  pub all : chars text ≡ front ++ chars rest
-
--- the text doesn't begin with these characters
-abbrev pub Lacks : (front text : List ℕ) → Type 0
-Lacks front text = (rest : List ℕ) → chars text ≡ front ++ rest → ⊥
+  pub free : IsFree first (chars (prefix_of text end)) × IsFree second (chars (prefix_of text end))

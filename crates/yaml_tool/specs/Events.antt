@@ -1,15 +1,16 @@
 -- What contracts see of the fields of events.
-use Rattle.std.specs.Prelude.{true, Option, None, option_map, option_and_then, List, [], ◌∷◌, map, Vec, codes}
-use Rattle.std.specs.Str.{chars}
+use Rattle.std.specs.Prelude.{Option, option_map, option_and_then, List, map, Vec, codes}
 use Rattle.yaml_base.specs.Characters.{Text}
-use Rattle.yaml_base.specs.Event.{Event, Version, TagDirective, scalar, any_style, stream_end, document_start, sequence_start, sequence_end, mapping_start}
-use Rattle.yaml_base.specs.Event.{mapping_end}
-use Rattle.yaml_base.specs.Seen.{seen_text, seen_version, seen_directive}
+use Rattle.yaml_base.specs.Event.{Event, Version, TagDirective, Collection, CollectionStyle, any_layout, block, flow, stream_end, sequence_start, sequence_end}
+use Rattle.yaml_base.specs.Event.{mapping_start, mapping_end}
+use Rattle.yaml_base.specs.Seen.{seen_version, seen_directive}
 use Rattle.yaml_base.specs.declared.directives.yaml_version_directive_t.{yaml_version_directive_t}
 use Rattle.yaml_base.specs.declared.directives.yaml_tag_directive_t.{yaml_tag_directive_t}
-use Rattle.yaml_base.specs.scripts.Script.{Field, bare, stream_start_of, alone, document_start_of, document_end_of, alias_of, scalar_of, collection_of}
-use Rattle.yaml_tool.specs.Fields.{field_of}
-use Rattle.yaml_tool.specs.declared.events.CollectionFields.{CollectionFields}
+use Rattle.yaml_base.specs.scripts.Script.{Field, stream_start_of, alone, document_start_of, document_end_of, alias_of, scalar_of, collection_of}
+use Rattle.yaml_tool.specs.declared.events.CollectionKind.{CollectionKind}
+use Rattle.yaml_tool.specs.declared.events.CollectionKind.TheVariants.{Sequence, Mapping}
+use Rattle.yaml_tool.specs.declared.words.CollectionStyle as collection
+use Rattle.yaml_tool.specs.declared.words.CollectionStyle.TheVariants as style
 use Rattle.yaml_tool.specs.declared.words.EventName.{EventName}
 use Rattle.yaml_tool.specs.declared.words.EventName.TheVariants as name
 
@@ -39,11 +40,16 @@ event_by name.SequenceEnd fields = option_and_then (alone sequence_end) fields
 event_by name.MappingStart fields = option_map mapping_start (option_and_then collection_of fields)
 event_by name.MappingEnd fields = option_and_then (alone mapping_end) fields
 
--- the fields of a collection's start, in order
-abbrev pub four_fields : {A : Type 0} → CollectionFields A → List Field
-four_fields fields =
-    bare (chars fields.style.now) ∷ bare (chars fields.implicit.now) ∷ field_of (option_map seen_text fields.anchor) ∷ field_of
-    (option_map seen_text fields.tag) ∷ []
+-- a collection's style as plain data
+abbrev pub seen_collection_style : collection.CollectionStyle → CollectionStyle
+seen_collection_style style.Any = any_layout
+seen_collection_style style.Block = block
+seen_collection_style style.Flow = flow
+
+-- the start of a collection of this kind
+abbrev pub start_of : CollectionKind → Collection → Event
+start_of Sequence all = sequence_start all
+start_of Mapping all = mapping_start all
 
 -- a version, or none, where it was read
 abbrev pub seen_versions : Option (Option yaml_version_directive_t) → Option (Option Version)
@@ -52,12 +58,3 @@ seen_versions choice = option_map (λ version. option_map seen_version version) 
 -- directives, where they were read
 abbrev pub seen_directives : {A : Type 0} → Option (Vec (yaml_tag_directive_t A) A) → Option (List TagDirective)
 seen_directives choice = option_map (λ all. map seen_directive all.items) choice
-
--- a scalar of which no more than its value is said
-abbrev pub usual_event : Text → Event
-usual_event value =
-    scalar (record { anchor = None; tag = None; value = value; plain_implicit = true; quoted_implicit = true; style = any_style })
-
--- the start of a document of which nothing is said
-abbrev pub usual_start_event : Event
-usual_start_event = document_start (record { version = None; directives = []; implicit = true })

@@ -1,11 +1,12 @@
 -- What contracts see of the fields of a line, which are read one after another.
-use Rattle.std.specs.Prelude.{ℕ, ◌≡◌, ⊤, false, Option, None, Some, List, [], ◌∷◌, ◌==◌, option_map, codes, if◌then◌else◌}
+use Rattle.std.specs.Prelude.{ℕ, suc, ◌≡◌, ⊤, false, Option, None, Some, List, [], ◌∷◌, length, option_map, codes}
+use Rattle.std.specs.Borrow.{Bor}
 use Rattle.std.specs.List.{onto_first}
 use Rattle.std.specs.Str.{chars, IsUtf8}
-use Rattle.yaml_base.specs.Characters.{Text, space}
+use Rattle.yaml_base.specs.Characters.{Text}
 use Rattle.yaml_base.specs.scripts.Script as notation
-use Rattle.yaml_base.specs.scripts.Script.{bare, quoted, outside, inside, escaped, pieces_from, quotation_mark}
-use Rattle.yaml_tool.specs.Cuts.{EndsIn, front_of}
+use Rattle.yaml_base.specs.scripts.Script.{bare, quoted, outside, inside, escaped, pieces_from}
+use Rattle.yaml_tool.specs.Cuts.{EndsIn, prefix_of}
 use Rattle.yaml_tool.specs.declared.fields.FieldState.{FieldState}
 use Rattle.yaml_tool.specs.declared.fields.FieldState.TheVariants.{Outside, Inside, Escaped}
 
@@ -24,23 +25,19 @@ attached (c ∷ prefix) pieces = onto_first c (attached prefix pieces)
 pub record RunsTo (standing : notation.FieldState) (text end : List ℕ) : Type 0 where
   pub ends : EndsIn text end
   pub is_end : IsUtf8 end
-  pub run : pieces_from standing (chars text) ≡ attached (chars (front_of text end)) (pieces_from standing (chars end))
+  pub run : pieces_from standing (chars text) ≡ attached (chars (prefix_of text end)) (pieces_from standing (chars end))
 
--- ---- the rest of a line
+-- ---- what is left of a line
 
--- the pieces after a piece: none, or those after the separator
-abbrev pub pieces_after : Text → List Text
-pieces_after [] = []
-pieces_after (c ∷ rest) = pieces_from outside rest
+-- the fields after a field: none at the end of the line, or those after the separator
+abbrev pub later_fields : Option (Bor (List ℕ)) → Option (List notation.Field)
+later_fields None = Some []
+later_fields (Some rest) = notation.fields_read (chars rest.now)
 
--- the fields after a field: none, or those after the separator
-abbrev pub fields_after : Text → Option (List notation.Field)
-fields_after [] = Some []
-fields_after (c ∷ rest) = if c == space then notation.fields_read rest else None
-
--- the fields of a line whose first is a text, without its opening mark
-abbrev pub text_begun : Text → Option (List notation.Field)
-text_begun rest = notation.fields_read (quotation_mark ∷ rest)
+-- how much is left, the separator with what follows it
+abbrev pub left_length : Option (Bor (List ℕ)) → ℕ
+left_length None = 0
+left_length (Some rest) = suc (length rest.now)
 
 -- a field before others, where these have a reading
 abbrev pub led_by : notation.Field → Option (List notation.Field) → Option (List notation.Field)
@@ -52,11 +49,6 @@ led_by field fields = option_map (λ others. field ∷ others) fields
 abbrev pub HasField : Option (List notation.Field) → Type 0
 HasField (Some []) = ⊥
 HasField _ = ⊤
-
--- there is no field, or no reading
-abbrev pub HasNoField : Option (List notation.Field) → Type 0
-HasNoField (Some (field ∷ rest)) = ⊥
-HasNoField _ = ⊤
 
 -- the first field is no word
 abbrev pub HasNoWord : Option (List notation.Field) → Type 0
@@ -86,11 +78,6 @@ HasNoDash _ = ⊤
 abbrev pub HasNoChoice : Option (List notation.Field) → Type 0
 HasNoChoice (Some (field ∷ rest)) = notation.text_or_none field ≡ None
 HasNoChoice _ = ⊤
-
--- the only field, where it is a text
-abbrev pub the_text : List notation.Field → Option Text
-the_text (quoted text ∷ []) = Some text
-the_text _ = None
 
 -- the only field, where it is a word
 abbrev pub the_word : List notation.Field → Option Text

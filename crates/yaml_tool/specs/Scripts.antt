@@ -1,15 +1,14 @@
 -- What contracts see of whole scripts.
 use Rattle.std.specs.Prelude.{◌≡◌, ◌≤◌, ◌+◌, ℕ, Option, None, Some, option_and_then, List, [], ◌++◌, length, map, ⊤}
-use Rattle.std.specs.Borrow.{Bor}
 use Rattle.yaml_base.specs.Characters.{line_feed}
 use Rattle.yaml_base.specs.Seen.{seen_event}
 use Rattle.yaml_base.specs.scripts.Script as notation
 use Rattle.yaml_tool.specs.declared.scripts.NumberedEvent.{NumberedEvent}
 use Rattle.yaml_tool.specs.declared.scripts.Progress.{Progress}
-use Rattle.yaml_tool.specs.declared.parts.Front.{Front}
+use Rattle.yaml_tool.specs.declared.parts.ScriptPrefix.{ScriptPrefix}
 use Rattle.yaml_tool.specs.declared.scripts.ScriptError.{ScriptError}
 use Rattle.yaml_tool.specs.declared.scripts.ScriptError.TheVariants.{BadLine, OutOfMemory}
-use Rattle.yaml_tool.specs.Cuts.{IsFree, IsCut, cut_at}
+use Rattle.yaml_tool.specs.Cuts.{IsFree, cut_at}
 use Rattle.yaml_tool.specs.Settings.{seen_setting}
 
 -- an event and the number of its line
@@ -25,22 +24,18 @@ abbrev pub nothing_said : notation.Sofar
 nothing_said = record { settings = []; events = [] }
 
 -- what the lines so far and one more say, where that is good
-abbrev pub after_said : ℕ → notation.Sofar → Option notation.Line → Option notation.Sofar
-after_said number before line = option_and_then (notation.with_line number before) line
-
--- the same of the line's bytes
 abbrev pub after_line : ℕ → notation.Sofar → List ℕ → Option notation.Sofar
-after_line number before line = after_said number before (notation.line_understood line)
-
--- the first line ends at the first LF, or is all
-abbrev pub CutsLine : List ℕ → List ℕ → Option (Bor (List ℕ)) → Type 0
-CutsLine bytes line None = (line ≡ bytes) × IsFree line_feed bytes
-CutsLine bytes line (Some others) = IsCut line_feed bytes line others.now
+after_line number before bytes = option_and_then (notation.with_line number before) (notation.line_understood bytes)
 
 -- a bad line is the script's first; want of memory says nothing of the script
 abbrev pub IsFaultOf : ScriptError → notation.Script → Type 0
 IsFaultOf (BadLine number) script = script ≡ notation.bad_line number
 IsFaultOf OutOfMemory script = ⊤
+
+-- the line of this number is bad; want of memory says nothing of it
+abbrev pub IsFaultAt : ScriptError → ℕ → Option notation.Sofar → Type 0
+IsFaultAt (BadLine line) number after = (line ≡ number) × (after ≡ None)
+IsFaultAt OutOfMemory number after = ⊤
 
 -- ---- scripts of which the lines so far were taken
 
@@ -54,12 +49,12 @@ pub record LeavesLine (number : ℕ) (before : notation.Sofar) (bytes : List ℕ
   pub counted : next + length last ≤ number + length bytes
   pub same : (more : List ℕ) → script_behind number before (bytes ++ more) ≡ script_behind next after (last ++ more)
 
--- the script whose front was read, with these bytes behind it
-abbrev pub script_with : {A : Type 0} → Front A → List ℕ → notation.Script
-script_with front more = script_behind front.number (seen_progress front.progress) (front.line.items ++ more)
+-- the script whose prefix was read, with these bytes behind it
+abbrev pub script_with : {A : Type 0} → ScriptPrefix A → List ℕ → notation.Script
+script_with prefix more = script_behind prefix.number (seen_progress prefix.progress) (prefix.line.items ++ more)
 
 -- what was left was the rest of the same script, where it is known
-abbrev pub GoesOn : {A : Type 0} → Front A → Option (List ℕ) → Front A → Option (List ℕ) → Type 0
+abbrev pub GoesOn : {A : Type 0} → ScriptPrefix A → Option (List ℕ) → ScriptPrefix A → Option (List ℕ) → Type 0
 GoesOn old None new left = ⊤
 GoesOn old (Some before) new None = ⊥
 GoesOn old (Some before) new (Some after) = script_with old before ≡ script_with new after

@@ -1,4 +1,4 @@
-//! How a run ends, and what is told of it.
+//! How a run ends: its result, its exit status, and its line on standard error.
 ghost use Rattle.std.specs.Prelude.{◌≡◌, IsOk, OnOk};
 ghost use Rattle.std.specs.Io.KnownBytes.{Appends};
 ghost use Rattle.yaml_tool.specs.Answers.{status_of, line_of};
@@ -12,19 +12,19 @@ use yaml_base::yaml_error_t;
 pub enum run_answer_t {
     /// The whole stream was written.
     Done,
-    /// The call that was given the event of this line was refused; for the last flush it is the last event's line.
+    /// The call with this line's event returned this error, or the last flush did; then it is the last event's line.
     Refused(u64, yaml_error_t),
-    /// This line is no line of a script.
+    /// This line cannot be parsed.
     BadLine(u64),
     /// The script could not be read.
     ReadFailed,
     /// The output could not be written.
     WriteFailed,
-    /// A growth outside the emitter was refused.
+    /// An allocation outside the emitter failed.
     NoMemory,
 }
 
-/// The program's status: 0 where it is done, 1 after a refusal, 2 for a bad line, else 3.
+/// The exit status: 0 for `Done`, 1 for `Refused`, 2 for `BadLine`, else 3.
 pub fn status(answer: &run_answer_t) -> u8
     ensures { result ≡ status_of answer.now }
 {
@@ -36,7 +36,7 @@ pub fn status(answer: &run_answer_t) -> u8
     }
 }
 
-/// Writes the program's line about a result, and a line break; nothing where the run is done.
+/// Writes the line that reports a result, with a line break; nothing for `Done`.
 ///
 /// # Errors
 ///

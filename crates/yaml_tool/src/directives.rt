@@ -4,7 +4,7 @@ ghost use Rattle.std.specs.Str.{chars};
 ghost use Rattle.yaml_base.specs.scripts.Script as notation;
 ghost use Rattle.yaml_base.specs.Seen.{seen_version, seen_directive};
 ghost use Rattle.yaml_tool.specs.Cuts.{cut_at};
-ghost use Rattle.yaml_tool.specs.Fields.{fields_after};
+ghost use Rattle.yaml_tool.specs.Fields.{later_fields};
 
 use crate::characters::cut_once;
 use crate::fields::{is_end, text_after};
@@ -13,14 +13,14 @@ use crate::words::is_word;
 use std::alloc::{AllocError, Allocator};
 use yaml_base::{yaml_tag_directive_t, yaml_version_directive_t};
 
-/// The texts before and after the only point; none where there is another number of points.
+/// The texts before and after the only point; `None` if the word has none or more than one.
 fn two_parts(word: &str) -> Option<(&str, &str)>
     ensures { MatchOption result (notation.version_of (cut_at 0x2E (chars word.now)) ≡ None)
         (λ parts. cut_at 0x2E (chars word.now) ≡ chars parts.0.now ∷ chars parts.1.now ∷ []) }
 {
     match cut_once('.', word) {
-        Some((front, back)) => match cut_once('.', back) {
-            None => Some((front, back)),
+        Some((prefix, back)) => match cut_once('.', back) {
+            None => Some((prefix, back)),
             Some(_) => None,
         },
         None => None,
@@ -49,13 +49,13 @@ pub fn version_or_none(word: &str) -> Option<Option<yaml_version_directive_t>>
     }
 }
 
-/// Pairs of texts, each a handle and its prefix; none where a field is no text, or a handle has no prefix.
+/// Pairs of texts, each a handle and its prefix; `None` if a field is no text, or the last handle has no prefix.
 pub fn directives_of<A: Allocator + Copy>(
     alloc: A,
-    rest: &str,
+    rest: Option<&str>,
 ) -> Result<Option<Vec<yaml_tag_directive_t<A>, A>>, AllocError>
     ensures { IfOk result (λ directives. option_map (λ all. map seen_directive all.items) directives
-        ≡ option_and_then notation.directives_of (fields_after (chars rest.now))) }
+        ≡ option_and_then notation.directives_of (later_fields rest.entry)) }
 {
     let mut directives = Vec::new(alloc);
     let mut left = rest;

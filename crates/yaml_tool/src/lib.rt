@@ -12,7 +12,6 @@ mod parts;
 mod runs;
 mod scripts;
 mod settings;
-mod streams;
 mod texts;
 mod words;
 

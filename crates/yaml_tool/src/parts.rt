@@ -1,23 +1,24 @@
-//! A script that is read part by part, so that its bytes are never held whole.
+//! Scripts read part by part: no more than a part and the last line is held.
 ghost use Rattle.std.specs.Prelude.{◌≡◌, ℕ, false, List, [], ◌++◌, map, IfOk, IfErr, OnOk, IfSome};
 ghost use Rattle.std.specs.Io.KnownBytes.{IsAtEnd};
 ghost use Rattle.yaml_base.specs.scripts.Script as notation;
-ghost use Rattle.yaml_tool.specs.Runs.{IsFault};
+ghost use Rattle.yaml_tool.specs.Runs.{IsFault, ReadsAll};
 ghost use Rattle.yaml_tool.specs.Scripts.{seen_numbered, script_with, GoesOn, IsFaultOf};
 ghost use Rattle.yaml_tool.specs.Settings.{seen_settings};
 
 use crate::answers::run_answer_t;
-use crate::scripts::{Progress, Script, ScriptError, ending_taken, lines_taken};
+use crate::scripts::{Progress, Script, ScriptError, finish, take_lines};
 use memchr::memchr;
 use std::alloc::Allocator;
+use std::io;
 use std::io::{ErrorKind, Read};
 
-/// How many bytes are read at once.
+/// The number of bytes that are read at once.
 const PART: usize = 16_384;
 
-/// A script of which the front was read.
+/// A script of which a prefix was read.
 #[derive(Drop)]
-struct Front<A: Allocator> {
+struct ScriptPrefix<A: Allocator> {
     /// What the lines before the last say.
     progress: Progress<A>,
     /// The last line's number.
@@ -26,8 +27,19 @@ struct Front<A: Allocator> {
     line: Vec<u8, A>,
 }
 
-impl<A: Allocator + Copy> Front<A> {
-    /// Takes what follows. Lines are looked for only where one ends, so that a long one is searched once or twice.
+impl<A: Allocator + Copy> ScriptPrefix<A> {
+    /// Before anything was read.
+    fn new(alloc: A) -> ScriptPrefix<A>
+        ensures { (bytes : List ℕ) → script_with result bytes ≡ notation.script_of bytes }
+    {
+        ScriptPrefix {
+            progress: Progress::new(alloc),
+            number: 1,
+            line: Vec::new(alloc),
+        }
+    }
+
+    /// Appends what follows, and parses the lines that end in it. A long line is searched at most twice.
     fn take_part(&mut self, alloc: A, part: &[u8]) -> Result<(), ScriptError>
         ensures taken { OnOk result ((more : List ℕ) → script_with self.old (part.now ++ more) ≡ script_with self.new more) }
         ensures fault { IfErr result (λ error. (more : List ℕ) → IsFaultOf error (script_with self.old (part.now ++ more))) }
@@ -41,13 +53,13 @@ impl<A: Allocator + Copy> Front<A> {
         if self.line.len() as u64 > u64::MAX - self.number {
             return Err(ScriptError::OutOfMemory);
         }
-        let (number, last) = lines_taken(
+        let (number, last) = take_lines(
             alloc,
             &mut self.progress,
             self.number,
             self.line.as_slice(),
         )?;
-        // The room is kept: it grows by doubling, as the output's does.
+        // The vector keeps its capacity.
         let Ok(last) = Vec::from_slice(alloc, last) else {
             return Err(ScriptError::OutOfMemory);
         };
@@ -59,8 +71,8 @@ impl<A: Allocator + Copy> Front<A> {
         }
     }
 
-    /// What the script says, which ends there.
-    fn script(self, alloc: A) -> Result<Script<A>, ScriptError>
+    /// Parses the last line, and returns the whole script.
+    fn finish(self, alloc: A) -> Result<Script<A>, ScriptError>
         ensures understood { IfOk result
             (λ script. script_with self [] ≡ notation.understood (seen_settings script.settings) (map seen_numbered script.events.items)) }
         ensures fault { IfErr result (λ error. IsFaultOf error (script_with self [])) }
@@ -68,11 +80,11 @@ impl<A: Allocator + Copy> Front<A> {
         if self.line.len() as u64 > u64::MAX - self.number {
             return Err(ScriptError::OutOfMemory);
         }
-        ending_taken(alloc, self.progress, self.number, self.line.as_slice())
+        finish(alloc, self.progress, self.number, self.line.as_slice())
     }
 }
 
-/// How a run ends whose script isn't understood.
+/// The result of a run whose script was not understood.
 fn answer_of(error: ScriptError) -> run_answer_t
     ensures { (script : notation.Script) → IsFaultOf error script → IsFault result script }
 {
@@ -82,21 +94,36 @@ fn answer_of(error: ScriptError) -> run_answer_t
     }
 }
 
-/// Reads a part and takes it. Returns whether more may come.
+/// Reads the input after a bad line to its end, and returns the result of the run.
+fn after_fault<R: Read>(reader: &mut R, error: ScriptError) -> run_answer_t
+    ensures fault { (script : notation.Script) → IsFaultOf error script → IsFault result script }
+    ensures read { ReadsAll result (R.remaining reader.new) }
+{
+    match error {
+        ScriptError::BadLine(line) => match skip_all(reader) {
+            Ok(()) => run_answer_t::BadLine(line),
+            Err(_) => run_answer_t::ReadFailed,
+        },
+        ScriptError::OutOfMemory => run_answer_t::NoMemory,
+    }
+}
+
+/// Reads a part and parses it. Returns whether more may follow. After a bad line the input is read to its end.
 fn read_part<A: Allocator + Copy, R: Read>(
     alloc: A,
     reader: &mut R,
-    front: &mut Front<A>,
+    script: &mut ScriptPrefix<A>,
 ) -> Result<bool, run_answer_t>
-    ensures goes_on { OnOk result (GoesOn front.old (R.remaining reader.old) front.new (R.remaining reader.new)) }
+    ensures goes_on { OnOk result (GoesOn script.old (R.remaining reader.old) script.new (R.remaining reader.new)) }
     ensures end { IfOk result (λ more. more ≡ false → IsAtEnd (R.remaining reader.new)) }
-    ensures fault { IfErr result (λ answer. IfSome (R.remaining reader.old) (λ left. IsFault answer (script_with front.old left))) }
+    ensures fault { IfErr result (λ answer. IfSome (R.remaining reader.old) (λ left. IsFault answer (script_with script.old left))) }
+    ensures read { IfErr result (λ answer. ReadsAll answer (R.remaining reader.new)) }
 {
     let mut part = [0; PART];
     match reader.read(&mut part) {
-        Ok(count) => match front.take_part(alloc, &part[..count]) {
+        Ok(count) => match script.take_part(alloc, &part[..count]) {
             Ok(()) => Ok(count > 0),
-            Err(error) => Err(answer_of(error)),
+            Err(error) => Err(after_fault(reader, error)),
         },
         Err(error) => match error.kind() {
             ErrorKind::Interrupted => Ok(true),
@@ -106,8 +133,8 @@ fn read_part<A: Allocator + Copy, R: Read>(
     }
 }
 
-/// What a script says, or its first bad line, behind which nothing may have been read.
-pub fn script_by_parts<A: Allocator + Copy, R: Read>(
+/// Parses a script, and reads it to its end even if a line is bad.
+pub fn script_in<A: Allocator + Copy, R: Read>(
     alloc: A,
     reader: &mut R,
 ) -> Result<Script<A>, run_answer_t>
@@ -116,22 +143,41 @@ pub fn script_by_parts<A: Allocator + Copy, R: Read>(
         (λ left. notation.script_of left ≡ notation.understood (seen_settings script.settings) (map seen_numbered script.events.items))) }
     ensures fault { IfErr result (λ answer. IfSome (R.remaining reader.old) (λ left. IsFault answer (notation.script_of left))) }
     ensures end { OnOk result (IsAtEnd (R.remaining reader.new)) }
+    ensures read { IfErr result (λ answer. ReadsAll answer (R.remaining reader.new)) }
 {
-    let mut front = Front {
-        progress: Progress::new(alloc),
-        number: 1,
-        line: Vec::new(alloc),
-    };
-    // Nothing says that a reader ends, so its parts are counted.
+    let mut script = ScriptPrefix::new(alloc);
+    // No reader promises to end, so the reads are counted.
     let mut turns = u64::MAX;
     'parts: while turns > 0 {
         turns -= 1;
-        if !read_part(alloc, reader, &mut front)? {
-            return match front.script(alloc) {
+        if !read_part(alloc, reader, &mut script)? {
+            return match script.finish(alloc) {
                 Ok(script) => Ok(script),
                 Err(error) => Err(answer_of(error)),
             };
         }
     }
     Err(run_answer_t::ReadFailed)
+}
+
+/// Reads a reader to its end, and keeps nothing.
+fn skip_all<R: Read>(reader: &mut R) -> io::Result<()>
+    ensures { OnOk result (IsAtEnd (R.remaining reader.new)) }
+{
+    let mut part = [0; PART];
+    // No reader promises to end, so the reads are counted.
+    let mut turns = u64::MAX;
+    while turns > 0 {
+        turns -= 1;
+        match reader.read(&mut part) {
+            Ok(0) => return Ok(()),
+            Ok(_) => {}
+            Err(error) => {
+                if error.kind() != ErrorKind::Interrupted {
+                    return Err(error);
+                }
+            }
+        }
+    }
+    Err(io::Error::from(ErrorKind::TimedOut))
 }

@@ -1,20 +1,18 @@
 //! A whole run: a script is read, its events are emitted, and the output is written.
-ghost use Rattle.std.specs.Prelude.{◌≡◌, ℕ, None, Some, true, false, List, [], map, IfOk, IfErr, OnOk, IfSome};
-ghost use Rattle.std.specs.Io.KnownBytes.{IsAtEnd};
+ghost use Rattle.std.specs.Prelude.{◌≡◌, None, true, false, [], map, IfSome};
 ghost use Rattle.yaml_base.specs.scripts.Script as notation;
 ghost use Rattle.yaml_base.specs.Settings as given;
 ghost use Rattle.yaml_emitter.specs.Given.{nothing_given};
 ghost use Rattle.yaml_emitter.specs.State.{new_state};
 ghost use Rattle.yaml_emitter.specs.StandsAfter.{StandsAfter};
-ghost use Rattle.yaml_tool.specs.Runs.{Emits, FlushesLast, TellsEvents, Tells, WritesNothing, ReadsAll, IsFault};
+ghost use Rattle.yaml_tool.specs.Runs.{Emits, FlushesLast, Tells, WritesNothing, ReadsAll};
 ghost use Rattle.yaml_tool.specs.Scripts.{seen_numbered};
 ghost use Rattle.yaml_tool.specs.Settings.{seen_settings};
 
 use crate::answers::run_answer_t;
-use crate::parts::script_by_parts;
-use crate::scripts::{NumberedEvent, Script};
+use crate::parts::script_in;
+use crate::scripts::NumberedEvent;
 use crate::settings::Settings;
-use crate::streams::{read_all, write_out};
 use std::alloc::Allocator;
 use std::io::{Read, Write};
 use yaml_emitter::{
@@ -24,7 +22,7 @@ use yaml_emitter::{
     yaml_emitter_set_portable, yaml_emitter_set_unicode, yaml_emitter_set_width, yaml_emitter_t,
 };
 
-/// Reads a script to its end, emits its events, and writes what came out, also where an event was refused.
+/// Reads a script to its end, emits its events, and writes the output, even if an event was refused.
 ///
 /// After a bad line nothing is written.
 pub fn run<A: Allocator + Copy, R: Read, W: Write>(
@@ -36,54 +34,22 @@ pub fn run<A: Allocator + Copy, R: Read, W: Write>(
     ensures unwritten { WritesNothing result (W.contents writer.old) (W.contents writer.new) }
     ensures read { ReadsAll result (R.remaining reader.new) }
 {
-    match script_in(alloc, reader) {
-        Ok(script) => emit_script(alloc, script, writer),
-        Err(answer) => answer,
-    }
-}
-
-/// What a script says. It is read part by part, and to its end also where a line is bad.
-fn script_in<A: Allocator + Copy, R: Read>(
-    alloc: A,
-    reader: &mut R,
-) -> Result<Script<A>, run_answer_t>
-    ensures understood { IfOk result
-        (λ script. IfSome (R.remaining reader.old)
-        (λ left. notation.script_of left ≡ notation.understood (seen_settings script.settings) (map seen_numbered script.events.items))) }
-    ensures fault { IfErr result (λ answer. IfSome (R.remaining reader.old) (λ left. IsFault answer (notation.script_of left))) }
-    ensures end { OnOk result (IsAtEnd (R.remaining reader.new)) }
-    ensures read { IfErr result (λ answer. ReadsAll answer (R.remaining reader.new)) }
-{
-    match script_by_parts(alloc, reader) {
-        Ok(script) => Ok(script),
-        Err(run_answer_t::BadLine(line)) => match read_all(alloc, reader) {
-            Ok(_) => Err(run_answer_t::BadLine(line)),
-            Err(run_answer_t::NoMemory) => Err(run_answer_t::NoMemory),
-            Err(_) => Err(run_answer_t::ReadFailed),
-        },
-        Err(run_answer_t::NoMemory) => Err(run_answer_t::NoMemory),
-        Err(_) => Err(run_answer_t::ReadFailed),
-    }
-}
-
-/// Emits a script's events, and writes what came out.
-fn emit_script<A: Allocator + Copy, W: Write>(
-    alloc: A,
-    script: Script<A>,
-    writer: &mut W,
-) -> run_answer_t
-    ensures told { TellsEvents (seen_settings script.settings) (map seen_numbered script.events.items) result (W.contents writer.old) (W.contents writer.new) }
-    ensures unwritten { WritesNothing result (W.contents writer.old) (W.contents writer.new) }
-{
+    let script = match script_in(alloc, reader) {
+        Ok(script) => script,
+        Err(answer) => return answer,
+    };
     let Ok(mut emitter) = yaml_emitter_initialize(alloc) else {
         return run_answer_t::NoMemory;
     };
     set_all(&script.settings, &mut emitter);
     let answer = emit_all(&mut emitter, script.events);
-    write_out(writer, emitter.output(), answer)
+    match writer.write_all(emitter.output()) {
+        Ok(()) => answer,
+        Err(_) => run_answer_t::WriteFailed,
+    }
 }
 
-/// Sets what a script sets.
+/// Applies a script's settings to a new emitter.
 fn set_all<A: Allocator>(settings: &Settings, emitter: &mut yaml_emitter_t<A>)
     requires new { emitter.old ≡ new_state }
     requires stands { StandsAfter nothing_given [] emitter.old }
@@ -105,7 +71,7 @@ fn set_all<A: Allocator>(settings: &Settings, emitter: &mut yaml_emitter_t<A>)
     yaml_emitter_set_portable(emitter, settings.portable);
 }
 
-/// Sets the indent where there is one.
+/// Sets the indent, if the script does.
 fn set_indent<A: Allocator>(indent: Option<i32>, emitter: &mut yaml_emitter_t<A>)
     requires not_started { emitter.old.started ≡ false }
     requires unset { emitter.old.given.indent ≡ None }
@@ -117,7 +83,7 @@ fn set_indent<A: Allocator>(indent: Option<i32>, emitter: &mut yaml_emitter_t<A>
     }
 }
 
-/// Sets the width where there is one.
+/// Sets the width, if the script does.
 fn set_width<A: Allocator>(width: Option<i32>, emitter: &mut yaml_emitter_t<A>)
     requires not_started { emitter.old.started ≡ false }
     requires unset { emitter.old.given.width ≡ None }
@@ -129,7 +95,7 @@ fn set_width<A: Allocator>(width: Option<i32>, emitter: &mut yaml_emitter_t<A>)
     }
 }
 
-/// Emits events in order up to the first refusal; then hands out what is left.
+/// Emits events in order up to the first error; after the last one flushes.
 fn emit_all<A: Allocator + Copy>(
     emitter: &mut yaml_emitter_t<A>,
     events: Vec<NumberedEvent<A>, A>,
@@ -155,7 +121,7 @@ fn emit_all<A: Allocator + Copy>(
     }
 }
 
-/// Hands out what is left; an error is told with the last event's line.
+/// Flushes after the event of this line, which an error reports.
 fn flush_last<A: Allocator + Copy>(emitter: &mut yaml_emitter_t<A>, line: u64) -> run_answer_t
     requires output { emitter.old.has_output ≡ true }
     requires no_error { emitter.old.error ≡ None }

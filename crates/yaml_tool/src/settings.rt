@@ -12,7 +12,7 @@ use yaml_base::{yaml_break_t, yaml_encoding_t};
 /// A setting's line.
 #[derive(Clone, Copy, PartialEq, Eq, Debug)]
 pub enum Setting {
-    /// `limit`: at most so many bytes are put out.
+    /// `limit`: the maximum output size in bytes.
     Limit(u32),
     /// `encoding`.
     Encoding(yaml_encoding_t),
@@ -28,12 +28,12 @@ pub enum Setting {
     LineBreak(yaml_break_t),
     /// `breaks12`: the line breaks of YAML 1.2.
     Breaks12(bool),
-    /// `portable`: what all readers of YAML read alike.
+    /// `portable`: only what all YAML readers read alike.
     Portable(bool),
 }
 
 impl Setting {
-    /// The word that begins its line.
+    /// The name of the setting.
     pub fn name(self) -> &'static str
         ensures { result.now ≡ notation.setting_name (seen_setting self) }
     {
@@ -51,7 +51,7 @@ impl Setting {
     }
 }
 
-/// Whether one of these lines sets the same.
+/// Whether one of these lines has the same name.
 pub fn is_set(setting: Setting, lines: &[Setting]) -> bool
     ensures { result ≡ list_any (sets_same (seen_setting setting)) (map seen_setting lines.now) }
 {
@@ -63,7 +63,7 @@ pub fn is_set(setting: Setting, lines: &[Setting]) -> bool
     false
 }
 
-/// What a setting's line says, by its name; none where the value isn't one of its values.
+/// Parses the value of a setting by its name; `None` if there is no such setting, or it has no such value.
 pub fn setting_of(name: &str, value: &str) -> Option<Setting>
     ensures { option_map seen_setting result ≡ notation.setting_of (chars name.now) (chars value.now) }
 {
@@ -90,10 +90,10 @@ pub fn setting_of(name: &str, value: &str) -> Option<Setting>
     }
 }
 
-/// What all settings come to.
+/// The settings of a script.
 #[derive(Clone, Copy, PartialEq, Eq, Debug)]
 pub struct Settings {
-    /// At most so many bytes are put out.
+    /// The maximum output size in bytes.
     pub limit: u32,
     /// The emitter's encoding.
     pub encoding: yaml_encoding_t,
@@ -101,11 +101,11 @@ pub struct Settings {
     pub canonical: bool,
     /// Characters past U+007F may stand as themselves.
     pub unicode: bool,
-    /// Columns a level, if it was set.
+    /// Columns per level, if set.
     pub indent: Option<i32>,
-    /// The column past which lines may be folded, if it was set.
+    /// The column past which lines may be folded, if set.
     pub width: Option<i32>,
-    /// How lines are ended.
+    /// How lines end.
     pub line_break: yaml_break_t,
     /// U+2028 and U+2029 are no line breaks.
     pub breaks12: bool,
@@ -113,7 +113,7 @@ pub struct Settings {
     pub portable: bool,
 }
 
-/// What holds where no line sets anything.
+/// The settings of a script that sets nothing.
 pub const UNSET: Settings = Settings {
     limit: 1_000_000_000,
     encoding: yaml_encoding_t::YAML_ANY_ENCODING,
@@ -151,7 +151,7 @@ impl Settings {
     }
 }
 
-/// What several lines set together.
+/// The settings of several lines.
 pub fn settings_of(lines: &[Setting]) -> Settings
     ensures { seen_settings result ≡ notation.settings_of notation.unset (map seen_setting lines.now) }
 {

@@ -3,24 +3,24 @@ ghost use Rattle.std.specs.Prelude.{◌≡◌, ◌≤◌, ◌++◌, length, IfOk
 ghost use Rattle.std.specs.Str.{chars, IsUtf8};
 ghost use Rattle.yaml_base.specs.scripts.Script as notation;
 ghost use Rattle.yaml_base.specs.Seen.{seen_text};
-ghost use Rattle.yaml_tool.specs.Texts.{turn_of, ReadsOn, TurnsTo};
+ghost use Rattle.yaml_tool.specs.Texts.{step_of, ReadsOn, StepsTo};
 
-use crate::characters::{cut_once, first_character, from_sign, front_before};
+use crate::characters::{cut_once, first_character, from_sign, prefix_before};
 use crate::numbers::number_in;
 use std::alloc::{AllocError, Allocator};
 
-/// What the next character or escape of a text does.
+/// The meaning of the next character or escape of a text.
 #[derive(Clone, Copy, PartialEq, Eq, Debug)]
-pub enum Turn<'a> {
+pub enum TextStep<'a> {
     /// The text ends, and nothing follows.
     Ends,
-    /// It stands for a character, and these follow.
+    /// It stands for this character, and this text follows.
     StandsFor(char, &'a str),
     /// The text is wrong there.
     Fails,
 }
 
-/// How many characters a text has.
+/// The number of characters of a text.
 fn count_of(text: &str) -> usize
     ensures { result ≡ length (chars text.now) }
 {
@@ -29,7 +29,7 @@ fn count_of(text: &str) -> usize
 
 /// The character of `\u{..}`: one to six hexadecimal digits of a Unicode scalar value.
 fn numbered_character(digits: &str) -> Option<char>
-    ensures { turn_of result ≡ notation.numbered_turn (chars digits.now) }
+    ensures { step_of result ≡ notation.numbered_turn (chars digits.now) }
 {
     let count = count_of(digits);
     if count < 1 || 6 < count {
@@ -38,62 +38,62 @@ fn numbered_character(digits: &str) -> Option<char>
     number_in(16, 0x10FFFF, digits).and_then(char::from_u32)
 }
 
-/// What follows `\u`.
-fn numbered_turn(behind: &str) -> Turn<'_>
-    ensures { TurnsTo result (notation.text_from notation.at_brace (chars behind.now)) behind.now }
+/// Parses what follows `\u`.
+fn numbered_step(behind: &str) -> TextStep<'_>
+    ensures { StepsTo result (notation.text_from notation.at_brace (chars behind.now)) behind.now }
 {
     let Some(('{', digits)) = first_character(behind) else {
-        return Turn::Fails;
+        return TextStep::Fails;
     };
     match cut_once('}', digits) {
         Some((digits, rest)) => match numbered_character(digits) {
-            Some(character) => Turn::StandsFor(character, rest),
-            None => Turn::Fails,
+            Some(character) => TextStep::StandsFor(character, rest),
+            None => TextStep::Fails,
         },
-        None => Turn::Fails,
+        None => TextStep::Fails,
     }
 }
 
-/// What follows a backslash.
-fn escaped_turn(behind: &str) -> Turn<'_>
-    ensures { TurnsTo result (notation.text_from notation.at_escape (chars behind.now)) behind.now }
+/// Parses what follows a backslash.
+fn escaped_step(behind: &str) -> TextStep<'_>
+    ensures { StepsTo result (notation.text_from notation.at_escape (chars behind.now)) behind.now }
 {
     match first_character(behind) {
-        Some(('u', rest)) => numbered_turn(rest),
-        Some(('n', rest)) => Turn::StandsFor('\n', rest),
-        Some(('\\', rest)) => Turn::StandsFor('\\', rest),
-        Some(('"', rest)) => Turn::StandsFor('"', rest),
-        _ => Turn::Fails,
+        Some(('u', rest)) => numbered_step(rest),
+        Some(('n', rest)) => TextStep::StandsFor('\n', rest),
+        Some(('\\', rest)) => TextStep::StandsFor('\\', rest),
+        Some(('"', rest)) => TextStep::StandsFor('"', rest),
+        _ => TextStep::Fails,
     }
 }
 
-/// What the next character or escape does.
-fn next_turn(behind: &str) -> Turn<'_>
-    ensures { TurnsTo result (notation.text_from notation.at_character (chars behind.now)) behind.now }
+/// Parses the next character or escape.
+fn next_step(behind: &str) -> TextStep<'_>
+    ensures { StepsTo result (notation.text_from notation.at_character (chars behind.now)) behind.now }
 {
     match first_character(behind) {
-        Some(('\\', rest)) => escaped_turn(rest),
+        Some(('\\', rest)) => escaped_step(rest),
         Some(('"', rest)) => match first_character(rest) {
-            None => Turn::Ends,
-            Some(_) => Turn::Fails,
+            None => TextStep::Ends,
+            Some(_) => TextStep::Fails,
         },
-        Some((character, rest)) => Turn::StandsFor(character, rest),
-        None => Turn::Fails,
+        Some((character, rest)) => TextStep::StandsFor(character, rest),
+        None => TextStep::Fails,
     }
 }
 
 /// The longest prefix without quotation marks and backslashes, and the text after it.
-fn unescaped_front(text: &str) -> (&str, &str)
+fn unescaped_prefix(text: &str) -> (&str, &str)
     ensures reads { ReadsOn (chars text.now) (chars result.0.now) (chars result.1.now) }
     ensures shorter { length result.1.now ≤ length text.now }
     ensures utf8 { IsUtf8 result.1.now }
 {
     let behind = from_sign(b'"', b'\\', text);
-    (front_before(text, behind), behind)
+    (prefix_before(text, behind), behind)
 }
 
 /// Appends that prefix, and returns the text after it.
-fn push_front<'a, A: Allocator>(
+fn push_prefix<'a, A: Allocator>(
     text: &mut String<A>,
     behind: &'a str,
 ) -> Result<&'a str, AllocError>
@@ -102,26 +102,26 @@ fn push_front<'a, A: Allocator>(
     ensures shorter { IfOk result (λ others. length others.now ≤ length behind.now) }
     ensures utf8 { IfOk result (λ others. IsUtf8 others.now) }
 {
-    let (front, others) = unescaped_front(behind);
-    text.push_str(front)?;
+    let (prefix, others) = unescaped_prefix(behind);
+    text.push_str(prefix)?;
     Ok(others)
 }
 
-/// What the characters after an opening `"` stand for; none where they are no text.
+/// The value of a text, given the characters after its opening `"`; `None` if they are no text.
 pub fn text_behind<A: Allocator>(alloc: A, behind: &str) -> Result<Option<String<A>>, AllocError>
     ensures { IfOk result (λ text. option_map seen_text text ≡ notation.text_from notation.at_character (chars behind.now)) }
 {
     let mut text = String::with_capacity(alloc, behind.len())?;
     let mut rest = behind;
     loop {
-        let others = push_front(&mut text, rest)?;
-        match next_turn(others) {
-            Turn::StandsFor(character, others) => {
+        let others = push_prefix(&mut text, rest)?;
+        match next_step(others) {
+            TextStep::StandsFor(character, others) => {
                 text.push(character)?;
                 rest = others;
             }
-            Turn::Ends => return Ok(Some(text)),
-            Turn::Fails => return Ok(None),
+            TextStep::Ends => return Ok(Some(text)),
+            TextStep::Fails => return Ok(None),
         }
     }
 }

@@ -1,15 +1,12 @@
 //! The words of a script's lines, and what they mean.
-ghost use Rattle.std.specs.Prelude.{◌≡◌, None, List, MatchOption, IfNone, IfSome, option_map, nat_lt, IsTrue};
+ghost use Rattle.std.specs.Prelude.{◌≡◌, None, List, MatchOption, option_map, nat_lt, IsTrue};
 ghost use Rattle.std.specs.List.{list_all};
 ghost use Rattle.std.specs.Str.{bytes_eq, chars};
 ghost use Rattle.yaml_base.specs.scripts.Script as notation;
-ghost use Rattle.yaml_base.specs.Seen.{seen_encoding, seen_break, seen_scalar_style, seen_sequence_style, seen_mapping_style};
-ghost use Rattle.yaml_tool.specs.Cuts.{Follows, Lacks};
-ghost use Rattle.yaml_tool.specs.Events.{event_word};
+ghost use Rattle.yaml_base.specs.Seen.{seen_encoding, seen_break, seen_scalar_style};
+ghost use Rattle.yaml_tool.specs.Events.{event_word, seen_collection_style};
 
-use yaml_base::{
-    yaml_break_t, yaml_encoding_t, yaml_mapping_style_t, yaml_scalar_style_t, yaml_sequence_style_t,
-};
+use yaml_base::{yaml_break_t, yaml_encoding_t, yaml_scalar_style_t};
 
 /// Whether a word is this name, which is ASCII.
 #[inline(always)]
@@ -20,7 +17,7 @@ pub fn is_word(word: &str, name: &'static str) -> bool
     is_same(word.as_bytes(), name.as_bytes())
 }
 
-/// Byte by byte, as the name has a few bytes that are known.
+/// Compares byte by byte: the name is short, and known when this is compiled.
 #[inline(always)]
 fn is_same(word: &[u8], name: &[u8]) -> bool
     ensures { result ≡ bytes_eq word.now name.now }
@@ -39,23 +36,6 @@ fn is_same(word: &[u8], name: &[u8]) -> bool
             ([], []) => return true,
             ([_, ..], []) | ([], [_, ..]) => return false,
         }
-    }
-}
-
-/// What follows a front, which is ASCII, in a text that begins with it.
-#[inline(always)]
-pub fn past_front<'a>(text: &'a str, front: &'static str) -> Option<&'a str>
-    requires { IsTrue (list_all (λ byte. nat_lt byte 128) front.now) }
-    ensures follows { IfSome result (λ rest. Follows front.now text.now rest.now) }
-    ensures lacks { IfNone result (Lacks front.now text.now) }
-{
-    if text.len() < front.len() {
-        return None;
-    }
-    if is_same(&text.as_bytes()[..front.len()], front.as_bytes()) {
-        Some(&text[front.len()..])
-    } else {
-        None
     }
 }
 
@@ -197,31 +177,27 @@ pub fn scalar_style_named(word: &str) -> Option<yaml_scalar_style_t>
     }
 }
 
-/// `any`, `block` or `flow`, of a sequence.
-pub fn sequence_style_named(word: &str) -> Option<yaml_sequence_style_t>
-    ensures { option_map seen_sequence_style result ≡ notation.named notation.collection_styles (chars word.now) }
-{
-    if is_word(word, "any") {
-        Some(yaml_sequence_style_t::YAML_ANY_SEQUENCE_STYLE)
-    } else if is_word(word, "block") {
-        Some(yaml_sequence_style_t::YAML_BLOCK_SEQUENCE_STYLE)
-    } else if is_word(word, "flow") {
-        Some(yaml_sequence_style_t::YAML_FLOW_SEQUENCE_STYLE)
-    } else {
-        None
-    }
+/// The styles of a collection.
+#[derive(Clone, Copy)]
+pub enum CollectionStyle {
+    /// `any`.
+    Any,
+    /// `block`.
+    Block,
+    /// `flow`.
+    Flow,
 }
 
-/// `any`, `block` or `flow`, of a mapping.
-pub fn mapping_style_named(word: &str) -> Option<yaml_mapping_style_t>
-    ensures { option_map seen_mapping_style result ≡ notation.named notation.collection_styles (chars word.now) }
+/// `any`, `block` or `flow`.
+pub fn collection_style_named(word: &str) -> Option<CollectionStyle>
+    ensures { option_map seen_collection_style result ≡ notation.named notation.collection_styles (chars word.now) }
 {
     if is_word(word, "any") {
-        Some(yaml_mapping_style_t::YAML_ANY_MAPPING_STYLE)
+        Some(CollectionStyle::Any)
     } else if is_word(word, "block") {
-        Some(yaml_mapping_style_t::YAML_BLOCK_MAPPING_STYLE)
+        Some(CollectionStyle::Block)
     } else if is_word(word, "flow") {
-        Some(yaml_mapping_style_t::YAML_FLOW_MAPPING_STYLE)
+        Some(CollectionStyle::Flow)
     } else {
         None
     }

@@ -1,14 +1,14 @@
 use Rattle.std.proofs.Common.{◌==◌, ap, arith}
 use Rattle.std.specs.List.{list_any}
 use Rattle.std.specs.Str.{chars}
-use Rattle.yaml_tool.specs.Cuts.{front_of}
-use Rattle.yaml_tool.proofs.CharacterLemmas.{nothing_passed, empty_front, one_passed, front_passed, still_free}
+use Rattle.yaml_tool.specs.Cuts.{prefix_of}
+use Rattle.yaml_tool.proofs.CharacterLemmas.{nothing_passed, empty_prefix, one_passed, prefix_passed, still_free}
 use Rattle.yaml_tool.proofs.characters.cut_once.Goals as goal
 
 pub loop-character-init : goal.loop-character-init
 loop-character-init c = record {
   passed = nothing_passed c.args.text.now c.utf8.text;
-  free = ap (λ text. list_any (λ character. character == c.args.sign) text) (empty_front c.args.text.now);
+  free = ap (λ text. list_any (λ character. character == c.args.sign) text) (empty_prefix c.args.text.now);
   within = omega arith;
 }
 
@@ -17,8 +17,8 @@ loop-character-preserved c =
     let before = c.loop-character.invariant in
     let split = c.in-Some.ensures.bytes in record {
       passed = one_passed c.args.text.now c.loop-character.rest.now c.in-Some.behind.now c.in-Some.character before.passed split;
-      free = still_free c.args.sign c.in-Some.character (chars (front_of c.args.text.now c.loop-character.rest.now))
-          (chars (front_of c.args.text.now c.in-Some.behind.now)) before.free c.if-character-sign.false
-          (front_passed c.args.text.now c.loop-character.rest.now c.in-Some.behind.now c.in-Some.character before.passed split);
+      free = still_free c.args.sign c.in-Some.character (chars (prefix_of c.args.text.now c.loop-character.rest.now))
+          (chars (prefix_of c.args.text.now c.in-Some.behind.now)) before.free c.if-character-sign.false
+          (prefix_passed c.args.text.now c.loop-character.rest.now c.in-Some.behind.now c.in-Some.character before.passed split);
       within = omega (arith, c.in-Some.ensures.shorter);
     }

@@ -17,7 +17,7 @@ loop-text-preserved g c = record {
   read =
       c.loop-text.invariant.read
       ∙ c.in_ok-others.ensures.read
-      ∙ ap (λ read. option_map (λ more. seen_text c.push_front.new.text ++ more) read) c.in-StandsFor.ensures.0
-      ∙ one_more c.push_front.new.text c.push.new.self c.in-StandsFor.character
+      ∙ ap (λ read. option_map (λ more. seen_text c.push_prefix.new.text ++ more) read) c.in-StandsFor.ensures.0
+      ∙ one_more c.push_prefix.new.text c.push.new.self c.in-StandsFor.character
       (text_from at_character (chars c.in-StandsFor.others.now)) c.in_ok-push-in-StandsFor.ensures.bytes;
 }

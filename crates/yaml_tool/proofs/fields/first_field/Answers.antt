@@ -1,0 +1,62 @@
+use Rattle.std.proofs.Common.{◌≡◌, ℕ, List, [], ◌∷◌, true, false, ap, sym, ◌∙◌, arith}
+use Rattle.std.specs.Str.{chars}
+use Rattle.yaml_base.specs.scripts.Script.{outside, pieces_from, separates, field_and, field_read, fields_read}
+use Rattle.yaml_tool.specs.Cuts.{prefix_of}
+use Rattle.yaml_tool.specs.Fields.{seen_field_state, attached}
+use Rattle.yaml_tool.proofs.CharacterLemmas.{nothing_passed, empty_prefix, one_passed, prefix_passed, all_passed}
+use Rattle.yaml_tool.proofs.FieldLemmas.{stops_first, goes_first, past_run, further_on, run_within, whole_line, field_before, field_alone}
+use Rattle.yaml_tool.proofs.fields.first_field.Goals as goal
+
+pub loop-character-init : goal.loop-character-init
+loop-character-init c =
+    let line = c.args.line.now in record {
+      passed = nothing_passed line c.utf8.line;
+      cut = ap (λ prefix. attached prefix (pieces_from outside (chars line))) (sym (empty_prefix line));
+      within = omega arith;
+    }
+
+pub returns-then-separates-clause-cut : goal.returns-then-separates-clause-cut
+returns-then-separates-clause-cut c =
+    let standing = seen_field_state c.loop-character.standing in
+    let line = c.args.line.now in
+    let rest = c.loop-character.rest.now in
+    let after = chars c.in-Some.after.now in
+    let prefix = chars (prefix_of line rest) in
+    let is : separates standing c.in-Some.character ≡ true = sym c.separates.ensures ∙ c.if-separates.true in
+    field_before (chars line) prefix after
+    (c.loop-character.invariant.cut ∙ stops_first standing c.in-Some.character prefix (chars rest) after c.in-Some.ensures.characters is)
+    ∙ ap (λ (bytes : List ℕ). field_and (field_read (chars bytes)) (fields_read after)) (sym c.prefix_before.ensures)
+
+pub loop-character-preserved : goal.loop-character-preserved
+loop-character-preserved c =
+    let before = c.loop-character.invariant in
+    let line = c.args.line.now in
+    let rest = c.loop-character.rest.now in
+    let character = c.in-Some.character in
+    let after = c.in-Some.after.now in
+    let end = c.past_run-rest.result.now in
+    let runs = c.past_run-rest.ensures in
+    let standing = seen_field_state c.loop-character.standing in
+    let next = seen_field_state c.after-standing.result in
+    let is_not : separates standing character ≡ false = sym c.separates.ensures ∙ c.if-separates.false in
+    let passed = one_passed line rest after character before.passed c.in-Some.ensures.bytes in
+    let cut =
+    before.cut
+    ∙ goes_first standing character (chars (prefix_of line rest)) (chars (prefix_of line after)) (chars rest) (chars after) c.in-Some.ensures.characters is_not
+    (prefix_passed line rest after character before.passed c.in-Some.ensures.bytes)
+    ∙ ap (λ s. attached (chars (prefix_of line after)) (pieces_from s (chars after))) (sym c.after-standing.ensures) in record {
+      passed = past_run next line after end passed runs;
+      cut = further_on next line after end (pieces_from outside (chars line)) passed runs cut;
+      within = omega (arith, before.within, c.in-Some.ensures.shorter, run_within next after end runs);
+    }
+
+pub returns-clause-cut : goal.returns-clause-cut
+returns-clause-cut c =
+    let line = c.args.line.now in
+    let rest = c.loop-character.rest.now in
+    let standing = seen_field_state c.loop-character.standing in
+    let prefix = chars (prefix_of line rest) in
+    let nothing = c.in_default.ensures.characters in
+    field_alone (chars line) (chars line)
+    (c.loop-character.invariant.cut ∙ ap (λ more. attached prefix (pieces_from standing more)) nothing ∙ whole_line prefix
+    ∙ ap (λ (all : List ℕ). all ∷ []) (sym (all_passed line rest c.loop-character.invariant.passed nothing)))

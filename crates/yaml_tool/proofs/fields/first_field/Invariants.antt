@@ -1,0 +1,18 @@
+use Rattle.std.proofs.Common.{◌≡◌, ◌≤◌, length}
+use Rattle.std.specs.Str.{chars}
+use Rattle.yaml_base.specs.scripts.Script.{outside, pieces_from}
+use Rattle.yaml_tool.specs.Cuts.{prefix_of}
+use Rattle.yaml_tool.specs.Fields.{seen_field_state, attached}
+use Rattle.yaml_tool.proofs.CharacterLemmas.{Passed}
+use Rattle.yaml_tool.proofs.fields.first_field.Given as goal
+
+abbrev pub invariant-loop-character : goal.invariant-loop-character
+invariant-loop-character l = record {
+  passed : Passed l.line l.rest;
+  cut : pieces_from outside (chars l.line)
+      ≡ attached (chars (prefix_of l.line l.rest)) (pieces_from (seen_field_state l.standing) (chars l.rest));
+  within : length l.rest ≤ length l.line;
+}
+
+abbrev pub decreases-loop-character : goal.decreases-loop-character
+decreases-loop-character l = length l.rest

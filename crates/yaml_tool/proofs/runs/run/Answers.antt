@@ -1,0 +1,28 @@
+use Rattle.std.proofs.Common.{[], map, subst, ◌∙◌}
+use Rattle.std.specs.Io.KnownBytes.{Appends}
+use Rattle.yaml_emitter.specs.StandsAfter.{StandsAfter}
+use Rattle.yaml_tool.specs.Scripts.{seen_numbered}
+use Rattle.yaml_tool.specs.Settings.{seen_settings}
+use Rattle.yaml_tool.proofs.RunLemmas.{tells_all, told_answer, silent_only}
+use Rattle.yaml_tool.proofs.runs.run.Goals as goal
+
+pub returns-in-Ok-write_all-clause-told : goal.returns-in-Ok-write_all-clause-told
+returns-in-Ok-write_all-clause-told g c =
+    let set = seen_settings c.in-Ok.script.settings in
+    let all = map seen_numbered c.in-Ok.script.events.items in
+    let answer = c.emit_all-answer.result in
+    let old = g.W.Write.contents c.args.writer.now in
+    let new = g.W.Write.contents c.write_all.new.self in
+    let emits = c.emit_all-answer.ensures.emits set (subst (λ given. StandsAfter given [] c.set_all.new.emitter) c.set_all.ensures.given
+    c.set_all.ensures.stands) in
+    let output = c.output.ensures.untaken (c.emit_all-answer.ensures.taken ∙ c.set_all.ensures.untaken) in
+    tells_all (g.R.Read.remaining c.args.reader.now) set all answer old new c.in-Ok.ensures.understood
+    (told_answer set all answer c.emit_all-answer.new.emitter old new emits (subst (Appends old new) output c.in-Ok-write_all.ensures.bytes))
+
+pub returns-in-Ok-write_all-clause-unwritten : goal.returns-in-Ok-write_all-clause-unwritten
+returns-in-Ok-write_all-clause-unwritten g c =
+    let set = seen_settings c.in-Ok.script.settings in
+    let emits = c.emit_all-answer.ensures.emits set (subst (λ given. StandsAfter given [] c.set_all.new.emitter) c.set_all.ensures.given
+    c.set_all.ensures.stands) in
+    silent_only set (map seen_numbered c.in-Ok.script.events.items) c.emit_all-answer.result c.emit_all-answer.new.emitter
+    (g.W.Write.contents c.args.writer.now) (g.W.Write.contents c.write_all.new.self) emits
