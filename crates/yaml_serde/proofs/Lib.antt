@@ -1,3 +1,4 @@
+pub mod Growing
 pub mod Within
 pub mod Bytes
 pub mod NumberTexts

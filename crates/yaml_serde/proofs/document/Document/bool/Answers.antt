@@ -1,4 +1,5 @@
 use Rattle.yaml_serde.specs.Documents.{bool_call}
+use Rattle.yaml_serde.proofs.Growing.{grown_given}
 use Rattle.yaml_serde.proofs.Within.{within_given}
 use Rattle.yaml_serde.proofs.document.Document.bool.Goals as goal
 
@@ -10,3 +11,6 @@ invariant_of-self g c =
           within_given g.G.Given.given c.bool.result before c.bool.new.self (bool_call before c.args.value)
           c.bool.ensures.given c.bool.ensures.failed c.args.self.now.within;
     }
+
+pub returns : goal.returns
+returns g c = record { grows = grown_given c.bool.result c.args.self.now.writer c.bool.new.self _ c.bool.ensures.given c.bool.ensures.failed }
