@@ -27,6 +27,11 @@ pub mod UnfoldEvents
 pub mod SharedNodes
 pub mod DocumentsUnfold
 pub mod ContentsUnfold
+pub mod Twins
+pub mod SameShapes
+pub mod Unstyled
+pub mod SameWalks
+pub mod SameEvents
 pub mod stream_lines
 pub mod stream_flow
 pub mod stream_keys

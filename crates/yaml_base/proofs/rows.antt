@@ -16,6 +16,7 @@ pub mod RowsScript
 pub mod RowsMeetings
 pub mod RowsCanonical
 pub mod RowsUnfolding
+mod RowsIsomorphic
 pub mod RowsTyped
 pub mod RowsSpoiledTrees
 pub mod StreamTrees

@@ -36,7 +36,7 @@ walk_unfolds graph (Ok events) walk is whole same =
 walk_unfolds graph (Err error) walk is whole same = tt
 
 -- what was dumped and closed without an error is written whole
-written_whole : (given : Settings) (before : List Event) (graphs : List Graph) (state : State) → Promised given (before ++ stream_end ∷ []) state
+pub written_whole : (given : Settings) (before : List Event) (graphs : List Graph) (state : State) → Promised given (before ++ stream_end ∷ []) state
     → state.error ≡ None → AreDumped graphs (before ++ stream_end ∷ []) → IsWritten given (before ++ stream_end ∷ []) state
 written_whole given before graphs state promised none dumped =
     let all = before ++ stream_end ∷ [] in

@@ -1,6 +1,7 @@
 pub mod AnchorLemmas
 pub mod ChildLemmas
 pub mod Emissions
+pub mod EqualBytesLemmas
 pub mod EventLemmas
 pub mod GraphTreeLemmas
 pub mod GraphLemmas

@@ -1,5 +1,6 @@
 pub mod Anchors
 pub mod Dumps
+pub mod EqualBytes
 pub mod Events
 pub mod GraphTrees
 pub mod Named

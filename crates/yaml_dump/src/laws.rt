@@ -1,5 +1,6 @@
 //! Laws of dumped graphs, each the contract of a function that does nothing.
 
+ghost use Rattle.yaml_dump.specs.EqualBytes as equal;
 ghost use Rattle.yaml_dump.specs.GraphTrees.{DumpedTreesUnfold};
 
 /// Documents that agree with the events of dumped graphs unfold these graphs, each its own, but for styles: the same nodes
@@ -7,4 +8,22 @@ ghost use Rattle.yaml_dump.specs.GraphTrees.{DumpedTreesUnfold};
 /// the graph's.
 pub fn dumped_trees_unfold()
     ensures { DumpedTreesUnfold }
+{}
+
+/// Equal bytes tell equal graphs: where two streams of dumped documents have the same output under the same settings, and no
+/// limit cuts it, their documents pair off with the same versions and directives, and the parts of their graphs that the
+/// roots reach are isomorphic. One bijection of node numbers takes root to root, and keeps kinds, tags, values, and children
+/// in order (`Isomorphic`). So it is in canonical mode, and in every mode of streams that read back (see
+/// `streams_read_back` of `yaml_emitter`); and whoever holds bytes alone, and knows that a dump wrote them, knows the graphs.
+pub fn equal_bytes_tell_graphs()
+    ensures canonical { equal.EqualBytes }
+    ensures readable { equal.EqualReadableBytes }
+    ensures read { equal.OneReading }
+    ensures read_back { equal.OneReadingBack }
+{}
+
+/// Isomorphic graphs give equal bytes in canonical mode, whatever their nodes' numbers and styles are, where the documents
+/// have the same versions, directives and explicit ends, and the streams ask for the same encoding.
+pub fn equal_graphs_give_bytes()
+    ensures { equal.EqualDocuments }
 {}

@@ -15,6 +15,8 @@ pub use dumps::document_events;
 pub use dumps::yaml_emitter_dump;
 pub use emitting::emit_each;
 pub use laws::dumped_trees_unfold;
+pub use laws::equal_bytes_tell_graphs;
+pub use laws::equal_graphs_give_bytes;
 pub use streams::yaml_emitter_close;
 pub use streams::yaml_emitter_open;
 pub use tags::YAML_MAP_TAG;

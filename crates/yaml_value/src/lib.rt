@@ -66,6 +66,8 @@ pub use yaml_dump::dumped_trees_unfold;
 pub use yaml_dump::emit_each;
 pub use yaml_dump::encoded_alike;
 pub use yaml_dump::encodings_agree;
+pub use yaml_dump::equal_bytes_tell_graphs;
+pub use yaml_dump::equal_graphs_give_bytes;
 pub use yaml_dump::escaped_text_reads;
 pub use yaml_dump::hex_digit;
 pub use yaml_dump::holds_break;

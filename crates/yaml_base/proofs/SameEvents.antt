@@ -1,0 +1,175 @@
+-- Isomorphic graphs are dumped as events that differ in styles alone, so in canonical mode as the same bytes.
+use Rattle.std.proofs.Common.{◌≡◌, inl, inr, ℕ, ◌==◌, ◌≤◌, Bool, true, false, Option, None, Some, unwrap_or, option_map, List, [], ◌∷◌, ◌++◌, length, map}
+use Rattle.std.proofs.Common.{refl, sym, ap, ◌∙◌, arith, All}
+use Rattle.std.specs.Prelude.{bytes_eq, flat_map, if◌then◌else◌}
+use Rattle.std.proofs.lemmas.Bool.Decides.{nat_tests}
+use Rattle.std.proofs.lemmas.List.{map-append}
+use Rattle.std.proofs.lemmas.List.Elements.{All-head, All-tail}
+use Rattle.yaml_base.specs.Characters.{Text}
+use Rattle.yaml_base.specs.Settings.{Encoding, Settings}
+use Rattle.yaml_base.specs.Event.{any_style, any_layout, DocumentStart, Event, stream_start, stream_end, document_start, document_end, alias, scalar}
+use Rattle.yaml_base.specs.Event.{sequence_start, sequence_end, mapping_start, mapping_end}
+use Rattle.yaml_base.specs.Output.{encoding_asked, output_of}
+use Rattle.yaml_base.specs.graphs.Meetings.{Graph, GraphNode, Held, scalar_held, sequence_held, mapping_held, Step, enters, leaves, meets_again, node_numbered}
+use Rattle.yaml_base.specs.graphs.Meetings.{string_tag, sequence_tag, mapping_tag, beginning_of, beginning_events, ending_of, ending_events, anchor_of, steps}
+use Rattle.yaml_base.specs.graphs.Meetings.{step_events, document_event_list}
+use Rattle.yaml_base.specs.graphs.Unfolding.{NodeKind, scalar_kind, sequence_kind, mapping_kind, Label, label_of, IsReached, IsDocument}
+use Rattle.yaml_base.specs.graphs.Isomorphic.{label_at, Isomorphic, IsWrittenAlike, AreWrittenAlike}
+use Rattle.yaml_base.specs.graphs.Dumped.{AreDumped}
+use Rattle.yaml_base.proofs.Unstyled.{unstyled, outputs_same}
+use Rattle.yaml_base.proofs.ContentsUnfold.{dumped_stream}
+use Rattle.yaml_base.proofs.SameWalks.{AllReached, node_of_step, renumbered, same_walks, anchors_alike}
+
+-- ---- a node's events, by its label
+
+abbrev begun_by : Option Text → Text → NodeKind → Event
+begun_by anchor tag (scalar_kind value style) =
+    let implicit = bytes_eq tag string_tag in
+    scalar (record { anchor = anchor; tag = Some tag; value = value; plain_implicit = implicit; quoted_implicit = implicit; style = any_style })
+begun_by anchor tag (sequence_kind style) =
+    sequence_start (record { anchor = anchor; tag = Some tag; implicit = bytes_eq tag sequence_tag; style = any_layout })
+begun_by anchor tag (mapping_kind style) =
+    mapping_start (record { anchor = anchor; tag = Some tag; implicit = bytes_eq tag mapping_tag; style = any_layout })
+
+abbrev beginning_by : Option Text → Option Label → List Event
+beginning_by anchor None = []
+beginning_by anchor (Some label) = begun_by anchor (unwrap_or label.tag []) label.kind ∷ []
+
+held_begins : (anchor : Option Text) (tag : Text) (held : Held)
+    → map unstyled (beginning_of anchor tag held ∷ []) ≡ beginning_by anchor (Some (label_of false (record { tag = tag; held = held })))
+held_begins anchor tag (scalar_held value style) = refl
+held_begins anchor tag (sequence_held items style) = refl
+held_begins anchor tag (mapping_held pairs style) = refl
+
+begins_by : (anchor : Option Text) (found : Option GraphNode)
+    → map unstyled (beginning_events anchor found) ≡ beginning_by anchor (option_map (label_of false) found)
+begins_by anchor None = refl
+begins_by anchor (Some node) = held_begins anchor node.tag node.held
+
+abbrev ended_by : NodeKind → List Event
+ended_by (scalar_kind value style) = []
+ended_by (sequence_kind style) = sequence_end ∷ []
+ended_by (mapping_kind style) = mapping_end ∷ []
+
+abbrev ending_by : Option Label → List Event
+ending_by None = []
+ending_by (Some label) = ended_by label.kind
+
+held_ends : (tag : Text) (held : Held) → map unstyled (ending_of held) ≡ ending_by (Some (label_of false (record { tag = tag; held = held })))
+held_ends tag (scalar_held value style) = refl
+held_ends tag (sequence_held items style) = refl
+held_ends tag (mapping_held pairs style) = refl
+
+ends_by : (found : Option GraphNode) → map unstyled (ending_events found) ≡ ending_by (option_map (label_of false) found)
+ends_by None = refl
+ends_by (Some node) = held_ends node.tag node.held
+
+-- ---- the events of a walk
+
+step_alike : (first second : Graph) (iso : Isomorphic first second) (walk : List Step) (step : Step) → AllReached first walk
+    → IsReached first (node_of_step step)
+    → map unstyled (step_events second (map (renumbered iso.partner) walk) (renumbered iso.partner step))
+    ≡ map unstyled (step_events first walk step)
+step_alike first second iso walk (enters number) all reached =
+    begins_by (anchor_of (map (renumbered iso.partner) walk) (iso.partner number)) (node_numbered second (iso.partner number))
+    ∙ ap (λ (anchor : Option Text). beginning_by anchor (label_at second (iso.partner number))) (anchors_alike first second iso walk number all reached)
+    ∙ ap (beginning_by (anchor_of walk number)) (iso.labels number reached)
+    ∙ sym (begins_by (anchor_of walk number) (node_numbered first number))
+step_alike first second iso walk (leaves number) all reached =
+    ends_by (node_numbered second (iso.partner number))
+    ∙ ap ending_by (iso.labels number reached)
+    ∙ sym (ends_by (node_numbered first number))
+step_alike first second iso walk (meets_again number) all reached =
+    ap (λ (anchor : Option Text). alias (unwrap_or anchor []) ∷ []) (anchors_alike first second iso walk number all reached)
+
+steps_alike : (first second : Graph) (iso : Isomorphic first second) (walk part : List Step) → AllReached first walk → AllReached first part
+    → map unstyled (flat_map (step_events second (map (renumbered iso.partner) walk)) (map (renumbered iso.partner) part))
+    ≡ map unstyled (flat_map (step_events first walk) part)
+steps_alike first second iso walk [] all reached = refl
+steps_alike first second iso walk (step ∷ part) all reached =
+    let other = map (renumbered iso.partner) walk in
+    map-append unstyled (step_events second other (renumbered iso.partner step)) (flat_map (step_events second other) (map (renumbered iso.partner) part))
+    ∙ ap (λ (events : List Event). events ++ map unstyled (flat_map (step_events second other) (map (renumbered iso.partner) part)))
+    (step_alike first second iso walk step all (reached step (inl refl)))
+    ∙ ap (λ (events : List Event). map unstyled (step_events first walk step) ++ events)
+    (steps_alike first second iso walk part all (λ one within. reached one (inr within)))
+    ∙ sym (map-append unstyled (step_events first walk step) (flat_map (step_events first walk) part))
+
+-- ---- documents
+
+some_nodes : (count : ℕ) → (count == 0) ≡ false → 1 ≤ count
+some_nodes count some = grind (arith, nat_tests, some)
+
+abbrev events_within : Graph → List Event
+events_within graph = flat_map (step_events graph (steps graph)) (steps graph)
+
+document_is : (graph : Graph) → IsDocument graph
+    → map unstyled (document_event_list graph)
+    ≡ unstyled (document_start graph.start) ∷ (map unstyled (events_within graph) ++ document_end graph.end_implicit ∷ [])
+document_is graph is =
+    ap (λ (none : Bool). map unstyled (if none then [] else document_start graph.start ∷ (events_within graph ++ document_end graph.end_implicit ∷ [])))
+    is.has_nodes
+    ∙ ap (λ (events : List Event). unstyled (document_start graph.start) ∷ events)
+    (map-append unstyled (events_within graph) (document_end graph.end_implicit ∷ []))
+
+within_alike : (first second : Graph) → IsDocument first → IsDocument second → Isomorphic first second
+    → map unstyled (events_within second) ≡ map unstyled (events_within first)
+within_alike first second is also iso =
+    let walks = same_walks first second iso is.whole also.whole (some_nodes (length first.nodes) is.has_nodes)
+    (some_nodes (length second.nodes) also.has_nodes) in
+    ap (λ (walk : List Step). map unstyled (flat_map (step_events second walk) walk)) walks.same
+    ∙ steps_alike first second iso (steps first) (steps first) walks.reached walks.reached
+
+start_alike : (first second : DocumentStart) → first.version ≡ second.version → first.directives ≡ second.directives
+    → unstyled (document_start first) ≡ unstyled (document_start second)
+start_alike first second version directives =
+    ap (λ v. document_start (record { version = v; directives = first.directives; implicit = true })) version
+    ∙ ap (λ d. document_start (record { version = second.version; directives = d; implicit = true })) directives
+
+document_alike : (first second : Graph) → IsDocument first → IsDocument second → IsWrittenAlike first second
+    → map unstyled (document_event_list first) ≡ map unstyled (document_event_list second)
+document_alike first second is also alike =
+    document_is first is
+    ∙ ap (λ (start : Event). start ∷ (map unstyled (events_within first) ++ document_end first.end_implicit ∷ []))
+    (start_alike first.start second.start alike.says.version alike.says.directives)
+    ∙ ap (λ (events : List Event). unstyled (document_start second.start) ∷ (events ++ document_end first.end_implicit ∷ []))
+    (sym (within_alike first second is also alike.says.graphs))
+    ∙ ap (λ (implicit : Bool). unstyled (document_start second.start) ∷ (map unstyled (events_within second) ++ document_end implicit ∷ []))
+    alike.end_implicit
+    ∙ sym (document_is second also)
+
+documents_alike : (firsts seconds : List Graph) → All IsDocument firsts → All IsDocument seconds → AreWrittenAlike firsts seconds
+    → map unstyled (flat_map document_event_list firsts) ≡ map unstyled (flat_map document_event_list seconds)
+documents_alike [] [] are also alike = refl
+documents_alike [] (second ∷ seconds) are also alike = absurd alike
+documents_alike (first ∷ firsts) [] are also alike = absurd alike
+documents_alike (first ∷ firsts) (second ∷ seconds) are also alike =
+    map-append unstyled (document_event_list first) (flat_map document_event_list firsts)
+    ∙ ap (λ (events : List Event). events ++ map unstyled (flat_map document_event_list firsts))
+    (document_alike first second (All-head IsDocument first firsts are) (All-head IsDocument second seconds also) alike.0)
+    ∙ ap (λ (events : List Event). map unstyled (document_event_list second) ++ events)
+    (documents_alike firsts seconds (All-tail IsDocument first firsts are) (All-tail IsDocument second seconds also) alike.1)
+    ∙ sym (map-append unstyled (document_event_list second) (flat_map document_event_list seconds))
+
+-- ---- streams
+
+stream_is : (graphs : List Graph) (events : List Event) (dumped : AreDumped graphs events)
+    → map unstyled events ≡ stream_start dumped.encoding ∷ (map unstyled (flat_map document_event_list graphs) ++ stream_end ∷ [])
+stream_is graphs events dumped =
+    ap (map unstyled) (sym dumped.parts)
+    ∙ ap (λ (inside : List Event). stream_start dumped.encoding ∷ inside) (map-append unstyled (flat_map document_event_list graphs) (stream_end ∷ []))
+
+-- streams of documents that canonical mode writes alike
+pub same_canonical_output : (given : Settings) (firsts seconds : List Graph) (first second : List Event) → given.canonical ≡ true
+    → AreDumped firsts first → AreDumped seconds second → encoding_asked first ≡ encoding_asked second → AreWrittenAlike firsts seconds
+    → output_of given first ≡ output_of given second
+same_canonical_output given firsts seconds first second canonical dumped also asked alike =
+    let one = dumped_stream firsts first dumped in
+    let two = dumped_stream seconds second also in
+    let encoding : dumped.encoding ≡ also.encoding = ap encoding_asked dumped.parts ∙ asked ∙ sym (ap encoding_asked also.parts) in
+    outputs_same given canonical first second one.stream two.stream one.is two.is
+    (stream_is firsts first dumped
+    ∙ ap (λ (e : Option Encoding). stream_start e ∷ (map unstyled (flat_map document_event_list firsts) ++ stream_end ∷ [])) encoding
+    ∙ ap (λ (events : List Event). stream_start also.encoding ∷ (events ++ stream_end ∷ []))
+    (documents_alike firsts seconds dumped.documents also.documents alike)
+    ∙ sym (stream_is seconds second also))

@@ -1,0 +1,205 @@
+-- In canonical mode no layout goes by the styles of events, nor by whether a document's start is implicit.
+use Rattle.std.proofs.Common.{◌≡◌, refl, sym, ap, ◌∙◌, map}
+use Rattle.std.specs.Prelude.{Bool, true, false, ◌||◌, ◌&&◌, not, Option, None, Some, List, [], ◌∷◌, ◌==◌, option_map, unwrap_or, if◌then◌else◌}
+use Rattle.yaml_base.specs.Settings.{Encoding, Settings, Effective, effective}
+use Rattle.yaml_base.specs.Cursor.{then_laid}
+use Rattle.yaml_base.specs.Event.{ScalarStyle, any_style, any_layout, TagDirective, DocumentStart, Scalar, Collection, Event}
+use Rattle.yaml_base.specs.Event.{stream_start, stream_end, document_start, document_end, alias, scalar, sequence_start, sequence_end, mapping_start, mapping_end}
+use Rattle.yaml_base.specs.Refusal.{ends_collection}
+use Rattle.yaml_base.specs.scalars.Analysis.{Allowances}
+use Rattle.yaml_base.specs.scalars.Style.{Choice, chosen}
+use Rattle.yaml_base.specs.Grammar.{Stream, stream_events}
+use Rattle.yaml_base.specs.Layout.{Role, as_item, as_key, Place, is_key, is_in_mapping, deeper, is_simple_scalar, is_simple_collection, Piece, Standing, PieceLaid}
+use Rattle.yaml_base.specs.Layout.{lead_alone, scalar_lead, body_laid, body_at, mark_after, start_piece, document_mark_laid}
+use Rattle.yaml_base.specs.Layout.{closing_mark_laid, laid_if, version_laid, tag_directives_laid, has_directives, is_explicit, first_standing, layout}
+use Rattle.yaml_base.specs.Steps.{Frame, Stage, at_stream, at_document, at_node, next_place, Stepped, frame_opened, start_step, step, ends_next, Steps}
+use Rattle.yaml_base.specs.Steps.{then_steps, steps, leaf_step}
+use Rattle.yaml_base.specs.Tags.{directives_in_force}
+use Rattle.yaml_base.specs.Pieces.{list_layout}
+use Rattle.yaml_base.specs.Encoding.{cut}
+use Rattle.yaml_base.specs.Output.{encoding_asked, settings_for, bytes_written, output_of}
+use Rattle.yaml_base.proofs.StepLaws.{stream_steps}
+use Rattle.yaml_base.proofs.Trees.{tree_of-stream_events}
+
+-- an event of no style; a document's start is implicit
+abbrev pub unstyled : Event → Event
+unstyled (document_start start) = document_start (record start { implicit = true })
+unstyled (scalar content) = scalar (record content { style = any_style })
+unstyled (sequence_start start) = sequence_start (record start { style = any_layout })
+unstyled (mapping_start start) = mapping_start (record start { style = any_layout })
+unstyled event = event
+
+-- ---- scalars
+
+chosen_canonical : (allowed : Allowances) (asked other : ScalarStyle) (empty tag_written plain_implicit quoted_implicit in_flow simple canonical : Bool)
+    → canonical ≡ true
+    → chosen allowed asked empty tag_written plain_implicit quoted_implicit in_flow simple canonical
+    ≡ chosen allowed other empty tag_written plain_implicit quoted_implicit in_flow simple canonical
+chosen_canonical allowed asked other empty tag_written plain_implicit quoted_implicit in_flow simple true on = refl
+chosen_canonical allowed asked other empty tag_written plain_implicit quoted_implicit in_flow simple false on = cc
+
+-- a scalar's piece, by its style
+abbrev scalar_by : Effective → List TagDirective → Place → (simple : Bool) → Scalar → Standing → Choice → PieceLaid
+scalar_by s directives place simple content standing choice =
+    let lead = scalar_lead s directives place simple choice content standing.cursor in
+    let limit = if simple then None else s.width in
+    let body = body_laid choice.style s limit (deeper s.indent place.column) content.value lead.cursor in
+    record {
+      piece = record { lead = lead.text; body = Some (body_at place choice.style content.value body) };
+      standing = record { cursor = body.cursor; mark = mark_after choice.style content.value standing.mark };
+    }
+
+abbrev simple_scalar : Effective → List TagDirective → List Frame → Scalar → Bool
+simple_scalar s directives frames content = is_key (next_place frames).role && (not s.canonical && is_simple_scalar s.canonical directives content)
+
+scalar_unstyled : (s : Effective) → s.canonical ≡ true → (directives : List TagDirective) (frames : List Frame) (content : Scalar) (empty : Bool)
+    (standing : Standing)
+    → step s (at_node directives frames) (scalar (record content { style = any_style })) empty standing
+    ≡ step s (at_node directives frames) (scalar content) empty standing
+scalar_unstyled s on directives frames content empty standing =
+    let simple = simple_scalar s directives frames content in
+    ap (λ (choice : Choice). leaf_step directives frames simple (scalar_by s directives (next_place frames) simple content standing choice))
+    (chosen_canonical _ any_style content.style _ _ content.plain_implicit content.quoted_implicit (next_place frames).in_flow simple s.canonical on)
+
+-- ---- collections
+
+in_flow_canonical : (a b c d e : Bool) → b ≡ true → (a || b || c || d) ≡ (a || b || e || d)
+in_flow_canonical true true c d e on = refl
+in_flow_canonical false true c d e on = refl
+in_flow_canonical true false c d e on = cc
+in_flow_canonical false false c d e on = cc
+
+start_unstyled : (s : Effective) → s.canonical ≡ true → (directives : List TagDirective) (frames : List Frame) (undented simple empty : Bool) (role : Role)
+    (start : Collection) (standing : Standing)
+    → start_step s directives frames undented simple empty role (record start { style = any_layout }) standing
+    ≡ start_step s directives frames undented simple empty role start standing
+start_unstyled s on directives frames undented simple empty role start standing =
+    let place = next_place frames in
+    let laid = start_piece s directives place simple start standing in
+    ap (λ (in_flow : Bool).
+    let made : Stepped = record { laid = laid; stage = at_node directives (frame_opened s place in_flow undented simple role laid ∷ frames) } in
+    made)
+    (in_flow_canonical place.in_flow s.canonical _ empty _ on)
+
+-- ---- a document's start
+
+third_on : (a b c d : Bool) → c ≡ true → (a || b || c || d) ≡ true
+third_on true b c d on = refl
+third_on false true c d on = refl
+third_on false false true d on = refl
+third_on false false false d on = cc
+
+either_on : (a b : Bool) → a ≡ true → (a || b) ≡ true
+either_on true b on = refl
+either_on false b on = cc
+
+always_explicit : (s : Effective) (first : Bool) (start : DocumentStart) → s.canonical ≡ true → is_explicit (s.canonical || s.portable) first start ≡ true
+always_explicit s first start on =
+    third_on (not start.implicit) (not first) (s.canonical || s.portable) (has_directives start) (either_on s.canonical s.portable on)
+
+abbrev document_by : Effective → DocumentStart → Standing → (explicit : Bool) → Stepped
+document_by s start standing explicit =
+    record {
+      laid =
+          lead_alone 0
+          (then_laid
+          (then_laid
+          (then_laid
+          (laid_if (has_directives start && not (standing.mark == 0)) closing_mark_laid standing.cursor)
+          (version_laid start.version))
+          (tag_directives_laid s.portable start.directives))
+          (laid_if explicit (document_mark_laid s.canonical)));
+      stage = at_node (directives_in_force start.directives) [];
+    }
+
+document_unstyled : (s : Effective) → s.canonical ≡ true → (first empty : Bool) (start : DocumentStart) (standing : Standing)
+    → step s (at_document first) (document_start (record start { implicit = true })) empty standing
+    ≡ step s (at_document first) (document_start start) empty standing
+document_unstyled s on first empty start standing =
+    ap (document_by s start standing) (always_explicit s first (record start { implicit = true }) on ∙ sym (always_explicit s first start on))
+
+-- ---- lists of events
+
+step_unstyled : (s : Effective) → s.canonical ≡ true → (stage : Stage) (event : Event) (empty : Bool) (standing : Standing)
+    → step s stage (unstyled event) empty standing ≡ step s stage event empty standing
+step_unstyled s on (at_node directives frames) (scalar content) empty standing = scalar_unstyled s on directives frames content empty standing
+step_unstyled s on (at_node directives frames) (sequence_start start) empty standing =
+    start_unstyled s on directives frames (is_in_mapping (next_place frames).role)
+    (is_key (next_place frames).role && (not s.canonical && is_simple_collection s.canonical directives start empty))
+    empty (as_item true) start standing
+step_unstyled s on (at_node directives frames) (mapping_start start) empty standing =
+    start_unstyled s on directives frames false
+    (is_key (next_place frames).role && (not s.canonical && is_simple_collection s.canonical directives start empty))
+    empty (as_key true) start standing
+step_unstyled s on (at_document first) (document_start start) empty standing = document_unstyled s on first empty start standing
+step_unstyled s on stage (document_start start) empty standing = refl
+step_unstyled s on stage (scalar content) empty standing = refl
+step_unstyled s on stage (sequence_start start) empty standing = refl
+step_unstyled s on stage (mapping_start start) empty standing = refl
+step_unstyled s on stage (stream_start encoding) empty standing = refl
+step_unstyled s on stage stream_end empty standing = refl
+step_unstyled s on stage (document_end implicit) empty standing = refl
+step_unstyled s on stage (alias name) empty standing = refl
+step_unstyled s on stage sequence_end empty standing = refl
+step_unstyled s on stage mapping_end empty standing = refl
+
+still_ends : (event : Event) → ends_collection (unstyled event) ≡ ends_collection event
+still_ends event = elim event as (λ e. ends_collection (unstyled e) ≡ ends_collection e) [
+  | stream_start encoding ↦ refl
+  | stream_end ↦ refl
+  | document_start start ↦ refl
+  | document_end implicit ↦ refl
+  | alias name ↦ refl
+  | scalar content ↦ refl
+  | sequence_start start ↦ refl
+  | sequence_end ↦ refl
+  | mapping_start start ↦ refl
+  | mapping_end ↦ refl
+]
+
+next_ends : (events : List Event) (follows : Bool) → ends_next (map unstyled events) follows ≡ ends_next events follows
+next_ends [] follows = refl
+next_ends (event ∷ events) follows = still_ends event
+
+steps_unstyled : (events : List Event) (s : Effective) → s.canonical ≡ true → (follows : Bool) (stage : Stage) (standing : Standing)
+    → steps s follows (map unstyled events) stage standing ≡ steps s follows events stage standing
+steps_unstyled [] s on follows stage standing = refl
+steps_unstyled (event ∷ rest) s on follows stage standing =
+    let stepped = step s stage event (ends_next rest follows) standing in
+    ap (λ (empty : Bool). then_steps (step s stage (unstyled event) empty standing) (steps s follows (map unstyled rest))) (next_ends rest follows)
+    ∙ ap (λ (made : Stepped). then_steps made (steps s follows (map unstyled rest))) (step_unstyled s on stage event (ends_next rest follows) standing)
+    ∙ ap (λ (after : Steps). let made : Steps = record { pieces = stepped.laid.piece ∷ after.pieces; standing = after.standing; stage = after.stage } in made)
+    (steps_unstyled rest s on follows stepped.stage stepped.laid.standing)
+
+-- streams that differ in styles alone
+pub layouts_same : (s : Effective) → s.canonical ≡ true → (one two : Stream) → map unstyled (stream_events one) ≡ map unstyled (stream_events two)
+    → layout s one ≡ layout s two
+layouts_same s on one two same =
+    sym (stream_steps one s)
+    ∙ ap (λ (made : Steps). made.pieces) (sym (steps_unstyled (stream_events one) s on false at_stream first_standing))
+    ∙ ap (λ (events : List Event). (steps s false events at_stream first_standing).pieces) same
+    ∙ ap (λ (made : Steps). made.pieces) (steps_unstyled (stream_events two) s on false at_stream first_standing)
+    ∙ stream_steps two s
+
+list_is : (s : Effective) (stream : Stream) (events : List Event) → stream_events stream ≡ events → list_layout s events ≡ layout s stream
+list_is s stream events is =
+    ap (list_layout s) (sym is)
+    ∙ ap (λ (tree : Option Stream). unwrap_or (option_map (layout s) tree) []) (tree_of-stream_events stream)
+
+asked_unstyled : (events : List Event) → encoding_asked (map unstyled events) ≡ encoding_asked events
+asked_unstyled [] = refl
+asked_unstyled (stream_start encoding ∷ rest) = refl
+asked_unstyled (event ∷ rest) = refl
+
+-- their output is the same
+pub outputs_same : (given : Settings) → given.canonical ≡ true → (first second : List Event) (one two : Stream) → stream_events one ≡ first
+    → stream_events two ≡ second → map unstyled first ≡ map unstyled second → output_of given first ≡ output_of given second
+outputs_same given on first second one two is_one is_two same =
+    let asked : encoding_asked first ≡ encoding_asked second = sym (asked_unstyled first) ∙ ap encoding_asked same ∙ asked_unstyled second in
+    let s = settings_for given first in
+    let layouts : list_layout s first ≡ list_layout s second =
+    list_is s one first is_one
+    ∙ layouts_same s on one two (ap (map unstyled) is_one ∙ same ∙ sym (ap (map unstyled) is_two))
+    ∙ sym (list_is s two second is_two) in
+    ap (λ (pieces : List Piece). cut s.limit (bytes_written s pieces)) layouts
+    ∙ ap (λ (asks : Option Encoding). cut given.limit (bytes_written (effective given asks) (list_layout (effective given asks) second))) asked

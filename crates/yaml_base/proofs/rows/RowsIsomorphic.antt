@@ -1,0 +1,123 @@
+-- Graphs that are isomorphic, and graphs that aren't.
+use Rattle.std.proofs.Common.{◌≡◌, ◌⊎◌, inl, inr, subst, ap, sym, ◌∙◌, refl, arith, map}
+use Rattle.std.specs.Prelude.{ℕ, zero, suc, true, None, List, [], ◌∷◌, Contains, codes, slice_index}
+use Rattle.yaml_base.specs.Characters.{Text}
+use Rattle.yaml_base.specs.Event.{any_style, block}
+use Rattle.yaml_base.specs.graphs.Meetings.{GraphNode, Graph, scalar_held, sequence_held, string_tag, sequence_tag, children}
+use Rattle.yaml_base.specs.graphs.Unfolding.{IsReached, first_reached, child_reached}
+use Rattle.yaml_base.specs.graphs.Isomorphic.{label_at, Isomorphic}
+
+abbrev text : Text → GraphNode
+text value = record { tag = string_tag; held = scalar_held value any_style }
+
+abbrev sequence : List ℕ → GraphNode
+sequence items = record { tag = sequence_tag; held = sequence_held items block }
+
+abbrev graph_of : List GraphNode → Graph
+graph_of nodes = record { start = record { version = None; directives = []; implicit = true }; nodes = nodes; end_implicit = true }
+
+-- ---- two nodes change places, and no root reaches a fourth
+
+abbrev one : Graph
+one = graph_of (sequence (2 ∷ 3 ∷ 2 ∷ []) ∷ text (codes "a") ∷ text (codes "b") ∷ [])
+
+abbrev two : Graph
+two = graph_of (sequence (3 ∷ 2 ∷ 3 ∷ []) ∷ text (codes "b") ∷ text (codes "a") ∷ text (codes "c") ∷ [])
+
+abbrev exchanged : ℕ → ℕ
+exchanged zero = 0
+exchanged (suc zero) = 1
+exchanged (suc (suc zero)) = 3
+exchanged (suc (suc (suc zero))) = 2
+exchanged (suc (suc (suc (suc number)))) = 0
+
+held_by_one : (child : ℕ) → Contains (2 ∷ 3 ∷ 2 ∷ []) child → (child ≡ 2) ⊎ (child ≡ 3)
+held_by_one child (zero, below, is) = inl (sym is)
+held_by_one child (suc zero, below, is) = inr (sym is)
+held_by_one child (suc (suc zero), below, is) = inl (sym is)
+held_by_one child (suc (suc (suc k)), below, is) = absurd (omega (arith, below))
+
+held_by_two : (child : ℕ) → Contains (3 ∷ 2 ∷ 3 ∷ []) child → (child ≡ 2) ⊎ (child ≡ 3)
+held_by_two child (zero, below, is) = inr (sym is)
+held_by_two child (suc zero, below, is) = inl (sym is)
+held_by_two child (suc (suc zero), below, is) = inr (sym is)
+held_by_two child (suc (suc (suc k)), below, is) = absurd (omega (arith, below))
+
+held_by_none : (child : ℕ) → Contains [] child → ⊥
+held_by_none child (k, below, is) = omega (arith, below)
+
+reached_in_one : {number : ℕ} → IsReached one number → (number ≡ 1) ⊎ ((number ≡ 2) ⊎ (number ≡ 3))
+reached_in_one first_reached = inl refl
+reached_in_one (child_reached {number = parent} {child = child} r held) =
+    elim (reached_in_one r) as (λ _. (child ≡ 1) ⊎ ((child ≡ 2) ⊎ (child ≡ 3))) [
+      | inl e ↦ inr (held_by_one child (subst (λ n. Contains (children one n) child) e held))
+      | inr (inl e) ↦ absurd (held_by_none child (subst (λ n. Contains (children one n) child) e held))
+      | inr (inr e) ↦ absurd (held_by_none child (subst (λ n. Contains (children one n) child) e held))
+    ]
+
+reached_in_two : {number : ℕ} → IsReached two number → (number ≡ 1) ⊎ ((number ≡ 2) ⊎ (number ≡ 3))
+reached_in_two first_reached = inl refl
+reached_in_two (child_reached {number = parent} {child = child} r held) =
+    elim (reached_in_two r) as (λ _. (child ≡ 1) ⊎ ((child ≡ 2) ⊎ (child ≡ 3))) [
+      | inl e ↦ inr (held_by_two child (subst (λ n. Contains (children two n) child) e held))
+      | inr (inl e) ↦ absurd (held_by_none child (subst (λ n. Contains (children two n) child) e held))
+      | inr (inr e) ↦ absurd (held_by_none child (subst (λ n. Contains (children two n) child) e held))
+    ]
+
+-- what holds of the first three numbers holds of those that are reached
+by_cases : (P : ℕ → Type 0) → P 1 → P 2 → P 3 → (number : ℕ) → (number ≡ 1) ⊎ ((number ≡ 2) ⊎ (number ≡ 3)) → P number
+by_cases P first second third number (inl is) = subst P (sym is) first
+by_cases P first second third number (inr (inl is)) = subst P (sym is) second
+by_cases P first second third number (inr (inr is)) = subst P (sym is) third
+
+exchange : Isomorphic one two
+exchange =
+    record {
+      partner = exchanged;
+      back = exchanged;
+      root = refl;
+      labels = λ number reached. by_cases (λ n. label_at two (exchanged n) ≡ label_at one n) refl refl refl number (reached_in_one reached);
+      kept = λ number reached.
+          by_cases (λ n. children two (exchanged n) ≡ map exchanged (children one n)) refl refl refl number (reached_in_one reached);
+      one_to_one = λ number reached. by_cases (λ n. exchanged (exchanged n) ≡ n) refl refl refl number (reached_in_one reached);
+      onto = λ number reached. by_cases (λ n. exchanged (exchanged n) ≡ n) refl refl refl number (reached_in_two reached);
+    }
+
+-- ---- a node that is shared isn't two equal nodes
+
+abbrev shared : Graph
+shared = graph_of (sequence (2 ∷ 2 ∷ []) ∷ text (codes "a") ∷ [])
+
+abbrev two_equal : Graph
+two_equal = graph_of (sequence (2 ∷ 3 ∷ []) ∷ text (codes "a") ∷ text (codes "a") ∷ [])
+
+shared_is_not_equal : Isomorphic shared two_equal → ⊥
+shared_is_not_equal iso =
+    let same : 2 ∷ 3 ∷ [] ≡ iso.partner 2 ∷ iso.partner 2 ∷ [] =
+    ap (children two_equal) (sym iso.root) ∙ iso.kept 1 first_reached in
+    let both : 2 ≡ 3 = ap (λ numbers. slice_index numbers 0) same ∙ sym (ap (λ numbers. slice_index numbers 1) same) in
+    omega (arith, both)
+
+equal_is_not_shared : Isomorphic two_equal shared → ⊥
+equal_is_not_shared iso =
+    let same : 2 ∷ 2 ∷ [] ≡ iso.partner 2 ∷ iso.partner 3 ∷ [] =
+    ap (children shared) (sym iso.root) ∙ iso.kept 1 first_reached in
+    let both : iso.partner 2 ≡ iso.partner 3 = sym (ap (λ numbers. slice_index numbers 0) same) ∙ ap (λ numbers. slice_index numbers 1) same in
+    let second : IsReached two_equal 2 = child_reached first_reached (0, omega arith, refl) in
+    let third : IsReached two_equal 3 = child_reached first_reached (1, omega arith, refl) in
+    let numbers : 2 ≡ 3 = sym (iso.one_to_one 2 second) ∙ ap iso.back both ∙ iso.one_to_one 3 third in
+    omega (arith, numbers)
+
+-- ---- a sequence that holds itself isn't two sequences that hold each other
+
+abbrev holds_itself : Graph
+holds_itself = graph_of (sequence (1 ∷ []) ∷ [])
+
+abbrev hold_each_other : Graph
+hold_each_other = graph_of (sequence (2 ∷ []) ∷ sequence (1 ∷ []) ∷ [])
+
+cycles_differ : Isomorphic holds_itself hold_each_other → ⊥
+cycles_differ iso =
+    let same : 2 ∷ [] ≡ iso.partner 1 ∷ [] = ap (children hold_each_other) (sym iso.root) ∙ iso.kept 1 first_reached in
+    let numbers : 2 ≡ 1 = ap (λ numbers. slice_index numbers 0) same ∙ iso.root in
+    omega (arith, numbers)

@@ -1,0 +1,82 @@
+-- Documents that were read of the same bytes say the same.
+use Rattle.std.proofs.Common.{◌≡◌, sym, ◌∙◌, subst, List, [], ◌∷◌}
+use Rattle.std.specs.Prelude.{Some}
+use Rattle.yaml_base.specs.reading.Content.{DocumentContent}
+use Rattle.yaml_base.specs.streams.StreamContent.{DocumentTree}
+use Rattle.yaml_base.specs.graphs.Meetings.{Graph}
+use Rattle.yaml_base.specs.graphs.Unfolding.{content_shape}
+use Rattle.yaml_base.specs.graphs.Dumped.{ContentsUnfold}
+use Rattle.yaml_base.specs.graphs.Isomorphic.{AllSayTheSame}
+use Rattle.yaml_base.proofs.ContentsUnfold.{dumped_stream}
+use Rattle.yaml_base.proofs.SameShapes.{same_shape}
+use Rattle.yaml_base.proofs.SameEvents.{same_canonical_output}
+use Rattle.yaml_emitter.proofs.canonical.CanonicalOutput.{output_tells}
+use Rattle.yaml_emitter.proofs.layouts.StreamOutput.{output_tells_content}
+use Rattle.yaml_dump.specs.GraphTrees.{tree_shape, TreesUnfold}
+use Rattle.yaml_dump.specs.EqualBytes.{OneReading, OneReadingBack, EqualBytes, EqualReadableBytes, EqualDocuments}
+use Rattle.yaml_dump.proofs.GraphTreeLemmas.{dumped_trees_unfold}
+
+some_same : {A : Type 0} {a b : A} → Some a ≡ Some b → a ≡ b
+some_same h = cc
+
+-- graphs that the same contents unfolds
+contents_say : (firsts seconds : List Graph) (contents : List DocumentContent) → ContentsUnfold firsts contents → ContentsUnfold seconds contents
+    → AllSayTheSame firsts seconds
+contents_say [] [] contents unfolds also = tt
+contents_say [] (second ∷ seconds) [] unfolds also = absurd also
+contents_say [] (second ∷ seconds) (content ∷ contents) unfolds also = absurd unfolds
+contents_say (first ∷ firsts) seconds [] unfolds also = absurd unfolds
+contents_say (first ∷ firsts) [] (content ∷ contents) unfolds also = absurd also
+contents_say (first ∷ firsts) (second ∷ seconds) (content ∷ contents) unfolds also = (
+  record {
+    version = sym unfolds.0.version ∙ also.0.version;
+    directives = sym unfolds.0.directives ∙ also.0.directives;
+    graphs = same_shape first second (content_shape content.root) unfolds.0.unfolds also.0.unfolds;
+  },
+  contents_say firsts seconds contents unfolds.1 also.1,
+)
+
+-- graphs that the same trees unfolds
+trees_say : (firsts seconds : List Graph) (documents : List DocumentTree) → TreesUnfold firsts documents → TreesUnfold seconds documents
+    → AllSayTheSame firsts seconds
+trees_say [] [] documents unfolds also = tt
+trees_say [] (second ∷ seconds) [] unfolds also = absurd also
+trees_say [] (second ∷ seconds) (document ∷ documents) unfolds also = absurd unfolds
+trees_say (first ∷ firsts) seconds [] unfolds also = absurd unfolds
+trees_say (first ∷ firsts) [] (document ∷ documents) unfolds also = absurd also
+trees_say (first ∷ firsts) (second ∷ seconds) (document ∷ documents) unfolds also = (
+  record {
+    version = sym unfolds.0.version ∙ also.0.version;
+    directives = sym unfolds.0.directives ∙ also.0.directives;
+    graphs = same_shape first second (tree_shape document.root) unfolds.0.unfolds also.0.unfolds;
+  },
+  trees_say firsts seconds documents unfolds.1 also.1,
+)
+
+pub one_reading : OneReading
+one_reading breaks12 firsts seconds bytes read also =
+    contents_say firsts seconds read.contents read.unfolds
+    (subst (ContentsUnfold seconds) (some_same (sym also.read ∙ read.read)) also.unfolds)
+
+pub one_reading_back : OneReadingBack
+one_reading_back breaks12 firsts seconds bytes read also =
+    trees_say firsts seconds read.documents read.unfolds
+    (subst (TreesUnfold seconds) (some_same (sym also.read ∙ read.read)) also.unfolds)
+
+pub equal_bytes : EqualBytes
+equal_bytes given firsts seconds first second dumped also whole also_whole same =
+    let one = dumped_stream firsts first dumped in
+    let two = dumped_stream seconds second also in
+    let contents = some_same (sym two.content ∙ sym (output_tells given first second whole also_whole same) ∙ one.content) in
+    contents_say firsts seconds one.contents one.unfolds (subst (ContentsUnfold seconds) contents two.unfolds)
+
+pub equal_readable_bytes : EqualReadableBytes
+equal_readable_bytes given firsts seconds first second dumped also readable also_readable same =
+    let content = output_tells_content given first second readable also_readable same in
+    trees_say firsts seconds content.documents
+    (dumped_trees_unfold given.canonical firsts first content.documents dumped content.first_agrees)
+    (dumped_trees_unfold given.canonical seconds second content.documents also content.second_agrees)
+
+pub equal_documents : EqualDocuments
+equal_documents given firsts seconds first second canonical dumped also asked alike =
+    same_canonical_output given firsts seconds first second canonical dumped also asked alike

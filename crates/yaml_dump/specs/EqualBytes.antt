@@ -1,0 +1,41 @@
+-- Equal bytes come only from documents that say the same; and documents that say the same have equal bytes in canonical mode.
+use Rattle.std.specs.Prelude.{◌≡◌, ℕ, Bool, true, List}
+use Rattle.yaml_base.specs.Settings.{Settings}
+use Rattle.yaml_base.specs.Event.{Event}
+use Rattle.yaml_base.specs.Output.{encoding_asked, output_of}
+use Rattle.yaml_base.specs.graphs.Meetings.{Graph}
+use Rattle.yaml_base.specs.graphs.Dumped.{AreDumped, GraphsRead}
+use Rattle.yaml_base.specs.graphs.Isomorphic.{AllSayTheSame, AreWrittenAlike}
+use Rattle.yaml_emitter.specs.Uncut.{IsWhole, IsReadable}
+use Rattle.yaml_dump.specs.GraphTrees.{GraphsReadBack}
+
+-- bytes in which the canonical reader finds graphs hold no others
+abbrev pub OneReading : Type 0
+OneReading =
+    (breaks12 : Bool) (firsts seconds : List Graph) (bytes : List ℕ) → GraphsRead breaks12 firsts bytes → GraphsRead breaks12 seconds bytes
+    → AllSayTheSame firsts seconds
+
+-- nor do those in which the reader of whole streams finds graphs
+abbrev pub OneReadingBack : Type 0
+OneReadingBack =
+    (breaks12 : Bool) (firsts seconds : List Graph) (bytes : List ℕ) → GraphsReadBack breaks12 firsts bytes → GraphsReadBack breaks12 seconds bytes
+    → AllSayTheSame firsts seconds
+
+-- under equal settings equal canonical outputs, uncut, come only from documents that say the same
+abbrev pub EqualBytes : Type 0
+EqualBytes =
+    (given : Settings) (firsts seconds : List Graph) (first second : List Event) → AreDumped firsts first → AreDumped seconds second
+    → IsWhole given first → IsWhole given second → output_of given first ≡ output_of given second → AllSayTheSame firsts seconds
+
+-- so do equal outputs in every mode, of streams that read back
+abbrev pub EqualReadableBytes : Type 0
+EqualReadableBytes =
+    (given : Settings) (firsts seconds : List Graph) (first second : List Event) → AreDumped firsts first → AreDumped seconds second
+    → IsReadable given first → IsReadable given second → output_of given first ≡ output_of given second → AllSayTheSame firsts seconds
+
+-- and in canonical mode documents that say the same, and end alike, have equal outputs, whatever their styles
+abbrev pub EqualDocuments : Type 0
+EqualDocuments =
+    (given : Settings) (firsts seconds : List Graph) (first second : List Event) → given.canonical ≡ true → AreDumped firsts first
+    → AreDumped seconds second → encoding_asked first ≡ encoding_asked second → AreWrittenAlike firsts seconds
+    → output_of given first ≡ output_of given second
