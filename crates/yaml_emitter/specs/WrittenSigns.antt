@@ -14,7 +14,7 @@ use Rattle.yaml_emitter.specs.declared.writing.indicators.Indicator.TheVariants.
 use Rattle.yaml_emitter.specs.declared.writing.indicators.Indicator.TheVariants.{FlowSequenceStart, FlowSequenceEnd, FlowMappingStart, FlowMappingEnd}
 use Rattle.yaml_emitter.specs.declared.writing.indicators.Indicator.TheVariants.{FlowEntry, FlowKey, FlowValue, BlockEntry, BlockKey, BlockValue, SimpleValue}
 use Rattle.yaml_emitter.specs.declared.writing.indicators.Indicator.TheVariants.{Anchor, Alias, VerbatimStart, VerbatimEnd}
-use Rattle.yaml_emitter.specs.declared.writing.indicators.Row.{Row}
+use Rattle.yaml_pen.specs.declared.pen.indicators.Indicator.{Indicator as Row}
 use Rattle.yaml_emitter.specs.declared.writing.signs.Sign.{Sign}
 use Rattle.yaml_emitter.specs.declared.writing.signs.Sign.TheVariants.{Nothing, Mark, Line, FlowLine, Space, Name, Handle, TagText, Suffix, Prefix}
 use Rattle.yaml_emitter.specs.declared.writing.spelling.SpelledTag.{SpelledTag}

@@ -1,7 +1,14 @@
 -- A text of ASCII is its bytes.
-use Rattle.std.proofs.Common.{◌≡◌, ap, sym, ◌∙◌, true, ℕ, List}
-use Rattle.std.proofs.lemmas.Str.{IsUtf8-from_ascii, chars-IsAscii, scalars-chars}
-use Rattle.std.specs.Str.{IsAscii, all_scalars}
+use Rattle.std.proofs.Common.{◌≡◌, ap, sym, refl, subst, ◌∙◌, true, ℕ, ◌<◌, ◌≤◌, List, [], ◌∷◌, length, get_or, inl, inr, arith}
+use Rattle.std.proofs.lemmas.Bool.{cases_lt}
+use Rattle.std.proofs.lemmas.Bool.Decides.{nat_tests}
+use Rattle.std.proofs.lemmas.List.{length-append}
+use Rattle.std.proofs.lemmas.Str.{IsUtf8-from_ascii, byte_from_char, chars-IsAscii, length-encode, scalars-chars}
+use Rattle.std.proofs.lemmas.Str.Ascii.{IsAscii-cons, IsAscii-nil}
+use Rattle.std.specs.Char.{len_utf8}
+use Rattle.std.specs.Prelude.{IsUtf8}
+use Rattle.std.specs.Str.{IsAscii, all_scalars, chars}
+use lib.Utf8.{encode, encodes}
 use Rattle.yaml_base.specs.Encoding.{text_bytes}
 use Rattle.yaml_base.specs.Settings.{utf8}
 use Rattle.yaml_pen.proofs.Writing.{utf8-bytes}
@@ -11,3 +18,28 @@ ascii-bytes bytes is = utf8-bytes bytes (IsUtf8-from_ascii bytes is) ∙ ap (tex
 
 pub ascii-scalars : (bytes : List ℕ) → IsAscii bytes → all_scalars bytes ≡ true
 ascii-scalars bytes is = ap all_scalars (sym (chars-IsAscii bytes is)) ∙ scalars-chars bytes (IsUtf8-from_ascii bytes is)
+
+wide_length : (c : ℕ) → 128 ≤ c → 2 ≤ len_utf8 c
+wide_length c wide = grind (arith, nat_tests)
+
+-- a text of one byte is ASCII
+one_is_ascii : (text bytes : List ℕ) → encodes text ≡ bytes → 1 ≤ length bytes → length bytes < 2 → get_or bytes 0 0 < 128
+one_is_ascii [] bytes is some few = absurd (omega (arith, ap (λ (l : List ℕ). length l) is, some))
+one_is_ascii (c ∷ rest) bytes is some few = elim (cases_lt c 128) [
+  | inl low ↦ subst (λ b. b < 128) (sym (byte_from_char bytes (encodes rest) c (sym is) low)) low
+  | inr wide ↦ absurd (omega (arith, ap (λ (l : List ℕ). length l) is, length-append (encode c) (encodes rest), length-encode c, wide_length c wide, few))
+]
+
+pub one_byte_ascii : (bytes : List ℕ) → IsUtf8 bytes → 1 ≤ length bytes → length bytes < 2 → get_or bytes 0 0 < 128
+one_byte_ascii bytes is_text some few = one_is_ascii is_text.0 bytes is_text.1.1 some few
+
+one_byte : (bytes : List ℕ) → 1 ≤ length bytes → length bytes < 2 → get_or bytes 0 0 ∷ [] ≡ bytes
+one_byte [] some few = absurd (omega (arith, some))
+one_byte (byte ∷ []) some few = refl
+one_byte (byte ∷ other ∷ rest) some few = absurd (omega (arith, few))
+
+-- whose character it is
+pub one_byte_chars : (bytes : List ℕ) → IsUtf8 bytes → 1 ≤ length bytes → length bytes < 2 → get_or bytes 0 0 ∷ [] ≡ chars bytes
+one_byte_chars bytes is_text some few =
+    let low = one_byte_ascii bytes is_text some few in
+    sym (chars-IsAscii (get_or bytes 0 0 ∷ []) (IsAscii-cons (get_or bytes 0 0) [] low IsAscii-nil)) ∙ ap chars (one_byte bytes some few)

@@ -14,23 +14,17 @@ pub record WroteFront (all left : Text) (before after : Page) : Type 0 where
   pub front : Text
   pub parts : all ≡ front ++ left
   pub wrote : Wrote (text_laid front) before after (Ok tt)
-  pub no_break : list_any is_break left ≡ false
 
 pub no_line_feed : (c : ℕ) (rest : Text) → list_any is_break (c ∷ rest) ≡ false → (c == line_feed) ≡ false
 no_line_feed c rest none = line_feed-break c (or_parts _ _ none).0
 
 -- no break stands in the parts of a text without one
-unbroken_parts : (xs ys : Text) → list_any is_break (xs ++ ys) ≡ false → (list_any is_break xs ≡ false) × (list_any is_break ys ≡ false)
+pub unbroken_parts : (xs ys : Text) → list_any is_break (xs ++ ys) ≡ false → (list_any is_break xs ≡ false) × (list_any is_break ys ≡ false)
 unbroken_parts [] ys none = (refl, none)
 unbroken_parts (x ∷ xs) ys none =
     let p = or_parts _ _ none in
     let q = unbroken_parts xs ys p.1 in
     (ap (λ b. b || list_any is_break xs) p.0 ∙ q.0, q.1)
-
--- the next part holds no break
-pub part_unbroken : {all left : Text} (part rest : Text) {before after : Page} → WroteFront all left before after → left ≡ part ++ rest
-    → list_any is_break part ≡ false
-part_unbroken part rest wrote is = (unbroken_parts part rest (sym (ap (list_any is_break) is) ∙ wrote.no_break)).0
 
 -- one more part is written
 pub front_more : {all left : Text} (part rest : Text) {before between after : Page} → WroteFront all left before between → left ≡ part ++ rest
@@ -41,7 +35,6 @@ front_more {all} {left} part rest {before} {between} {after} wrote is more =
       front = wrote.front ++ part;
       parts = wrote.parts ∙ ap (λ l. wrote.front ++ l) is ∙ sym (append_assoc wrote.front part rest);
       wrote = wrote_text_then wrote.wrote more;
-      no_break = (unbroken_parts part rest (sym (ap (list_any is_break) is) ∙ wrote.no_break)).1;
     }
 
 -- the next part fails

@@ -4,3 +4,4 @@ pub mod Outlet
 pub mod Encoded
 pub mod Pen
 pub mod Lines
+pub mod Indicators

@@ -7,4 +7,4 @@ mod outlet;
 mod pen;
 mod taken;
 
-pub use pen::Pen;
+pub use pen::{Indicator, Pen};

@@ -15,6 +15,8 @@ mod characters;
 mod indicators;
 mod new_lines;
 
+pub use indicators::Indicator;
+
 /// Writes characters in an encoding through a buffer of 16,384 bytes to an output that it owns, and
 /// keeps the cursor. A call that writes, or a flush, answers `WriteError` where the encoded text passes
 /// the limit, `Memory` where a growth is refused, and the first of these from then on.

@@ -1,9 +1,16 @@
 -- What contracts see of the block scalars' own types.
-use Rattle.std.specs.Prelude.{ℤ, Result, Ok, Err}
+use Rattle.std.specs.Prelude.{ℤ, Bool, true, false, Result, Ok, Err}
 use Rattle.yaml_base.specs.scalars.BlockHeader as layout
 use Rattle.yaml_base.specs.declared.errors.yaml_error_t.{yaml_error_t}
+use Rattle.yaml_scalar.specs.declared.block_header.BlockStyle.{BlockStyle}
+use Rattle.yaml_scalar.specs.declared.block_header.BlockStyle.TheVariants.{Literal, Folded}
 use Rattle.yaml_scalar.specs.declared.block_header.Ending.{Ending}
 use Rattle.yaml_scalar.specs.declared.block_header.Ending.TheVariants.{WithoutBreak, OneBreak, MoreBreaks}
+
+-- lines are folded
+abbrev pub is_folded : BlockStyle → Bool
+is_folded Literal = false
+is_folded Folded = true
 
 -- how a value ends, as the definitions say it
 abbrev pub seen_ending : Ending → layout.Ending

@@ -1,5 +1,5 @@
 -- What contracts see of an analysis and of a choice.
-use Rattle.std.specs.Prelude.{◌≡◌, Bool}
+use Rattle.std.specs.Prelude.{◌≡◌, Bool, true, false}
 use Rattle.yaml_base.specs.scalars.Analysis.{Allowances, Charset}
 use Rattle.yaml_base.specs.Event.{ScalarStyle}
 use Rattle.yaml_base.specs.Seen.{seen_scalar_style}
@@ -7,6 +7,8 @@ use Rattle.yaml_base.specs.scalars.Style.{Choice, chosen}
 use Rattle.yaml_base.specs.declared.styles.yaml_scalar_style_t.{yaml_scalar_style_t}
 use Rattle.yaml_scalar.specs.declared.analysis.scalar_data_t.{scalar_data_t}
 use Rattle.yaml_scalar.specs.declared.analysis.CharacterSet.{CharacterSet}
+use Rattle.yaml_scalar.specs.declared.analysis.Context.{Context}
+use Rattle.yaml_scalar.specs.declared.analysis.Context.TheVariants.{Flow, Block}
 
 -- the styles that an analysis allows
 abbrev pub seen_data : scalar_data_t → Allowances
@@ -22,6 +24,11 @@ seen_data given =
 -- what may stand as itself
 abbrev pub seen_charset : CharacterSet → Charset
 seen_charset given = record { unicode = given.unicode; breaks12 = given.breaks12 }
+
+-- a text stands in a flow collection
+abbrev pub is_flow : Context → Bool
+is_flow Flow = true
+is_flow Block = false
 
 -- a style and whether the bare tag is written
 abbrev pub seen_choice : yaml_scalar_style_t × Bool → Choice

@@ -6,7 +6,7 @@ ghost use Rattle.yaml_base.specs.scalars.Analysis as spec;
 ghost use Rattle.yaml_base.specs.Characters as class;
 ghost use Rattle.yaml_scalar.specs.Barred.{all_styles, allowed_by, barred_by, barred_by_space, barred_in, either, is_ordinary, is_quiet, seen_barred};
 ghost use Rattle.yaml_scalar.specs.ByteClasses.{Tells};
-ghost use Rattle.yaml_scalar.specs.ScalarData.{ChooseAlike, seen_charset, seen_data};
+ghost use Rattle.yaml_scalar.specs.ScalarData.{ChooseAlike, is_flow, seen_charset, seen_data};
 
 use crate::classes::{BREAK, SIGN, UNPRINTABLE, WIDE, free_length, last_of};
 use yaml_base::{is_ascii, is_blank, is_break, is_printable, is_space};
@@ -51,10 +51,14 @@ const NOTHING_BARRED: BarredStyles = BarredStyles {
     block: false,
 };
 
-/// Plain text stands in a flow collection.
-const IN_FLOW: bool = true;
-/// It stands in a block collection, or as a root.
-const IN_BLOCK: bool = false;
+/// Where plain text stands.
+#[derive(Clone, Copy)]
+enum Context {
+    /// In a flow collection.
+    Flow,
+    /// In a block collection, or as a root.
+    Block,
+}
 
 /// Analyses a scalar's value. With `unicode` all printable characters may stand as themselves, else
 /// those of ASCII alone; with `breaks12` U+2028 and U+2029 may not, as YAML 1.2 takes them for no breaks.
@@ -226,14 +230,15 @@ pub(crate) fn begins_with_space(rest: &str) -> bool
 }
 
 /// A character that no plain text holds, seen with what follows it.
-fn bars_plain(c: char, rest: &str, charset: CharacterSet, flow: bool) -> bool
-    ensures { result ≡ spec.bars_plain (seen_charset charset) flow c (chars rest.now) }
+fn bars_plain(c: char, rest: &str, charset: CharacterSet, context: Context) -> bool
+    ensures { result ≡ spec.bars_plain (seen_charset charset) (is_flow context) c (chars rest.now) }
 {
     is_special(c, charset)
         || is_break(c)
         || (is_space(c) && is_at_end(rest))
         || is_key_or_comment(c, rest)
-        || (flow && matches!(c, ',' | '?' | ':' | '[' | ']' | '{' | '}'))
+        || (matches!(context, Context::Flow)
+            && matches!(c, ',' | '?' | ':' | '[' | ']' | '{' | '}'))
 }
 
 /// A space before a break.
@@ -274,8 +279,8 @@ fn with_next(barred: BarredStyles, c: char, rest: &str, charset: CharacterSet) -
     }
     BarredStyles {
         multiline: barred.multiline || is_break(c),
-        flow_plain: barred.flow_plain || bars_plain(c, rest, charset, IN_FLOW),
-        block_plain: barred.block_plain || bars_plain(c, rest, charset, IN_BLOCK),
+        flow_plain: barred.flow_plain || bars_plain(c, rest, charset, Context::Flow),
+        block_plain: barred.block_plain || bars_plain(c, rest, charset, Context::Block),
         single_quoted: barred.single_quoted || bars_single_quoted(c, rest, charset),
         block: barred.block || bars_block(c, rest, charset),
     }

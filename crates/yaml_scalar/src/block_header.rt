@@ -5,18 +5,21 @@ ghost use Rattle.yaml_base.specs.scalars.BlockHeader as layout;
 ghost use Rattle.yaml_base.specs.Characters as class;
 ghost use Rattle.yaml_pen.specs.Page.{IsReady, natural};
 ghost use Rattle.yaml_pen.specs.Wrote.{Wrote};
-ghost use Rattle.yaml_scalar.specs.BlockCode.{seen_ending, without_mark};
+ghost use Rattle.yaml_scalar.specs.BlockCode.{is_folded, seen_ending, without_mark};
 ghost use Rattle.yaml_scalar.specs.BlockSteps as step;
 
-use crate::shared::{ENDS_INDENTION, LEAVES_NO_SPACE, SPACED};
 use std::alloc::Allocator;
 use yaml_base::{is_break, is_space, yaml_error_t};
-use yaml_pen::Pen;
+use yaml_pen::{Indicator, Pen};
 
-/// Lines are folded.
-pub(crate) const FOLDED: bool = true;
-/// They stand as they are.
-pub(crate) const LITERAL: bool = false;
+/// How the lines of a block scalar stand.
+#[derive(Clone, Copy, PartialEq, Eq)]
+pub(crate) enum BlockStyle {
+    /// As they are.
+    Literal,
+    /// Folded past the width.
+    Folded,
+}
 
 /// How a value ends.
 #[derive(Clone, Copy, PartialEq, Eq)]
@@ -53,14 +56,14 @@ pub(crate) fn write_header<A: Allocator>(
     pen: &mut Pen<A>,
     value: &str,
     best_indent: i32,
-    folded: bool,
+    style: BlockStyle,
 ) -> Result<(), yaml_error_t>
     requires ready { IsReady pen.old }
     requires least { pos 2 ≤ℤ best_indent }
     requires most { best_indent ≤ℤ pos 9 }
-    ensures { Wrote (step.separated_header folded (natural best_indent) (chars value.now)) pen.old pen.new result }
+    ensures { Wrote (step.separated_header (is_folded style) (natural best_indent) (chars value.now)) pen.old pen.new result }
 {
-    pen.write_indicator(sign(folded), SPACED, LEAVES_NO_SPACE, ENDS_INDENTION)?;
+    pen.put_indicator(&Indicator::spaced(sign(style)))?;
     write_hints(pen, value, best_indent)?;
     end_header(pen)
 }
@@ -72,10 +75,13 @@ pub(crate) fn open_mark(value: &str) -> i32
     mark_of(value_ending(value))
 }
 
-fn sign(folded: bool) -> &'static str
-    ensures { chars result.now ≡ step.sign_of folded ∷ [] }
+fn sign(style: BlockStyle) -> &'static str
+    ensures { chars result.now ≡ step.sign_of (is_folded style) ∷ [] }
 {
-    if folded { ">" } else { "|" }
+    match style {
+        BlockStyle::Literal => "|",
+        BlockStyle::Folded => ">",
+    }
 }
 
 fn end_header<A: Allocator>(pen: &mut Pen<A>) -> Result<(), yaml_error_t>

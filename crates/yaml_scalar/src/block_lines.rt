@@ -8,21 +8,20 @@ ghost use Rattle.yaml_base.specs.scalars.Folded as layout;
 ghost use Rattle.yaml_base.specs.scalars.Lines.{parts};
 ghost use Rattle.yaml_pen.specs.Page.{IsReady, natural};
 ghost use Rattle.yaml_pen.specs.Wrote.{Wrote};
+ghost use Rattle.yaml_scalar.specs.BlockCode.{is_folded};
 ghost use Rattle.yaml_scalar.specs.BlockSteps as step;
 ghost use Rattle.yaml_scalar.specs.declared.block_lines.Place.TheVariants.{LineStart};
-ghost use Rattle.yaml_scalar.specs.WholeRuns.{IsRun, stays_in_line};
+ghost use Rattle.yaml_scalar.specs.WholeRuns.{IsRun};
 ghost use Rattle.yaml_scalar.specs.Width.{limit_of};
 
 use crate::analysis::begins_with_space;
+use crate::block_header::BlockStyle;
 use crate::runs::{Run, RunEnds, line_run_after};
-use crate::shared::{BREAKS_ALLOWED, has_limit};
+use crate::shared::has_limit;
 use crate::width::is_past_width;
 use std::alloc::Allocator;
 use yaml_base::{is_break, is_space, yaml_error_t};
 use yaml_pen::Pen;
-
-/// No space of a line becomes a fold.
-const NO_FOLDS: bool = false;
 
 /// Where a character stands: where a line begins, in a line that may be folded, or in one that may not.
 #[derive(Clone, Copy, PartialEq, Eq)]
@@ -36,7 +35,7 @@ pub(crate) enum Place {
 /// a line that begins with a space.
 #[derive(Clone, Copy)]
 pub(crate) struct BlockLines {
-    pub(crate) folded: bool,
+    pub(crate) style: BlockStyle,
     pub(crate) indent: i32,
     pub(crate) width: i32,
 }
@@ -49,14 +48,14 @@ pub(crate) fn write_lines<A: Allocator>(
 ) -> Result<(), yaml_error_t>
     requires ready { IsReady pen.old }
     requires not_negative { pos 0 ≤ℤ lines.indent }
-    ensures { Wrote (step.lines_from lines.folded (limit_of lines.width) (natural lines.indent) LineStart (chars value.now)) pen.old pen.new result }
+    ensures { Wrote (step.lines_from (is_folded lines.style) (limit_of lines.width) (natural lines.indent) LineStart (chars value.now)) pen.old pen.new result }
 {
     let mut place = Place::LineStart;
     let mut characters = value.chars();
     while let Some(character) = characters.next() {
         let rest = characters.as_str();
         write_step(pen, lines, place, character, rest)?;
-        place = place_after(lines.folded, place, character);
+        place = place_after(lines.style, place, character);
         let run = run_after(character, rest, place, lines);
         let (front, after) = rest.split_at(run.length);
         pen.write_run(front)?;
@@ -150,34 +149,33 @@ fn write_fold<A: Allocator>(pen: &mut Pen<A>, indent: i32) -> Result<(), yaml_er
 }
 
 /// Where the next character stands.
-fn place_after(folded: bool, place: Place, character: char) -> Place
-    ensures { result ≡ step.place_after folded place character }
+fn place_after(style: BlockStyle, place: Place, character: char) -> Place
+    ensures { result ≡ step.place_after (is_folded style) place character }
 {
     if is_break(character) {
         Place::LineStart
     } else {
-        within(folded, place, character)
+        within(style, place, character)
     }
 }
 
-fn within(folded: bool, place: Place, character: char) -> Place
-    ensures { result ≡ step.within folded place character }
+fn within(style: BlockStyle, place: Place, character: char) -> Place
+    ensures { result ≡ step.within (is_folded style) place character }
 {
     match place {
-        Place::LineStart => entered(folded, character),
+        Place::LineStart => entered(style, character),
         Place::Folding => Place::Folding,
         Place::Fixed => Place::Fixed,
     }
 }
 
 /// A line that begins with a space is never folded.
-fn entered(folded: bool, first: char) -> Place
-    ensures { result ≡ step.entered folded first }
+fn entered(style: BlockStyle, first: char) -> Place
+    ensures { result ≡ step.entered (is_folded style) first }
 {
-    if folded && !is_space(first) {
-        Place::Folding
-    } else {
-        Place::Fixed
+    match style {
+        BlockStyle::Folded if !is_space(first) => Place::Folding,
+        _ => Place::Fixed,
     }
 }
 
@@ -191,19 +189,21 @@ fn run_after(character: char, rest: &str, place: Place, lines: BlockLines) -> Ru
             length: 0,
             last: character,
         },
-        Place::Folding => run_within(character, rest, has_limit(BREAKS_ALLOWED, lines.width)),
-        Place::Fixed => run_within(character, rest, NO_FOLDS),
+        Place::Folding => {
+            let ends = RunEnds {
+                space: has_limit(lines.width),
+                quote: false,
+            };
+            line_run_after(character, rest, ends)
+        }
+        Place::Fixed => {
+            let ends = RunEnds {
+                space: false,
+                quote: false,
+            };
+            line_run_after(character, rest, ends)
+        }
     }
-}
-
-fn run_within(character: char, rest: &str, folds: bool) -> Run
-    ensures { IsRun (stays_in_line folds false) character rest.now result.length result.last }
-{
-    let ends = RunEnds {
-        space: folds,
-        quote: false,
-    };
-    line_run_after(character, rest, ends)
 }
 
 /// The last space of a run, past the width.

@@ -21,14 +21,11 @@ use crate::classes::{BREAK, ESCAPED, SPACE, UNPRINTABLE, WIDE};
 use crate::escapes::{Escape, escape_of, needs_escape};
 use crate::gathered::{GatheredBytes, gather};
 use crate::runs::{Run, run_up_to};
-use crate::shared::{ENDS_INDENTION, LEAVES_NO_SPACE, SPACED, TIGHT, has_limit, may_fold_here};
+use crate::shared::{has_limit_where, may_fold_here};
 use crate::short_runs::{is_short_run, write_short_run};
 use std::alloc::Allocator;
 use yaml_base::{is_space, yaml_error_t};
-use yaml_pen::Pen;
-
-/// Characters past ASCII don't stand as themselves.
-const ASCII_ALONE: bool = false;
+use yaml_pen::{Indicator, Pen};
 
 /// How a double-quoted scalar is laid out.
 #[derive(Clone, Copy)]
@@ -85,9 +82,9 @@ fn write_quoted<A: Allocator>(
     ensures { Wrote (spec.double_quoted_laid quoting.unicode (limit_where quoting.allow_breaks quoting.width) (natural quoting.indent) (chars value.now))
         pen.old pen.new result }
 {
-    pen.put_indicator(b'"', SPACED, LEAVES_NO_SPACE, ENDS_INDENTION)?;
+    pen.put_indicator(&Indicator::spaced("\""))?;
     write_value(pen, value, quoting)?;
-    pen.put_indicator(b'"', TIGHT, LEAVES_NO_SPACE, ENDS_INDENTION)
+    pen.put_indicator(&Indicator::tight("\""))
 }
 
 /// A character as its escape.
@@ -205,11 +202,32 @@ fn write_next<A: Allocator>(
 fn ending_classes(unicode: bool, folds: bool) -> u8
     ensures { Tells result (stays_where unicode folds) }
 {
-    match (unicode, folds) {
-        (true, false) => BREAK | UNPRINTABLE | ESCAPED,
-        (true, true) => BREAK | UNPRINTABLE | ESCAPED | SPACE,
-        (false, false) => BREAK | UNPRINTABLE | ESCAPED | WIDE,
-        (false, true) => BREAK | UNPRINTABLE | ESCAPED | WIDE | SPACE,
+    if unicode {
+        unicode_ending_classes(folds)
+    } else {
+        ascii_ending_classes(folds)
+    }
+}
+
+/// Those where printable characters past ASCII stand as themselves.
+fn unicode_ending_classes(folds: bool) -> u8
+    ensures { Tells result (stays_where true folds) }
+{
+    if folds {
+        BREAK | UNPRINTABLE | ESCAPED | SPACE
+    } else {
+        BREAK | UNPRINTABLE | ESCAPED
+    }
+}
+
+/// Those where all past ASCII is escaped.
+fn ascii_ending_classes(folds: bool) -> u8
+    ensures { Tells result (stays_where false folds) }
+{
+    if folds {
+        BREAK | UNPRINTABLE | ESCAPED | WIDE | SPACE
+    } else {
+        BREAK | UNPRINTABLE | ESCAPED | WIDE
     }
 }
 
@@ -224,7 +242,7 @@ fn run_where(before: char, text: &str, unicode: bool, folds: bool) -> Run
 fn has_folds(quoting: Quoting) -> bool
     ensures { result ≡ has_limit (limit_where quoting.allow_breaks quoting.width) }
 {
-    has_limit(quoting.allow_breaks, quoting.width)
+    has_limit_where(quoting.allow_breaks, quoting.width)
 }
 
 /// The same, where a space may become a fold if there is a width.
@@ -251,7 +269,7 @@ fn is_short(value: &str, quoting: Quoting) -> bool
     ensures { result ≡ true → IsShortRun (stays quoting.unicode (limit_where quoting.allow_breaks quoting.width)) value.now }
 {
     let folds = has_folds(quoting);
-    is_short_run(value, ending_classes(ASCII_ALONE, folds))
+    is_short_run(value, ascii_ending_classes(folds))
 }
 
 /// What stands between the quotes.

@@ -11,7 +11,7 @@ ghost use Rattle.yaml_scalar.specs.BlockCode.{without_mark};
 ghost use Rattle.yaml_scalar.specs.ReadsBack.{ReadsBack};
 ghost use Rattle.yaml_scalar.specs.Width.{limit_of};
 
-use crate::block_header::{FOLDED, open_mark, write_header};
+use crate::block_header::{BlockStyle, open_mark, write_header};
 use crate::block_lines::{BlockLines, write_lines};
 use std::alloc::Allocator;
 use yaml_base::yaml_error_t;
@@ -61,12 +61,12 @@ fn write_folded<A: Allocator>(
     requires within { best_indent ≤ℤ indent }
     ensures { Wrote (folded_laid (limit_of width) (natural indent) (natural best_indent) (chars value.now)) pen.old pen.new result }
 {
-    write_header(pen, value, best_indent, FOLDED)?;
+    write_header(pen, value, best_indent, BlockStyle::Folded)?;
     write_lines(
         pen,
         value,
         BlockLines {
-            folded: FOLDED,
+            style: BlockStyle::Folded,
             indent,
             width,
         },

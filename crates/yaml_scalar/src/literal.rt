@@ -10,7 +10,7 @@ ghost use Rattle.yaml_pen.specs.Wrote.{Wrote};
 ghost use Rattle.yaml_scalar.specs.BlockCode.{without_mark};
 ghost use Rattle.yaml_scalar.specs.ReadsBack.{ReadsBack};
 
-use crate::block_header::{LITERAL, open_mark, write_header};
+use crate::block_header::{BlockStyle, open_mark, write_header};
 use crate::block_lines::{BlockLines, write_lines};
 use std::alloc::Allocator;
 use yaml_base::yaml_error_t;
@@ -57,12 +57,12 @@ fn write_literal<A: Allocator>(
     requires within { best_indent ≤ℤ indent }
     ensures { Wrote (literal_laid (natural indent) (natural best_indent) (chars value.now)) pen.old pen.new result }
 {
-    write_header(pen, value, best_indent, LITERAL)?;
+    write_header(pen, value, best_indent, BlockStyle::Literal)?;
     write_lines(
         pen,
         value,
         BlockLines {
-            folded: LITERAL,
+            style: BlockStyle::Literal,
             indent,
             width: i32::MAX,
         },

@@ -61,7 +61,7 @@ fn write_laid<A: Allocator>(
     requires plain { lines.quoted ≡ false }
     ensures { Wrote (plain_laid flow (limit_where lines.allow_breaks lines.width) lines.indent (chars value.now)) pen.old pen.new result }
 {
-    pen.separate(needs_space(flow, value))?;
+    pen.separate_if(needs_space(flow, value))?;
     write_body(pen, value, lines)
 }
 

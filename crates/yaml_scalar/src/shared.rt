@@ -2,22 +2,11 @@
 ghost use Rattle.std.specs.Prelude.{◌≡◌, ◌<◌, ◌≤◌, ◌+◌};
 ghost use Rattle.yaml_base.specs.Cursor.{is_past_width};
 ghost use Rattle.yaml_scalar.specs.WholeRuns.{HasRoom, has_limit};
-ghost use Rattle.yaml_scalar.specs.Width.{limit_where};
+ghost use Rattle.yaml_scalar.specs.Width.{limit_of, limit_where};
 
 use crate::width;
 use std::alloc::Allocator;
 use yaml_pen::Pen;
-
-/// A space comes before an indicator, or before plain text, where none stands there.
-pub(crate) const SPACED: bool = true;
-/// It follows at once.
-pub(crate) const TIGHT: bool = false;
-/// No white space stands behind an indicator.
-pub(crate) const LEAVES_NO_SPACE: bool = false;
-/// No indentation goes on behind it.
-pub(crate) const ENDS_INDENTION: bool = false;
-/// Folds may stand.
-pub(crate) const BREAKS_ALLOWED: bool = true;
 
 /// The column is past the width, and folds are allowed.
 pub(crate) fn may_fold_here<A: Allocator>(pen: &Pen<A>, allow_breaks: bool, width: i32) -> bool
@@ -27,17 +16,24 @@ pub(crate) fn may_fold_here<A: Allocator>(pen: &Pen<A>, allow_breaks: bool, widt
 }
 
 /// Some column is past the width.
-pub(crate) fn has_limit(allow_breaks: bool, width: i32) -> bool
+pub(crate) fn has_limit(width: i32) -> bool
+    ensures { result ≡ has_limit (limit_of width) }
+{
+    width != i32::MAX
+}
+
+/// Some column is past the width, and folds are allowed.
+pub(crate) fn has_limit_where(allow_breaks: bool, width: i32) -> bool
     ensures { result ≡ has_limit (limit_where allow_breaks width) }
 {
-    allow_breaks && width != i32::MAX
+    allow_breaks && has_limit(width)
 }
 
 /// How many columns follow before one that is past the width, if any.
 pub(crate) fn room_in_line<A: Allocator>(pen: &Pen<A>, allow_breaks: bool, width: i32) -> usize
     ensures { 0 < result → HasRoom (limit_where allow_breaks width) pen.now.cursor.column result }
 {
-    if !has_limit(allow_breaks, width) {
+    if !has_limit_where(allow_breaks, width) {
         usize::MAX
     } else if width < 0 {
         0

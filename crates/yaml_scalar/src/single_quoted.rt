@@ -1,8 +1,7 @@
 //! Single-quoted scalars.
-ghost use Rattle.std.specs.Prelude.{◌≡◌, pos, ◌≤ℤ◌, true, false, IfOk, codes};
+ghost use Rattle.std.specs.Prelude.{◌≡◌, pos, ◌≤ℤ◌, true, IfOk};
 ghost use Rattle.std.specs.Str.{chars};
 ghost use Rattle.yaml_base.specs.scalars.Analysis.{Charset, allows_single_quoted};
-ghost use Rattle.yaml_base.specs.Cursor.{indicator};
 ghost use Rattle.yaml_base.specs.scalars.SingleQuoted.{single_quoted_laid};
 ghost use Rattle.yaml_base.specs.reading.ReadSingle.{read_single};
 ghost use Rattle.yaml_pen.specs.Page.{IsReady, natural};
@@ -11,10 +10,9 @@ ghost use Rattle.yaml_scalar.specs.ReadsBack.{ReadsBack};
 ghost use Rattle.yaml_scalar.specs.Width.{limit_where};
 
 use crate::lines::{Lines, write_lines};
-use crate::shared::{ENDS_INDENTION, LEAVES_NO_SPACE, SPACED, TIGHT};
 use std::alloc::Allocator;
 use yaml_base::yaml_error_t;
-use yaml_pen::Pen;
+use yaml_pen::{Indicator, Pen};
 
 /// Writes a scalar between single quotes (YAML 1.1, section 9.1.2), a space before it where one is needed.
 /// Each `'` is doubled, and so is LF that begins a run of breaks; behind a run stands the indentation.
@@ -54,14 +52,7 @@ fn write_laid<A: Allocator>(pen: &mut Pen<A>, value: &str, lines: Lines) -> Resu
     requires quoted { lines.quoted ≡ true }
     ensures { Wrote (single_quoted_laid (limit_where lines.allow_breaks lines.width) lines.indent (chars value.now)) pen.old pen.new result }
 {
-    write_quote(pen, SPACED)?;
+    pen.put_indicator(&Indicator::spaced("'"))?;
     write_lines(pen, value, lines)?;
-    write_quote(pen, TIGHT)
-}
-
-fn write_quote<A: Allocator>(pen: &mut Pen<A>, need_whitespace: bool) -> Result<(), yaml_error_t>
-    requires { IsReady pen.old }
-    ensures { Wrote (indicator (codes "'") need_whitespace false false) pen.old pen.new result }
-{
-    pen.put_indicator(b'\'', need_whitespace, LEAVES_NO_SPACE, ENDS_INDENTION)
+    pen.put_indicator(&Indicator::tight("'"))
 }

@@ -11,7 +11,6 @@ ghost use Rattle.yaml_scalar.specs.Width.{limit_where};
 
 use crate::classes::{BREAK, SIGN, UNPRINTABLE, WIDE};
 use crate::lines::{Lines, line_room, write_runs};
-use crate::shared::SPACED;
 use crate::short_runs::{is_short_run, write_short_run};
 use std::alloc::Allocator;
 use yaml_base::yaml_error_t;
@@ -85,7 +84,7 @@ fn write_laid<A: Allocator>(pen: &mut Pen<A>, value: &str, lines: Lines) -> Resu
     requires plain { lines.quoted ≡ false }
     ensures { (flow : Bool) → Wrote (plain_laid flow (limit_where lines.allow_breaks lines.width) lines.indent (chars value.now)) pen.old pen.new result }
 {
-    pen.separate(SPACED)?;
+    pen.separate()?;
     write_body(pen, value, lines)
 }
 

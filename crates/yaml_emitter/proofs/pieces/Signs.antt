@@ -1,5 +1,5 @@
 -- A sign's bytes are its characters, and none of them is a break.
-use Rattle.std.proofs.Common.{◌≡◌, ℕ, ◌<◌, ◌≤◌, true, false, List, [], ◌∷◌, ◌||◌, ◌==◌, length, get_or, refl, ap, ◌∙◌, arith}
+use Rattle.std.proofs.Common.{◌≡◌, ℕ, ◌<◌, true, false, List, [], ◌∷◌, ◌||◌, ◌==◌, refl, ap, ◌∙◌, arith}
 use Rattle.std.specs.List.{list_any, All}
 use Rattle.std.specs.Str.{chars}
 use Rattle.std.proofs.lemmas.Str.{chars-IsAscii}
@@ -44,9 +44,3 @@ sign-no_break [] sign = refl
 sign-no_break (c ∷ rest) sign =
     let r = sign_range c rest sign in
     ap (λ x. x || list_any is_break rest) (in_range-no_break c r.0 r.1) ∙ sign-no_break rest r.2
-
--- a list of one byte is its first
-pub one_byte : (bytes : List ℕ) → 1 ≤ length bytes → length bytes < 2 → get_or bytes 0 0 ∷ [] ≡ bytes
-one_byte [] low high = absurd (omega (arith, low))
-one_byte (byte ∷ []) low high = refl
-one_byte (byte ∷ other ∷ rest) low high = absurd (omega (arith, high))

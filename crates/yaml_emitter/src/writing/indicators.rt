@@ -9,7 +9,7 @@ ghost use Rattle.yaml_emitter.specs.WrittenSigns.{seen_indicator, seen_row};
 
 use std::alloc::Allocator;
 use yaml_base::yaml_error_t;
-use yaml_pen::Pen;
+use yaml_pen::{Indicator as Row, Pen};
 
 /// An indicator by its use.
 #[derive(Clone, Copy)]
@@ -36,18 +36,6 @@ pub(crate) enum Indicator {
     Alias,
     VerbatimStart,
     VerbatimEnd,
-}
-
-/// What an indicator is written as.
-#[derive(Clone, Copy)]
-pub(crate) struct Row {
-    pub text: &'static str,
-    /// A space comes before it where no white space stands there.
-    pub needs_space: bool,
-    /// It counts as white space itself.
-    pub leaves_space: bool,
-    /// It may stand in indentation.
-    pub keeps_indention: bool,
 }
 
 const SPACED: Row = Row {
@@ -79,7 +67,7 @@ const INDENTED: Row = Row {
 };
 
 impl Indicator {
-    fn row(self) -> Row
+    fn row(self) -> Row<'static>
         ensures row { seen_row result ≡ seen_indicator self }
         ensures sign { is_sign result.text.now ≡ true }
     {
@@ -166,19 +154,5 @@ pub(crate) fn write_indicator<A: Allocator>(
     requires { IsReady pen.old }
     ensures { Wrote (indicator_laid (seen_indicator indicator)) pen.old pen.new result }
 {
-    let row = indicator.row();
-    match row.text.as_bytes() {
-        [sign] => pen.put_indicator(
-            *sign,
-            row.needs_space,
-            row.leaves_space,
-            row.keeps_indention,
-        ),
-        _ => pen.write_indicator(
-            row.text,
-            row.needs_space,
-            row.leaves_space,
-            row.keeps_indention,
-        ),
-    }
+    pen.put_indicator(&indicator.row())
 }

@@ -1,15 +1,84 @@
 //! Indicators, and the spaces before them.
-ghost use Rattle.std.specs.Prelude.{◌≡◌, ◌&&◌, ◌<◌, [], ◌∷◌, false, IsSome};
+ghost use Rattle.std.specs.Prelude.{◌≡◌, ◌&&◌, false, true, IsSome};
 ghost use Rattle.std.specs.Str.{chars};
 ghost use Rattle.std.specs.List.{list_any};
 ghost use Rattle.yaml_base.specs.Characters.{is_break};
 ghost use Rattle.yaml_base.specs.Cursor.{text_laid, space_if, indicator};
+ghost use Rattle.yaml_base.specs.Indicators.{indicator_laid, indented, opening, spaced, tight};
+ghost use Rattle.yaml_pen.specs.Indicators.{seen_indicator};
 ghost use Rattle.yaml_pen.specs.Page.{IsReady};
 ghost use Rattle.yaml_pen.specs.Wrote.{Wrote};
 
 use crate::pen::Pen;
 use std::alloc::Allocator;
 use yaml_base::yaml_error_t;
+
+/// A sign of punctuation, or a word of a line of its own, with what it asks of the cursor and leaves behind.
+#[derive(Clone, Copy)]
+pub struct Indicator<'a> {
+    /// What is written. It holds no break.
+    pub text: &'a str,
+    /// A space comes before it where no white space stands there.
+    pub needs_space: bool,
+    /// It counts as white space itself.
+    pub leaves_space: bool,
+    /// It may stand in indentation, which goes on after it.
+    pub keeps_indention: bool,
+}
+
+impl<'a> Indicator<'a> {
+    /// A space before it, none after it.
+    #[inline(always)]
+    pub fn spaced(text: &'a str) -> Indicator<'a>
+        ensures { seen_indicator result ≡ spaced (chars text.now) }
+    {
+        Indicator {
+            text,
+            needs_space: true,
+            leaves_space: false,
+            keeps_indention: false,
+        }
+    }
+
+    /// A bracket that opens: a space before it, and it counts as white space.
+    #[inline(always)]
+    pub fn opening(text: &'a str) -> Indicator<'a>
+        ensures { seen_indicator result ≡ opening (chars text.now) }
+    {
+        Indicator {
+            text,
+            needs_space: true,
+            leaves_space: true,
+            keeps_indention: false,
+        }
+    }
+
+    /// No space before it, and none after it.
+    #[inline(always)]
+    pub fn tight(text: &'a str) -> Indicator<'a>
+        ensures { seen_indicator result ≡ tight (chars text.now) }
+    {
+        Indicator {
+            text,
+            needs_space: false,
+            leaves_space: false,
+            keeps_indention: false,
+        }
+    }
+
+    /// The sign of an entry in a block: a space before it, and it may stand in indentation.
+    #[inline(always)]
+    pub fn indented(text: &'a str) -> Indicator<'a>
+        ensures { seen_indicator result ≡ indented (chars text.now) }
+    {
+        Indicator {
+            text,
+            needs_space: true,
+            leaves_space: false,
+            keeps_indention: true,
+        }
+    }
+}
 
 impl<A: Allocator> Pen<A> {
     /// Writes an indicator, a space before it where one is needed and none stands there; then white space
@@ -27,44 +96,64 @@ impl<A: Allocator> Pen<A> {
         ensures written { Wrote (indicator (chars text.now) need_whitespace whitespace indention) self.old self.new result }
         ensures stays { IsSome self.old.error → self.new ≡ self.old }
     {
-        self.separate(need_whitespace)?;
-        self.write_run(text)?;
-        self.set_flags(whitespace, indention);
+        self.put_indicator(&Indicator {
+            text,
+            needs_space: need_whitespace,
+            leaves_space: whitespace,
+            keeps_indention: indention,
+        })
+    }
+
+    /// Writes an indicator: a space where it needs one and none stands there, and its text. Then white space
+    /// stands before the cursor, and indentation goes on, as the indicator says.
+    #[inline(always)]
+    pub fn put_indicator(&mut self, indicator: &Indicator) -> Result<(), yaml_error_t>
+        requires ready { IsReady self.old }
+        requires no_break { list_any is_break (chars indicator.now.text.now) ≡ false }
+        ensures written { Wrote (indicator_laid (seen_indicator indicator.now)) self.old self.new result }
+        ensures stays { IsSome self.old.error → self.new ≡ self.old }
+    {
+        self.separate_if(indicator.needs_space)?;
+        self.write_sign(indicator.text)?;
+        self.set_flags(indicator.leaves_space, indicator.keeps_indention);
         Ok(())
     }
 
-    /// Writes an indicator of one character of ASCII that is no break, likewise.
-    #[inline(always)]
-    pub fn put_indicator(
-        &mut self,
-        sign: u8,
-        need_whitespace: bool,
-        whitespace: bool,
-        indention: bool,
-    ) -> Result<(), yaml_error_t>
+    /// Writes a space, where none stands there.
+    #[inline]
+    pub fn separate(&mut self) -> Result<(), yaml_error_t>
         requires ready { IsReady self.old }
-        requires ascii { sign < 128 }
-        requires no_break { is_break sign ≡ false }
-        ensures written { Wrote (indicator (sign ∷ []) need_whitespace whitespace indention) self.old self.new result }
+        ensures written { Wrote (λ cursor. text_laid (space_if true cursor) cursor) self.old self.new result }
         ensures stays { IsSome self.old.error → self.new ≡ self.old }
     {
-        self.separate(need_whitespace)?;
-        self.put(sign)?;
-        self.set_flags(whitespace, indention);
-        Ok(())
+        self.separate_if(true)
     }
 
     /// Writes a space, where one is needed and none stands there.
     #[inline]
-    pub fn separate(&mut self, need_whitespace: bool) -> Result<(), yaml_error_t>
+    pub fn separate_if(&mut self, needed: bool) -> Result<(), yaml_error_t>
         requires ready { IsReady self.old }
-        ensures written { Wrote (λ cursor. text_laid (space_if need_whitespace cursor) cursor) self.old self.new result }
+        ensures written { Wrote (λ cursor. text_laid (space_if needed cursor) cursor) self.old self.new result }
         ensures stays { IsSome self.old.error → self.new ≡ self.old }
     {
-        if need_whitespace && !self.whitespace {
+        if needed && !self.whitespace {
             self.put(b' ')
         } else {
             self.write_nothing()
+        }
+    }
+
+    // Most signs are one byte, which is a store.
+    #[inline(always)]
+    fn write_sign(&mut self, text: &str) -> Result<(), yaml_error_t>
+        requires ready { IsReady self.old }
+        requires no_break { list_any is_break (chars text.now) ≡ false }
+        ensures written { Wrote (text_laid (chars text.now)) self.old self.new result }
+        ensures stays { IsSome self.old.error → self.new ≡ self.old }
+    {
+        match text.as_bytes() {
+            [sign] => self.put(*sign),
+            _ => self.write_run(text),
         }
     }
 

@@ -2,10 +2,10 @@ use Rattle.std.proofs.Common.{refl}
 use Rattle.std.specs.Str.{chars}
 use Rattle.yaml_scalar.proofs.block_header.sign.Goals as goal
 
-pub returns-then-folded : goal.returns-then-folded
+pub returns-in-Literal : goal.returns-in-Literal
 unfolding chars
-returns-then-folded c = rw c.if-folded.true refl
+returns-in-Literal c = rw c.in-Literal.is refl
 
-pub returns-else-folded : goal.returns-else-folded
+pub returns-in-Folded : goal.returns-in-Folded
 unfolding chars
-returns-else-folded c = rw c.if-folded.false refl
+returns-in-Folded c = rw c.in-Folded.is refl

@@ -4,34 +4,35 @@ use Rattle.yaml_base.specs.scalars.BlockHeader.{hints_laid}
 use Rattle.yaml_pen.specs.Page.{natural}
 use Rattle.yaml_pen.specs.Wrote.{Wrote}
 use Rattle.yaml_pen.proofs.Composing.{wrote_exit, wrote_as, wrote_failed, wrote_then}
+use Rattle.yaml_scalar.specs.BlockCode.{is_folded}
 use Rattle.yaml_scalar.specs.BlockSteps.{separated_header, header_end}
 use Rattle.yaml_scalar.proofs.blocks.BlockWrites.{header-steps}
 use Rattle.yaml_scalar.proofs.block_header.write_header.Goals as goal
 
-pub returns-in_err-write_indicator : goal.returns-in_err-write_indicator
-returns-in_err-write_indicator g c =
+pub returns-in_err-put_indicator : goal.returns-in_err-put_indicator
+returns-in_err-put_indicator g c =
     let n = natural c.args.best_indent in
     let value = chars c.args.value.now in
-    let sign = rw c.sign.ensures at c.in_err-write_indicator.ensures.written in
+    let sign = rw (c.spaced.ensures, c.sign.ensures) at c.in_err-put_indicator.ensures.written in
     wrote_exit c.from_residual.ensures
-    (wrote_as (separated_header c.args.folded n value) (header-steps c.args.folded n value c.args.pen.now.cursor)
+    (wrote_as (separated_header (is_folded c.args.style) n value) (header-steps (is_folded c.args.style) n value c.args.pen.now.cursor)
     (wrote_failed header_end (wrote_failed (hints_laid n value) sign)))
 
 pub returns-in_err-write_hints : goal.returns-in_err-write_hints
 returns-in_err-write_hints g c =
     let n = natural c.args.best_indent in
     let value = chars c.args.value.now in
-    let sign = rw c.sign.ensures at c.in_ok-write_indicator.ensures.written in
-    let hints : Wrote (hints_laid n value) c.write_indicator.new.self c.write_hints.new.pen (Err c.in_err-write_hints.field-0.0) = search rules in
+    let sign = rw (c.spaced.ensures, c.sign.ensures) at c.in_ok-put_indicator.ensures.written in
+    let hints : Wrote (hints_laid n value) c.put_indicator.new.self c.write_hints.new.pen (Err c.in_err-write_hints.field-0.0) = search rules in
     wrote_exit c.from_residual-in_err-write_hints.ensures
-    (wrote_as (separated_header c.args.folded n value) (header-steps c.args.folded n value c.args.pen.now.cursor)
+    (wrote_as (separated_header (is_folded c.args.style) n value) (header-steps (is_folded c.args.style) n value c.args.pen.now.cursor)
     (wrote_failed header_end (wrote_then sign hints)))
 
 pub returns : goal.returns
 returns g c =
     let n = natural c.args.best_indent in
     let value = chars c.args.value.now in
-    let sign = rw c.sign.ensures at c.in_ok-write_indicator.ensures.written in
-    let hints : Wrote (hints_laid n value) c.write_indicator.new.self c.write_hints.new.pen (Ok tt) = search rules in
-    wrote_as (separated_header c.args.folded n value) (header-steps c.args.folded n value c.args.pen.now.cursor)
+    let sign = rw (c.spaced.ensures, c.sign.ensures) at c.in_ok-put_indicator.ensures.written in
+    let hints : Wrote (hints_laid n value) c.put_indicator.new.self c.write_hints.new.pen (Ok tt) = search rules in
+    wrote_as (separated_header (is_folded c.args.style) n value) (header-steps (is_folded c.args.style) n value c.args.pen.now.cursor)
     (wrote_then (wrote_then sign hints) c.end_header.ensures)

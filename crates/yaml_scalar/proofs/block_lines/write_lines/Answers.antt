@@ -5,6 +5,7 @@ use Rattle.yaml_base.specs.Characters.{Text}
 use Rattle.yaml_base.specs.Cursor.{Cursor, Laid}
 use Rattle.yaml_pen.specs.Page.{natural}
 use Rattle.yaml_pen.proofs.Composing.{wrote_exit}
+use Rattle.yaml_scalar.specs.BlockCode.{is_folded}
 use Rattle.yaml_scalar.specs.Width.{limit_of}
 use Rattle.yaml_scalar.specs.BlockSteps.{lines_from, place_after}
 use Rattle.yaml_scalar.specs.declared.block_lines.Place.{Place}
@@ -24,7 +25,7 @@ write_run-requires-clause-no_break g c =
 
 pub returns-in_err-write_step : goal.returns-in_err-write_step
 returns-in_err-write_step g c =
-    let folded = c.args.lines.folded in
+    let folded = is_folded c.args.lines.style in
     let lines : Place → Text → Cursor → Laid = lines_from folded (limit_of c.args.lines.width) (natural c.args.lines.indent) in
     let rest : List ℕ = c.as_str-rest.result.now in
     let first = character_still (lines c.loop-character.place) c.in-Some.character _ _ rest c.loop-character.invariant.1 c.in-Some.ensures.steps.0
@@ -34,7 +35,7 @@ returns-in_err-write_step g c =
 
 pub returns-in_err-write_run : goal.returns-in_err-write_run
 returns-in_err-write_run g c =
-    let folded = c.args.lines.folded in
+    let folded = is_folded c.args.lines.style in
     let limit = limit_of c.args.lines.width in
     let n = natural c.args.lines.indent in
     let placed = c.place_after-place.result in
@@ -52,7 +53,7 @@ returns-in_err-write_run g c =
 
 pub loop-character-preserved : goal.loop-character-preserved
 loop-character-preserved g c =
-    let folded = c.args.lines.folded in
+    let folded = is_folded c.args.lines.style in
     let limit = limit_of c.args.lines.width in
     let n = natural c.args.lines.indent in
     let placed = c.place_after-place.result in
@@ -74,5 +75,5 @@ loop-character-preserved g c =
 pub returns : goal.returns
 returns g c =
     let lines = c.args.lines in
-    (end_still (lines_from lines.folded (limit_of lines.width) (natural lines.indent) c.loop-character.place) _
+    (end_still (lines_from (is_folded lines.style) (limit_of lines.width) (natural lines.indent) c.loop-character.place) _
     c.in_default.ensures.steps.0.0 c.loop-character.invariant.0).writes _ _ c.write_nothing.ensures

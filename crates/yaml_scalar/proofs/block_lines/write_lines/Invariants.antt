@@ -2,6 +2,7 @@ use Rattle.std.specs.Str.{chars, IsUtf8}
 use Rattle.std.specs.Str.Iter.{chars_rest}
 use Rattle.std.proofs.Common.{length}
 use Rattle.yaml_pen.specs.Page.{natural}
+use Rattle.yaml_scalar.specs.BlockCode.{is_folded}
 use Rattle.yaml_scalar.specs.Width.{limit_of}
 use Rattle.yaml_scalar.proofs.blocks.BlockWrites.{LinesLeft}
 use Rattle.yaml_scalar.proofs.block_lines.write_lines.Given as goal
@@ -9,7 +10,7 @@ use Rattle.yaml_scalar.proofs.block_lines.write_lines.Given as goal
 abbrev pub invariant-loop-character : goal.invariant-loop-character
 invariant-loop-character g l =
     let lines = l.fn.lines in
-    LinesLeft lines.folded (limit_of lines.width) (natural lines.indent) (chars l.fn.value) (chars (chars_rest l.characters)) l.place l.fn.pen l.pen
+    LinesLeft (is_folded lines.style) (limit_of lines.width) (natural lines.indent) (chars l.fn.value) (chars (chars_rest l.characters)) l.place l.fn.pen l.pen
     × IsUtf8 (chars_rest l.characters)
 
 abbrev pub decreases-loop-character : goal.decreases-loop-character

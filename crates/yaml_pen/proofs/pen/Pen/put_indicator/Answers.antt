@@ -1,24 +1,27 @@
-use Rattle.std.proofs.Common.{refl, ◌++◌, ◌&&◌, ◌∷◌, []}
-use Rattle.yaml_base.specs.Cursor.{Cursor, text_laid, space_if, indicator}
+use Rattle.std.proofs.Common.{refl, ◌++◌, ◌&&◌}
+use Rattle.std.specs.Str.{chars}
+use Rattle.yaml_base.specs.Cursor.{Cursor, text_laid, space_if}
+use Rattle.yaml_base.specs.Indicators.{indicator_laid}
+use Rattle.yaml_pen.specs.Indicators.{seen_indicator}
 use Rattle.yaml_pen.proofs.Composing.{wrote_exit, wrote_cut, wrote_failed_as, wrote_as, wrote_then, wrote_changing, text_laid-append}
 use Rattle.yaml_pen.proofs.pen.Pen.put_indicator.Goals as goal
 
-pub returns-in_err-separate-clause-written : goal.returns-in_err-separate-clause-written
-returns-in_err-separate-clause-written g c =
+pub returns-in_err-separate_if-clause-written : goal.returns-in_err-separate_if-clause-written
+returns-in_err-separate_if-clause-written g c =
     wrote_exit c.from_residual.ensures
-    (wrote_cut (indicator (c.args.sign ∷ []) c.args.need_whitespace c.args.whitespace c.args.indention)
-    (c.args.sign ∷ []) refl c.in_err-separate.ensures.written)
+    (wrote_cut (indicator_laid (seen_indicator c.args.indicator.now)) (chars c.args.indicator.now.text.now) refl c.in_err-separate_if.ensures.written)
 
-pub returns-in_err-put-clause-written : goal.returns-in_err-put-clause-written
-returns-in_err-put-clause-written g c =
-    wrote_exit c.from_residual-in_err-put.ensures
-    (wrote_failed_as (indicator (c.args.sign ∷ []) c.args.need_whitespace c.args.whitespace c.args.indention) refl
-    (wrote_then c.in_ok-separate.ensures.written c.in_err-put.ensures.written))
+pub returns-in_err-write_sign-clause-written : goal.returns-in_err-write_sign-clause-written
+returns-in_err-write_sign-clause-written g c =
+    wrote_exit c.from_residual-in_err-write_sign.ensures
+    (wrote_failed_as (indicator_laid (seen_indicator c.args.indicator.now)) refl
+    (wrote_then c.in_ok-separate_if.ensures.written c.in_err-write_sign.ensures.written))
 
 pub returns-clause-written : goal.returns-clause-written
 returns-clause-written g c =
-    let text = wrote_as (λ (cursor : Cursor). text_laid (space_if c.args.need_whitespace cursor ++ c.args.sign ∷ []) cursor)
-    (text_laid-append (space_if c.args.need_whitespace c.args.self.now.cursor) (c.args.sign ∷ []) c.args.self.now.cursor)
-    (wrote_then c.in_ok-separate.ensures.written c.in_ok-put.ensures.written) in
-    wrote_changing (λ (cursor : Cursor). record cursor { whitespace = c.args.whitespace; indention = cursor.indention && c.args.indention }) text
+    let sign = c.args.indicator.now in
+    let text = wrote_as (λ (cursor : Cursor). text_laid (space_if sign.needs_space cursor ++ chars sign.text.now) cursor)
+    (text_laid-append (space_if sign.needs_space c.args.self.now.cursor) (chars sign.text.now) c.args.self.now.cursor)
+    (wrote_then c.in_ok-separate_if.ensures.written c.in_ok-write_sign.ensures.written) in
+    wrote_changing (λ (cursor : Cursor). record cursor { whitespace = sign.leaves_space; indention = cursor.indention && sign.keeps_indention }) text
     c.set_flags.ensures

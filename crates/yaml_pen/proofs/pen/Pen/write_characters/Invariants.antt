@@ -1,12 +1,17 @@
 use Rattle.std.specs.Str.{chars, IsUtf8}
 use Rattle.std.specs.Str.Iter.{chars_rest}
-use Rattle.std.proofs.Common.{length}
+use Rattle.std.specs.List.{list_any}
+use Rattle.std.proofs.Common.{◌≡◌, false, length}
+use Rattle.yaml_base.specs.Characters.{is_break}
 use Rattle.yaml_pen.proofs.Fronts.{WroteFront}
 use Rattle.yaml_pen.proofs.pen.Pen.write_characters.Given as goal
 
 abbrev pub invariant-loop-character : goal.invariant-loop-character
-invariant-loop-character g l =
-    WroteFront (chars l.fn.text) (chars (chars_rest l.characters)) l.initial.self l.self × IsUtf8 (chars_rest l.characters)
+invariant-loop-character g l = record {
+  front : WroteFront (chars l.fn.text) (chars (chars_rest l.characters)) l.initial.self l.self;
+  is_text : IsUtf8 (chars_rest l.characters);
+  no_break : list_any is_break (chars (chars_rest l.characters)) ≡ false;
+}
 
 abbrev pub decreases-loop-character : goal.decreases-loop-character
 decreases-loop-character g l = length (chars_rest l.characters)

@@ -1,17 +1,19 @@
-use Rattle.std.proofs.Common.{◌∙◌, ap, arith}
+use Rattle.std.proofs.Common.{◌∙◌, ap, sym, arith}
+use Rattle.std.specs.List.{list_any}
 use Rattle.std.specs.Str.{chars}
 use Rattle.std.proofs.lemmas.Str.{IsUtf8-drop}
+use Rattle.yaml_base.specs.Characters.{is_break}
 use Rattle.yaml_pen.specs.Page.{buffer_size, has_mark}
 use Rattle.yaml_pen.proofs.Composing.{wrote_exit}
 use Rattle.yaml_pen.proofs.Cuts.{chars-cut, cut-forward}
-use Rattle.yaml_pen.proofs.Fronts.{part_unbroken, front_more, front_failed, front_last}
+use Rattle.yaml_pen.proofs.Fronts.{unbroken_parts, front_more, front_failed, front_last}
 use Rattle.yaml_pen.proofs.pen.Pen.write_pieces.Goals as goal
 
 pub write_piece-requires-clause-no_break : goal.write_piece-requires-clause-no_break
 write_piece-requires-clause-no_break g c =
     let so_far = c.loop-rest.invariant in
     let step = chars-cut _ _ _ _ so_far.is_text c.floor_char_boundary.ensures.boundary c.split_at.ensures.front c.split_at.ensures.back in
-    part_unbroken (chars c.split_at.result.0.now) (chars c.split_at.result.1.now) so_far.front step
+    (unbroken_parts (chars c.split_at.result.0.now) (chars c.split_at.result.1.now) (sym (ap (list_any is_break) step) ∙ so_far.no_break)).0
 
 pub loop-rest-preserved : goal.loop-rest-preserved
 loop-rest-preserved g c =
@@ -20,6 +22,7 @@ loop-rest-preserved g c =
     record {
       front = front_more (chars c.split_at.result.0.now) (chars c.split_at.result.1.now) so_far.front step c.in_ok-write_piece.ensures.written;
       is_text = rw c.split_at.ensures.back (IsUtf8-drop _ _ so_far.is_text c.floor_char_boundary.ensures.boundary);
+      no_break = (unbroken_parts (chars c.split_at.result.0.now) (chars c.split_at.result.1.now) (sym (ap (list_any is_break) step) ∙ so_far.no_break)).1;
       unmarked = ap has_mark c.in_ok-write_piece.ensures.written.settings.encoding ∙ so_far.unmarked;
     }
 
