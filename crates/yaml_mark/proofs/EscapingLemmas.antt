@@ -1,24 +1,28 @@
 -- Escaping by bytes is escaping by characters.
-use Rattle.std.proofs.Common.{◌≡◌, ℕ, ◌+◌, ◌/◌, ◌%◌, ◌<◌, ◌≤◌, Bool, true, false, cond, ◌&&◌, Option, Some, None, MatchOption, Bor, Result, Ok, Err, List, []}
-use Rattle.std.proofs.Common.{◌∷◌, ◌++◌, refl, sym, ◌∙◌, ap, subst, ⊎_elim, length, take, drop, get_or, append-nil, arith, lit<}
-use Rattle.std.proofs.lemmas.Bool.{and_parts, cases_lt, ne_eqb, leb-true, not-true}
+use Rattle.std.proofs.Common.{◌≡◌, ℕ, suc, ◌+◌, ◌/◌, ◌%◌, ◌<◌, ◌≤◌, Bool, true, false, cond, ◌&&◌, ◌||◌, Option, Some, None, MatchOption, Bor, Result, Ok, Err, List, []}
+use Rattle.std.proofs.Common.{◌∷◌, ◌++◌, refl, sym, ◌∙◌, ap, subst, ⊎_elim, inl, inr, true≢false, length, take, drop, get_or, append-nil, arith, lit<}
+use Rattle.std.proofs.lemmas.Bool.{and_from, and_parts, cases_lt, ne_eqb, leb-true, not-true}
 use Rattle.std.proofs.lemmas.Bool.Decides.{nat_tests}
 use Rattle.std.proofs.lemmas.Grind.{flat_map-append}
 use Rattle.std.proofs.lemmas.List.{take_more, take_all, take-append-drop}
-use Rattle.std.proofs.lemmas.Str.{encodes-chars, encode_ascii, chars-nil, chars_past_char}
-use Rattle.std.specs.Prelude.{◌==◌, ◌≢◌, nat_le, IsUtf8, flat_map, not, codes}
-use Rattle.std.specs.List.{list_all}
-use Rattle.std.specs.Str.{chars}
+use Rattle.std.proofs.lemmas.List.Sums.{passes_at_first, prefix_len-le-length}
+use Rattle.std.proofs.lemmas.Str.{chars-IsAscii, encodes-chars, encode_ascii, chars_past_char, IsUtf8-drop, IsUtf8-from_ascii, IsUtf8-past_char}
+use Rattle.std.proofs.lemmas.Str.{IsCharBoundary-before_ascii, IsCharBoundary-end, IsCharBoundary-from_take}
+use Rattle.std.proofs.lemmas.Str.Ascii.{IsAscii-cons, IsAscii-nil}
+use Rattle.std.specs.Prelude.{◌==◌, ◌≢◌, nat_le, IsUtf8, flat_map, not, codes, if◌then◌else◌}
+use Rattle.std.specs.List.{list_all, list_any, position_or_len, prefix_len}
+use Rattle.std.specs.Str.{IsAscii, IsCharBoundary, chars}
 use lib.Utf8.{encode, encodes}
-use Rattle.yaml_base.specs.Characters.{Text, hex_digit, is_among, space}
+use Rattle.yaml_base.specs.Characters.{Text, hex_digit, is_among, is_break, space}
 use Rattle.yaml_base.specs.Cursor.{Cursor, Laid, text_laid, then_laid, name_laid, indicator, space_if, column_after}
+use Rattle.yaml_base.specs.Indicators.{Indicator, indicator_laid}
 use Rattle.yaml_base.specs.Percent.{is_tag_character, byte_escaped, character_written, percent_escaped, is_suffix_character, suffix_escaped, prefix_escaped}
 use Rattle.yaml_base.specs.Tags.{tag_mark}
 use Rattle.yaml_base.specs.declared.errors.yaml_error_t.{yaml_error_t}
 use Rattle.yaml_pen.specs.Page.{Page}
 use Rattle.yaml_pen.specs.Wrote.{Wrote}
 use Rattle.yaml_pen.proofs.Composing.{wrote_as, wrote_cut, wrote_then, wrote_text_then}
-use Rattle.yaml_mark.specs.Escaping.{byte_written}
+use Rattle.yaml_mark.specs.Escaping.{IsPrefixRun}
 
 tag_character_is_ascii : (c : ℕ) → is_tag_character c ≡ true → c < 128
 tag_character_is_ascii c h = grind (arith, nat_tests)
@@ -40,6 +44,10 @@ suffix_character_is_ascii portable c h =
 many_bytes : (c : ℕ) → 128 ≤ c → list_all (λ b. nat_le 128 b) (encode c) ≡ true
 unfolding encode
 many_bytes c h = grind (arith, nat_tests)
+
+-- a byte of a text's UTF-8 as itself, or as its percent form
+abbrev byte_written : (portable : Bool) → ℕ → Text
+byte_written portable byte = if is_suffix_character portable byte then byte ∷ [] else byte_escaped byte
 
 module _ (portable : Bool) where
   abbrev none_stands : List ℕ → Bool
@@ -126,64 +134,189 @@ abbrev pub content : Bool → Text → Cursor → Laid
 content need text cursor = name_laid (space_if need cursor ++ text) cursor
 
 pub content_cut : {before after : Page} {error : yaml_error_t} (need : Bool) (text : Text)
-    → Wrote (indicator (chars []) need false false) before after (Err error) → Wrote (content need text) before after (Err error)
+    → Wrote (indicator [] need false false) before after (Err error) → Wrote (content need text) before after (Err error)
 content_cut {before} need text wrote =
-    wrote_cut (content need text) text
-    (sym (ap (λ t. (space_if need before.cursor ++ t) ++ text) chars-nil ∙ ap (λ t. t ++ text) (append-nil (space_if need before.cursor)))) wrote
+    wrote_cut (content need text) text (sym (ap (λ t. t ++ text) (append-nil (space_if need before.cursor)))) wrote
 
 pub content_whole : {before between after : Page} {answer : Result (Unit {0}) yaml_error_t} (need : Bool) (text : Text)
-    → Wrote (indicator (chars []) need false false) before between (Ok tt) → Wrote (text_laid text) between after answer
+    → Wrote (indicator [] need false false) before between (Ok tt) → Wrote (text_laid text) between after answer
     → Wrote (content need text) before after answer
-content_whole {before} {between} {after} {answer} need text one two =
-    wrote_as (content need text) (content_laid need text before.cursor)
-    (wrote_then (subst (λ (t : Text). Wrote (indicator t need false false) before between (Ok tt)) chars-nil one) two)
+content_whole {before} need text one two = wrote_as (content need text) (content_laid need text before.cursor) (wrote_then one two)
 
--- a `!`, and then a text
-marked_content : (text : Text) (cursor : Cursor) → then_laid (content true (tag_mark ∷ []) cursor) (content false text) ≡ content true (tag_mark ∷ text) cursor
-marked_content text cursor = by cursor.column cursor.whitespace
-  where
-    by : (column : ℕ) (white : Bool)
-        → then_laid (content true (tag_mark ∷ []) (record { column = column; whitespace = white; indention = cursor.indention })) (content false text)
-        ≡ content true (tag_mark ∷ text) (record { column = column; whitespace = white; indention = cursor.indention })
-    by column true = refl
-    by column false = refl
+-- an indicator without a sign
+pub no_sign : {sign other : Indicator} {before after : Page} {answer : Result (Unit {0}) yaml_error_t} → sign ≡ other
+    → Wrote (indicator_laid sign) before after answer → Wrote (indicator_laid other) before after answer
+no_sign {sign} {other} {before} {after} {answer} is wrote = subst (λ (s : Indicator). Wrote (indicator_laid s) before after answer) is wrote
 
-pub marked_then : {before between after : Page} {answer : Result (Unit {0}) yaml_error_t} (text : Text)
-    → Wrote (content true (tag_mark ∷ [])) before between (Ok tt) → Wrote (content false text) between after answer
-    → Wrote (content true (tag_mark ∷ text)) before after answer
-marked_then {before} text one two = wrote_as (content true (tag_mark ∷ text)) (marked_content text before.cursor) (wrote_then one two)
+-- Bytes, one after another.
 
--- A text, byte by byte.
-
-module _ (portable : Bool) where
-  -- all bytes are the text
-  pub text_whole : {before after : Page} {answer : Result (Unit {0}) yaml_error_t} (bytes given : List ℕ) → given ≡ bytes → IsUtf8 bytes
-      → Wrote (text_laid (flat_map (byte_written portable) given)) before after answer
-      → Wrote (text_laid (suffix_escaped portable (chars bytes))) before after answer
-  text_whole {before} {after} {answer} bytes given e u wrote =
-      subst (λ (t : Text). Wrote (text_laid t) before after answer) (ap (flat_map (byte_written portable)) e ∙ escaped_by_bytes portable bytes u) wrote
-
-  -- one more byte is written, or fails
+module _ (f : ℕ → Text) where
+  -- one more is written, or fails
   pub bytes_more : {before between after : Page} (bytes : List ℕ) (n : ℕ) → n < length bytes
-      → Wrote (text_laid (flat_map (byte_written portable) (take n bytes))) before between (Ok tt)
-      → Wrote (text_laid (byte_written portable (get_or bytes n 0))) between after (Ok tt)
-      → Wrote (text_laid (flat_map (byte_written portable) (take (n + 1) bytes))) before after (Ok tt)
+      → Wrote (text_laid (flat_map f (take n bytes))) before between (Ok tt)
+      → Wrote (text_laid (f (get_or bytes n 0))) between after (Ok tt)
+      → Wrote (text_laid (flat_map f (take (n + 1) bytes))) before after (Ok tt)
   bytes_more {before} {between} {after} bytes n h one two =
-      subst (λ (t : Text). Wrote (text_laid t) before after (Ok tt)) (sym (written_more (byte_written portable) bytes n h)) (wrote_text_then one two)
+      subst (λ (t : Text). Wrote (text_laid t) before after (Ok tt)) (sym (written_more f bytes n h)) (wrote_text_then one two)
 
   pub bytes_failed : {before between after : Page} {error : yaml_error_t} (bytes : List ℕ) (n : ℕ) → n < length bytes
-      → Wrote (text_laid (flat_map (byte_written portable) (take n bytes))) before between (Ok tt)
-      → Wrote (text_laid (byte_written portable (get_or bytes n 0))) between after (Err error)
-      → Wrote (text_laid (flat_map (byte_written portable) bytes)) before after (Err error)
+      → Wrote (text_laid (flat_map f (take n bytes))) before between (Ok tt)
+      → Wrote (text_laid (f (get_or bytes n 0))) between after (Err error)
+      → Wrote (text_laid (flat_map f bytes)) before after (Err error)
   bytes_failed bytes n h one two =
-      wrote_cut (text_laid (flat_map (byte_written portable) bytes)) (flat_map (byte_written portable) (drop (n + 1) bytes))
-      (written_rest (byte_written portable) bytes n h) (wrote_text_then one two)
+      wrote_cut (text_laid (flat_map f bytes)) (flat_map f (drop (n + 1) bytes)) (written_rest f bytes n h) (wrote_text_then one two)
 
   pub bytes_whole : {before after : Page} (bytes : List ℕ) (n : ℕ) → length bytes ≤ n
-      → Wrote (text_laid (flat_map (byte_written portable) (take n bytes))) before after (Ok tt)
-      → Wrote (text_laid (flat_map (byte_written portable) bytes)) before after (Ok tt)
+      → Wrote (text_laid (flat_map f (take n bytes))) before after (Ok tt)
+      → Wrote (text_laid (flat_map f bytes)) before after (Ok tt)
   bytes_whole {before} {after} bytes n h one =
-      subst (λ (t : List ℕ). Wrote (text_laid (flat_map (byte_written portable) t)) before after (Ok tt)) (take_all n bytes h) one
+      subst (λ (t : List ℕ). Wrote (text_laid (flat_map f t)) before after (Ok tt)) (take_all n bytes h) one
+
+  -- bytes that are the same
+  pub same_bytes : {given bytes : List ℕ} {before after : Page} {answer : Result (Unit {0}) yaml_error_t} → given ≡ bytes
+      → Wrote (text_laid (flat_map f given)) before after answer → Wrote (text_laid (flat_map f bytes)) before after answer
+  same_bytes {given} {bytes} {before} {after} {answer} is wrote = subst (λ (l : List ℕ). Wrote (text_laid (flat_map f l)) before after answer) is wrote
+
+-- Runs of bytes that stand as themselves, and of those that don't.
+
+-- the first that pass
+passing : (p : ℕ → Bool) (xs : List ℕ) → list_all p (take (prefix_len p xs) xs) ≡ true
+passing p [] = refl
+passing p (x ∷ xs) = by (p x) refl (passing p xs)
+  where
+    by : (b : Bool) → p x ≡ b → list_all p (take (prefix_len p xs) xs) ≡ true → list_all p (take (cond b (1 + prefix_len p xs) 0) (x ∷ xs)) ≡ true
+    by true e rest =
+        let more : 1 + prefix_len p xs ≡ suc (prefix_len p xs) = omega arith in
+        ap (λ n. list_all p (take n (x ∷ xs))) more ∙ and_from _ _ e rest
+    by false e rest = refl
+
+tag_character_is_no_break : (c : ℕ) → is_tag_character c ≡ true → is_break c ≡ false
+tag_character_is_no_break c h = grind (arith, nat_tests)
+
+module _ (portable : Bool) where
+  -- where a run ends
+  abbrev run_end : List ℕ → ℕ
+  run_end bytes = prefix_len (is_suffix_character portable) bytes
+
+  -- where the next begins
+  abbrev next_run : List ℕ → ℕ
+  next_run bytes = position_or_len (is_suffix_character portable) bytes
+
+  stands_alone : (bytes : List ℕ) → list_all (is_suffix_character portable) bytes ≡ true → flat_map (byte_written portable) bytes ≡ bytes
+  stands_alone [] h = refl
+  stands_alone (b ∷ bytes) h =
+      let both = and_parts (is_suffix_character portable b) (list_all (is_suffix_character portable) bytes) h in
+      rw both.0 (ap (λ l. b ∷ l) (stands_alone bytes both.1))
+
+  stands_ascii : (bytes : List ℕ) → list_all (is_suffix_character portable) bytes ≡ true → IsAscii bytes
+  stands_ascii [] h = IsAscii-nil
+  stands_ascii (b ∷ bytes) h =
+      let both = and_parts _ _ h in
+      IsAscii-cons b bytes (suffix_character_is_ascii portable b both.0) (stands_ascii bytes both.1)
+
+  stands_unbroken : (bytes : List ℕ) → list_all (is_suffix_character portable) bytes ≡ true → list_any is_break bytes ≡ false
+  stands_unbroken [] h = refl
+  stands_unbroken (b ∷ bytes) h =
+      let both = and_parts _ _ h in
+      let tag_character = (and_parts _ _ both.0).1 in
+      ap (λ x. x || list_any is_break bytes) (tag_character_is_no_break b tag_character) ∙ stands_unbroken bytes both.1
+
+  -- a run is ASCII without a break
+  pub run_ascii : (bytes : List ℕ) → IsAscii (take (run_end bytes) bytes)
+  run_ascii bytes = stands_ascii _ (passing (is_suffix_character portable) bytes)
+
+  pub run_unbroken : (bytes : List ℕ) → list_any is_break (take (run_end bytes) bytes) ≡ false
+  run_unbroken bytes = stands_unbroken _ (passing (is_suffix_character portable) bytes)
+
+  -- it ends, and the next begins, between characters
+  pub run_boundary : (bytes : List ℕ) → IsUtf8 bytes → IsCharBoundary bytes (run_end bytes)
+  run_boundary bytes u =
+      IsCharBoundary-from_take bytes (run_end bytes) u (prefix_len-le-length (is_suffix_character portable) bytes)
+      (IsUtf8-from_ascii _ (run_ascii bytes))
+
+  pub next_boundary : (bytes : List ℕ) → IsCharBoundary bytes (next_run bytes)
+  next_boundary bytes = elim (cases_lt (next_run bytes) (length bytes)) [
+    | inl inside ↦ IsCharBoundary-before_ascii bytes (next_run bytes) inside
+        (suffix_character_is_ascii portable _ (passes_at_first (is_suffix_character portable) bytes 0 inside))
+    | inr past ↦ subst (λ n. IsCharBoundary bytes n)
+        (omega (arith, past, prefix_len-le-length (λ b. not (is_suffix_character portable b)) bytes)) (IsCharBoundary-end bytes)
+  ]
+
+  -- a text is the part of its bytes up to a place, and the text of the rest
+  cut_at : (bytes : List ℕ) (n : ℕ) → IsUtf8 bytes → IsCharBoundary bytes n
+      → suffix_escaped portable (chars bytes) ≡ flat_map (byte_written portable) (take n bytes) ++ suffix_escaped portable (chars (drop n bytes))
+  cut_at bytes n u boundary =
+      sym (escaped_by_bytes portable bytes u)
+      ∙ ap (flat_map (byte_written portable)) (sym (take-append-drop n bytes))
+      ∙ flat_map-append (byte_written portable) (take n bytes) (drop n bytes)
+      ∙ ap (λ x. flat_map (byte_written portable) (take n bytes) ++ x) (escaped_by_bytes portable (drop n bytes) (IsUtf8-drop bytes n u boundary))
+
+  pub run_first : (bytes : List ℕ) → IsUtf8 bytes
+      → suffix_escaped portable (chars bytes) ≡ take (run_end bytes) bytes ++ suffix_escaped portable (chars (drop (run_end bytes) bytes))
+  run_first bytes u =
+      cut_at bytes (run_end bytes) u (run_boundary bytes u)
+      ∙ ap (λ x. x ++ suffix_escaped portable (chars (drop (run_end bytes) bytes)))
+      (stands_alone _ (passing (is_suffix_character portable) bytes))
+
+  pub forms_first : (bytes : List ℕ) → IsUtf8 bytes
+      → suffix_escaped portable (chars bytes)
+      ≡ flat_map byte_escaped (take (next_run bytes) bytes) ++ suffix_escaped portable (chars (drop (next_run bytes) bytes))
+  forms_first bytes u =
+      cut_at bytes (next_run bytes) u (next_boundary bytes)
+      ∙ ap (λ x. x ++ suffix_escaped portable (chars (drop (next_run bytes) bytes)))
+      (escaped_bytes portable _ (passing (λ b. not (is_suffix_character portable b)) bytes))
+
+  -- a text is cut behind its first run
+  pub record IsRunCut (bytes run others : List ℕ) : Type 0 where
+    pub parts : suffix_escaped portable (chars bytes) ≡ chars run ++ suffix_escaped portable (chars others)
+    pub unbroken : list_any is_break (chars run) ≡ false
+    pub is_text : IsUtf8 others
+
+  pub run_cut : (bytes run others : List ℕ) (n : ℕ) → IsUtf8 bytes → n ≡ run_end bytes → run ≡ take n bytes → others ≡ drop n bytes
+      → IsRunCut bytes run others
+  run_cut bytes run others n u e front back =
+      let end = run_end bytes in
+      let is : chars run ≡ take end bytes = ap chars (front ∙ ap (λ k. take k bytes) e) ∙ chars-IsAscii (take end bytes) (run_ascii bytes) in
+      let behind : others ≡ drop end bytes = back ∙ ap (λ k. drop k bytes) e in
+      record {
+        parts = run_first bytes u ∙ ap (λ x. x ++ suffix_escaped portable (chars (drop end bytes))) (sym is)
+            ∙ ap (λ x. chars run ++ suffix_escaped portable (chars x)) (sym behind);
+        unbroken = ap (list_any is_break) is ∙ run_unbroken bytes;
+        is_text = subst (λ (l : List ℕ). IsUtf8 l) (sym behind) (IsUtf8-drop bytes end u (run_boundary bytes u));
+      }
+
+  -- and then before the next
+  pub record IsFormsCut (bytes escaped behind : List ℕ) : Type 0 where
+    pub parts : suffix_escaped portable (chars bytes) ≡ flat_map byte_escaped escaped ++ suffix_escaped portable (chars behind)
+    pub is_text : IsUtf8 behind
+
+  pub forms_cut : (bytes escaped behind : List ℕ) (n : ℕ) → IsUtf8 bytes → n ≡ next_run bytes → escaped ≡ take n bytes → behind ≡ drop n bytes
+      → IsFormsCut bytes escaped behind
+  forms_cut bytes escaped behind n u e front back =
+      let end = next_run bytes in
+      let is : escaped ≡ take end bytes = front ∙ ap (λ k. take k bytes) e in
+      let rest : behind ≡ drop end bytes = back ∙ ap (λ k. drop k bytes) e in
+      record {
+        parts = forms_first bytes u ∙ ap (λ x. flat_map byte_escaped x ++ suffix_escaped portable (chars (drop end bytes))) (sym is)
+            ∙ ap (λ x. flat_map byte_escaped escaped ++ suffix_escaped portable (chars x)) (sym rest);
+        is_text = subst (λ (l : List ℕ). IsUtf8 l) (sym rest) (IsUtf8-drop bytes end u (next_boundary bytes));
+      }
+
+  -- both are something, where something is left
+  moves_by : (bytes : List ℕ) → (length bytes == 0) ≡ false → 0 < run_end bytes + next_run (drop (run_end bytes) bytes)
+  moves_by [] some = absurd (true≢false some)
+  moves_by (b ∷ bytes) some = by (is_suffix_character portable b) refl
+    where
+      by : (kept : Bool) → is_suffix_character portable b ≡ kept
+          → 0 < cond kept (1 + run_end bytes) 0 + next_run (drop (cond kept (1 + run_end bytes) 0) (b ∷ bytes))
+      by true e = omega arith
+      by false e = rw e (omega arith)
+
+  pub moves_on : (bytes others : List ℕ) (n m : ℕ) → (length bytes == 0) ≡ false → n ≡ run_end bytes → others ≡ drop n bytes → m ≡ next_run others
+      → 0 < n + m
+  moves_on bytes others n m some e back f =
+      let behind : others ≡ drop (run_end bytes) bytes = back ∙ ap (λ k. drop k bytes) e in
+      omega (arith, moves_by bytes some, e, f, ap (λ (l : List ℕ). next_run l) behind)
 
 -- A prefix by its bytes.
 
@@ -210,6 +343,51 @@ prefix_marked bytes rest u e =
 pub prefix_answer : (bytes : List ℕ) (portable : Bool) (answer : Option (Bor (List ℕ))) → portable ≡ true → IsUtf8 bytes
     → MatchOption answer ((rest : List ℕ) → bytes ≢ tag_mark ∷ rest) (λ rest. bytes ≡ tag_mark ∷ rest.now)
     → MatchOption answer (prefix_escaped portable (chars bytes) ≡ percent_escaped (chars bytes))
-    (λ rest. prefix_escaped portable (chars bytes) ≡ tag_mark ∷ percent_escaped (chars rest.now))
+    (λ rest. (bytes ≡ tag_mark ∷ rest.now) × (prefix_escaped portable (chars bytes) ≡ tag_mark ∷ percent_escaped (chars rest.now)))
 prefix_answer bytes portable None e u h = ap (λ b. prefix_escaped b (chars bytes)) e ∙ prefix_unmarked bytes u h
-prefix_answer bytes portable (Some rest) e u h = ap (λ b. prefix_escaped b (chars bytes)) e ∙ prefix_marked bytes rest.now u h
+prefix_answer bytes portable (Some rest) e u h = (h, ap (λ b. prefix_escaped b (chars bytes)) e ∙ prefix_marked bytes rest.now u h)
+
+-- without a raw `!` a prefix begins with the run of a tag
+pub prefix_run : (portable : Bool) (bytes : List ℕ) → IsUtf8 bytes → prefix_escaped portable (chars bytes) ≡ percent_escaped (chars bytes)
+    → IsPrefixRun portable bytes (prefix_len is_tag_character bytes)
+prefix_run portable bytes u e =
+    record {
+      boundary = run_boundary false bytes u;
+      run = run_ascii false bytes;
+      unbroken = run_unbroken false bytes;
+      written = e ∙ run_first false bytes u;
+    }
+
+-- with one that run follows the `!`
+pub marked_run : (portable : Bool) (bytes rest : List ℕ) → IsUtf8 bytes → bytes ≡ tag_mark ∷ rest
+    → prefix_escaped portable (chars bytes) ≡ tag_mark ∷ percent_escaped (chars rest) → IsPrefixRun portable bytes (1 + prefix_len is_tag_character rest)
+marked_run portable bytes rest u e is =
+    let n = prefix_len is_tag_character rest in
+    let more : 1 + n ≡ suc n = omega arith in
+    let run : take (1 + n) bytes ≡ tag_mark ∷ take n rest = ap (take (1 + n)) e ∙ ap (λ k. take k (tag_mark ∷ rest)) more in
+    let behind : drop (1 + n) bytes ≡ drop n rest = ap (drop (1 + n)) e ∙ ap (λ k. drop k (tag_mark ∷ rest)) more in
+    let ascii : IsAscii (take (1 + n) bytes) =
+    subst (λ (l : List ℕ). IsAscii l) (sym run) (IsAscii-cons tag_mark (take n rest) (lit< tt) (run_ascii false rest)) in
+    let within : 1 + n ≤ length bytes = omega (arith, ap (λ (l : List ℕ). length l) e, prefix_len-le-length is_tag_character rest) in
+    let is_rest = IsUtf8-past_char bytes rest tag_mark u (e ∙ ap (λ x. x ++ rest) (sym (encode_ascii tag_mark (lit< tt)))) in
+    record {
+      boundary = IsCharBoundary-from_take bytes (1 + n) u within (IsUtf8-from_ascii _ ascii);
+      run = ascii;
+      unbroken = ap (list_any is_break) run ∙ run_unbroken false rest;
+      written = is ∙ ap (λ x. tag_mark ∷ x) (run_first false rest is_rest)
+          ∙ ap (λ x. x ++ percent_escaped (chars (drop n rest))) (sym run)
+          ∙ ap (λ x. take (1 + n) bytes ++ percent_escaped (chars x)) (sym behind);
+    }
+
+-- a prefix is its run and the rest
+pub prefix_parts : {portable : Bool} {prefix run rest : List ℕ} {n : ℕ} → IsPrefixRun portable prefix n → run ≡ take n prefix → rest ≡ drop n prefix
+    → chars run ++ percent_escaped (chars rest) ≡ prefix_escaped portable (chars prefix)
+prefix_parts {portable} {prefix} {run} {rest} {n} is front back =
+    ap (λ x. x ++ percent_escaped (chars rest)) (ap chars front ∙ chars-IsAscii (take n prefix) is.run)
+    ∙ ap (λ x. take n prefix ++ percent_escaped (chars x)) back
+    ∙ sym is.written
+
+pub prefix_unbroken : {portable : Bool} {prefix run : List ℕ} {n : ℕ} → IsPrefixRun portable prefix n → run ≡ take n prefix
+    → list_any is_break (chars run) ≡ false
+prefix_unbroken {portable} {prefix} {run} {n} is front =
+    ap (λ x. list_any is_break (chars x)) front ∙ ap (list_any is_break) (chars-IsAscii (take n prefix) is.run) ∙ is.unbroken

@@ -47,10 +47,6 @@ pub good_name : (bytes : List ℕ) (if_empty if_other : yaml_error_t) → IsUtf8
     → None ≡ name_fault if_empty if_other (chars bytes)
 good_name bytes a b u n h = let first = characters_begin bytes u n in good (chars bytes) a b first.0 first.1 first.2 h
 
-pub either_way : {A : Type 0} (test : Bool) {x y z : A} → x ≡ y → x ≡ z → x ≡ cond test y z
-either_way true h k = h
-either_way false h k = k
-
 -- Handles.
 
 pub empty_handle : (bytes : List ℕ) → (length bytes == 0) ≡ true → Some TagHandleEmpty ≡ handle_fault (chars bytes)

@@ -1,8 +1,24 @@
 -- Escaping by bytes.
-use Rattle.std.specs.Prelude.{ℕ, Bool, [], ◌∷◌, if◌then◌else◌}
-use Rattle.yaml_base.specs.Characters.{Text}
-use Rattle.yaml_base.specs.Percent.{is_suffix_character, byte_escaped}
+use Rattle.std.specs.Prelude.{◌≡◌, ℕ, Bool, true, false, List, ◌++◌, take, drop, chars}
+use Rattle.std.specs.Str.{IsAscii, IsCharBoundary}
+use Rattle.std.specs.List.{list_any}
+use Rattle.yaml_base.specs.Characters.{is_break}
+use Rattle.yaml_base.specs.Percent.{is_suffix_character, percent_escaped, prefix_escaped}
+use Rattle.yaml_mark.specs.declared.writing.FlowSigns.{FlowSigns}
+use Rattle.yaml_mark.specs.declared.writing.FlowSigns.TheVariants.{Raw, Escaped}
 
--- a byte of a text's UTF-8 stands as itself, or as its percent form
-abbrev pub byte_written : (portable : Bool) → ℕ → Text
-byte_written portable byte = if is_suffix_character portable byte then byte ∷ [] else byte_escaped byte
+-- signs of flow are escaped in portable mode
+abbrev pub are_escaped : FlowSigns → Bool
+are_escaped Raw = false
+are_escaped Escaped = true
+
+-- a byte of a text's UTF-8 stands as itself
+abbrev pub stands : FlowSigns → ℕ → Bool
+stands signs byte = is_suffix_character (are_escaped signs) byte
+
+-- so many bytes of a prefix stand as themselves, and the rest is written as a tag is
+pub record IsPrefixRun (portable : Bool) (prefix : List ℕ) (size : ℕ) : Type 0 where
+  pub boundary : IsCharBoundary prefix size
+  pub run : IsAscii (take size prefix)
+  pub unbroken : list_any is_break (take size prefix) ≡ false
+  pub written : prefix_escaped portable (chars prefix) ≡ take size prefix ++ percent_escaped (chars (drop size prefix))

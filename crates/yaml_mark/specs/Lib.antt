@@ -1,3 +1,4 @@
 pub mod Laws
 pub mod Spelled
 pub mod Escaping
+pub mod Names

@@ -12,7 +12,7 @@ pub use laws::{
     escaped_text_reads, portable_suffix_holds_no_flow_sign, written_tag_reads,
     written_tag_stays_one_word,
 };
-pub use names::{analyze_anchor, analyze_tag_directive, analyze_version};
+pub use names::{Name, analyze_anchor, analyze_name, analyze_tag_directive, analyze_version};
 pub use tags::{analyze_tag, tag_t};
 pub use writing::{
     write_anchor, write_tag_content, write_tag_handle, write_tag_prefix, write_tag_suffix,

@@ -5,6 +5,7 @@ ghost use Rattle.yaml_base.specs.Characters as class;
 ghost use Rattle.yaml_base.specs.Errors.{refused};
 ghost use Rattle.yaml_base.specs.Seen.{seen_version, seen_directive};
 ghost use Rattle.yaml_base.specs.Tags.{anchor_fault, alias_fault, version_fault, handle_fault, directive_fault};
+ghost use Rattle.yaml_mark.specs.Names.{alphabet_error, empty_error, fault_of};
 
 use std::alloc::Allocator;
 use yaml_base::{is_alpha, yaml_error_t, yaml_tag_directive_t, yaml_version_directive_t};
@@ -19,26 +20,59 @@ pub fn analyze_version(version: yaml_version_directive_t) -> Result<(), yaml_err
     }
 }
 
+/// What a name is given to.
+#[derive(Clone, Copy, PartialEq, Eq, Debug)]
+pub enum Name {
+    /// A node.
+    Anchor,
+    /// An alias of one.
+    Alias,
+}
+
+impl Name {
+    fn empty_error(self) -> yaml_error_t
+        ensures { result ≡ empty_error self }
+    {
+        match self {
+            Name::Anchor => yaml_error_t::AnchorEmpty,
+            Name::Alias => yaml_error_t::AliasEmpty,
+        }
+    }
+
+    fn alphabet_error(self) -> yaml_error_t
+        ensures { result ≡ alphabet_error self }
+    {
+        match self {
+            Name::Anchor => yaml_error_t::AnchorAlphabet,
+            Name::Alias => yaml_error_t::AliasAlphabet,
+        }
+    }
+}
+
+/// Refuses the name of an anchor, or of an alias, that is empty (`AnchorEmpty`, `AliasEmpty`) or has another character
+/// than `0-9`, `A-Z`, `a-z`, `_` and `-` (`AnchorAlphabet`, `AliasAlphabet`).
+pub fn analyze_name(text: &str, name: Name) -> Result<(), yaml_error_t>
+    ensures { refused result ≡ fault_of name (chars text.now) }
+{
+    if text.is_empty() {
+        return Err(name.empty_error());
+    }
+    if !is_all_alpha(text) {
+        return Err(name.alphabet_error());
+    }
+    Ok(())
+}
+
 /// Refuses an anchor, or an alias, that is empty (`AnchorEmpty`, `AliasEmpty`) or has another character than `0-9`,
 /// `A-Z`, `a-z`, `_` and `-` (`AnchorAlphabet`, `AliasAlphabet`).
 pub fn analyze_anchor(anchor: &str, alias: bool) -> Result<(), yaml_error_t>
     ensures { refused result ≡ (if alias then alias_fault (chars anchor.now) else anchor_fault (chars anchor.now)) }
 {
-    if anchor.is_empty() {
-        return Err(if alias {
-            yaml_error_t::AliasEmpty
-        } else {
-            yaml_error_t::AnchorEmpty
-        });
+    if alias {
+        analyze_name(anchor, Name::Alias)
+    } else {
+        analyze_name(anchor, Name::Anchor)
     }
-    if !is_all_alpha(anchor) {
-        return Err(if alias {
-            yaml_error_t::AliasAlphabet
-        } else {
-            yaml_error_t::AnchorAlphabet
-        });
-    }
-    Ok(())
 }
 
 /// Refuses, in this order, a tag handle that is empty (`TagHandleEmpty`), doesn't start or doesn't end with `!`

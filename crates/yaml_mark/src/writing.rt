@@ -1,29 +1,27 @@
 //! Anchors and tags as text (YAML 1.1, section 8.1).
-ghost use Rattle.std.specs.Prelude.{◌≡◌, ◌<◌, ◌∷◌, ◌++◌, false, chars, MatchOption};
-ghost use Rattle.std.specs.List.{list_any};
+ghost use Rattle.std.specs.Prelude.{◌≡◌, [], ◌∷◌, ◌++◌, true, false, chars, flat_map, MatchOption};
+ghost use Rattle.std.specs.List.{list_any, position_or_len, prefix_len};
 ghost use Rattle.yaml_base.specs.Characters.{is_break};
-ghost use Rattle.yaml_base.specs.Cursor.{name_laid, space_if, text_laid};
+ghost use Rattle.yaml_base.specs.Cursor.{indicator, name_laid, space_if, text_laid};
 ghost use Rattle.yaml_base.specs.Layout.{handle_laid};
 ghost use Rattle.yaml_base.specs.Percent as percent;
 ghost use Rattle.yaml_base.specs.Tags.{tag_mark};
 ghost use Rattle.yaml_pen.specs.Page.{IsReady};
 ghost use Rattle.yaml_pen.specs.Wrote.{Wrote};
-ghost use Rattle.yaml_mark.specs.Escaping.{byte_written};
+ghost use Rattle.yaml_mark.specs.Escaping.{IsPrefixRun, are_escaped, stands};
 
 use std::alloc::Allocator;
 use yaml_base::{hex_digit, yaml_error_t};
-use yaml_pen::Pen;
+use yaml_pen::{Indicator, Pen};
 
-/// A space comes before a text where none stands there.
-const SPACED: bool = true;
-/// It follows at once.
-const TIGHT: bool = false;
-/// No white space stands behind it.
-const LEAVES_NO_SPACE: bool = false;
-/// No indentation goes on behind it.
-const ENDS_INDENTION: bool = false;
-/// The signs of flow `,` `[` `]` aren't escaped.
-const FLOW_SIGNS_STAY: bool = false;
+/// What becomes of the signs of flow `,` `[` `]` in a tag.
+#[derive(Clone, Copy)]
+enum FlowSigns {
+    /// They stand as themselves.
+    Raw,
+    /// They are escaped, since readers end a tag at them.
+    Escaped,
+}
 
 /// Writes the name of an anchor or of an alias. `WriteError` and `Memory` as the pen tells them.
 pub fn write_anchor<A: Allocator>(pen: &mut Pen<A>, anchor: &str) -> Result<(), yaml_error_t>
@@ -31,7 +29,7 @@ pub fn write_anchor<A: Allocator>(pen: &mut Pen<A>, anchor: &str) -> Result<(), 
     requires no_break { list_any is_break (chars anchor.now) ≡ false }
     ensures { Wrote (name_laid (chars anchor.now)) pen.old pen.new result }
 {
-    pen.write_indicator(anchor, TIGHT, LEAVES_NO_SPACE, ENDS_INDENTION)
+    pen.put_indicator(&Indicator::tight(anchor))
 }
 
 /// Writes a tag's handle, or the bare tag, and a space before it where none stands there. `WriteError` and `Memory` as
@@ -41,7 +39,7 @@ pub fn write_tag_handle<A: Allocator>(pen: &mut Pen<A>, handle: &str) -> Result<
     requires no_break { list_any is_break (chars handle.now) ≡ false }
     ensures { Wrote (handle_laid (chars handle.now)) pen.old pen.new result }
 {
-    pen.write_indicator(handle, SPACED, LEAVES_NO_SPACE, ENDS_INDENTION)
+    pen.put_indicator(&Indicator::spaced(handle))
 }
 
 /// Writes a tag: what may not stand in one is escaped by percent forms. A space comes before it where one is asked for
@@ -54,7 +52,8 @@ pub fn write_tag_content<A: Allocator>(
     requires ready { IsReady pen.old }
     ensures { Wrote (λ cursor. name_laid (space_if need_whitespace cursor ++ percent.percent_escaped (chars content.now)) cursor) pen.old pen.new result }
 {
-    write_escaped(pen, content, need_whitespace, FLOW_SIGNS_STAY)
+    begin_tag(pen, need_whitespace)?;
+    write_escaped(pen, content, FlowSigns::Raw)
 }
 
 /// Writes what stands after a tag's handle, escaped as a tag is; `portable` escapes the signs of flow `,` `[` `]` too,
@@ -67,7 +66,8 @@ pub fn write_tag_suffix<A: Allocator>(
     requires ready { IsReady pen.old }
     ensures { Wrote (name_laid (percent.suffix_escaped portable (chars suffix.now))) pen.old pen.new result }
 {
-    write_escaped(pen, suffix, TIGHT, portable)
+    begin_tight(pen)?;
+    write_escaped(pen, suffix, flow_signs(portable))
 }
 
 /// Writes the prefix of a directive, escaped as a tag is, and a space before it where none stands there; `portable`
@@ -80,16 +80,67 @@ pub fn write_tag_prefix<A: Allocator>(
     requires ready { IsReady pen.old }
     ensures { Wrote (handle_laid (percent.prefix_escaped portable (chars prefix.now))) pen.old pen.new result }
 {
+    begin_spaced(pen)?;
+    let (run, rest) = prefix.split_at(prefix_run_length(prefix, portable));
+    pen.write_run(run)?;
+    write_escaped(pen, rest, FlowSigns::Raw)
+}
+
+// What stands before a tag: a space where one is asked for and none stands there.
+fn begin_tag<A: Allocator>(pen: &mut Pen<A>, need_whitespace: bool) -> Result<(), yaml_error_t>
+    requires ready { IsReady pen.old }
+    ensures { Wrote (indicator [] need_whitespace false false) pen.old pen.new result }
+{
+    if need_whitespace {
+        begin_spaced(pen)
+    } else {
+        begin_tight(pen)
+    }
+}
+
+// A space where none stands there.
+fn begin_spaced<A: Allocator>(pen: &mut Pen<A>) -> Result<(), yaml_error_t>
+    requires ready { IsReady pen.old }
+    ensures { Wrote (indicator [] true false false) pen.old pen.new result }
+{
+    pen.put_indicator(&Indicator::spaced(""))
+}
+
+// Nothing: what follows ends white space and indentation.
+fn begin_tight<A: Allocator>(pen: &mut Pen<A>) -> Result<(), yaml_error_t>
+    requires ready { IsReady pen.old }
+    ensures { Wrote (indicator [] false false false) pen.old pen.new result }
+{
+    pen.put_indicator(&Indicator::tight(""))
+}
+
+fn flow_signs(portable: bool) -> FlowSigns
+    ensures { are_escaped result ≡ portable }
+{
+    if portable {
+        FlowSigns::Escaped
+    } else {
+        FlowSigns::Raw
+    }
+}
+
+// How many bytes of a prefix stand as themselves before the first that doesn't.
+fn prefix_run_length(prefix: &str, portable: bool) -> usize
+    ensures { IsPrefixRun portable prefix.now result }
+{
     match after_raw_mark(prefix, portable) {
-        Some(rest) => write_local_prefix(pen, rest),
-        None => write_tag_content(pen, prefix, SPACED),
+        Some(rest) => {
+            let mark = prefix.len() - rest.len();
+            mark + run_length(rest, FlowSigns::Raw)
+        }
+        None => run_length(prefix, FlowSigns::Raw),
     }
 }
 
 // What follows the `!` of a prefix whose `!` stands raw.
 fn after_raw_mark(prefix: &str, portable: bool) -> Option<&str>
     ensures { MatchOption result (percent.prefix_escaped portable (chars prefix.now) ≡ percent.percent_escaped (chars prefix.now))
-        (λ rest. percent.prefix_escaped portable (chars prefix.now) ≡ tag_mark ∷ percent.percent_escaped (chars rest.now)) }
+        (λ rest. (prefix.now ≡ tag_mark ∷ rest.now) × (percent.prefix_escaped portable (chars prefix.now) ≡ tag_mark ∷ percent.percent_escaped (chars rest.now))) }
 {
     if portable {
         prefix.strip_prefix('!')
@@ -98,42 +149,38 @@ fn after_raw_mark(prefix: &str, portable: bool) -> Option<&str>
     }
 }
 
-// A `!`, and the rest of a prefix.
-fn write_local_prefix<A: Allocator>(pen: &mut Pen<A>, rest: &str) -> Result<(), yaml_error_t>
-    requires ready { IsReady pen.old }
-    ensures { Wrote (handle_laid (tag_mark ∷ percent.percent_escaped (chars rest.now))) pen.old pen.new result }
-{
-    pen.write_indicator("", SPACED, LEAVES_NO_SPACE, ENDS_INDENTION)?;
-    pen.put(b'!')?;
-    write_tag_content(pen, rest, TIGHT)
-}
-
+// Each longest run of characters that stand as themselves, and the percent forms of the bytes up to the next.
 fn write_escaped<A: Allocator>(
     pen: &mut Pen<A>,
     text: &str,
-    need_whitespace: bool,
-    portable: bool,
+    signs: FlowSigns,
 ) -> Result<(), yaml_error_t>
     requires ready { IsReady pen.old }
-    ensures { Wrote (λ cursor. name_laid (space_if need_whitespace cursor ++ percent.suffix_escaped portable (chars text.now)) cursor) pen.old pen.new result }
+    ensures { Wrote (text_laid (percent.suffix_escaped (are_escaped signs) (chars text.now))) pen.old pen.new result }
 {
-    pen.write_indicator("", need_whitespace, LEAVES_NO_SPACE, ENDS_INDENTION)?;
-    let bytes = text.as_bytes();
-    for byte in bytes {
-        write_byte(pen, *byte, portable)?;
+    pen.write_nothing()?;
+    let mut rest = text;
+    while !rest.is_empty() {
+        let (run, others) = rest.split_at(run_length(rest, signs));
+        pen.write_run(run)?;
+        let (escaped, behind) = others.split_at(escaped_length(others, signs));
+        write_forms(pen, escaped)?;
+        rest = behind;
     }
     Ok(())
 }
 
-fn write_byte<A: Allocator>(pen: &mut Pen<A>, byte: u8, portable: bool) -> Result<(), yaml_error_t>
+// The percent forms of a text's bytes.
+fn write_forms<A: Allocator>(pen: &mut Pen<A>, text: &str) -> Result<(), yaml_error_t>
     requires ready { IsReady pen.old }
-    ensures { Wrote (text_laid (byte_written portable byte)) pen.old pen.new result }
+    ensures { Wrote (text_laid (flat_map percent.byte_escaped text.now)) pen.old pen.new result }
 {
-    if is_suffix_character(byte, portable) {
-        pen.put(byte)
-    } else {
-        write_form(pen, byte)
+    pen.write_nothing()?;
+    let bytes = text.as_bytes();
+    for byte in bytes {
+        write_form(pen, *byte)?;
     }
+    Ok(())
 }
 
 // The percent form of a byte.
@@ -146,10 +193,33 @@ fn write_form<A: Allocator>(pen: &mut Pen<A>, byte: u8) -> Result<(), yaml_error
     pen.put(hex_digit(byte % 16))
 }
 
-fn is_suffix_character(byte: u8, portable: bool) -> bool
-    ensures value { result ≡ percent.is_suffix_character portable byte }
+// How many of the first bytes stand as themselves.
+fn run_length(text: &str, signs: FlowSigns) -> usize
+    ensures { result ≡ prefix_len (stands signs) text.now }
 {
-    !(portable && matches!(byte, b',' | b'[' | b']')) && is_tag_character(byte)
+    text.as_bytes()
+        .iter()
+        .take_while(|byte| stands(**byte, signs))
+        .count()
+}
+
+// How many of the first bytes are escaped.
+fn escaped_length(text: &str, signs: FlowSigns) -> usize
+    ensures { result ≡ position_or_len (stands signs) text.now }
+{
+    text.as_bytes()
+        .iter()
+        .take_while(|byte| !stands(**byte, signs))
+        .count()
+}
+
+fn stands(byte: u8, signs: FlowSigns) -> bool
+    ensures value { result ≡ stands signs byte }
+{
+    match signs {
+        FlowSigns::Raw => is_tag_character(byte),
+        FlowSigns::Escaped => is_tag_character(byte) && !matches!(byte, b',' | b'[' | b']'),
+    }
 }
 
 fn is_tag_character(byte: u8) -> bool

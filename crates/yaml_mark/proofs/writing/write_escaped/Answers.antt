@@ -1,34 +1,79 @@
-use Rattle.std.proofs.Common.{ap}
-use Rattle.std.specs.List.{list_any}
-use Rattle.std.specs.Str.{chars}
+use Rattle.std.proofs.Common.{◌∙◌, ap, sym, subst, ℕ, arith}
+use Rattle.std.proofs.lemmas.Bool.{eqb-true}
+use Rattle.std.proofs.lemmas.List.{nil_from_length}
 use Rattle.std.proofs.lemmas.Str.{chars-nil}
-use Rattle.yaml_base.specs.Characters.{is_break}
-use Rattle.yaml_base.specs.Percent.{suffix_escaped}
+use Rattle.std.specs.Str.{IsCharBoundary, chars}
+use Rattle.yaml_base.specs.Percent.{byte_escaped, suffix_escaped}
+use Rattle.std.specs.List.{flat_map}
 use Rattle.yaml_pen.proofs.Composing.{wrote_exit}
-use Rattle.yaml_mark.proofs.EscapingLemmas.{content_cut, content_whole, text_whole, bytes_more, bytes_failed, bytes_whole}
+use Rattle.yaml_pen.proofs.Fronts.{front_more, front_failed, front_whole}
+use Rattle.yaml_mark.specs.Escaping.{are_escaped}
+use Rattle.yaml_mark.proofs.EscapingLemmas.{forms_cut, moves_on, next_boundary, run_boundary, run_cut}
 use Rattle.yaml_mark.proofs.writing.write_escaped.Goals as goal
 
-pub write_indicator-requires-clause-no_break : goal.write_indicator-requires-clause-no_break
-write_indicator-requires-clause-no_break g c = ap (list_any is_break) chars-nil
+pub split_at-requires : goal.split_at-requires
+split_at-requires g c =
+    subst (λ (n : ℕ). IsCharBoundary c.loop-rest.rest.now n) (sym c.run_length.ensures)
+    (run_boundary (are_escaped c.args.signs) c.loop-rest.rest.now c.loop-rest.invariant.is_text)
 
-pub returns-in_err-write_indicator : goal.returns-in_err-write_indicator
-returns-in_err-write_indicator g c =
-    wrote_exit c.from_residual.ensures
-    (content_cut c.args.need_whitespace (suffix_escaped c.args.portable (chars c.args.text.now)) c.in_err-write_indicator.ensures.written)
+pub write_run-requires-clause-no_break : goal.write_run-requires-clause-no_break
+write_run-requires-clause-no_break g c =
+    (run_cut (are_escaped c.args.signs) c.loop-rest.rest.now c.split_at.result.0.now c.split_at.result.1.now c.run_length.result
+    c.loop-rest.invariant.is_text c.run_length.ensures c.split_at.ensures.front c.split_at.ensures.back).unbroken
 
-pub loop-byte-preserved : goal.loop-byte-preserved
-loop-byte-preserved g c =
-    bytes_more c.args.portable c.as_bytes-bytes.result.now c.loop-byte.byte-index c.loop-byte-test.true c.loop-byte.invariant c.in_ok-write_byte.ensures
+pub split_at-requires-in-loop-rest : goal.split_at-requires-in-loop-rest
+split_at-requires-in-loop-rest g c =
+    subst (λ (n : ℕ). IsCharBoundary c.split_at.result.1.now n) (sym c.escaped_length.ensures)
+    (next_boundary (are_escaped c.args.signs) c.split_at.result.1.now)
 
-pub returns-in_err-write_byte : goal.returns-in_err-write_byte
-returns-in_err-write_byte g c =
-    wrote_exit c.from_residual-in_err-write_byte.ensures
-    (content_whole c.args.need_whitespace (suffix_escaped c.args.portable (chars c.args.text.now)) c.in_ok-write_indicator.ensures.written
-    (text_whole c.args.portable c.args.text.now c.as_bytes-bytes.result.now c.as_bytes-bytes.ensures.value c.utf8.text
-    (bytes_failed c.args.portable c.as_bytes-bytes.result.now c.loop-byte.byte-index c.loop-byte-test.true c.loop-byte.invariant c.in_err-write_byte.ensures)))
+pub returns-in_err-write_run : goal.returns-in_err-write_run
+returns-in_err-write_run g c =
+    let escaped = are_escaped c.args.signs in
+    let run = run_cut escaped c.loop-rest.rest.now c.split_at.result.0.now c.split_at.result.1.now c.run_length.result
+    c.loop-rest.invariant.is_text c.run_length.ensures c.split_at.ensures.front c.split_at.ensures.back in
+    wrote_exit c.from_residual-in_err-write_run.ensures
+    (front_failed (chars c.split_at.result.0.now) (suffix_escaped escaped (chars c.split_at.result.1.now)) c.loop-rest.invariant.front run.parts
+    c.in_err-write_run.ensures.written)
+
+pub returns-in_err-write_forms : goal.returns-in_err-write_forms
+returns-in_err-write_forms g c =
+    let escaped = are_escaped c.args.signs in
+    let others = c.split_at.result.1.now in
+    let first = c.split_at-in-loop-rest.result.0.now in
+    let behind = c.split_at-in-loop-rest.result.1.now in
+    let run = run_cut escaped c.loop-rest.rest.now c.split_at.result.0.now others c.run_length.result
+    c.loop-rest.invariant.is_text c.run_length.ensures c.split_at.ensures.front c.split_at.ensures.back in
+    let forms = forms_cut escaped others first behind c.escaped_length.result run.is_text c.escaped_length.ensures
+    c.split_at-in-loop-rest.ensures.front c.split_at-in-loop-rest.ensures.back in
+    let more = front_more (chars c.split_at.result.0.now) (suffix_escaped escaped (chars others)) c.loop-rest.invariant.front run.parts
+    c.in_ok-write_run.ensures.written in
+    wrote_exit c.from_residual-in_err-write_forms.ensures
+    (front_failed (flat_map byte_escaped first) (suffix_escaped escaped (chars behind)) more forms.parts c.in_err-write_forms.ensures)
+
+pub loop-rest-preserved : goal.loop-rest-preserved
+loop-rest-preserved g c =
+    let escaped = are_escaped c.args.signs in
+    let others = c.split_at.result.1.now in
+    let first = c.split_at-in-loop-rest.result.0.now in
+    let behind = c.split_at-in-loop-rest.result.1.now in
+    let run = run_cut escaped c.loop-rest.rest.now c.split_at.result.0.now others c.run_length.result
+    c.loop-rest.invariant.is_text c.run_length.ensures c.split_at.ensures.front c.split_at.ensures.back in
+    let forms = forms_cut escaped others first behind c.escaped_length.result run.is_text c.escaped_length.ensures
+    c.split_at-in-loop-rest.ensures.front c.split_at-in-loop-rest.ensures.back in
+    let more = front_more (chars c.split_at.result.0.now) (suffix_escaped escaped (chars others)) c.loop-rest.invariant.front run.parts
+    c.in_ok-write_run.ensures.written in
+    record {
+      front = front_more (flat_map byte_escaped first) (suffix_escaped escaped (chars behind)) more forms.parts c.in_ok-write_forms.ensures;
+      is_text = forms.is_text;
+    }
+
+pub loop-rest-smaller : goal.loop-rest-smaller
+loop-rest-smaller g c =
+    let moves = moves_on (are_escaped c.args.signs) c.loop-rest.rest.now c.split_at.result.1.now c.run_length.result c.escaped_length.result
+    (sym c.loop-rest-test.ensures) c.run_length.ensures c.split_at.ensures.back c.escaped_length.ensures in
+    omega (arith, moves, c.split_at.ensures.back_len, c.split_at-in-loop-rest.ensures.back_len)
 
 pub returns : goal.returns
 returns g c =
-    content_whole c.args.need_whitespace (suffix_escaped c.args.portable (chars c.args.text.now)) c.in_ok-write_indicator.ensures.written
-    (text_whole c.args.portable c.args.text.now c.as_bytes-bytes.result.now c.as_bytes-bytes.ensures.value c.utf8.text
-    (bytes_whole c.args.portable c.as_bytes-bytes.result.now c.loop-byte.byte-index c.loop-byte-test.false c.loop-byte.invariant))
+    let none = nil_from_length c.loop-rest.rest.now (eqb-true _ 0 (sym c.is_empty.ensures ∙ c.loop-rest-test.false)) in
+    front_whole c.loop-rest.invariant.front (ap (suffix_escaped (are_escaped c.args.signs)) (ap chars none ∙ chars-nil))

@@ -1,9 +1,15 @@
-use Rattle.std.proofs.Common.{take, Ok}
-use Rattle.std.specs.Prelude.{flat_map}
-use Rattle.yaml_base.specs.Cursor.{text_laid}
-use Rattle.yaml_pen.specs.Wrote.{Wrote}
-use Rattle.yaml_mark.specs.Escaping.{byte_written}
+use Rattle.std.proofs.Common.{length}
+use Rattle.std.specs.Str.{chars, IsUtf8}
+use Rattle.yaml_base.specs.Percent.{suffix_escaped}
+use Rattle.yaml_pen.proofs.Fronts.{WroteFront}
+use Rattle.yaml_mark.specs.Escaping.{are_escaped}
 use Rattle.yaml_mark.proofs.writing.write_escaped.Given as goal
 
-abbrev pub invariant-loop-byte : goal.invariant-loop-byte
-invariant-loop-byte g l = Wrote (text_laid (flat_map (byte_written l.portable) (take l.byte-index l.bytes))) l.initial.pen l.pen (Ok tt)
+abbrev pub invariant-loop-rest : goal.invariant-loop-rest
+invariant-loop-rest g l = record {
+  front : WroteFront (suffix_escaped (are_escaped l.signs) (chars l.fn.text)) (suffix_escaped (are_escaped l.signs) (chars l.rest)) l.initial.pen l.pen;
+  is_text : IsUtf8 l.rest;
+}
+
+abbrev pub decreases-loop-rest : goal.decreases-loop-rest
+decreases-loop-rest g l = length l.rest
