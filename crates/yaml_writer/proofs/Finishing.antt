@@ -1,5 +1,5 @@
 -- What it comes to that a document and its stream are ended.
-use Rattle.std.proofs.Common.{◌≡◌, refl, sym, ap, ap₂, ◌∙◌, arith, subst, append_assoc, inl, inr}
+use Rattle.std.proofs.Common.{◌≡◌, refl, sym, ap, ap₂, ◌∙◌, arith, subst, append_assoc}
 use Rattle.std.proofs.lemmas.List.{nil_from_length}
 use Rattle.std.specs.Prelude.{ℕ, ◌<◌, ◌≤◌, true, false, ◌||◌, Option, None, Some, IsSome, is_some, unwrap_or, List, [], ◌∷◌, ◌++◌, length}
 use Rattle.yaml_base.specs.Characters.{Text}
@@ -7,7 +7,6 @@ use Rattle.yaml_base.specs.Event.{Event, stream_end, document_end}
 use Rattle.yaml_base.specs.Refusal.{IsAccepted}
 use Rattle.yaml_base.specs.Settings.{Settings}
 use Rattle.yaml_base.specs.declared.errors.yaml_error_t.{yaml_error_t}
-use Rattle.yaml_base.specs.declared.errors.yaml_error_t.TheVariants.{ExpectedNode, WriteError}
 use Rattle.yaml_pen.specs.Page.{output_left}
 use Rattle.yaml_emitter.specs.State.{State}
 use Rattle.yaml_emitter.specs.StandsAfter.{StandsAfter}
@@ -15,6 +14,7 @@ use Rattle.yaml_emitter.specs.Promises.{Promised, RefusedAt, HasRoom, IsRefusal,
 use Rattle.yaml_emitter.proofs.EndedStreams.{ends_last}
 use Rattle.yaml_writer.specs.Unfinished.{IsUnfinished, RefusesOne}
 use Rattle.yaml_writer.specs.Writing.{IsStream, StandsTaken, WriterState, awaits_node, closing, plain_start}
+use Rattle.yaml_writer.proofs.MissingNodes.{misses}
 use Rattle.yaml_writer.proofs.Overflow.{overflowed}
 use Rattle.yaml_writer.proofs.Taken.{taken_and_left}
 
@@ -55,13 +55,13 @@ refused_unaccepted given all error state promised some refusal accepted =
     apart is = cc
 
 -- nor where an event waits
-waiting_unaccepted : (given : Settings) (all : List Event) (state : State) → Promised given (all ++ closing) state → state.error ≡ None
+pub waiting_unaccepted : (given : Settings) (all : List Event) (state : State) → Promised given (all ++ closing) state → state.error ≡ None
     → (state.held ≡ [] → ⊥) → IsAccepted given.canonical (all ++ closing) → ⊥
 waiting_unaccepted given all state promised none some accepted =
     some ((promised.ends (closing_ends all) (subst HasRoom (sym none) tt)).0 accepted).1
 
 -- the event that was refused
-refuses_one : (given : Settings) (all : List Event) (error : yaml_error_t) (state : State) → RefusedAt given all error state
+pub refuses_one : (given : Settings) (all : List Event) (error : yaml_error_t) (state : State) → RefusedAt given all error state
     → RefusesOne given.canonical all error
 refuses_one given all error state at = record {
   front = at.front;
@@ -98,28 +98,16 @@ failed_unfinished before after error stays ends is = record {
       let ended = ends given all stands in
       record {
         unaccepted = refused_unaccepted given all error after ended.1 is refusal;
-        named = inl (refuses_one given (all ++ closing) error after (ended.1.refused error is refusal));
+        named = refused_one given all ended.1 refusal;
+        missing = λ node.
+            misses given.canonical (all ++ closing)
+            (subst (RefusesOne given.canonical (all ++ closing)) node (refused_one given all ended.1 refusal));
       };
 }
-
--- what it comes to that an event waits
-pub waiting_unfinished : (before after : State) → ((earlier : yaml_error_t) → before.error ≡ Some earlier → after.error ≡ Some earlier)
-    → ((given : Settings) (all : List Event) → StandsAfter given all before → Promised given (all ++ closing) after)
-    → after.error ≡ None → (after.held ≡ [] → ⊥) → IsUnfinished before ExpectedNode
-waiting_unfinished before after stays ends none some = record {
-  first = λ earlier was. absurd (apart earlier (sym none ∙ stays earlier was));
-  full = λ is. absurd (other is);
-  refused = λ refusal given all stands. record {
-    unaccepted = waiting_unaccepted given all after (ends given all stands) none some;
-    named = inr refl;
-  };
-}
   where
-    apart : (earlier : yaml_error_t) → None ≡ Some earlier → ⊥
-    apart earlier is = cc
-
-    other : ExpectedNode ≡ WriteError → ⊥
-    other is = cc
+    refused_one : (given : Settings) (all : List Event) → Promised given (all ++ closing) after → IsRefusal error
+        → RefusesOne given.canonical (all ++ closing) error
+    refused_one given all promised refusal = refuses_one given (all ++ closing) error after (promised.refused error is refusal)
 
 -- what the number of events that wait says
 pub some_waits : (count : ℕ) (held : List Event) → 0 < count → count ≡ length held → held ≡ [] → ⊥

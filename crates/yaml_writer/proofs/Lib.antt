@@ -5,6 +5,8 @@ pub mod SpellingLemmas
 pub mod UnchangedSpellings
 pub mod Overflow
 pub mod Taken
+pub mod MissingNodes
 pub mod Finishing
+pub mod WaitingStarts
 pub mod PlainLemmas
 pub mod PlainNumbers

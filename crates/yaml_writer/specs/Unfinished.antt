@@ -1,6 +1,7 @@
 -- Why a stream couldn't be finished.
-use Rattle.std.specs.Prelude.{◌≡◌, ◌⊎◌, ◌<◌, Bool, Some, List, ◌∷◌, ◌++◌, length, take}
+use Rattle.std.specs.Prelude.{◌≡◌, ◌<◌, Bool, true, false, Option, None, Some, List, [], ◌∷◌, ◌++◌, length, take}
 use Rattle.yaml_base.specs.Event.{Event}
+use Rattle.yaml_base.specs.Grammar.{Partial, within_document, partial_of}
 use Rattle.yaml_base.specs.Output.{settings_for, bytes_written}
 use Rattle.yaml_base.specs.Pieces.{list_layout}
 use Rattle.yaml_base.specs.Refusal.{IsAccepted, BeginsAccepted, refusal}
@@ -22,10 +23,25 @@ pub record RefusesOne (canonical : Bool) (all : List Event) (error : yaml_error_
   pub begins : BeginsAccepted canonical front
   pub refusal : refusal canonical front event ≡ Some error
 
--- the events are no stream: one of them is refused with this error, or a start still waits for a node
+-- a document is open, and its root, or what comes next in its innermost collection, is missing
+abbrev pub awaits_more : Option Partial → Bool
+awaits_more (Some (within_document encoding before start levels)) = true
+awaits_more _ = false
+
+-- a node is missing: the events before this one leave one out, and it neither is a node nor begins one
+pub record MissesNode (all : List Event) : Type 0 where
+  pub front : List Event
+  pub event : Event
+  pub later : List Event
+  pub parts : front ++ event ∷ later ≡ all
+  pub awaits : awaits_more (partial_of front) ≡ true
+  pub none : partial_of (front ++ event ∷ []) ≡ None
+
+-- the events are no stream: one of them is refused with this error; a node is missing where the error says so
 pub record IsNoStream (canonical : Bool) (all : List Event) (error : yaml_error_t) : Type 0 where
   pub unaccepted : IsAccepted canonical all → ⊥
-  pub named : RefusesOne canonical all error ⊎ (error ≡ ExpectedNode)
+  pub named : RefusesOne canonical all error
+  pub missing : error ≡ ExpectedNode → MissesNode all
 
 -- the bytes of the events pass the limit: already those of the first of them, in a stream that begins so; and where all are a
 -- stream, its bytes do

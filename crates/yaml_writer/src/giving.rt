@@ -208,7 +208,8 @@ fn end_stream<A: Allocator + Copy>(emitter: &mut yaml_emitter_t<A>) -> Result<()
     let _ = yaml_emitter_emit(emitter, YAML_DOCUMENT_END_EVENT { implicit: true });
     yaml_emitter_emit(emitter, YAML_STREAM_END_EVENT)?;
     if emitter.held() > 0 {
-        return Err(yaml_error_t::ExpectedNode);
+        // The start of a mapping waits. One event more decides what is refused: it, or the document's end after it.
+        return yaml_emitter_emit(emitter, YAML_STREAM_END_EVENT);
     }
     Ok(())
 }

@@ -3,9 +3,11 @@ use Rattle.std.proofs.lemmas.Result.{err_from_is_err_and}
 use Rattle.yaml_base.specs.Event.{document_end, stream_end}
 use Rattle.yaml_emitter.proofs.standing.StandingMore.{some_from_told}
 use Rattle.yaml_pen.proofs.Writing.{none_from_told}
-use Rattle.yaml_writer.proofs.Finishing.{closed, closed_stands, error_kept, failed_unfinished, none_waits, rest_finished, some_waits, waiting_unfinished}
+use Rattle.yaml_writer.proofs.Finishing.{closed, closed_stands, error_kept, failed_unfinished, none_waits, rest_finished, some_waits, waiting_unaccepted}
 use Rattle.yaml_writer.proofs.Taken.{still_taken}
 use Rattle.yaml_writer.specs.Unfinished.{IsUnfinished}
+use Rattle.yaml_writer.proofs.WaitingStarts.{no_earlier, third_err, third_fails, third_ok, third_unfinished}
+use Rattle.yaml_writer.specs.Writing.{closing}
 use Rattle.yaml_writer.proofs.giving.end_stream.Goals as goal
 
 pub returns-in_err-yaml_emitter_emit-clause-unfinished : goal.returns-in_err-yaml_emitter_emit-clause-unfinished
@@ -30,15 +32,45 @@ pub returns-then-held-gt0-clause-unfinished : goal.returns-then-held-gt0-clause-
 returns-then-held-gt0-clause-unfinished g c =
     let before = c.args.emitter.now in
     let between = c.yaml_emitter_emit.new.emitter in
-    let after = c.yaml_emitter_emit-2.new.emitter in
-    waiting_unfinished before after
+    let closed_once = c.yaml_emitter_emit-2.new.emitter in
+    let after = c.yaml_emitter_emit-then-held-gt0.new.emitter in
+    let none = none_from_told closed_once.error c.in_ok-yaml_emitter_emit.ensures.answered in
+    let some = some_waits c.held.result closed_once.held c.if-held-gt0.true c.held.ensures in
+    third_err before after c.yaml_emitter_emit-then-held-gt0.result c.yaml_emitter_emit-then-held-gt0.ensures.answered
     (λ error is.
-    error_kept between after error c.yaml_emitter_emit-2.ensures.kept (error_kept before between error c.yaml_emitter_emit.ensures.kept is))
+    third_unfinished before after error
+    (no_earlier before closed_once
+    (λ earlier was.
+    error_kept between closed_once earlier c.yaml_emitter_emit-2.ensures.kept (error_kept before between earlier c.yaml_emitter_emit.ensures.kept was))
+    none)
     (λ given all stands.
-    closed given all after
-    (c.yaml_emitter_emit-2.ensures.promised given (all ++ document_end true ∷ []) (c.yaml_emitter_emit.ensures.stands given all stands)))
-    (none_from_told after.error c.in_ok-yaml_emitter_emit.ensures.answered)
-    (some_waits c.held.result after.held c.if-held-gt0.true c.held.ensures)
+    let ended = c.yaml_emitter_emit.ensures.stands given all stands in
+    let with_end = all ++ document_end true ∷ [] in
+    let stood = closed_stands given all closed_once (c.yaml_emitter_emit-2.ensures.stands given with_end ended) in
+    let promised = closed given all closed_once (c.yaml_emitter_emit-2.ensures.promised given with_end ended) in (
+      waiting_unaccepted given all closed_once promised none some,
+      c.yaml_emitter_emit-then-held-gt0.ensures.stands given (all ++ closing) stood,
+      c.yaml_emitter_emit-then-held-gt0.ensures.promised given (all ++ closing) stood,
+    ))
+    is)
+
+pub returns-then-held-gt0-clause-finishes : goal.returns-then-held-gt0-clause-finishes
+returns-then-held-gt0-clause-finishes g c =
+    let before = c.args.emitter.now in
+    let between = c.yaml_emitter_emit.new.emitter in
+    let closed_once = c.yaml_emitter_emit-2.new.emitter in
+    let after = c.yaml_emitter_emit-then-held-gt0.new.emitter in
+    let none = none_from_told closed_once.error c.in_ok-yaml_emitter_emit.ensures.answered in
+    let some = some_waits c.held.result closed_once.held c.if-held-gt0.true c.held.ensures in
+    third_ok after c.yaml_emitter_emit-then-held-gt0.result c.yaml_emitter_emit-then-held-gt0.ensures.answered
+    (λ unfailed given all sent stands.
+    let ended = c.yaml_emitter_emit.ensures.stands given all stands.stands in
+    let with_end = all ++ document_end true ∷ [] in
+    let stood = closed_stands given all closed_once (c.yaml_emitter_emit-2.ensures.stands given with_end ended) in
+    let promised = closed given all closed_once (c.yaml_emitter_emit-2.ensures.promised given with_end ended) in
+    absurd
+    (third_fails given all after (waiting_unaccepted given all closed_once promised none some)
+    (c.yaml_emitter_emit-then-held-gt0.ensures.promised given (all ++ closing) stood) unfailed))
 
 pub returns-clause-finishes : goal.returns-clause-finishes
 returns-clause-finishes g c given all sent stands =
