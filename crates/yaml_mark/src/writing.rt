@@ -140,7 +140,8 @@ fn prefix_run_length(prefix: &str, portable: bool) -> usize
 // What follows the `!` of a prefix whose `!` stands raw.
 fn after_raw_mark(prefix: &str, portable: bool) -> Option<&str>
     ensures { MatchOption result (percent.prefix_escaped portable (chars prefix.now) ≡ percent.percent_escaped (chars prefix.now))
-        (λ rest. (prefix.now ≡ tag_mark ∷ rest.now) × (percent.prefix_escaped portable (chars prefix.now) ≡ tag_mark ∷ percent.percent_escaped (chars rest.now))) }
+        (λ rest. (prefix.now ≡ tag_mark ∷ rest.now)
+        × (percent.prefix_escaped portable (chars prefix.now) ≡ tag_mark ∷ percent.percent_escaped (chars rest.now))) }
 {
     if portable {
         prefix.strip_prefix('!')

@@ -1,4 +1,4 @@
-use Rattle.std.proofs.Common.{◌∙◌, ap, sym, chars, Bool, List, ℕ}
+use Rattle.std.proofs.Common.{◌∙◌, ap, sym, chars, List, ℕ}
 use Rattle.std.specs.List.{list_any}
 use Rattle.yaml_base.specs.scalars.Analysis.{Allowances, Charset}
 use Rattle.yaml_base.specs.Characters.{Text, is_break}
