@@ -17,4 +17,4 @@ pub mod KeepsSet
 pub mod Growing
 pub mod StandingMarked
 pub mod Taking
-pub mod TakenOut
+pub mod EmitterKept

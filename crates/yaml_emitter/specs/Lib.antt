@@ -12,6 +12,7 @@ pub mod Nesting
 pub mod WrittenPieces
 pub mod WrittenSigns
 pub mod State
+pub mod MachineInside
 pub mod Inside
 pub mod Processing
 pub mod StandsAfter

@@ -1,4 +1,4 @@
--- What one event does to an emitter.
+-- What one event does to a machine.
 use Rattle.std.specs.Prelude.{◌≡◌, Bool, true, false, Option, None, Some, Result, Ok, Err, List, ◌∷◌}
 use Rattle.yaml_base.specs.Settings.{effective}
 use Rattle.yaml_base.specs.Cursor.{Cursor, Laid}
@@ -9,7 +9,7 @@ use Rattle.yaml_base.specs.declared.errors.yaml_error_t.{yaml_error_t}
 use Rattle.yaml_base.specs.declared.errors.yaml_error_t.TheVariants.{WriteError, Memory}
 use Rattle.yaml_pen.specs.Page.{encoded}
 use Rattle.yaml_pen.specs.Wrote.{Wrote}
-use Rattle.yaml_emitter.specs.State.{State, standing_of}
+use Rattle.yaml_emitter.specs.State.{MachineState, standing_of}
 use Rattle.yaml_emitter.specs.WrittenPieces.{piece_at}
 
 -- the first event ends a sequence
@@ -29,26 +29,26 @@ closes_at_once (mapping_start start) rest = ends_mapping rest
 closes_at_once event rest = false
 
 -- an event's piece and what comes next; empty: the collection that it starts ends at once
-abbrev pub event_stepped : State → Event → (empty : Bool) → Stepped
+abbrev pub event_stepped : MachineState → Event → (empty : Bool) → Stepped
 event_stepped before event empty = step before.settings before.stage event empty (standing_of before)
 
 -- the same piece by the cursor before it
-abbrev pub event_laid : State → Event → (empty : Bool) → Cursor → Laid
+abbrev pub event_laid : MachineState → Event → (empty : Bool) → Cursor → Laid
 event_laid before event empty =
     piece_at (λ standing. (step before.settings before.stage event empty standing).laid) before.mark
 
 -- the refusal of an event where it stands
-abbrev pub refusal_now : State → Event → Option yaml_error_t
+abbrev pub refusal_now : MachineState → Event → Option yaml_error_t
 refusal_now state event = stage_refusal state.given.canonical state.stage event
 
 -- an event changes what is written and what comes next, and nothing that the caller set
-abbrev pub Keeps : State → State → Type 0
+abbrev pub Keeps : MachineState → MachineState → Type 0
 Keeps before after =
     after
     ≡ record before { settings = after.settings; stage = after.stage; mark = after.mark; page = after.page }
 
 -- the stream's start settles what it is written by; any other event writes its piece
-abbrev pub WritesPage : Event → (empty : Bool) → State → State → Type 0
+abbrev pub WritesPage : Event → (empty : Bool) → MachineState → MachineState → Type 0
 WritesPage (stream_start encoding) empty before after =
     let settings = effective before.given encoding in
     (after.settings ≡ settings)
@@ -57,7 +57,7 @@ WritesPage event empty before after =
     (after.settings ≡ before.settings) × Wrote (event_laid before event empty) before.page after.page (Ok tt)
 
 -- an event that is written
-pub record WritesEvent (event : Event) (empty : Bool) (before after : State) : Type 0 where
+pub record WritesEvent (event : Event) (empty : Bool) (before after : MachineState) : Type 0 where
   pub kept : Keeps before after
   pub accepted : refusal_now before event ≡ None
   pub stage : after.stage ≡ (event_stepped before event empty).stage
@@ -66,7 +66,7 @@ pub record WritesEvent (event : Event) (empty : Bool) (before after : State) : T
   pub handed_out : hands_out event ≡ true → after.page.output ≡ encoded after.page
 
 -- a prefix of an event's piece is written, all of it where memory is refused after it
-pub record WrotePart (error : yaml_error_t) (event : Event) (empty : Bool) (before after : State) : Type 0 where
+pub record WrotePart (error : yaml_error_t) (event : Event) (empty : Bool) (before after : MachineState) : Type 0 where
   pub accepted : refusal_now before event ≡ None
   pub passed : after.page.error ≡ Some WriteError → error ≡ WriteError
   pub failed : error ≡ WriteError → after.page.error ≡ Some WriteError
@@ -74,23 +74,23 @@ pub record WrotePart (error : yaml_error_t) (event : Event) (empty : Bool) (befo
   pub wrote : Wrote (event_laid before event empty) before.page after.page answer
 
 -- what is written of an event that is cut short: nothing, where memory is refused before; or a prefix of its piece
-pub data CutPage (error : yaml_error_t) (event : Event) (empty : Bool) (before after : State) : Type 0 where
+pub data CutPage (error : yaml_error_t) (event : Event) (empty : Bool) (before after : MachineState) : Type 0 where
   unwritten : error ≡ Memory → after.page ≡ before.page → CutPage error event empty before after
   partly_written : WrotePart error event empty before after → CutPage error event empty before after
 
 -- an event in whose work the output passes its limit, or memory is refused
-pub record CutShort (error : yaml_error_t) (event : Event) (empty : Bool) (before after : State) : Type 0 where
+pub record CutShort (error : yaml_error_t) (event : Event) (empty : Bool) (before after : MachineState) : Type 0 where
   pub kept : Keeps before after
   pub settings : after.settings ≡ before.settings
   pub page : CutPage error event empty before after
 
 -- an event that is refused changes nothing
-pub record Refused (error : yaml_error_t) (event : Event) (before after : State) : Type 0 where
+pub record Refused (error : yaml_error_t) (event : Event) (before after : MachineState) : Type 0 where
   pub kept : after ≡ before
   pub refusal : refusal_now before event ≡ Some error
 
 -- an event was written, cut short, or refused
-abbrev pub Processed : Event → (empty : Bool) → State → State → Result (Unit {0}) yaml_error_t → Type 0
+abbrev pub Processed : Event → (empty : Bool) → MachineState → MachineState → Result (Unit {0}) yaml_error_t → Type 0
 Processed event empty before after (Ok _) = WritesEvent event empty before after
 Processed event empty before after (Err WriteError) = CutShort WriteError event empty before after
 Processed event empty before after (Err Memory) = CutShort Memory event empty before after

@@ -14,7 +14,7 @@ use Rattle.yaml_base.specs.Meaning.{has_scalar_texts}
 use Rattle.yaml_base.specs.declared.errors.yaml_error_t.{yaml_error_t}
 use Rattle.yaml_base.specs.declared.errors.yaml_error_t.TheVariants.{WriteError, Memory}
 use Rattle.yaml_pen.specs.Page.{Page, new_page, encoded, IsHandedOut}
-use Rattle.yaml_emitter.specs.State.{State, standing_of}
+use Rattle.yaml_emitter.specs.State.{MachineState, State, machine_of, standing_of}
 use Rattle.yaml_emitter.specs.Processing.{Processed, closes_at_once}
 use Rattle.yaml_emitter.specs.Queue.{is_head_ready}
 
@@ -37,24 +37,24 @@ abbrev pub HoldsPieces : Effective → List Event → List Piece → Page → Ty
 HoldsPieces s events pieces page = HoldsPiecesWith None s events pieces page
 
 -- from the first event on the settings are those of the stream
-abbrev pub IsSettled : Effective → List Event → State → Type 0
-IsSettled s [] state = Unit {0}
-IsSettled s (event ∷ events) state = state.settings ≡ s
+abbrev pub IsSettled : Effective → List Event → MachineState → Type 0
+IsSettled s [] machine = Unit {0}
+IsSettled s (event ∷ events) machine = machine.settings ≡ s
 
--- the state after some steps over a front of the events
-pub record HasTaken (given : Settings) (all front : List Event) (taken : Steps) (state : State) : Type 0 where
-  pub given_kept : state.given ≡ given
-  pub settled : IsSettled (settings_for given all) front state
+-- the machine after some steps over a front of the events
+pub record HasTaken (given : Settings) (all front : List Event) (taken : Steps) (machine : MachineState) : Type 0 where
+  pub given_kept : machine.given ≡ given
+  pub settled : IsSettled (settings_for given all) front machine
   pub stands : BeginsAccepted given.canonical front
-  pub stage : state.stage ≡ taken.stage
-  pub standing : standing_of state ≡ taken.standing
-  pub page : HoldsPieces (settings_for given all) front taken.pieces state.page
-  pub handed_out : hands_out_last front ≡ true → state.page.output ≡ encoded state.page
+  pub stage : machine.stage ≡ taken.stage
+  pub standing : standing_of machine ≡ taken.standing
+  pub page : HoldsPieces (settings_for given all) front taken.pieces machine.page
+  pub handed_out : hands_out_last front ≡ true → machine.page.output ≡ encoded machine.page
 
 -- without an error: the ready events are written, the others held
-pub record StandsWell (given : Settings) (all : List Event) (state : State) : Type 0 where
-  pub taken : HasTaken given all (take (written all) all) (progress (settings_for given all) all) state
-  pub held : state.held ≡ held_back all
+pub record StandsWell (given : Settings) (all waiting : List Event) (machine : MachineState) : Type 0 where
+  pub taken : HasTaken given all (take (written all) all) (progress (settings_for given all) all) machine
+  pub held : waiting ≡ held_back all
 
 -- all events up to one that became ready, and those given after it
 pub record FailedAt (all front : List Event) (event : Event) (later : List Event) : Type 0 where
@@ -68,12 +68,12 @@ closes_last (event ∷ []) rest = closes_at_once event rest
 closes_last (event ∷ next ∷ more) rest = closes_last (next ∷ more) rest
 
 -- an event was refused: it added no text
-pub record StandsRefused (given : Settings) (all : List Event) (error : yaml_error_t) (state : State) : Type 0 where
+pub record StandsRefused (given : Settings) (all : List Event) (error : yaml_error_t) (machine : MachineState) : Type 0 where
   pub front : List Event
   pub event : Event
   pub later : List Event
   pub failed : FailedAt all front event later
-  pub taken : HasTaken given all front (steps (settings_for given all) false front at_stream first_standing) state
+  pub taken : HasTaken given all front (steps (settings_for given all) false front at_stream first_standing) machine
   pub refusal : refusal given.canonical front event ≡ Some error
 
 -- what a page holds of an event that was cut short, with the steps of the events before it, and with it: the text of
@@ -89,51 +89,51 @@ pub data HoldsCut (given : Settings) (s : Effective) (front : List Event) (event
       → HoldsCut given s front event before with_event error page
 
 -- the output's limit was passed, or memory refused, at an event
-pub record StandsCut (given : Settings) (all : List Event) (error : yaml_error_t) (state : State) : Type 0 where
+pub record StandsCut (given : Settings) (all : List Event) (error : yaml_error_t) (machine : MachineState) : Type 0 where
   pub front : List Event
   pub event : Event
   pub later : List Event
   pub failed : FailedAt all front event later
-  pub given_kept : state.given ≡ given
+  pub given_kept : machine.given ≡ given
   pub stands : BeginsAccepted given.canonical front
   pub page :
       let s = settings_for given all in
       let before = steps s (closes_last front (event ∷ later)) front at_stream first_standing in
       let with_event = steps s (closes_at_once event later) (front ++ event ∷ []) at_stream first_standing in
-      HoldsCut given s front event before with_event error state.page
+      HoldsCut given s front event before with_event error machine.page
 
 -- the output's limit was passed, or memory refused, by a flush between events: all that were ready were written, more may
 -- have been given since
-pub record StandsUnflushed (given : Settings) (all : List Event) (error : yaml_error_t) (state : State) : Type 0 where
+pub record StandsUnflushed (given : Settings) (all : List Event) (error : yaml_error_t) (machine : MachineState) : Type 0 where
   pub before : List Event
   pub later : List Event
   pub parts : before ++ later ≡ all
-  pub given_kept : state.given ≡ given
+  pub given_kept : machine.given ≡ given
   pub stands : BeginsAccepted given.canonical (take (written before) before)
   pub page :
       HoldsPiecesWith (Some error) (settings_for given all) (take (written before) before)
-      (progress (settings_for given all) before).pieces state.page
-  pub handed : IsHandedOut (encoded state.page) state.page.output state.page.limit state.page.error
+      (progress (settings_for given all) before).pieces machine.page
+  pub handed : IsHandedOut (encoded machine.page) machine.page.output machine.page.limit machine.page.error
 
 -- the output's limit was passed, or memory refused, at an event or between two
-pub data StandsStopped (given : Settings) (all : List Event) (error : yaml_error_t) (state : State) : Type 0 where
-  at_event : StandsCut given all error state → StandsStopped given all error state
-  between_events : StandsUnflushed given all error state → StandsStopped given all error state
+pub data StandsStopped (given : Settings) (all : List Event) (error : yaml_error_t) (machine : MachineState) : Type 0 where
+  at_event : StandsCut given all error machine → StandsStopped given all error machine
+  between_events : StandsUnflushed given all error machine → StandsStopped given all error machine
 
 -- memory and the limit stop an emitter; any other error is a refusal
-abbrev pub StandsFailed : Settings → List Event → yaml_error_t → State → Type 0
-StandsFailed given all WriteError state = StandsStopped given all WriteError state
-StandsFailed given all Memory state = StandsStopped given all Memory state
-StandsFailed given all error state = StandsRefused given all error state
+abbrev pub StandsFailed : Settings → List Event → yaml_error_t → MachineState → Type 0
+StandsFailed given all WriteError machine = StandsStopped given all WriteError machine
+StandsFailed given all Memory machine = StandsStopped given all Memory machine
+StandsFailed given all error machine = StandsRefused given all error machine
 
--- an emitter without an error stands well; after an error nothing is held
-abbrev pub StandsBy : Settings → List Event → Option yaml_error_t → State → Type 0
-StandsBy given all None state = StandsWell given all state
-StandsBy given all (Some error) state = (state.held ≡ []) × StandsFailed given all error state
+-- a machine without an error stands well; after an error nothing is held
+abbrev pub StandsBy : Settings → List Event → Option yaml_error_t → (held : List Event) → MachineState → Type 0
+StandsBy given all None held machine = StandsWell given all held machine
+StandsBy given all (Some error) held machine = (held ≡ []) × StandsFailed given all error machine
 
 -- by its error, or without one
 abbrev pub StandsSo : Settings → List Event → State → Type 0
-StandsSo given all state = StandsBy given all state.error state
+StandsSo given all state = StandsBy given all state.error state.held (machine_of state)
 
 -- the emitter stands after these events, whose texts are those of strings, under these settings
 pub record StandsAfter (given : Settings) (all : List Event) (state : State) : Type 0 where
@@ -141,36 +141,35 @@ pub record StandsAfter (given : Settings) (all : List Event) (state : State) : T
   pub so : StandsSo given all state
 
 -- on the way: a front of the events is written, the others wait
-pub record Reached (given : Settings) (all front rest : List Event) (state : State) : Type 0 where
+pub record Reached (given : Settings) (all front rest : List Event) (machine : MachineState) : Type 0 where
   pub parts : front ++ rest ≡ all
-  pub held : state.held ≡ rest
-  pub no_error : state.error ≡ None
   pub ready : written all ≡ length front + written rest
-  pub taken : HasTaken given all front (steps (settings_for given all) (closes_last front rest) front at_stream first_standing) state
+  pub taken : HasTaken given all front (steps (settings_for given all) (closes_last front rest) front at_stream first_standing) machine
 
--- after an error the events that waited are dropped
-abbrev pub failed_by : yaml_error_t → State → State
-failed_by error state = record state { held = []; error = Some error }
+-- the first error is kept
+abbrev pub failed_by : yaml_error_t → MachineState → MachineState
+failed_by error machine = record machine { error = Some error }
 
--- wherever the emitter had come, it has come on from there
-abbrev pub ReachedOn : State → State → Type 0
-ReachedOn before after =
-    (given : Settings) (all front : List Event) → Reached given all front before.held before
-    → (next : List Event) × Reached given all next after.held after
+-- wherever the machine had come, it has come on from there
+abbrev pub ReachedOn : (waiting : List Event) → MachineState → (left : List Event) → MachineState → Type 0
+ReachedOn waiting before left after =
+    (given : Settings) (all front : List Event) → Reached given all front waiting before
+    → (next : List Event) × Reached given all next left after
 
--- an emitter whose queue was taken out, as it is with the queue put back, of which these events are left
-abbrev pub with_waiting : List Event → State → State
-with_waiting held state = record state { held = held; error = None }
-
--- the first events of a queue that was taken out are written, so many, and the next isn't ready
-pub record WroteFront (waiting : List Event) (count : ℕ) (before after : State) : Type 0 where
+-- the first events that waited are written, so many, and the next isn't ready
+pub record WroteFront (waiting : List Event) (count : ℕ) (before after : MachineState) : Type 0 where
   pub within : count ≤ length waiting
-  pub reached : ReachedOn (with_waiting waiting before) (with_waiting (drop count waiting) after)
+  pub reached : ReachedOn waiting before (drop count waiting) after
   pub ended : is_head_ready (drop count waiting) ≡ false
 
--- the first event that waited was taken and processed
-pub record TookFirst (before after : State) (answer : Result (Unit {0}) yaml_error_t) : Type 0 where
+-- one of them failed, wherever the machine had come
+abbrev pub FailedFront : (waiting : List Event) → (error : yaml_error_t) → (before after : MachineState) → Type 0
+FailedFront waiting error before after =
+    (given : Settings) (all front : List Event) → Reached given all front waiting before → StandsFailed given all error (failed_by error after)
+
+-- the first event that waits was processed
+pub record TookFirst (waiting : List Event) (before after : MachineState) (answer : Result (Unit {0}) yaml_error_t) : Type 0 where
   pub event : Event
   pub rest : List Event
-  pub held : before.held ≡ event ∷ rest
-  pub done : Processed event (closes_at_once event rest) (record before { held = rest }) after answer
+  pub waits : waiting ≡ event ∷ rest
+  pub done : Processed event (closes_at_once event rest) before after answer

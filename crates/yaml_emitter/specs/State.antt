@@ -24,6 +24,40 @@ pub record State : Type 0 where
   pub page : Page
   pub error : Option yaml_error_t
 
+-- what contracts see of the machine that writes an emitter's events: what was set, and what it came to at the stream's start;
+-- what may come next; the open mark; the text so far, its cursor and the bytes handed out; the first error
+pub record MachineState : Type 0 where
+  pub given : Settings
+  pub settings : Effective
+  pub stage : Stage
+  pub mark : ℕ
+  pub page : Page
+  pub error : Option yaml_error_t
+
+-- the machine of an emitter
+abbrev pub machine_of : State → MachineState
+machine_of state =
+    record {
+      given = state.given;
+      settings = state.settings;
+      stage = state.stage;
+      mark = state.mark;
+      page = state.page;
+      error = state.error;
+    }
+
+-- a new machine
+abbrev pub new_machine : MachineState
+new_machine =
+    record {
+      given = nothing_given;
+      settings = effective nothing_given None;
+      stage = at_stream;
+      mark = 0;
+      page = new_page largest_usize;
+      error = None;
+    }
+
 -- a new emitter
 abbrev pub new_state : State
 new_state =
@@ -42,8 +76,8 @@ new_state =
     }
 
 -- where writing stands
-abbrev pub standing_of : State → Standing
-standing_of state = record { cursor = state.page.cursor; mark = state.mark }
+abbrev pub standing_of : MachineState → Standing
+standing_of machine = record { cursor = machine.page.cursor; mark = machine.mark }
 
 -- nothing is written before the stream's start; a page is begun with it
 abbrev pub FitsPage : Stage → Page → Type 0
@@ -62,6 +96,11 @@ is_at_stream _ = false
 -- the encoding is known once it was set, or the stream has begun
 abbrev pub knows_encoding : State → Bool
 knows_encoding state = is_some state.given.encoding || not (is_at_stream state.stage)
+
+-- the settings stay, and how much of the output was taken
+pub record KeepsGiven (before after : MachineState) : Type 0 where
+  pub given : after.given ≡ before.given
+  pub taken : after.page.taken ≡ before.page.taken
 
 -- what the caller set stays: the settings, the output, how much of it was taken, and whether the stream was begun, opened
 -- and closed

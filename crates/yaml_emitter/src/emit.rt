@@ -1,24 +1,22 @@
 //! Events that wait are written where they are ready.
 
-ghost use Rattle.std.specs.Prelude.{◌≡◌, ◌≤◌, true, false, None, List, [], ◌∷◌, ◌++◌, length, drop, vec_capacity, OnOk, IfOk, IfErr, IsOk, IsSome, Err};
+ghost use Rattle.std.specs.Prelude.{◌≡◌, None, List, [], ◌∷◌, ◌++◌, OnOk, IfOk, IfErr, IsOk, IsSome, Err, false, true};
 ghost use Rattle.yaml_base.specs.Event.{Event};
 ghost use Rattle.yaml_base.specs.Seen.{seen_event, seen_events};
 ghost use Rattle.yaml_base.specs.Ready.{written};
 ghost use Rattle.yaml_base.specs.Settings.{Settings};
-ghost use Rattle.yaml_pen.specs.Page.{told, encoded, output_left};
+ghost use Rattle.yaml_pen.specs.Page.{told, output_left};
 ghost use Rattle.yaml_pen.specs.Wrote.{Grows};
 ghost use Rattle.yaml_emitter.specs.Promises.{HasAllBytes, Promised};
 ghost use Rattle.yaml_emitter.specs.Queue.{is_head_ready};
-ghost use Rattle.yaml_emitter.specs.State.{KeepsSet, with_all_taken};
-ghost use Rattle.yaml_emitter.specs.StandsAfter.{Reached, StandsAfter, StandsSo, TookFirst, WroteFront, failed_by, with_waiting};
+ghost use Rattle.yaml_emitter.specs.State.{KeepsGiven, KeepsSet, with_all_taken};
+ghost use Rattle.yaml_emitter.specs.StandsAfter.{FailedFront, Reached, StandsAfter, StandsBy, TookFirst, WroteFront};
 
 use crate::emitter::yaml_emitter_t;
+use crate::machine::Machine;
 use crate::process::NOT_EMPTY;
-use crate::queue::{
-    closes_at_once, drop_apart, drop_front, first_and_rest, is_next_ready, is_ready_alone,
-};
+use crate::queue::{closes_at_once, drop_front, first_and_rest, is_next_ready, is_ready_alone};
 use std::alloc::Allocator;
-use std::mem;
 use yaml_base::{yaml_error_t, yaml_event_t};
 
 /// Takes an event, and writes what can be written now: an event that starts a document or a collection waits
@@ -43,14 +41,24 @@ pub fn yaml_emitter_emit<A: Allocator + Copy>(
     ensures output { emitter.new.has_output ≡ true }
 {
     emitter.started = true;
-    if let Some(error) = emitter.error {
+    if let Some(error) = emitter.machine.error() {
         return Err(error);
     }
-    if is_ready_alone(emitter.queue.as_slice(), &event) {
-        return emitter.write_at_once(&event);
+    if is_ready_alone(&emitter.queue, &event) {
+        return emitter.machine.write_alone(&event);
     }
-    emitter.enqueue(event)?;
-    emitter.write_ready()
+    emitter.queue.push_reserved(event);
+    match write_front(&mut emitter.machine, emitter.queue.as_slice()) {
+        Ok(count) => {
+            drop_front(&mut emitter.queue, count);
+            Ok(())
+        }
+        Err(error) => {
+            emitter.queue.clear();
+            emitter.machine.fail(error);
+            Err(error)
+        }
+    }
 }
 
 /// Hands out all that is written; what waits goes on waiting.
@@ -74,10 +82,16 @@ pub fn yaml_emitter_flush<A: Allocator + Copy>(
     ensures answered { result ≡ told emitter.new.error }
     ensures output { emitter.new.has_output ≡ true }
 {
-    if let Some(error) = emitter.error {
+    if let Some(error) = emitter.machine.error() {
         return Err(error);
     }
-    emitter.flush_pen()
+    match emitter.machine.flush() {
+        Ok(()) => Ok(()),
+        Err(error) => {
+            emitter.queue.clear();
+            Err(error)
+        }
+    }
 }
 
 /// Gives the bytes that were handed out and not taken before, so that a stream of any length can be sent onwards
@@ -92,24 +106,21 @@ pub fn yaml_emitter_take_output<A: Allocator + Copy>(emitter: &mut yaml_emitter_
     ensures stands { (given : Settings) (all : List Event) → StandsAfter given all emitter.old → StandsAfter given all emitter.new }
     ensures promised { (given : Settings) (all : List Event) → StandsAfter given all emitter.old → Promised given all emitter.new }
 {
-    emitter.pen.take_output()
+    emitter.machine.take_output()
 }
 
-impl<A: Allocator + Copy> yaml_emitter_t<A> {
-    /// Writes an event that needn't wait, where none waits. After an error nothing waits.
+impl<A: Allocator + Copy> Machine<A> {
+    /// Writes an event that needn't wait, where none waits.
     #[inline(always)]
-    fn write_at_once(&mut self, event: &yaml_event_t<A>) -> Result<(), yaml_error_t>
-        requires output { self.old.has_output ≡ true }
+    fn write_alone(&mut self, event: &yaml_event_t<A>) -> Result<(), yaml_error_t>
         requires no_error { self.old.error ≡ None }
-        requires alone { self.old.held ≡ [] }
         requires ready { is_head_ready (seen_event event.now ∷ []) ≡ true }
         ensures stands { (given : Settings) (all front : List Event)
-            → Reached given all front (seen_event event.now ∷ []) (record self.old { held = seen_event event.now ∷ [] })
-            → StandsSo given all self.new }
+            → Reached given all front (seen_event event.now ∷ []) self.old
+            → StandsBy given all self.new.error [] self.new }
         ensures grows { Grows self.old.page self.new.page }
-        ensures set { KeepsSet self.old self.new }
+        ensures set { KeepsGiven self.old self.new }
         ensures answered { result ≡ told self.new.error }
-        ensures output { self.new.has_output ≡ true }
     {
         match self.process(event, NOT_EMPTY) {
             Ok(()) => Ok(()),
@@ -119,156 +130,41 @@ impl<A: Allocator + Copy> yaml_emitter_t<A> {
             }
         }
     }
+}
 
-    /// Puts an event behind those that wait. Where at most three wait, it needs no memory.
-    fn enqueue(&mut self, event: yaml_event_t<A>) -> Result<(), yaml_error_t>
-        requires output { self.old.has_output ≡ true }
-        requires no_error { self.old.error ≡ None }
-        ensures taken { OnOk result (self.new ≡ record self.old { held = self.old.held ++ seen_event event ∷ [] }) }
-        ensures room { length self.old.held ≤ 3 → IsOk result }
-        ensures page { self.new.page ≡ self.old.page }
-        ensures set { KeepsSet self.old self.new }
-        ensures answered { result ≡ told self.new.error }
-        ensures output { self.new.has_output ≡ true }
-    {
-        if let Err(full) = self.queue.push(event) {
-            drop_apart(full.value);
-            self.fail(yaml_error_t::Memory);
-            return Err(yaml_error_t::Memory);
-        }
-        Ok(())
-    }
-
-    /// Hands out all that is written.
-    fn flush_pen(&mut self) -> Result<(), yaml_error_t>
-        requires output { self.old.has_output ≡ true }
-        requires no_error { self.old.error ≡ None }
-        ensures stands { (given : Settings) (all : List Event) → StandsSo given all self.old → StandsSo given all self.new }
-        ensures set { KeepsSet self.old self.new }
-        ensures answered { result ≡ told self.new.error }
-        ensures output { self.new.has_output ≡ true }
-        ensures handed_out { OnOk result (self.new.page.output ≡ encoded self.new.page) }
-        ensures grows { Grows self.old.page self.new.page }
-        ensures unflushed { result ≡ Err yaml_error_t.Memory → self.new.page.output ≡ self.old.page.output }
-        ensures empty { self.old.page.error ≡ None → self.old.page.output ≡ encoded self.old.page → self.new ≡ self.old }
-    {
-        match self.pen.flush() {
-            Ok(()) => Ok(()),
-            Err(error) => {
-                self.fail(error);
-                Err(error)
-            }
+/// Writes the events of a queue that are ready, in order up to the first error, and answers how many they are.
+fn write_front<A: Allocator + Copy>(
+    machine: &mut Machine<A>,
+    waiting: &[yaml_event_t<A>],
+) -> Result<usize, yaml_error_t>
+    requires { machine.old.error ≡ None }
+    ensures written { IfOk result (λ count. WroteFront (seen_events waiting.now) count machine.old machine.new) }
+    ensures failed { IfErr result (λ error. FailedFront (seen_events waiting.now) error machine.old machine.new) }
+    ensures waits { is_head_ready (seen_events waiting.now) ≡ false → IsOk result }
+    ensures error { machine.new.error ≡ None }
+    ensures grows { Grows machine.old.page machine.new.page }
+    ensures set { KeepsGiven machine.old machine.new }
+{
+    let mut count = 0usize;
+    'events: while is_next_ready(&waiting[count..]) {
+        match write_next(machine, &waiting[count..]) {
+            Ok(()) => count += 1,
+            Err(error) => return Err(error),
         }
     }
+    Ok(count)
+}
 
-    /// Writes the events that are ready, in order, up to the first error.
-    #[inline]
-    fn write_ready(&mut self) -> Result<(), yaml_error_t>
-        requires output { self.old.has_output ≡ true }
-        requires no_error { self.old.error ≡ None }
-        ensures stands { (given : Settings) (all front : List Event) → Reached given all front self.old.held self.old → StandsSo given all self.new }
-        ensures grows { Grows self.old.page self.new.page }
-        ensures waits { is_head_ready self.old.held ≡ false → IsOk result }
-        ensures set { KeepsSet self.old self.new }
-        ensures answered { result ≡ told self.new.error }
-        ensures output { self.new.has_output ≡ true }
-    {
-        if is_next_ready(self.queue.as_slice()) {
-            self.write_each_ready()
-        } else {
-            Ok(())
-        }
-    }
-
-    /// The same, where the first is ready. The queue is taken out meanwhile, so that no event is copied.
-    #[inline(never)]
-    fn write_each_ready(&mut self) -> Result<(), yaml_error_t>
-        requires output { self.old.has_output ≡ true }
-        requires no_error { self.old.error ≡ None }
-        ensures stands { (given : Settings) (all front : List Event) → Reached given all front self.old.held self.old → StandsSo given all self.new }
-        ensures grows { Grows self.old.page self.new.page }
-        ensures waits { is_head_ready self.old.held ≡ false → IsOk result }
-        ensures set { KeepsSet self.old self.new }
-        ensures answered { result ≡ told self.new.error }
-        ensures output { self.new.has_output ≡ true }
-    {
-        let mut queue = self.take_queue();
-        match self.write_front(queue.as_slice()) {
-            Ok(count) => {
-                drop_front(&mut queue, count);
-                self.put_back(queue);
-                Ok(())
-            }
-            Err(error) => {
-                self.fail(error);
-                Err(error)
-            }
-        }
-    }
-
-    /// Takes the queue out. Until it is put back no event finds room, so the emitter counts as failed by `Memory`.
-    fn take_queue(&mut self) -> Vec<yaml_event_t<A>, A>
-        requires { self.old.error ≡ None }
-        ensures queue { seen_events result.items ≡ self.old.held }
-        ensures room { 4 ≤ vec_capacity result }
-        ensures taken { self.new ≡ failed_by yaml_error_t.Memory self.old }
-    {
-        self.error = Some(yaml_error_t::Memory);
-        mem::replace(&mut self.queue, Vec::new(self.alloc))
-    }
-
-    /// Puts the queue back; what stood in its place is empty, so there is no event to drop.
-    fn put_back(&mut self, queue: Vec<yaml_event_t<A>, A>)
-        requires room { 4 ≤ vec_capacity queue }
-        requires empty { self.old.held ≡ [] }
-        ensures { self.new ≡ with_waiting (seen_events queue.items) self.old }
-    {
-        let empty = mem::replace(&mut self.queue, queue);
-        empty.destroy_empty();
-        self.error = None;
-    }
-
-    /// Writes the events of a queue that are ready, in order up to the first error, and answers how many they are.
-    fn write_front(&mut self, waiting: &[yaml_event_t<A>]) -> Result<usize, yaml_error_t>
-        requires output { self.old.has_output ≡ true }
-        ensures written { IfOk result (λ count. WroteFront (seen_events waiting.now) count self.old self.new) }
-        ensures failed { IfErr result (λ error. (given : Settings) (all front : List Event)
-            → Reached given all front (seen_events waiting.now) (with_waiting (seen_events waiting.now) self.old)
-            → StandsSo given all (failed_by error self.new)) }
-        ensures waits { is_head_ready (seen_events waiting.now) ≡ false → IsOk result }
-        ensures held { self.new.held ≡ self.old.held }
-        ensures grows { Grows self.old.page self.new.page }
-        ensures set { KeepsSet self.old self.new }
-    {
-        let mut count = 0usize;
-        'events: while is_next_ready(&waiting[count..]) {
-            match self.write_next(&waiting[count..]) {
-                Ok(()) => count += 1,
-                Err(error) => return Err(error),
-            }
-        }
-        Ok(count)
-    }
-
-    /// Writes the first of the events that wait.
-    #[inline(always)]
-    fn write_next(&mut self, waiting: &[yaml_event_t<A>]) -> Result<(), yaml_error_t>
-        requires output { self.old.has_output ≡ true }
-        requires ready { is_head_ready (seen_events waiting.now) ≡ true }
-        ensures held { self.new.held ≡ self.old.held }
-        ensures took { TookFirst (with_waiting (seen_events waiting.now) self.old) (with_waiting (drop 1 (seen_events waiting.now)) self.new) result }
-    {
-        let (event, rest) = first_and_rest(waiting);
-        let empty = closes_at_once(event, rest);
-        self.process(event, empty)
-    }
-
-    /// The first error is kept for good, and the events that wait are dropped.
-    #[inline(never)]
-    fn fail(&mut self, error: yaml_error_t)
-        ensures { self.new ≡ failed_by error self.old }
-    {
-        self.queue.clear();
-        self.error = Some(error);
-    }
+/// Writes the first of the events that wait.
+#[inline(always)]
+fn write_next<A: Allocator + Copy>(
+    machine: &mut Machine<A>,
+    waiting: &[yaml_event_t<A>],
+) -> Result<(), yaml_error_t>
+    requires { is_head_ready (seen_events waiting.now) ≡ true }
+    ensures { TookFirst (seen_events waiting.now) machine.old machine.new result }
+{
+    let (event, rest) = first_and_rest(waiting);
+    let empty = closes_at_once(event, rest);
+    machine.process(event, empty)
 }

@@ -8,6 +8,7 @@ mod emit;
 mod emitter;
 mod frames;
 mod laws;
+mod machine;
 mod nodes;
 mod place;
 mod process;

@@ -20,7 +20,7 @@ ghost use Rattle.yaml_emitter.specs.Reach.{most_column};
 ghost use Rattle.yaml_emitter.specs.UsualScalars.{StandsPlain};
 ghost use Rattle.yaml_emitter.specs.WrittenPieces.{piece_at};
 
-use crate::emitter::yaml_emitter_t;
+use crate::machine::Machine;
 use crate::place::CollectionKind::{Mapping, Sequence};
 use crate::place::{CollectionKind, Frame, Place, Role};
 use crate::writing::{
@@ -38,7 +38,7 @@ use yaml_base::{
 };
 use yaml_pen::Pen;
 
-impl<A: Allocator + Copy> yaml_emitter_t<A> {
+impl<A: Allocator + Copy> Machine<A> {
     /// Where a node may stand, or the end of the innermost open collection.
     #[inline(always)]
     pub(crate) fn expect_node(

@@ -17,7 +17,7 @@ ghost use Rattle.yaml_emitter.specs.WrittenPieces.{piece_at, seen_mark};
 use crate::check::check_names;
 use crate::directives::next_directives;
 use crate::effective::EffectiveSettings;
-use crate::emitter::yaml_emitter_t;
+use crate::machine::Machine;
 use crate::stage::Stage;
 use crate::writing::{
     OpenMark, StartContent, write_document_end, write_document_start, write_stream_end,
@@ -35,7 +35,7 @@ use yaml_pen::Pen;
 /// An event starts no collection that the next one ends.
 pub(crate) const NOT_EMPTY: bool = false;
 
-impl<A: Allocator + Copy> yaml_emitter_t<A> {
+impl<A: Allocator + Copy> Machine<A> {
     /// One event. The most frequent, a usual scalar in a collection, has a copy of the work, in which no test of its
     /// names and flags is left; and where it is called, so that no call is left either.
     #[inline(always)]
@@ -44,7 +44,6 @@ impl<A: Allocator + Copy> yaml_emitter_t<A> {
         event: &yaml_event_t<A>,
         empty: bool,
     ) -> Result<(), yaml_error_t>
-        requires output { self.old.has_output ≡ true }
         ensures { Processed (seen_event event.now) empty self.old self.new result }
     {
         let within = matches!(self.stage, Stage::Node) && self.frames.is_open();
@@ -57,7 +56,6 @@ impl<A: Allocator + Copy> yaml_emitter_t<A> {
 
     #[inline(never)]
     fn process_other(&mut self, event: &yaml_event_t<A>, empty: bool) -> Result<(), yaml_error_t>
-        requires output { self.old.has_output ≡ true }
         ensures { Processed (seen_event event.now) empty self.old self.new result }
     {
         self.process_at_stage(event, empty)
@@ -66,7 +64,6 @@ impl<A: Allocator + Copy> yaml_emitter_t<A> {
     /// Its names and tags are looked at before its place.
     #[inline(always)]
     fn process_at_stage(&mut self, event: &yaml_event_t<A>, empty: bool) -> Result<(), yaml_error_t>
-        requires output { self.old.has_output ≡ true }
         ensures { Processed (seen_event event.now) empty self.old self.new result }
     {
         check_names(self.given.canonical, event)?;
@@ -85,7 +82,6 @@ impl<A: Allocator + Copy> yaml_emitter_t<A> {
         &mut self,
         event: &yaml_event_t<A>,
     ) -> Result<(), yaml_error_t>
-        requires output { self.old.has_output ≡ true }
         requires stage { self.old.stage ≡ at_stream }
         requires names { name_or_tag_fault self.old.given.canonical (seen_event event.now) ≡ None }
         ensures { (empty : Bool) → Processed (seen_event event.now) empty self.old self.new result }
@@ -151,7 +147,6 @@ impl<A: Allocator + Copy> yaml_emitter_t<A> {
 
     /// The stream's start settles what it is written by.
     fn start_stream(&mut self, encoding: yaml_encoding_t) -> Result<(), yaml_error_t>
-        requires output { self.old.has_output ≡ true }
         requires stage { self.old.stage ≡ at_stream }
         ensures { (empty : Bool) → Processed (stream_start (seen_encoding encoding)) empty self.old self.new result }
     {

@@ -8,6 +8,7 @@ ghost use Rattle.yaml_emitter.specs.Processing as processing;
 ghost use Rattle.yaml_emitter.specs.Processing.{ends_mapping, ends_sequence};
 ghost use Rattle.yaml_emitter.specs.Queue.{is_head_ready};
 
+use crate::emitter::WaitingEvents;
 use std::alloc::Allocator;
 use yaml_base::yaml_event_t;
 use yaml_base::yaml_event_t::{
@@ -90,13 +91,13 @@ pub(crate) fn is_next_ready<A: Allocator>(events: &[yaml_event_t<A>]) -> bool
 
 /// Whether no event waits, and this one can be written whatever follows it.
 pub(crate) fn is_ready_alone<A: Allocator>(
-    waiting: &[yaml_event_t<A>],
+    queue: &WaitingEvents<A>,
     event: &yaml_event_t<A>,
 ) -> bool
-    ensures alone { result ≡ true → seen_events waiting.now ≡ [] }
+    ensures alone { result ≡ true → queue.now.items ≡ [] }
     ensures ready { result ≡ true → is_head_ready (seen_event event.now ∷ []) ≡ true }
 {
-    waiting.is_empty() && awaits_nothing(event)
+    queue.as_slice().is_empty() && awaits_nothing(event)
 }
 
 fn awaits_nothing<A: Allocator>(event: &yaml_event_t<A>) -> bool
@@ -142,14 +143,8 @@ pub(crate) fn first_and_rest<A: Allocator>(
     (&waiting[0], &waiting[1..])
 }
 
-/// Drops an event that found no room: by a call, so that one that finds room is copied whole.
-#[inline(never)]
-pub(crate) fn drop_apart<A: Allocator>(event: yaml_event_t<A>) {
-    let _ = event;
-}
-
 /// Drops the first events of a queue, so many; its room stays.
-pub(crate) fn drop_front<A: Allocator>(queue: &mut Vec<yaml_event_t<A>, A>, count: usize)
+pub(crate) fn drop_front<A: Allocator>(queue: &mut WaitingEvents<A>, count: usize)
     requires { count ≤ vec_len queue.old }
     ensures rest { seen_events queue.new.items ≡ drop count (seen_events queue.old.items) }
     ensures room { vec_capacity queue.new ≡ vec_capacity queue.old }
@@ -162,7 +157,7 @@ pub(crate) fn drop_front<A: Allocator>(queue: &mut Vec<yaml_event_t<A>, A>, coun
 }
 
 #[inline(never)]
-fn drop_one_by_one<A: Allocator>(queue: &mut Vec<yaml_event_t<A>, A>, count: usize)
+fn drop_one_by_one<A: Allocator>(queue: &mut WaitingEvents<A>, count: usize)
     requires { count ≤ vec_len queue.old }
     ensures rest { seen_events queue.new.items ≡ drop count (seen_events queue.old.items) }
     ensures room { vec_capacity queue.new ≡ vec_capacity queue.old }

@@ -10,9 +10,8 @@ ghost use Rattle.yaml_emitter.specs.StandsAfter.{StandsAfter};
 ghost use Rattle.yaml_emitter.specs.State.{knows_encoding};
 
 use crate::emitter::yaml_emitter_t;
-use crate::stage::Stage;
 use std::alloc::Allocator;
-use yaml_base::{YAML_ANY_ENCODING, yaml_break_t, yaml_encoding_t, yaml_error_t};
+use yaml_base::{yaml_break_t, yaml_encoding_t, yaml_error_t};
 
 /// Consumes the emitter and its output.
 pub fn yaml_emitter_delete<A: Allocator>(emitter: yaml_emitter_t<A>) {
@@ -30,8 +29,7 @@ pub fn yaml_emitter_set_output_string<A: Allocator>(emitter: &mut yaml_emitter_t
         } }
     ensures stands { StandsAfter emitter.old.given [] emitter.old → StandsAfter emitter.new.given [] emitter.new }
 {
-    emitter.pen.set_limit(size);
-    emitter.given.limit = size;
+    emitter.machine.set_limit(size);
     emitter.has_output = true;
 }
 
@@ -45,7 +43,7 @@ pub fn yaml_emitter_set_encoding<A: Allocator>(
     ensures set { emitter.new ≡ record emitter.old { given = record emitter.old.given { encoding = seen_encoding encoding } } }
     ensures stands { StandsAfter emitter.old.given [] emitter.old → StandsAfter emitter.new.given [] emitter.new }
 {
-    emitter.given.encoding = encoding;
+    emitter.machine.set_encoding(encoding);
 }
 
 /// Sets whether the output is canonical: in flow, double-quoted, every tag written.
@@ -58,8 +56,7 @@ pub fn yaml_emitter_set_canonical<A: Allocator>(emitter: &mut yaml_emitter_t<A>,
         } }
     ensures stands { StandsAfter emitter.old.given [] emitter.old → StandsAfter emitter.new.given [] emitter.new }
 {
-    emitter.given.canonical = canonical;
-    emitter.settings.canonical = canonical;
+    emitter.machine.set_canonical(canonical);
 }
 
 /// Sets the indent in columns; 2 to 9 is kept, any other becomes 2.
@@ -68,7 +65,7 @@ pub fn yaml_emitter_set_indent<A: Allocator>(emitter: &mut yaml_emitter_t<A>, in
     ensures set { emitter.new ≡ record emitter.old { given = record emitter.old.given { indent = Some indent } } }
     ensures stands { StandsAfter emitter.old.given [] emitter.old → StandsAfter emitter.new.given [] emitter.new }
 {
-    emitter.given.indent = Some(indent);
+    emitter.machine.set_indent(indent);
 }
 
 /// Sets the column, in characters, past which lines are folded; a negative one is no limit.
@@ -77,7 +74,7 @@ pub fn yaml_emitter_set_width<A: Allocator>(emitter: &mut yaml_emitter_t<A>, wid
     ensures set { emitter.new ≡ record emitter.old { given = record emitter.old.given { width = Some width } } }
     ensures stands { StandsAfter emitter.old.given [] emitter.old → StandsAfter emitter.new.given [] emitter.new }
 {
-    emitter.given.width = Some(width);
+    emitter.machine.set_width(width);
 }
 
 /// Sets whether printable characters past ASCII stand as themselves.
@@ -86,7 +83,7 @@ pub fn yaml_emitter_set_unicode<A: Allocator>(emitter: &mut yaml_emitter_t<A>, u
     ensures set { emitter.new ≡ record emitter.old { given = record emitter.old.given { unicode = unicode } } }
     ensures stands { StandsAfter emitter.old.given [] emitter.old → StandsAfter emitter.new.given [] emitter.new }
 {
-    emitter.given.unicode = unicode;
+    emitter.machine.set_unicode(unicode);
 }
 
 /// Sets the line break; ANY is LF.
@@ -98,7 +95,7 @@ pub fn yaml_emitter_set_break<A: Allocator>(
     ensures set { emitter.new ≡ record emitter.old { given = record emitter.old.given { line_break = seen_break line_break } } }
     ensures stands { StandsAfter emitter.old.given [] emitter.old → StandsAfter emitter.new.given [] emitter.new }
 {
-    emitter.given.line_break = line_break;
+    emitter.machine.set_break(line_break);
 }
 
 /// Sets whether the breaks U+2028 and U+2029, which YAML 1.2 takes for ordinary characters, are escaped, so that
@@ -111,7 +108,7 @@ pub fn yaml_emitter_set_line_breaks_1_2<A: Allocator>(
     ensures set { emitter.new ≡ record emitter.old { given = record emitter.old.given { breaks12 = breaks12 } } }
     ensures stands { StandsAfter emitter.old.given [] emitter.old → StandsAfter emitter.new.given [] emitter.new }
 {
-    emitter.given.breaks12 = breaks12;
+    emitter.machine.set_line_breaks_1_2(breaks12);
 }
 
 /// Sets whether what readers of YAML read differently, or not at all, is written in the way that all read alike: every
@@ -121,7 +118,7 @@ pub fn yaml_emitter_set_portable<A: Allocator>(emitter: &mut yaml_emitter_t<A>, 
     ensures set { emitter.new ≡ record emitter.old { given = record emitter.old.given { portable = portable } } }
     ensures stands { StandsAfter emitter.old.given [] emitter.old → StandsAfter emitter.new.given [] emitter.new }
 {
-    emitter.given.portable = portable;
+    emitter.machine.set_portable(portable);
 }
 
 impl<A: Allocator> yaml_emitter_t<A> {
@@ -143,10 +140,7 @@ impl<A: Allocator> yaml_emitter_t<A> {
     pub fn encoding_known(&self) -> bool
         ensures { result ≡ knows_encoding self.now }
     {
-        match self.stage {
-            Stage::Stream => self.given.encoding != YAML_ANY_ENCODING,
-            _ => true,
-        }
+        self.machine.knows_encoding()
     }
 
     /// Whether the stream was opened as a whole, for documents to be dumped into it; an output is then set.
@@ -189,14 +183,14 @@ impl<A: Allocator> yaml_emitter_t<A> {
         ensures untaken { self.now.page.taken ≡ 0 → result.now ≡ self.now.page.output }
         ensures unset { self.now.has_output ≡ false → result.now ≡ [] }
     {
-        self.pen.output()
+        self.machine.output()
     }
 
     /// The first error.
     pub fn error(&self) -> Option<yaml_error_t>
         ensures { result ≡ self.now.error }
     {
-        self.error
+        self.machine.error()
     }
 
     /// The number of events that wait.

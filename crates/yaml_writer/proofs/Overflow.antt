@@ -31,7 +31,7 @@ use Rattle.yaml_emitter.specs.Processing.{closes_at_once}
 use Rattle.yaml_emitter.specs.Promises.{BeginsOutput, OutputBegins, StopsWriting, stops_before, stops_within}
 use Rattle.yaml_emitter.specs.StandsAfter.{HoldsPiecesWith, StandsCut, StandsSo, StandsStopped, StandsUnflushed, holds_before, holds_part, at_event}
 use Rattle.yaml_emitter.specs.StandsAfter.{between_events}
-use Rattle.yaml_emitter.specs.State.{State}
+use Rattle.yaml_emitter.specs.State.{State, machine_of}
 use Rattle.yaml_emitter.specs.Uncut.{IsUncut}
 use Rattle.yaml_writer.specs.Unfinished.{PassesLimit}
 
@@ -46,12 +46,12 @@ held_encoding [] s pieces error page h some =
     let none : length (encoded page) ≡ 0 = ap (λ (p : Page). length (encoded p)) h in absurd (omega (arith, some, none))
 held_encoding (x ∷ front) s pieces error page h some = h.0.encoding
 
-cut_encoding : (given : Settings) (all : List Event) (state : State) → StandsCut given all WriteError state
+cut_encoding : (given : Settings) (all : List Event) (state : State) → StandsCut given all WriteError (machine_of state)
     → state.page.encoding ≡ Some (settings_for given all).encoding
 cut_encoding given all state h =
     elim h.page [ holds_before memory page ↦ absurd (not_memory memory) | holds_part begun page told least most ↦ page.encoding ]
 
-stopped_encoding : (given : Settings) (all : List Event) (state : State) → StandsStopped given all WriteError state → 0 < length (encoded state.page)
+stopped_encoding : (given : Settings) (all : List Event) (state : State) → StandsStopped given all WriteError (machine_of state) → 0 < length (encoded state.page)
     → state.page.encoding ≡ Some (settings_for given all).encoding
 stopped_encoding given all state (at_event cut) some = cut_encoding given all state cut
 stopped_encoding given all state (between_events other) some =
@@ -94,7 +94,7 @@ pieces_begin canonical s front later event accepted =
     pushes : partial_of (longer ++ later) ≡ Some (after_stream accepted.stream)
     pushes = ap partial_of (sym accepted.is_stream) ∙ stream_pushed accepted.stream
 
-cut_text : (given : Settings) (all : List Event) (state : State) → StandsCut given all WriteError state → IsAccepted given.canonical all
+cut_text : (given : Settings) (all : List Event) (state : State) → StandsCut given all WriteError (machine_of state) → IsAccepted given.canonical all
     → IsPrefix state.page.text (text_written (settings_for given all) (list_layout (settings_for given all) all))
 cut_text given all state h accepted =
     let s = settings_for given all in
@@ -108,7 +108,7 @@ cut_text given all state h accepted =
           (pieces_begin given.canonical s h.front h.later h.event (subst (IsAccepted given.canonical) (sym parts) accepted)))
     ]
 
-unflushed_text : (given : Settings) (all : List Event) (state : State) → StandsUnflushed given all WriteError state → IsAccepted given.canonical all
+unflushed_text : (given : Settings) (all : List Event) (state : State) → StandsUnflushed given all WriteError (machine_of state) → IsAccepted given.canonical all
     → IsPrefix state.page.text (text_written (settings_for given all) (list_layout (settings_for given all) all))
 unflushed_text given all state h accepted =
     let s = settings_for given all in
@@ -127,7 +127,7 @@ unflushed_text given all state h accepted =
     front_longer s state.page.text made (list_layout s all)
     (prefix_same state.page.text (text_written s made) (holds_text front s false (Some WriteError) state.page h.page)) begins
 
-stopped_text : (given : Settings) (all : List Event) (state : State) → StandsStopped given all WriteError state → IsAccepted given.canonical all
+stopped_text : (given : Settings) (all : List Event) (state : State) → StandsStopped given all WriteError (machine_of state) → IsAccepted given.canonical all
     → IsPrefix state.page.text (text_written (settings_for given all) (list_layout (settings_for given all) all))
 stopped_text given all state (at_event cut) accepted = cut_text given all state cut accepted
 stopped_text given all state (between_events other) accepted = unflushed_text given all state other accepted
@@ -176,7 +176,7 @@ overflowed given all state stands is =
     omega (arith, passes, uncut, more))
     (subst (λ (error : Option yaml_error_t). OutputBegins given all error state) is (promises_output given all state stands))
   where
-    stopped : StandsStopped given all WriteError state
+    stopped : StandsStopped given all WriteError (machine_of state)
     stopped = stands_failed given all state WriteError stands is
 
     passes : given.limit < length (encoded state.page)

@@ -12,7 +12,7 @@ use Rattle.yaml_base.specs.Steps.{Frame, Stage, at_node, next_place, stage_after
 use Rattle.yaml_base.specs.declared.errors.yaml_error_t.{yaml_error_t}
 use Rattle.yaml_pen.specs.Page.{Page}
 use Rattle.yaml_pen.specs.Wrote.{Wrote}
-use Rattle.yaml_emitter.specs.State.{State}
+use Rattle.yaml_emitter.specs.State.{MachineState}
 use Rattle.yaml_emitter.specs.NodeEvents.{start_event, end_event, brackets_of, first_entry, is_undented}
 use Rattle.yaml_emitter.specs.WrittenPieces.{piece_at}
 use Rattle.yaml_emitter.specs.Processing.{Processed}
@@ -50,7 +50,7 @@ start_refusal canonical directives frames false start room none is =
     ap (λ (o : Option yaml_error_t). option_or o (fault_if (not (nat_lt (length frames) most_open)) TooDeep)) none
     ∙ ap (λ (b : Bool). fault_if (not b) TooDeep) is
 
-pub start_refused : (before : State) (directives : List TagDirective) (frames : List Frame) (mapping : Bool) (start : Collection) (empty : Bool)
+pub start_refused : (before : MachineState) (directives : List TagDirective) (frames : List Frame) (mapping : Bool) (start : Collection) (empty : Bool)
     → before.stage ≡ at_node directives frames
     → name_or_tag_fault before.given.canonical (start_event mapping start) ≡ None → nat_lt (length frames) most_open ≡ false
     → Processed (start_event mapping start) empty before before (Err TooDeep)
@@ -58,7 +58,7 @@ start_refused before directives frames mapping start empty at none full =
     processed_refused_at (start_event mapping start) empty before (at_node directives frames) TooDeep at tt
     (start_refusal before.given.canonical directives frames mapping start false none full)
 
-start_wrote : (before : State) (directives : List TagDirective) (frames : List Frame) (mapping : Bool) (start : Collection) (empty simple : Bool)
+start_wrote : (before : MachineState) (directives : List TagDirective) (frames : List Frame) (mapping : Bool) (start : Collection) (empty simple : Bool)
     (place : Place) (page : Page) (answer : Result (Unit {0}) yaml_error_t)
     → place ≡ next_place frames → simple ≡ start_simple before.settings directives start empty place
     → Wrote (piece_at (start_piece before.settings directives place simple start) before.mark) before.page page answer
@@ -78,7 +78,7 @@ start_wrote before directives frames mapping start empty simple place page answe
     by true w = w
     by false w = w
 
-pub start_cut : (before : State) (directives : List TagDirective) (frames : List Frame) (mapping : Bool) (start : Collection) (empty simple : Bool)
+pub start_cut : (before : MachineState) (directives : List TagDirective) (frames : List Frame) (mapping : Bool) (start : Collection) (empty simple : Bool)
     (place : Place) (page : Page) (error : yaml_error_t)
     → before.stage ≡ at_node directives frames → name_or_tag_fault before.given.canonical (start_event mapping start) ≡ None
     → nat_lt (length frames) most_open ≡ true
@@ -95,7 +95,7 @@ told_well None is = refl
 told_well (Some other) is = cc
 
 -- want of memory for what is open, after the start was written
-pub start_unkept : (before : State) (directives : List TagDirective) (frames : List Frame) (mapping : Bool) (start : Collection) (empty simple : Bool)
+pub start_unkept : (before : MachineState) (directives : List TagDirective) (frames : List Frame) (mapping : Bool) (start : Collection) (empty simple : Bool)
     (place : Place) (after : Stage) (page : Page)
     → before.stage ≡ at_node directives frames → name_or_tag_fault before.given.canonical (start_event mapping start) ≡ None
     → nat_lt (length frames) most_open ≡ true
@@ -115,7 +115,7 @@ opened s mapping in_flow simple place cursor =
       simple = simple;
     }
 
-pub start_written : (before : State) (directives : List TagDirective) (frames : List Frame) (mapping : Bool) (start : Collection) (empty simple in_flow : Bool)
+pub start_written : (before : MachineState) (directives : List TagDirective) (frames : List Frame) (mapping : Bool) (start : Collection) (empty simple in_flow : Bool)
     (place : Place) (frame : Frame) (after : Stage) (page : Page)
     → before.stage ≡ at_node directives frames → name_or_tag_fault before.given.canonical (start_event mapping start) ≡ None
     → nat_lt (length frames) most_open ≡ true
@@ -177,7 +177,7 @@ end_refusal : (canonical : Bool) (directives : List TagDirective) (frames : List
 end_refusal canonical directives frames true allowed is = ap (λ (b : Bool). option_or (fault_if (not b) ExpectedNode) None) is
 end_refusal canonical directives frames false allowed is = ap (λ (b : Bool). option_or (fault_if (not b) ExpectedNode) None) is
 
-end_wrote_at : (before : State) (directives : List TagDirective) (frame : Frame) (outer : List Frame) (mapping empty : Bool) (column : Option ℕ) (page : Page)
+end_wrote_at : (before : MachineState) (directives : List TagDirective) (frame : Frame) (outer : List Frame) (mapping empty : Bool) (column : Option ℕ) (page : Page)
     (answer : Result (Unit {0}) yaml_error_t)
     → column ≡ (next_place outer).column
     → Wrote (piece_at (end_piece before.settings (brackets_of mapping) frame.place.in_flow (is_first frame.place.role) column) before.mark) before.page page
@@ -197,7 +197,7 @@ end_wrote_at before directives frame outer mapping empty column page answer colu
     by true w = w
     by false w = w
 
-pub end_cut : (before : State) (directives : List TagDirective) (frame : Frame) (outer : List Frame) (mapping empty : Bool) (column : Option ℕ) (after : Stage)
+pub end_cut : (before : MachineState) (directives : List TagDirective) (frame : Frame) (outer : List Frame) (mapping empty : Bool) (column : Option ℕ) (after : Stage)
     (page : Page) (error : yaml_error_t)
     → before.stage ≡ at_node directives (frame ∷ outer) → node_allowed (frame ∷ outer) (end_event mapping) ≡ true → column ≡ (next_place outer).column
     → Wrote (piece_at (end_piece before.settings (brackets_of mapping) frame.place.in_flow (is_first frame.place.role) column) before.mark) before.page page
@@ -208,7 +208,7 @@ end_cut before directives frame outer mapping empty column after page error at a
     (end_refusal before.given.canonical directives (frame ∷ outer) mapping true allowed)
     (end_wrote_at before directives frame outer mapping empty column page (Err error) column_is wrote)
 
-pub end_written : (before : State) (directives : List TagDirective) (frame : Frame) (outer : List Frame) (mapping empty : Bool) (column : Option ℕ)
+pub end_written : (before : MachineState) (directives : List TagDirective) (frame : Frame) (outer : List Frame) (mapping empty : Bool) (column : Option ℕ)
     (after : Stage) (page : Page)
     → before.stage ≡ at_node directives (frame ∷ outer) → node_allowed (frame ∷ outer) (end_event mapping) ≡ true → column ≡ (next_place outer).column
     → after ≡ stage_after directives outer frame.simple

@@ -17,7 +17,7 @@ use Rattle.yaml_base.specs.declared.errors.yaml_error_t.TheVariants.{TagHandleAl
 use Rattle.yaml_base.specs.declared.errors.yaml_error_t.TheVariants.{AliasAlphabet}
 use Rattle.yaml_pen.specs.Page.{Page}
 use Rattle.yaml_pen.specs.Wrote.{Wrote}
-use Rattle.yaml_emitter.specs.State.{State}
+use Rattle.yaml_emitter.specs.State.{MachineState}
 use Rattle.yaml_emitter.specs.WrittenPieces.{piece_at}
 use Rattle.yaml_emitter.specs.Processing.{Processed}
 use Rattle.yaml_emitter.proofs.events_done.ProcessedBy.{processed_refused_at, processed_unwritten, processed_cut_at, processed_written_at}
@@ -78,7 +78,7 @@ start_refusal : (canonical first : Bool) (start : DocumentStart)
 start_refusal canonical first start = or_none (option_or (option_and_then version_fault start.version) (directives_fault start.directives))
 
 -- an error that is a fault, or want of memory: nothing is written
-pub processed_fault : (event : Event) (empty : Bool) (state : State) (stage : Stage) (error : yaml_error_t) (fault : Option yaml_error_t) → state.stage ≡ stage
+pub processed_fault : (event : Event) (empty : Bool) (state : MachineState) (stage : Stage) (error : yaml_error_t) (fault : Option yaml_error_t) → state.stage ≡ stage
     → stage_refusal state.given.canonical stage event ≡ fault → is_other_fault fault ≡ true
     → (Some error ≢ Some Memory → Some error ≡ fault)
     → Processed event empty state state (Err error)
@@ -94,7 +94,7 @@ processed_fault event empty state stage error fault at refusal other is =
     processed_refused_at event empty state stage error at tt
     (refusal ∙ sym (is (λ h. cc)))
 
-pub document_refused : (empty : Bool) (before : State) (first : Bool) (start : DocumentStart) (error : yaml_error_t) → before.stage ≡ at_document first
+pub document_refused : (empty : Bool) (before : MachineState) (first : Bool) (start : DocumentStart) (error : yaml_error_t) → before.stage ≡ at_document first
     → (Some error ≢ Some Memory
     → Some error ≡ option_or (option_and_then version_fault start.version) (directives_fault start.directives))
     → Processed (document_start start) empty before before (Err error)
@@ -103,7 +103,7 @@ document_refused empty before first start error at is =
     (option_or (option_and_then version_fault start.version) (directives_fault start.directives)) at
     (start_refusal before.given.canonical first start) (content_other start) is
 
-pub document_start_cut : (empty : Bool) (before : State) (first : Bool) (start : DocumentStart) (page : Page) (error : yaml_error_t)
+pub document_start_cut : (empty : Bool) (before : MachineState) (first : Bool) (start : DocumentStart) (page : Page) (error : yaml_error_t)
     → before.stage ≡ at_document first
     → option_or (option_and_then version_fault start.version) (directives_fault start.directives) ≡ None
     → Wrote (piece_at (document_start_piece before.settings first start) before.mark) before.page page (Err error)
@@ -112,7 +112,7 @@ document_start_cut empty before first start page error at sound wrote =
     processed_cut_at (document_start start) empty before (record before { page = page }) (at_document first) error at refl refl
     (start_refusal before.given.canonical first start ∙ sound) wrote
 
-pub document_begun : (empty : Bool) (before : State) (first : Bool) (start : DocumentStart) (page : Page) (directives : List TagDirective) (frames : List Frame)
+pub document_begun : (empty : Bool) (before : MachineState) (first : Bool) (start : DocumentStart) (page : Page) (directives : List TagDirective) (frames : List Frame)
     → before.stage ≡ at_document first
     → option_or (option_and_then version_fault start.version) (directives_fault start.directives) ≡ None
     → Wrote (piece_at (document_start_piece before.settings first start) before.mark) before.page page (Ok tt)
@@ -163,7 +163,7 @@ later canonical stage event =
     (option_or (content_fault canonical event) (fault_if (begins_collection event && not (nat_lt (open_frames stage) most_open)) TooDeep))
 
 -- a faulty name or tag is told before anything else
-pub names_refused : (event : Event) (empty : Bool) (state : State) (error : yaml_error_t)
+pub names_refused : (event : Event) (empty : Bool) (state : MachineState) (error : yaml_error_t)
     → Some error ≡ name_or_tag_fault state.given.canonical event → Processed event empty state state (Err error)
 names_refused event empty state error fault =
     let canonical = state.given.canonical in

@@ -13,9 +13,9 @@ use Rattle.yaml_base.specs.Steps.{Frame, Stage, at_node, next_place, stage_after
 use Rattle.yaml_base.specs.declared.errors.yaml_error_t.{yaml_error_t}
 use Rattle.yaml_pen.specs.Page.{Page, IsReady}
 use Rattle.yaml_pen.specs.Wrote.{Wrote}
-use Rattle.yaml_emitter.specs.State.{State, FitsPage, is_at_stream}
+use Rattle.yaml_emitter.specs.State.{MachineState, FitsPage, is_at_stream}
 use Rattle.yaml_emitter.specs.Stages.{seen_stage}
-use Rattle.yaml_emitter.specs.Inside.{IsEmitter, state_of}
+use Rattle.yaml_emitter.specs.MachineInside.{IsMachine, machine_state}
 use Rattle.yaml_emitter.specs.NodeEvents.{is_at_node, start_event}
 use Rattle.yaml_emitter.specs.Signs.{name_breaks}
 use Rattle.yaml_emitter.specs.WrittenPieces.{piece_at}
@@ -24,7 +24,7 @@ use Rattle.yaml_emitter.specs.declared.stage.Stage as stage
 use Rattle.yaml_emitter.specs.declared.stage.Stage.TheVariants.{Stream, Document, Node, DocumentEnd, Nothing}
 use Rattle.yaml_base.specs.declared.errors.yaml_error_t.TheVariants.{NoTagNorImplicit}
 use Rattle.yaml_emitter.specs.declared.writing.marks.OpenMark.{OpenMark}
-use Rattle.yaml_emitter.specs.declared.emitter.yaml_emitter_t.TheInside.{Inside}
+use Rattle.yaml_emitter.specs.declared.machine.Machine.TheInside.{Inside}
 use Rattle.yaml_emitter.proofs.events_done.KeptInside.{kept_writing, fits_ready}
 use Rattle.yaml_emitter.proofs.events_done.ProcessedBy.{processed_cut_at, processed_refused_at, processed_written_at}
 use Rattle.yaml_emitter.proofs.pieces.WritingNames.{sound_anchor}
@@ -38,21 +38,18 @@ is_node Node directives frames is = refl
 is_node DocumentEnd directives frames is = cc
 is_node Nothing directives frames is = cc
 
-pub at_node_inside : {A : Type 0} (e : Inside A) {seen : State} → state_of e ≡ seen → is_at_node seen.stage ≡ true → e.stage ≡ Node
-at_node_inside e is at = is_node e.stage e.directives e.frames (ap (λ (s : State). is_at_node s.stage) is ∙ at)
+pub at_node_inside : {A : Type 0} (e : Inside A) {seen : MachineState} → machine_state e ≡ seen → is_at_node seen.stage ≡ true → e.stage ≡ Node
+at_node_inside e is at = is_node e.stage e.directives e.frames (ap (λ (s : MachineState). is_at_node s.stage) is ∙ at)
 
-pub seen_at_node : {A : Type 0} (e : Inside A) → e.stage ≡ Node → (state_of e).stage ≡ at_node e.directives e.frames
+pub seen_at_node : {A : Type 0} (e : Inside A) → e.stage ≡ Node → (machine_state e).stage ≡ at_node e.directives e.frames
 seen_at_node e at = ap (λ (st : stage.Stage). seen_stage st e.directives e.frames) at
 
-pub ready_inside : {A : Type 0} (e : Inside A) → IsEmitter e → e.stage ≡ Node → IsReady e.pen
+pub ready_inside : {A : Type 0} (e : Inside A) → IsMachine e → e.stage ≡ Node → IsReady e.pen
 ready_inside e kept at = subst (λ (st : stage.Stage). FitsPage (seen_stage st e.directives e.frames) e.pen) at kept.page
 
-pub output_at_node : {A : Type 0} (e : Inside A) → IsEmitter e → e.stage ≡ Node → e.has_output ≡ true
-output_at_node e kept at = kept.begun (ap (λ (st : stage.Stage). is_at_stream (seen_stage st e.directives e.frames)) at)
-
-pub names_inside : {A : Type 0} (e : Inside A) {seen : State} → state_of e ≡ seen → (event : Event) → name_or_tag_fault seen.given.canonical event ≡ None
-    → name_or_tag_fault (state_of e).given.canonical event ≡ None
-names_inside e is event none = ap (λ (s : State). name_or_tag_fault s.given.canonical event) is ∙ none
+pub names_inside : {A : Type 0} (e : Inside A) {seen : MachineState} → machine_state e ≡ seen → (event : Event) → name_or_tag_fault seen.given.canonical event ≡ None
+    → name_or_tag_fault (machine_state e).given.canonical event ≡ None
+names_inside e is event none = ap (λ (s : MachineState). name_or_tag_fault s.given.canonical event) is ∙ none
 
 pub pushed_at_node : {A : Type 0} (e : Inside A) (frames : List Frame) (frame : Frame) → e.stage ≡ Node → frames ≡ frame ∷ e.frames
     → seen_stage e.stage e.directives frames ≡ at_node e.directives (frame ∷ e.frames)
@@ -60,10 +57,10 @@ pushed_at_node e frames frame at pushed =
     ap (λ (st : stage.Stage). seen_stage st e.directives frames) at ∙ ap (at_node e.directives) pushed
 
 -- what is kept while the stage stays
-pub kept_at_node : {A : Type 0} (e : Inside A) (pen : Page) (frames : List Frame) (mark : OpenMark) → IsEmitter e → e.has_output ≡ true
-    → e.stage ≡ Node → IsReady pen → IsEmitter (record e { pen = pen; frames = frames; mark = mark })
-kept_at_node e pen frames mark kept output at ready =
-    kept_writing e pen e.stage frames mark kept output
+pub kept_at_node : {A : Type 0} (e : Inside A) (pen : Page) (frames : List Frame) (mark : OpenMark) → IsMachine e
+    → e.stage ≡ Node → IsReady pen → IsMachine (record e { pen = pen; frames = frames; mark = mark })
+kept_at_node e pen frames mark kept at ready =
+    kept_writing e pen e.stage frames mark kept
     (subst (λ (st : stage.Stage). FitsPage (seen_stage st e.directives frames) pen) (sym at) ready)
 
 after_is_behind : (directives : List TagDirective) (frames : List Frame) (simple : Bool) → is_at_stream (stage_after directives frames simple) ≡ false
@@ -71,12 +68,11 @@ after_is_behind directives [] simple = refl
 after_is_behind directives (frame ∷ outer) simple = refl
 
 -- what is kept after a node
-pub kept_advancing : {A : Type 0} (e : Inside A) (pen : Page) (after : stage.Stage) (frames around : List Frame) (simple : Bool) (mark : OpenMark) → IsEmitter e
-    → e.has_output ≡ true
+pub kept_advancing : {A : Type 0} (e : Inside A) (pen : Page) (after : stage.Stage) (frames around : List Frame) (simple : Bool) (mark : OpenMark) → IsMachine e
     → seen_stage after e.directives frames ≡ stage_after e.directives around simple → IsReady pen
-    → IsEmitter (record e { pen = pen; stage = after; frames = frames; mark = mark })
-kept_advancing e pen after frames around simple mark kept output is ready =
-    kept_writing e pen after frames mark kept output
+    → IsMachine (record e { pen = pen; stage = after; frames = frames; mark = mark })
+kept_advancing e pen after frames around simple mark kept is ready =
+    kept_writing e pen after frames mark kept
     (fits_ready (seen_stage after e.directives frames) pen (ap is_at_stream is ∙ after_is_behind e.directives around simple) ready)
 
 -- Aliases
@@ -85,7 +81,7 @@ alias_accepted : (canonical : Bool) (directives : List TagDirective) (frames : L
     → stage_refusal canonical (at_node directives frames) (alias name) ≡ None
 alias_accepted canonical directives frames name none = ap (λ (o : Option yaml_error_t). option_or o None) none
 
-alias_wrote : (before : State) (frames : List Frame) (name : Text) (simple : Bool) (place : Place) (page : Page) (answer : Result (Unit {0}) yaml_error_t)
+alias_wrote : (before : MachineState) (frames : List Frame) (name : Text) (simple : Bool) (place : Place) (page : Page) (answer : Result (Unit {0}) yaml_error_t)
     → place ≡ next_place frames → simple ≡ (is_key place.role && (not before.settings.canonical && is_simple_alias name))
     → Wrote (piece_at (alias_piece before.settings place simple name) before.mark) before.page page answer
     → Wrote (piece_at (alias_piece before.settings (next_place frames)
@@ -96,7 +92,7 @@ alias_wrote before frames name simple place page answer place_is simple_is wrote
     (alias_piece before.settings p (is_key p.role && (not before.settings.canonical && is_simple_alias name)) name) before.mark) before.page page answer)
     place_is at_place
 
-pub alias_cut : (before : State) (directives : List TagDirective) (frames : List Frame) (name : Text) (empty simple : Bool) (place : Place) (page : Page)
+pub alias_cut : (before : MachineState) (directives : List TagDirective) (frames : List Frame) (name : Text) (empty simple : Bool) (place : Place) (page : Page)
     (error : yaml_error_t)
     → before.stage ≡ at_node directives frames → alias_fault name ≡ None
     → place ≡ next_place frames → simple ≡ (is_key place.role && (not before.settings.canonical && is_simple_alias name))
@@ -107,7 +103,7 @@ alias_cut before directives frames name empty simple place page error at none pl
     (alias_accepted before.given.canonical directives frames name none)
     (alias_wrote before frames name simple place page (Err error) place_is simple_is wrote)
 
-pub alias_written : (before : State) (directives : List TagDirective) (frames : List Frame) (name : Text) (empty simple : Bool) (place : Place) (after : Stage)
+pub alias_written : (before : MachineState) (directives : List TagDirective) (frames : List Frame) (name : Text) (empty simple : Bool) (place : Place) (after : Stage)
     (page : Page)
     → before.stage ≡ at_node directives frames → alias_fault name ≡ None
     → place ≡ next_place frames → simple ≡ (is_key place.role && (not before.settings.canonical && is_simple_alias name))
@@ -143,7 +139,7 @@ scalar_refusal canonical directives frames content lacks none is =
     None)) none
     ∙ ap (λ (b : Bool). option_or (fault_if b NoTagNorImplicit) None) is
 
-pub scalar_refused : (before : State) (directives : List TagDirective) (frames : List Frame) (content : Scalar) (empty : Bool)
+pub scalar_refused : (before : MachineState) (directives : List TagDirective) (frames : List Frame) (content : Scalar) (empty : Bool)
     → before.stage ≡ at_node directives frames
     → name_or_tag_fault before.given.canonical (scalar content) ≡ None
     → lacks_tag_and_flags (is_some (scalar_tag before.given.canonical content)) content.plain_implicit content.quoted_implicit ≡ true
@@ -152,7 +148,7 @@ scalar_refused before directives frames content empty at none lacks =
     processed_refused_at (scalar content) empty before (at_node directives frames) NoTagNorImplicit at tt
     (scalar_refusal before.given.canonical directives frames content true none lacks)
 
-scalar_wrote : (before : State) (directives : List TagDirective) (frames : List Frame) (content : Scalar) (simple : Bool) (place : Place) (page : Page)
+scalar_wrote : (before : MachineState) (directives : List TagDirective) (frames : List Frame) (content : Scalar) (simple : Bool) (place : Place) (page : Page)
     (answer : Result (Unit {0}) yaml_error_t)
     → place ≡ next_place frames → simple ≡ scalar_simple before.settings directives content place
     → Wrote (piece_at (scalar_piece before.settings directives place simple content) before.mark) before.page page answer
@@ -164,7 +160,7 @@ scalar_wrote before directives frames content simple place page answer place_is 
     subst (λ (p : Place). Wrote (piece_at (scalar_piece before.settings directives p (scalar_simple before.settings directives content p) content) before.mark)
     before.page page answer) place_is at_place
 
-pub scalar_cut : (before : State) (directives : List TagDirective) (frames : List Frame) (content : Scalar) (empty simple : Bool) (place : Place) (page : Page)
+pub scalar_cut : (before : MachineState) (directives : List TagDirective) (frames : List Frame) (content : Scalar) (empty simple : Bool) (place : Place) (page : Page)
     (error : yaml_error_t)
     → before.stage ≡ at_node directives frames → name_or_tag_fault before.given.canonical (scalar content) ≡ None
     → lacks_tag_and_flags (is_some (scalar_tag before.given.canonical content)) content.plain_implicit content.quoted_implicit ≡ false
@@ -176,7 +172,7 @@ scalar_cut before directives frames content empty simple place page error at non
     (scalar_refusal before.given.canonical directives frames content false none lacks)
     (scalar_wrote before directives frames content simple place page (Err error) place_is simple_is wrote)
 
-pub scalar_written : (before : State) (directives : List TagDirective) (frames : List Frame) (content : Scalar) (empty simple : Bool) (place : Place)
+pub scalar_written : (before : MachineState) (directives : List TagDirective) (frames : List Frame) (content : Scalar) (empty simple : Bool) (place : Place)
     (after : Stage) (mark : ℕ) (page : Page)
     → before.stage ≡ at_node directives frames → name_or_tag_fault before.given.canonical (scalar content) ≡ None
     → lacks_tag_and_flags (is_some (scalar_tag before.given.canonical content)) content.plain_implicit content.quoted_implicit ≡ false

@@ -9,13 +9,13 @@ use Rattle.yaml_base.specs.declared.errors.yaml_error_t.{yaml_error_t}
 use Rattle.yaml_base.specs.declared.errors.yaml_error_t.TheVariants.{WriteError, Memory}
 use Rattle.yaml_pen.specs.Page.{told, encoded}
 use Rattle.yaml_pen.specs.Wrote.{Wrote}
-use Rattle.yaml_emitter.specs.State.{State, standing_of}
+use Rattle.yaml_emitter.specs.State.{MachineState, standing_of}
 use Rattle.yaml_emitter.specs.Promises.{IsRefusal}
 use Rattle.yaml_emitter.specs.Processing.{Processed, CutShort, unwritten, partly_written, Keeps, WritesPage, refusal_now, event_laid, event_stepped}
 use Rattle.yaml_emitter.specs.WrittenPieces.{piece_at}
 
 -- a refused event changes nothing
-pub processed_refused : (event : Event) (empty : Bool) (state : State) (error : yaml_error_t) → IsRefusal error
+pub processed_refused : (event : Event) (empty : Bool) (state : MachineState) (error : yaml_error_t) → IsRefusal error
     → refusal_now state event ≡ Some error → Processed event empty state state (Err error)
 processed_refused event empty state WriteError is refusal = absurd is
 processed_refused event empty state Memory is refusal = absurd is
@@ -26,13 +26,13 @@ abbrev pub IsInStream : Event → Type 0
 IsInStream (stream_start encoding) = ⊥
 IsInStream _ = Unit {0}
 
-writes_page : (event : Event) (empty : Bool) (before after : State) → IsInStream event → after.settings ≡ before.settings
+writes_page : (event : Event) (empty : Bool) (before after : MachineState) → IsInStream event → after.settings ≡ before.settings
     → Wrote (event_laid before event empty) before.page after.page (Ok tt) → WritesPage event empty before after
 writes_page (stream_start encoding) empty before after is settings wrote = absurd is
 writes_page event empty before after is settings wrote = (settings, wrote)
 
 -- an event whose piece is written
-pub processed_written : (event : Event) (empty : Bool) (before after : State) → IsInStream event → Keeps before after
+pub processed_written : (event : Event) (empty : Bool) (before after : MachineState) → IsInStream event → Keeps before after
     → refusal_now before event ≡ None → after.settings ≡ before.settings
     → after.stage ≡ (event_stepped before event empty).stage
     → after.mark ≡ (event_stepped before event empty).laid.standing.mark
@@ -53,7 +53,7 @@ some_same : {e f : yaml_error_t} → Some e ≡ Some f → e ≡ f
 some_same same = cc
 
 -- an event whose piece is cut short
-cut : (error : yaml_error_t) (event : Event) (empty : Bool) (before after : State) → Keeps before after → after.settings ≡ before.settings
+cut : (error : yaml_error_t) (event : Event) (empty : Bool) (before after : MachineState) → Keeps before after → after.settings ≡ before.settings
     → refusal_now before event ≡ None → Wrote (event_laid before event empty) before.page after.page (Err error)
     → after.page.error ≡ Some error → CutShort error event empty before after
 cut error event empty before after kept settings accepted wrote failed =
@@ -79,17 +79,17 @@ told_failed (Some other) error is = cc
 pen_error : (error : yaml_error_t) → (Some error ≡ None) ⊎ (Some error ≡ Some WriteError) ⊎ (Some error ≡ Some Memory) → (error ≡ WriteError) ⊎ (error ≡ Memory)
 pen_error error named = elim named [ inl none ↦ cc | inr other ↦ elim other [ inl full ↦ inl (some_same full) | inr memory ↦ inr (some_same memory) ] ]
 
-failed_as : (event : Event) (empty : Bool) (before after : State) (error named : yaml_error_t) → error ≡ named
+failed_as : (event : Event) (empty : Bool) (before after : MachineState) (error named : yaml_error_t) → error ≡ named
     → Processed event empty before after (Err named) → Processed event empty before after (Err error)
 failed_as event empty before after error named same processed =
     subst (λ (e : yaml_error_t). let r : Result (Unit {0}) yaml_error_t = Err e in Processed event empty before after r) (sym same) processed
 
-wrote_as_error : (event : Event) (empty : Bool) (before after : State) (error named : yaml_error_t) → error ≡ named
+wrote_as_error : (event : Event) (empty : Bool) (before after : MachineState) (error named : yaml_error_t) → error ≡ named
     → Wrote (event_laid before event empty) before.page after.page (Err error) → Wrote (event_laid before event empty) before.page after.page (Err named)
 wrote_as_error event empty before after error named same wrote =
     subst (λ (e : yaml_error_t). let r : Result (Unit {0}) yaml_error_t = Err e in Wrote (event_laid before event empty) before.page after.page r) same wrote
 
-pub processed_cut : (event : Event) (empty : Bool) (before after : State) (error : yaml_error_t) → Keeps before after → after.settings ≡ before.settings
+pub processed_cut : (event : Event) (empty : Bool) (before after : MachineState) (error : yaml_error_t) → Keeps before after → after.settings ≡ before.settings
     → refusal_now before event ≡ None → Wrote (event_laid before event empty) before.page after.page (Err error)
     → Processed event empty before after (Err error)
 processed_cut event empty before after error kept settings accepted wrote =
@@ -108,24 +108,24 @@ processed_cut event empty before after error kept settings accepted wrote =
     ]
 
 -- want of memory before anything of the event is written
-pub processed_unwritten : (event : Event) (empty : Bool) (before after : State) → Keeps before after → after.settings ≡ before.settings
+pub processed_unwritten : (event : Event) (empty : Bool) (before after : MachineState) → Keeps before after → after.settings ≡ before.settings
     → after.page ≡ before.page → Processed event empty before after (Err Memory)
 processed_unwritten event empty before after kept settings page =
     record { kept = kept; settings = settings; page = unwritten refl page }
 
 -- The same where the stage is known by an equation.
-laid_at : (before after : State) (event : Event) (empty : Bool) (stage : Stage) (answer : Result (Unit {0}) yaml_error_t) → before.stage ≡ stage
+laid_at : (before after : MachineState) (event : Event) (empty : Bool) (stage : Stage) (answer : Result (Unit {0}) yaml_error_t) → before.stage ≡ stage
     → Wrote (piece_at (λ standing. (step before.settings stage event empty standing).laid) before.mark) before.page after.page answer
     → Wrote (event_laid before event empty) before.page after.page answer
 laid_at before after event empty stage answer is wrote =
     subst (λ st. Wrote (piece_at (λ standing. (step before.settings st event empty standing).laid) before.mark) before.page after.page answer) (sym is) wrote
 
-pub processed_refused_at : (event : Event) (empty : Bool) (state : State) (stage : Stage) (error : yaml_error_t) → state.stage ≡ stage → IsRefusal error
+pub processed_refused_at : (event : Event) (empty : Bool) (state : MachineState) (stage : Stage) (error : yaml_error_t) → state.stage ≡ stage → IsRefusal error
     → stage_refusal state.given.canonical stage event ≡ Some error → Processed event empty state state (Err error)
 processed_refused_at event empty state stage error at is refusal =
     processed_refused event empty state error is (ap (λ st. stage_refusal state.given.canonical st event) at ∙ refusal)
 
-pub processed_written_at : (event : Event) (empty : Bool) (before after : State) (stage : Stage) → before.stage ≡ stage → IsInStream event → Keeps before after
+pub processed_written_at : (event : Event) (empty : Bool) (before after : MachineState) (stage : Stage) → before.stage ≡ stage → IsInStream event → Keeps before after
     → stage_refusal before.given.canonical stage event ≡ None → after.settings ≡ before.settings
     → after.stage ≡ (step before.settings stage event empty (standing_of before)).stage
     → after.mark ≡ (step before.settings stage event empty (standing_of before)).laid.standing.mark
@@ -139,7 +139,7 @@ processed_written_at event empty before after stage at is kept accepted settings
     (stage_is ∙ sym (ap (λ st. (stepped st).stage) at)) (mark_is ∙ sym (ap (λ st. (stepped st).laid.standing.mark) at))
     (laid_at before after event empty stage (Ok tt) at wrote) handed_out
 
-pub processed_cut_at : (event : Event) (empty : Bool) (before after : State) (stage : Stage) (error : yaml_error_t) → before.stage ≡ stage → Keeps before after
+pub processed_cut_at : (event : Event) (empty : Bool) (before after : MachineState) (stage : Stage) (error : yaml_error_t) → before.stage ≡ stage → Keeps before after
     → after.settings ≡ before.settings → stage_refusal before.given.canonical stage event ≡ None
     → Wrote (piece_at (λ standing. (step before.settings stage event empty standing).laid) before.mark) before.page after.page (Err error)
     → Processed event empty before after (Err error)
@@ -148,7 +148,7 @@ processed_cut_at event empty before after stage error at kept settings accepted 
     (ap (λ st. stage_refusal before.given.canonical st event) at ∙ accepted) (laid_at before after event empty stage (Err error) at wrote)
 
 -- at an exit by `?` the answer is the call's error
-pub processed_exit : (event : Event) (empty : Bool) (before after : State) (error : yaml_error_t) (answer : Result (Unit {0}) yaml_error_t)
+pub processed_exit : (event : Event) (empty : Bool) (before after : MachineState) (error : yaml_error_t) (answer : Result (Unit {0}) yaml_error_t)
     → IsErr answer × IsErrAnd answer (λ given. given ≡ error) → Processed event empty before after (Err error) → Processed event empty before after answer
 processed_exit event empty before after error answer is processed =
     let p = err_from_is_err_and answer is.1 in
@@ -156,7 +156,7 @@ processed_exit event empty before after error answer is processed =
     subst (λ (r : Result (Unit {0}) yaml_error_t). Processed event empty before after r) (sym same) processed
 
 -- want of memory after the piece was written
-pub processed_after_writing : (event : Event) (empty : Bool) (before after : State) (stage : Stage) → before.stage ≡ stage → Keeps before after
+pub processed_after_writing : (event : Event) (empty : Bool) (before after : MachineState) (stage : Stage) → before.stage ≡ stage → Keeps before after
     → after.settings ≡ before.settings → stage_refusal before.given.canonical stage event ≡ None → after.page.error ≡ None
     → Wrote (piece_at (λ standing. (step before.settings stage event empty standing).laid) before.mark) before.page after.page (Ok tt)
     → Processed event empty before after (Err Memory)
@@ -181,6 +181,6 @@ pub exit_by_memory : (error : yaml_error_t) (answer : Result (Unit {0}) yaml_err
 exit_by_memory error answer memory is = subst (λ (e : yaml_error_t). IsErr answer × IsErrAnd answer (λ given. given ≡ e)) memory is
 
 -- an event by another form of it
-pub processed_as : (event named : Event) (empty : Bool) (before after : State) (answer : Result (Unit {0}) yaml_error_t) → event ≡ named
+pub processed_as : (event named : Event) (empty : Bool) (before after : MachineState) (answer : Result (Unit {0}) yaml_error_t) → event ≡ named
     → Processed named empty before after answer → Processed event empty before after answer
 processed_as event named empty before after answer is processed = subst (λ (e : Event). Processed e empty before after answer) (sym is) processed

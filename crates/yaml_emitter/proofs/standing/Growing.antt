@@ -1,5 +1,5 @@
 -- Nothing that was written is lost by an event.
-use Rattle.std.proofs.Common.{◌≡◌, refl, sym, ap, subst, Bool, Option, None, Some, Result, Ok, Err, IsSome}
+use Rattle.std.proofs.Common.{◌≡◌, refl, sym, ap, subst, Bool, Option, None, Some, List, Result, Ok, Err, IsSome}
 use Rattle.yaml_base.specs.Event.{Event, stream_start}
 use Rattle.yaml_base.specs.declared.errors.yaml_error_t.{yaml_error_t}
 use Rattle.yaml_base.specs.declared.errors.yaml_error_t.TheVariants.{WriteError, Memory}
@@ -7,7 +7,7 @@ use Rattle.yaml_base.proofs.Prefixes.{prefix_same}
 use Rattle.yaml_pen.specs.Page.{Page}
 use Rattle.yaml_pen.specs.Wrote.{Flushed, Grows}
 use Rattle.yaml_pen.proofs.Composing.{wrote_grows}
-use Rattle.yaml_emitter.specs.State.{State}
+use Rattle.yaml_emitter.specs.State.{MachineState}
 use Rattle.yaml_emitter.specs.Processing.{WritesPage, CutPage, unwritten, partly_written, Processed}
 use Rattle.yaml_emitter.specs.StandsAfter.{TookFirst}
 
@@ -22,23 +22,24 @@ grows_same before after text output = record {
 pub grows_page : (before after : Page) → after ≡ before → Grows before after
 grows_page before after same = grows_same before after (ap (λ (p : Page). p.text) same) (ap (λ (p : Page). p.output) same)
 
-written_grows : (event : Event) (empty : Bool) (before after : State) → WritesPage event empty before after → Grows before.page after.page
+written_grows : (event : Event) (empty : Bool) (before after : MachineState) → WritesPage event empty before after → Grows before.page after.page
 written_grows (stream_start encoding) empty before after h = grows_same before.page after.page (ap (λ (p : Page). p.text) h.1) (ap (λ (p : Page). p.output) h.1)
 written_grows event empty before after h = wrote_grows h.1
 
-cut_grows : (error : yaml_error_t) (event : Event) (empty : Bool) (before after : State) → CutPage error event empty before after → Grows before.page after.page
+cut_grows : (error : yaml_error_t) (event : Event) (empty : Bool) (before after : MachineState) → CutPage error event empty before after → Grows before.page after.page
 cut_grows error event empty before after (unwritten memory same) = grows_page before.page after.page same
 cut_grows error event empty before after (partly_written part) = wrote_grows part.wrote
 
-processed_grows : (event : Event) (empty : Bool) (before after : State) (answer : Result (Unit {0}) yaml_error_t) → Processed event empty before after answer
+pub processed_grows : (event : Event) (empty : Bool) (before after : MachineState) (answer : Result (Unit {0}) yaml_error_t) → Processed event empty before after answer
     → Grows before.page after.page
 processed_grows event empty before after (Ok _) done = written_grows event empty before after done.page
 processed_grows event empty before after (Err WriteError) done = cut_grows WriteError event empty before after done.page
 processed_grows event empty before after (Err Memory) done = cut_grows Memory event empty before after done.page
-processed_grows event empty before after (Err error) done = grows_page before.page after.page (ap (λ (s : State). s.page) done.kept)
+processed_grows event empty before after (Err error) done = grows_page before.page after.page (ap (λ (s : MachineState). s.page) done.kept)
 
-pub took_grows : (before after : State) (answer : Result (Unit {0}) yaml_error_t) → TookFirst before after answer → Grows before.page after.page
-took_grows before after answer took = processed_grows took.event _ (record before { held = took.rest }) after answer took.done
+pub took_grows : (waiting : List Event) (before after : MachineState) (answer : Result (Unit {0}) yaml_error_t) → TookFirst waiting before after answer
+    → Grows before.page after.page
+took_grows waiting before after answer took = processed_grows took.event _ before after answer took.done
 
 -- a flush that memory refuses leaves the output as it was
 pub flushed_unflushed : {before after : Page} {answer : Result (Unit {0}) yaml_error_t} → Flushed before after answer → after.error ≡ Some Memory

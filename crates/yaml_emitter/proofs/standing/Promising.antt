@@ -24,7 +24,7 @@ use Rattle.yaml_base.specs.declared.errors.yaml_error_t.{yaml_error_t}
 use Rattle.yaml_base.proofs.QueueLaws.{written_within}
 use Rattle.yaml_pen.specs.Page.{Page, encoded, told}
 use Rattle.yaml_pen.proofs.Writing.{none_from_told}
-use Rattle.yaml_emitter.specs.State.{State}
+use Rattle.yaml_emitter.specs.State.{State, machine_of}
 use Rattle.yaml_emitter.specs.Uncut.{IsUncut}
 use Rattle.yaml_emitter.specs.StandsAfter.{HoldsPieces, StandsWell, StandsBy, StandsSo, StandsAfter}
 use Rattle.yaml_base.specs.WrittenTexts.{HoldsRaw}
@@ -53,7 +53,7 @@ pub promises_bytes : (given : Settings) (all : List Event) (state : State) → S
     → state.page.output ≡ encoded state.page → HasAllBytes given all state
 promises_bytes given all state h none handed =
     let s = settings_for given all in
-    let well : StandsWell given all state = stands_well given all state h none in
+    let well : StandsWell given all state.held (machine_of state) = stands_well given all state h none in
     page_bytes (take (written all) all) (written all) s (progress s all).pieces (text_written s (pieces s all (written all))) state.page
     (length-take-le (written all) all (written_within all)) well.taken.page (promises_text given all state h none) handed
 
@@ -101,7 +101,7 @@ promises_whole : (given : Settings) (all : List Event) (state : State) → Stand
     → IsWritten given all state
 promises_whole given all state h none accepted =
     let whole = whole_text given all state h.so accepted none in
-    let well : StandsWell given all state = stands_well given all state h.so none in
+    let well : StandsWell given all state.held (machine_of state) = stands_well given all state h.so none in
     let begins : take (written all) all ≡ all = ap (λ n. take n all) (all_written given.canonical all accepted) ∙ take-length all in
     let s = settings_for given all in
     let handed = well.taken.handed_out (ap hands_out_last begins ∙ accepted_hands given.canonical all accepted) in
@@ -125,7 +125,7 @@ promises_whole given all state h none accepted =
           ∙ output_reads_back given all (record { accepted = accepted; scalars = h.texts; portable = portable; uncut = uncut });
     }
 
-dropped_by : (error : Option yaml_error_t) (given : Settings) (all : List Event) (state : State) → StandsBy given all error state → IsSome error
+dropped_by : (error : Option yaml_error_t) (given : Settings) (all : List Event) (state : State) → StandsBy given all error state.held (machine_of state) → IsSome error
     → state.held ≡ []
 dropped_by None given all state h some = cc
 dropped_by (Some error) given all state h some = h.0
@@ -180,13 +180,13 @@ page_unfailed (event ∷ front) s laid page h = h.2
 
 pub stands_unfailed : (given : Settings) (all : List Event) (state : State) → StandsSo given all state → state.error ≡ None → state.page.error ≡ None
 stands_unfailed given all state h none =
-    let well : StandsWell given all state = stands_well given all state h none in
+    let well : StandsWell given all state.held (machine_of state) = stands_well given all state h none in
     page_unfailed (take (written all) all) (settings_for given all) (progress (settings_for given all) all).pieces state.page well.taken.page
 
 pub stands_encoded : (given : Settings) (all : List Event) (state : State) → StandsSo given all state → state.error ≡ None → HasAllBytes given all state
     → state.page.output ≡ encoded state.page
 stands_encoded given all state h none bytes =
     let s = settings_for given all in
-    let well : StandsWell given all state = stands_well given all state h none in
+    let well : StandsWell given all state.held (machine_of state) = stands_well given all state h none in
     page_encoded (take (written all) all) (written all) s (progress s all).pieces (text_written s (pieces s all (written all))) state.page
     (length-take-le (written all) all (written_within all)) well.taken.page (promises_text given all state h none) bytes

@@ -1,4 +1,4 @@
--- An emitter stands after its events: as one more comes, as each that is ready is written, and when no more is ready.
+-- A machine stands after its events: as one more comes, as each that is ready is written, and when no more is ready.
 use Rattle.std.proofs.Common.{◌≡◌, refl, sym, ap, ◌∙◌, subst, arith, append_assoc, append-nil, inl}
 use Rattle.std.proofs.lemmas.List.{take-append-drop, length-take-le}
 use Rattle.std.proofs.lemmas.List.Concat.{flat_map-append}
@@ -11,7 +11,7 @@ use Rattle.yaml_base.specs.Grammar.{at_item, at_key, at_value, Partial, before_s
 use Rattle.yaml_base.specs.Refusal.{begins_collection, ends_collection, BeginsAccepted, refusal}
 use Rattle.yaml_base.specs.Ready.{written, held_back}
 use Rattle.yaml_base.specs.Layout.{Piece, Standing, first_standing, piece_text, text_of, stream_start_piece}
-use Rattle.yaml_base.specs.Steps.{at_stream, Stepped, Steps, step, steps, progress, stage_refusal}
+use Rattle.yaml_base.specs.Steps.{at_stream, Stepped, Steps, step, steps, stage_refusal}
 use Rattle.yaml_base.specs.Pieces.{begins_last, ends_first}
 use Rattle.yaml_base.specs.Output.{encoding_asked, settings_for, text_written, hands_out_last}
 use Rattle.yaml_base.specs.declared.errors.yaml_error_t.{yaml_error_t}
@@ -24,7 +24,7 @@ use Rattle.yaml_base.proofs.Stages.{stage_refusal_after}
 use Rattle.yaml_pen.specs.Page.{Page, encoded, new_page}
 use Rattle.yaml_pen.specs.Wrote.{Wrote, named_text}
 use Rattle.yaml_pen.proofs.Composing.{with_breaks_written-append, wrote_all, wrote_no_error}
-use Rattle.yaml_emitter.specs.State.{State, standing_of}
+use Rattle.yaml_emitter.specs.State.{MachineState, standing_of}
 use Rattle.yaml_emitter.specs.Processing.{closes_at_once, event_laid, refusal_now, WritesPage, WritesEvent}
 use Rattle.yaml_emitter.specs.StandsAfter.{IsPage, HoldsPieces, IsSettled, HasTaken, StandsWell, closes_last, Reached}
 
@@ -45,7 +45,7 @@ settings_grown given event front rest all more parts =
     ∙ sym (settings_front given event front rest all parts)
 
 -- What is written of a front stays as the list grows.
-pub taken_grown : (front rest all more : List Event) (given : Settings) (follows : Bool) (state : State) → front ++ rest ≡ all
+pub taken_grown : (front rest all more : List Event) (given : Settings) (follows : Bool) (state : MachineState) → front ++ rest ≡ all
     → HasTaken given all front (steps (settings_for given all) follows front at_stream first_standing) state
     → HasTaken given (all ++ more) front (steps (settings_for given (all ++ more)) follows front at_stream first_standing) state
 taken_grown [] rest all more given follows state parts h =
@@ -74,12 +74,12 @@ open_last (event ∷ []) rest h = open_one event rest h
 open_last (event ∷ next ∷ more) rest h = open_last (next ∷ more) rest h
 
 -- What is written hangs on what is set, on the page and on what comes next.
-pub settled_same : (s : Effective) (front : List Event) (before after : State) → after.settings ≡ before.settings → IsSettled s front before
+pub settled_same : (s : Effective) (front : List Event) (before after : MachineState) → after.settings ≡ before.settings → IsSettled s front before
     → IsSettled s front after
 settled_same s [] before after same h = tt
 settled_same s (event ∷ front) before after same h = same ∙ h
 
-pub taken_same : (given : Settings) (all front : List Event) (taken : Steps) (before after : State)
+pub taken_same : (given : Settings) (all front : List Event) (taken : Steps) (before after : MachineState)
     → after.given ≡ before.given → after.settings ≡ before.settings → after.stage ≡ before.stage → after.mark ≡ before.mark → after.page ≡ before.page
     → HasTaken given all front taken before → HasTaken given all front taken after
 taken_same given all front taken before after is_given is_settings is_stage is_mark is_page h =
@@ -97,28 +97,24 @@ taken_same given all front taken before after is_given is_settings is_stage is_m
     }
 
 -- The first of a call: an event comes to those that are held.
-pub reached_first : (given : Settings) (all : List Event) (event : Event) (state : State) → StandsWell given all state → state.error ≡ None
-    → Reached given (all ++ event ∷ []) (take (written all) all) (held_back all ++ event ∷ [])
-    (record state { started = true; held = state.held ++ event ∷ [] })
-reached_first given all event state h none =
+pub reached_first : (given : Settings) (all : List Event) (event : Event) (held : List Event) (machine : MachineState) → StandsWell given all held machine
+    → Reached given (all ++ event ∷ []) (take (written all) all) (held ++ event ∷ []) machine
+reached_first given all event held machine h =
     let front = take (written all) all in
     let more = event ∷ [] in
-    let held = held_back all in
-    let whole : front ++ held ≡ all = take-append-drop (written all) all in
+    let rest = held_back all in
+    let whole : front ++ rest ≡ all = take-append-drop (written all) all in
     let count : length front ≡ written all = length-take-le (written all) all (written_within all) in
-    let now = record state { started = true; held = state.held ++ event ∷ [] } in
-    let opens : closes_last front (held ++ more) ≡ false = open_last front (held ++ more) (open_at_written all more) in
-    record {
-      parts = sym (append_assoc front held more) ∙ ap (λ events. events ++ more) whole;
-      held = ap (λ events. events ++ more) h.held;
-      no_error = none;
-      ready = written-append all more ∙ ap (λ n. n + written (held ++ more)) (sym count);
+    let opens : closes_last front (rest ++ more) ≡ false = open_last front (rest ++ more) (open_at_written all more) in
+    subst (λ held. Reached given (all ++ more) front (held ++ more) machine) (sym h.held)
+    (record {
+      parts = sym (append_assoc front rest more) ∙ ap (λ events. events ++ more) whole;
+      ready = written-append all more ∙ ap (λ n. n + written (rest ++ more)) (sym count);
       taken =
-          subst (λ follows. HasTaken given (all ++ more) front (steps (settings_for given (all ++ more)) follows front at_stream first_standing) now)
+          subst (λ follows. HasTaken given (all ++ more) front (steps (settings_for given (all ++ more)) follows front at_stream first_standing) machine)
           (sym opens)
-          (taken_grown front held all more given false now whole
-          (taken_same given all front (progress (settings_for given all) all) state now refl refl refl refl refl h.taken));
-    }
+          (taken_grown front rest all more given false machine whole h.taken);
+    })
 
 -- An event that is written after a front.
 
@@ -192,7 +188,7 @@ next_steps front rest event q s empty h =
     ∙ ap (λ (before : Steps). one_more before (step s before.stage event empty before.standing)) (end_next front rest event q s (begins_last front) refl h)
 
 -- The refusal where an emitter stands is that after the front.
-pub refusal_same : (given : Settings) (all front : List Event) (event : Event) (follows : Bool) (s : Effective) (state : State)
+pub refusal_same : (given : Settings) (all front : List Event) (event : Event) (follows : Bool) (s : Effective) (state : MachineState)
     → HasTaken given all front (steps s follows front at_stream first_standing) state → refusal_now state event ≡ refusal given.canonical front event
 refusal_same given all front event follows s state h =
     let before = stands_from_begins given.canonical front h.stands in
@@ -201,7 +197,7 @@ refusal_same given all front event follows s state h =
     ∙ stage_refusal_after given.canonical front event before.partial s follows before.is_partial
 
 -- An event that isn't refused goes on with an accepted list.
-pub accepted_next : (given : Settings) (all front : List Event) (event : Event) (follows : Bool) (s : Effective) (state : State)
+pub accepted_next : (given : Settings) (all front : List Event) (event : Event) (follows : Bool) (s : Effective) (state : MachineState)
     → HasTaken given all front (steps s follows front at_stream first_standing) state → refusal_now state event ≡ None
     → BeginsAccepted given.canonical (front ++ event ∷ [])
 accepted_next given all front event follows s state h none =
@@ -242,7 +238,7 @@ pub page_more : (s : Effective) (x : Event) (front : List Event) (pieces : List 
 page_more s x front pieces piece lay before after h wrote is =
     (is_page_wrote h.0 wrote, (wrote_all wrote).text ∙ named_more s x front pieces piece lay before h is, wrote_no_error wrote)
 
-pub writes_later : (event : Event) (empty : Bool) (before after : State) → IsLater event → WritesPage event empty before after
+pub writes_later : (event : Event) (empty : Bool) (before after : MachineState) → IsLater event → WritesPage event empty before after
     → (after.settings ≡ before.settings)
     × Wrote (event_laid before event empty) before.page after.page (Ok tt)
 writes_later (stream_start encoding) empty before after later h = absurd later
@@ -266,14 +262,14 @@ page_started s encoding = (
   refl,
 )
 
-pub taken_first : (event : Event) (rest : List Event) (given : Settings) (empty : Bool) (before after : State)
+pub taken_first : (event : Event) (rest : List Event) (given : Settings) (empty : Bool) (before after : MachineState)
     → IsStreamStart event
     → HasTaken given (event ∷ rest) [] (steps (settings_for given (event ∷ rest)) false [] at_stream first_standing) before
     → BeginsAccepted given.canonical (event ∷ [])
     → WritesEvent event empty before after
     → HasTaken given (event ∷ rest) (event ∷ []) (steps (settings_for given (event ∷ rest)) empty (event ∷ []) at_stream first_standing) after
 taken_first (stream_start encoding) rest given empty before after start h begun done =
-    let kept : after.given ≡ before.given = ap (λ (s : State). s.given) done.kept in
+    let kept : after.given ≡ before.given = ap (λ (s : MachineState). s.given) done.kept in
     let settings : after.settings ≡ effective given encoding = done.page.0 ∙ ap (λ g. effective g encoding) h.given_kept in
     record {
       given_kept = kept ∙ h.given_kept;

@@ -20,7 +20,7 @@ use Rattle.yaml_base.proofs.Trees.{stream_pushed}
 use Rattle.yaml_base.proofs.PieceLaws.{list_layout_steps}
 use Rattle.yaml_base.proofs.QueueLaws.{stream_written}
 use Rattle.yaml_pen.specs.Page.{Page, encoded}
-use Rattle.yaml_emitter.specs.State.{State}
+use Rattle.yaml_emitter.specs.State.{State, machine_of}
 use Rattle.yaml_emitter.specs.StandsAfter.{HoldsPiecesWith, StandsWell, StandsSo}
 use Rattle.yaml_emitter.specs.Promises.{RefusedAt, HasRoom, EndsExactly}
 use Rattle.yaml_emitter.proofs.standing.StandingTexts.{holds_text}
@@ -59,7 +59,7 @@ whole_accepted canonical all begins =
     ∙ sym (pushed-append events begins.rest before_stream) ∙ whole) in
     subst (IsAccepted canonical) (ap (λ rest. events ++ rest) none ∙ append-nil events) begins.accepted
 
-pub all_taken : (given : Settings) (all : List Event) (state : State) → StandsWell given all state → state.held ≡ [] → take (written all) all ≡ all
+pub all_taken : (given : Settings) (all : List Event) (state : State) → StandsWell given all state.held (machine_of state) → state.held ≡ [] → take (written all) all ≡ all
 all_taken given all state h none =
     sym (append-nil (take (written all) all))
     ∙ ap (λ rest. take (written all) all ++ rest) (sym none ∙ h.held)

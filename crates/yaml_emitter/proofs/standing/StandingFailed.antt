@@ -16,14 +16,14 @@ use Rattle.yaml_base.specs.declared.errors.yaml_error_t.TheVariants.{WriteError,
 use Rattle.yaml_base.proofs.Accepted.{stands_from_begins}
 use Rattle.yaml_pen.specs.Page.{Page}
 use Rattle.yaml_pen.specs.Wrote.{Wrote}
-use Rattle.yaml_emitter.specs.State.{State}
+use Rattle.yaml_emitter.specs.State.{MachineState}
 use Rattle.yaml_emitter.specs.Processing.{closes_at_once, event_stepped, event_laid, CutShort, unwritten, partly_written, Refused, Processed}
-use Rattle.yaml_emitter.specs.StandsAfter.{IsPage, HoldsPieces, HasTaken, FailedAt, closes_last, StandsRefused, holds_before, holds_part, StandsCut, StandsSo}
+use Rattle.yaml_emitter.specs.StandsAfter.{IsPage, HoldsPieces, HasTaken, FailedAt, closes_last, StandsRefused, holds_before, holds_part, StandsCut, StandsFailed}
 use Rattle.yaml_emitter.specs.StandsAfter.{Reached, failed_by, at_event}
 use Rattle.yaml_emitter.proofs.standing.Standing.{taken_same, refusal_same, accepted_next, named_more, is_page_wrote}
 use Rattle.yaml_emitter.proofs.standing.StandingSteps.{stepped_steps}
 
-failed_at : (given : Settings) (all front rest : List Event) (event : Event) (before : State) → Reached given all front (event ∷ rest) before
+failed_at : (given : Settings) (all front rest : List Event) (event : Event) (before : MachineState) → Reached given all front (event ∷ rest) before
     → is_ready event rest ≡ true → FailedAt all front event rest
 failed_at given all front rest event before h is =
     let count : written (event ∷ rest) ≡ suc (written rest) = ap (λ b. if b then suc (written rest) else 0) is in
@@ -66,9 +66,9 @@ refused_opens canonical front rest event fault true begun refused is =
     cc
 
 -- A refused event adds no text.
-refused_stands : (given : Settings) (all front rest : List Event) (event : Event) (error : yaml_error_t) (before after : State)
+refused_stands : (given : Settings) (all front rest : List Event) (event : Event) (error : yaml_error_t) (before after : MachineState)
     → Reached given all front (event ∷ rest) before → is_ready event rest ≡ true
-    → Refused error event (record before { held = rest }) after → StandsRefused given all error (failed_by error after)
+    → Refused error event before after → StandsRefused given all error (failed_by error after)
 refused_stands given all front rest event error before after h is done =
     let s = settings_for given all in
     let follows = closes_last front (event ∷ rest) in
@@ -84,13 +84,13 @@ refused_stands given all front rest event error before after h is done =
       taken =
           subst (λ follows. HasTaken given all front (steps s follows front at_stream first_standing) (failed_by error after)) opens
           (taken_same given all front (steps s follows front at_stream first_standing) before (failed_by error after)
-          (ap (λ (s : State). s.given) kept) (ap (λ (s : State). s.settings) kept) (ap (λ (s : State). s.stage) kept) (ap (λ (s : State). s.mark) kept)
-          (ap (λ (s : State). s.page) kept) h.taken);
+          (ap (λ (s : MachineState). s.given) kept) (ap (λ (s : MachineState). s.settings) kept) (ap (λ (s : MachineState). s.stage) kept) (ap (λ (s : MachineState). s.mark) kept)
+          (ap (λ (s : MachineState). s.page) kept) h.taken);
       refusal = refused;
     }
 
 -- An event that is cut short adds a prefix of its piece.
-cut_page : (front rest : List Event) (given : Settings) (all : List Event) (event : Event) (before after : State) (answer : Result (Unit {0}) yaml_error_t)
+cut_page : (front rest : List Event) (given : Settings) (all : List Event) (event : Event) (before after : MachineState) (answer : Result (Unit {0}) yaml_error_t)
     → HasTaken given all front (steps (settings_for given all) (closes_last front (event ∷ rest)) front at_stream first_standing) before
     → BeginsAccepted given.canonical (front ++ event ∷ [])
     → Wrote (event_laid before event (closes_at_once event rest)) before.page after.page answer
@@ -123,37 +123,35 @@ cut_page (x ∷ front) rest given all event before after answer h begun wrote =
       },
     )
 
-cut_stands : (given : Settings) (all front rest : List Event) (event : Event) (error : yaml_error_t) (before after : State)
+cut_stands : (given : Settings) (all front rest : List Event) (event : Event) (error : yaml_error_t) (before after : MachineState)
     → Reached given all front (event ∷ rest) before → is_ready event rest ≡ true
-    → CutShort error event (closes_at_once event rest) (record before { held = rest }) after → StandsCut given all error (failed_by error after)
+    → CutShort error event (closes_at_once event rest) before after → StandsCut given all error (failed_by error after)
 cut_stands given all front rest event error before after h is done =
     let s = settings_for given all in
-    let now = record before { held = rest } in
     let follows = closes_last front (event ∷ rest) in
-    let taken = taken_same given all front (steps s follows front at_stream first_standing) before now refl refl refl refl refl h.taken in
+    let taken = h.taken in
     record {
       front = front;
       event = event;
       later = rest;
       failed = failed_at given all front rest event before h is;
-      given_kept = ap (λ (s : State). s.given) done.kept ∙ h.taken.given_kept;
+      given_kept = ap (λ (s : MachineState). s.given) done.kept ∙ h.taken.given_kept;
       stands = h.taken.stands;
       page = elim done.page [
         | unwritten memory same ↦
             holds_before memory (subst (λ page. HoldsPieces s front (steps s follows front at_stream first_standing).pieces page) (sym same) taken.page)
         | partly_written part ↦
-            let accepted = accepted_next given all front event follows s now taken part.accepted in
-            let cut = cut_page front rest given all event now after part.answer taken accepted part.wrote in
+            let accepted = accepted_next given all front event follows s before taken part.accepted in
+            let cut = cut_page front rest given all event before after part.answer taken accepted part.wrote in
             holds_part accepted cut.0 part.failed cut.1 cut.2
       ];
     }
 
 -- A ready event fails.
-pub reached_failed : (given : Settings) (all front rest : List Event) (event : Event) (before after : State) (error : yaml_error_t)
+pub reached_failed : (given : Settings) (all front rest : List Event) (event : Event) (before after : MachineState) (error : yaml_error_t)
     → Reached given all front (event ∷ rest) before → is_ready event rest ≡ true
-    → Processed event (closes_at_once event rest) (record before { held = rest }) after (Err error)
-    → StandsSo given all (failed_by error after)
-reached_failed given all front rest event before after WriteError h is
-    done = (refl, at_event (cut_stands given all front rest event WriteError before after h is done))
-reached_failed given all front rest event before after Memory h is done = (refl, at_event (cut_stands given all front rest event Memory before after h is done))
-reached_failed given all front rest event before after error h is done = (refl, refused_stands given all front rest event error before after h is done)
+    → Processed event (closes_at_once event rest) before after (Err error)
+    → StandsFailed given all error (failed_by error after)
+reached_failed given all front rest event before after WriteError h is done = at_event (cut_stands given all front rest event WriteError before after h is done)
+reached_failed given all front rest event before after Memory h is done = at_event (cut_stands given all front rest event Memory before after h is done)
+reached_failed given all front rest event before after error h is done = refused_stands given all front rest event error before after h is done

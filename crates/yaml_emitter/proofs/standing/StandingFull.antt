@@ -21,7 +21,7 @@ use Rattle.yaml_base.proofs.Trees.{stream_pushed}
 use Rattle.yaml_base.proofs.PieceLaws.{steps_same, front_layout, list_layout_steps}
 use Rattle.yaml_base.proofs.QueueLaws.{open_at_written}
 use Rattle.yaml_pen.specs.Page.{Page, encoded, IsHandedOut}
-use Rattle.yaml_emitter.specs.State.{State}
+use Rattle.yaml_emitter.specs.State.{State, machine_of}
 use Rattle.yaml_emitter.specs.Processing.{closes_at_once}
 use Rattle.yaml_emitter.specs.StandsAfter.{IsPage, HoldsPiecesWith, holds_before, holds_part, StandsCut, StandsUnflushed, StandsSo, at_event, between_events}
 use Rattle.yaml_emitter.specs.Promises.{FillsLimit}
@@ -129,7 +129,7 @@ fills_by given all state begun page failed most same begins =
         subst (λ (s : Effective). length (bytes_written s (list_layout s (all ++ more))) ≤ given.limit) (same more) uncut in
         omega (arith, passed, within, more_bytes s state.page (list_layout s (all ++ more)) page.encoding (text more accepted))
 
-cut_fills : (given : Settings) (all : List Event) (state : State) → StandsCut given all WriteError state → FillsLimit given all state
+cut_fills : (given : Settings) (all : List Event) (state : State) → StandsCut given all WriteError (machine_of state) → FillsLimit given all state
 cut_fills given all state h =
     let s = settings_for given all in
     let longer = h.front ++ h.event ∷ [] in
@@ -165,7 +165,7 @@ between_fills (x ∷ front) rest given all state parts h handed opens =
     (begin_taken (length (x ∷ front)) begun_pieces (list_layout s ((x ∷ front) ++ (rest ++ more)))
     (front_layout (x ∷ front) (rest ++ more) accepted.stream s pushes (opens more))))
 
-unflushed_fills : (given : Settings) (all : List Event) (state : State) → StandsUnflushed given all WriteError state → FillsLimit given all state
+unflushed_fills : (given : Settings) (all : List Event) (state : State) → StandsUnflushed given all WriteError (machine_of state) → FillsLimit given all state
 unflushed_fills given all state h =
     let front = take (written h.before) h.before in
     let rest = drop (written h.before) h.before in

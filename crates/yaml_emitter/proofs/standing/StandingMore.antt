@@ -15,20 +15,16 @@ use Rattle.yaml_base.specs.declared.errors.yaml_error_t.{yaml_error_t}
 use Rattle.yaml_base.specs.declared.errors.yaml_error_t.TheVariants.{WriteError, Memory}
 use Rattle.yaml_base.proofs.Accepted.{begins_from_stands}
 use Rattle.yaml_base.proofs.ReadyLaws.{written_grows}
-use Rattle.yaml_pen.specs.Page.{Page, new_page, encoded, told, IsHandedOut}
+use Rattle.yaml_pen.specs.Page.{Page, new_page, told}
 use Rattle.yaml_base.specs.Encoding.{encode}
 use Rattle.yaml_pen.specs.Wrote.{Flushed}
 use Rattle.yaml_pen.proofs.Writing.{none_from_told}
-use Rattle.yaml_emitter.specs.State.{State}
+use Rattle.yaml_emitter.specs.State.{MachineState, State, machine_of, new_machine}
+use Rattle.yaml_emitter.specs.Given.{nothing_given}
 use Rattle.yaml_emitter.specs.Processing.{closes_at_once}
 use Rattle.yaml_emitter.specs.StandsAfter.{HoldsPieces, HoldsPiecesWith, StandsWell, FailedAt, closes_last, StandsRefused, HoldsCut, StandsCut, StandsUnflushed}
-use Rattle.yaml_emitter.specs.StandsAfter.{StandsStopped, StandsFailed, StandsBy, StandsSo, failed_by, at_event, between_events}
-use Rattle.yaml_emitter.proofs.standing.Standing.{settings_grown, settled_same, taken_same, taken_grown}
-
--- two states differ in what was begun, set, opened and closed alone
-abbrev pub AreFlags : State → State → Type 0
-AreFlags before after =
-    after ≡ record before { started = after.started; has_output = after.has_output; opened = after.opened; closed = after.closed }
+use Rattle.yaml_emitter.specs.StandsAfter.{StandsStopped, StandsFailed, StandsBy, StandsSo, at_event, between_events}
+use Rattle.yaml_emitter.proofs.standing.Standing.{settings_grown, settled_same, taken_grown}
 
 -- More events after a failure.
 failed_grown : (all front : List Event) (event : Event) (later more : List Event) → FailedAt all front event later
@@ -76,31 +72,25 @@ closes_last_grown [] event later more = refl
 closes_last_grown (x ∷ []) event later more = closes_one x event later more
 closes_last_grown (x ∷ y ∷ rest) event later more = closes_last_grown (y ∷ rest) event later more
 
-refused_grown : (given : Settings) (all more : List Event) (error : yaml_error_t) (before after : State) → AreFlags before after
-    → StandsRefused given all error before → StandsRefused given (all ++ more) error after
-refused_grown given all more error before after same h =
-    let s = settings_for given (all ++ more) in
+refused_grown : (given : Settings) (all more : List Event) (error : yaml_error_t) (machine : MachineState)
+    → StandsRefused given all error machine → StandsRefused given (all ++ more) error machine
+refused_grown given all more error machine h =
     record {
       front = h.front;
       event = h.event;
       later = h.later ++ more;
       failed = failed_grown all h.front h.event h.later more h.failed;
-      taken =
-          taken_same given (all ++ more) h.front (steps s false h.front at_stream first_standing) before after
-          (ap (λ (s : State). s.given) same) (ap (λ (s : State). s.settings) same) (ap (λ (s : State). s.stage) same) (ap (λ (s : State). s.mark) same)
-          (ap (λ (s : State). s.page) same)
-          (taken_grown h.front (h.event ∷ h.later) all more given false before h.failed.parts h.taken);
+      taken = taken_grown h.front (h.event ∷ h.later) all more given false machine h.failed.parts h.taken;
       refusal = h.refusal;
     }
 
-cut_grown : (given : Settings) (all more : List Event) (error : yaml_error_t) (before after : State) → AreFlags before after → StandsCut given all error before
-    → StandsCut given (all ++ more) error after
-cut_grown given all more error before after same h =
+cut_grown : (given : Settings) (all more : List Event) (error : yaml_error_t) (machine : MachineState) → StandsCut given all error machine
+    → StandsCut given (all ++ more) error machine
+cut_grown given all more error machine h =
     let settings = sym (settings_failed h.front given all h.event h.later more h.failed.parts) in
     let ready = ready_at h.front h.event h.later (subst (λ events. length h.front < written events) (sym h.failed.parts) h.failed.became_ready) in
     let at_front = sym (closes_last_grown h.front h.event h.later more) in
     let at_event = sym (closes_grown h.event h.later more ready) in
-    let is_page = sym (ap (λ (s : State). s.page) same) in
     let CutBy : Effective → Bool → Bool → Page → Type 0 = λ s at_front at_event page.
     HoldsCut given s h.front h.event (steps s at_front h.front at_stream first_standing)
     (steps s at_event (h.front ++ h.event ∷ []) at_stream first_standing) error page in
@@ -109,13 +99,12 @@ cut_grown given all more error before after same h =
       event = h.event;
       later = h.later ++ more;
       failed = failed_grown all h.front h.event h.later more h.failed;
-      given_kept = ap (λ (s : State). s.given) same ∙ h.given_kept;
+      given_kept = h.given_kept;
       stands = h.stands;
       page =
-          subst (λ s. CutBy s (closes_last h.front (h.event ∷ (h.later ++ more))) (closes_at_once h.event (h.later ++ more)) after.page) settings
-          (subst (λ b. CutBy (settings_for given all) b (closes_at_once h.event (h.later ++ more)) after.page) at_front
-          (subst (λ b. CutBy (settings_for given all) (closes_last h.front (h.event ∷ h.later)) b after.page) at_event
-          (subst (λ page. CutBy (settings_for given all) (closes_last h.front (h.event ∷ h.later)) (closes_at_once h.event h.later) page) is_page h.page)));
+          subst (λ s. CutBy s (closes_last h.front (h.event ∷ (h.later ++ more))) (closes_at_once h.event (h.later ++ more)) machine.page) settings
+          (subst (λ b. CutBy (settings_for given all) b (closes_at_once h.event (h.later ++ more)) machine.page) at_front
+          (subst (λ b. CutBy (settings_for given all) (closes_last h.front (h.event ∷ h.later)) b machine.page) at_event h.page));
     }
 
 holds_grown : (front : List Event) (given : Settings) (all rest more : List Event) (error : Option yaml_error_t) (page : Page) → front ++ rest ≡ all
@@ -126,51 +115,46 @@ holds_grown (x ∷ front) given all rest more error page parts h =
     subst (λ s. HoldsPiecesWith error s (x ∷ front) (steps s false (x ∷ front) at_stream first_standing).pieces page)
     (sym (settings_grown given x front rest all more parts)) h
 
-unflushed_grown : (given : Settings) (all more : List Event) (error : yaml_error_t) (before after : State) → AreFlags before after
-    → StandsUnflushed given all error before → StandsUnflushed given (all ++ more) error after
-unflushed_grown given all more error before after same h =
-    let s = settings_for given (all ++ more) in
+unflushed_grown : (given : Settings) (all more : List Event) (error : yaml_error_t) (machine : MachineState)
+    → StandsUnflushed given all error machine → StandsUnflushed given (all ++ more) error machine
+unflushed_grown given all more error machine h =
     let front = take (written h.before) h.before in
     let rest = drop (written h.before) h.before in
-    let is_page = sym (ap (λ (s : State). s.page) same) in
     let whole : front ++ (rest ++ h.later) ≡ all =
     sym (append_assoc front rest h.later) ∙ ap (λ events. events ++ h.later) (take-append-drop (written h.before) h.before) ∙ h.parts in
     record {
       before = h.before;
       later = h.later ++ more;
       parts = sym (append_assoc h.before h.later more) ∙ ap (λ events. events ++ more) h.parts;
-      given_kept = ap (λ (s : State). s.given) same ∙ h.given_kept;
+      given_kept = h.given_kept;
       stands = h.stands;
-      page =
-          subst (λ page. HoldsPiecesWith (Some error) s front (steps s false front at_stream first_standing).pieces page) is_page
-          (holds_grown front given all (rest ++ h.later) more (Some error) before.page whole h.page);
-      handed = subst (λ (page : Page). IsHandedOut (encoded page) page.output page.limit page.error) is_page h.handed;
+      page = holds_grown front given all (rest ++ h.later) more (Some error) machine.page whole h.page;
+      handed = h.handed;
     }
 
-stopped_grown : (given : Settings) (all more : List Event) (error : yaml_error_t) (before after : State) → AreFlags before after
-    → StandsStopped given all error before → StandsStopped given (all ++ more) error after
-stopped_grown given all more error before after same h =
+stopped_grown : (given : Settings) (all more : List Event) (error : yaml_error_t) (machine : MachineState)
+    → StandsStopped given all error machine → StandsStopped given (all ++ more) error machine
+stopped_grown given all more error machine h =
     elim h [
-      | at_event cut ↦ at_event (cut_grown given all more error before after same cut)
+      | at_event cut ↦ at_event (cut_grown given all more error machine cut)
       | between_events other ↦ between_events
-          (unflushed_grown given all more error before after same other)
+          (unflushed_grown given all more error machine other)
     ]
 
-failed_more_by : (error : yaml_error_t) (given : Settings) (all more : List Event) (before after : State) → AreFlags before after
-    → StandsFailed given all error before → StandsFailed given (all ++ more) error after
-failed_more_by WriteError given all more before after same h = stopped_grown given all more WriteError before after same h
-failed_more_by Memory given all more before after same h = stopped_grown given all more Memory before after same h
-failed_more_by error given all more before after same h = refused_grown given all more error before after same h
+failed_grown_by : (error : yaml_error_t) (given : Settings) (all more : List Event) (machine : MachineState)
+    → StandsFailed given all error machine → StandsFailed given (all ++ more) error machine
+failed_grown_by WriteError given all more machine h = stopped_grown given all more WriteError machine h
+failed_grown_by Memory given all more machine h = stopped_grown given all more Memory machine h
+failed_grown_by error given all more machine h = refused_grown given all more error machine h
 
 -- After a failure another event changes nothing.
 pub failed_more : (given : Settings) (all : List Event) (event : Event) (state : State) (error : yaml_error_t) → StandsSo given all state
     → state.error ≡ Some error
     → StandsSo given (all ++ event ∷ []) (record state { started = true })
 failed_more given all event state error h is =
-    let now = record state { started = true } in
-    let was : StandsBy given all (Some error) state = subst (λ e. StandsBy given all e state) is h in
-    subst (λ e. StandsBy given (all ++ event ∷ []) e now) (sym is)
-    (was.0, failed_more_by error given all (event ∷ []) state now refl was.1)
+    let machine = machine_of state in
+    let was : StandsBy given all (Some error) state.held machine = subst (λ e. StandsBy given all e state.held machine) is h in
+    subst (λ e. StandsBy given (all ++ event ∷ []) e state.held machine) (sym is) (was.0, failed_grown_by error given all (event ∷ []) machine was.1)
 
 -- Nothing was given yet.
 no_open : (front rest : List Event) → front ++ rest ≡ [] → open_count front ≤ most_open
@@ -184,7 +168,7 @@ pub new_stands : (given : Settings) (state : State) → state.given ≡ given �
     → state.held ≡ [] → state.error ≡ None
     → StandsSo given [] state
 new_stands given state is_given page stage mark held none =
-    let well : StandsWell given [] state =
+    let well : StandsWell given [] state.held (machine_of state) =
     record {
       taken = record {
         given_kept = is_given;
@@ -199,7 +183,39 @@ new_stands given state is_given page stage mark held none =
       };
       held = held;
     } in
-    subst (λ e. StandsBy given [] e state) (sym none) well
+    subst (λ e. StandsBy given [] e state.held (machine_of state)) (sym none) well
+
+pub new_emitter_stands : {m : MachineState} {held : List Event} → m ≡ new_machine → held ≡ []
+    → StandsSo nothing_given []
+    (record {
+      given = m.given;
+      settings = m.settings;
+      started = false;
+      has_output = false;
+      opened = false;
+      closed = false;
+      held = held;
+      stage = m.stage;
+      mark = m.mark;
+      page = m.page;
+      error = m.error;
+    })
+new_emitter_stands {m} {held} made none =
+    new_stands nothing_given
+    (record {
+      given = m.given;
+      settings = m.settings;
+      started = false;
+      has_output = false;
+      opened = false;
+      closed = false;
+      held = held;
+      stage = m.stage;
+      mark = m.mark;
+      page = m.page;
+      error = m.error;
+    }) (ap (λ (m : MachineState). m.given) made) (ap (λ (m : MachineState). m.page) made)
+    (ap (λ (m : MachineState). m.stage) made) (ap (λ (m : MachineState). m.mark) made) none (ap (λ (m : MachineState). m.error) made)
 
 -- A flush hands out what is written.
 take-nil : (n : ℕ) → take {A = ℕ} n [] ≡ []
@@ -228,35 +244,49 @@ flushed_page (x ∷ front) s pieces before after answer h flushed = (
   refl,
 )
 
-pub flushed_stands : (given : Settings) (all : List Event) (state : State) (page : Page) → StandsWell given all state → Flushed state.page page (Ok tt)
-    → StandsWell given all (record state { page = page })
-flushed_stands given all state page h flushed =
+flushed_stands : (given : Settings) (all held : List Event) (machine : MachineState) (page : Page) → StandsWell given all held machine
+    → Flushed machine.page page (Ok tt)
+    → StandsWell given all held (record machine { page = page; error = page.error })
+flushed_stands given all held machine page h flushed =
     let s = settings_for given all in
     let front = take (written all) all in
-    let now = record state { page = page } in
+    let now = record machine { page = page; error = page.error } in
     record {
       taken = record {
         given_kept = h.taken.given_kept;
-        settled = settled_same s front state now refl h.taken.settled;
+        settled = settled_same s front machine now refl h.taken.settled;
         stands = h.taken.stands;
         stage = h.taken.stage;
         standing =
-            ap (λ (p : Page). let made : Standing = record { cursor = p.cursor; mark = state.mark } in made) flushed.kept ∙ h.taken.standing;
+            ap (λ (p : Page). let made : Standing = record { cursor = p.cursor; mark = machine.mark } in made) flushed.kept ∙ h.taken.standing;
         page =
             subst (λ error. HoldsPiecesWith error s front (progress s all).pieces page) (none_from_told page.error flushed.answered)
-            (flushed_page front s (progress s all).pieces state.page page (Ok tt) h.taken.page flushed);
+            (flushed_page front s (progress s all).pieces machine.page page (Ok tt) h.taken.page flushed);
         handed_out = λ hands. (flushed.all (none_from_told page.error flushed.answered)).1;
       };
       held = h.held;
     }
 
+-- a flush sets the page alone, and its error
+abbrev pub HasPage : (before after : MachineState) → Type 0
+HasPage before after = after ≡ record before { page = after.page; error = after.page.error }
+
+pub flush_stands : (given : Settings) (all held : List Event) (before after : MachineState) → StandsBy given all before.error held before
+    → before.error ≡ None → HasPage before after
+    → Flushed before.page after.page (Ok tt) → StandsBy given all after.error held after
+flush_stands given all held before after h none same flushed =
+    let well : StandsWell given all held before = subst (λ e. StandsBy given all e held before) none h in
+    subst (λ e. StandsBy given all e held after) (sym (ap (λ (m : MachineState). m.error) same ∙ none_from_told after.page.error flushed.answered))
+    (subst (λ (m : MachineState). StandsWell given all held m) (sym same) (flushed_stands given all held before after.page well flushed))
+
 pub some_from_told : (given : Option yaml_error_t) (error : yaml_error_t) → Err error ≡ told given → given ≡ Some error
 some_from_told None error is = cc
 some_from_told (Some other) error is = cc
 
-unflushed_stands : (given : Settings) (all : List Event) (state : State) (page : Page) (error : yaml_error_t) → StandsWell given all state
-    → Flushed state.page page (Err error) → StandsUnflushed given all error (failed_by error (record state { page = page }))
-unflushed_stands given all state page error h flushed =
+unflushed_stands : (given : Settings) (all held : List Event) (machine : MachineState) (page : Page) (error : yaml_error_t)
+    → StandsWell given all held machine
+    → Flushed machine.page page (Err error) → StandsUnflushed given all error (record machine { page = page; error = page.error })
+unflushed_stands given all held machine page error h flushed =
     let s = settings_for given all in
     let front = take (written all) all in
     record {
@@ -267,7 +297,7 @@ unflushed_stands given all state page error h flushed =
       stands = h.taken.stands;
       page =
           subst (λ error. HoldsPiecesWith error s front (progress s all).pieces page) (some_from_told page.error error flushed.answered)
-          (flushed_page front s (progress s all).pieces state.page page (Err error) h.taken.page flushed);
+          (flushed_page front s (progress s all).pieces machine.page page (Err error) h.taken.page flushed);
       handed = flushed.handed;
     }
 
@@ -284,20 +314,24 @@ limit_or_memory given error is named =
       ]
     ]
 
-failed_if_stopped : (given : Settings) (all : List Event) (error : yaml_error_t) (state : State) → (error ≡ WriteError) ⊎ (error ≡ Memory)
-    → StandsStopped given all error state → StandsFailed given all error state
-failed_if_stopped given all error state why stopped =
+failed_if_stopped : (given : Settings) (all : List Event) (error : yaml_error_t) (machine : MachineState) → (error ≡ WriteError) ⊎ (error ≡ Memory)
+    → StandsStopped given all error machine → StandsFailed given all error machine
+failed_if_stopped given all error machine why stopped =
     elim why [
-      | inl full ↦ subst (λ e. StandsFailed given all e state) (sym full) (subst (λ e. StandsStopped given all e state) full stopped)
-      | inr memory ↦ subst (λ e. StandsFailed given all e state) (sym memory) (subst (λ e. StandsStopped given all e state) memory stopped)
+      | inl full ↦ subst (λ e. StandsFailed given all e machine) (sym full) (subst (λ e. StandsStopped given all e machine) full stopped)
+      | inr memory ↦ subst (λ e. StandsFailed given all e machine) (sym memory) (subst (λ e. StandsStopped given all e machine) memory stopped)
     ]
 
-pub flush_failed : (given : Settings) (all : List Event) (state : State) (page : Page) (error : yaml_error_t) → StandsWell given all state
-    → Flushed state.page page (Err error)
-    → StandsSo given all (failed_by error (record state { page = page }))
-flush_failed given all state page error h flushed = (
-  refl,
-  failed_if_stopped given all error (failed_by error (record state { page = page }))
-      (limit_or_memory page.error error (some_from_told page.error error flushed.answered) flushed.handed.named)
-      (between_events (unflushed_stands given all state page error h flushed)),
-)
+pub flush_failed : (given : Settings) (all held : List Event) (before after : MachineState) (error : yaml_error_t) → StandsBy given all before.error held before
+    → before.error ≡ None → HasPage before after
+    → Flushed before.page after.page (Err error)
+    → StandsBy given all after.error [] after
+flush_failed given all held before after error h none same flushed =
+    let well : StandsWell given all held before = subst (λ e. StandsBy given all e held before) none h in
+    let told = some_from_told after.page.error error flushed.answered in
+    let now : MachineState = record before { page = after.page; error = after.page.error } in
+    let failed : StandsFailed given all error now =
+    failed_if_stopped given all error now (limit_or_memory after.page.error error told flushed.handed.named)
+    (between_events (unflushed_stands given all held before after.page error well flushed)) in
+    subst (λ e. StandsBy given all e [] after) (sym (ap (λ (m : MachineState). m.error) same ∙ told))
+    (refl, subst (λ (m : MachineState). StandsFailed given all error m) (sym same) failed)

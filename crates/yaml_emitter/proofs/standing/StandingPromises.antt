@@ -22,7 +22,7 @@ use Rattle.yaml_base.proofs.PieceLaws.{steps_count, steps-append}
 use Rattle.yaml_base.proofs.Progress.{progress_pieces}
 use Rattle.yaml_base.proofs.QueueLaws.{held_is_short, held_waits, written_within}
 use Rattle.yaml_pen.specs.Page.{Page}
-use Rattle.yaml_emitter.specs.State.{State}
+use Rattle.yaml_emitter.specs.State.{State, machine_of}
 use Rattle.yaml_emitter.specs.Queue.{is_head_ready}
 use Rattle.yaml_emitter.specs.Processing.{closes_at_once}
 use Rattle.yaml_emitter.specs.StandsAfter.{HoldsPiecesWith, StandsWell, closes_last, StandsRefused, holds_before, holds_part, StandsCut, StandsUnflushed}
@@ -34,12 +34,13 @@ use Rattle.yaml_emitter.proofs.standing.StandingSteps.{awaits_few, closes_last-a
 use Rattle.yaml_emitter.proofs.standing.StandingFailed.{own_accepted}
 use Rattle.yaml_emitter.proofs.standing.StandingTexts.{holds_text, pieces_front, begin_take, front_longer, GoesOn, goes_on, output_begins, holds_output}
 
-pub stands_well : (given : Settings) (all : List Event) (state : State) → StandsSo given all state → state.error ≡ None → StandsWell given all state
-stands_well given all state h none = subst (λ e. StandsBy given all e state) none h
+pub stands_well : (given : Settings) (all : List Event) (state : State) → StandsSo given all state → state.error ≡ None
+    → StandsWell given all state.held (machine_of state)
+stands_well given all state h none = subst (λ e. StandsBy given all e state.held (machine_of state)) none h
 
 pub stands_failed : (given : Settings) (all : List Event) (state : State) (error : yaml_error_t) → StandsSo given all state → state.error ≡ Some error
-    → StandsFailed given all error state
-stands_failed given all state error h is = (subst (λ e. StandsBy given all e state) is h).1
+    → StandsFailed given all error (machine_of state)
+stands_failed given all state error h is = (subst (λ e. StandsBy given all e state.held (machine_of state)) is h).1
 
 -- Without an error the text is that of the ready events' pieces.
 pub promises_text : (given : Settings) (all : List Event) (state : State) → StandsSo given all state → state.error ≡ None
@@ -64,7 +65,7 @@ waiting : (held : List Event) → ((event : Event) (rest : List Event) → held 
 waiting [] h = (refl, refl)
 waiting (event ∷ rest) h = let waits : is_ready event rest ≡ false = h event rest refl in (waits, starts_if event rest waits)
 
-held_few : (held : List Event) → is_head_ready held ≡ false → length held ≤ most_held held
+pub held_few : (held : List Event) → is_head_ready held ≡ false → length held ≤ most_held held
 held_few [] h = omega arith
 held_few (event ∷ rest) h = held_is_short event rest h
 
@@ -83,7 +84,7 @@ promises_held given all state h none =
     }
 
 -- A refusal.
-refused_at : (given : Settings) (all : List Event) (state : State) (error : yaml_error_t) → StandsRefused given all error state
+refused_at : (given : Settings) (all : List Event) (state : State) (error : yaml_error_t) → StandsRefused given all error (machine_of state)
     → RefusedAt given all error state
 refused_at given all state error h =
     let s = settings_for given all in
@@ -103,8 +104,8 @@ refused_at given all state error h =
           ∙ ap (text_written s) (sym (pieces_front h.front (h.event ∷ h.later) all s stands.partial h.failed.parts stands.is_partial));
     }
 
-refused_by : (error : yaml_error_t) (given : Settings) (all : List Event) (state : State) → IsRefusal error → StandsFailed given all error state
-    → StandsRefused given all error state
+refused_by : (error : yaml_error_t) (given : Settings) (all : List Event) (state : State) → IsRefusal error → StandsFailed given all error (machine_of state)
+    → StandsRefused given all error (machine_of state)
 refused_by WriteError given all state is h = absurd is
 refused_by Memory given all state is h = absurd is
 refused_by error given all state is h = h
@@ -195,7 +196,7 @@ closing_more canonical s front (next ∷ later) true is begins =
     }
 
 -- After an error.
-cut_output : (given : Settings) (all : List Event) (error : yaml_error_t) (state : State) → StandsCut given all error state → StopsWriting given all state
+cut_output : (given : Settings) (all : List Event) (error : yaml_error_t) (state : State) → StandsCut given all error (machine_of state) → StopsWriting given all state
 cut_output given all error state h =
     let s = settings_for given all in
     elim h.page [
@@ -233,7 +234,7 @@ cut_output given all error state h =
           })
     ]
 
-unflushed_output : (given : Settings) (all : List Event) (error : yaml_error_t) (state : State) → StandsUnflushed given all error state
+unflushed_output : (given : Settings) (all : List Event) (error : yaml_error_t) (state : State) → StandsUnflushed given all error (machine_of state)
     → StopsWriting given all state
 unflushed_output given all error state h =
     let front = take (written h.before) h.before in
@@ -242,24 +243,24 @@ unflushed_output given all error state h =
     sym (append_assoc front rest h.later) ∙ ap (λ events. events ++ h.later) (take-append-drop (written h.before) h.before) ∙ h.parts in
     stops_before front (output_from given all front (rest ++ h.later) (Some error) state whole h.stands h.page)
 
-refused_output : (given : Settings) (all : List Event) (error : yaml_error_t) (state : State) → StandsRefused given all error state
+refused_output : (given : Settings) (all : List Event) (error : yaml_error_t) (state : State) → StandsRefused given all error (machine_of state)
     → StopsWriting given all state
 refused_output given all error state h =
     stops_before h.front (output_from given all h.front (h.event ∷ h.later) None state h.failed.parts h.taken.stands h.taken.page)
 
-stopped_output : (given : Settings) (all : List Event) (error : yaml_error_t) (state : State) → StandsStopped given all error state
+stopped_output : (given : Settings) (all : List Event) (error : yaml_error_t) (state : State) → StandsStopped given all error (machine_of state)
     → StopsWriting given all state
 stopped_output given all error state h = elim h [
   | at_event cut ↦ cut_output given all error state cut
   | between_events other ↦ unflushed_output given all error state other
 ]
 
-failed_output : (error : yaml_error_t) (given : Settings) (all : List Event) (state : State) → StandsFailed given all error state → StopsWriting given all state
+failed_output : (error : yaml_error_t) (given : Settings) (all : List Event) (state : State) → StandsFailed given all error (machine_of state) → StopsWriting given all state
 failed_output WriteError given all state h = stopped_output given all WriteError state h
 failed_output Memory given all state h = stopped_output given all Memory state h
 failed_output error given all state h = refused_output given all error state h
 
-output_by : (error : Option yaml_error_t) (given : Settings) (all : List Event) (state : State) → StandsBy given all error state
+output_by : (error : Option yaml_error_t) (given : Settings) (all : List Event) (state : State) → StandsBy given all error state.held (machine_of state)
     → OutputBegins given all error state
 output_by None given all state h =
     subst (λ count. BeginsOutput given all (take (written all) all) count state) (length-take-le (written all) all (written_within all))
@@ -276,7 +277,7 @@ holds_within : (front : List Event) (s : Effective) (pieces : List Piece) (error
 holds_within [] s pieces error page h = omega (arith, ap (λ (p : Page). length p.output) h)
 holds_within (x ∷ front) s pieces error page h = omega (arith, h.0.handed.within, h.0.limit)
 
-cut_within : (given : Settings) (all : List Event) (error : yaml_error_t) (state : State) → StandsCut given all error state
+cut_within : (given : Settings) (all : List Event) (error : yaml_error_t) (state : State) → StandsCut given all error (machine_of state)
     → length state.page.output ≤ given.limit
 cut_within given all error state h =
     elim h.page [
@@ -284,7 +285,7 @@ cut_within given all error state h =
       | holds_part begun page failed least most ↦ omega (arith, page.handed.within, page.limit)
     ]
 
-stopped_within : (given : Settings) (all : List Event) (error : yaml_error_t) (state : State) → StandsStopped given all error state
+stopped_within : (given : Settings) (all : List Event) (error : yaml_error_t) (state : State) → StandsStopped given all error (machine_of state)
     → length state.page.output ≤ given.limit
 stopped_within given all error state h =
     elim h [
@@ -292,13 +293,13 @@ stopped_within given all error state h =
       | between_events other ↦ holds_within (take (written other.before) other.before) (settings_for given all) _ (Some error) state.page other.page
     ]
 
-failed_within : (error : yaml_error_t) (given : Settings) (all : List Event) (state : State) → StandsFailed given all error state
+failed_within : (error : yaml_error_t) (given : Settings) (all : List Event) (state : State) → StandsFailed given all error (machine_of state)
     → length state.page.output ≤ given.limit
 failed_within WriteError given all state h = stopped_within given all WriteError state h
 failed_within Memory given all state h = stopped_within given all Memory state h
 failed_within error given all state h = holds_within h.front (settings_for given all) _ None state.page h.taken.page
 
-within_by : (error : Option yaml_error_t) (given : Settings) (all : List Event) (state : State) → StandsBy given all error state
+within_by : (error : Option yaml_error_t) (given : Settings) (all : List Event) (state : State) → StandsBy given all error state.held (machine_of state)
     → length state.page.output ≤ given.limit
 within_by None given all state h = holds_within (take (written all) all) (settings_for given all) _ None state.page h.taken.page
 within_by (Some error) given all state h = failed_within error given all state h.1

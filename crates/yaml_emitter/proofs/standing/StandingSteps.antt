@@ -15,15 +15,15 @@ use Rattle.yaml_base.proofs.Accepted.{stands_from_begins}
 use Rattle.yaml_base.proofs.Completions.{pushed-append}
 use Rattle.yaml_base.proofs.QueueLaws.{no_end_held}
 use Rattle.yaml_pen.proofs.Composing.{wrote_all}
-use Rattle.yaml_emitter.specs.State.{State, standing_of}
+use Rattle.yaml_emitter.specs.State.{MachineState, standing_of}
 use Rattle.yaml_emitter.specs.Queue.{is_head_ready}
 use Rattle.yaml_emitter.specs.Processing.{closes_at_once, event_stepped, event_laid, WritesEvent, Processed}
 use Rattle.yaml_emitter.specs.StandsAfter.{HasTaken, StandsWell, closes_last, Reached}
-use Rattle.yaml_emitter.proofs.standing.Standing.{open_last, taken_same, IsLater, starts_only, not_begun, pushes_later, one_more, next_steps, accepted_next}
+use Rattle.yaml_emitter.proofs.standing.Standing.{open_last, IsLater, starts_only, not_begun, pushes_later, one_more, next_steps, accepted_next}
 use Rattle.yaml_emitter.proofs.standing.Standing.{page_more, writes_later, taken_first}
 
 -- Any later event: its piece is the next.
-pub stepped_steps : (given : Settings) (all : List Event) (x : Event) (front rest : List Event) (event : Event) (q : Partial) (before : State)
+pub stepped_steps : (given : Settings) (all : List Event) (x : Event) (front rest : List Event) (event : Event) (q : Partial) (before : MachineState)
     → HasTaken given all (x ∷ front) (steps (settings_for given all) (closes_last (x ∷ front) (event ∷ rest)) (x ∷ front) at_stream first_standing) before
     → partial_of ((x ∷ front) ++ event ∷ []) ≡ Some q
     → steps (settings_for given all) (closes_at_once event rest) ((x ∷ front) ++ event ∷ []) at_stream first_standing
@@ -44,7 +44,7 @@ hands_out_last-append [] event = refl
 hands_out_last-append (x ∷ []) event = refl
 hands_out_last-append (x ∷ y ∷ more) event = hands_out_last-append (y ∷ more) event
 
-taken_later : (given : Settings) (all : List Event) (x : Event) (front rest : List Event) (event : Event) (q : Partial) (before after : State)
+taken_later : (given : Settings) (all : List Event) (x : Event) (front rest : List Event) (event : Event) (q : Partial) (before after : MachineState)
     → IsLater event
     → HasTaken given all (x ∷ front) (steps (settings_for given all) (closes_last (x ∷ front) (event ∷ rest)) (x ∷ front) at_stream first_standing) before
     → partial_of ((x ∷ front) ++ event ∷ []) ≡ Some q
@@ -62,7 +62,7 @@ taken_later given all x front rest event q before after later h pushes begun don
     stepped_steps given all x front rest event q before h pushes in
     subst (λ steps. HasTaken given all ((x ∷ front) ++ event ∷ []) steps after) (sym whole)
     (record {
-      given_kept = ap (λ (s : State). s.given) done.kept ∙ h.given_kept;
+      given_kept = ap (λ (s : MachineState). s.given) done.kept ∙ h.given_kept;
       settled = wrote.0 ∙ h.settled;
       stands = begun;
       stage = done.stage;
@@ -73,7 +73,7 @@ taken_later given all x front rest event q before after later h pushes begun don
       handed_out = λ hands. done.handed_out (sym (hands_out_last-append (x ∷ front) event) ∙ hands);
     })
 
-taken_next : (front rest : List Event) (given : Settings) (all : List Event) (event : Event) (q : Partial) (before after : State) → front ++ event ∷ rest ≡ all
+taken_next : (front rest : List Event) (given : Settings) (all : List Event) (event : Event) (q : Partial) (before after : MachineState) → front ++ event ∷ rest ≡ all
     → HasTaken given all front (steps (settings_for given all) (closes_last front (event ∷ rest)) front at_stream first_standing) before
     → partial_of (front ++ event ∷ []) ≡ Some q
     → BeginsAccepted given.canonical (front ++ event ∷ [])
@@ -100,27 +100,23 @@ closes_last-append (x ∷ []) rest event = refl
 closes_last-append (x ∷ y ∷ more) rest event = closes_last-append (y ∷ more) rest event
 
 -- A ready event is written.
-pub reached_next : (given : Settings) (all front rest : List Event) (event : Event) (before after : State) → Reached given all front (event ∷ rest) before
+pub reached_next : (given : Settings) (all front rest : List Event) (event : Event) (before after : MachineState) → Reached given all front (event ∷ rest) before
     → is_ready event rest ≡ true
-    → Processed event (closes_at_once event rest) (record before { held = rest }) after (Ok tt)
+    → Processed event (closes_at_once event rest) before after (Ok tt)
     → Reached given all (front ++ event ∷ []) rest after
 reached_next given all front rest event before after h is done =
     let s = settings_for given all in
-    let now = record before { held = rest } in
     let follows = closes_last front (event ∷ rest) in
-    let taken = taken_same given all front (steps s follows front at_stream first_standing) before now refl refl refl refl refl h.taken in
-    let begun = accepted_next given all front event follows s now taken done.accepted in
+    let begun = accepted_next given all front event follows s before h.taken done.accepted in
     let stands = stands_from_begins given.canonical (front ++ event ∷ []) begun in
     let count : written (event ∷ rest) ≡ suc (written rest) = ap (λ b. if b then suc (written rest) else 0) is in
     record {
       parts = append_assoc front (event ∷ []) rest ∙ h.parts;
-      held = ap (λ (s : State). s.held) done.kept;
-      no_error = ap (λ (s : State). s.error) done.kept ∙ h.no_error;
       ready = omega (arith, h.ready, count, length-append front (event ∷ []));
       taken =
           subst (λ follows. HasTaken given all (front ++ event ∷ []) (steps s follows (front ++ event ∷ []) at_stream first_standing) after)
           (sym (closes_last-append front rest event))
-          (taken_next front rest given all event stands.partial now after h.parts taken stands.is_partial begun done);
+          (taken_next front rest given all event stands.partial before after h.parts h.taken stands.is_partial begun done);
     }
 
 -- No more is ready.
@@ -142,8 +138,8 @@ and_left_false : (a b : Bool) → b ≡ false → a && b ≡ false
 and_left_false true b h = h
 and_left_false false b h = refl
 
-pub reached_end : (given : Settings) (all front rest : List Event) (state : State) → Reached given all front rest state → is_head_ready rest ≡ false
-    → StandsWell given all state
+pub reached_end : (given : Settings) (all front rest : List Event) (state : MachineState) → Reached given all front rest state → is_head_ready rest ≡ false
+    → StandsWell given all rest state
 reached_end given all front rest state h none =
     let s = settings_for given all in
     let count : written all ≡ length front = h.ready ∙ ap (λ n. length front + n) (none_ready rest none) ∙ omega arith in
@@ -156,5 +152,5 @@ reached_end given all front rest state h none =
       taken =
           subst (λ front. HasTaken given all front (steps s false front at_stream first_standing) state) (sym begins)
           (subst (λ follows. HasTaken given all front (steps s follows front at_stream first_standing) state) opens h.taken);
-      held = h.held ∙ sym holds;
+      held = sym holds;
     }

@@ -9,13 +9,13 @@ use Rattle.yaml_base.specs.Output.{settings_for}
 use Rattle.yaml_base.specs.declared.errors.yaml_error_t.{yaml_error_t}
 use Rattle.yaml_base.specs.declared.errors.yaml_error_t.TheVariants.{WriteError, Memory}
 use Rattle.yaml_pen.specs.Page.{Page, IsReady, IsUntouched, all_taken}
-use Rattle.yaml_emitter.specs.Inside.{IsEmitter}
-use Rattle.yaml_emitter.specs.State.{FitsPage, State, with_all_taken}
+use Rattle.yaml_emitter.specs.MachineInside.{IsMachine}
+use Rattle.yaml_emitter.specs.State.{FitsPage, MachineState, State, machine_of, with_all_taken}
 use Rattle.yaml_emitter.specs.Processing.{closes_at_once}
 use Rattle.yaml_emitter.specs.Stages.{seen_stage}
 use Rattle.yaml_emitter.specs.StandsAfter.{HasTaken, HoldsCut, HoldsPiecesWith, IsPage, StandsAfter, StandsBy, StandsFailed, StandsRefused, StandsStopped}
 use Rattle.yaml_emitter.specs.StandsAfter.{closes_last, holds_before, holds_part, at_event, between_events}
-use Rattle.yaml_emitter.specs.declared.emitter.yaml_emitter_t.TheInside.{Inside}
+use Rattle.yaml_emitter.specs.declared.machine.Machine.TheInside.{Inside}
 use Rattle.yaml_emitter.proofs.standing.Standing.{settled_same}
 
 page_taken : (s : Effective) (page : Page) → IsPage s page → IsPage s (all_taken page)
@@ -26,16 +26,20 @@ holds_taken : (error : Option yaml_error_t) (s : Effective) (events : List Event
 holds_taken error s [] pieces page h = ap all_taken h
 holds_taken error s (event ∷ events) pieces page h = (page_taken s page h.0, h.1, h.2)
 
-state_taken : (given : Settings) (all front : List Event) (reached : Steps) (state : State) → HasTaken given all front reached state
-    → HasTaken given all front reached (with_all_taken state)
-state_taken given all front reached state h =
+-- the same machine, of whose output all is taken
+abbrev taken_from : MachineState → MachineState
+taken_from machine = record machine { page = all_taken machine.page }
+
+state_taken : (given : Settings) (all front : List Event) (reached : Steps) (machine : MachineState) → HasTaken given all front reached machine
+    → HasTaken given all front reached (taken_from machine)
+state_taken given all front reached machine h =
     record {
       given_kept = h.given_kept;
-      settled = settled_same (settings_for given all) front state (with_all_taken state) refl h.settled;
+      settled = settled_same (settings_for given all) front machine (taken_from machine) refl h.settled;
       stands = h.stands;
       stage = h.stage;
       standing = h.standing;
-      page = holds_taken None (settings_for given all) front reached.pieces state.page h.page;
+      page = holds_taken None (settings_for given all) front reached.pieces machine.page h.page;
       handed_out = h.handed_out;
     }
 
@@ -46,9 +50,9 @@ cut_taken given s front event before with_event error page (holds_before memory 
 cut_taken given s front event before with_event error page (holds_part begins is full grown part) =
     holds_part begins (page_taken s page is) full grown part
 
-stopped_taken : (given : Settings) (all : List Event) (error : yaml_error_t) (state : State) → StandsStopped given all error state
-    → StandsStopped given all error (with_all_taken state)
-stopped_taken given all error state h =
+stopped_taken : (given : Settings) (all : List Event) (error : yaml_error_t) (machine : MachineState) → StandsStopped given all error machine
+    → StandsStopped given all error (taken_from machine)
+stopped_taken given all error machine h =
     let s = settings_for given all in
     elim h [
       | at_event at ↦
@@ -61,7 +65,7 @@ stopped_taken given all error state h =
             given_kept = at.given_kept;
             stands = at.stands;
             page = cut_taken given s at.front at.event (steps s (closes_last at.front (at.event ∷ at.later)) at.front at_stream first_standing)
-                (steps s (closes_at_once at.event at.later) (at.front ++ at.event ∷ []) at_stream first_standing) error state.page at.page;
+                (steps s (closes_at_once at.event at.later) (at.front ++ at.event ∷ []) at_stream first_standing) error machine.page at.page;
           })
       | between_events at ↦
           between_events
@@ -71,40 +75,40 @@ stopped_taken given all error state h =
             parts = at.parts;
             given_kept = at.given_kept;
             stands = at.stands;
-            page = holds_taken (Some error) s (take (written at.before) at.before) (progress s at.before).pieces state.page at.page;
+            page = holds_taken (Some error) s (take (written at.before) at.before) (progress s at.before).pieces machine.page at.page;
             handed = at.handed;
           })
     ]
 
-refused_taken : (given : Settings) (all : List Event) (error : yaml_error_t) (state : State) → StandsRefused given all error state
-    → StandsRefused given all error (with_all_taken state)
-refused_taken given all error state h =
+refused_taken : (given : Settings) (all : List Event) (error : yaml_error_t) (machine : MachineState) → StandsRefused given all error machine
+    → StandsRefused given all error (taken_from machine)
+refused_taken given all error machine h =
     record {
       front = h.front;
       event = h.event;
       later = h.later;
       failed = h.failed;
-      taken = state_taken given all h.front (steps (settings_for given all) false h.front at_stream first_standing) state h.taken;
+      taken = state_taken given all h.front (steps (settings_for given all) false h.front at_stream first_standing) machine h.taken;
       refusal = h.refusal;
     }
 
-failed_taken : (error : yaml_error_t) (given : Settings) (all : List Event) (state : State) → StandsFailed given all error state
-    → StandsFailed given all error (with_all_taken state)
-failed_taken WriteError given all state h = stopped_taken given all WriteError state h
-failed_taken Memory given all state h = stopped_taken given all Memory state h
-failed_taken error given all state h = refused_taken given all error state h
+failed_taken : (error : yaml_error_t) (given : Settings) (all : List Event) (machine : MachineState) → StandsFailed given all error machine
+    → StandsFailed given all error (taken_from machine)
+failed_taken WriteError given all machine h = stopped_taken given all WriteError machine h
+failed_taken Memory given all machine h = stopped_taken given all Memory machine h
+failed_taken error given all machine h = refused_taken given all error machine h
 
-stands_by : (error : Option yaml_error_t) (given : Settings) (all : List Event) (state : State) → StandsBy given all error state
-    → StandsBy given all error (with_all_taken state)
-stands_by None given all state h =
-    record { taken = state_taken given all (take (written all) all) (progress (settings_for given all) all) state h.taken; held = h.held }
-stands_by (Some error) given all state h = (h.0, failed_taken error given all state h.1)
+stands_by : (error : Option yaml_error_t) (given : Settings) (all held : List Event) (machine : MachineState) → StandsBy given all error held machine
+    → StandsBy given all error held (taken_from machine)
+stands_by None given all held machine h =
+    record { taken = state_taken given all (take (written all) all) (progress (settings_for given all) all) machine h.taken; held = h.held }
+stands_by (Some error) given all held machine h = (h.0, failed_taken error given all machine h.1)
 
 pub stands_taken : (given : Settings) (all : List Event) (state : State) → StandsAfter given all state → StandsAfter given all (with_all_taken state)
-stands_taken given all state stands = record { texts = stands.texts; so = stands_by state.error given all state stands.so }
+stands_taken given all state stands = record { texts = stands.texts; so = stands_by state.error given all state.held (machine_of state) stands.so }
 
 -- what an emitter holds stays sound
-untouched_taken : (page : Page) → IsUntouched page → IsUntouched (all_taken page)
+pub untouched_taken : (page : Page) → IsUntouched page → IsUntouched (all_taken page)
 untouched_taken page is = record { no_bytes = is.no_bytes; no_error = is.no_error }
 
 ready_taken : (page : Page) → IsReady page → IsReady (all_taken page)
@@ -117,14 +121,6 @@ fits_taken (at_node directives frames) page fits = ready_taken page fits
 fits_taken at_document_end page fits = ready_taken page fits
 fits_taken at_nothing page fits = ready_taken page fits
 
-pub kept_taken : {A : Type 0} (e : Inside A) → IsEmitter e → IsEmitter (record e { pen = all_taken e.pen })
+pub kept_taken : {A : Type 0} (e : Inside A) → IsMachine e → IsMachine (record e { pen = all_taken e.pen })
 kept_taken e is =
-    record {
-      room = is.room;
-      untouched = λ unset. untouched_taken e.pen (is.untouched unset);
-      begun = is.begun;
-      opened = is.opened;
-      handles = is.handles;
-      canonical = is.canonical;
-      page = fits_taken (seen_stage e.stage e.directives e.frames) e.pen is.page;
-    }
+    record { handles = is.handles; canonical = is.canonical; page = fits_taken (seen_stage e.stage e.directives e.frames) e.pen is.page }

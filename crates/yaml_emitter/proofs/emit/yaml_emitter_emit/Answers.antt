@@ -1,116 +1,166 @@
-use Rattle.std.proofs.Common.{arith, ◌++◌, ◌∷◌, [], take, sym, subst, ap, refl, ◌∙◌, ◌≡◌, false, true}
-use Rattle.std.proofs.lemmas.Grind.{common_steps}
+use Rattle.std.proofs.Common.{◌++◌, ◌∷◌, ◌≤◌, [], drop, List, sym, subst, ap, refl, ◌∙◌, ◌≡◌, false, true, Some}
 use Rattle.std.proofs.lemmas.Bool.{false≢true}
-use Rattle.yaml_base.specs.Ready.{written}
+use Rattle.yaml_base.specs.Event.{Event}
 use Rattle.yaml_base.specs.Seen.{seen_event, seen_events}
-use Rattle.yaml_pen.specs.Page.{Page}
+use Rattle.yaml_pen.specs.Page.{told}
 use Rattle.yaml_pen.specs.Wrote.{Grows}
 use Rattle.yaml_emitter.specs.Inside.{state_of}
 use Rattle.yaml_emitter.specs.Queue.{is_head_ready}
-use Rattle.yaml_emitter.specs.State.{State}
-use Rattle.yaml_emitter.specs.StandsAfter.{StandsAfter}
-use Rattle.yaml_emitter.proofs.standing.Emitting.{none_became_ready, reached_alone, stands_few, reached_taken}
+use Rattle.yaml_emitter.specs.State.{KeepsGiven, KeepsSet, MachineState, State, machine_of}
+use Rattle.yaml_emitter.specs.StandsAfter.{StandsAfter, StandsBy, failed_by}
+use Rattle.yaml_emitter.proofs.standing.Emitting.{none_became_ready, stands_alone, stands_failing, stands_written}
+use Rattle.yaml_emitter.proofs.standing.EmitterKept.{has_output_inside, kept_emitting, room_left, seen_more, within_count}
 use Rattle.yaml_emitter.proofs.standing.Growing.{grows_page}
+use Rattle.yaml_emitter.proofs.standing.KeepsSet.{emitting_keeps}
 use Rattle.yaml_emitter.proofs.standing.Promising.{promised, stands_with}
 use Rattle.yaml_emitter.proofs.standing.StandingMore.{failed_more}
 use Rattle.yaml_emitter.proofs.emit.yaml_emitter_emit.Goals as goal
 
+pub push_reserved-requires : goal.push_reserved-requires
+push_reserved-requires g c = room_left c.emitter.inside c.emitter.invariant
+
+pub invariant_of-emitter-then-is_ready_alone : goal.invariant_of-emitter-then-is_ready_alone
+invariant_of-emitter-then-is_ready_alone g c =
+    kept_emitting c.emitter.inside _ (has_output_inside c.emitter.inside c.emitter.view_is c.requires) refl c.emitter.invariant.room
+    c.emitter.invariant.waits
+
+pub invariant_of-emitter-in-Ok : goal.invariant_of-emitter-in-Ok
+invariant_of-emitter-in-Ok g c =
+    kept_emitting c.emitter.inside _ (has_output_inside c.emitter.inside c.emitter.view_is c.requires) refl
+    (subst (λ n. 4 ≤ n) (sym (c.drop_front.ensures.room ∙ c.push_reserved.ensures.capacity)) c.emitter.invariant.room)
+    (ap is_head_ready (c.drop_front.ensures.rest ∙ ap (λ q. drop c.in-Ok.count (seen_events q)) (sym c.as_slice.ensures.value)) ∙ c.in-Ok.ensures.written.ended)
+
+pub invariant_of-emitter-in-Err : goal.invariant_of-emitter-in-Err
+invariant_of-emitter-in-Err g c =
+    kept_emitting c.emitter.inside _ (has_output_inside c.emitter.inside c.emitter.view_is c.requires) refl
+    (subst (λ n. 4 ≤ n) (sym (c.clear.ensures.capacity ∙ c.push_reserved.ensures.capacity)) c.emitter.invariant.room)
+    (ap (λ q. is_head_ready (seen_events q)) c.clear.ensures.items)
+
 pub returns-in-Some-clause-stands : goal.returns-in-Some-clause-stands
 returns-in-Some-clause-stands g c given all stands =
     let h = subst (λ s. StandsAfter given all s) (sym c.emitter.view_is) stands in
-    stands_with given all c.args.event _ (failed_more given all (seen_event c.args.event) (state_of c.emitter.inside) c.in-Some.error h.so c.in-Some.is) h.texts
+    stands_with given all c.args.event _ (failed_more given all (seen_event c.args.event) (state_of c.emitter.inside) c.in-Some.error h.so
+    (sym c.error.ensures ∙ c.in-Some.is)) h.texts
 
 pub returns-in-Some-clause-promised : goal.returns-in-Some-clause-promised
 returns-in-Some-clause-promised g c given all stands =
     promised given (all ++ seen_event c.args.event ∷ []) _ (returns-in-Some-clause-stands g c given all stands)
 
-pub returns-in_err-enqueue-clause-stands : goal.returns-in_err-enqueue-clause-stands
-returns-in_err-enqueue-clause-stands g c given all stands =
-    let h = subst (λ s. StandsAfter given all s) (sym c.emitter.view_is) stands in
-    absurd (false≢true (c.in_err-enqueue.ensures.room (stands_few given all (state_of c.emitter.inside) h.so c.in_default.is)))
-
-pub returns-in_err-enqueue-clause-promised : goal.returns-in_err-enqueue-clause-promised
-returns-in_err-enqueue-clause-promised g c given all stands =
-    let h = subst (λ s. StandsAfter given all s) (sym c.emitter.view_is) stands in
-    absurd (false≢true (c.in_err-enqueue.ensures.room (stands_few given all (state_of c.emitter.inside) h.so c.in_default.is)))
-
-pub returns-clause-stands : goal.returns-clause-stands
-returns-clause-stands g c given all stands =
-    let event = seen_event c.args.event in
-    let h = subst (λ s. StandsAfter given all s) (sym c.emitter.view_is) stands in
-    stands_with given all c.args.event c.write_ready.new.self
-    (c.write_ready.ensures.stands given (all ++ event ∷ []) (take (written all) all)
-    (reached_taken given all event (state_of c.emitter.inside) c.enqueue.new.self h.so c.in_default.is c.in_ok-enqueue.ensures.taken))
-    h.texts
-
-pub returns-clause-promised : goal.returns-clause-promised
-returns-clause-promised g c given all stands =
-    promised given (all ++ seen_event c.args.event ∷ []) _ (returns-clause-stands g c given all stands)
-
-pub returns-in_err-enqueue-clause-waits : goal.returns-in_err-enqueue-clause-waits
-returns-in_err-enqueue-clause-waits g c given all stands none same =
-    let h = subst (λ s. StandsAfter given all s) (sym c.emitter.view_is) stands in
-    absurd (false≢true (c.in_err-enqueue.ensures.room (stands_few given all (state_of c.emitter.inside) h.so c.in_default.is)))
-
-pub returns-clause-waits : goal.returns-clause-waits
-returns-clause-waits g c given all stands none same =
-    let h = subst (λ s. StandsAfter given all s) (sym c.emitter.view_is) stands in
-    c.write_ready.ensures.waits
-    (subst (λ (s : State). is_head_ready s.held ≡ false) (sym c.in_ok-enqueue.ensures.taken)
-    (none_became_ready given all (seen_event c.args.event) (state_of c.emitter.inside) h.so c.in_default.is same))
-
 pub returns-in-Some-clause-grows : goal.returns-in-Some-clause-grows
-returns-in-Some-clause-grows g c = grows_page c.args.emitter.now.page c.emitter.inside.pen (ap (λ (s : State). s.page) c.emitter.view_is)
+returns-in-Some-clause-grows g c = grows_page c.args.emitter.now.page c.emitter.inside.machine.page (ap (λ (s : State). s.page) c.emitter.view_is)
 
-pub returns-in_err-enqueue-clause-grows : goal.returns-in_err-enqueue-clause-grows
-returns-in_err-enqueue-clause-grows g c =
-    grows_page c.args.emitter.now.page c.enqueue.new.self.page (c.enqueue.ensures.page ∙ ap (λ (s : State). s.page) c.emitter.view_is)
+pub write_alone-requires-clause-no_error : goal.write_alone-requires-clause-no_error
+write_alone-requires-clause-no_error g c = sym c.error.ensures ∙ c.in_default.is
 
-pub returns-clause-grows : goal.returns-clause-grows
-returns-clause-grows g c =
-    subst (λ (p : Page). Grows p c.write_ready.new.self.page)
-    (c.enqueue.ensures.page ∙ ap (λ (s : State). s.page) c.emitter.view_is) c.write_ready.ensures.grows
-
-pub write_at_once-requires-clause-alone : goal.write_at_once-requires-clause-alone
-write_at_once-requires-clause-alone g c = ap seen_events (sym c.as_slice.ensures.value) ∙ c.is_ready_alone.ensures.alone c.if-is_ready_alone.true
-
-pub write_at_once-requires-clause-ready : goal.write_at_once-requires-clause-ready
-write_at_once-requires-clause-ready g c = c.is_ready_alone.ensures.ready c.if-is_ready_alone.true
+pub write_alone-requires-clause-ready : goal.write_alone-requires-clause-ready
+write_alone-requires-clause-ready g c = c.is_ready_alone.ensures.ready c.if-is_ready_alone.true
 
 pub returns-then-is_ready_alone-clause-stands : goal.returns-then-is_ready_alone-clause-stands
 returns-then-is_ready_alone-clause-stands g c given all stands =
-    let event = seen_event c.args.event in
     let before : State = state_of c.emitter.inside in
     let h = subst (λ s. StandsAfter given all s) (sym c.emitter.view_is) stands in
-    let alone : before.held ≡ [] = ap seen_events (sym c.as_slice.ensures.value) ∙ c.is_ready_alone.ensures.alone c.if-is_ready_alone.true in
-    stands_with given all c.args.event c.write_at_once.new.self
-    (c.write_at_once.ensures.stands given (all ++ event ∷ []) (take (written all) all)
-    (reached_alone given all event before (record before { started = true }) h.so c.in_default.is alone refl))
+    let alone : before.held ≡ [] = ap seen_events (c.is_ready_alone.ensures.alone c.if-is_ready_alone.true) in
+    stands_with given all c.args.event _
+    (subst (λ (l : List Event). StandsBy given (all ++ seen_event c.args.event ∷ []) c.write_alone.new.self.error l c.write_alone.new.self) (sym alone)
+    (stands_alone given all (seen_event c.args.event) before c.write_alone.new.self h.so (sym c.error.ensures ∙ c.in_default.is) alone
+    c.write_alone.ensures.stands))
     h.texts
 
 pub returns-then-is_ready_alone-clause-promised : goal.returns-then-is_ready_alone-clause-promised
 returns-then-is_ready_alone-clause-promised g c given all stands =
     promised given (all ++ seen_event c.args.event ∷ []) _ (returns-then-is_ready_alone-clause-stands g c given all stands)
 
+pub returns-then-is_ready_alone-clause-grows : goal.returns-then-is_ready_alone-clause-grows
+returns-then-is_ready_alone-clause-grows g c =
+    subst (λ (s : State). Grows s.page c.write_alone.new.self.page) c.emitter.view_is c.write_alone.ensures.grows
+
 pub returns-then-is_ready_alone-clause-waits : goal.returns-then-is_ready_alone-clause-waits
 returns-then-is_ready_alone-clause-waits g c given all stands none same =
     let event = seen_event c.args.event in
     let before : State = state_of c.emitter.inside in
     let h = subst (λ s. StandsAfter given all s) (sym c.emitter.view_is) stands in
-    let alone : before.held ≡ [] = ap seen_events (sym c.as_slice.ensures.value) ∙ c.is_ready_alone.ensures.alone c.if-is_ready_alone.true in
+    let alone : before.held ≡ [] = ap seen_events (c.is_ready_alone.ensures.alone c.if-is_ready_alone.true) in
     let unready : is_head_ready (event ∷ []) ≡ false =
-    subst (λ l. is_head_ready (l ++ event ∷ []) ≡ false) alone (none_became_ready given all event before h.so c.in_default.is same) in
+    subst (λ l. is_head_ready (l ++ event ∷ []) ≡ false) alone
+    (none_became_ready given all event before h.so (sym c.error.ensures ∙ c.in_default.is) same) in
     absurd (false≢true (sym unready ∙ c.is_ready_alone.ensures.ready c.if-is_ready_alone.true))
 
-pub returns-then-is_ready_alone-clause-grows : goal.returns-then-is_ready_alone-clause-grows
-returns-then-is_ready_alone-clause-grows g c =
-    subst (λ (p : Page). Grows p c.write_at_once.new.self.page) (ap (λ (s : State). s.page) c.emitter.view_is) c.write_at_once.ensures.grows
+pub write_front-requires : goal.write_front-requires
+write_front-requires g c = sym c.error.ensures ∙ c.in_default.is
+
+pub drop_front-requires : goal.drop_front-requires
+drop_front-requires g c =
+    within_count seen_event c.as_slice.result.now c.in-Ok.count _ c.in-Ok.ensures.written.within c.as_slice.ensures.len
+
+pub returns-in-Ok-clause-stands : goal.returns-in-Ok-clause-stands
+returns-in-Ok-clause-stands g c given all stands =
+    let before : State = state_of c.emitter.inside in
+    let h = subst (λ s. StandsAfter given all s) (sym c.emitter.view_is) stands in
+    stands_with given all c.args.event _
+    (stands_written given all (seen_event c.args.event) before (seen_events c.as_slice.result.now) (seen_events c.drop_front.new.queue.items) c.in-Ok.count
+    c.write_front.new.machine h.so (sym c.error.ensures ∙ c.in_default.is) (seen_more seen_event c.emitter.inside.queue.items _ c.as_slice.result.now c.args.event c.as_slice.ensures.value c.push_reserved.ensures.items) c.in-Ok.ensures.written c.write_front.ensures.error (c.drop_front.ensures.rest ∙ ap (λ q. drop c.in-Ok.count (seen_events q)) (sym c.as_slice.ensures.value)))
+    h.texts
+
+pub returns-in-Ok-clause-promised : goal.returns-in-Ok-clause-promised
+returns-in-Ok-clause-promised g c given all stands =
+    promised given (all ++ seen_event c.args.event ∷ []) _ (returns-in-Ok-clause-stands g c given all stands)
+
+pub returns-in-Ok-clause-grows : goal.returns-in-Ok-clause-grows
+returns-in-Ok-clause-grows g c =
+    subst (λ (s : State). Grows s.page c.write_front.new.machine.page) c.emitter.view_is c.write_front.ensures.grows
+
+pub returns-in-Ok-clause-set : goal.returns-in-Ok-clause-set
+returns-in-Ok-clause-set g c =
+    subst (λ (s : State). KeepsSet (record s { started = true })
+    (state_of (record c.emitter.inside { started = true; queue = c.drop_front.new.queue; machine = c.write_front.new.machine }))) c.emitter.view_is
+    (emitting_keeps (state_of c.emitter.inside) (seen_events c.drop_front.new.queue.items) c.write_front.new.machine c.write_front.ensures.set)
+
+pub returns-in-Ok-clause-answered : goal.returns-in-Ok-clause-answered
+returns-in-Ok-clause-answered g c = sym (ap told c.write_front.ensures.error)
+
+pub returns-in-Err-clause-stands : goal.returns-in-Err-clause-stands
+returns-in-Err-clause-stands g c given all stands =
+    let before : State = state_of c.emitter.inside in
+    let event = seen_event c.args.event in
+    let h = subst (λ s. StandsAfter given all s) (sym c.emitter.view_is) stands in
+    let failed = stands_failing given all event before (seen_events c.as_slice.result.now) c.in-Err.error c.write_front.new.machine h.so
+    (sym c.error.ensures ∙ c.in_default.is) (seen_more seen_event c.emitter.inside.queue.items _ c.as_slice.result.now c.args.event c.as_slice.ensures.value c.push_reserved.ensures.items) c.in-Err.ensures.failed in
+    stands_with given all c.args.event _
+    (subst (λ (m : MachineState). StandsBy given (all ++ event ∷ []) m.error (seen_events c.clear.new.self.items) m) (sym c.fail.ensures)
+    (subst (λ (l : List Event). StandsBy given (all ++ event ∷ []) (Some c.in-Err.error) l (failed_by c.in-Err.error c.write_front.new.machine))
+    (sym (ap seen_events c.clear.ensures.items)) failed))
+    h.texts
+
+pub returns-in-Err-clause-promised : goal.returns-in-Err-clause-promised
+returns-in-Err-clause-promised g c given all stands =
+    promised given (all ++ seen_event c.args.event ∷ []) _ (returns-in-Err-clause-stands g c given all stands)
+
+pub returns-in-Err-clause-waits : goal.returns-in-Err-clause-waits
+returns-in-Err-clause-waits g c given all stands none same =
+    let before : State = state_of c.emitter.inside in
+    let h = subst (λ s. StandsAfter given all s) (sym c.emitter.view_is) stands in
+    let unready = none_became_ready given all (seen_event c.args.event) before h.so (sym c.error.ensures ∙ c.in_default.is) same in
+    absurd (false≢true (c.in-Err.ensures.waits (ap is_head_ready
+    (seen_more seen_event c.emitter.inside.queue.items _ c.as_slice.result.now c.args.event c.as_slice.ensures.value c.push_reserved.ensures.items) ∙ unready)))
+
+pub returns-in-Err-clause-grows : goal.returns-in-Err-clause-grows
+returns-in-Err-clause-grows g c =
+    subst (λ (m : MachineState). Grows c.args.emitter.now.page m.page) (sym c.fail.ensures)
+    (subst (λ (s : State). Grows s.page c.write_front.new.machine.page) c.emitter.view_is c.write_front.ensures.grows)
+
+pub returns-in-Err-clause-set : goal.returns-in-Err-clause-set
+returns-in-Err-clause-set g c =
+    subst (λ (s : State). KeepsSet (record s { started = true })
+    (state_of (record c.emitter.inside { started = true; queue = c.clear.new.self; machine = c.fail.new.self }))) c.emitter.view_is
+    (emitting_keeps (state_of c.emitter.inside) (seen_events c.clear.new.self.items) c.fail.new.self
+    (subst (λ (m : MachineState). KeepsGiven (machine_of (state_of c.emitter.inside)) m) (sym c.fail.ensures)
+    (record { given = c.write_front.ensures.set.given; taken = c.write_front.ensures.set.taken })))
+
+pub returns-in-Err-clause-answered : goal.returns-in-Err-clause-answered
+returns-in-Err-clause-answered g c = ap told (sym (ap (λ (m : MachineState). m.error) c.fail.ensures))
 
 pub returns-then-is_ready_alone-clause-set : goal.returns-then-is_ready_alone-clause-set
-returns-then-is_ready_alone-clause-set g c = grind (arith, common_steps) steps 4000000
-
-pub returns-in_err-enqueue-clause-set : goal.returns-in_err-enqueue-clause-set
-returns-in_err-enqueue-clause-set g c = grind (arith, common_steps) steps 4000000
-
-pub returns-clause-set : goal.returns-clause-set
-returns-clause-set g c = grind (arith, common_steps) steps 4000000
+returns-then-is_ready_alone-clause-set g c =
+    subst (λ (s : State). KeepsSet (record s { started = true })
+    (state_of (record c.emitter.inside { started = true; machine = c.write_alone.new.self }))) c.emitter.view_is
+    (emitting_keeps (state_of c.emitter.inside) (seen_events c.emitter.inside.queue.items) c.write_alone.new.self c.write_alone.ensures.set)

@@ -1,30 +1,104 @@
-use Rattle.std.proofs.Common.{List}
+use Rattle.std.proofs.Common.{List, ◌∙◌, ◌≡◌, ◌≤◌, None, Some, ap, sym, subst, refl}
 use Rattle.yaml_base.specs.Event.{Event}
-use Rattle.yaml_base.specs.Settings.{Settings}
-use Rattle.yaml_emitter.specs.StandsAfter.{StandsAfter}
-use Rattle.yaml_emitter.proofs.standing.Promising.{flushed_all, promised, stands_encoded, stands_on, stands_unfailed}
+use Rattle.yaml_base.specs.Seen.{seen_events}
+use Rattle.yaml_base.specs.declared.errors.yaml_error_t.TheVariants.{Memory}
+use Rattle.yaml_pen.specs.Page.{encoded, told}
+use Rattle.yaml_pen.specs.Wrote.{Grows}
+use Rattle.yaml_pen.proofs.Writing.{none_from_told}
+use Rattle.yaml_pen.proofs.Composing.{flushed_grows}
+use Rattle.yaml_emitter.specs.Inside.{state_of}
+use Rattle.yaml_emitter.specs.Queue.{is_head_ready}
+use Rattle.yaml_emitter.specs.State.{MachineState, State}
+use Rattle.yaml_emitter.specs.StandsAfter.{StandsAfter, StandsBy}
+use Rattle.yaml_emitter.proofs.standing.EmitterKept.{has_output_inside, kept_emitting}
+use Rattle.yaml_emitter.proofs.standing.Growing.{flushed_unflushed}
+use Rattle.yaml_emitter.proofs.standing.Promising.{promised, promises_bytes, stands_encoded, stands_unfailed}
+use Rattle.yaml_emitter.proofs.standing.StandingMore.{flush_failed, flush_stands, some_from_told}
 use Rattle.yaml_emitter.proofs.emit.yaml_emitter_flush.Goals as goal
+
+pub invariant_of-emitter : goal.invariant_of-emitter
+invariant_of-emitter g c =
+    kept_emitting c.emitter.inside _ (has_output_inside c.emitter.inside c.emitter.view_is c.requires.output) refl c.emitter.invariant.room
+    c.emitter.invariant.waits
+
+pub invariant_of-emitter-in-Err : goal.invariant_of-emitter-in-Err
+invariant_of-emitter-in-Err g c =
+    kept_emitting c.emitter.inside _ (has_output_inside c.emitter.inside c.emitter.view_is c.requires.output) refl
+    (subst (λ n. 4 ≤ n) (sym c.clear.ensures.capacity) c.emitter.invariant.room) (ap (λ q. is_head_ready (seen_events q)) c.clear.ensures.items)
 
 pub returns-in-Some-clause-promised : goal.returns-in-Some-clause-promised
 returns-in-Some-clause-promised g c given all stands = promised given all c.args.emitter.now stands
 
-stood : (g : _) (c : goal.After-flush_pen g) (given : Settings) (all : List Event) → StandsAfter given all c.args.emitter.now
-    → StandsAfter given all c.flush_pen.new.self
-stood g c given all stands =
-    stands_on given all c.args.emitter.now c.flush_pen.new.self (c.flush_pen.ensures.stands given all) stands
+pub returns-in-Ok-clause-stands : goal.returns-in-Ok-clause-stands
+returns-in-Ok-clause-stands g c given all stands =
+    let h = subst (λ s. StandsAfter given all s) (sym c.emitter.view_is) stands in
+    record {
+      texts = h.texts;
+      so =
+          flush_stands given all (seen_events c.emitter.inside.queue.items) c.emitter.inside.machine c.flush.new.self h.so (sym c.error.ensures ∙ c.in_default.is)
+          c.flush.ensures.kept c.in-Ok.ensures.flushed;
+    }
 
-pub returns-clause-stands : goal.returns-clause-stands
-returns-clause-stands g c given all stands = stood g c given all stands
+pub returns-in-Ok-clause-promised : goal.returns-in-Ok-clause-promised
+returns-in-Ok-clause-promised g c given all stands = promised given all _ (returns-in-Ok-clause-stands g c given all stands)
 
-pub returns-clause-promised : goal.returns-clause-promised
-returns-clause-promised g c given all stands = promised given all c.flush_pen.new.self (stood g c given all stands)
+pub returns-in-Ok-clause-flushed : goal.returns-in-Ok-clause-flushed
+returns-in-Ok-clause-flushed g c given all stands =
+    let unfailed = none_from_told c.flush.new.self.page.error c.in-Ok.ensures.flushed.answered in
+    promises_bytes given all (state_of (record c.emitter.inside { machine = c.flush.new.self })) (returns-in-Ok-clause-stands g c given all stands).so (ap (λ (m : MachineState). m.error) c.flush.ensures.kept ∙ unfailed)
+    (c.in-Ok.ensures.flushed.all unfailed).1
 
-pub returns-clause-flushed : goal.returns-clause-flushed
-returns-clause-flushed g c =
-    flushed_all c.flush_pen.result c.args.emitter.now c.flush_pen.new.self c.flush_pen.ensures.answered c.flush_pen.ensures.handed_out
-    c.flush_pen.ensures.stands
+pub returns-in-Ok-clause-grows : goal.returns-in-Ok-clause-grows
+returns-in-Ok-clause-grows g c =
+    subst (λ (s : State). Grows s.page c.flush.new.self.page) c.emitter.view_is (flushed_grows c.flush.ensures.flushed)
 
-pub returns-clause-empty : goal.returns-clause-empty
-returns-clause-empty g c given all stands none bytes =
-    let state = c.args.emitter.now in
-    c.flush_pen.ensures.empty (stands_unfailed given all state stands.so none) (stands_encoded given all state stands.so none bytes)
+pub returns-in-Ok-clause-empty : goal.returns-in-Ok-clause-empty
+returns-in-Ok-clause-empty g c given all stands none bytes =
+    let h = subst (λ s. StandsAfter given all s) (sym c.emitter.view_is) stands in
+    let unfailed : (state_of c.emitter.inside).error ≡ None = sym c.error.ensures ∙ c.in_default.is in
+    let bytes_inside = subst (λ (s : State). s.page.output ≡ encoded s.page) (sym c.emitter.view_is)
+    (stands_encoded given all c.args.emitter.now stands.so none bytes) in
+    ap (λ (m : MachineState). state_of (record c.emitter.inside { machine = m }))
+    (c.flush.ensures.empty (stands_unfailed given all (state_of c.emitter.inside) h.so unfailed) bytes_inside)
+    ∙ c.emitter.view_is
+
+pub returns-in-Err-clause-stands : goal.returns-in-Err-clause-stands
+returns-in-Err-clause-stands g c given all stands =
+    let h = subst (λ s. StandsAfter given all s) (sym c.emitter.view_is) stands in
+    record {
+      texts = h.texts;
+      so =
+          subst (λ (l : List Event). StandsBy given all c.flush.new.self.error l c.flush.new.self) (sym (ap seen_events c.clear.ensures.items))
+          (flush_failed given all (seen_events c.emitter.inside.queue.items) c.emitter.inside.machine c.flush.new.self c.in-Err.error h.so
+          (sym c.error.ensures ∙ c.in_default.is) c.flush.ensures.kept c.in-Err.ensures.flushed);
+    }
+
+pub returns-in-Err-clause-promised : goal.returns-in-Err-clause-promised
+returns-in-Err-clause-promised g c given all stands = promised given all _ (returns-in-Err-clause-stands g c given all stands)
+
+pub returns-in-Err-clause-grows : goal.returns-in-Err-clause-grows
+returns-in-Err-clause-grows g c =
+    subst (λ (s : State). Grows s.page c.flush.new.self.page) c.emitter.view_is (flushed_grows c.flush.ensures.flushed)
+
+pub returns-in-Err-clause-unflushed : goal.returns-in-Err-clause-unflushed
+returns-in-Err-clause-unflushed g c memory =
+    flushed_unflushed c.flush.ensures.flushed (some_from_told c.flush.new.self.page.error Memory (sym memory ∙ c.in-Err.ensures.flushed.answered))
+    ∙ ap (λ (s : State). s.page.output) c.emitter.view_is
+
+pub returns-in-Err-clause-empty : goal.returns-in-Err-clause-empty
+returns-in-Err-clause-empty g c given all stands none bytes =
+    let h = subst (λ s. StandsAfter given all s) (sym c.emitter.view_is) stands in
+    let unfailed : (state_of c.emitter.inside).error ≡ None = sym c.error.ensures ∙ c.in_default.is in
+    let page_unfailed = stands_unfailed given all (state_of c.emitter.inside) h.so unfailed in
+    let bytes_inside = subst (λ (s : State). s.page.output ≡ encoded s.page) (sym c.emitter.view_is)
+    (stands_encoded given all c.args.emitter.now stands.so none bytes) in
+    let unchanged = c.flush.ensures.empty page_unfailed bytes_inside in
+    let failed = some_from_told c.flush.new.self.page.error c.in-Err.error c.in-Err.ensures.flushed.answered in
+    let wrong : Some c.in-Err.error ≡ None = sym failed ∙ ap (λ (m : MachineState). m.page.error) unchanged ∙ page_unfailed in
+    cc
+
+pub returns-in-Ok-clause-answered : goal.returns-in-Ok-clause-answered
+returns-in-Ok-clause-answered g c = c.in-Ok.ensures.flushed.answered ∙ ap told (sym (ap (λ (m : MachineState). m.error) c.flush.ensures.kept))
+
+pub returns-in-Err-clause-answered : goal.returns-in-Err-clause-answered
+returns-in-Err-clause-answered g c = c.in-Err.ensures.flushed.answered ∙ ap told (sym (ap (λ (m : MachineState). m.error) c.flush.ensures.kept))

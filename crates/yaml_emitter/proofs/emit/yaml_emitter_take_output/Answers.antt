@@ -1,27 +1,32 @@
 use Rattle.std.proofs.Common.{◌∙◌, ap, subst, sym, List}
 use Rattle.yaml_base.specs.Event.{Event}
 use Rattle.yaml_base.specs.Settings.{Settings}
-use Rattle.yaml_pen.specs.Page.{Page}
 use Rattle.yaml_emitter.specs.Inside.{IsEmitter, state_of}
-use Rattle.yaml_emitter.specs.State.{State, with_all_taken}
+use Rattle.yaml_emitter.specs.State.{MachineState, State, with_all_taken}
 use Rattle.yaml_emitter.specs.StandsAfter.{StandsAfter}
 use Rattle.yaml_emitter.proofs.standing.Promising.{promised}
-use Rattle.yaml_emitter.proofs.standing.Taking.{kept_taken, stands_taken}
+use Rattle.yaml_emitter.proofs.standing.Taking.{stands_taken, untouched_taken}
 use Rattle.yaml_emitter.proofs.emit.yaml_emitter_take_output.Goals as goal
 
 pub invariant_of-emitter : goal.invariant_of-emitter
 invariant_of-emitter g c =
-    subst (λ (pen : Page). IsEmitter (record c.emitter.inside { pen = pen })) (sym c.take_output.ensures.taken)
-    (kept_taken c.emitter.inside c.emitter.invariant)
+    subst (λ (m : MachineState). IsEmitter (record c.emitter.inside { machine = m })) (sym c.take_output.ensures.taken)
+    (record {
+      untouched = λ unset. untouched_taken c.emitter.inside.machine.page (c.emitter.invariant.untouched unset);
+      begun = c.emitter.invariant.begun;
+      opened = c.emitter.invariant.opened;
+      room = c.emitter.invariant.room;
+      waits = c.emitter.invariant.waits;
+    })
 
 pub returns-clause-taken : goal.returns-clause-taken
 returns-clause-taken g c =
-    ap (λ (pen : Page). state_of (record c.emitter.inside { pen = pen })) c.take_output.ensures.taken ∙ ap with_all_taken c.emitter.view_is
+    ap (λ (m : MachineState). state_of (record c.emitter.inside { machine = m })) c.take_output.ensures.taken ∙ ap with_all_taken c.emitter.view_is
 
 stood : (g : _) (c : goal.After-take_output g) (given : Settings) (all : List Event) → StandsAfter given all c.args.emitter.now
-    → StandsAfter given all (state_of (record c.emitter.inside { pen = c.take_output.new.self }))
+    → StandsAfter given all (state_of (record c.emitter.inside { machine = c.take_output.new.self }))
 stood g c given all stands =
-    subst (λ (pen : Page). StandsAfter given all (state_of (record c.emitter.inside { pen = pen }))) (sym c.take_output.ensures.taken)
+    subst (λ (m : MachineState). StandsAfter given all (state_of (record c.emitter.inside { machine = m }))) (sym c.take_output.ensures.taken)
     (stands_taken given all (state_of c.emitter.inside) (subst (λ (s : State). StandsAfter given all s) (sym c.emitter.view_is) stands))
 
 pub returns-clause-stands : goal.returns-clause-stands

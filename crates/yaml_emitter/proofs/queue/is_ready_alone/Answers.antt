@@ -5,7 +5,7 @@ use Rattle.std.specs.List.{list_any}
 use Rattle.std.specs.Prelude.{◌==◌, ◌||◌, nat_lt}
 use Rattle.yaml_base.specs.Event.{Event}
 use Rattle.yaml_base.specs.Ready.{awaited, fronts, is_balanced}
-use Rattle.yaml_base.specs.Seen.{seen_event, seen_events}
+use Rattle.yaml_base.specs.Seen.{seen_event}
 use Rattle.yaml_emitter.specs.Queue.{is_head_ready}
 use Rattle.yaml_emitter.proofs.queue.is_ready_alone.Goals as goal
 
@@ -16,7 +16,7 @@ ready_alone event none =
 
 pub returns-then-is_empty-clause-alone : goal.returns-then-is_empty-clause-alone
 returns-then-is_empty-clause-alone g c told =
-    ap seen_events (nil_from_length c.args.waiting.now (eqb-true _ 0 (sym c.is_empty.ensures ∙ c.if-is_empty.true)))
+    sym c.as_slice.ensures.value ∙ nil_from_length c.as_slice.result.now (eqb-true _ 0 (sym c.is_empty.ensures ∙ c.if-is_empty.true))
 
 pub returns-then-is_empty-clause-ready : goal.returns-then-is_empty-clause-ready
 returns-then-is_empty-clause-ready g c told = ready_alone (seen_event c.args.event.now) (sym c.awaits_nothing.ensures ∙ told)

@@ -1,7 +1,17 @@
-use Rattle.std.proofs.Common.{refl, Some}
-use Rattle.yaml_emitter.proofs.standing.StandingSet.{stands_inside}
+use Rattle.std.proofs.Common.{◌≡◌, ◌∙◌, ℤ, Some, arith, ap, refl, of_z, to_z, to_z-of_z, w32}
+use Rattle.yaml_emitter.specs.State.{State}
+use Rattle.yaml_emitter.proofs.standing.EmitterKept.{width_set, kept_given}
+use Rattle.yaml_emitter.proofs.standing.StandingSet.{stands_given}
 use Rattle.yaml_emitter.proofs.setters.yaml_emitter_set_width.Goals as goal
 
+pub invariant_of-emitter : goal.invariant_of-emitter
+invariant_of-emitter g c = kept_given c.emitter.inside c.set_width.new.self _ _ c.set_width.ensures c.emitter.invariant
+
+pub returns-clause-set : goal.returns-clause-set
+returns-clause-set g c =
+    let back : to_z w32 (of_z w32 c.args.width) ≡ c.args.width = grind (arith, to_z-of_z) in
+    width_set c.emitter.inside c.set_width.ensures c.emitter.view_is
+    ∙ ap (λ (z : ℤ). let made : State = record c.args.emitter.now { given = record c.args.emitter.now.given { width = Some z } } in made) back
+
 pub returns-clause-stands : goal.returns-clause-stands
-returns-clause-stands g c stands =
-    stands_inside c.emitter.inside (record c.emitter.inside { given = record c.emitter.inside.given { width = Some _ } }) c.emitter.view_is refl refl stands
+returns-clause-stands g c stands = stands_given c.args.emitter.now _ _ _ (returns-clause-set g c) refl stands

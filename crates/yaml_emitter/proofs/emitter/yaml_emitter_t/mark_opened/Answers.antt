@@ -1,10 +1,20 @@
-use Rattle.std.proofs.Common.{subst, sym, true}
+use Rattle.std.proofs.Common.{◌∙◌, ap, subst, sym, true}
 use Rattle.yaml_emitter.specs.Inside.{state_of}
 use Rattle.yaml_emitter.specs.State.{State}
 use Rattle.yaml_emitter.specs.StandsAfter.{StandsAfter}
 use Rattle.yaml_emitter.proofs.standing.Promising.{promised}
 use Rattle.yaml_emitter.proofs.standing.StandingMarked.{stands_marked}
 use Rattle.yaml_emitter.proofs.emitter.yaml_emitter_t.mark_opened.Goals as goal
+
+pub invariant_of-self : goal.invariant_of-self
+invariant_of-self g c =
+    record {
+      untouched = c.self.invariant.untouched;
+      begun = c.self.invariant.begun;
+      opened = λ opened. ap (λ (s : State). s.has_output) c.self.view_is ∙ c.requires;
+      room = c.self.invariant.room;
+      waits = c.self.invariant.waits;
+    }
 
 pub returns-clause-stands : goal.returns-clause-stands
 returns-clause-stands g c given all stands =

@@ -1,0 +1,56 @@
+use Rattle.std.proofs.Common.{arith, ap, ◌∙◌}
+use Rattle.std.proofs.lemmas.Grind.{common_steps}
+use Rattle.yaml_base.specs.Layout.{Place}
+use Rattle.yaml_base.specs.Steps.{at_node}
+use Rattle.yaml_emitter.specs.MachineInside.{machine_state}
+use Rattle.yaml_emitter.specs.NodeEvents.{end_event}
+use Rattle.yaml_emitter.specs.Places.{is_mapping, seen_frame}
+use Rattle.yaml_emitter.specs.Stages.{seen_stage}
+use Rattle.yaml_emitter.proofs.events_done.ProcessedBy.{processed_exit}
+use Rattle.yaml_emitter.proofs.events_done.NodesDone.{at_node_inside, seen_at_node, ready_inside, kept_at_node, kept_advancing}
+use Rattle.yaml_emitter.proofs.events_done.CollectionsDone.{may_end_here, end_cut, end_written}
+use Rattle.yaml_emitter.proofs.machine.Machine.end_collection.Goals as goal
+
+pub write_collection_end-requires : goal.write_collection_end-requires
+write_collection_end-requires g c =
+    ready_inside c.self.inside c.self.invariant (at_node_inside c.self.inside c.self.view_is c.requires.stage)
+
+pub invariant_of-self-in_err-write_collection_end-in-Some : goal.invariant_of-self-in_err-write_collection_end-in-Some
+invariant_of-self-in_err-write_collection_end-in-Some g c =
+    kept_at_node c.self.inside c.write_collection_end.new.pen c.pop.new.self c.self.inside.mark c.self.invariant
+    (at_node_inside c.self.inside c.self.view_is c.requires.stage) (c.write_collection_end.ensures 0).ready
+
+pub returns-in_err-write_collection_end-in-Some : goal.returns-in_err-write_collection_end-in-Some
+returns-in_err-write_collection_end-in-Some g c = λ empty.
+    rw (← c.self.view_is)
+    (processed_exit (end_event (is_mapping c.args.kind)) empty
+    (machine_state c.self.inside) _ c.in_err-write_collection_end-in-Some.field-0.0 c.from_residual.result c.from_residual.ensures
+    (end_cut (machine_state c.self.inside) c.self.inside.directives
+    (seen_frame c.in-Some.frame) c.pop.new.self (is_mapping c.args.kind) empty c.next_place-around.result.column
+    (seen_stage c.self.inside.stage c.self.inside.directives c.pop.new.self) c.write_collection_end.new.pen c.in_err-write_collection_end-in-Some.field-0.0
+    ((seen_at_node c.self.inside (at_node_inside c.self.inside c.self.view_is c.requires.stage)) ∙ ap (at_node c.self.inside.directives) c.in-Some.ensures)
+    (may_end_here c.self.inside.frames
+    (seen_frame c.in-Some.frame) c.pop.new.self (is_mapping c.args.kind) c.may_end.result c.in-Some.ensures c.may_end.ensures c.if-not-may_end.false)
+    (ap (λ (p : Place). p.column) c.next_place-around.ensures.place)
+    (c.in_err-write_collection_end-in-Some.ensures (machine_state c.self.inside).mark)))
+
+pub invariant_of-self-in-Some : goal.invariant_of-self-in-Some
+invariant_of-self-in-Some g c =
+    kept_advancing c.self.inside c.write_collection_end.new.pen c.advance-self-inside.result c.advance-self-inside.new.self c.pop.new.self
+    c.in-Some.frame.simple c.self.inside.mark c.self.invariant
+    (c.advance-self-inside.ensures.stage c.self.inside.directives) (c.in_ok-write_collection_end-in-Some.ensures 0).ready
+
+pub returns-in_ok-write_collection_end-in-Some : goal.returns-in_ok-write_collection_end-in-Some
+returns-in_ok-write_collection_end-in-Some g c = λ empty.
+    rw (← c.self.view_is)
+    (end_written (machine_state c.self.inside) c.self.inside.directives
+    (seen_frame c.in-Some.frame) c.pop.new.self (is_mapping c.args.kind) empty c.next_place-around.result.column _ c.write_collection_end.new.pen
+    ((seen_at_node c.self.inside (at_node_inside c.self.inside c.self.view_is c.requires.stage)) ∙ ap (at_node c.self.inside.directives) c.in-Some.ensures)
+    (may_end_here c.self.inside.frames
+    (seen_frame c.in-Some.frame) c.pop.new.self (is_mapping c.args.kind) c.may_end.result c.in-Some.ensures c.may_end.ensures c.if-not-may_end.false)
+    (ap (λ (p : Place). p.column) c.next_place-around.ensures.place)
+    (c.advance-self-inside.ensures.stage c.self.inside.directives)
+    (c.in_ok-write_collection_end-in-Some.ensures (machine_state c.self.inside).mark))
+
+pub returns-then-not-may_end : goal.returns-then-not-may_end
+returns-then-not-may_end g c = grind (arith, common_steps) steps 4000000

@@ -1,0 +1,121 @@
+use Rattle.std.proofs.Common.{arith, ap, ◌∙◌, option_map}
+use Rattle.std.proofs.lemmas.Grind.{common_steps}
+use Rattle.std.specs.Prelude.{length, nat_lt}
+use Rattle.yaml_base.specs.Event.{any_layout}
+use Rattle.yaml_base.specs.Refusal.{collection_tag, most_open}
+use Rattle.yaml_base.specs.Tags.{spelling}
+use Rattle.yaml_emitter.specs.WrittenSigns.{seen_tag}
+use Rattle.yaml_emitter.proofs.pieces.WritingTags.{spelled_handle}
+use Rattle.yaml_base.specs.declared.errors.yaml_error_t.TheVariants.{Memory}
+use Rattle.yaml_emitter.specs.BorrowedTexts.{seen_collection}
+use Rattle.yaml_emitter.specs.MachineInside.{machine_state}
+use Rattle.yaml_emitter.specs.NodeEvents.{start_event}
+use Rattle.yaml_emitter.specs.Places.{is_mapping, seen_frame, seen_place}
+use Rattle.yaml_emitter.specs.Stages.{seen_stage}
+use Rattle.yaml_emitter.proofs.events_done.ProcessedBy.{exit_by_memory, processed_exit}
+use Rattle.yaml_emitter.proofs.events_done.NodesDone.{at_node_inside, ready_inside, seen_at_node, kept_at_node, names_inside, collection_anchor}
+use Rattle.yaml_emitter.proofs.events_done.NodesDone.{pushed_at_node}
+use Rattle.yaml_emitter.proofs.events_done.CollectionsDone.{of_any_style, room_here, full_here, start_refused, start_cut, start_unkept, start_written}
+use Rattle.yaml_emitter.proofs.machine.Machine.open_collection.Goals as goal
+
+pub returns-then-is_full : goal.returns-then-is_full
+returns-then-is_full g c = λ style asked.
+    rw (← c.self.view_is)
+    (start_refused (machine_state c.self.inside) c.self.inside.directives c.self.inside.frames (is_mapping c.args.kind)
+    (seen_collection c.args.content.now style) c.args.empty
+    (seen_at_node c.self.inside (at_node_inside c.self.inside c.self.view_is c.requires.stage))
+    (of_any_style c.self.inside.given.canonical (is_mapping c.args.kind) (seen_collection c.args.content.now any_layout) style
+    (names_inside c.self.inside c.self.view_is (start_event (is_mapping c.args.kind) (seen_collection c.args.content.now any_layout)) c.requires.names))
+    (full_here (nat_lt (length c.self.inside.frames) most_open) c.is_full.result c.is_full.ensures c.if-is_full.true))
+
+pub write_collection_start-requires-clause-ready : goal.write_collection_start-requires-clause-ready
+write_collection_start-requires-clause-ready g c =
+    ready_inside c.self.inside c.self.invariant (at_node_inside c.self.inside c.self.view_is c.requires.stage)
+
+pub write_collection_start-requires-clause-handle : goal.write_collection_start-requires-clause-handle
+write_collection_start-requires-clause-handle g c =
+    spelled_handle c.self.inside.directives (collection_tag c.self.inside.settings.canonical (seen_collection c.args.content.now any_layout))
+    (seen_tag c.spell-tag.result) (c.spell-tag.ensures
+    ∙ ap (option_map (spelling c.self.inside.directives)) (c.written_collection_tag-written.ensures any_layout)) c.self.invariant.handles
+
+pub write_collection_start-requires-clause-anchor : goal.write_collection_start-requires-clause-anchor
+write_collection_start-requires-clause-anchor g c = collection_anchor c.args.self.now.given.canonical (is_mapping c.args.kind)
+    (seen_collection c.args.content.now any_layout) c.requires.names
+
+pub invariant_of-self : goal.invariant_of-self
+invariant_of-self g c =
+    kept_at_node c.self.inside c.write_collection_start.new.pen c.self.inside.frames c.self.inside.mark c.self.invariant
+    (at_node_inside c.self.inside c.self.view_is c.requires.stage) c.write_collection_start.ensures.ready
+
+pub returns-in_err-write_collection_start : goal.returns-in_err-write_collection_start
+returns-in_err-write_collection_start g c = λ style asked.
+    rw (← c.self.view_is)
+    (processed_exit (start_event (is_mapping c.args.kind) (seen_collection c.args.content.now style)) c.args.empty
+    (machine_state c.self.inside) _ c.in_err-write_collection_start.field-0.0 c.from_residual.result c.from_residual.ensures
+    (start_cut (machine_state c.self.inside) c.self.inside.directives c.self.inside.frames (is_mapping c.args.kind)
+    (seen_collection c.args.content.now style) c.args.empty c.is_simple_collection_key-simple.result
+    (seen_place c.next_place-place.result) c.write_collection_start.new.pen c.in_err-write_collection_start.field-0.0
+    (seen_at_node c.self.inside (at_node_inside c.self.inside c.self.view_is c.requires.stage))
+    (of_any_style c.self.inside.given.canonical (is_mapping c.args.kind) (seen_collection c.args.content.now any_layout) style
+    (names_inside c.self.inside c.self.view_is (start_event (is_mapping c.args.kind) (seen_collection c.args.content.now any_layout)) c.requires.names))
+    (room_here (nat_lt (length c.self.inside.frames) most_open) c.is_full.result c.is_full.ensures c.if-is_full.false)
+    c.next_place-place.ensures.place
+    (c.is_simple_collection_key-simple.ensures c.self.inside.directives style
+    (c.spell-tag.ensures ∙ ap (option_map (spelling c.self.inside.directives)) (c.written_collection_tag-written.ensures style)))
+    (c.in_err-write_collection_start.ensures.written c.self.inside.directives style (machine_state c.self.inside).mark
+    (c.spell-tag.ensures ∙ ap (option_map (spelling c.self.inside.directives)) (c.written_collection_tag-written.ensures style)))))
+
+pub invariant_of-self-in_err-push : goal.invariant_of-self-in_err-push
+invariant_of-self-in_err-push g c =
+    kept_at_node c.self.inside c.write_collection_start.new.pen c.push.new.self c.self.inside.mark c.self.invariant
+    (at_node_inside c.self.inside c.self.view_is c.requires.stage) c.write_collection_start.ensures.ready
+
+pub returns-in_err-push : goal.returns-in_err-push
+returns-in_err-push g c = λ style asked.
+    rw (← c.self.view_is)
+    (processed_exit (start_event (is_mapping c.args.kind) (seen_collection c.args.content.now style)) c.args.empty
+    (machine_state c.self.inside) _ Memory c.from_residual-in_err-push.result
+    (exit_by_memory c.in_err-push.field-0.0 c.from_residual-in_err-push.result c.in_err-push.ensures.memory c.from_residual-in_err-push.ensures)
+    (start_unkept (machine_state c.self.inside) c.self.inside.directives c.self.inside.frames (is_mapping c.args.kind)
+    (seen_collection c.args.content.now style) c.args.empty c.is_simple_collection_key-simple.result (seen_place c.next_place-place.result)
+    (seen_stage c.self.inside.stage c.self.inside.directives c.push.new.self) c.write_collection_start.new.pen
+    (seen_at_node c.self.inside (at_node_inside c.self.inside c.self.view_is c.requires.stage))
+    (of_any_style c.self.inside.given.canonical (is_mapping c.args.kind) (seen_collection c.args.content.now any_layout) style
+    (names_inside c.self.inside c.self.view_is (start_event (is_mapping c.args.kind) (seen_collection c.args.content.now any_layout)) c.requires.names))
+    (room_here (nat_lt (length c.self.inside.frames) most_open) c.is_full.result c.is_full.ensures c.if-is_full.false)
+    c.next_place-place.ensures.place
+    (c.is_simple_collection_key-simple.ensures c.self.inside.directives style
+    (c.spell-tag.ensures ∙ ap (option_map (spelling c.self.inside.directives)) (c.written_collection_tag-written.ensures style)))
+    (c.in_ok-write_collection_start.ensures.written c.self.inside.directives style (machine_state c.self.inside).mark
+    (c.spell-tag.ensures ∙ ap (option_map (spelling c.self.inside.directives)) (c.written_collection_tag-written.ensures style)))))
+
+pub invariant_of-self-2 : goal.invariant_of-self-2
+invariant_of-self-2 g c =
+    kept_at_node c.self.inside c.write_collection_start.new.pen c.push.new.self c.self.inside.mark c.self.invariant
+    (at_node_inside c.self.inside c.self.view_is c.requires.stage) c.write_collection_start.ensures.ready
+
+pub returns : goal.returns
+returns g c = λ style asked.
+    rw (← c.self.view_is)
+    (start_written (machine_state c.self.inside) c.self.inside.directives c.self.inside.frames (is_mapping c.args.kind)
+    (seen_collection c.args.content.now style) c.args.empty c.is_simple_collection_key-simple.result c.is_written_in_flow-in_flow.result
+    (seen_place c.next_place-place.result) (seen_frame c.opened_frame-frame.result) _ c.write_collection_start.new.pen
+    (seen_at_node c.self.inside (at_node_inside c.self.inside c.self.view_is c.requires.stage))
+    (of_any_style c.self.inside.given.canonical (is_mapping c.args.kind) (seen_collection c.args.content.now any_layout) style
+    (names_inside c.self.inside c.self.view_is (start_event (is_mapping c.args.kind) (seen_collection c.args.content.now any_layout)) c.requires.names))
+    (room_here (nat_lt (length c.self.inside.frames) most_open) c.is_full.result c.is_full.ensures c.if-is_full.false)
+    c.next_place-place.ensures.place
+    (c.is_simple_collection_key-simple.ensures c.self.inside.directives style
+    (c.spell-tag.ensures ∙ ap (option_map (spelling c.self.inside.directives)) (c.written_collection_tag-written.ensures style)))
+    (c.is_written_in_flow-in_flow.ensures (seen_collection c.args.content.now style) asked)
+    c.opened_frame-frame.ensures.frame
+    (pushed_at_node c.self.inside c.push.new.self (seen_frame c.opened_frame-frame.result)
+    (at_node_inside c.self.inside c.self.view_is c.requires.stage) c.in_ok-push.ensures.ok)
+    (c.in_ok-write_collection_start.ensures.written c.self.inside.directives style (machine_state c.self.inside).mark
+    (c.spell-tag.ensures ∙ ap (option_map (spelling c.self.inside.directives)) (c.written_collection_tag-written.ensures style))))
+
+pub opened_frame-frame-requires : goal.opened_frame-frame-requires
+opened_frame-frame-requires g c = grind (arith, common_steps) steps 4000000
+
+pub push-requires-clause-room : goal.push-requires-clause-room
+push-requires-clause-room g c = grind (arith, common_steps) steps 4000000

@@ -1,0 +1,89 @@
+use Rattle.std.proofs.Common.{true, false, ap, ◌∙◌, option_map}
+use Rattle.yaml_base.specs.Refusal.{scalar_tag}
+use Rattle.yaml_base.specs.Tags.{spelling}
+use Rattle.yaml_emitter.specs.WrittenSigns.{seen_tag}
+use Rattle.yaml_emitter.proofs.pieces.SignsWritten.{written_is_some}
+use Rattle.yaml_emitter.proofs.pieces.WritingTags.{spelled_handle}
+use Rattle.yaml_base.specs.Event.{scalar}
+use Rattle.yaml_emitter.specs.BorrowedTexts.{seen_scalar}
+use Rattle.yaml_emitter.specs.MachineInside.{machine_state}
+use Rattle.yaml_emitter.specs.Places.{seen_place}
+use Rattle.yaml_emitter.proofs.events_done.ProcessedBy.{processed_exit}
+use Rattle.yaml_emitter.proofs.events_done.NodesDone.{at_node_inside, ready_inside, seen_at_node, kept_at_node, kept_advancing, lacks_given}
+use Rattle.yaml_emitter.proofs.events_done.NodesDone.{names_inside, scalar_anchor, scalar_refused, scalar_cut, scalar_written}
+use Rattle.yaml_emitter.proofs.machine.Machine.put_chosen.Goals as goal
+
+pub returns-then-lacks_flag : goal.returns-then-lacks_flag
+returns-then-lacks_flag g c = λ empty.
+    rw (← c.self.view_is)
+    (scalar_refused (machine_state c.self.inside) c.self.inside.directives c.self.inside.frames (seen_scalar c.args.content.now) empty
+    (seen_at_node c.self.inside (at_node_inside c.self.inside c.self.view_is c.requires.stage))
+    (names_inside c.self.inside c.self.view_is (scalar (seen_scalar c.args.content.now)) c.requires.names)
+    (lacks_given (seen_scalar c.args.content.now) c.lacks_flag.result c.self.inside.settings.canonical c.self.inside.given.canonical true
+    c.self.invariant.canonical
+    c.if-lacks_flag.true c.lacks_flag.ensures))
+
+pub write_scalar-requires-clause-ready : goal.write_scalar-requires-clause-ready
+write_scalar-requires-clause-ready g c =
+    ready_inside c.self.inside c.self.invariant (at_node_inside c.self.inside c.self.view_is c.requires.stage)
+
+pub write_scalar-requires-clause-handle : goal.write_scalar-requires-clause-handle
+write_scalar-requires-clause-handle g c =
+    spelled_handle c.self.inside.directives (scalar_tag c.self.inside.settings.canonical (seen_scalar c.args.content.now)) (seen_tag c.spell-tag.result)
+    (c.spell-tag.ensures ∙ ap (option_map (spelling c.self.inside.directives)) c.written_scalar_tag-written.ensures) c.self.invariant.handles
+
+pub write_scalar-requires-clause-tag : goal.write_scalar-requires-clause-tag
+write_scalar-requires-clause-tag g c =
+    written_is_some c.self.inside.directives (scalar_tag c.self.inside.settings.canonical (seen_scalar c.args.content.now)) c.spell-tag.result
+    (c.spell-tag.ensures ∙ ap (option_map (spelling c.self.inside.directives)) c.written_scalar_tag-written.ensures)
+
+pub write_scalar-requires-clause-anchor : goal.write_scalar-requires-clause-anchor
+write_scalar-requires-clause-anchor g c = scalar_anchor c.args.self.now.given.canonical (seen_scalar c.args.content.now) c.requires.names
+
+pub invariant_of-self : goal.invariant_of-self
+invariant_of-self g c =
+    kept_at_node c.self.inside c.write_scalar.new.pen c.self.inside.frames c.self.inside.mark c.self.invariant
+    (at_node_inside c.self.inside c.self.view_is c.requires.stage) c.in_err-self-inside.ensures.ready
+
+pub returns-in_err-self-inside : goal.returns-in_err-self-inside
+returns-in_err-self-inside g c = λ empty.
+    rw (← c.self.view_is)
+    (processed_exit (scalar (seen_scalar c.args.content.now)) empty
+    (machine_state c.self.inside) _ c.in_err-self-inside.field-0.0 c.from_residual.result c.from_residual.ensures
+    (scalar_cut (machine_state c.self.inside) c.self.inside.directives c.self.inside.frames
+    (seen_scalar c.args.content.now) empty c.is_simple_scalar_key-simple.result
+    (seen_place c.next_place-place.result) c.write_scalar.new.pen c.in_err-self-inside.field-0.0
+    (seen_at_node c.self.inside (at_node_inside c.self.inside c.self.view_is c.requires.stage))
+    (names_inside c.self.inside c.self.view_is (scalar (seen_scalar c.args.content.now)) c.requires.names)
+    (lacks_given (seen_scalar c.args.content.now) c.lacks_flag.result c.self.inside.settings.canonical c.self.inside.given.canonical false
+    c.self.invariant.canonical
+    c.if-lacks_flag.false c.lacks_flag.ensures)
+    c.next_place-place.ensures.place
+    (c.is_simple_scalar_key-simple.ensures c.self.inside.directives
+    (c.spell-tag.ensures ∙ ap (option_map (spelling c.self.inside.directives)) c.written_scalar_tag-written.ensures))
+    (c.in_err-self-inside.ensures.written c.self.inside.directives
+    (c.spell-tag.ensures ∙ ap (option_map (spelling c.self.inside.directives)) c.written_scalar_tag-written.ensures))))
+
+pub invariant_of-self-2 : goal.invariant_of-self-2
+invariant_of-self-2 g c =
+    kept_advancing c.self.inside c.write_scalar.new.pen c.advance-self-inside.result c.advance-self-inside.new.self c.self.inside.frames
+    c.is_simple_scalar_key-simple.result c.in_ok-self-inside.field-0 c.self.invariant
+    (c.advance-self-inside.ensures.stage c.self.inside.directives) c.in_ok-self-inside.ensures.ready
+
+pub returns : goal.returns
+returns g c = λ empty.
+    rw (← c.self.view_is)
+    (scalar_written (machine_state c.self.inside) c.self.inside.directives c.self.inside.frames
+    (seen_scalar c.args.content.now) empty c.is_simple_scalar_key-simple.result (seen_place c.next_place-place.result) _ _ c.write_scalar.new.pen
+    (seen_at_node c.self.inside (at_node_inside c.self.inside c.self.view_is c.requires.stage))
+    (names_inside c.self.inside c.self.view_is (scalar (seen_scalar c.args.content.now)) c.requires.names)
+    (lacks_given (seen_scalar c.args.content.now) c.lacks_flag.result c.self.inside.settings.canonical c.self.inside.given.canonical false
+    c.self.invariant.canonical
+    c.if-lacks_flag.false c.lacks_flag.ensures)
+    c.next_place-place.ensures.place
+    (c.is_simple_scalar_key-simple.ensures c.self.inside.directives
+    (c.spell-tag.ensures ∙ ap (option_map (spelling c.self.inside.directives)) c.written_scalar_tag-written.ensures))
+    (c.advance-self-inside.ensures.stage c.self.inside.directives)
+    c.in_ok-self-inside.ensures.mark
+    (c.in_ok-self-inside.ensures.written c.self.inside.directives
+    (c.spell-tag.ensures ∙ ap (option_map (spelling c.self.inside.directives)) c.written_scalar_tag-written.ensures)))

@@ -1,0 +1,91 @@
+use Rattle.std.proofs.Common.{refl, subst, map, option_map, sym, ap, ◌∙◌}
+use Rattle.std.specs.Prelude.{option_and_then}
+use Rattle.yaml_base.specs.Event.{DocumentStart, document_start}
+use Rattle.yaml_base.specs.Seen.{seen_directive, seen_version}
+use Rattle.yaml_base.specs.Tags.{version_fault, directives_fault}
+use Rattle.yaml_emitter.specs.Signs.{some_handle_breaks}
+use Rattle.yaml_emitter.specs.MachineInside.{machine_state}
+use Rattle.yaml_emitter.specs.Processing.{Processed}
+use Rattle.yaml_emitter.specs.State.{MachineState}
+use Rattle.yaml_emitter.proofs.events_done.KeptInside.{kept_without, seen_without, fits_ready, kept_writing, kept_beginning, stage_inside}
+use Rattle.yaml_emitter.proofs.events_done.KeptInside.{behind_start}
+use Rattle.yaml_emitter.proofs.events_done.ProcessedBy.{processed_exit}
+use Rattle.yaml_emitter.proofs.events_done.DocumentsDone.{document_refused, document_start_cut, document_begun, none_behind}
+use Rattle.yaml_emitter.proofs.pieces.WritingNames.{sound_handles, sound_in_force}
+use Rattle.yaml_emitter.proofs.machine.Machine.start_document.Goals as goal
+
+pub invariant_of-self : goal.invariant_of-self
+invariant_of-self g c =
+    kept_without c.self.inside c.replace-before.new.dest c.args.first (c.replace-before.ensures.after ∙ c.new.ensures)
+    (stage_inside c.self.inside c.self.view_is c.requires.stage) c.self.invariant
+
+pub returns-in_err-directives : goal.returns-in_err-directives
+returns-in_err-directives g c = λ empty.
+    let start : DocumentStart = record {
+      version = option_map seen_version c.args.version;
+      directives = map seen_directive c.args.own.now;
+      implicit = c.args.implicit;
+    } in
+    let same = seen_without c.self.inside c.replace-before.new.dest c.args.first (stage_inside c.self.inside c.self.view_is c.requires.stage)
+    ∙ c.self.view_is in
+    subst (λ (s : MachineState). Processed (document_start start) empty c.args.self.now s c.from_residual.result) (sym same)
+    (processed_exit (document_start start) empty c.args.self.now c.args.self.now c.in_err-directives.field-0.0 c.from_residual.result c.from_residual.ensures
+    (document_refused empty c.args.self.now c.args.first start c.in_err-directives.field-0.0 c.requires.stage c.in_err-directives.ensures.refusal))
+
+pub write_document_start-requires-clause-handles : goal.write_document_start-requires-clause-handles
+write_document_start-requires-clause-handles g c =
+    sound_handles (map seen_directive c.args.own.now)
+    (none_behind (option_and_then version_fault (option_map seen_version c.args.version)) (directives_fault (map seen_directive c.args.own.now))
+    (sym (c.in_ok-directives.ensures.refusal (λ h. cc))))
+
+pub invariant_of-self-in_err-write_document_start : goal.invariant_of-self-in_err-write_document_start
+invariant_of-self-in_err-write_document_start g c =
+    let emptied = record c.self.inside { directives = c.replace-before.new.dest } in
+    let at = stage_inside c.self.inside c.self.view_is c.requires.stage in
+    kept_writing emptied c.write_document_start.new.pen c.self.inside.stage c.self.inside.frames c.self.inside.mark
+    (kept_without c.self.inside c.replace-before.new.dest c.args.first (c.replace-before.ensures.after ∙ c.new.ensures) at c.self.invariant)
+    (fits_ready (machine_state emptied).stage c.write_document_start.new.pen
+    (behind_start (ap (λ (s : MachineState). s.stage) (seen_without c.self.inside c.replace-before.new.dest c.args.first at) ∙ at) refl)
+    c.write_document_start.ensures.ready)
+
+pub returns-in_err-write_document_start : goal.returns-in_err-write_document_start
+returns-in_err-write_document_start g c = λ empty.
+    let start : DocumentStart = record {
+      version = option_map seen_version c.args.version;
+      directives = map seen_directive c.args.own.now;
+      implicit = c.args.implicit;
+    } in
+    let emptied = record c.self.inside { directives = c.replace-before.new.dest } in
+    let at = stage_inside c.self.inside c.self.view_is c.requires.stage in
+    let same = seen_without c.self.inside c.replace-before.new.dest c.args.first at in
+    let after = record (machine_state emptied) { page = c.write_document_start.new.pen } in
+    subst (λ (s : MachineState). Processed (document_start start) empty s after c.from_residual-in_err-write_document_start.result) (same ∙ c.self.view_is)
+    (processed_exit (document_start start) empty
+    (machine_state emptied) after c.in_err-write_document_start.field-0.0 c.from_residual-in_err-write_document_start.result
+    c.from_residual-in_err-write_document_start.ensures
+    (document_start_cut empty (machine_state emptied) c.args.first start c.write_document_start.new.pen c.in_err-write_document_start.field-0.0
+    (ap (λ (s : MachineState). s.stage) same ∙ at)
+    (sym (c.in_ok-directives.ensures.refusal (λ h. cc))) c.in_err-write_document_start.ensures))
+
+pub invariant_of-self-2 : goal.invariant_of-self-2
+invariant_of-self-2 g c =
+    let own = map seen_directive c.args.own.now in
+    kept_beginning c.self.inside c.write_document_start.new.pen _ c.in_ok-directives.directives c.clear.new.self _ c.self.invariant
+    (ap some_handle_breaks c.in_ok-directives.ensures.in_force
+    ∙ sound_in_force own
+    (sound_handles own
+    (none_behind (option_and_then version_fault (option_map seen_version c.args.version)) (directives_fault own)
+    (sym (c.in_ok-directives.ensures.refusal (λ h. cc))))))
+    c.write_document_start.ensures.ready
+
+pub returns : goal.returns
+returns g c = λ empty.
+    let start : DocumentStart = record {
+      version = option_map seen_version c.args.version;
+      directives = map seen_directive c.args.own.now;
+      implicit = c.args.implicit;
+    } in
+    rw (← c.self.view_is)
+    (document_begun empty (machine_state c.self.inside) c.args.first start c.write_document_start.new.pen c.in_ok-directives.directives c.clear.new.self
+    (stage_inside c.self.inside c.self.view_is c.requires.stage)
+    (sym (c.in_ok-directives.ensures.refusal (λ h. cc))) c.in_ok-write_document_start.ensures c.in_ok-directives.ensures.in_force c.clear.ensures)

@@ -1,0 +1,72 @@
+-- What an emitter keeps true.
+use Rattle.std.proofs.Common.{◌≡◌, ◌≤◌, ◌<◌, ◌∙◌, ℕ, true, false, List, [], ◌∷◌, ◌++◌, map, length, ap, sym, subst, arith, refl}
+use Rattle.std.specs.Prelude.{Some, vec_capacity, vec_len, ℤ}
+use Rattle.std.proofs.lemmas.List.{length-map, map-append}
+use Rattle.yaml_base.specs.Event.{Event}
+use Rattle.yaml_base.specs.Seen.{seen_event, seen_events}
+use Rattle.yaml_base.specs.Settings.{Effective, Settings}
+use Rattle.yaml_emitter.specs.Inside.{IsEmitter, state_of}
+use Rattle.yaml_emitter.specs.Queue.{is_head_ready}
+use Rattle.yaml_emitter.specs.State.{MachineState, State}
+use Rattle.yaml_emitter.specs.declared.emitter.yaml_emitter_t.TheInside.{Inside}
+use Rattle.yaml_emitter.proofs.standing.StandingPromises.{held_few, most_few}
+
+-- Where the first event that waits isn't ready, at most three wait.
+pub waiting_few : {E : Type 0} (seen : E → Event) (xs : List E) → is_head_ready (map seen xs) ≡ false → length xs ≤ 3
+waiting_few seen xs waits = omega (arith, held_few (map seen xs) waits, most_few (map seen xs), length-map xs seen)
+
+-- There is room for one more.
+pub room_left : {A : Type 0} (e : Inside A) → IsEmitter e → vec_len e.queue < vec_capacity e.queue
+room_left e kept =
+    let few = waiting_few seen_event e.queue.items kept.waits in
+    let room = kept.room in
+    let ok = e.queue.ok in
+    omega (arith, few, room, ok)
+
+-- What waits with an event that is put behind.
+pub seen_more : {E : Type 0} (seen : E → Event) (items pushed slice : List E) (x : E) → slice ≡ pushed → pushed ≡ items ++ x ∷ []
+    → map seen slice ≡ map seen items ++ seen x ∷ []
+seen_more seen items pushed slice x is grown = ap (map seen) (is ∙ grown) ∙ map-append seen items (x ∷ [])
+
+pub within_count : {E : Type 0} (seen : E → Event) (xs : List E) (count len : ℕ) → count ≤ length (map seen xs) → length xs ≡ len → count ≤ len
+within_count seen xs count len within is = omega (arith, within, is, length-map xs seen)
+
+pub has_output_inside : {A : Type 0} (e : Inside A) {seen : State} → state_of e ≡ seen → seen.has_output ≡ true → e.has_output ≡ true
+has_output_inside e is output = ap (λ (s : State). s.has_output) is ∙ output
+
+-- an emitter with an output may write
+pub kept_emitting : {A : Type 0} (e after : Inside A) → e.has_output ≡ true → after.has_output ≡ e.has_output → 4 ≤ vec_capacity after.queue
+    → is_head_ready (seen_events after.queue.items) ≡ false → IsEmitter after
+kept_emitting e after output same room waits =
+    record {
+      untouched = λ none. let wrong : true ≡ false = sym (same ∙ output) ∙ none in cc;
+      begun = λ begun. same ∙ output;
+      opened = λ opened. same ∙ output;
+      room = room;
+      waits = waits;
+    }
+
+-- what is given changes neither the page nor what comes next
+pub kept_given : {A : Type 0} (e : Inside A) (after : MachineState) (given : Settings) (settings : Effective)
+    → after ≡ record e.machine { given = given; settings = settings } → IsEmitter e → IsEmitter (record e { machine = after })
+kept_given e after given settings is kept =
+    subst (λ (m : MachineState). IsEmitter (record e { machine = m })) (sym is)
+    (record { untouched = kept.untouched; begun = kept.begun; opened = kept.opened; room = kept.room; waits = kept.waits })
+
+pub kept_limited : {A : Type 0} (e : Inside A) (after : MachineState) → IsEmitter e → IsEmitter (record e { has_output = true; machine = after })
+kept_limited e after kept =
+    record { untouched = λ none. cc; begun = λ begun. refl; opened = λ opened. refl; room = kept.room; waits = kept.waits }
+
+pub indent_set : {A : Type 0} (e : Inside A) {after : MachineState} {n : ℤ} {seen : State}
+    → after ≡ record e.machine { given = record e.machine.given { indent = Some n } } → state_of e ≡ seen
+    → state_of (record e { machine = after }) ≡ record seen { given = record seen.given { indent = Some n } }
+indent_set e {after} {n} {seen} set is =
+    ap (λ (m : MachineState). state_of (record e { machine = m })) set
+    ∙ ap (λ (s : State). let made : State = record s { given = record s.given { indent = Some n } } in made) is
+
+pub width_set : {A : Type 0} (e : Inside A) {after : MachineState} {n : ℤ} {seen : State}
+    → after ≡ record e.machine { given = record e.machine.given { width = Some n } } → state_of e ≡ seen
+    → state_of (record e { machine = after }) ≡ record seen { given = record seen.given { width = Some n } }
+width_set e {after} {n} {seen} set is =
+    ap (λ (m : MachineState). state_of (record e { machine = m })) set
+    ∙ ap (λ (s : State). let made : State = record s { given = record s.given { width = Some n } } in made) is

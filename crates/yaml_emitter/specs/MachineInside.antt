@@ -1,0 +1,26 @@
+-- What a machine holds, and what contracts see of it.
+use Rattle.std.specs.Prelude.{◌≡◌, false}
+use Rattle.yaml_emitter.specs.Given.{seen_given, seen_effective}
+use Rattle.yaml_emitter.specs.Stages.{seen_stage}
+use Rattle.yaml_emitter.specs.Signs.{some_handle_breaks}
+use Rattle.yaml_emitter.specs.State.{MachineState, FitsPage}
+use Rattle.yaml_emitter.specs.WrittenPieces.{seen_mark}
+use Rattle.yaml_emitter.specs.declared.machine.Machine.TheInside.{Inside}
+
+-- what contracts see of a machine
+abbrev pub machine_state : {A : Type 0} → Inside A → MachineState
+machine_state m =
+    record {
+      given = seen_given m.given;
+      settings = seen_effective m.settings;
+      stage = seen_stage m.stage m.directives m.frames;
+      mark = seen_mark m.mark;
+      page = m.pen;
+      error = m.error;
+    }
+
+-- no handle in force holds a break, canonical mode is as it was set, and the page was begun with the stream
+pub record IsMachine {A : Type 0} (m : Inside A) : Type 0 where
+  pub handles : some_handle_breaks m.directives ≡ false
+  pub canonical : m.settings.canonical ≡ m.given.canonical
+  pub page : FitsPage (seen_stage m.stage m.directives m.frames) m.pen

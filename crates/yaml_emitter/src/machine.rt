@@ -1,0 +1,209 @@
+//! The machine: it writes one event after another, and knows what may come next.
+
+ghost use Rattle.std.specs.Prelude.{◌≡◌, ◌||◌, IfOk, IfErr, None, Some, [], not, is_some};
+ghost use Rattle.yaml_base.specs.Seen.{seen_break, seen_encoding};
+ghost use Rattle.yaml_pen.specs.Page.{IsUntouched, all_taken, encoded, output_left};
+ghost use Rattle.yaml_pen.specs.Wrote.{Flushed};
+ghost use Rattle.yaml_emitter.specs.StandsAfter.{failed_by};
+ghost use Rattle.yaml_emitter.specs.State.{is_at_stream, new_machine};
+
+use crate::effective::EffectiveSettings;
+use crate::frames::Frames;
+use crate::settings::GivenSettings;
+use crate::stage::Stage;
+use crate::writing::OpenMark;
+use std::alloc::Allocator;
+use std::marker::Model;
+use yaml_base::{YAML_ANY_ENCODING, yaml_break_t, yaml_encoding_t, yaml_error_t};
+use yaml_mark::Directives;
+use yaml_pen::Pen;
+
+/// Writes events, one after another.
+#[derive(Drop)]
+pub(crate) struct Machine<A: Allocator> {
+    pub(crate) alloc: A,
+    pub(crate) given: GivenSettings,
+    pub(crate) settings: EffectiveSettings,
+    pub(crate) stage: Stage,
+    pub(crate) directives: Directives<A>,
+    pub(crate) frames: Frames<A>,
+    pub(crate) mark: OpenMark,
+    pub(crate) pen: Pen<A>,
+    pub(crate) error: Option<yaml_error_t>,
+}
+
+impl<A: Allocator> Model for Machine<A> {
+    ghost use Rattle.yaml_emitter.specs.State.{MachineState};
+    ghost use Rattle.yaml_emitter.specs.MachineInside.{machine_state, IsMachine};
+
+    ghost Value = { MachineState };
+
+    ghost view = { machine_state };
+
+    ghost invariant = { IsMachine };
+}
+
+impl<A: Allocator + Copy> Machine<A> {
+    /// A machine that nothing was given to.
+    ///
+    /// # Errors
+    ///
+    /// `Memory` where the pen's buffer finds no room.
+    pub(crate) fn new(alloc: A) -> Result<Machine<A>, yaml_error_t>
+        ensures made { IfOk result (λ machine. machine ≡ new_machine) }
+        ensures memory { IfErr result (λ error. error ≡ yaml_error_t.Memory) }
+    {
+        let given = GivenSettings::new();
+        let pen = Pen::new(alloc)?;
+        Ok(Machine {
+            alloc,
+            given,
+            settings: given.effective(YAML_ANY_ENCODING),
+            stage: Stage::Stream,
+            directives: Directives::new(alloc),
+            frames: Frames::new(alloc),
+            mark: OpenMark::Closed,
+            pen,
+            error: None,
+        })
+    }
+}
+
+impl<A: Allocator> Machine<A> {
+    /// The first error.
+    #[inline(always)]
+    pub(crate) fn error(&self) -> Option<yaml_error_t>
+        ensures { result ≡ self.now.error }
+    {
+        self.error
+    }
+
+    /// Whether the encoding was set, or the stream has begun.
+    pub(crate) fn knows_encoding(&self) -> bool
+        ensures { result ≡ (is_some self.now.given.encoding || not (is_at_stream self.now.stage)) }
+    {
+        match self.stage {
+            Stage::Stream => self.given.encoding != YAML_ANY_ENCODING,
+            _ => true,
+        }
+    }
+
+    /// The bytes that were handed out and not taken; none where nothing is written.
+    pub(crate) fn output(&self) -> &[u8]
+        ensures value { result.now ≡ output_left self.now.page }
+        ensures untaken { self.now.page.taken ≡ 0 → result.now ≡ self.now.page.output }
+        ensures unwritten { IsUntouched self.now.page → result.now ≡ [] }
+    {
+        self.pen.output()
+    }
+
+    /// Gives the bytes that were handed out and not taken before.
+    pub(crate) fn take_output(&mut self) -> Vec<u8, A>
+    where
+        A: Copy,
+        ensures rest { result.items ≡ output_left self.old.page }
+        ensures untaken { self.old.page.taken ≡ 0 → result.items ≡ self.old.page.output }
+        ensures taken { self.new ≡ record self.old { page = all_taken self.old.page } }
+    {
+        self.pen.take_output()
+    }
+
+    /// Hands out all that is written.
+    pub(crate) fn flush(&mut self) -> Result<(), yaml_error_t>
+        requires no_error { self.old.error ≡ None }
+        ensures flushed { Flushed self.old.page self.new.page result }
+        ensures kept { self.new ≡ record self.old { page = self.new.page; error = self.new.page.error } }
+        ensures empty { self.old.page.error ≡ None → self.old.page.output ≡ encoded self.old.page → self.new ≡ self.old }
+    {
+        match self.pen.flush() {
+            Ok(()) => Ok(()),
+            Err(error) => {
+                self.error = Some(error);
+                Err(error)
+            }
+        }
+    }
+
+    /// Sets how many bytes the output may have.
+    pub(crate) fn set_limit(&mut self, limit: usize)
+        requires { IsUntouched self.old.page }
+        ensures { self.new
+            ≡ record self.old {
+              given = record self.old.given { limit = limit };
+              page = record self.old.page { limit = limit };
+            } }
+    {
+        self.pen.set_limit(limit);
+        self.given.limit = limit;
+    }
+
+    /// Keeps the first error for good.
+    pub(crate) fn fail(&mut self, error: yaml_error_t)
+        ensures { self.new ≡ failed_by error self.old }
+    {
+        self.error = Some(error);
+    }
+}
+
+impl<A: Allocator> Machine<A> {
+    /// Sets canonical mode.
+    pub(crate) fn set_canonical(&mut self, canonical: bool)
+        ensures { self.new
+            ≡ record self.old {
+              given = record self.old.given { canonical = canonical };
+              settings = record self.old.settings { canonical = canonical };
+            } }
+    {
+        self.given.canonical = canonical;
+        self.settings.canonical = canonical;
+    }
+
+    /// Sets the encoding.
+    pub(crate) fn set_encoding(&mut self, encoding: yaml_encoding_t)
+        ensures { self.new ≡ record self.old { given = record self.old.given { encoding = seen_encoding encoding } } }
+    {
+        self.given.encoding = encoding;
+    }
+
+    /// Sets the indent.
+    pub(crate) fn set_indent(&mut self, indent: i32)
+        ensures { self.new ≡ record self.old { given = record self.old.given { indent = Some indent } } }
+    {
+        self.given.indent = Some(indent);
+    }
+
+    /// Sets the width.
+    pub(crate) fn set_width(&mut self, width: i32)
+        ensures { self.new ≡ record self.old { given = record self.old.given { width = Some width } } }
+    {
+        self.given.width = Some(width);
+    }
+
+    /// Sets whether printable characters past ASCII stand as themselves.
+    pub(crate) fn set_unicode(&mut self, unicode: bool)
+        ensures { self.new ≡ record self.old { given = record self.old.given { unicode = unicode } } }
+    {
+        self.given.unicode = unicode;
+    }
+
+    /// Sets the line break.
+    pub(crate) fn set_break(&mut self, line_break: yaml_break_t)
+        ensures { self.new ≡ record self.old { given = record self.old.given { line_break = seen_break line_break } } }
+    {
+        self.given.line_break = line_break;
+    }
+
+    /// Sets whether the line breaks are those of YAML 1.2.
+    pub(crate) fn set_line_breaks_1_2(&mut self, breaks12: bool)
+        ensures { self.new ≡ record self.old { given = record self.old.given { breaks12 = breaks12 } } }
+    {
+        self.given.breaks12 = breaks12;
+    }
+
+    /// Sets portable mode.
+    pub(crate) fn set_portable(&mut self, portable: bool)
+        ensures { self.new ≡ record self.old { given = record self.old.given { portable = portable } } }
+    {
+        self.given.portable = portable;
+    }
+}
