@@ -200,7 +200,7 @@ document_whole : (x : Document) (rest : List Event) → Whole (document_events x
 document_whole x rest = whole_around (document_start x.start) (document_end x.end_implicit) (node_events x.root) rest refl (document_balanced x)
     (node_whole x.root (document_end x.end_implicit ∷ rest))
 
-documents_whole : (d : Documents) (rest : List Event) → Whole (documents_events d) rest
+pub documents_whole : (d : Documents) (rest : List Event) → Whole (documents_events d) rest
 documents_whole no_documents rest = record { count = omega arith }
 documents_whole (documents_and d x) rest = whole_both (documents_events d) (document_events x) rest (documents_whole d (document_events x ++ rest))
     (document_whole x rest)

@@ -1,4 +1,5 @@
 pub mod Fronts
+pub mod Flushing
 pub mod Standing
 pub mod StandingSteps
 pub mod StandingFailed
@@ -17,4 +18,5 @@ pub mod KeepsSet
 pub mod Growing
 pub mod StandingMarked
 pub mod Taking
+pub mod KeptDocuments
 pub mod EmitterKept

@@ -15,6 +15,7 @@ pub mod State
 pub mod MachineInside
 pub mod Inside
 pub mod Processing
+pub mod StaysFlushed
 pub mod StandsAfter
 pub mod Uncut
 pub mod EncodedAlike

@@ -22,6 +22,7 @@ use Rattle.yaml_base.specs.declared.errors.yaml_error_t.{yaml_error_t}
 use Rattle.yaml_base.specs.declared.errors.yaml_error_t.TheVariants.{WriteError, Memory}
 use Rattle.yaml_pen.specs.Page.{encoded}
 use Rattle.yaml_emitter.specs.State.{State}
+use Rattle.yaml_emitter.specs.StaysFlushed.{StaysFlushed}
 use Rattle.yaml_emitter.specs.Uncut.{IsUncut}
 
 -- the text so far is that of the first so many pieces
@@ -62,7 +63,8 @@ pub record RefusedAt (given : Settings) (all : List Event) (error : yaml_error_t
   pub text : HasText given all (length front) state
 
 -- an accepted list begins with these events: the text of the first so many pieces of its layout is a prefix of the text so
--- far, which is a prefix of that of these events' pieces; the output is a prefix of its bytes
+-- far, which is a prefix of that of these events' pieces; the output is a prefix of its bytes, and begins with all bytes of the
+-- documents among the first so many events
 pub record BeginsOutput (given : Settings) (all front : List Event) (count : ℕ) (state : State) : Type 0 where
   pub later : List Event
   pub parts : front ++ later ≡ all
@@ -77,6 +79,7 @@ pub record BeginsOutput (given : Settings) (all front : List Event) (count : ℕ
   pub output :
       let s = settings_for given all in
       state.page.output ≡ cut (length state.page.output) (bytes_written s (list_layout s (front ++ more)))
+  pub flushed : StaysFlushed given all count state.page.output
 
 -- after an error: the events before the one in work are written whole; of its own piece nothing is, or a prefix
 pub data StopsWriting (given : Settings) (all : List Event) (state : State) : Type 0 where

@@ -14,6 +14,7 @@ use Rattle.yaml_base.specs.Meaning.{has_scalar_texts}
 use Rattle.yaml_base.specs.declared.errors.yaml_error_t.{yaml_error_t}
 use Rattle.yaml_base.specs.declared.errors.yaml_error_t.TheVariants.{WriteError, Memory}
 use Rattle.yaml_pen.specs.Page.{Page, new_page, encoded, IsHandedOut}
+use Rattle.yaml_emitter.specs.StaysFlushed.{StaysFlushed}
 use Rattle.yaml_emitter.specs.State.{MachineState, State, machine_of, standing_of}
 use Rattle.yaml_emitter.specs.Processing.{Processed, closes_at_once}
 use Rattle.yaml_emitter.specs.Queue.{is_head_ready}
@@ -41,7 +42,7 @@ abbrev pub IsSettled : Effective → List Event → MachineState → Type 0
 IsSettled s [] machine = Unit {0}
 IsSettled s (event ∷ events) machine = machine.settings ≡ s
 
--- the machine after some steps over a front of the events
+-- the machine after some steps over a front of the events; what was flushed at the ends of its documents is in the output
 pub record HasTaken (given : Settings) (all front : List Event) (taken : Steps) (machine : MachineState) : Type 0 where
   pub given_kept : machine.given ≡ given
   pub settled : IsSettled (settings_for given all) front machine
@@ -50,6 +51,7 @@ pub record HasTaken (given : Settings) (all front : List Event) (taken : Steps) 
   pub standing : standing_of machine ≡ taken.standing
   pub page : HoldsPieces (settings_for given all) front taken.pieces machine.page
   pub handed_out : hands_out_last front ≡ true → machine.page.output ≡ encoded machine.page
+  pub flushed : StaysFlushed given all (length front) machine.page.output
 
 -- without an error: the ready events are written, the others held
 pub record StandsWell (given : Settings) (all waiting : List Event) (machine : MachineState) : Type 0 where
@@ -101,6 +103,7 @@ pub record StandsCut (given : Settings) (all : List Event) (error : yaml_error_t
       let before = steps s (closes_last front (event ∷ later)) front at_stream first_standing in
       let with_event = steps s (closes_at_once event later) (front ++ event ∷ []) at_stream first_standing in
       HoldsCut given s front event before with_event error machine.page
+  pub flushed : StaysFlushed given all (length front) machine.page.output
 
 -- the output's limit was passed, or memory refused, by a flush between events: all that were ready were written, more may
 -- have been given since
@@ -114,6 +117,7 @@ pub record StandsUnflushed (given : Settings) (all : List Event) (error : yaml_e
       HoldsPiecesWith (Some error) (settings_for given all) (take (written before) before)
       (progress (settings_for given all) before).pieces machine.page
   pub handed : IsHandedOut (encoded machine.page) machine.page.output machine.page.limit machine.page.error
+  pub flushed : StaysFlushed given all (written before) machine.page.output
 
 -- the output's limit was passed, or memory refused, at an event or between two
 pub data StandsStopped (given : Settings) (all : List Event) (error : yaml_error_t) (machine : MachineState) : Type 0 where

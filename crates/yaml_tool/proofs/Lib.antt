@@ -9,3 +9,4 @@ pub mod PartLemmas
 pub mod SearchLemmas
 pub mod CharacterLemmas
 pub mod RunLemmas
+pub mod rows

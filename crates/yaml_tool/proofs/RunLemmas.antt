@@ -9,6 +9,7 @@ use Rattle.yaml_base.specs.scripts.Script.{Numbered, understood, script_of}
 use Rattle.yaml_base.specs.declared.errors.yaml_error_t.{yaml_error_t}
 use Rattle.yaml_pen.specs.Page.{told}
 use Rattle.yaml_pen.specs.Wrote.{Grows}
+use Rattle.yaml_emitter.proofs.standing.KeptDocuments.{documents_kept, documents_stay}
 use Rattle.yaml_emitter.specs.State.{State}
 use Rattle.yaml_emitter.specs.StandsAfter.{StandsAfter}
 use Rattle.yaml_emitter.specs.Promises.{HasAllBytes, Promised}
@@ -48,11 +49,12 @@ ends_more given next =
 -- the call that was given an event failed
 pub refused_at : {A : Type 0} (set : Settings) (given : List (NumberedEvent A)) (next : NumberedEvent A) (rest left all : List (NumberedEvent A))
     (error : yaml_error_t) (earlier state : State)
-    → given ++ left ≡ all → left ≡ next ∷ rest → earlier.error ≡ None → StandsAfter set (events_in (map seen_numbered given)) earlier → state.error ≡ Some error
+    → given ++ left ≡ all → left ≡ next ∷ rest → earlier.error ≡ None → StandsAfter set (events_in (map seen_numbered given)) earlier
+    → Promised set (events_in (map seen_numbered given)) earlier → state.error ≡ Some error
     → StandsAfter set (events_in (map seen_numbered given) ++ seen_event next.event ∷ []) state
     → Promised set (events_in (map seen_numbered given) ++ seen_event next.event ∷ []) state → Grows earlier.page state.page
     → RefusesAt set (map seen_numbered all) next.line error state
-refused_at set given next rest left all error earlier state parts is none stood failed stands kept grew =
+refused_at set given next rest left all error earlier state parts is none stood promised failed stands kept grew =
     record {
       before = map seen_numbered given;
       event = seen_event next.event;
@@ -64,21 +66,24 @@ refused_at set given next rest left all error earlier state parts is none stood 
       stands = stands;
       promised = kept;
       grew = grew;
+      documents =
+          documents_stay set (events_in (map seen_numbered given)) earlier.page.output state.page.output
+          (documents_kept set (events_in (map seen_numbered given)) earlier promised none) grew.output;
       failed = failed;
     }
 
 -- the last flush
 pub flushed_last : (set : Settings) (all : List Numbered) (line : ℕ) (answer : run_answer_t) (before after : State) → StandsAfter set (events_in all) before
-    → before.error ≡ None → EndsAt all line
+    → Promised set (events_in all) before → before.error ≡ None → EndsAt all line
     → FlushesLast line before answer after → Emits set all answer after
-flushed_last set all line Done before after stood none ends h =
+flushed_last set all line Done before after stood promised none ends h =
     record {
       stands = (h.1 set (events_in all) stood).0;
       promised = (h.1 set (events_in all) stood).1;
       no_error = h.0;
       handed_out = (h.1 set (events_in all) stood).2;
     }
-flushed_last set all line (Refused told error) before after stood none ends h =
+flushed_last set all line (Refused told error) before after stood promised none ends h =
     inr
     (record {
       before = ends.before;
@@ -91,22 +96,24 @@ flushed_last set all line (Refused told error) before after stood none ends h =
       stands = (h.4 set (events_in all) stood).0;
       promised = (h.4 set (events_in all) stood).1;
       grew = h.2;
+      documents =
+          documents_stay set (events_in all) before.page.output after.page.output (documents_kept set (events_in all) before promised none) h.2.output;
       unflushed = h.3;
       failed = h.1;
     })
-flushed_last set all line (BadLine number) before after stood none ends h = h
-flushed_last set all line ReadFailed before after stood none ends h = h
-flushed_last set all line WriteFailed before after stood none ends h = h
-flushed_last set all line NoMemory before after stood none ends h = h
+flushed_last set all line (BadLine number) before after stood promised none ends h = h
+flushed_last set all line ReadFailed before after stood promised none ends h = h
+flushed_last set all line WriteFailed before after stood promised none ends h = h
+flushed_last set all line NoMemory before after stood promised none ends h = h
 
 -- the end of all events
 pub ended_with : (set : Settings) (all : List Numbered) (line : ℕ) (last : Option ℕ) (answer : run_answer_t) (before after : State) → last ≡ Some line
-    → StandsAfter set (events_in all) before → before.error ≡ None
+    → StandsAfter set (events_in all) before → Promised set (events_in all) before → before.error ≡ None
     → LastLine all last before → FlushesLast line before answer after → Emits set all answer after
-ended_with set all line None answer before after is stood none ends h = cc
-ended_with set all line (Some other) answer before after is stood none ends h =
+ended_with set all line None answer before after is stood promised none ends h = cc
+ended_with set all line (Some other) answer before after is stood promised none ends h =
     let same : other ≡ line = cc in
-    flushed_last set all line answer before after stood none (subst (EndsAt all) same ends) h
+    flushed_last set all line answer before after stood promised none (subst (EndsAt all) same ends) h
 
 pub ended_without : (set : Settings) (all : List Numbered) (last : Option ℕ) (state : State) → last ≡ None → StandsAfter set (events_in all) state
     → Promised set (events_in all) state → state.error ≡ None → LastLine all last state → EmitsAll set all state

@@ -8,6 +8,7 @@ use Rattle.yaml_base.specs.declared.errors.yaml_error_t.{yaml_error_t}
 use Rattle.yaml_base.specs.declared.errors.yaml_error_t.TheVariants.{Memory}
 use Rattle.yaml_pen.specs.Wrote.{Grows}
 use Rattle.yaml_emitter.specs.State.{State}
+use Rattle.yaml_emitter.specs.StaysFlushed.{KeepsDocuments}
 use Rattle.yaml_emitter.specs.StandsAfter.{StandsAfter}
 use Rattle.yaml_emitter.specs.Promises.{HasAllBytes, Promised}
 use Rattle.yaml_tool.specs.declared.answers.run_answer_t.{run_answer_t}
@@ -27,7 +28,7 @@ pub record EmitsAll (given : Settings) (all : List Numbered) (state : State) : T
   pub handed_out : HasAllBytes given (events_in all) state
 
 -- the call that was given this line's event is the first that answered an error, this one, and no event after it was given;
--- nothing that was written before it is lost
+-- nothing that was written before it is lost, and all bytes of the documents that were complete before it are written
 pub record RefusesAt (given : Settings) (all : List Numbered) (line : ℕ) (error : yaml_error_t) (state : State) : Type 0 where
   pub before : List Numbered
   pub event : Event
@@ -39,10 +40,11 @@ pub record RefusesAt (given : Settings) (all : List Numbered) (line : ℕ) (erro
   pub stands : StandsAfter given (events_in before ++ event ∷ []) state
   pub promised : Promised given (events_in before ++ event ∷ []) state
   pub grew : Grows earlier.page state.page
+  pub documents : KeepsDocuments given (events_in before) state.page.output
   pub failed : state.error ≡ Some error
 
--- every event was taken without an error, and the flush after the last, of this line, answered this one; nothing is lost, and
--- where memory was refused the output is as it was
+-- every event was taken without an error, and the flush after the last, of this line, answered this one; nothing is lost, all
+-- bytes of the documents that are complete are written, and where memory was refused the output is as it was
 pub record FlushFails (given : Settings) (all : List Numbered) (line : ℕ) (error : yaml_error_t) (state : State) : Type 0 where
   pub before : List Numbered
   pub event : Event
@@ -53,6 +55,7 @@ pub record FlushFails (given : Settings) (all : List Numbered) (line : ℕ) (err
   pub stands : StandsAfter given (events_in all) state
   pub promised : Promised given (events_in all) state
   pub grew : Grows earlier.page state.page
+  pub documents : KeepsDocuments given (events_in all) state.page.output
   pub unflushed : error ≡ Memory → state.page.output ≡ earlier.page.output
   pub failed : state.error ≡ Some error
 

@@ -26,7 +26,8 @@ written_grows : (event : Event) (empty : Bool) (before after : MachineState) →
 written_grows (stream_start encoding) empty before after h = grows_same before.page after.page (ap (λ (p : Page). p.text) h.1) (ap (λ (p : Page). p.output) h.1)
 written_grows event empty before after h = wrote_grows h.1
 
-cut_grows : (error : yaml_error_t) (event : Event) (empty : Bool) (before after : MachineState) → CutPage error event empty before after → Grows before.page after.page
+pub cut_grows : (error : yaml_error_t) (event : Event) (empty : Bool) (before after : MachineState) → CutPage error event empty before after
+    → Grows before.page after.page
 cut_grows error event empty before after (unwritten memory same) = grows_page before.page after.page same
 cut_grows error event empty before after (partly_written part) = wrote_grows part.wrote
 

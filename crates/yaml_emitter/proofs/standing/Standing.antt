@@ -1,6 +1,6 @@
 -- A machine stands after its events: as one more comes, as each that is ready is written, and when no more is ready.
 use Rattle.std.proofs.Common.{◌≡◌, refl, sym, ap, ◌∙◌, subst, arith, append_assoc, append-nil, inl}
-use Rattle.std.proofs.lemmas.List.{take-append-drop, length-take-le}
+use Rattle.std.proofs.lemmas.List.{length-append, take-append-drop, length-take-le}
 use Rattle.std.proofs.lemmas.List.Concat.{flat_map-append}
 use Rattle.std.specs.Prelude.{◌+◌, Bool, true, false, ◌&&◌, Option, None, Some, Result, Ok, List, [], ◌∷◌, ◌++◌, length, take, option_and_then}
 use Rattle.yaml_base.specs.Settings.{Encoding, Settings, Effective, effective}
@@ -26,6 +26,8 @@ use Rattle.yaml_pen.specs.Wrote.{Wrote, named_text}
 use Rattle.yaml_pen.proofs.Composing.{with_breaks_written-append, wrote_all, wrote_no_error}
 use Rattle.yaml_emitter.specs.State.{MachineState, standing_of}
 use Rattle.yaml_emitter.specs.Processing.{closes_at_once, event_laid, refusal_now, WritesPage, WritesEvent}
+use Rattle.yaml_emitter.specs.StaysFlushed.{StaysFlushed}
+use Rattle.yaml_emitter.proofs.standing.Flushing.{flushed_first, flushed_grown, flushed_none}
 use Rattle.yaml_emitter.specs.StandsAfter.{IsPage, HoldsPieces, IsSettled, HasTaken, StandsWell, closes_last, Reached}
 
 -- Settings are those of the first event.
@@ -49,7 +51,16 @@ pub taken_grown : (front rest all more : List Event) (given : Settings) (follows
     → HasTaken given all front (steps (settings_for given all) follows front at_stream first_standing) state
     → HasTaken given (all ++ more) front (steps (settings_for given (all ++ more)) follows front at_stream first_standing) state
 taken_grown [] rest all more given follows state parts h =
-    record { given_kept = h.given_kept; settled = tt; stands = h.stands; stage = h.stage; standing = h.standing; page = h.page; handed_out = h.handed_out }
+    record {
+      given_kept = h.given_kept;
+      settled = tt;
+      stands = h.stands;
+      stage = h.stage;
+      standing = h.standing;
+      page = h.page;
+      handed_out = h.handed_out;
+      flushed = flushed_none given (all ++ more) state.page.output;
+    }
 taken_grown (event ∷ front) rest all more given follows state parts h =
     let same = sym (settings_grown given event front rest all more parts) in
     record {
@@ -60,6 +71,9 @@ taken_grown (event ∷ front) rest all more given follows state parts h =
       standing = h.standing ∙ ap (λ (s : Effective). (steps s follows (event ∷ front) at_stream first_standing).standing) same;
       page = subst (λ (s : Effective). HoldsPieces s (event ∷ front) (steps s follows (event ∷ front) at_stream first_standing).pieces state.page) same h.page;
       handed_out = h.handed_out;
+      flushed =
+          flushed_grown given all more (length (event ∷ front)) state.page.output (omega (arith, ap length parts, length-append (event ∷ front) rest))
+          (sym same) h.flushed;
     }
 
 -- A collection that isn't ended at once.
@@ -94,6 +108,7 @@ taken_same given all front taken before after is_given is_settings is_stage is_m
           ∙ h.standing;
       page = subst (λ page. HoldsPieces (settings_for given all) front taken.pieces page) (sym is_page) h.page;
       handed_out = subst (λ (page : Page). hands_out_last front ≡ true → page.output ≡ encoded page) (sym is_page) h.handed_out;
+      flushed = subst (λ (page : Page). StaysFlushed given all (length front) page.output) (sym is_page) h.flushed;
     }
 
 -- The first of a call: an event comes to those that are held.
@@ -288,5 +303,6 @@ taken_first (stream_start encoding) rest given empty before after start h begun 
           ∙ ap (page_begun (effective given encoding)) h.page))
           (page_started (effective given encoding) encoding);
       handed_out = λ hands. cc;
+      flushed = flushed_first given encoding rest after.page.output;
     }
 taken_first event rest given empty before after start h begun done = absurd start

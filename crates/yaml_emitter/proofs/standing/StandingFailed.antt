@@ -1,7 +1,7 @@
 -- An emitter that failed stands after the events that it was given, and after those that come later.
 use Rattle.std.proofs.Common.{◌≡◌, refl, sym, ap, ◌∙◌, subst, arith, append_assoc}
 use Rattle.std.proofs.lemmas.Bool.{false≢true}
-use Rattle.std.specs.Prelude.{suc, Bool, true, false, Option, None, Some, IsSome, Result, Err, List, [], ◌∷◌, ◌++◌, option_and_then, if◌then◌else◌}
+use Rattle.std.specs.Prelude.{suc, Bool, true, false, Option, None, Some, IsSome, Result, Err, List, [], ◌∷◌, ◌++◌, length, option_and_then, if◌then◌else◌}
 use Rattle.yaml_base.specs.Settings.{Settings}
 use Rattle.yaml_base.specs.Prefix.{IsPrefix}
 use Rattle.yaml_base.specs.Event.{Event, sequence_start, sequence_end, mapping_start, mapping_end}
@@ -20,6 +20,8 @@ use Rattle.yaml_emitter.specs.State.{MachineState}
 use Rattle.yaml_emitter.specs.Processing.{closes_at_once, event_stepped, event_laid, CutShort, unwritten, partly_written, Refused, Processed}
 use Rattle.yaml_emitter.specs.StandsAfter.{IsPage, HoldsPieces, HasTaken, FailedAt, closes_last, StandsRefused, holds_before, holds_part, StandsCut, StandsFailed}
 use Rattle.yaml_emitter.specs.StandsAfter.{Reached, failed_by, at_event}
+use Rattle.yaml_emitter.proofs.standing.Flushing.{flushed_output}
+use Rattle.yaml_emitter.proofs.standing.Growing.{cut_grows}
 use Rattle.yaml_emitter.proofs.standing.Standing.{taken_same, refusal_same, accepted_next, named_more, is_page_wrote}
 use Rattle.yaml_emitter.proofs.standing.StandingSteps.{stepped_steps}
 
@@ -145,6 +147,9 @@ cut_stands given all front rest event error before after h is done =
             let cut = cut_page front rest given all event before after part.answer taken accepted part.wrote in
             holds_part accepted cut.0 part.failed cut.1 cut.2
       ];
+      flushed =
+          flushed_output given all (length front) before.page.output after.page.output taken.flushed
+          (cut_grows error event (closes_at_once event rest) before after done.page).output;
     }
 
 -- A ready event fails.

@@ -1,6 +1,6 @@
 -- An emitter that failed stands after all events that are still given; a new one and one that was flushed stand too.
 use Rattle.std.proofs.Common.{◌≡◌, refl, sym, ap, ◌∙◌, subst, arith, append_assoc, append-nil, inl, inr}
-use Rattle.std.proofs.lemmas.List.{take-append-drop}
+use Rattle.std.proofs.lemmas.List.{length-append, length-take-le, take-append-drop}
 use Rattle.std.specs.Prelude.{ℕ, zero, suc, ◌<◌, ◌≤◌, ◌⊎◌, Bool, true, false, Option, None, Some, Result, Ok, Err, List, [], ◌∷◌, ◌++◌, length, take, drop}
 use Rattle.std.specs.Prelude.{if◌then◌else◌}
 use Rattle.yaml_base.specs.Settings.{Settings, Effective}
@@ -24,6 +24,9 @@ use Rattle.yaml_emitter.specs.Given.{nothing_given}
 use Rattle.yaml_emitter.specs.Processing.{closes_at_once}
 use Rattle.yaml_emitter.specs.StandsAfter.{HoldsPieces, HoldsPiecesWith, StandsWell, FailedAt, closes_last, StandsRefused, HoldsCut, StandsCut, StandsUnflushed}
 use Rattle.yaml_emitter.specs.StandsAfter.{StandsStopped, StandsFailed, StandsBy, StandsSo, at_event, between_events}
+use Rattle.yaml_base.proofs.QueueLaws.{written_within}
+use Rattle.yaml_emitter.specs.StaysFlushed.{StaysFlushed}
+use Rattle.yaml_emitter.proofs.standing.Flushing.{flushed_grown, flushed_none, flushed_output}
 use Rattle.yaml_emitter.proofs.standing.Standing.{settings_grown, settled_same, taken_grown}
 
 -- More events after a failure.
@@ -84,6 +87,15 @@ refused_grown given all more error machine h =
       refusal = h.refusal;
     }
 
+-- What was flushed before it stays.
+flushed_front : (front : List Event) (given : Settings) (all rest more : List Event) (count : ℕ) (output : List ℕ) → front ++ rest ≡ all
+    → length front ≡ count → StaysFlushed given all count output → StaysFlushed given (all ++ more) count output
+flushed_front [] given all rest more count output parts is h =
+    subst (λ count. StaysFlushed given (all ++ more) count output) is (flushed_none given (all ++ more) output)
+flushed_front (x ∷ front) given all rest more count output parts is h =
+    flushed_grown given all more count output (omega (arith, is, ap length parts, length-append (x ∷ front) rest))
+    (settings_grown given x front rest all more parts) h
+
 cut_grown : (given : Settings) (all more : List Event) (error : yaml_error_t) (machine : MachineState) → StandsCut given all error machine
     → StandsCut given (all ++ more) error machine
 cut_grown given all more error machine h =
@@ -105,6 +117,7 @@ cut_grown given all more error machine h =
           subst (λ s. CutBy s (closes_last h.front (h.event ∷ (h.later ++ more))) (closes_at_once h.event (h.later ++ more)) machine.page) settings
           (subst (λ b. CutBy (settings_for given all) b (closes_at_once h.event (h.later ++ more)) machine.page) at_front
           (subst (λ b. CutBy (settings_for given all) (closes_last h.front (h.event ∷ h.later)) b machine.page) at_event h.page));
+      flushed = flushed_front h.front given all (h.event ∷ h.later) more (length h.front) machine.page.output h.failed.parts refl h.flushed;
     }
 
 holds_grown : (front : List Event) (given : Settings) (all rest more : List Event) (error : Option yaml_error_t) (page : Page) → front ++ rest ≡ all
@@ -130,6 +143,9 @@ unflushed_grown given all more error machine h =
       stands = h.stands;
       page = holds_grown front given all (rest ++ h.later) more (Some error) machine.page whole h.page;
       handed = h.handed;
+      flushed =
+          flushed_front front given all (rest ++ h.later) more (written h.before) machine.page.output whole
+          (length-take-le (written h.before) h.before (written_within h.before)) h.flushed;
     }
 
 stopped_grown : (given : Settings) (all more : List Event) (error : yaml_error_t) (machine : MachineState)
@@ -180,6 +196,7 @@ new_stands given state is_given page stage mark held none =
             ∙ ap (λ mark. let made : Standing = record { cursor = first_standing.cursor; mark = mark } in made) mark;
         page = page;
         handed_out = λ hands. cc;
+        flushed = flushed_none given [] state.page.output;
       };
       held = held;
     } in
@@ -263,6 +280,7 @@ flushed_stands given all held machine page h flushed =
             subst (λ error. HoldsPiecesWith error s front (progress s all).pieces page) (none_from_told page.error flushed.answered)
             (flushed_page front s (progress s all).pieces machine.page page (Ok tt) h.taken.page flushed);
         handed_out = λ hands. (flushed.all (none_from_told page.error flushed.answered)).1;
+        flushed = flushed_output given all (length front) machine.page.output page.output h.taken.flushed flushed.output;
       };
       held = h.held;
     }
@@ -299,6 +317,9 @@ unflushed_stands given all held machine page error h flushed =
           subst (λ error. HoldsPiecesWith error s front (progress s all).pieces page) (some_from_told page.error error flushed.answered)
           (flushed_page front s (progress s all).pieces machine.page page (Err error) h.taken.page flushed);
       handed = flushed.handed;
+      flushed =
+          subst (λ count. StaysFlushed given all count page.output) (length-take-le (written all) all (written_within all))
+          (flushed_output given all (length front) machine.page.output page.output h.taken.flushed flushed.output);
     }
 
 -- A flush that fails does so by the output's limit or by memory.

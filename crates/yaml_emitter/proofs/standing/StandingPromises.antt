@@ -23,6 +23,7 @@ use Rattle.yaml_base.proofs.Progress.{progress_pieces}
 use Rattle.yaml_base.proofs.QueueLaws.{held_is_short, held_waits, written_within}
 use Rattle.yaml_pen.specs.Page.{Page}
 use Rattle.yaml_emitter.specs.State.{State, machine_of}
+use Rattle.yaml_emitter.specs.StaysFlushed.{StaysFlushed}
 use Rattle.yaml_emitter.specs.Queue.{is_head_ready}
 use Rattle.yaml_emitter.specs.Processing.{closes_at_once}
 use Rattle.yaml_emitter.specs.StandsAfter.{HoldsPiecesWith, StandsWell, closes_last, StandsRefused, holds_before, holds_part, StandsCut, StandsUnflushed}
@@ -118,9 +119,10 @@ promises_refusal given all state error h failed is =
 -- The output begins that of an accepted list.
 output_by_pieces : (given : Settings) (all front later : List Event) (follows : Bool) (error : Option yaml_error_t) (state : State) → front ++ later ≡ all
     → HoldsPiecesWith error (settings_for given all) front (steps (settings_for given all) follows front at_stream first_standing).pieces state.page
+    → StaysFlushed given all (length front) state.page.output
     → GoesOn given.canonical (settings_for given all) front (steps (settings_for given all) follows front at_stream first_standing).pieces
     → BeginsOutput given all front (length front) state
-output_by_pieces given all front later follows error state parts h on =
+output_by_pieces given all front later follows error state parts h flushed on =
     let s = settings_for given all in
     let begun = (steps s follows front at_stream first_standing).pieces in
     let whole = list_layout s (front ++ on.more) in
@@ -134,14 +136,16 @@ output_by_pieces given all front later follows error state parts h on =
       least = prefix_same (text_written s (take (length front) whole)) state.page.text (sym text);
       most = prefix_same state.page.text (text_written s (take (length front) whole)) text;
       output = holds_output front s follows error state.page whole h on.begins;
+      flushed = flushed;
     }
 
 output_from : (given : Settings) (all front later : List Event) (error : Option yaml_error_t) (state : State) → front ++ later ≡ all
     → BeginsAccepted given.canonical front
     → HoldsPiecesWith error (settings_for given all) front (steps (settings_for given all) false front at_stream first_standing).pieces state.page
+    → StaysFlushed given all (length front) state.page.output
     → BeginsOutput given all front (length front) state
-output_from given all front later error state parts begins h =
-    output_by_pieces given all front later false error state parts h (goes_on given.canonical (settings_for given all) front begins)
+output_from given all front later error state parts begins h flushed =
+    output_by_pieces given all front later false error state parts h flushed (goes_on given.canonical (settings_for given all) front begins)
 
 -- The steps of a front begin those of the whole.
 pub steps_begin : (front rest : List Event) (s : Effective) (follows : Bool)
@@ -203,7 +207,7 @@ cut_output given all error state h =
       | holds_before memory page ↦
           let follows = closes_last h.front (h.event ∷ h.later) in
           stops_before h.front
-          (output_by_pieces given all h.front (h.event ∷ h.later) follows None state h.failed.parts page
+          (output_by_pieces given all h.front (h.event ∷ h.later) follows None state h.failed.parts page h.flushed
           (closing_more given.canonical s h.front (h.event ∷ h.later) follows refl h.stands))
       | holds_part begun page failed least most ↦
           let longer = h.front ++ h.event ∷ [] in
@@ -231,6 +235,7 @@ cut_output given all error state h =
             most = subst (λ pieces. IsPrefix state.page.text (text_written s pieces))
                 (sym (begin_take (length longer) pieces whole on.begins (steps_count longer s empty at_stream first_standing))) most;
             output = output_begins s state.page whole page (front_longer s state.page.text pieces whole most on.begins);
+            flushed = h.flushed;
           })
     ]
 
@@ -241,12 +246,14 @@ unflushed_output given all error state h =
     let rest = drop (written h.before) h.before in
     let whole : front ++ (rest ++ h.later) ≡ all =
     sym (append_assoc front rest h.later) ∙ ap (λ events. events ++ h.later) (take-append-drop (written h.before) h.before) ∙ h.parts in
-    stops_before front (output_from given all front (rest ++ h.later) (Some error) state whole h.stands h.page)
+    stops_before front
+    (output_from given all front (rest ++ h.later) (Some error) state whole h.stands h.page
+    (subst (λ count. StaysFlushed given all count state.page.output) (sym (length-take-le (written h.before) h.before (written_within h.before))) h.flushed))
 
 refused_output : (given : Settings) (all : List Event) (error : yaml_error_t) (state : State) → StandsRefused given all error (machine_of state)
     → StopsWriting given all state
 refused_output given all error state h =
-    stops_before h.front (output_from given all h.front (h.event ∷ h.later) None state h.failed.parts h.taken.stands h.taken.page)
+    stops_before h.front (output_from given all h.front (h.event ∷ h.later) None state h.failed.parts h.taken.stands h.taken.page h.taken.flushed)
 
 stopped_output : (given : Settings) (all : List Event) (error : yaml_error_t) (state : State) → StandsStopped given all error (machine_of state)
     → StopsWriting given all state
@@ -264,7 +271,7 @@ output_by : (error : Option yaml_error_t) (given : Settings) (all : List Event) 
     → OutputBegins given all error state
 output_by None given all state h =
     subst (λ count. BeginsOutput given all (take (written all) all) count state) (length-take-le (written all) all (written_within all))
-    (output_from given all (take (written all) all) (held_back all) None state (take-append-drop (written all) all) h.taken.stands h.taken.page)
+    (output_from given all (take (written all) all) (held_back all) None state (take-append-drop (written all) all) h.taken.stands h.taken.page h.taken.flushed)
 output_by (Some error) given all state h = failed_output error given all state h.1
 
 -- After every call the output begins that of an accepted list, which begins with the events written so far.

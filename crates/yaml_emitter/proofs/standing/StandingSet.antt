@@ -13,6 +13,7 @@ use Rattle.yaml_pen.specs.Page.{Page, new_page, encoded, IsHandedOut}
 use Rattle.yaml_emitter.specs.State.{MachineState, State, machine_of}
 use Rattle.yaml_emitter.specs.StandsAfter.{HoldsPiecesWith, FailedAt, StandsWell, StandsUnflushed, StandsStopped, StandsFailed, StandsBy, StandsAfter}
 use Rattle.yaml_emitter.specs.StandsAfter.{at_event, between_events}
+use Rattle.yaml_emitter.proofs.standing.Flushing.{flushed_none}
 use Rattle.yaml_emitter.proofs.standing.StandingMore.{nothing_begins}
 
 -- what is set: what was given, what it comes to, and the page's limit
@@ -81,6 +82,7 @@ well_set held before after set h =
             ∙ h.taken.standing;
         page = page;
         handed_out = λ hands. cc;
+        flushed = flushed_none after.given [] after.page.output;
       };
       held = h.held;
     }
@@ -112,6 +114,7 @@ unflushed_set before after error set h =
       handed =
           subst (λ (page : Page). IsHandedOut (encoded page) page.output page.limit page.error) (sym page)
           (handed_set before.given.limit after.given.limit error handed);
+      flushed = flushed_none after.given [] after.page.output;
     }
 
 stopped_set : (before after : MachineState) (error : yaml_error_t) → IsSet before after → StandsStopped before.given [] error before

@@ -2,24 +2,28 @@
 use Rattle.std.proofs.Common.{◌≡◌, refl, sym, ap, ◌∙◌, subst, arith, append_assoc}
 use Rattle.std.proofs.lemmas.List.{length-append, take_at, drop_at}
 use Rattle.std.specs.Prelude.{suc, ◌+◌, ◌≤◌, Bool, true, false, ◌&&◌, Some, Ok, List, [], ◌∷◌, ◌++◌, length, take, drop, option_and_then, if◌then◌else◌}
-use Rattle.yaml_base.specs.Settings.{Settings}
-use Rattle.yaml_base.specs.Event.{Event, document_start, sequence_start, mapping_start}
+use Rattle.yaml_base.specs.Settings.{Effective, Settings}
+use Rattle.yaml_base.specs.Encoding.{encode}
+use Rattle.yaml_base.specs.Event.{Event, document_start, document_end, sequence_start, mapping_start, stream_end}
 use Rattle.yaml_base.specs.Grammar.{Partial, before_stream, pushed, partial_of}
 use Rattle.yaml_base.specs.Refusal.{BeginsAccepted}
 use Rattle.yaml_base.specs.Ready.{is_ready, written, awaited, held_back}
-use Rattle.yaml_base.specs.Layout.{Standing, first_standing}
-use Rattle.yaml_base.specs.Steps.{at_stream, step, steps}
+use Rattle.yaml_base.specs.Layout.{Piece, Standing, first_standing}
+use Rattle.yaml_base.specs.Steps.{Steps, at_stream, step, steps}
 use Rattle.yaml_base.specs.Pieces.{begins_last, ends_first}
-use Rattle.yaml_base.specs.Output.{settings_for, hands_out, hands_out_last}
+use Rattle.yaml_base.specs.Output.{settings_for, bytes_written, hands_out}
 use Rattle.yaml_base.proofs.Accepted.{stands_from_begins}
 use Rattle.yaml_base.proofs.Completions.{pushed-append}
 use Rattle.yaml_base.proofs.QueueLaws.{no_end_held}
+use Rattle.yaml_pen.specs.Page.{Page, encoded}
 use Rattle.yaml_pen.proofs.Composing.{wrote_all}
 use Rattle.yaml_emitter.specs.State.{MachineState, standing_of}
 use Rattle.yaml_emitter.specs.Queue.{is_head_ready}
 use Rattle.yaml_emitter.specs.Processing.{closes_at_once, event_stepped, event_laid, WritesEvent, Processed}
-use Rattle.yaml_emitter.specs.StandsAfter.{HasTaken, StandsWell, closes_last, Reached}
-use Rattle.yaml_emitter.proofs.standing.Standing.{open_last, IsLater, starts_only, not_begun, pushes_later, one_more, next_steps, accepted_next}
+use Rattle.yaml_emitter.specs.StandsAfter.{HasTaken, HoldsPieces, StandsWell, closes_last, Reached}
+use Rattle.yaml_emitter.proofs.standing.Flushing.{flushed_more, hands_out_last-append}
+use Rattle.yaml_emitter.proofs.standing.StandingTexts.{pieces_front}
+use Rattle.yaml_emitter.proofs.standing.Standing.{open_last, taken_same, IsLater, starts_only, not_begun, pushes_later, one_more, next_steps, accepted_next}
 use Rattle.yaml_emitter.proofs.standing.Standing.{page_more, writes_later, taken_first}
 
 -- Any later event: its piece is the next.
@@ -39,20 +43,26 @@ stepped_steps given all x front rest event q before h pushes =
     ∙ ap (λ standing. step s taken.stage event empty standing) h.standing in
     next_steps (x ∷ front) rest event q s empty pushes ∙ ap (one_more taken) (sym same)
 
-hands_out_last-append : (front : List Event) (event : Event) → hands_out_last (front ++ event ∷ []) ≡ hands_out event
-hands_out_last-append [] event = refl
-hands_out_last-append (x ∷ []) event = refl
-hands_out_last-append (x ∷ y ∷ more) event = hands_out_last-append (y ∷ more) event
+-- What is flushed isn't closed at once.
+hands_open : (event : Event) (rest : List Event) → hands_out event ≡ true → closes_at_once event rest ≡ false
+hands_open (document_end implicit) rest hands = refl
+hands_open stream_end rest hands = refl
+hands_open event rest hands = cc
+
+-- All bytes of a page that was flushed are those of its pieces.
+flushed_bytes : (s : Effective) (x : Event) (front : List Event) (laid : List Piece) (page : Page) → HoldsPieces s (x ∷ front) laid page
+    → page.output ≡ encoded page → bytes_written s laid ≡ page.output
+flushed_bytes s x front laid page h all = sym (all ∙ ap (λ e. encode e page.text) h.0.encoding ∙ ap (encode (Some s.encoding)) h.1)
 
 taken_later : (given : Settings) (all : List Event) (x : Event) (front rest : List Event) (event : Event) (q : Partial) (before after : MachineState)
-    → IsLater event
+    → IsLater event → (x ∷ front) ++ event ∷ rest ≡ all
     → HasTaken given all (x ∷ front) (steps (settings_for given all) (closes_last (x ∷ front) (event ∷ rest)) (x ∷ front) at_stream first_standing) before
     → partial_of ((x ∷ front) ++ event ∷ []) ≡ Some q
     → BeginsAccepted given.canonical ((x ∷ front) ++ event ∷ [])
     → WritesEvent event (closes_at_once event rest) before after
     → HasTaken given all ((x ∷ front) ++ event ∷ [])
     (steps (settings_for given all) (closes_at_once event rest) ((x ∷ front) ++ event ∷ []) at_stream first_standing) after
-taken_later given all x front rest event q before after later h pushes begun done =
+taken_later given all x front rest event q before after later parts h pushes begun done =
     let s = settings_for given all in
     let empty = closes_at_once event rest in
     let taken = steps s (closes_last (x ∷ front) (event ∷ rest)) (x ∷ front) at_stream first_standing in
@@ -60,6 +70,7 @@ taken_later given all x front rest event q before after later h pushes begun don
     let wrote = writes_later event empty before after later done.page in
     let whole : steps s empty ((x ∷ front) ++ event ∷ []) at_stream first_standing ≡ one_more taken stepped =
     stepped_steps given all x front rest event q before h pushes in
+    let holds = page_more s x front taken.pieces stepped.laid.piece (event_laid before event empty) before.page after.page h.page wrote.1 refl in
     subst (λ steps. HasTaken given all ((x ∷ front) ++ event ∷ []) steps after) (sym whole)
     (record {
       given_kept = ap (λ (s : MachineState). s.given) done.kept ∙ h.given_kept;
@@ -69,8 +80,16 @@ taken_later given all x front rest event q before after later h pushes begun don
       standing =
           ap (λ cursor. let made : Standing = record { cursor = cursor; mark = after.mark } in made) (wrote_all wrote.1).cursor
           ∙ ap (λ mark. let made : Standing = record { cursor = stepped.laid.standing.cursor; mark = mark } in made) done.mark;
-      page = page_more s x front taken.pieces stepped.laid.piece (event_laid before event empty) before.page after.page h.page wrote.1 refl;
+      page = holds;
       handed_out = λ hands. done.handed_out (sym (hands_out_last-append (x ∷ front) event) ∙ hands);
+      flushed =
+          flushed_more given all (x ∷ front) event rest before.page.output after.page.output parts h.flushed wrote.1.output
+          (λ hands.
+          ap (bytes_written s)
+          (pieces_front ((x ∷ front) ++ event ∷ []) rest all s q (append_assoc (x ∷ front) (event ∷ []) rest ∙ parts) pushes
+          ∙ ap (λ follows. (steps s follows ((x ∷ front) ++ event ∷ []) at_stream first_standing).pieces) (sym (hands_open event rest hands))
+          ∙ ap (λ (made : Steps). made.pieces) whole)
+          ∙ flushed_bytes s x front (taken.pieces ++ stepped.laid.piece ∷ []) after.page holds (done.handed_out hands));
     })
 
 taken_next : (front rest : List Event) (given : Settings) (all : List Event) (event : Event) (q : Partial) (before after : MachineState) → front ++ event ∷ rest ≡ all
@@ -92,7 +111,7 @@ taken_next (x ∷ front) rest given all event q before after parts h pushes begu
     ∙ sym (pushed-append (x ∷ front) (event ∷ []) before_stream)
     ∙ pushes in
     let begins : stands.partial ≡ before_stream → ⊥ = (λ same. not_begun x front (stands.is_partial ∙ ap (λ p. Some p) same)) in
-    taken_later given all x front rest event q before after (pushes_later event stands.partial q begins one) h pushes begun done
+    taken_later given all x front rest event q before after (pushes_later event stands.partial q begins one) parts h pushes begun done
 
 pub closes_last-append : (front rest : List Event) (event : Event) → closes_last (front ++ event ∷ []) rest ≡ closes_at_once event rest
 closes_last-append [] rest event = refl

@@ -41,6 +41,7 @@ state_taken given all front reached machine h =
       standing = h.standing;
       page = holds_taken None (settings_for given all) front reached.pieces machine.page h.page;
       handed_out = h.handed_out;
+      flushed = h.flushed;
     }
 
 cut_taken : (given : Settings) (s : Effective) (front : List Event) (event : Event) (before with_event : Steps) (error : yaml_error_t) (page : Page)
@@ -66,6 +67,7 @@ stopped_taken given all error machine h =
             stands = at.stands;
             page = cut_taken given s at.front at.event (steps s (closes_last at.front (at.event ∷ at.later)) at.front at_stream first_standing)
                 (steps s (closes_at_once at.event at.later) (at.front ++ at.event ∷ []) at_stream first_standing) error machine.page at.page;
+            flushed = at.flushed;
           })
       | between_events at ↦
           between_events
@@ -77,6 +79,7 @@ stopped_taken given all error machine h =
             stands = at.stands;
             page = holds_taken (Some error) s (take (written at.before) at.before) (progress s at.before).pieces machine.page at.page;
             handed = at.handed;
+            flushed = at.flushed;
           })
     ]
 

@@ -17,7 +17,9 @@ returns-in-Err-clause-emits g c given stands =
     inl
     (refused_at given now.yielded c.in-Some.numbered (into_iter_items c.next.new.self)
     (into_iter_items now.numbered-iterator) c.args.events.items c.in-Err.error now.emitter c.yaml_emitter_emit.new.emitter
-    now.invariant.4 c.in-Some.ensures.steps.0 now.invariant.3 stood (some_told c.yaml_emitter_emit.new.emitter.error c.in-Err.error c.in-Err.ensures.answered)
+    now.invariant.4 c.in-Some.ensures.steps.0 now.invariant.3 stood
+    (c.standing_is_promised.ensures given (events_in (map seen_numbered now.yielded)) now.emitter stood)
+    (some_told c.yaml_emitter_emit.new.emitter.error c.in-Err.error c.in-Err.ensures.answered)
     (c.yaml_emitter_emit.ensures.stands given (events_in (map seen_numbered now.yielded)) stood)
     (c.yaml_emitter_emit.ensures.promised given (events_in (map seen_numbered now.yielded)) stood) c.yaml_emitter_emit.ensures.grows)
 
@@ -45,9 +47,9 @@ returns-in-Some-last-clause-emits g c given stands =
     let whole = ap (map seen_numbered)
     (sym (map-id now.yielded) ∙ (YieldsList-end road now.yielded now.numbered-iterator now.yielded_by c.next.result c.next.new.self c.in-None.is
     c.next.ensures.steps).0) in
+    let stood = subst (λ all. StandsAfter given (events_in all) now.emitter) whole (now.invariant.5 given stands) in
     ended_with given (map seen_numbered c.args.events.items) c.in-Some-last.line now.last c.flush_last.result now.emitter c.flush_last.new.emitter
-    c.in-Some-last.is
-    (subst (λ all. StandsAfter given (events_in all) now.emitter) whole (now.invariant.5 given stands)) now.invariant.3
+    c.in-Some-last.is stood (c.standing_is_promised.ensures given (events_in (map seen_numbered c.args.events.items)) now.emitter stood) now.invariant.3
     (subst (λ all. LastLine all now.last now.emitter) whole now.invariant.6) c.flush_last.ensures.flushed
 
 pub returns-in-None-last-clause-emits : goal.returns-in-None-last-clause-emits

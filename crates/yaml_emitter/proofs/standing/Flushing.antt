@@ -1,0 +1,84 @@
+-- What was flushed stays flushed, as events come and the output grows.
+use Rattle.std.proofs.Common.{◌≡◌, refl, sym, ap, ◌∙◌, arith, subst, append_assoc, inl, inr}
+use Rattle.std.proofs.lemmas.List.{length-append, take-append-le, take_at}
+use Rattle.std.specs.Prelude.{ℕ, zero, suc, ◌≤◌, ◌⊎◌, true, Option, List, [], ◌∷◌, ◌++◌, length, take}
+use Rattle.yaml_base.proofs.Prefixes.{prefix_same, prefix_then}
+use Rattle.yaml_base.specs.Event.{Event, stream_start}
+use Rattle.yaml_base.specs.Pieces.{completion, list_layout, pieces}
+use Rattle.yaml_base.specs.Prefix.{IsPrefix}
+use Rattle.yaml_base.specs.Settings.{Effective, Encoding, Settings}
+use Rattle.yaml_base.specs.Output.{bytes_written, hands_out, hands_out_last, settings_for}
+use Rattle.yaml_emitter.specs.StaysFlushed.{StaysFlushed}
+
+-- Of no events nothing was flushed.
+pub flushed_none : (given : Settings) (all : List Event) (output : List ℕ) → StaysFlushed given all 0 output
+flushed_none given all output zero within hands = cc
+flushed_none given all output (suc n) within hands = absurd (omega (arith, within))
+
+-- Nor by the stream's start.
+pub flushed_first : (given : Settings) (encoding : Option Encoding) (rest : List Event) (output : List ℕ)
+    → StaysFlushed given (stream_start encoding ∷ rest) 1 output
+flushed_first given encoding rest output zero within hands = cc
+flushed_first given encoding rest output (suc zero) within hands = cc
+flushed_first given encoding rest output (suc (suc n)) within hands = absurd (omega (arith, within))
+
+-- As the output grows.
+pub flushed_output : (given : Settings) (all : List Event) (count : ℕ) (before after : List ℕ) → StaysFlushed given all count before
+    → IsPrefix before after → StaysFlushed given all count after
+flushed_output given all count before after h grows n within hands = prefix_then (h n within hands) grows
+
+-- As the list grows.
+same_bytes : (a b : Effective) (first second : List Event) (n : ℕ) → a ≡ b → take n first ≡ take n second
+    → bytes_written a (pieces a first n) ≡ bytes_written b (pieces b second n)
+same_bytes a b first second n settings events =
+    ap (λ s. bytes_written s (pieces s first n)) settings ∙ ap (λ events. bytes_written b (take n (list_layout b (completion events)))) events
+
+pub flushed_grown : (given : Settings) (all more : List Event) (count : ℕ) (output : List ℕ) → count ≤ length all
+    → settings_for given (all ++ more) ≡ settings_for given all
+    → StaysFlushed given all count output → StaysFlushed given (all ++ more) count output
+flushed_grown given all more count output within settings h n less hands =
+    let events : take n all ≡ take n (all ++ more) = sym (take-append-le n all more (omega (arith, within, less))) in
+    subst (λ (bytes : List ℕ). IsPrefix bytes output)
+    (same_bytes (settings_for given all) (settings_for given (all ++ more)) all (all ++ more) n (sym settings) events)
+    (h n less (ap hands_out_last events ∙ hands))
+
+-- As one event more is written.
+pub hands_out_last-append : (front : List Event) (event : Event) → hands_out_last (front ++ event ∷ []) ≡ hands_out event
+hands_out_last-append [] event = refl
+hands_out_last-append (x ∷ []) event = refl
+hands_out_last-append (x ∷ y ∷ more) event = hands_out_last-append (y ∷ more) event
+
+last_or_before : (n m : ℕ) → n ≤ suc m → (n ≤ m) ⊎ (n ≡ suc m)
+last_or_before zero m h = inl (omega arith)
+last_or_before (suc zero) zero h = inr refl
+last_or_before (suc (suc n)) zero h = absurd (omega (arith, h))
+last_or_before (suc n) (suc m) h =
+    elim (last_or_before n m (omega (arith, h))) [ inl less ↦ inl (omega (arith, less)) | inr same ↦ inr (ap (λ n. suc n) same) ]
+
+pub flushed_more : (given : Settings) (all front : List Event) (event : Event) (rest : List Event) (before after : List ℕ) → front ++ event ∷ rest ≡ all
+    → StaysFlushed given all (length front) before → IsPrefix before after
+    → (hands_out event ≡ true
+    → bytes_written (settings_for given all) (pieces (settings_for given all) all (length (front ++ event ∷ []))) ≡ after)
+    → StaysFlushed given all (length (front ++ event ∷ [])) after
+flushed_more given all front event rest before after parts h grows now n within hands =
+    by (last_or_before n (length front) (omega (arith, within, count)))
+  where
+    longer : List Event
+    longer = front ++ event ∷ []
+
+    count : length longer ≡ suc (length front)
+    count = length-append front (event ∷ []) ∙ omega arith
+
+    s : Effective
+    s = settings_for given all
+
+    by : (n ≤ length front) ⊎ (n ≡ suc (length front)) → IsPrefix (bytes_written s (pieces s all n)) after
+    by (inl less) = prefix_then (h n less hands) grows
+    by (inr is) =
+        let whole : n ≡ length longer = is ∙ sym count in
+        let events : take n all ≡ longer =
+        ap (λ n. take n all) whole ∙ ap (take (length longer)) (sym (append_assoc front (event ∷ []) rest ∙ parts))
+        ∙ take_at longer rest (length longer) refl in
+        prefix_same (bytes_written s (pieces s all n)) after
+        (ap (λ n. bytes_written s (pieces s all n)) whole
+        ∙ now (sym (hands_out_last-append front event) ∙ ap hands_out_last (sym events) ∙ hands))
