@@ -4,6 +4,9 @@ use std::rt::Runtime;
 use std::{env, io};
 use yaml_json::JsonSettings;
 
+/// As deep as the emitter lets collections nest.
+const DEEPEST: usize = 1_000_000;
+
 /// What the program is asked for.
 #[derive(Drop)]
 pub enum Task<'a> {
@@ -34,6 +37,7 @@ enum Awaited {
     Output,
     Indent,
     Width,
+    Depth,
 }
 
 /// What one word of the arguments comes to.
@@ -56,8 +60,10 @@ impl<'a> Conversion<'a> {
             "-o" => return Word::Taken(Awaited::Output),
             "--indent" => return Word::Taken(Awaited::Indent),
             "--width" => return Word::Taken(Awaited::Width),
+            "--depth" => return Word::Taken(Awaited::Depth),
             "--canonical" => self.settings.writer.canonical = true,
             "--flow" => self.settings.flow = true,
+            "--allow-duplicates" => self.settings.unique_names = false,
             "--no-portable" => self.settings.writer.portable = false,
             name => {
                 return if name.starts_with('-') {
@@ -99,12 +105,23 @@ impl<'a> Conversion<'a> {
         }
     }
 
+    fn take_depth(&mut self, word: &str) -> Word<'a> {
+        match word.parse::<usize>() {
+            Ok(levels) if levels <= DEEPEST => {
+                self.settings.depth = levels;
+                Word::Taken(Awaited::Nothing)
+            }
+            _ => Word::Misuse,
+        }
+    }
+
     fn take(&mut self, awaited: Awaited, word: &'a str) -> Word<'a> {
         match awaited {
             Awaited::Nothing => self.take_word(word),
             Awaited::Output => self.take_output(word),
             Awaited::Indent => self.take_indent(word),
             Awaited::Width => self.take_width(word),
+            Awaited::Depth => self.take_depth(word),
         }
     }
 }

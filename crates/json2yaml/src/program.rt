@@ -8,18 +8,23 @@ use std::io::{ErrorKind, Read, Write};
 use std::rt::Runtime;
 use std::{fs, io, str};
 use thiserror::Error;
-use yaml_json::{JsonError, JsonSettings, Writer, write_json_texts, yaml_error_t};
+use yaml_json::{JsonError, JsonSettings, Writer, place_of, write_json_texts, yaml_error_t};
 
 const USAGE: &str =
-    "usage: json2yaml [-o FILE] [--indent N] [--width N] [--canonical] [--flow] [--no-portable] [--help] [--version] [FILE..]";
+    "usage: json2yaml [-o FILE] [--indent N] [--width N] [--depth N] [--canonical] [--flow] [--no-portable] [--allow-duplicates] [--help] [--version] [FILE..]";
+
+/// A byte order mark, which no JSON text begins with.
+const MARK: &[u8] = b"\xef\xbb\xbf";
 
 /// Why nothing was written.
 #[derive(Clone, Copy, Debug, Drop, Error)]
 enum Fault {
     #[error("{0}")]
     Refused(JsonError),
-    #[error("not UTF-8")]
-    NotText,
+    #[error("line {line}, column {column}: not UTF-8")]
+    NotText { line: usize, column: usize },
+    #[error("line 1, column 1: a byte order mark")]
+    Marked,
     #[error("cannot read")]
     ReadFailed,
     #[error("cannot write")]
@@ -33,7 +38,7 @@ fn status_of(fault: &Fault) -> u8
     ensures { result ≤ 3 }
 {
     match fault {
-        Fault::Refused(_) | Fault::NotText => 1,
+        Fault::Refused(_) | Fault::NotText { .. } | Fault::Marked => 1,
         Fault::ReadFailed | Fault::WriteFailed | Fault::NoMemory => 3,
     }
 }
@@ -87,10 +92,17 @@ fn give_bytes(
     requires { IsBare writer.old }
     ensures { OnOk result (IsBare writer.new) }
 {
-    let Ok(text) = str::from_utf8(bytes) else {
-        return Err(Fault::NotText);
+    if bytes.starts_with(MARK) {
+        return Err(Fault::Marked);
+    }
+    let text = match str::from_utf8(bytes) {
+        Ok(text) => text,
+        Err(error) => {
+            let (line, column) = place_of(bytes, error.valid_up_to());
+            return Err(Fault::NotText { line, column });
+        }
     };
-    write_json_texts(alloc, writer, text, settings.flow, settings.depth).map_err(fault_of)
+    write_json_texts(alloc, writer, text, *settings).map_err(fault_of)
 }
 
 /// Gives a writer the JSON texts of a file, or of standard input.
@@ -191,7 +203,7 @@ fn write_fault<W: Write>(fault: &Fault, name: Option<&str>, faults: &mut W) -> i
         (Fault::ReadFailed | Fault::WriteFailed, Some(name)) => {
             writeln!(faults, "json2yaml: {fault} {name}")
         }
-        (Fault::Refused(_) | Fault::NotText, Some(name)) => {
+        (Fault::Refused(_) | Fault::NotText { .. } | Fault::Marked, Some(name)) => {
             writeln!(faults, "json2yaml: {name}: {fault}")
         }
         _ => writeln!(faults, "json2yaml: {fault}"),

@@ -1,8 +1,13 @@
 pub mod WroteLemmas
 pub mod TokenLemmas
 pub mod Stopping
-pub mod Loops
-pub mod ByToken
+pub mod NameLemmas
+pub mod HeldNameLemmas
+pub mod Walking
+pub mod Refusing
+pub mod KeepingNames
+pub mod Stops
+pub mod Taking
 pub mod NumberBridge
 pub mod Trees
 pub mod Meanings
@@ -14,3 +19,4 @@ pub mod Accepting
 pub mod OnlyDepth
 pub mod Unfailed
 pub mod WhyFailed
+pub mod Cutting

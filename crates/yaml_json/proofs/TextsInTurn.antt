@@ -1,19 +1,26 @@
 -- JSON texts, one after another.
 use Rattle.std.proofs.Common.{◌≡◌, ◌<◌, ◌⊎◌, inl, inr, refl, sym, ap, ◌∙◌, subst, append_assoc, append-nil}
 use Rattle.std.proofs.lemmas.Bool.{eqb-true, false≢true}
-use Rattle.std.proofs.lemmas.List.{nil_from_length}
+use Rattle.std.proofs.lemmas.List.{map-append, nil_from_length}
 use Rattle.std.proofs.lemmas.List.Concat.{flat_map-append}
-use Rattle.std.specs.Prelude.{ℕ, Bool, true, false, Result, Err, Some, List, [], ◌∷◌, ◌++◌, ◌==◌, flat_map, length}
+use Rattle.std.specs.Prelude.{ℕ, Bool, true, false, Result, Err, Some, List, [], ◌∷◌, ◌++◌, ◌==◌, flat_map, length, map}
 use Rattle.json.specs.Json.{Json, value}
 use Rattle.json.specs.Lex.{tokens}
+use Rattle.json.specs.Tree.{json_tokens}
 use Rattle.yaml_base.specs.Event.{Event}
 use Rattle.yaml_base.specs.declared.errors.yaml_error_t.{yaml_error_t}
 use Rattle.yaml_emitter.proofs.standing.StandingMore.{some_from_told}
 use Rattle.yaml_writer.specs.Writing.{Passed, WriterState}
 use Rattle.yaml_json.specs.Failing.{FailedInText, FailedInTexts, FailedWith, between, started}
 use Rattle.yaml_json.specs.JsonEvents.{json_events}
+use Rattle.yaml_json.specs.Refused.{HasNamesOnce, HaveNamesOnce, RefusedAmong, SaysWhy}
+use Rattle.yaml_json.specs.Names.{NamesOnce}
+use Rattle.yaml_json.specs.Texts.{CutsFirst, texts_in}
 use Rattle.yaml_json.specs.TokenEvents.{tokens_events}
 use Rattle.yaml_json.specs.Wrote.{AreJson, IsBare, ReadsTexts, Wrote, WroteText, WroteTexts, parts_events}
+use Rattle.yaml_json.specs.declared.error.JsonError.{JsonError}
+use Rattle.yaml_json.proofs.NameLemmas.{once_is_unique}
+use Rattle.yaml_json.proofs.TokenLemmas.{value_spelled}
 use Rattle.yaml_json.proofs.Stopping.{failed_same, failed_then}
 use Rattle.yaml_json.proofs.WroteLemmas.{wrote_nothing, wrote_same, wrote_then}
 use Rattle.yaml_json.proofs.YamlOf.{last_reads}
@@ -43,15 +50,42 @@ joined_more parts last rest =
     ∙ append_assoc (flat_map (λ part. part.0) parts) (last.0 ++ []) rest
     ∙ ap (λ (text : List ℕ). flat_map (λ part. part.0) parts ++ (text ++ rest)) (append-nil last.0)
 
+-- names that come once in each of some texts
+pub text_names : (unique : Bool) (text : List ℕ) → (unique ≡ true → NamesOnce [] (tokens text)) → HasNamesOnce unique text
+text_names unique text once is depth json read =
+    once_is_unique json []
+    (subst (NamesOnce []) (value_spelled depth (tokens text) [] json read ∙ append-nil (json_tokens json)) (once is))
+
+more_names : (unique : Bool) (parts : List (List ℕ × Json)) (last : List ℕ × Json) → HaveNamesOnce unique (map (λ part. part.0) parts)
+    → HasNamesOnce unique last.0 → HaveNamesOnce unique (map (λ part. part.0) (parts ++ last ∷ []))
+more_names unique [] last names more = (more, tt)
+more_names unique (part ∷ parts) last names more = (names.0, more_names unique parts last names.1 more)
+
+-- where a text is the last, and where others follow
+cut_last : {rest first more : List ℕ} → CutsFirst rest first more → more ≡ [] → texts_in rest ≡ first ∷ []
+cut_last (joined, inl (none, cut)) is = cut
+cut_last (joined, inr (some, less, cut)) is = absurd (some is)
+
+cut_more : {rest first more : List ℕ} → CutsFirst rest first more → (more ≡ [] → ⊥) → texts_in rest ≡ first ∷ texts_in more
+cut_more (joined, inl (none, cut)) some = absurd (some none)
+cut_more (joined, inr (isn't, less, cut)) some = cut
+
+-- the first text, and those after it
+cut_some : {rest first more : List ℕ} → CutsFirst rest first more → (later : List (List ℕ)) × (texts_in rest ≡ first ∷ later)
+cut_some {more} (joined, inl (none, cut)) = ([], cut)
+cut_some {more} (joined, inr (isn't, less, cut)) = (texts_in more, cut)
+
 -- some texts were given, and a document was begun after each
-pub record TextsSoFar (depth : ℕ) (in_flow : Bool) (text : List ℕ) (was : WriterState) (rest : List ℕ) (now : WriterState) : Type 0 where
+pub record TextsSoFar (depth : ℕ) (in_flow : Bool) (unique : Bool) (text : List ℕ) (was : WriterState) (rest : List ℕ) (now : WriterState) : Type 0 where
   pub parts : List (List ℕ × Json)
   pub joined : flat_map (λ part. part.0) parts ++ rest ≡ text
+  pub cut : map (λ part. part.0) parts ++ texts_in rest ≡ texts_in text
   pub each : AreJson depth parts
+  pub names : HaveNamesOnce unique (map (λ part. part.0) parts)
   pub wrote : Wrote was (started was.canonical in_flow parts) now
 
-pub texts_begin : (depth : ℕ) (in_flow : Bool) (text : List ℕ) (was : WriterState) → IsBare was → TextsSoFar depth in_flow text was text was
-texts_begin depth in_flow text was bare = record { parts = []; joined = refl; each = tt; wrote = wrote_nothing was bare }
+pub texts_begin : (depth : ℕ) (in_flow unique : Bool) (text : List ℕ) (was : WriterState) → IsBare was → TextsSoFar depth in_flow unique text was text was
+texts_begin depth in_flow unique text was bare = record { parts = []; joined = refl; cut = refl; each = tt; names = tt; wrote = wrote_nothing was bare }
 
 -- the next document is begun
 next_begun : (before after : WriterState) (answer : Result (Unit {0}) yaml_error_t) → IsBare before → Passed before between answer after
@@ -64,8 +98,9 @@ next_begun before after answer bare passed =
       bare = (ap (λ (w : WriterState). w.anchor) passed.rest ∙ bare.0, ap (λ (w : WriterState). w.tag) passed.rest ∙ bare.1);
     }
 
-module _ (depth : ℕ) (in_flow : Bool) (text : List ℕ) (was : WriterState) (rest first more : List ℕ) (now given : WriterState)
-    (cut : first ++ more ≡ rest) (so_far : TextsSoFar depth in_flow text was rest now) (one : WroteText depth in_flow first now given) where
+module _ (depth : ℕ) (in_flow unique : Bool) (text : List ℕ) (was : WriterState) (rest first more : List ℕ) (now given : WriterState)
+    (cuts : CutsFirst rest first more) (so_far : TextsSoFar depth in_flow unique text was rest now)
+    (named : unique ≡ true → NamesOnce [] (tokens first)) (one : WroteText depth in_flow first now given) where
   -- the next text's events, as the first writer would give them
   events_given : Wrote now (json_events was.canonical in_flow one.json) given
   events_given = subst (λ (canonical : Bool). Wrote now (json_events canonical in_flow one.json) given) so_far.wrote.canonical one.wrote
@@ -74,10 +109,20 @@ module _ (depth : ℕ) (in_flow : Bool) (text : List ℕ) (was : WriterState) (r
   joined_now after is =
       joined_more so_far.parts (first, one.json) after
       ∙ ap (λ (t : List ℕ). flat_map (λ part. part.0) so_far.parts ++ (first ++ t)) is
-      ∙ ap (λ (t : List ℕ). flat_map (λ part. part.0) so_far.parts ++ t) cut ∙ so_far.joined
+      ∙ ap (λ (t : List ℕ). flat_map (λ part. part.0) so_far.parts ++ t) cuts.0 ∙ so_far.joined
+
+  cut_now : (later : List (List ℕ)) → texts_in rest ≡ first ∷ later
+      → map (λ part. part.0) (so_far.parts ++ (first, one.json) ∷ []) ++ later ≡ texts_in text
+  cut_now later is =
+      ap (λ (texts : List (List ℕ)). texts ++ later) (map-append (λ (part : List ℕ × Json). part.0) so_far.parts ((first, one.json) ∷ []))
+      ∙ append_assoc (map (λ part. part.0) so_far.parts) (first ∷ []) later
+      ∙ ap (λ (texts : List (List ℕ)). map (λ part. part.0) so_far.parts ++ texts) (sym is) ∙ so_far.cut
 
   each_done : AreJson depth (so_far.parts ++ (first, one.json) ∷ [])
   each_done = one_more depth so_far.parts (first, one.json) so_far.each one.read
+
+  names_done : HaveNamesOnce unique (map (λ part. part.0) (so_far.parts ++ (first, one.json) ∷ []))
+  names_done = more_names unique so_far.parts (first, one.json) so_far.names (text_names unique first named)
 
   started_more : started was.canonical in_flow so_far.parts ++ (json_events was.canonical in_flow one.json ++ between)
       ≡ started was.canonical in_flow (so_far.parts ++ (first, one.json) ∷ [])
@@ -86,15 +131,17 @@ module _ (depth : ℕ) (in_flow : Bool) (text : List ℕ) (was : WriterState) (r
       (sym (append-nil (json_events was.canonical in_flow one.json ++ between)))
       ∙ sym (flat_map-append (λ (part : List ℕ × Json). json_events was.canonical in_flow part.1 ++ between) so_far.parts ((first, one.json) ∷ []))
 
-  pub texts_go_on : (answer : Result (Unit {0}) yaml_error_t) (after : WriterState) → Passed given between answer after
-      → TextsSoFar depth in_flow text was more after
-  texts_go_on answer after passed =
+  pub texts_go_on : (answer : Result (Unit {0}) yaml_error_t) (after : WriterState) → (more ≡ [] → ⊥) → Passed given between answer after
+      → TextsSoFar depth in_flow unique text was more after
+  texts_go_on answer after some passed =
       let next = next_begun given after answer one.wrote.bare passed in
       let events = json_events was.canonical in_flow one.json in
       record {
         parts = so_far.parts ++ (first, one.json) ∷ [];
         joined = joined_now more refl;
+        cut = cut_now (texts_in more) (cut_more cuts some);
         each = each_done;
+        names = names_done;
         wrote = wrote_same was after (started was.canonical in_flow so_far.parts ++ (events ++ between))
             (started was.canonical in_flow (so_far.parts ++ (first, one.json) ∷ [])) started_more
             (wrote_then was now after (started was.canonical in_flow so_far.parts) (events ++ between) so_far.wrote
@@ -136,7 +183,19 @@ module _ (depth : ℕ) (in_flow : Bool) (text : List ℕ) (was : WriterState) (r
 
   pub texts_done : more ≡ [] → WroteTexts depth in_flow text was given
   texts_done none =
-      record { parts = so_far.parts ++ (first, one.json) ∷ []; joined = joined_done none; each = each_done; wrote = wrote_done }
+      record {
+        parts = so_far.parts ++ (first, one.json) ∷ [];
+        cut = sym (append-nil (map (λ part. part.0) (so_far.parts ++ (first, one.json) ∷ []))) ∙ cut_now [] (cut_last cuts none);
+        joined = joined_done none;
+        each = each_done;
+        wrote = wrote_done;
+      }
+
+  -- with each name once in its object
+  pub texts_names : more ≡ [] → HaveNamesOnce unique (texts_in text)
+  texts_names none =
+      subst (HaveNamesOnce unique)
+      (sym (append-nil (map (λ part. part.0) (so_far.parts ++ (first, one.json) ∷ []))) ∙ cut_now [] (cut_last cuts none)) names_done
 
   -- and are read
   pub texts_read : more ≡ [] → ReadsTexts depth in_flow text was given
@@ -148,25 +207,44 @@ module _ (depth : ℕ) (in_flow : Bool) (text : List ℕ) (was : WriterState) (r
 pub no_more : (more : List ℕ) (empty : Bool) → empty ≡ (length more == 0) → empty ≡ true → more ≡ []
 no_more more empty is h = nil_from_length more (eqb-true (length more) 0 (sym is ∙ h))
 
--- else less than before
-pub some_more : (more rest : List ℕ) (empty : Bool) → (more ≡ []) ⊎ (length more < length rest) → empty ≡ (length more == 0) → empty ≡ false
+-- else some bytes, and less than before
+pub is_more : (more : List ℕ) (empty : Bool) → empty ≡ (length more == 0) → empty ≡ false → more ≡ [] → ⊥
+is_more more empty is h none = false≢true (sym h ∙ is ∙ ap (λ (t : List ℕ). length t == 0) none)
+
+pub some_more : (first more rest : List ℕ) (empty : Bool) → CutsFirst rest first more → empty ≡ (length more == 0) → empty ≡ false
     → length more < length rest
-some_more more rest empty (inl none) is h = absurd (false≢true (sym h ∙ is ∙ ap (λ (t : List ℕ). length t == 0) none))
-some_more more rest empty (inr less) is h = less
+some_more first more rest empty (joined, inl (none, cut)) is h = absurd (is_more more empty is h none)
+some_more first more rest empty (joined, inr (some, less, cut)) is h = less
+
+-- Where a text is refused
+pub text_refused : (depth : ℕ) (in_flow unique : Bool) (text : List ℕ) (was : WriterState) (rest first more : List ℕ) (now : WriterState)
+    → CutsFirst rest first more → TextsSoFar depth in_flow unique text was rest now → (error : JsonError) → SaysWhy depth unique first error
+    → RefusedAmong depth unique text error
+text_refused depth in_flow unique text was rest first more now cuts so_far error why =
+    let found = cut_some cuts in
+    record {
+      parts = so_far.parts;
+      next = first;
+      later = found.0;
+      cut = ap (λ (texts : List (List ℕ)). map (λ part. part.0) so_far.parts ++ texts) (sym found.1) ∙ so_far.cut;
+      each = so_far.each;
+      names = so_far.names;
+      why = why;
+    }
 
 -- Where the writer fails within a text
-pub texts_failed : (depth : ℕ) (in_flow : Bool) (text : List ℕ) (was : WriterState) (rest first more : List ℕ) (now later : WriterState)
-    → first ++ more ≡ rest → TextsSoFar depth in_flow text was rest now → (error : yaml_error_t) → FailedInText depth in_flow first now error later
+pub texts_failed : (depth : ℕ) (in_flow unique : Bool) (text : List ℕ) (was : WriterState) (rest first more : List ℕ) (now later : WriterState)
+    → CutsFirst rest first more → TextsSoFar depth in_flow unique text was rest now → (error : yaml_error_t) → FailedInText depth in_flow first now error later
     → FailedInTexts depth in_flow text was error later
-texts_failed depth in_flow text was rest first more now later cut so_far error (inl memory) = inl memory
-texts_failed depth in_flow text was rest first more now later cut so_far error (inr (taken, (failed, begins))) =
+texts_failed depth in_flow unique text was rest first more now later cuts so_far error (inl memory) = inl memory
+texts_failed depth in_flow unique text was rest first more now later cuts so_far error (inr (taken, (failed, begins))) =
     let gave = subst (λ (canonical : Bool). FailedWith now (tokens_events canonical in_flow taken) error later) so_far.wrote.canonical failed.gave in
     inr
     (record {
       parts = so_far.parts;
       next = first;
       more = more;
-      joined = ap (λ (t : List ℕ). flat_map (λ part. part.0) so_far.parts ++ t) cut ∙ so_far.joined;
+      joined = ap (λ (t : List ℕ). flat_map (λ part. part.0) so_far.parts ++ t) cuts.0 ∙ so_far.joined;
       each = so_far.each;
       taken = taken;
       left = failed.left;

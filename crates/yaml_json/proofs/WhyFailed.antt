@@ -19,7 +19,8 @@ use Rattle.yaml_emitter.specs.State.{State}
 use Rattle.yaml_writer.proofs.Overflow.{overflowed}
 use Rattle.yaml_writer.specs.Unfinished.{IsUnfinished, PassesLimit}
 use Rattle.yaml_writer.specs.Writing.{StandsTaken, WriterState, closing, opening}
-use Rattle.yaml_json.specs.Failing.{BeginsValue, FailedInText, FailsBy, NestsTooDeep, OverLimit}
+use Rattle.yaml_json.specs.Begins.{BeginsValue}
+use Rattle.yaml_json.specs.Failing.{FailedInText, FailsBy, NestsTooDeep, OverLimit}
 use Rattle.yaml_json.specs.JsonEvents.{json_events}
 use Rattle.yaml_json.specs.TokenEvents.{tokens_events}
 use Rattle.yaml_json.specs.Wrote.{WroteText}

@@ -1,6 +1,6 @@
 -- What a writer was given, call by call.
 use Rattle.std.proofs.Common.{◌≡◌, refl, sym, ap, ap₂, ◌∙◌, subst, append_assoc, append-nil, inl, inr}
-use Rattle.std.specs.Prelude.{ℕ, Bool, false, Option, None, List, [], ◌∷◌, ◌++◌, OnOk, Result, Ok, Err, is_none}
+use Rattle.std.specs.Prelude.{ℕ, Bool, false, Option, None, List, [], ◌∷◌, ◌++◌, IfErr, OnOk, Result, Ok, Err, is_none}
 use Rattle.yaml_base.specs.Characters.{Text}
 use Rattle.yaml_base.specs.Event.{CollectionStyle, Event, ScalarStyle, plain, scalar, sequence_start, mapping_start}
 use Rattle.yaml_base.specs.values.JsonNumbers.{JsonNumber, yaml_number}
@@ -12,7 +12,7 @@ use Rattle.yaml_writer.specs.Writing.{WriterState, AddsAll, Gave, StandsTaken, a
 use Rattle.yaml_writer.specs.Writing.{sequence_event, tag_or, text_event, text_style, word_event}
 use Rattle.yaml_writer.specs.declared.kinds.CollectionKind.{CollectionKind}
 use Rattle.yaml_json.specs.JsonEvents.{collection_in, number_content, style_of, text_content, word_content}
-use Rattle.yaml_json.specs.Wrote.{Ends, IsBare, Wrote, WroteEvent}
+use Rattle.yaml_json.specs.Wrote.{Ends, IsBare, Starts, Wrote, WroteEvent, start_event}
 
 -- no node is awaited
 pub bare_awaits_none : (writer : WriterState) → IsBare writer → awaits_node writer ≡ false
@@ -22,6 +22,15 @@ bare_awaits_none writer bare = nothing_awaited writer bare.0 bare.1
 pub on_ok : {A E P Q : Type 0} (answer : Result A E) → (P → Q) → OnOk answer P → OnOk answer Q
 on_ok (Ok value) follows held = follows held
 on_ok (Err error) follows held = tt
+
+pub always : {A E P : Type 0} (answer : Result A E) → P → OnOk answer P
+always (Ok value) held = held
+always (Err error) held = tt
+
+-- or where it fails
+pub on_err : {A E : Type 0} {P Q : E → Type 0} (answer : Result A E) → ((error : E) → P error → Q error) → IfErr answer P → IfErr answer Q
+on_err (Ok value) follows held = tt
+on_err (Err error) follows held = follows error held
 
 -- Events
 
@@ -136,18 +145,7 @@ ended outer kind before after levels bare (inr end) =
       (ap (λ (w : WriterState). w.anchor) end.rest ∙ bare.0, ap (λ (w : WriterState). w.tag) end.rest ∙ bare.1),
     )
 
--- a collection is begun, filled and ended
-pub wrote_collection : (before begun filled after : WriterState) (kind : CollectionKind) (event start : Event) (inner : List Event) → event ≡ start
-    → Gave (entered before kind) event None begun → Wrote begun inner filled → Ends filled after
-    → Wrote before (start ∷ (inner ++ end_event kind ∷ [])) after
-wrote_collection before begun filled after kind event start inner is gave fills ends =
-    let end = ended before.levels kind filled after (fills.levels ∙ gave.levels) fills.bare ends in
-    let starts : AddsAll before.emitter (start ∷ []) begun.emitter =
-    λ given all sent stands. subst (λ (e : Event). StandsTaken given (all ++ e ∷ []) sent begun.emitter) is (gave.adds given all sent stands) in
-    record {
-      adds = adds_then before.emitter filled.emitter after.emitter (start ∷ inner) (end_event kind ∷ [])
-          (adds_then before.emitter begun.emitter filled.emitter (start ∷ []) inner starts fills.adds) end.0;
-      canonical = end.1 ∙ fills.canonical ∙ gave.canonical;
-      levels = end.2;
-      bare = end.3;
-    }
+-- a collection was begun
+pub starts_with : (in_flow : Bool) (kind : CollectionKind) (before after : WriterState) (event : Event) → event ≡ start_event in_flow kind
+    → Gave (entered before kind) event None after → Starts in_flow kind before after
+starts_with in_flow kind before after event is = subst (λ (e : Event). Gave (entered before kind) e None after) is

@@ -2,10 +2,9 @@
 use Rattle.std.specs.Prelude.{◌≡◌, ◌⊎◌, ℕ, ◌<◌, ◌≤◌, Bool, true, Option, None, Some, Result, Ok, Err, List, [], ◌∷◌, ◌++◌, flat_map}
 use Rattle.json.specs.Token.{Token}
 use Rattle.json.specs.Lex.{tokens}
-use Rattle.json.specs.Json.{Json, Items, Members, value}
-use Rattle.json.specs.Tree.{depth as nesting, items_depth as items_nesting, members_depth as members_nesting, json_tokens, items_tokens, members_tokens}
+use Rattle.json.specs.Json.{Json, value}
+use Rattle.json.specs.Tree.{depth as nesting}
 use Rattle.yaml_base.specs.Event.{Event, document_end}
-use Rattle.yaml_base.specs.Prefix.{IsPrefix}
 use Rattle.yaml_base.specs.Refusal.{most_open}
 use Rattle.yaml_base.specs.Settings.{Settings}
 use Rattle.yaml_base.specs.declared.errors.yaml_error_t.{yaml_error_t}
@@ -13,6 +12,7 @@ use Rattle.yaml_base.specs.declared.errors.yaml_error_t.TheVariants.{TooDeep, Wr
 use Rattle.yaml_emitter.specs.Uncut.{IsUncut}
 use Rattle.yaml_writer.specs.Unfinished.{PassesLimit}
 use Rattle.yaml_writer.specs.Writing.{AddsAll, WriterState, closing, opening, plain_start}
+use Rattle.yaml_json.specs.Begins.{BeginsValue}
 use Rattle.yaml_json.specs.JsonEvents.{json_events}
 use Rattle.yaml_json.specs.TokenEvents.{tokens_events}
 use Rattle.yaml_json.specs.Wrote.{AreJson}
@@ -24,8 +24,9 @@ use Rattle.yaml_json.specs.declared.values.Stop.TheVariants as stops
 -- ---- the error of the writer, where there is one
 
 abbrev pub failure_of : Stop → Option yaml_error_t
-failure_of (stops.NotJson offset) = None
+failure_of (stops.NotJson spot) = None
 failure_of stops.TooDeep = None
+failure_of (stops.NameAgain offset) = None
 failure_of (stops.Failed error) = Some error
 
 abbrev pub failure : Result (Unit {0}) Stop → Option yaml_error_t
@@ -35,6 +36,7 @@ failure (Err stop) = failure_of stop
 abbrev pub writers_error : JsonError → Option yaml_error_t
 writers_error (errors.NotJson line column) = None
 writers_error errors.TooDeep = None
+writers_error (errors.DuplicateName line column) = None
 writers_error (errors.Emitter error) = Some error
 
 -- ---- what was given
@@ -54,51 +56,11 @@ pub record FailedAfter (in_flow : Bool) (taken ahead : List Token) (was : Writer
   pub parts : taken ++ left ≡ ahead
   pub gave : FailedWith was (tokens_events was.canonical in_flow taken) error now
 
--- some value nested at most so deep begins with these tokens
-pub record BeginsValue (depth : ℕ) (taken : List Token) : Type 0 where
-  pub json : Json
-  pub nested : nesting json ≤ depth
-  pub begins : IsPrefix taken (json_tokens json)
-
--- the same of the items of an array, with its end
-pub record BeginsItems (depth : ℕ) (taken : List Token) : Type 0 where
-  pub json : Items
-  pub nested : items_nesting json ≤ depth
-  pub begins : IsPrefix taken (items_tokens json)
-
--- the same of the members of an object, with its end
-pub record BeginsMembers (depth : ℕ) (taken : List Token) : Type 0 where
-  pub json : Members
-  pub nested : members_nesting json ≤ depth
-  pub begins : IsPrefix taken (members_tokens json)
-
--- the same of a key and its value
-pub record BeginsMember (depth : ℕ) (key : List ℕ) (taken : List Token) : Type 0 where
-  pub json : Json
-  pub nested : nesting json ≤ depth
-  pub begins : IsPrefix taken (Token.key key ∷ json_tokens json)
-
 -- an allocation failed; or the events of the first of these tokens were given to the emitter, which has this error now, and some
 -- value nested at most so deep begins with the tokens of these events
 abbrev pub FailedInValue : (depth : ℕ) → (in_flow : Bool) → List Token → WriterState → yaml_error_t → WriterState → Type 0
 FailedInValue depth in_flow ahead was error now =
     (error ≡ Memory) ⊎ ((taken : List Token) × (FailedAfter in_flow taken ahead was error now × BeginsValue depth taken))
-
--- the same of the items of an array
-abbrev pub FailedInItems : (depth : ℕ) → (in_flow : Bool) → List Token → WriterState → yaml_error_t → WriterState → Type 0
-FailedInItems depth in_flow ahead was error now =
-    (error ≡ Memory) ⊎ ((taken : List Token) × (FailedAfter in_flow taken ahead was error now × BeginsItems depth taken))
-
--- the same of the members of an object
-abbrev pub FailedInMembers : (depth : ℕ) → (in_flow : Bool) → List Token → WriterState → yaml_error_t → WriterState → Type 0
-FailedInMembers depth in_flow ahead was error now =
-    (error ≡ Memory) ⊎ ((taken : List Token) × (FailedAfter in_flow taken ahead was error now × BeginsMembers depth taken))
-
--- the same of a key and the value that these tokens begin with
-abbrev pub FailedInMember : (depth : ℕ) → (in_flow : Bool) → List ℕ → List Token → WriterState → yaml_error_t → WriterState → Type 0
-FailedInMember depth in_flow key ahead was error now =
-    (error ≡ Memory)
-    ⊎ ((taken : List Token) × (FailedAfter in_flow taken (Token.key key ∷ ahead) was error now × BeginsMember depth key taken))
 
 -- the same of a text
 abbrev pub FailedInText : (depth : ℕ) → (in_flow : Bool) → (text : List ℕ) → WriterState → yaml_error_t → WriterState → Type 0

@@ -1,6 +1,12 @@
 pub mod JsonEvents
-pub mod Means
-pub mod Wrote
-pub mod Refused
 pub mod TokenEvents
+pub mod Means
+pub mod Texts
+pub mod Wrote
+pub mod Begins
+pub mod Refused
 pub mod Failing
+pub mod Names
+pub mod HeldNames
+pub mod Walk
+pub mod Nests

@@ -1,8 +1,14 @@
 -- What an error says of the text.
-use Rattle.std.specs.Prelude.{◌≡◌, ℕ, Some, Result, Ok, Err, List, []}
-use Rattle.json.specs.Token.{Token}
+use Rattle.std.specs.Prelude.{◌≡◌, ℕ, ◌<◌, Bool, true, Some, Result, Ok, Err, List, [], ◌∷◌, ◌++◌, map}
+use Rattle.json.specs.Strict.{HasUniqueKeys}
+use Rattle.json.specs.Token.{Token, key}
 use Rattle.json.specs.Lex.{tokens}
 use Rattle.json.specs.Json.{Json, value}
+use Rattle.json.specs.Tree.{depth as nesting, json_tokens}
+use Rattle.yaml_base.specs.Prefix.{IsPrefix}
+use Rattle.yaml_json.specs.Texts.{texts_in}
+use Rattle.yaml_json.specs.Wrote.{AreJson}
+use Rattle.yaml_json.specs.Begins.{BeginsAllowed, BeginsSome, BeginsValue, NoneGoesOn}
 use Rattle.yaml_json.specs.declared.error.JsonError.{JsonError}
 use Rattle.yaml_json.specs.declared.error.JsonError.TheVariants as errors
 use Rattle.yaml_json.specs.declared.values.Stop.{Stop}
@@ -10,8 +16,9 @@ use Rattle.yaml_json.specs.declared.values.Stop.TheVariants as stops
 
 -- the text stops the writing, and not the writer
 abbrev pub IsByText : Stop → Type 0
-IsByText (stops.NotJson offset) = Unit {0}
+IsByText (stops.NotJson spot) = Unit {0}
 IsByText stops.TooDeep = Unit {0}
+IsByText (stops.NameAgain offset) = Unit {0}
 IsByText (stops.Failed error) = ⊥
 
 -- the text was refused
@@ -19,11 +26,57 @@ abbrev pub RefusesText : Result (Unit {0}) Stop → Type 0
 RefusesText (Ok done) = ⊥
 RefusesText (Err stop) = IsByText stop
 
--- an error that refuses the text
+-- an error that isn't the writer's
 abbrev pub IsOfText : JsonError → Type 0
 IsOfText (errors.NotJson line column) = Unit {0}
 IsOfText errors.TooDeep = Unit {0}
+IsOfText (errors.DuplicateName line column) = Unit {0}
 IsOfText (errors.Emitter error) = ⊥
+
+-- an error by which the text isn't JSON nested at most so deep
+abbrev pub DeniesJson : JsonError → Type 0
+DeniesJson (errors.NotJson line column) = Unit {0}
+DeniesJson errors.TooDeep = Unit {0}
+DeniesJson (errors.DuplicateName line column) = ⊥
+DeniesJson (errors.Emitter error) = ⊥
+
+-- ---- why
+
+-- the tokens are those of an allowed value up to one that can't stand there, or up to their end, which comes too early
+pub record BreaksOff (depth : ℕ) (unique : Bool) (all : List Token) : Type 0 where
+  pub taken : List Token
+  pub left : List Token
+  pub parts : taken ++ left ≡ all
+  pub begins : BeginsAllowed depth unique taken
+  pub breaks : NoneGoesOn taken left
+
+-- the tokens are those of an allowed value up to one with which every value nests deeper
+pub record OpensTooDeep (depth : ℕ) (unique : Bool) (all : List Token) : Type 0 where
+  pub taken : List Token
+  pub next : Token
+  pub left : List Token
+  pub parts : taken ++ next ∷ left ≡ all
+  pub begins : BeginsAllowed depth unique taken
+  pub some : BeginsSome (taken ++ next ∷ [])
+  pub deeper : (json : Json) → IsPrefix (taken ++ next ∷ []) (json_tokens json) → depth < nesting json
+
+-- names are to come once, and the tokens are those of an allowed value up to a name with which every value has one twice in an
+-- object
+pub record NamesTwice (depth : ℕ) (unique : Bool) (all : List Token) : Type 0 where
+  pub wanted : unique ≡ true
+  pub taken : List Token
+  pub name : List ℕ
+  pub left : List Token
+  pub parts : taken ++ key name ∷ left ≡ all
+  pub begins : BeginsAllowed depth unique taken
+  pub some : BeginsValue depth (taken ++ key name ∷ [])
+  pub twice : (json : Json) → IsPrefix (taken ++ key name ∷ []) (json_tokens json) → HasUniqueKeys json → ⊥
+
+-- no tokens both break off and open too many
+abbrev pub FaultsDiffer : Type 0
+FaultsDiffer = (depth : ℕ) → (unique : Bool) → (all : List Token) → BreaksOff depth unique all → OpensTooDeep depth unique all → ⊥
+
+-- ---- that the text isn't JSON
 
 -- these tokens aren't one value nested at most so deep
 abbrev pub IsNoValue : (depth : ℕ) → List Token → Type 0
@@ -32,3 +85,29 @@ IsNoValue depth before = (json : Json) → value depth before ≡ Some (json, []
 -- the text isn't JSON nested at most so deep
 abbrev pub IsNotJson : (depth : ℕ) → (text : List ℕ) → Type 0
 IsNotJson depth text = IsNoValue depth (tokens text)
+
+-- what an error says of the text: that it breaks off, that it opens too many arrays and objects, that a name comes twice
+abbrev pub SaysWhy : (depth : ℕ) → (unique : Bool) → (text : List ℕ) → JsonError → Type 0
+SaysWhy depth unique text (errors.NotJson line column) = BreaksOff depth unique (tokens text)
+SaysWhy depth unique text errors.TooDeep = OpensTooDeep depth unique (tokens text)
+SaysWhy depth unique text (errors.DuplicateName line column) = NamesTwice depth unique (tokens text)
+SaysWhy depth unique text (errors.Emitter error) = Unit {0}
+
+-- where names are to come once, no object of the text has one twice
+abbrev pub HasNamesOnce : (unique : Bool) → (text : List ℕ) → Type 0
+HasNamesOnce unique text = unique ≡ true → (depth : ℕ) → (json : Json) → value depth (tokens text) ≡ Some (json, []) → HasUniqueKeys json
+
+-- the same of each of some texts
+abbrev pub HaveNamesOnce : (unique : Bool) → List (List ℕ) → Type 0
+HaveNamesOnce unique [] = Unit {0}
+HaveNamesOnce unique (text ∷ texts) = HasNamesOnce unique text × HaveNamesOnce unique texts
+
+-- one of the texts in a text is refused, for this reason, and those before it are allowed
+pub record RefusedAmong (depth : ℕ) (unique : Bool) (text : List ℕ) (error : JsonError) : Type 0 where
+  pub parts : List (List ℕ × Json)
+  pub next : List ℕ
+  pub later : List (List ℕ)
+  pub cut : map (λ part. part.0) parts ++ next ∷ later ≡ texts_in text
+  pub each : AreJson depth parts
+  pub names : HaveNamesOnce unique (map (λ part. part.0) parts)
+  pub why : SaysWhy depth unique next error

@@ -1,13 +1,16 @@
 -- What a value of JSON comes to for the writer that it is given to, and what is left of the reader's tokens.
-use Rattle.std.specs.Prelude.{◌≡◌, ℕ, Bool, None, Some, Ok, List, [], ◌∷◌, ◌++◌, flat_map, length, map, true}
-use Rattle.std.specs.Str.{chars}
+use Rattle.std.specs.Prelude.{◌≡◌, ℕ, Bool, None, Some, Ok, List, [], ◌∷◌, ◌++◌, flat_map, map, true}
 use Rattle.json.specs.Token.{Token}
 use Rattle.json.specs.Lex.{tokens}
-use Rattle.json.specs.Json.{Json, Items, Members, items, members, value}
-use Rattle.yaml_base.specs.Event.{Event, document_end, scalar}
+use Rattle.json.specs.Json.{Json, value}
+use Rattle.yaml_base.specs.Event.{Event, document_end, mapping_start, sequence_start}
 use Rattle.yaml_base.specs.Settings.{Settings}
-use Rattle.yaml_writer.specs.Writing.{AddsAll, EndsInnermost, Finishes, IsStream, StandsTaken, WriterState, closing, opening, plain_start}
-use Rattle.yaml_json.specs.JsonEvents.{json_events, items_events, members_events, text_content}
+use Rattle.yaml_writer.specs.Writing.{AddsAll, EndsInnermost, Finishes, Gave, IsStream, StandsTaken, WriterState, closing, entered, opening}
+use Rattle.yaml_writer.specs.Writing.{plain_start}
+use Rattle.yaml_writer.specs.declared.kinds.CollectionKind.{CollectionKind}
+use Rattle.yaml_writer.specs.declared.kinds.CollectionKind.TheVariants.{Mapping, Sequence}
+use Rattle.yaml_json.specs.JsonEvents.{collection_in, json_events}
+use Rattle.yaml_json.specs.Texts.{texts_in}
 use Rattle.yaml_json.specs.Means.{ReadsAsJson, ReadsAsValues}
 
 -- the next node has no anchor and no tag
@@ -25,6 +28,15 @@ pub record Wrote (before : WriterState) (events : List Event) (after : WriterSta
 abbrev pub WroteEvent : WriterState → Event → WriterState → Type 0
 WroteEvent before event after = Wrote before (event ∷ []) after
 
+-- the event with which a collection begins
+abbrev pub start_event : (in_flow : Bool) → CollectionKind → Event
+start_event in_flow Sequence = sequence_start (collection_in in_flow)
+start_event in_flow Mapping = mapping_start (collection_in in_flow)
+
+-- a collection was begun
+abbrev pub Starts : (in_flow : Bool) → CollectionKind → WriterState → WriterState → Type 0
+Starts in_flow kind before after = Gave (entered before kind) (start_event in_flow kind) None after
+
 -- the innermost collection was ended
 abbrev pub Ends : WriterState → WriterState → Type 0
 Ends before after = EndsInnermost before (Ok tt) after
@@ -34,25 +46,6 @@ pub record WroteValue (depth : ℕ) (in_flow : Bool) (before : List Token) (was 
   pub json : Json
   pub read : value depth before ≡ Some (json, after)
   pub wrote : Wrote was (json_events was.canonical in_flow json) now
-
--- the first of these tokens are the items of an array, to its end; their events were given
-pub record WroteItems (depth : ℕ) (in_flow : Bool) (before : List Token) (was : WriterState) (after : List Token) (now : WriterState) : Type 0 where
-  pub json : Items
-  pub read : items (value depth) (length before) before ≡ Some (json, after)
-  pub wrote : Wrote was (items_events was.canonical in_flow json) now
-
--- the first of these tokens are the members of an object, to its end; their events were given
-pub record WroteMembers (depth : ℕ) (in_flow : Bool) (before : List Token) (was : WriterState) (after : List Token) (now : WriterState) : Type 0 where
-  pub json : Members
-  pub read : members (value depth) (length before) before ≡ Some (json, after)
-  pub wrote : Wrote was (members_events was.canonical in_flow json) now
-
--- the first of these tokens are the value of this key; the events of key and value were given
-pub record WroteMember (depth : ℕ) (in_flow : Bool) (key : List ℕ) (before : List Token) (was : WriterState) (after : List Token) (now : WriterState)
-    : Type 0 where
-  pub json : Json
-  pub read : value depth before ≡ Some (json, after)
-  pub wrote : Wrote was (scalar (text_content (chars key)) ∷ json_events was.canonical in_flow json) now
 
 -- the tokens are a value nested at most so deep, and nothing after it; its events were given
 pub record WroteDocument (depth : ℕ) (in_flow : Bool) (before : List Token) (was : WriterState) (now : WriterState) : Type 0 where
@@ -76,9 +69,10 @@ parts_events canonical in_flow (part ∷ []) = json_events canonical in_flow par
 parts_events canonical in_flow (part ∷ next ∷ rest) =
     json_events canonical in_flow part.1 ++ document_end true ∷ plain_start ∷ parts_events canonical in_flow (next ∷ rest)
 
--- the text is one JSON text after another; their events were given, a document each
+-- the text is one JSON text after another, where each ends; their events were given, a document each
 pub record WroteTexts (depth : ℕ) (in_flow : Bool) (text : List ℕ) (was now : WriterState) : Type 0 where
   pub parts : List (List ℕ × Json)
+  pub cut : map (λ part. part.0) parts ≡ texts_in text
   pub joined : flat_map (λ part. part.0) parts ≡ text
   pub each : AreJson depth parts
   pub wrote : Wrote was (parts_events was.canonical in_flow parts) now

@@ -12,6 +12,9 @@ pub enum JsonError {
     /// Arrays and objects nest deeper than was allowed.
     #[error("arrays and objects nest too deep")]
     TooDeep,
+    /// An object has a name twice, and each was to come once. The second begins here.
+    #[error("line {line}, column {column}: a name that comes twice in its object")]
+    DuplicateName { line: usize, column: usize },
     /// The bytes pass the limit (`WriteError`), or an allocation failed (`Memory`). Where more than 1,000,000 levels were allowed,
     /// the emitter refuses what lies deeper than that (`TooDeep`).
     #[error("{0}")]

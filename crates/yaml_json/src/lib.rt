@@ -1,7 +1,10 @@
 //! JSON texts (RFC 8259), written as YAML that both schemas of YAML read as the same values.
 #![tactic(auto)]
 
+mod cuts;
 mod error;
+mod laws;
+mod names;
 mod places;
 mod scalars;
 mod settings;
@@ -10,6 +13,8 @@ mod texts;
 mod values;
 
 pub use error::JsonError;
+pub use laws::faults_differ;
+pub use places::place_of;
 pub use settings::JsonSettings;
 pub use several::write_json_texts;
 pub use texts::{write_json, yaml_from_json};

@@ -7,16 +7,17 @@ ghost use Rattle.yaml_writer.specs.Writing.{EndsInnermost};
 ghost use Rattle.yaml_json.specs.Failing.{FailedAt, failure};
 ghost use Rattle.yaml_json.specs.JsonEvents.{bool_content, null_content, number_content, style_of, text_content};
 ghost use Rattle.yaml_json.specs.Refused.{RefusesText};
-ghost use Rattle.yaml_json.specs.Wrote.{Ends, IsBare, WroteEvent};
+ghost use Rattle.yaml_json.specs.Wrote.{Ends, IsBare, Starts, WroteEvent, start_event};
 
-use crate::values::Stop;
+use crate::values::{Spot, Stop};
 use std::alloc::Allocator;
 use yaml_writer::{
-    Writer, YAML_BLOCK_MAPPING_STYLE, YAML_BLOCK_SEQUENCE_STYLE, YAML_FLOW_MAPPING_STYLE,
-    YAML_FLOW_SEQUENCE_STYLE, number_of, yaml_mapping_style_t, yaml_sequence_style_t,
+    CollectionKind, Writer, YAML_BLOCK_MAPPING_STYLE, YAML_BLOCK_SEQUENCE_STYLE,
+    YAML_FLOW_MAPPING_STYLE, YAML_FLOW_SEQUENCE_STYLE, number_of, yaml_mapping_style_t,
+    yaml_sequence_style_t,
 };
 
-pub(crate) fn sequence_style(in_flow: bool) -> yaml_sequence_style_t
+fn sequence_style(in_flow: bool) -> yaml_sequence_style_t
     ensures { seen_sequence_style result ≡ style_of in_flow }
 {
     if in_flow {
@@ -26,7 +27,7 @@ pub(crate) fn sequence_style(in_flow: bool) -> yaml_sequence_style_t
     }
 }
 
-pub(crate) fn mapping_style(in_flow: bool) -> yaml_mapping_style_t
+fn mapping_style(in_flow: bool) -> yaml_mapping_style_t
     ensures { seen_mapping_style result ≡ style_of in_flow }
 {
     if in_flow {
@@ -91,11 +92,34 @@ pub(crate) fn write_number<A: Allocator + Copy>(
         writer.new) }
 {
     let Some(number) = number_of(text) else {
-        return Err(Stop::NotJson(offset));
+        return Err(Stop::NotJson(Spot::At(offset)));
     };
     match writer.number(&number) {
         Ok(()) => Ok(()),
         Err(error) => Err(Stop::Failed(error)),
+    }
+}
+
+/// Begins a collection.
+pub(crate) fn start<A: Allocator + Copy>(
+    writer: &mut Writer<A>,
+    kind: CollectionKind,
+    in_flow: bool,
+) -> Result<(), Stop>
+    requires { IsBare writer.old }
+    ensures started { OnOk result (Starts in_flow kind writer.old writer.new) }
+    ensures failed { RefusesText result → ⊥ }
+    ensures stopped { IfSome (failure result) (λ error. FailedAt writer.old (start_event in_flow kind) error writer.new) }
+{
+    match kind {
+        CollectionKind::Sequence => match writer.begin_sequence(sequence_style(in_flow)) {
+            Ok(()) => Ok(()),
+            Err(error) => Err(Stop::Failed(error)),
+        },
+        CollectionKind::Mapping => match writer.begin_mapping(mapping_style(in_flow)) {
+            Ok(()) => Ok(()),
+            Err(error) => Err(Stop::Failed(error)),
+        },
     }
 }
 

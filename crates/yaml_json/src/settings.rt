@@ -8,17 +8,20 @@ pub struct JsonSettings {
     pub writer: Settings,
     /// Arrays and objects stand in flow, as in JSON; else in blocks, where they aren't empty.
     pub flow: bool,
-    /// Arrays and objects may nest so deep. Each level that a text has takes stack while it is read.
+    /// Arrays and objects may nest so deep.
     pub depth: usize,
+    /// A name may come once in an object. Else it is written as often as it comes, which many readers of YAML refuse.
+    pub unique_names: bool,
 }
 
-/// The default settings of the writer, blocks, and a depth of 1,000.
+/// The default settings of the writer, blocks, a depth of 1,000, and each name once in its object.
 impl Default for JsonSettings {
     fn default() -> Self {
         JsonSettings {
             writer: Settings::default(),
             flow: false,
             depth: 1_000,
+            unique_names: true,
         }
     }
 }

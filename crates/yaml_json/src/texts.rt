@@ -1,12 +1,15 @@
 //! JSON texts as YAML.
-ghost use Rattle.std.specs.Prelude.{◌≡◌, OnOk, IfOk, IfErr, IfSome};
+ghost use Rattle.std.specs.Prelude.{◌≡◌, [], true, OnOk, IfOk, IfErr, IfSome};
 ghost use Rattle.yaml_writer.specs.Given.{seen_settings};
 ghost use Rattle.yaml_json.specs.Failing.{FailedInText, FailsBy, failure, failure_of, writers_error};
-ghost use Rattle.yaml_json.specs.Refused.{IsByText, IsNotJson, IsOfText, RefusesText};
+ghost use Rattle.json.specs.Lex.{tokens};
+ghost use Rattle.yaml_json.specs.Names.{NamesOnce};
+ghost use Rattle.yaml_json.specs.Refused.{DeniesJson, HasNamesOnce, IsNotJson, SaysWhy};
+ghost use Rattle.yaml_json.specs.Walk.{SaysWhat, WhyStopped};
 ghost use Rattle.yaml_json.specs.Wrote.{IsBare, IsYamlOf, WroteText};
 
 use crate::error::JsonError;
-use crate::places::place_of;
+use crate::places::{offset_of, place_of};
 use crate::settings::JsonSettings;
 use crate::values::{Stop, write_document};
 use json::{Reader, Scratch};
@@ -15,85 +18,100 @@ use yaml_writer::{Writer, yaml_error_t};
 
 /// What a stop is for a caller: `offset` bytes of the text stand before the part in which it came.
 pub(crate) fn error_of(text: &str, offset: usize, stop: Stop) -> JsonError
-    ensures by_text { IsOfText result → IsByText stop }
+    ensures says { SaysWhat stop result }
     ensures by_writer { writers_error result ≡ failure_of stop }
 {
     match stop {
-        Stop::NotJson(at) => {
-            let (line, column) = place_of(text, offset.saturating_add(at));
+        Stop::NotJson(spot) => {
+            let at = offset_of(text, offset, spot);
+            let (line, column) = place_of(text.as_bytes(), at);
             JsonError::NotJson { line, column }
         }
         Stop::TooDeep => JsonError::TooDeep,
+        Stop::NameAgain(at) => {
+            let (line, column) = place_of(text.as_bytes(), offset.saturating_add(at));
+            JsonError::DuplicateName { line, column }
+        }
         Stop::Failed(error) => JsonError::Emitter(error),
     }
 }
 
 /// Gives a writer the events of a JSON text.
 pub(crate) fn write_text_by<A: Allocator + Copy>(
+    alloc: A,
     writer: &mut Writer<A>,
     scratch: &mut Scratch<A>,
     text: &str,
-    in_flow: bool,
-    depth: usize,
+    settings: &JsonSettings,
 ) -> Result<(), Stop>
     requires { IsBare writer.old }
-    ensures written { OnOk result (WroteText depth in_flow text.now writer.old writer.new) }
-    ensures refused { RefusesText result → IsNotJson depth text.now }
-    ensures stopped { IfSome (failure result) (λ error. FailedInText depth in_flow text.now writer.old error writer.new) }
+    ensures names { OnOk result (settings.now.unique_names ≡ true → NamesOnce [] (tokens text.now)) }
+    ensures written { OnOk result (WroteText settings.now.depth settings.now.flow text.now writer.old writer.new) }
+    ensures refused { IfErr result (WhyStopped settings.now.depth settings.now.unique_names (tokens text.now)) }
+    ensures stopped { IfSome (failure result) (λ error. FailedInText settings.now.depth settings.now.flow text.now writer.old error writer.new) }
 {
     let Ok(mut reader) = Reader::new(text, scratch) else {
         return Err(Stop::Failed(yaml_error_t::Memory));
     };
-    write_document(writer, &mut reader, in_flow, depth)
+    write_document(alloc, writer, &mut reader, settings)
 }
 
-/// Gives a writer the events of a JSON text, whose arrays and objects may nest `depth` deep. Each of them stands in flow if
-/// `in_flow` is set, else in a block, where it isn't empty. Keys keep their order, and a key that comes twice is written twice.
+/// Gives a writer the events of a JSON text, by all of these settings but those of a writer. Arrays and objects may nest
+/// `settings.depth` deep. Each of them stands in flow if `settings.flow` is set, else in a block, where it isn't empty. Keys keep
+/// their order. A key may come once in an object if `settings.unique_names` is set; else it is written as often as it comes.
 ///
 /// The writer must have no anchor and no tag for the next node.
 ///
 /// # Errors
 ///
-/// `NotJson` and `TooDeep` where the text isn't JSON nested at most so deep. `Emitter` with the error of the writer's emitter,
-/// which has it now, or with `Memory` where an allocation fails. After an error some of the events may have been given.
+/// `NotJson` where the text isn't JSON up to the place that it names: a token that can't stand there, or the text's end.
+/// `TooDeep` where the text is JSON up to an array or an object that opens too deep, `DuplicateName` where it is JSON up to a key
+/// that its object has already and may have once. `Emitter` with the error of the writer's
+/// emitter, which has it now, or with `Memory` where an allocation fails. After an error some of the events may have been given.
 pub fn write_json<A: Allocator + Copy>(
     alloc: A,
     writer: &mut Writer<A>,
     text: &str,
-    in_flow: bool,
-    depth: usize,
+    settings: JsonSettings,
 ) -> Result<(), JsonError>
     requires { IsBare writer.old }
-    ensures written { OnOk result (WroteText depth in_flow text.now writer.old writer.new) }
-    ensures refused { IfErr result (λ error. IsOfText error → IsNotJson depth text.now) }
-    ensures failed { IfErr result (λ error. IfSome (writers_error error) (λ code. FailedInText depth in_flow text.now writer.old code writer.new)) }
+    ensures written { OnOk result (WroteText settings.depth settings.flow text.now writer.old writer.new) }
+    ensures refused { IfErr result (λ error. DeniesJson error → IsNotJson settings.depth text.now) }
+    ensures names { OnOk result (HasNamesOnce settings.unique_names text.now) }
+    ensures why { IfErr result (SaysWhy settings.depth settings.unique_names text.now) }
+    ensures failed { IfErr result (λ error. IfSome (writers_error error)
+        (λ code. FailedInText settings.depth settings.flow text.now writer.old code writer.new)) }
 {
     let mut scratch = Scratch::new(alloc);
-    let written = write_text_by(writer, &mut scratch, text, in_flow, depth);
-    written.map_err(|stop| error_of(text, 0, stop))
+    match write_text_by(alloc, writer, &mut scratch, text, &settings) {
+        Ok(()) => Ok(()),
+        Err(stop) => Err(error_of(text, 0, stop)),
+    }
 }
 
 /// The YAML of a JSON text: a stream of one document.
 ///
 /// # Errors
 ///
-/// `NotJson` and `TooDeep` where the text isn't JSON nested at most `settings.depth` deep. `Emitter` with `WriteError` where
-/// the bytes pass the limit, with `Memory` where an allocation fails, and with `TooDeep` where arrays and objects nest more than
-/// 1,000,000 deep and `settings.depth` allows it. No other error of the writer comes.
+/// `NotJson`, `TooDeep` and `DuplicateName` as by `write_json`. `Emitter` with
+/// `WriteError` where the bytes pass the limit, with `Memory` where an allocation fails, and with `TooDeep` where arrays and
+/// objects nest more than 1,000,000 deep and `settings.depth` allows it. No other error of the writer comes.
 pub fn yaml_from_json<A: Allocator + Copy>(
     alloc: A,
     text: &str,
     settings: JsonSettings,
 ) -> Result<Vec<u8, A>, JsonError>
     ensures stream { IfOk result (λ bytes. IsYamlOf (seen_settings settings.writer) settings.flow settings.depth text.now bytes.items) }
-    ensures refused { IfErr result (λ error. IsOfText error → IsNotJson settings.depth text.now) }
+    ensures refused { IfErr result (λ error. DeniesJson error → IsNotJson settings.depth text.now) }
+    ensures names { OnOk result (HasNamesOnce settings.unique_names text.now) }
+    ensures why { IfErr result (SaysWhy settings.depth settings.unique_names text.now) }
     ensures failed { IfErr result (λ error. IfSome (writers_error error)
         (FailsBy (seen_settings settings.writer) settings.flow settings.depth text.now)) }
 {
     let Ok(mut writer) = Writer::new(alloc, settings.writer) else {
         return Err(JsonError::Emitter(yaml_error_t::Memory));
     };
-    if let Err(error) = write_json(alloc, &mut writer, text, settings.flow, settings.depth) {
+    if let Err(error) = write_json(alloc, &mut writer, text, settings) {
         return Err(error);
     }
     match writer.finish() {

@@ -1,193 +1,303 @@
-//! Values of JSON, token by token from a reader to a writer.
-ghost use Rattle.std.specs.Prelude.{◌≡◌, ◌∷◌, length, IfSome, None, OnOk};
-ghost use Rattle.json.specs.Json.{items, members, value};
-ghost use Rattle.json.specs.Token.{begin_array, begin_object};
-ghost use Rattle.yaml_json.specs.Failing.{FailedInItems, FailedInMember, FailedInMembers, FailedInValue, failure};
-ghost use Rattle.yaml_json.specs.Refused.{IsNoValue, RefusesText};
-ghost use Rattle.yaml_json.specs.Wrote.{IsBare, WroteDocument, WroteItems, WroteMember, WroteMembers, WroteValue};
+//! Values of JSON, token by token from a reader to a writer. The arrays and objects that are open stand in a list.
+ghost use Rattle.std.specs.Prelude.{◌≡◌, ◌≢◌, ◌≤◌, [], ◌∷◌, ◌-◌, length, take, IfErr, IfSome, MatchOption, OnOk, true};
+ghost use Rattle.json.specs.Print.{IsPrintable};
+ghost use Rattle.json.specs.Reads.{token_of};
+ghost use Rattle.yaml_writer.specs.Writing.{EndsInnermost};
+ghost use Rattle.yaml_json.specs.Failing.{FailedInValue, failure};
+ghost use Rattle.yaml_json.specs.Refused.{RefusesText};
+ghost use Rattle.yaml_json.specs.Walk.{BeganFirst, BeginFailed, Began, FirstFailed, IsInnermost, Refuses, RefusesFirst, RefusesToken, StepFailed, Stepped};
+ghost use Rattle.yaml_json.specs.Names.{NamesOnce};
+ghost use Rattle.yaml_json.specs.Nests.{IsNest};
+ghost use Rattle.yaml_json.specs.Walk.{HasUniqueNames, Keeps, KeepsTo, LeavesNames, WhyStopped, opener};
+ghost use Rattle.yaml_json.specs.Wrote.{Ends, IsBare, WroteDocument, WroteValue};
 
-use crate::scalars::{
-    end, mapping_style, sequence_style, write_bool, write_null, write_number, write_text,
-};
-use json::{Invalid, Reader, Token};
+use crate::names::Names;
+use crate::scalars::{end, start, write_bool, write_null, write_number, write_text};
+use crate::settings::JsonSettings;
+use json::{Reader, Token};
 use std::alloc::Allocator;
-use yaml_writer::{Writer, yaml_error_t};
+use yaml_writer::{CollectionKind, Writer, yaml_error_t};
+
+/// Where a token is that can't stand there, by an offset in bytes.
+#[derive(Clone, Copy, PartialEq, Eq, Debug)]
+pub(crate) enum Spot {
+    /// It begins here.
+    At(usize),
+    /// It follows the string that begins here.
+    PastString(usize),
+    /// It follows a value. What follows the value, and a comma if there is one, begins here.
+    PastValue(usize),
+}
 
 /// Why a value isn't written.
 #[derive(Clone, Copy, PartialEq, Eq, Debug)]
 pub(crate) enum Stop {
-    /// The token at this offset, in bytes, can't stand there.
-    NotJson(usize),
+    /// A token can't stand where it stands, or the text ends too early.
+    NotJson(Spot),
     /// An array or an object lies too deep.
     TooDeep,
+    /// The name at this offset, in bytes, is one that its object has.
+    NameAgain(usize),
     /// The writer failed.
     Failed(yaml_error_t),
 }
 
-/// The next value of the reader. Arrays and objects may nest `depth` deep.
-#[cycle(write)]
-pub(crate) fn write_value<A: Allocator + Copy>(
+/// What is open.
+#[derive(Drop)]
+struct Nesting<'a, A: Allocator> {
+    /// The innermost last.
+    kinds: Vec<CollectionKind, A>,
+    names: Names<'a, A>,
+}
+
+/// Begins a collection, unless it is too deep.
+fn begin<'a, A: Allocator + Copy>(
     writer: &mut Writer<A>,
-    reader: &mut Reader<'_>,
-    in_flow: bool,
-    depth: usize,
+    nest: &mut Nesting<'a, A>,
+    kind: CollectionKind,
+    settings: &JsonSettings,
 ) -> Result<(), Stop>
-    requires { IsBare writer.old }
-    ensures written { OnOk result (WroteValue depth in_flow reader.old writer.old reader.new writer.new) }
-    ensures refused { RefusesText result → value depth reader.old ≡ None }
-    ensures stopped { IfSome (failure result) (λ error. FailedInValue depth in_flow reader.old writer.old error writer.new) }
+    requires bare { IsBare writer.old }
+    requires fits { IsNest settings.now.depth settings.now.unique_names nest.old }
+    ensures began { OnOk result (Began settings.now.depth settings.now.flow (opener kind) nest.old.kinds.items writer.old nest.new.kinds.items writer.new) }
+    ensures fits { OnOk result (IsNest settings.now.depth settings.now.unique_names nest.new) }
+    ensures names { OnOk result (Keeps nest.old.names (opener kind ∷ []) nest.new.names) }
+    ensures refused { IfErr result (RefusesToken settings.now.depth nest.old.kinds.items (opener kind)) }
+    ensures stopped { IfSome (failure result) (λ error. BeginFailed settings.now.depth settings.now.flow (opener kind) nest.old.kinds.items writer.old error
+        writer.new) }
 {
-    let offset = reader.offset();
-    let Some(token) = reader.next() else {
-        return Err(Stop::NotJson(offset));
-    };
+    if nest.kinds.len() == settings.depth {
+        return Err(Stop::TooDeep);
+    }
+    if let Err(_) = nest.names.enter() {
+        return Err(Stop::Failed(yaml_error_t::Memory));
+    }
+    match nest.kinds.push(kind) {
+        Ok(()) => start(writer, kind, settings.flow),
+        Err(_) => Err(Stop::Failed(yaml_error_t::Memory)),
+    }
+}
+
+/// A token at this offset, with which a value is to begin.
+fn write_token<'a, A: Allocator + Copy>(
+    writer: &mut Writer<A>,
+    nest: &mut Nesting<'a, A>,
+    token: Token<'a>,
+    offset: usize,
+    settings: &JsonSettings,
+) -> Result<(), Stop>
+    requires bare { IsBare writer.old }
+    requires fits { IsNest settings.now.depth settings.now.unique_names nest.old }
+    requires good { token ≢ Token.Bad → IsPrintable (token_of token) }
+    ensures began { OnOk result (Began settings.now.depth settings.now.flow (token_of token.entry) nest.old.kinds.items writer.old nest.new.kinds.items writer.new) }
+    ensures fits { OnOk result (IsNest settings.now.depth settings.now.unique_names nest.new) }
+    ensures names { OnOk result (Keeps nest.old.names (token_of token.entry ∷ []) nest.new.names) }
+    ensures refused { IfErr result (RefusesToken settings.now.depth nest.old.kinds.items (token_of token.entry)) }
+    ensures stopped { IfSome (failure result) (λ error. BeginFailed settings.now.depth settings.now.flow (token_of token.entry) nest.old.kinds.items writer.old error
+        writer.new) }
+{
     match token {
         Token::Null => write_null(writer),
         Token::Bool(flag) => write_bool(writer, flag),
         Token::Number(text) => write_number(writer, text, offset),
         Token::String(text) => write_text(writer, text),
-        Token::BeginArray => write_array(writer, reader, in_flow, depth),
-        Token::BeginObject => write_object(writer, reader, in_flow, depth),
+        Token::BeginArray => begin(writer, nest, CollectionKind::Sequence, settings),
+        Token::BeginObject => begin(writer, nest, CollectionKind::Mapping, settings),
         Token::EndObject | Token::EndArray | Token::Key(_) | Token::Bad => {
-            Err(Stop::NotJson(offset))
+            Err(Stop::NotJson(Spot::At(offset)))
         }
     }
 }
 
-/// An array, past its bracket.
-#[cycle(write)]
-fn write_array<A: Allocator + Copy>(
+/// The first token of a value.
+fn write_first<'a, A: Allocator + Copy>(
     writer: &mut Writer<A>,
-    reader: &mut Reader<'_>,
-    in_flow: bool,
-    depth: usize,
+    reader: &mut Reader<'a>,
+    nest: &mut Nesting<'a, A>,
+    settings: &JsonSettings,
 ) -> Result<(), Stop>
-    requires { IsBare writer.old }
-    ensures written { OnOk result (WroteValue depth in_flow (begin_array ∷ reader.old) writer.old reader.new writer.new) }
-    ensures refused { RefusesText result → value depth (begin_array ∷ reader.old) ≡ None }
-    ensures stopped { IfSome (failure result) (λ error. FailedInValue depth in_flow (begin_array ∷ reader.old) writer.old error writer.new) }
+    requires bare { IsBare writer.old }
+    requires fits { IsNest settings.now.depth settings.now.unique_names nest.old }
+    ensures began { OnOk result (BeganFirst settings.now.depth settings.now.flow reader.old nest.old.kinds.items writer.old reader.new nest.new.kinds.items
+        writer.new) }
+    ensures fits { OnOk result (IsNest settings.now.depth settings.now.unique_names nest.new) }
+    ensures names { OnOk result (KeepsTo nest.old.names reader.old reader.new nest.new.names) }
+    ensures refused { IfErr result (RefusesFirst settings.now.depth nest.old.kinds.items reader.old) }
+    ensures stopped { IfSome (failure result) (λ error. FirstFailed settings.now.depth settings.now.flow reader.old nest.old.kinds.items writer.old error
+        writer.new) }
 {
-    if depth == 0 {
-        return Err(Stop::TooDeep);
-    }
-    if let Err(error) = writer.begin_sequence(sequence_style(in_flow)) {
-        return Err(Stop::Failed(error));
-    }
-    if let Err(stop) = write_items(writer, reader, in_flow, depth - 1) {
-        return Err(stop);
-    }
+    let offset = reader.offset();
+    let Some(token) = reader.next() else {
+        return Err(Stop::NotJson(Spot::At(offset)));
+    };
+    write_token(writer, nest, token, offset, settings)
+}
+
+/// Ends the innermost collection, of this kind.
+fn leave<'a, A: Allocator + Copy>(
+    writer: &mut Writer<A>,
+    nest: &mut Nesting<'a, A>,
+) -> Result<(), Stop>
+    requires bare { IsBare writer.old }
+    ensures left { nest.new.kinds.items ≡ take (length nest.old.kinds.items - 1) nest.old.kinds.items }
+    ensures names { LeavesNames nest.old.names nest.new.names }
+    ensures ended { OnOk result (Ends writer.old writer.new) }
+    ensures failed { RefusesText result → ⊥ }
+    ensures stopped { IfSome (failure result) (λ error. EndsInnermost writer.old (Err error) writer.new) }
+{
+    nest.names.leave();
+    let _ = nest.kinds.pop();
     end(writer)
 }
 
-/// The items of an array, and its end.
-#[cycle(write)]
-fn write_items<A: Allocator + Copy>(
+/// The next token within an array.
+fn write_item<'a, A: Allocator + Copy>(
     writer: &mut Writer<A>,
-    reader: &mut Reader<'_>,
-    in_flow: bool,
-    depth: usize,
+    reader: &mut Reader<'a>,
+    nest: &mut Nesting<'a, A>,
+    settings: &JsonSettings,
+) -> Result<(), Stop>
+    requires bare { IsBare writer.old }
+    requires fits { IsNest settings.now.depth settings.now.unique_names nest.old }
+    requires innermost { IsInnermost CollectionKind.Sequence nest.old.kinds.items }
+    ensures stepped { OnOk result (Stepped settings.now.depth settings.now.flow reader.old nest.old.kinds.items writer.old reader.new nest.new.kinds.items
+        writer.new) }
+    ensures fits { OnOk result (IsNest settings.now.depth settings.now.unique_names nest.new) }
+    ensures names { OnOk result (KeepsTo nest.old.names reader.old reader.new nest.new.names) }
+    ensures refused { IfErr result (Refuses settings.now.depth settings.now.unique_names nest.old.kinds.items nest.old.names reader.old) }
+    ensures stopped { IfSome (failure result) (λ error. StepFailed settings.now.depth settings.now.flow reader.old nest.old.kinds.items writer.old error
+        writer.new) }
+{
+    let offset = reader.offset();
+    let Some(token) = reader.next() else {
+        return Err(Stop::NotJson(Spot::At(offset)));
+    };
+    match token {
+        Token::EndArray => leave(writer, nest),
+        _ => write_token(writer, nest, token, offset, settings),
+    }
+}
+
+/// The next key within an object and the token after it, or the object's end.
+fn write_member<'a, A: Allocator + Copy>(
+    writer: &mut Writer<A>,
+    reader: &mut Reader<'a>,
+    nest: &mut Nesting<'a, A>,
+    settings: &JsonSettings,
+) -> Result<(), Stop>
+    requires bare { IsBare writer.old }
+    requires fits { IsNest settings.now.depth settings.now.unique_names nest.old }
+    requires innermost { IsInnermost CollectionKind.Mapping nest.old.kinds.items }
+    ensures stepped { OnOk result (Stepped settings.now.depth settings.now.flow reader.old nest.old.kinds.items writer.old reader.new nest.new.kinds.items
+        writer.new) }
+    ensures fits { OnOk result (IsNest settings.now.depth settings.now.unique_names nest.new) }
+    ensures names { OnOk result (KeepsTo nest.old.names reader.old reader.new nest.new.names) }
+    ensures refused { IfErr result (Refuses settings.now.depth settings.now.unique_names nest.old.kinds.items nest.old.names reader.old) }
+    ensures stopped { IfSome (failure result) (λ error. StepFailed settings.now.depth settings.now.flow reader.old nest.old.kinds.items writer.old error
+        writer.new) }
+{
+    let offset = reader.offset();
+    let Some(token) = reader.next() else {
+        return Err(Stop::NotJson(Spot::At(offset)));
+    };
+    match token {
+        Token::EndObject => leave(writer, nest),
+        Token::Key(key) => match nest.names.add(key) {
+            Err(_) => Err(Stop::Failed(yaml_error_t::Memory)),
+            Ok(new) => {
+                if !new {
+                    return Err(Stop::NameAgain(offset));
+                }
+                if let Err(stop) = write_text(writer, key) {
+                    return Err(stop);
+                }
+                write_first(writer, reader, nest, settings)
+            }
+        },
+        Token::String(_) => Err(Stop::NotJson(Spot::PastString(offset))),
+        _ => Err(Stop::NotJson(Spot::At(offset))),
+    }
+}
+
+/// The next tokens within the innermost collection, which is of this kind.
+fn write_next<'a, A: Allocator + Copy>(
+    writer: &mut Writer<A>,
+    reader: &mut Reader<'a>,
+    nest: &mut Nesting<'a, A>,
+    kind: CollectionKind,
+    settings: &JsonSettings,
+) -> Result<(), Stop>
+    requires bare { IsBare writer.old }
+    requires fits { IsNest settings.now.depth settings.now.unique_names nest.old }
+    requires innermost { IsInnermost kind nest.old.kinds.items }
+    ensures stepped { OnOk result (Stepped settings.now.depth settings.now.flow reader.old nest.old.kinds.items writer.old reader.new nest.new.kinds.items
+        writer.new) }
+    ensures fits { OnOk result (IsNest settings.now.depth settings.now.unique_names nest.new) }
+    ensures names { OnOk result (KeepsTo nest.old.names reader.old reader.new nest.new.names) }
+    ensures refused { IfErr result (Refuses settings.now.depth settings.now.unique_names nest.old.kinds.items nest.old.names reader.old) }
+    ensures stopped { IfSome (failure result) (λ error. StepFailed settings.now.depth settings.now.flow reader.old nest.old.kinds.items writer.old error
+        writer.new) }
+{
+    match kind {
+        CollectionKind::Sequence => write_item(writer, reader, nest, settings),
+        CollectionKind::Mapping => write_member(writer, reader, nest, settings),
+    }
+}
+
+/// The kind of the innermost collection that is open.
+fn innermost<A: Allocator>(levels: &Vec<CollectionKind, A>) -> Option<CollectionKind>
+    ensures { MatchOption result (levels.now.items ≡ []) (λ kind. IsInnermost kind levels.now.items) }
+{
+    levels.last().copied()
+}
+
+/// The next value of the reader.
+fn write_value<'a, A: Allocator + Copy>(
+    alloc: A,
+    writer: &mut Writer<A>,
+    reader: &mut Reader<'a>,
+    settings: &JsonSettings,
 ) -> Result<(), Stop>
     requires { IsBare writer.old }
-    ensures written { OnOk result (WroteItems depth in_flow reader.old writer.old reader.new writer.new) }
-    ensures refused { RefusesText result → items (value depth) (length reader.old) reader.old ≡ None }
-    ensures stopped { IfSome (failure result) (λ error. FailedInItems depth in_flow reader.old writer.old error writer.new) }
+    ensures written { OnOk result (WroteValue settings.now.depth settings.now.flow reader.old writer.old reader.new writer.new) }
+    ensures names { OnOk result (HasUniqueNames settings.now.unique_names reader.old reader.new) }
+    ensures refused { IfErr result (WhyStopped settings.now.depth settings.now.unique_names reader.old) }
+    ensures stopped { IfSome (failure result) (λ error. FailedInValue settings.now.depth settings.now.flow reader.old writer.old error writer.new) }
 {
-    'each_item: while !reader.take_end_array() {
-        if let Err(stop) = write_value(writer, reader, in_flow, depth) {
+    let mut nest = Nesting {
+        kinds: Vec::new(alloc),
+        names: Names::new(alloc, settings.unique_names),
+    };
+    if let Err(stop) = write_first(writer, reader, &mut nest, settings) {
+        return Err(stop);
+    }
+    'each_token: while let Some(kind) = innermost(&nest.kinds) {
+        if let Err(stop) = write_next(writer, reader, &mut nest, kind, settings) {
             return Err(stop);
         }
     }
     Ok(())
 }
 
-/// An object, past its brace.
-#[cycle(write)]
-fn write_object<A: Allocator + Copy>(
-    writer: &mut Writer<A>,
-    reader: &mut Reader<'_>,
-    in_flow: bool,
-    depth: usize,
-) -> Result<(), Stop>
-    requires { IsBare writer.old }
-    ensures written { OnOk result (WroteValue depth in_flow (begin_object ∷ reader.old) writer.old reader.new writer.new) }
-    ensures refused { RefusesText result → value depth (begin_object ∷ reader.old) ≡ None }
-    ensures stopped { IfSome (failure result) (λ error. FailedInValue depth in_flow (begin_object ∷ reader.old) writer.old error writer.new) }
-{
-    if depth == 0 {
-        return Err(Stop::TooDeep);
-    }
-    if let Err(error) = writer.begin_mapping(mapping_style(in_flow)) {
-        return Err(Stop::Failed(error));
-    }
-    if let Err(stop) = write_members(writer, reader, in_flow, depth - 1) {
-        return Err(stop);
-    }
-    end(writer)
-}
-
-/// The members of an object, and its end.
-#[cycle(write)]
-fn write_members<A: Allocator + Copy>(
-    writer: &mut Writer<A>,
-    reader: &mut Reader<'_>,
-    in_flow: bool,
-    depth: usize,
-) -> Result<(), Stop>
-    requires { IsBare writer.old }
-    ensures written { OnOk result (WroteMembers depth in_flow reader.old writer.old reader.new writer.new) }
-    ensures refused { RefusesText result → members (value depth) (length reader.old) reader.old ≡ None }
-    ensures stopped { IfSome (failure result) (λ error. FailedInMembers depth in_flow reader.old writer.old error writer.new) }
-{
-    'each_member: loop {
-        let offset = reader.offset();
-        match reader.next_key() {
-            Err(Invalid) => return Err(Stop::NotJson(offset)),
-            Ok(None) => return Ok(()),
-            Ok(Some(key)) => {
-                if let Err(stop) = write_member(writer, reader, key, in_flow, depth) {
-                    return Err(stop);
-                }
-            }
-        }
-    }
-}
-
-/// A key, and the value that the reader has next.
-#[cycle(write)]
-fn write_member<A: Allocator + Copy>(
-    writer: &mut Writer<A>,
-    reader: &mut Reader<'_>,
-    key: &str,
-    in_flow: bool,
-    depth: usize,
-) -> Result<(), Stop>
-    requires { IsBare writer.old }
-    ensures written { OnOk result (WroteMember depth in_flow key.now reader.old writer.old reader.new writer.new) }
-    ensures refused { RefusesText result → value depth reader.old ≡ None }
-    ensures stopped { IfSome (failure result) (λ error. FailedInMember depth in_flow key.now reader.old writer.old error writer.new) }
-{
-    if let Err(stop) = write_text(writer, key) {
-        return Err(stop);
-    }
-    write_value(writer, reader, in_flow, depth)
-}
-
 /// The one value of the reader.
-pub(crate) fn write_document<A: Allocator + Copy>(
+pub(crate) fn write_document<'a, A: Allocator + Copy>(
+    alloc: A,
     writer: &mut Writer<A>,
-    reader: &mut Reader<'_>,
-    in_flow: bool,
-    depth: usize,
+    reader: &mut Reader<'a>,
+    settings: &JsonSettings,
 ) -> Result<(), Stop>
     requires { IsBare writer.old }
-    ensures written { OnOk result (WroteDocument depth in_flow reader.old writer.old writer.new) }
-    ensures refused { RefusesText result → IsNoValue depth reader.old }
-    ensures stopped { IfSome (failure result) (λ error. FailedInValue depth in_flow reader.old writer.old error writer.new) }
+    ensures written { OnOk result (WroteDocument settings.now.depth settings.now.flow reader.old writer.old writer.new) }
+    ensures names { OnOk result (settings.now.unique_names ≡ true → NamesOnce [] reader.old) }
+    ensures refused { IfErr result (WhyStopped settings.now.depth settings.now.unique_names reader.old) }
+    ensures stopped { IfSome (failure result) (λ error. FailedInValue settings.now.depth settings.now.flow reader.old writer.old error writer.new) }
 {
-    write_value(writer, reader, in_flow, depth)?;
+    if let Err(stop) = write_value(alloc, writer, reader, settings) {
+        return Err(stop);
+    }
     let offset = reader.offset();
     match reader.next() {
         None => Ok(()),
-        Some(_) => Err(Stop::NotJson(offset)),
+        Some(_token) => Err(Stop::NotJson(Spot::PastValue(offset))),
     }
 }

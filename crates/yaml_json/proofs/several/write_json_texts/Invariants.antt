@@ -5,7 +5,7 @@ use Rattle.yaml_json.proofs.TextsInTurn.{TextsSoFar}
 use Rattle.yaml_json.proofs.several.write_json_texts.Given as goal
 
 abbrev pub invariant-texts : goal.invariant-texts
-invariant-texts g l = shadow (Utf8 l.rest) × TextsSoFar l.depth l.in_flow l.text l.initial.writer l.rest l.writer
+invariant-texts g l = shadow (Utf8 l.rest) × TextsSoFar l.settings.depth l.settings.flow l.settings.unique_names l.text l.initial.writer l.rest l.writer
 
 abbrev pub decreases-texts : goal.decreases-texts
 decreases-texts g l = length l.rest

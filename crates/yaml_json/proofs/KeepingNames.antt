@@ -1,0 +1,143 @@
+-- The names that are kept while the tokens of a value are walked over.
+use Rattle.std.proofs.Common.{◌≡◌, ℕ, suc, refl, sym, ap, ◌∙◌, subst, append_assoc, arith, inl, inr, length-append}
+use Rattle.std.proofs.lemmas.Bool.{both_ways, cases_Bool}
+use Rattle.std.specs.Prelude.{◌⊎◌, Bool, true, false, List, [], ◌∷◌, ◌++◌, length}
+use Rattle.json.specs.Token.{Token}
+use Rattle.yaml_writer.specs.declared.kinds.CollectionKind.{CollectionKind}
+use Rattle.yaml_writer.specs.declared.kinds.CollectionKind.TheVariants.{Mapping, Sequence}
+use Rattle.yaml_json.specs.HeldNames.{Adds, HaveNames, HoldsNames}
+use Rattle.yaml_json.specs.Names.{IsNew, NamesOnce, all_names_after, inner_names, names_after, outer_names}
+use Rattle.yaml_json.specs.Walk.{FitsNames, HasUniqueNames, IsScalar, Kept, Keeps, KeepsTo, LeavesNames, closer, opener}
+use Rattle.yaml_json.specs.declared.names.Names.{Names}
+use Rattle.yaml_json.proofs.NameLemmas.{names_after_both, once_both}
+
+abbrev Taken : Type 0
+Taken = List (List (List ℕ))
+
+scalar_names : (token : Token) → IsScalar token → (levels : Taken) → NamesOnce levels (token ∷ []) × (names_after levels token ≡ levels)
+scalar_names Token.begin_object is levels = absurd is
+scalar_names Token.end_object is levels = absurd is
+scalar_names Token.begin_array is levels = absurd is
+scalar_names Token.end_array is levels = absurd is
+scalar_names (Token.key text) is levels = absurd is
+scalar_names (Token.string text) is levels = ((tt, tt), refl)
+scalar_names (Token.number text) is levels = ((tt, tt), refl)
+scalar_names (Token.boolean flag) is levels = ((tt, tt), refl)
+scalar_names Token.null is levels = ((tt, tt), refl)
+scalar_names Token.bad is levels = absurd is
+
+opener_names : (kind : CollectionKind) (levels : Taken) → NamesOnce levels (opener kind ∷ []) × (names_after levels (opener kind) ≡ [] ∷ levels)
+opener_names Sequence levels = ((tt, tt), refl)
+opener_names Mapping levels = ((tt, tt), refl)
+
+closer_names : (kind : CollectionKind) (levels : Taken) → NamesOnce levels (closer kind ∷ []) × (names_after levels (closer kind) ≡ outer_names levels)
+closer_names Sequence levels = ((tt, tt), refl)
+closer_names Mapping levels = ((tt, tt), refl)
+
+module _ {A : Type 0} where
+  -- one token more, whose names are kept
+  kept_on : (so : List Token) (token : Token) (held later : Names A) → later.are_kept ≡ held.are_kept
+      → (later.are_kept ≡ true → NamesOnce (all_names_after [] so) (token ∷ []))
+      → (HoldsNames (all_names_after [] so) held → HoldsNames (names_after (all_names_after [] so) token) later)
+      → Kept so held → Kept (so ++ token ∷ []) later
+  kept_on so token held later same once holds kept is =
+      let before = kept (sym same ∙ is) in (
+        once_both [] so (token ∷ []) before.0 (once is),
+        subst (HaveNames later.sets.items) (sym (names_after_both [] so (token ∷ []))) (holds (λ also. (kept also).1) is),
+      )
+
+  -- a scalar
+  pub keeps_scalar : (token : Token) (held : Names A) → IsScalar token → Keeps held (token ∷ []) held
+  keeps_scalar token held is so =
+      let levels = all_names_after [] so in
+      kept_on so token held held refl (λ also. (scalar_names token is levels).0)
+      (subst (λ (names : Taken). HoldsNames names held) (sym (scalar_names token is levels).1))
+
+  -- a collection begins
+  pub keeps_opener : (kind : CollectionKind) (held later : Names A) → later.are_kept ≡ held.are_kept
+      → ((names : Taken) → HoldsNames names held → HoldsNames ([] ∷ names) later) → Keeps held (opener kind ∷ []) later
+  keeps_opener kind held later same enters so =
+      let levels = all_names_after [] so in
+      kept_on so (opener kind) held later same (λ also. (opener_names kind levels).0)
+      (λ holds. subst (λ (names : Taken). HoldsNames names later) (sym (opener_names kind levels).1) (enters levels holds))
+
+  -- or ends
+  pub keeps_closer : (kind : CollectionKind) (held later : Names A) → LeavesNames held later → Keeps held (closer kind ∷ []) later
+  keeps_closer kind held later leaves so =
+      let levels = all_names_after [] so in
+      kept_on so (closer kind) held later leaves.0 (λ also. (closer_names kind levels).0)
+      (λ holds. subst (λ (names : Taken). HoldsNames names later) (sym (closer_names kind levels).1) (leaves.1 levels holds))
+
+  -- where a name is next, there is an object that has it
+  some_level : (kinds outer : List CollectionKind) (kind : CollectionKind) (held : Names A) (levels : Taken) → kinds ≡ outer ++ kind ∷ []
+      → length held.sets.items ≡ length kinds → HaveNames held.sets.items levels → levels ≡ inner_names levels ∷ outer_names levels
+  some_level kinds outer kind held [] is many have =
+      let never : ⊥ = omega (arith, many, ap length have, ap length is, length-append outer (kind ∷ [])) in absurd never
+  some_level kinds outer kind held (names ∷ levels) is many have = refl
+
+  module _ (kinds outer : List CollectionKind) (kind : CollectionKind) (is : kinds ≡ outer ++ kind ∷ []) (unique : Bool) (name : List ℕ)
+      (held later : Names A) (fits : FitsNames unique kinds held) (same : later.are_kept ≡ held.are_kept) (new : Bool)
+      (adds : (names : List (List ℕ)) → (levels : Taken) → HoldsNames (names ∷ levels) held → Adds names levels name new later) where
+    there : (so : List Token) → Kept so held → held.are_kept ≡ true
+        → all_names_after [] so ≡ inner_names (all_names_after [] so) ∷ outer_names (all_names_after [] so)
+    there so kept also = some_level kinds outer kind held (all_names_after [] so) is (fits.1 also) (kept also).1
+
+    added : (so : List Token) → Kept so held → held.are_kept ≡ true
+        → Adds (inner_names (all_names_after [] so)) (outer_names (all_names_after [] so)) name new later
+    added so kept also =
+        adds (inner_names (all_names_after [] so)) (outer_names (all_names_after [] so))
+        (λ again. subst (HaveNames held.sets.items) (there so kept also) (kept again).1)
+
+    -- a name that is new
+    pub keeps_name : new ≡ true → Keeps held (Token.key name ∷ []) later
+    keeps_name fresh so kept wanted =
+        let also = sym same ∙ wanted in
+        let all = added so kept also in (
+          once_both [] so (Token.key name ∷ []) (kept also).0 (all.1 fresh wanted, tt),
+          subst (HaveNames later.sets.items) (sym (names_after_both [] so (Token.key name ∷ []))) (all.0 wanted),
+        )
+
+    -- a name that isn't
+    pub name_again : new ≡ false → (so : List Token) → Kept so held
+        → (unique ≡ true) × NamesOnce [] so × (IsNew (inner_names (all_names_after [] so)) name → ⊥)
+    name_again old so kept = elim (cases_Bool held.are_kept) [
+      | inl also ↦ (sym fits.0 ∙ also, (kept also).0, ((added so kept also).2 old).1)
+      | inr not_kept ↦ absurd (never_kept not_kept)
+    ] where
+      never_kept : held.are_kept ≡ false → ⊥
+      never_kept none =
+          let told = (adds [] [] (λ wanted. absurd (both_ways held.are_kept none wanted))).2 old in
+          both_ways held.are_kept none (sym same ∙ told.0)
+
+  -- some tokens, and then others
+  pub keeps_then : (held between later : Names A) (one other : List Token) → Keeps held one between → Keeps between other later
+      → Keeps held (one ++ other) later
+  keeps_then held between later one other first second so kept =
+      subst (λ (all : List Token). Kept all later) (append_assoc so one other) (second (so ++ one) (first so kept))
+
+  pub names_once : (unique : Bool) (kinds : List CollectionKind) (held : Names A) (so : List Token) → FitsNames unique kinds held → Kept so held
+      → unique ≡ true → NamesOnce [] so
+  names_once unique kinds held so fits kept is = (kept (fits.0 ∙ is)).0
+
+  -- where the walk stands
+  pub record NamesSoFar (start ahead : List Token) (held : Names A) : Type 0 where
+    pub taken : List Token
+    pub parts : taken ++ ahead ≡ start
+    pub kept : Kept taken held
+
+  pub names_begin : (start : List Token) (held : Names A) → HoldsNames [] held → NamesSoFar start start held
+  names_begin start held holds = record { taken = []; parts = refl; kept = λ is. (tt, holds is) }
+
+  pub names_on : (start ahead after : List Token) (held later : Names A) → NamesSoFar start ahead held → KeepsTo held ahead after later
+      → NamesSoFar start after later
+  names_on start ahead after held later so_far keeps =
+      record {
+        taken = so_far.taken ++ keeps.taken;
+        parts = append_assoc so_far.taken keeps.taken after ∙ ap (λ (all : List Token). so_far.taken ++ all) (sym keeps.parts) ∙ so_far.parts;
+        kept = keeps.keeps so_far.taken so_far.kept;
+      }
+
+  pub names_done : (unique : Bool) (kinds : List CollectionKind) (start ahead : List Token) (held : Names A) → NamesSoFar start ahead held
+      → FitsNames unique kinds held → HasUniqueNames unique start ahead
+  names_done unique kinds start ahead held so_far fits is =
+      (so_far.taken, so_far.parts, names_once unique kinds held so_far.taken fits so_far.kept is)

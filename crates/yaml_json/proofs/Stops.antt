@@ -1,0 +1,80 @@
+-- The stops of the walk, turn by turn.
+use Rattle.std.proofs.Common.{◌≡◌, ℕ, sym, ap, ◌∙◌, subst, append_assoc}
+use Rattle.std.specs.Prelude.{Bool, true, false, List, [], ◌∷◌, ◌++◌}
+use Rattle.json.specs.Token.{Token}
+use Rattle.yaml_writer.specs.declared.kinds.CollectionKind.{CollectionKind}
+use Rattle.yaml_writer.specs.declared.kinds.CollectionKind.TheVariants.{Mapping, Sequence}
+use Rattle.yaml_json.specs.Walk.{FitsNames, Kept, Refuses, RefusesFirst, RefusesToken, WhyStopped}
+use Rattle.yaml_json.specs.declared.values.Spot.{Spot}
+use Rattle.yaml_json.specs.declared.values.Stop.{Stop}
+use Rattle.yaml_json.specs.declared.values.Stop.TheVariants as stops
+use Rattle.yaml_json.specs.HeldNames.{Adds, HoldsNames}
+use Rattle.yaml_json.specs.declared.names.Names.{Names}
+use Rattle.yaml_json.proofs.KeepingNames.{keeps_name, name_again, names_once}
+use Rattle.yaml_json.proofs.Refusing.{IsNoKey, first_refused, key_refused, name_refused, no_member_left}
+use Rattle.yaml_json.proofs.Walking.{awaiting_item, awaiting_named, awaiting_no_item}
+
+-- ---- the first token of a value
+
+pub first_none : (depth : ℕ) (levels : List CollectionKind) (ahead : List Token) (spot : Spot) → ahead ≡ []
+    → RefusesFirst depth levels ahead (stops.NotJson spot)
+first_none depth levels ahead spot none = subst (λ (all : List Token). RefusesFirst depth levels all (stops.NotJson spot)) (sym none) tt
+
+pub first_stopped : (depth : ℕ) (levels : List CollectionKind) (ahead : List Token) (token : Token) (after : List Token) → ahead ≡ token ∷ after
+    → (stop : Stop) → RefusesToken depth levels token stop → RefusesFirst depth levels ahead stop
+first_stopped depth levels ahead token after first stop refuses = subst (λ (all : List Token). RefusesFirst depth levels all stop) (sym first) refuses
+
+module _ {A : Type 0} (depth : ℕ) (unique : Bool) (levels outer : List CollectionKind) (held : Names A) (fits : FitsNames unique levels held)
+    (ahead : List Token) where
+  abbrev Stopped : List Token → Stop → Type 0
+  Stopped all stop = WhyStopped depth unique all stop
+
+  -- ---- within an array
+
+  module _ (is : levels ≡ outer ++ Sequence ∷ []) where
+    pub item_none : (spot : Spot) → ahead ≡ [] → Refuses depth unique levels held ahead (stops.NotJson spot)
+    item_none spot none so stands kept =
+        subst (λ (all : List Token). Stopped (so ++ all) (stops.NotJson spot)) (sym none)
+        (first_refused depth unique so levels [] (stops.NotJson spot) (awaiting_no_item depth so levels outer is stands)
+        (names_once unique levels held so fits kept) tt)
+
+    pub item_stopped : (token : Token) (after : List Token) → ahead ≡ token ∷ after → (token ≡ Token.end_array → ⊥) → (stop : Stop)
+        → RefusesToken depth levels token stop → Refuses depth unique levels held ahead stop
+    item_stopped token after first isn't stop refuses so stands kept =
+        subst (λ (all : List Token). Stopped (so ++ all) stop) (sym first)
+        (first_refused depth unique so levels (token ∷ after) stop (awaiting_item depth so levels outer token after is stands isn't)
+        (names_once unique levels held so fits kept) refuses)
+
+  -- ---- within an object
+
+  module _ (is : levels ≡ outer ++ Mapping ∷ []) where
+    pub member_none : (spot : Spot) → ahead ≡ [] → Refuses depth unique levels held ahead (stops.NotJson spot)
+    member_none spot none so stands kept =
+        subst (λ (all : List Token). Stopped (so ++ all) (stops.NotJson spot)) (sym none)
+        (no_member_left depth unique so levels outer is stands (names_once unique levels held so fits kept))
+
+    pub member_stopped : (spot : Spot) (token : Token) (after : List Token) → ahead ≡ token ∷ after → IsNoKey token
+        → Refuses depth unique levels held ahead (stops.NotJson spot)
+    member_stopped spot token after first isn't so stands kept =
+        subst (λ (all : List Token). Stopped (so ++ all) (stops.NotJson spot)) (sym first)
+        (key_refused depth unique so levels outer is stands (names_once unique levels held so fits kept) token after isn't)
+
+    module _ (name : List ℕ) (inner : List Token) (first : ahead ≡ Token.key name ∷ inner) (later : Names A)
+        (same : later.are_kept ≡ held.are_kept) (new : Bool)
+        (adds : (names : List (List ℕ)) → (more : List (List (List ℕ))) → HoldsNames (names ∷ more) held → Adds names more name new later) where
+      -- the name comes again
+      pub again_stopped : (offset : ℕ) → new ≡ false → Refuses depth unique levels held ahead (stops.NameAgain offset)
+      again_stopped offset old so stands kept =
+          let found = name_again levels outer Mapping is unique name held later fits same new adds old so kept in
+          subst (λ (all : List Token). Stopped (so ++ all) (stops.NameAgain offset)) (sym first)
+          (name_refused depth unique so levels outer name inner is stands found.0 found.1 found.2)
+
+      -- or what follows it is refused
+      pub named_stopped : new ≡ true → (stop : Stop) → RefusesFirst depth levels inner stop → Refuses depth unique levels held ahead stop
+      named_stopped fresh stop refuses so stands kept =
+          let once = λ (wanted : unique ≡ true). (keeps_name levels outer Mapping is unique name held later fits same new adds fresh so kept
+          (same ∙ fits.0 ∙ wanted)).0 in
+          subst (λ (all : List Token). Stopped all stop)
+          (append_assoc so (Token.key name ∷ []) inner ∙ ap (λ (all : List Token). so ++ all) (sym first))
+          (first_refused depth unique (so ++ Token.key name ∷ []) levels inner stop (awaiting_named depth so levels outer name is stands inner)
+          once refuses)

@@ -1,0 +1,388 @@
+-- What the writer was given while the tokens of a value are walked over.
+use Rattle.std.proofs.Common.{◌≡◌, ℕ, ◌-◌, ◌<◌, refl, sym, ap, ◌∙◌, subst, append_assoc, append-nil, arith, inl, inr}
+use Rattle.std.proofs.lemmas.List.{append_cancel_right}
+use Rattle.std.proofs.Math.Seq.{take-append_seam}
+use Rattle.std.specs.Prelude.{◌⊎◌, Bool, Option, None, Some, Result, Err, List, [], ◌∷◌, ◌++◌, length, take}
+use Rattle.json.specs.Token.{Token}
+use Rattle.json.specs.Json.{Json, value, skip_value}
+use Rattle.json.specs.Tree.{json_tokens}
+use Rattle.json.proofs.Grammar.{left_some}
+use Rattle.yaml_base.specs.Event.{Event}
+use Rattle.yaml_base.specs.declared.errors.yaml_error_t.{yaml_error_t}
+use Rattle.yaml_base.specs.declared.errors.yaml_error_t.TheVariants.{Memory}
+use Rattle.yaml_emitter.specs.State.{State}
+use Rattle.yaml_writer.specs.Writing.{AddsAll, EndsInnermost, StandsTaken, WriterState, end_event}
+use Rattle.yaml_writer.specs.declared.kinds.CollectionKind.{CollectionKind}
+use Rattle.yaml_writer.specs.declared.kinds.CollectionKind.TheVariants.{Mapping, Sequence}
+use Rattle.yaml_json.specs.Begins.{BeginsValue}
+use Rattle.yaml_json.specs.Failing.{FailedAt, FailedInValue, FailedWith}
+use Rattle.yaml_json.specs.JsonEvents.{json_events}
+use Rattle.yaml_json.specs.TokenEvents.{token_events, tokens_events}
+use Rattle.yaml_json.specs.Walk.{Began, BeganFirst, BeginFailed, Begins, FailsGiving, FirstFailed, Gives, IsScalar, SoFar, StepFailed, Stands, Stepped, Stood}
+use Rattle.yaml_json.specs.Walk.{Kept, Refuses, WhyStopped, closer, opener}
+use Rattle.yaml_json.specs.declared.names.Names.{Names}
+use Rattle.yaml_json.specs.declared.values.Stop.{Stop}
+use Rattle.yaml_json.proofs.KeepingNames.{NamesSoFar}
+use Rattle.yaml_json.specs.Wrote.{Ends, IsBare, Starts, Wrote, WroteEvent, WroteValue, start_event}
+use Rattle.yaml_json.proofs.Stopping.{end_failed, failed_same, failed_then}
+use Rattle.yaml_json.proofs.TokenLemmas.{some_then, value_given, value_spelled}
+use Rattle.yaml_json.proofs.Walking.{Awaiting, awaiting_item, awaiting_named, awaiting_whole, closed_stands, closes_value, longer, next_stands, value_begins}
+use Rattle.yaml_json.proofs.WroteLemmas.{adds_then, ended}
+
+-- ---- the writer
+
+pub stood_nothing : (in_flow : Bool) (was : WriterState) → IsBare was → Stood in_flow was [] [] was
+stood_nothing in_flow was bare =
+    record {
+      adds = λ given all sent stands. subst (λ (events : List Event). StandsTaken given events sent was.emitter) (sym (append-nil all)) stands;
+      canonical = refl;
+      levels_are = sym (append-nil was.levels);
+      bare = bare;
+    }
+
+-- the events of one token more
+given_on : (in_flow : Bool) (was now later : WriterState) (so : List Token) (token : Token) (event : Event)
+    → AddsAll was.emitter (tokens_events was.canonical in_flow so) now.emitter → token_events was.canonical in_flow token ≡ event ∷ []
+    → AddsAll now.emitter (event ∷ []) later.emitter → AddsAll was.emitter (tokens_events was.canonical in_flow (so ++ token ∷ [])) later.emitter
+given_on in_flow was now later so token event one is other =
+    subst (λ (events : List Event). AddsAll was.emitter events later.emitter)
+    (ap (λ (events : List Event). tokens_events was.canonical in_flow so ++ events)
+    (sym (append-nil (event ∷ [])) ∙ ap (λ (events : List Event). events ++ []) (sym is))
+    ∙ sym (some_then was.canonical in_flow so (token ∷ [])))
+    (adds_then was.emitter now.emitter later.emitter (tokens_events was.canonical in_flow so) (event ∷ []) one other)
+
+-- a scalar, or a key: its event depends on the writer by its form alone
+pub gives_scalar : (in_flow : Bool) (levels : List CollectionKind) (before after : WriterState) (token : Token) (event : Bool → Event)
+    → ((canonical : Bool) → token_events canonical in_flow token ≡ event canonical ∷ []) → WroteEvent before (event before.canonical) after
+    → Gives in_flow levels before (token ∷ []) levels after
+gives_scalar in_flow levels before after token event is wrote was so stood =
+    record {
+      adds = given_on in_flow was before after so token (event before.canonical) stood.adds
+          (is was.canonical ∙ ap (λ c. event c ∷ []) (sym stood.canonical)) wrote.adds;
+      canonical = wrote.canonical ∙ stood.canonical;
+      levels_are = wrote.levels ∙ stood.levels_are;
+      bare = wrote.bare;
+    }
+
+-- a collection begins
+opener_events : (kind : CollectionKind) (canonical in_flow : Bool) → token_events canonical in_flow (opener kind) ≡ start_event in_flow kind ∷ []
+opener_events Sequence canonical in_flow = refl
+opener_events Mapping canonical in_flow = refl
+
+pub gives_start : (in_flow : Bool) (levels : List CollectionKind) (before after : WriterState) (kind : CollectionKind)
+    → Starts in_flow kind before after → Gives in_flow levels before (opener kind ∷ []) (levels ++ kind ∷ []) after
+gives_start in_flow levels before after kind gave was so stood =
+    record {
+      adds = given_on in_flow was before after so (opener kind) (start_event in_flow kind) stood.adds (opener_events kind was.canonical in_flow)
+          gave.adds;
+      canonical = gave.canonical ∙ stood.canonical;
+      levels_are = gave.levels ∙ ap (λ (all : List CollectionKind). all ++ kind ∷ []) stood.levels_are ∙ append_assoc was.levels levels (kind ∷ []);
+      bare = (gave.no_anchor, gave.no_tag);
+    }
+
+-- the innermost ends
+closer_events : (kind : CollectionKind) (canonical in_flow : Bool) → token_events canonical in_flow (closer kind) ≡ end_event kind ∷ []
+closer_events Sequence canonical in_flow = refl
+closer_events Mapping canonical in_flow = refl
+
+pub gives_end : (in_flow : Bool) (outer : List CollectionKind) (before after : WriterState) (kind : CollectionKind)
+    → Ends before after → Gives in_flow (outer ++ kind ∷ []) before (closer kind ∷ []) outer after
+gives_end in_flow outer before after kind ends was so stood =
+    let end = ended (was.levels ++ outer) kind before after (stood.levels_are ∙ sym (append_assoc was.levels outer (kind ∷ []))) stood.bare ends in
+    record {
+      adds = given_on in_flow was before after so (closer kind) (end_event kind) stood.adds (closer_events kind was.canonical in_flow) end.0;
+      canonical = end.1 ∙ stood.canonical;
+      levels_are = end.2;
+      bare = end.3;
+    }
+
+-- ---- the writer fails
+
+failed_on : (in_flow : Bool) (was now later : WriterState) (so : List Token) (token : Token) (event : Event) (error : yaml_error_t)
+    → AddsAll was.emitter (tokens_events was.canonical in_flow so) now.emitter → token_events was.canonical in_flow token ≡ event ∷ []
+    → FailedWith now (event ∷ []) error later → FailedWith was (tokens_events was.canonical in_flow (so ++ token ∷ [])) error later
+failed_on in_flow was now later so token event error one is gave =
+    record { adds = given_on in_flow was now later so token event one is gave.adds; is_error = gave.is_error }
+
+pub fails_scalar : (in_flow : Bool) (levels : List CollectionKind) (before after : WriterState) (token : Token) (event : Bool → Event)
+    (error : yaml_error_t) → ((canonical : Bool) → token_events canonical in_flow token ≡ event canonical ∷ [])
+    → FailedAt before (event before.canonical) error after → FailsGiving in_flow levels before (token ∷ []) error after
+fails_scalar in_flow levels before after token event error is (inl memory) = inl memory
+fails_scalar in_flow levels before after token event error is (inr gave) =
+    inr
+    (λ was so stood. failed_on in_flow was before after so token (event before.canonical) error stood.adds
+    (is was.canonical ∙ ap (λ c. event c ∷ []) (sym stood.canonical)) gave)
+
+pub fails_start : (in_flow : Bool) (levels : List CollectionKind) (before after : WriterState) (kind : CollectionKind) (error : yaml_error_t)
+    → FailedAt before (start_event in_flow kind) error after → FailsGiving in_flow levels before (opener kind ∷ []) error after
+fails_start in_flow levels before after kind error (inl memory) = inl memory
+fails_start in_flow levels before after kind error (inr gave) =
+    inr
+    (λ was so stood. failed_on in_flow was before after so (opener kind) (start_event in_flow kind) error stood.adds
+    (opener_events kind was.canonical in_flow) gave)
+
+pub fails_end : (in_flow : Bool) (outer : List CollectionKind) (before after : WriterState) (kind : CollectionKind) (error : yaml_error_t)
+    → EndsInnermost before (Err error) after → FailsGiving in_flow (outer ++ kind ∷ []) before (closer kind ∷ []) error after
+fails_end in_flow outer before after kind error ends =
+    inr
+    (λ was so stood. failed_on in_flow was before after so (closer kind) (end_event kind) error stood.adds (closer_events kind was.canonical in_flow)
+    (end_failed (was.levels ++ outer) kind before after error (stood.levels_are ∙ sym (append_assoc was.levels outer (kind ∷ []))) ends))
+
+-- ---- one token
+
+module _ (depth : ℕ) (in_flow : Bool) (levels : List CollectionKind) (before after : WriterState) where
+  -- a scalar
+  module _ (token : Token) (event : Bool → Event) (is : IsScalar token)
+      (events : (canonical : Bool) → token_events canonical in_flow token ≡ event canonical ∷ []) where
+    pub scalar_began : WroteEvent before (event before.canonical) after → Began depth in_flow token levels before levels after
+    scalar_began wrote = record { begins = inl (is, refl); gives = gives_scalar in_flow levels before after token event events wrote }
+
+    pub scalar_failed : (error : yaml_error_t) → FailedAt before (event before.canonical) error after
+        → BeginFailed depth in_flow token levels before error after
+    scalar_failed error failed =
+        record {
+          opened = levels;
+          begins = inl (is, refl);
+          fails = fails_scalar in_flow levels before after token event error events failed;
+        }
+
+  -- a collection begins
+  pub opener_began : (opened : List CollectionKind) (kind : CollectionKind) → length levels < depth → opened ≡ levels ++ kind ∷ []
+      → Starts in_flow kind before after → Began depth in_flow (opener kind) levels before opened after
+  opener_began opened kind fits is starts =
+      record {
+        begins = inr (kind, refl, fits, is);
+        gives = subst (λ (all : List CollectionKind). Gives in_flow levels before (opener kind ∷ []) all after) (sym is)
+            (gives_start in_flow levels before after kind starts);
+      }
+
+  pub opener_failed : (kind : CollectionKind) → length levels < depth → (error : yaml_error_t) → FailedAt before (start_event in_flow kind) error after
+      → BeginFailed depth in_flow (opener kind) levels before error after
+  opener_failed kind fits error failed =
+      record {
+        opened = levels ++ kind ∷ [];
+        begins = inr (kind, refl, fits, refl);
+        fails = fails_start in_flow levels before after kind error failed;
+      }
+
+  pub opener_without_memory : (kind : CollectionKind) → length levels < depth → BeginFailed depth in_flow (opener kind) levels before Memory after
+  opener_without_memory kind fits =
+      record { opened = levels ++ kind ∷ []; begins = inr (kind, refl, fits, refl); fails = inl refl }
+
+-- ---- one turn
+
+pub innermost_gone : (levels outer new : List CollectionKind) (kind : CollectionKind) → levels ≡ outer ++ kind ∷ []
+    → new ≡ take (length levels - 1) levels → new ≡ outer
+innermost_gone levels outer new kind is rest =
+    let e : length (outer ++ kind ∷ []) - 1 ≡ length outer = omega (arith, longer outer kind) in
+    rest ∙ ap (λ (all : List CollectionKind). take (length all - 1) all) is ∙ ap (λ n. take n (outer ++ kind ∷ [])) e
+    ∙ take-append_seam outer (kind ∷ [])
+
+module _ (depth : ℕ) (in_flow : Bool) (ahead : List Token) (levels outer : List CollectionKind) (kind : CollectionKind)
+    (is : levels ≡ outer ++ kind ∷ []) (before : WriterState) where
+  -- a collection is closed
+  pub step_closes : (after : List Token) (opened : List CollectionKind) (now : WriterState) → ahead ≡ closer kind ∷ after
+      → opened ≡ take (length levels - 1) levels → Ends before now → Stepped depth in_flow ahead levels before after opened now
+  step_closes after opened now first rest ends =
+      let same = innermost_gone levels outer opened kind is rest in
+      record {
+        taken = closer kind ∷ [];
+        parts = first;
+        shorter = omega (arith, ap length first);
+        gives = subst (λ (all : List CollectionKind). Gives in_flow all before (closer kind ∷ []) opened now) (sym is)
+            (subst (λ (all : List CollectionKind). Gives in_flow (outer ++ kind ∷ []) before (closer kind ∷ []) all now) (sym same)
+            (gives_end in_flow outer before now kind ends));
+        moves = λ so stands. subst (Stands depth (so ++ closer kind ∷ [])) (sym same)
+            (closed_stands depth so outer kind (subst (Stands depth so) is stands));
+      }
+
+  pub step_unclosed : (after : List Token) (error : yaml_error_t) (now : WriterState) → ahead ≡ closer kind ∷ after
+      → EndsInnermost before (Err error) now → StepFailed depth in_flow ahead levels before error now
+  step_unclosed after error now first ends =
+      record {
+        taken = closer kind ∷ [];
+        left = after;
+        parts = sym first;
+        fails = subst (λ (all : List CollectionKind). FailsGiving in_flow all before (closer kind ∷ []) error now) (sym is)
+            (fails_end in_flow outer before now kind error ends);
+        begins = λ so stands. value_begins depth (so ++ closer kind ∷ []) outer
+            (closed_stands depth so outer kind (subst (Stands depth so) is stands));
+      }
+
+-- an allocation failed before anything was given
+pub step_without_memory : (depth : ℕ) (in_flow : Bool) (ahead : List Token) (levels : List CollectionKind) (before now : WriterState)
+    → StepFailed depth in_flow ahead levels before Memory now
+step_without_memory depth in_flow ahead levels before now =
+    record {
+      taken = [];
+      left = ahead;
+      parts = refl;
+      fails = inl refl;
+      begins = λ so stands. subst (BeginsValue depth) (sym (append-nil so)) (value_begins depth so levels stands);
+    }
+
+-- an item begins
+module _ (depth : ℕ) (in_flow : Bool) (levels outer : List CollectionKind) (is : levels ≡ outer ++ Sequence ∷ []) (token : Token)
+    (isn't : token ≡ Token.end_array → ⊥) (before : WriterState) (ahead after : List Token) (first : ahead ≡ token ∷ after) where
+  pub step_item : (opened : List CollectionKind) (now : WriterState) → Began depth in_flow token levels before opened now
+      → Stepped depth in_flow ahead levels before after opened now
+  step_item opened now began =
+      record {
+        taken = token ∷ [];
+        parts = first;
+        shorter = omega (arith, ap length first);
+        gives = began.gives;
+        moves = λ so stands. next_stands depth so levels opened token after (awaiting_item depth so levels outer token after is stands isn't)
+            began.begins;
+      }
+
+  pub step_no_item : (error : yaml_error_t) (now : WriterState) → BeginFailed depth in_flow token levels before error now
+      → StepFailed depth in_flow ahead levels before error now
+  step_no_item error now failed =
+      record {
+        taken = token ∷ [];
+        left = after;
+        parts = sym first;
+        fails = failed.fails;
+        begins = λ so stands. value_begins depth (so ++ token ∷ []) failed.opened
+            (next_stands depth so levels failed.opened token after (awaiting_item depth so levels outer token after is stands isn't) failed.begins);
+      }
+
+-- two calls
+gives_both : (in_flow : Bool) (levels between opened : List CollectionKind) (before middle now : WriterState) (one other : List Token)
+    → Gives in_flow levels before one between middle → Gives in_flow between middle other opened now
+    → Gives in_flow levels before (one ++ other) opened now
+gives_both in_flow levels between opened before middle now one other first second was so stood =
+    subst (λ (all : List Token). Stood in_flow was all opened now) (append_assoc so one other) (second was (so ++ one) (first was so stood))
+
+fails_then : (in_flow : Bool) (levels between : List CollectionKind) (before middle now : WriterState) (one other : List Token)
+    (error : yaml_error_t) → Gives in_flow levels before one between middle → FailsGiving in_flow between middle other error now
+    → FailsGiving in_flow levels before (one ++ other) error now
+fails_then in_flow levels between before middle now one other error first (inl memory) = inl memory
+fails_then in_flow levels between before middle now one other error first (inr second) =
+    inr
+    (λ was so stood. subst (λ (all : List Token). FailedWith was (tokens_events was.canonical in_flow all) error now) (append_assoc so one other)
+    (second was (so ++ one) (first was so stood)))
+
+-- a key, and the value after it begins
+module _ (depth : ℕ) (in_flow : Bool) (levels outer : List CollectionKind) (is : levels ≡ outer ++ Mapping ∷ []) (key : List ℕ)
+    (before : WriterState) (ahead inner : List Token) (first : ahead ≡ Token.key key ∷ inner) where
+  pub step_unnamed : (error : yaml_error_t) (now : WriterState) → FailsGiving in_flow levels before (Token.key key ∷ []) error now
+      → StepFailed depth in_flow ahead levels before error now
+  step_unnamed error now fails =
+      record {
+        taken = Token.key key ∷ [];
+        left = inner;
+        parts = sym first;
+        fails = fails;
+        begins = λ so stands. closes_value depth (so ++ Token.key key ∷ []) (awaiting_named depth so levels outer key is stands inner).begins;
+      }
+
+  module _ (named : WriterState) (gave : Gives in_flow levels before (Token.key key ∷ []) levels named) where
+    pub step_member : (after : List Token) (opened : List CollectionKind) (now : WriterState)
+        → BeganFirst depth in_flow inner levels named after opened now → Stepped depth in_flow ahead levels before after opened now
+    step_member after opened now began =
+        let whole : ahead ≡ Token.key key ∷ began.token ∷ after = first ∙ ap (λ (all : List Token). Token.key key ∷ all) began.first in
+        record {
+          taken = Token.key key ∷ began.token ∷ [];
+          parts = whole;
+          shorter = omega (arith, ap length whole);
+          gives = gives_both in_flow levels levels opened before named now (Token.key key ∷ []) (began.token ∷ []) gave began.began.gives;
+          moves = λ so stands. subst (λ (all : List Token). Stands depth all opened) (append_assoc so (Token.key key ∷ []) (began.token ∷ []))
+              (next_stands depth (so ++ Token.key key ∷ []) levels opened began.token after
+              (awaiting_named depth so levels outer key is stands (began.token ∷ after)) began.began.begins);
+        }
+
+    pub step_no_member : (error : yaml_error_t) (now : WriterState) → FirstFailed depth in_flow inner levels named error now
+        → StepFailed depth in_flow ahead levels before error now
+    step_no_member error now failed =
+        record {
+          taken = Token.key key ∷ failed.token ∷ [];
+          left = failed.after;
+          parts = sym (first ∙ ap (λ (all : List Token). Token.key key ∷ all) failed.first);
+          fails = fails_then in_flow levels levels before named now (Token.key key ∷ []) (failed.token ∷ []) error gave failed.failed.fails;
+          begins = λ so stands. subst (BeginsValue depth) (append_assoc so (Token.key key ∷ []) (failed.token ∷ []))
+              (value_begins depth ((so ++ Token.key key ∷ []) ++ failed.token ∷ []) failed.failed.opened
+              (next_stands depth (so ++ Token.key key ∷ []) levels failed.failed.opened failed.token failed.after
+              (awaiting_named depth so levels outer key is stands (failed.token ∷ failed.after)) failed.failed.begins));
+        }
+
+-- ---- the whole walk
+
+module _ (depth : ℕ) (in_flow : Bool) (start : List Token) (was : WriterState) where
+  -- the first token of the value was given
+  pub first_so_far : (after : List Token) (opened : List CollectionKind) (now : WriterState) → IsBare was
+      → BeganFirst depth in_flow start [] was after opened now → SoFar depth in_flow start was after opened now
+  first_so_far after opened now bare began =
+      record {
+        taken = began.token ∷ [];
+        parts = sym began.first;
+        stood = began.began.gives was [] (stood_nothing in_flow was bare);
+        stands = next_stands depth [] [] opened began.token after (awaiting_whole depth (began.token ∷ after)) began.began.begins;
+      }
+
+  -- or the writer failed
+  failed_so : (taken left : List Token) (error : yaml_error_t) (now : WriterState) → taken ++ left ≡ start → BeginsValue depth taken
+      → (error ≡ Memory) ⊎ FailedWith was (tokens_events was.canonical in_flow taken) error now → FailedInValue depth in_flow start was error now
+  failed_so taken left error now parts begins (inl memory) = inl memory
+  failed_so taken left error now parts begins (inr gave) = inr (taken, (record { left = left; parts = parts; gave = gave }, begins))
+
+  given_at : (so taken : List Token) (levels : List CollectionKind) (error : yaml_error_t) (before now : WriterState)
+      → Stood in_flow was so levels before → FailsGiving in_flow levels before taken error now
+      → (error ≡ Memory) ⊎ FailedWith was (tokens_events was.canonical in_flow (so ++ taken)) error now
+  given_at so taken levels error before now stood (inl memory) = inl memory
+  given_at so taken levels error before now stood (inr fails) = inr (fails was so stood)
+
+  pub first_failed : (error : yaml_error_t) (now : WriterState) → IsBare was → FirstFailed depth in_flow start [] was error now
+      → FailedInValue depth in_flow start was error now
+  first_failed error now bare failed =
+      failed_so (failed.token ∷ []) failed.after error now (sym failed.first)
+      (value_begins depth (failed.token ∷ []) failed.failed.opened
+      (next_stands depth [] [] failed.failed.opened failed.token failed.after (awaiting_whole depth (failed.token ∷ failed.after)) failed.failed.begins))
+      (given_at [] (failed.token ∷ []) [] error was now (stood_nothing in_flow was bare) failed.failed.fails)
+
+  module _ (ahead : List Token) (levels : List CollectionKind) (now : WriterState) (so_far : SoFar depth in_flow start was ahead levels now) where
+    -- a step was made
+    pub steps_on : (after : List Token) (opened : List CollectionKind) (later : WriterState)
+        → Stepped depth in_flow ahead levels now after opened later → SoFar depth in_flow start was after opened later
+    steps_on after opened later step =
+        record {
+          taken = so_far.taken ++ step.taken;
+          parts = append_assoc so_far.taken step.taken after ∙ ap (λ (all : List Token). so_far.taken ++ all) (sym step.parts) ∙ so_far.parts;
+          stood = step.gives was so_far.taken so_far.stood;
+          stands = step.moves so_far.taken so_far.stands;
+        }
+
+    pub step_failed : (error : yaml_error_t) (later : WriterState) → StepFailed depth in_flow ahead levels now error later
+        → FailedInValue depth in_flow start was error later
+    step_failed error later failed =
+        failed_so (so_far.taken ++ failed.taken) failed.left error later
+        (append_assoc so_far.taken failed.taken failed.left ∙ ap (λ (all : List Token). so_far.taken ++ all) failed.parts ∙ so_far.parts)
+        (failed.begins so_far.taken so_far.stands) (given_at so_far.taken failed.taken levels error now later so_far.stood failed.fails)
+
+    -- or the text stops it
+    pub step_stopped : {A : Type 0} (unique : Bool) (held : Names A) → NamesSoFar start ahead held → (stop : Stop)
+        → Refuses depth unique levels held ahead stop → WhyStopped depth unique start stop
+    step_stopped unique held names stop refuses =
+        let same = append_cancel_right names.taken so_far.taken ahead (names.parts ∙ sym so_far.parts) in
+        subst (λ (all : List Token). WhyStopped depth unique all stop) so_far.parts
+        (refuses so_far.taken so_far.stands (subst (λ (all : List Token). Kept all held) same names.kept))
+
+    -- nothing is open: the value was given
+    pub all_written : levels ≡ [] → WroteValue depth in_flow start was ahead now
+    all_written none =
+        let stood = subst (λ (all : List CollectionKind). Stood in_flow was so_far.taken all now) none so_far.stood in
+        let stands = subst (Stands depth so_far.taken) none so_far.stands in
+        let found = left_some (value depth start) ahead (ap (skip_value depth) (sym so_far.parts) ∙ (stands depth (omega arith)).1 ahead) in
+        let same = append_cancel_right so_far.taken (json_tokens found.0) ahead (so_far.parts ∙ value_spelled depth start ahead found.0 found.1) in
+        record {
+          json = found.0;
+          read = found.1;
+          wrote = record {
+            adds = subst (λ (events : List Event). AddsAll was.emitter events now.emitter)
+                (ap (tokens_events was.canonical in_flow) same ∙ value_given found.0 was.canonical in_flow) stood.adds;
+            canonical = stood.canonical;
+            levels = stood.levels_are ∙ append-nil was.levels;
+            bare = stood.bare;
+          };
+        }

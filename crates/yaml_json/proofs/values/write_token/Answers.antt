@@ -1,0 +1,174 @@
+use Rattle.std.proofs.Common.{◌≡◌, [], ◌∷◌, Bor, List, ℕ, refl, sym, subst}
+use Rattle.std.specs.Prelude.{IfErr, IfSome, OnOk}
+use Rattle.std.specs.Str.{chars}
+use Rattle.json.specs.Print as json
+use Rattle.json.specs.Print.{IsPrintable}
+use Rattle.json.specs.Reads.{token_of}
+use Rattle.json.specs.Token as tokens
+use Rattle.json.specs.declared.token.Token.{Token}
+use Rattle.json.specs.declared.token.Token.TheVariants as variants
+use Rattle.yaml_base.specs.Event.{scalar}
+use Rattle.yaml_writer.specs.NumberParts.{number_in}
+use Rattle.yaml_json.proofs.KeepingNames.{keeps_scalar}
+use Rattle.yaml_json.proofs.NumberBridge.{number_is}
+use Rattle.yaml_json.proofs.Refusing.{unrefused}
+use Rattle.yaml_json.proofs.Stopping.{if_some}
+use Rattle.yaml_json.proofs.Taking.{scalar_began, scalar_failed}
+use Rattle.yaml_json.proofs.WroteLemmas.{always, on_ok}
+use Rattle.yaml_json.specs.Failing.{failure}
+use Rattle.yaml_json.specs.JsonEvents.{bool_content, null_content, number_content, text_content}
+use Rattle.yaml_json.specs.Refused.{RefusesText}
+use Rattle.yaml_json.specs.Walk.{BeginFailed, Began, Keeps, RefusesToken}
+use Rattle.yaml_json.proofs.values.write_token.Goals as goal
+
+number_apart : (text : Bor (List ℕ)) (token : Token) → token ≡ variants.Number text → token ≡ variants.Bad → ⊥
+number_apart text token is bad = cc
+
+-- Null
+
+pub returns-in-Null-clause-began : goal.returns-in-Null-clause-began
+returns-in-Null-clause-began g c =
+    let a = c.args in
+    subst (λ (t : Token). OnOk c.write_null.result
+    (Began a.settings.now.depth a.settings.now.flow (token_of t) a.nest.now.kinds.items a.writer.now a.nest.now.kinds.items c.write_null.new.writer))
+    (sym c.in-Null.is)
+    (on_ok c.write_null.result
+    (scalar_began a.settings.now.depth a.settings.now.flow a.nest.now.kinds.items a.writer.now c.write_null.new.writer tokens.null
+    (λ k. scalar (null_content k)) tt (λ k. refl))
+    c.write_null.ensures.written)
+
+pub returns-in-Null-clause-stopped : goal.returns-in-Null-clause-stopped
+returns-in-Null-clause-stopped g c =
+    let a = c.args in
+    subst (λ (t : Token). IfSome (failure c.write_null.result)
+    (λ error. BeginFailed a.settings.now.depth a.settings.now.flow (token_of t) a.nest.now.kinds.items a.writer.now error c.write_null.new.writer))
+    (sym c.in-Null.is)
+    (if_some (failure c.write_null.result)
+    (scalar_failed a.settings.now.depth a.settings.now.flow a.nest.now.kinds.items a.writer.now c.write_null.new.writer tokens.null
+    (λ k. scalar (null_content k)) tt (λ k. refl))
+    c.write_null.ensures.stopped)
+
+pub returns-in-Null-clause-refused : goal.returns-in-Null-clause-refused
+returns-in-Null-clause-refused g c =
+    unrefused c.write_null.result c.write_null.ensures.failed
+    (RefusesToken c.args.settings.now.depth c.args.nest.now.kinds.items (token_of c.args.token)) (λ error. tt)
+
+-- Booleans
+
+pub returns-in-Bool-clause-began : goal.returns-in-Bool-clause-began
+returns-in-Bool-clause-began g c =
+    let a = c.args in
+    subst (λ (t : Token). OnOk c.write_bool.result
+    (Began a.settings.now.depth a.settings.now.flow (token_of t) a.nest.now.kinds.items a.writer.now a.nest.now.kinds.items c.write_bool.new.writer))
+    (sym c.in-Bool.is)
+    (on_ok c.write_bool.result
+    (scalar_began a.settings.now.depth a.settings.now.flow a.nest.now.kinds.items a.writer.now c.write_bool.new.writer (tokens.boolean c.in-Bool.flag)
+    (λ k. scalar (bool_content k c.in-Bool.flag)) tt (λ k. refl))
+    c.write_bool.ensures.written)
+
+pub returns-in-Bool-clause-stopped : goal.returns-in-Bool-clause-stopped
+returns-in-Bool-clause-stopped g c =
+    let a = c.args in
+    subst (λ (t : Token). IfSome (failure c.write_bool.result)
+    (λ error. BeginFailed a.settings.now.depth a.settings.now.flow (token_of t) a.nest.now.kinds.items a.writer.now error c.write_bool.new.writer))
+    (sym c.in-Bool.is)
+    (if_some (failure c.write_bool.result)
+    (scalar_failed a.settings.now.depth a.settings.now.flow a.nest.now.kinds.items a.writer.now c.write_bool.new.writer (tokens.boolean c.in-Bool.flag)
+    (λ k. scalar (bool_content k c.in-Bool.flag)) tt (λ k. refl))
+    c.write_bool.ensures.stopped)
+
+pub returns-in-Bool-clause-refused : goal.returns-in-Bool-clause-refused
+returns-in-Bool-clause-refused g c =
+    unrefused c.write_bool.result c.write_bool.ensures.failed
+    (RefusesToken c.args.settings.now.depth c.args.nest.now.kinds.items (token_of c.args.token)) (λ error. tt)
+
+-- Numbers
+
+pub returns-in-Number-clause-began : goal.returns-in-Number-clause-began
+returns-in-Number-clause-began g c =
+    let a = c.args in
+    let text = c.in-Number.text.now in
+    subst (λ (t : Token). OnOk c.write_number.result
+    (Began a.settings.now.depth a.settings.now.flow (token_of t) a.nest.now.kinds.items a.writer.now a.nest.now.kinds.items c.write_number.new.writer))
+    (sym c.in-Number.is)
+    (on_ok c.write_number.result
+    (scalar_began a.settings.now.depth a.settings.now.flow a.nest.now.kinds.items a.writer.now c.write_number.new.writer (tokens.number text)
+    (λ k. scalar (number_content k (number_in text))) tt (λ k. refl))
+    c.write_number.ensures.written)
+
+pub returns-in-Number-clause-stopped : goal.returns-in-Number-clause-stopped
+returns-in-Number-clause-stopped g c =
+    let a = c.args in
+    let text = c.in-Number.text.now in
+    subst (λ (t : Token). IfSome (failure c.write_number.result)
+    (λ error. BeginFailed a.settings.now.depth a.settings.now.flow (token_of t) a.nest.now.kinds.items a.writer.now error c.write_number.new.writer))
+    (sym c.in-Number.is)
+    (if_some (failure c.write_number.result)
+    (scalar_failed a.settings.now.depth a.settings.now.flow a.nest.now.kinds.items a.writer.now c.write_number.new.writer (tokens.number text)
+    (λ k. scalar (number_content k (number_in text))) tt (λ k. refl))
+    c.write_number.ensures.stopped)
+
+pub returns-in-Number-clause-refused : goal.returns-in-Number-clause-refused
+returns-in-Number-clause-refused g c =
+    let text = c.in-Number.text in
+    let good : json.IsNumber text.now =
+    subst (λ (t : Token). IsPrintable (token_of t)) c.in-Number.is (c.requires.good (λ bad. number_apart text c.args.token c.in-Number.is bad)) in
+    let never : RefusesText c.write_number.result → ⊥ =
+    λ refused. c.write_number.ensures.refused refused (number_in text.now) (number_is text.now good) in
+    unrefused c.write_number.result never
+    (RefusesToken c.args.settings.now.depth c.args.nest.now.kinds.items (token_of c.args.token)) (λ error. tt)
+
+-- Strings
+
+pub returns-in-String-clause-began : goal.returns-in-String-clause-began
+returns-in-String-clause-began g c =
+    let a = c.args in
+    let text = c.in-String.text.now in
+    subst (λ (t : Token). OnOk c.write_text.result
+    (Began a.settings.now.depth a.settings.now.flow (token_of t) a.nest.now.kinds.items a.writer.now a.nest.now.kinds.items c.write_text.new.writer))
+    (sym c.in-String.is)
+    (on_ok c.write_text.result
+    (scalar_began a.settings.now.depth a.settings.now.flow a.nest.now.kinds.items a.writer.now c.write_text.new.writer (tokens.string text)
+    (λ k. scalar (text_content (chars text))) tt (λ k. refl))
+    c.write_text.ensures.written)
+
+pub returns-in-String-clause-stopped : goal.returns-in-String-clause-stopped
+returns-in-String-clause-stopped g c =
+    let a = c.args in
+    let text = c.in-String.text.now in
+    subst (λ (t : Token). IfSome (failure c.write_text.result)
+    (λ error. BeginFailed a.settings.now.depth a.settings.now.flow (token_of t) a.nest.now.kinds.items a.writer.now error c.write_text.new.writer))
+    (sym c.in-String.is)
+    (if_some (failure c.write_text.result)
+    (scalar_failed a.settings.now.depth a.settings.now.flow a.nest.now.kinds.items a.writer.now c.write_text.new.writer (tokens.string text)
+    (λ k. scalar (text_content (chars text))) tt (λ k. refl))
+    c.write_text.ensures.stopped)
+
+pub returns-in-String-clause-refused : goal.returns-in-String-clause-refused
+returns-in-String-clause-refused g c =
+    unrefused c.write_text.result c.write_text.ensures.failed
+    (RefusesToken c.args.settings.now.depth c.args.nest.now.kinds.items (token_of c.args.token)) (λ error. tt)
+
+pub returns-in-Null-clause-names : goal.returns-in-Null-clause-names
+returns-in-Null-clause-names g c =
+    let held = c.args.nest.now.names in
+    subst (λ (t : Token). OnOk c.write_null.result (Keeps held (token_of t ∷ []) held)) (sym c.in-Null.is)
+    (always c.write_null.result (keeps_scalar tokens.null held tt))
+
+pub returns-in-Bool-clause-names : goal.returns-in-Bool-clause-names
+returns-in-Bool-clause-names g c =
+    let held = c.args.nest.now.names in
+    subst (λ (t : Token). OnOk c.write_bool.result (Keeps held (token_of t ∷ []) held)) (sym c.in-Bool.is)
+    (always c.write_bool.result (keeps_scalar (tokens.boolean c.in-Bool.flag) held tt))
+
+pub returns-in-Number-clause-names : goal.returns-in-Number-clause-names
+returns-in-Number-clause-names g c =
+    let held = c.args.nest.now.names in
+    subst (λ (t : Token). OnOk c.write_number.result (Keeps held (token_of t ∷ []) held)) (sym c.in-Number.is)
+    (always c.write_number.result (keeps_scalar (tokens.number c.in-Number.text.now) held tt))
+
+pub returns-in-String-clause-names : goal.returns-in-String-clause-names
+returns-in-String-clause-names g c =
+    let held = c.args.nest.now.names in
+    subst (λ (t : Token). OnOk c.write_text.result (Keeps held (token_of t ∷ []) held)) (sym c.in-String.is)
+    (always c.write_text.result (keeps_scalar (tokens.string c.in-String.text.now) held tt))

@@ -1,0 +1,74 @@
+use Rattle.std.proofs.Common.{◌≡◌, List, [], subst, arith}
+use Rattle.std.specs.Prelude.{IfSome}
+use Rattle.yaml_writer.specs.declared.kinds.CollectionKind.{CollectionKind}
+use Rattle.yaml_json.specs.Failing.{failure_of}
+use Rattle.yaml_json.specs.Walk.{BeganFirst, FirstFailed, RefusesFirst}
+use Rattle.yaml_json.proofs.KeepingNames.{names_begin, names_on}
+use Rattle.yaml_json.proofs.Refusing.{first_refused}
+use Rattle.yaml_json.proofs.Stopping.{if_some}
+use Rattle.yaml_json.proofs.Taking.{all_written, first_failed, first_so_far, step_failed, step_stopped, steps_on}
+use Rattle.yaml_json.proofs.Walking.{awaiting_whole}
+use Rattle.yaml_json.proofs.values.write_value.Goals as goal
+
+pub returns-in-Err-clause-refused : goal.returns-in-Err-clause-refused
+returns-in-Err-clause-refused g c =
+    let a = c.args in
+    first_refused a.settings.now.depth a.settings.now.unique_names [] [] a.reader.now c.in-Err.stop (awaiting_whole a.settings.now.depth a.reader.now)
+    (λ wanted. tt)
+    (subst (λ (levels : List CollectionKind). RefusesFirst a.settings.now.depth levels a.reader.now c.in-Err.stop) c.new.ensures.items
+    c.in-Err.ensures.refused)
+
+pub returns-in-Err-clause-stopped : goal.returns-in-Err-clause-stopped
+returns-in-Err-clause-stopped g c =
+    let a = c.args in
+    if_some (failure_of c.in-Err.stop)
+    (λ error. first_failed a.settings.now.depth a.settings.now.flow a.reader.now a.writer.now error c.write_first.new.writer c.requires)
+    (subst (λ (levels : List CollectionKind). IfSome (failure_of c.in-Err.stop)
+    (λ error. FirstFailed a.settings.now.depth a.settings.now.flow a.reader.now levels a.writer.now error c.write_first.new.writer))
+    c.new.ensures.items c.in-Err.ensures.stopped)
+
+pub each_token-init : goal.each_token-init
+each_token-init g c =
+    let a = c.args in (
+      first_so_far a.settings.now.depth a.settings.now.flow a.reader.now a.writer.now c.write_first.new.reader c.write_first.new.nest.kinds.items
+          c.write_first.new.writer c.requires
+          (subst (λ (levels : List CollectionKind). BeganFirst a.settings.now.depth a.settings.now.flow a.reader.now levels a.writer.now
+          c.write_first.new.reader c.write_first.new.nest.kinds.items c.write_first.new.writer) c.new.ensures.items c.in_default.ensures.began),
+      c.in_default.ensures.fits,
+      names_on a.reader.now a.reader.now c.write_first.new.reader c.new-2.result c.write_first.new.nest.names
+          (names_begin a.reader.now c.new-2.result c.new-2.ensures.holds) c.in_default.ensures.names,
+    )
+
+pub each_token-preserved : goal.each_token-preserved
+each_token-preserved g c =
+    let a = c.args in
+    let l = c.each_token in (
+      steps_on a.settings.now.depth a.settings.now.flow a.reader.now a.writer.now l.reader l.nest.kinds.items l.writer l.invariant.0
+          c.write_next.new.reader c.write_next.new.nest.kinds.items c.write_next.new.writer c.in_default-write_next.ensures.stepped,
+      c.in_default-write_next.ensures.fits,
+      names_on a.reader.now l.reader c.write_next.new.reader l.nest.names c.write_next.new.nest.names l.invariant.2
+          c.in_default-write_next.ensures.names,
+    )
+
+pub returns-in-Err-write_next-clause-refused : goal.returns-in-Err-write_next-clause-refused
+returns-in-Err-write_next-clause-refused g c =
+    let a = c.args in
+    let l = c.each_token in
+    step_stopped a.settings.now.depth a.settings.now.flow a.reader.now a.writer.now l.reader l.nest.kinds.items l.writer l.invariant.0
+    a.settings.now.unique_names l.nest.names l.invariant.2 c.in-Err-write_next.stop c.in-Err-write_next.ensures.refused
+
+pub returns-in-Err-write_next-clause-stopped : goal.returns-in-Err-write_next-clause-stopped
+returns-in-Err-write_next-clause-stopped g c =
+    let a = c.args in
+    let l = c.each_token in
+    if_some (failure_of c.in-Err-write_next.stop)
+    (λ error. step_failed a.settings.now.depth a.settings.now.flow a.reader.now a.writer.now l.reader l.nest.kinds.items l.writer l.invariant.0 error
+    c.write_next.new.writer)
+    c.in-Err-write_next.ensures.stopped
+
+pub returns-clause-written : goal.returns-clause-written
+returns-clause-written g c =
+    let a = c.args in
+    let l = c.each_token in
+    let none : l.nest.kinds.items ≡ [] = grind arith in
+    all_written a.settings.now.depth a.settings.now.flow a.reader.now a.writer.now l.reader l.nest.kinds.items l.writer l.invariant.0 none

@@ -1,0 +1,237 @@
+-- The walk over the tokens of a value: which arrays and objects are open after some of them, and what was given until there.
+use Rattle.std.specs.Prelude.{◌≡◌, ◌⊎◌, ℕ, ◌-◌, ◌<◌, ◌≤◌, Bool, true, Option, None, Some, option_and_then, List, [], ◌∷◌, ◌++◌, length}
+use Rattle.json.specs.Token.{Token}
+use Rattle.json.specs.Json.{skip_value}
+use Rattle.json.specs.Reads.{skip_items, skip_members}
+use Rattle.yaml_base.specs.declared.errors.yaml_error_t.{yaml_error_t}
+use Rattle.yaml_base.specs.declared.errors.yaml_error_t.TheVariants.{Memory}
+use Rattle.yaml_writer.specs.Writing.{AddsAll, WriterState}
+use Rattle.yaml_writer.specs.declared.kinds.CollectionKind.{CollectionKind}
+use Rattle.yaml_writer.specs.declared.kinds.CollectionKind.TheVariants.{Mapping, Sequence}
+use Rattle.yaml_json.specs.Begins.{BeginsValue}
+use Rattle.yaml_json.specs.Failing.{FailedWith}
+use Rattle.yaml_json.specs.Refused.{BreaksOff, NamesTwice, OpensTooDeep}
+use Rattle.yaml_json.specs.HeldNames.{HaveNames, HoldsNames}
+use Rattle.yaml_json.specs.Names.{NamesOnce, all_names_after, outer_names}
+use Rattle.yaml_json.specs.declared.names.Names.{Names}
+use Rattle.yaml_json.specs.TokenEvents.{tokens_events}
+use Rattle.yaml_json.specs.Wrote.{IsBare}
+use Rattle.yaml_json.specs.declared.error.JsonError.{JsonError}
+use Rattle.yaml_json.specs.declared.error.JsonError.TheVariants as errors
+use Rattle.yaml_json.specs.declared.values.Stop.{Stop}
+use Rattle.yaml_json.specs.declared.values.Stop.TheVariants as stops
+
+-- ---- the grammar
+
+-- what is left once a collection is closed, of the tokens after some of its items or members; the values in it nest so deep
+abbrev pub skip_rest : CollectionKind → ℕ → List Token → Option (List Token)
+skip_rest Sequence depth ahead = skip_items depth ahead
+skip_rest Mapping depth ahead = skip_members depth ahead
+
+-- what is left once each of these collections is closed, the outermost first, of what the innermost has ahead
+abbrev pub unwind : ℕ → List CollectionKind → Option (List Token) → Option (List Token)
+unwind depth [] found = found
+unwind depth (kind ∷ inner) found = option_and_then (skip_rest kind (depth - 1)) (unwind (depth - 1) inner found)
+
+-- after these tokens of a value these collections are open: whatever follows, the value is what closes them all
+abbrev pub StandsAt : ℕ → List Token → List CollectionKind → Type 0
+StandsAt depth taken levels = (length levels ≤ depth) × ((more : List Token) → skip_value depth (taken ++ more) ≡ unwind depth levels (Some more))
+
+-- the same, however much deeper values may nest
+abbrev pub Stands : ℕ → List Token → List CollectionKind → Type 0
+Stands depth taken levels = (deep : ℕ) → depth ≤ deep → StandsAt deep taken levels
+
+-- the token is a whole value
+abbrev pub IsScalar : Token → Type 0
+IsScalar Token.begin_object = ⊥
+IsScalar Token.end_object = ⊥
+IsScalar Token.begin_array = ⊥
+IsScalar Token.end_array = ⊥
+IsScalar (Token.key text) = ⊥
+IsScalar (Token.string text) = Unit {0}
+IsScalar (Token.number text) = Unit {0}
+IsScalar (Token.boolean flag) = Unit {0}
+IsScalar Token.null = Unit {0}
+IsScalar Token.bad = ⊥
+
+-- the token that opens a collection, and the one that closes it
+abbrev pub opener : CollectionKind → Token
+opener Sequence = Token.begin_array
+opener Mapping = Token.begin_object
+
+abbrev pub closer : CollectionKind → Token
+closer Sequence = Token.end_array
+closer Mapping = Token.end_object
+
+-- the token opens a collection
+abbrev pub IsOpener : Token → Type 0
+IsOpener token = (kind : CollectionKind) × (token ≡ opener kind)
+
+-- the token begins no value
+abbrev pub BeginsNone : Token → Type 0
+BeginsNone token = (IsScalar token → ⊥) × (IsOpener token → ⊥)
+
+-- a value begins with the token: a scalar, or a collection that isn't too deep; these are open then
+abbrev pub Begins : ℕ → List CollectionKind → Token → List CollectionKind → Type 0
+Begins depth levels token now =
+    (IsScalar token × (now ≡ levels))
+    ⊎ ((kind : CollectionKind) × (token ≡ opener kind) × (length levels < depth) × (now ≡ levels ++ kind ∷ []))
+
+-- ---- the writer
+
+-- the events of these tokens were given, and these collections are open within those that were
+pub record Stood (in_flow : Bool) (was : WriterState) (taken : List Token) (levels : List CollectionKind) (now : WriterState) : Type 0 where
+  pub adds : AddsAll was.emitter (tokens_events was.canonical in_flow taken) now.emitter
+  pub canonical : now.canonical ≡ was.canonical
+  pub levels_are : now.levels ≡ was.levels ++ levels
+  pub bare : IsBare now
+
+-- wherever the writer stood, the events of these tokens were given more
+abbrev pub Gives : (in_flow : Bool) → List CollectionKind → WriterState → List Token → List CollectionKind → WriterState → Type 0
+Gives in_flow levels before taken opened after =
+    (was : WriterState) (so : List Token) → Stood in_flow was so levels before → Stood in_flow was (so ++ taken) opened after
+
+-- an allocation failed; or, wherever the writer stood, the events of these tokens were given more, and its emitter has this error
+abbrev pub FailsGiving : (in_flow : Bool) → List CollectionKind → WriterState → List Token → yaml_error_t → WriterState → Type 0
+FailsGiving in_flow levels before taken error after =
+    (error ≡ Memory)
+    ⊎ ((was : WriterState) (so : List Token) → Stood in_flow was so levels before
+    → FailedWith was (tokens_events was.canonical in_flow (so ++ taken)) error after)
+
+-- ---- the names
+
+-- where names are kept, none comes twice among these tokens, and those of the arrays and objects that are open are kept
+abbrev pub Kept : {A : Type 0} → List Token → Names A → Type 0
+Kept so held = held.are_kept ≡ true → NamesOnce [] so × HaveNames held.sets.items (all_names_after [] so)
+
+-- so many levels have names
+abbrev pub FitsNames : {A : Type 0} → (unique : Bool) → List CollectionKind → Names A → Type 0
+FitsNames unique levels held = (held.are_kept ≡ unique) × (held.are_kept ≡ true → length held.sets.items ≡ length levels)
+
+-- wherever they were kept, they are after these tokens more
+abbrev pub Keeps : {A : Type 0} → Names A → List Token → Names A → Type 0
+Keeps held taken later = (so : List Token) → Kept so held → Kept (so ++ taken) later
+
+-- the same after some of the tokens that were ahead
+pub record KeepsTo {A : Type 0} (held : Names A) (ahead after : List Token) (later : Names A) : Type 0 where
+  pub taken : List Token
+  pub parts : ahead ≡ taken ++ after
+  pub keeps : Keeps held taken later
+
+-- the names of the innermost are dropped
+abbrev pub LeavesNames : {A : Type 0} → Names A → Names A → Type 0
+LeavesNames held later =
+    (later.are_kept ≡ held.are_kept) × ((names : List (List (List ℕ))) → HoldsNames names held → HoldsNames (outer_names names) later)
+    × (held.are_kept ≡ true → length later.sets.items ≡ length held.sets.items - 1)
+
+-- where names are to come once, none comes twice among the tokens that were taken
+abbrev pub HasUniqueNames : (unique : Bool) → (before after : List Token) → Type 0
+HasUniqueNames unique before after = unique ≡ true → (taken : List Token) × (taken ++ after ≡ before) × NamesOnce [] taken
+
+-- ---- one token
+
+-- the token was given, with which a value begins
+pub record Began (depth : ℕ) (in_flow : Bool) (token : Token) (levels : List CollectionKind) (before : WriterState) (opened : List CollectionKind)
+    (after : WriterState) : Type 0 where
+  pub begins : Begins depth levels token opened
+  pub gives : Gives in_flow levels before (token ∷ []) opened after
+
+-- the writer failed at the token, with which a value begins
+pub record BeginFailed (depth : ℕ) (in_flow : Bool) (token : Token) (levels : List CollectionKind) (before : WriterState) (error : yaml_error_t)
+    (after : WriterState) : Type 0 where
+  pub opened : List CollectionKind
+  pub begins : Begins depth levels token opened
+  pub fails : FailsGiving in_flow levels before (token ∷ []) error after
+
+-- no value begins with the token, or it opens one too many
+abbrev pub RefusesToken : (depth : ℕ) → List CollectionKind → Token → Stop → Type 0
+RefusesToken depth levels token (stops.NotJson spot) = BeginsNone token
+RefusesToken depth levels token stops.TooDeep = IsOpener token × (length levels ≡ depth)
+RefusesToken depth levels token (stops.NameAgain offset) = ⊥
+RefusesToken depth levels token (stops.Failed error) = Unit {0}
+
+-- ---- the first token of a value
+
+-- the first of these tokens was given, with which a value begins
+pub record BeganFirst (depth : ℕ) (in_flow : Bool) (ahead : List Token) (levels : List CollectionKind) (before : WriterState) (after : List Token)
+    (opened : List CollectionKind) (now : WriterState) : Type 0 where
+  pub token : Token
+  pub first : ahead ≡ token ∷ after
+  pub began : Began depth in_flow token levels before opened now
+
+-- the writer failed at the first of these tokens, with which a value begins
+pub record FirstFailed (depth : ℕ) (in_flow : Bool) (ahead : List Token) (levels : List CollectionKind) (before : WriterState) (error : yaml_error_t)
+    (now : WriterState) : Type 0 where
+  pub token : Token
+  pub after : List Token
+  pub first : ahead ≡ token ∷ after
+  pub failed : BeginFailed depth in_flow token levels before error now
+
+-- the text isn't said to nest too deep
+abbrev pub IsNotDeep : Stop → Type 0
+IsNotDeep (stops.NotJson spot) = Unit {0}
+IsNotDeep stops.TooDeep = ⊥
+IsNotDeep (stops.NameAgain offset) = ⊥
+IsNotDeep (stops.Failed error) = Unit {0}
+
+-- no token is left, or the first is refused
+abbrev pub RefusesFirst : (depth : ℕ) → List CollectionKind → List Token → Stop → Type 0
+RefusesFirst depth levels [] stop = IsNotDeep stop
+RefusesFirst depth levels (token ∷ after) stop = RefusesToken depth levels token stop
+
+-- ---- one turn
+
+-- this collection is the innermost
+pub record IsInnermost (kind : CollectionKind) (levels : List CollectionKind) : Type 0 where
+  pub outer : List CollectionKind
+  pub is : levels ≡ outer ++ kind ∷ []
+
+-- the first tokens were given, and wherever the walk stood with these collections open, it stands with those now
+pub record Stepped (depth : ℕ) (in_flow : Bool) (ahead : List Token) (levels : List CollectionKind) (before : WriterState) (after : List Token)
+    (opened : List CollectionKind) (now : WriterState) : Type 0 where
+  pub taken : List Token
+  pub parts : ahead ≡ taken ++ after
+  pub shorter : length after < length ahead
+  pub gives : Gives in_flow levels before taken opened now
+  pub moves : (so : List Token) → Stands depth so levels → Stands depth (so ++ taken) opened
+
+-- the writer failed after the first tokens, with which a value begins
+pub record StepFailed (depth : ℕ) (in_flow : Bool) (ahead : List Token) (levels : List CollectionKind) (before : WriterState) (error : yaml_error_t)
+    (now : WriterState) : Type 0 where
+  pub taken : List Token
+  pub left : List Token
+  pub parts : taken ++ left ≡ ahead
+  pub fails : FailsGiving in_flow levels before taken error now
+  pub begins : (so : List Token) → Stands depth so levels → BeginsValue depth (so ++ taken)
+
+-- why the text stops the writing
+abbrev pub WhyStopped : (depth : ℕ) → (unique : Bool) → List Token → Stop → Type 0
+WhyStopped depth unique all (stops.NotJson spot) = BreaksOff depth unique all
+WhyStopped depth unique all stops.TooDeep = OpensTooDeep depth unique all
+WhyStopped depth unique all (stops.NameAgain offset) = NamesTwice depth unique all
+WhyStopped depth unique all (stops.Failed error) = Unit {0}
+
+-- wherever the walk stood with these collections open, these names taken and these tokens ahead, the text stops it
+abbrev pub Refuses : {A : Type 0} → (depth : ℕ) → (unique : Bool) → List CollectionKind → Names A → List Token → Stop → Type 0
+Refuses depth unique levels held ahead stop =
+    (so : List Token) → Stands depth so levels → Kept so held → WhyStopped depth unique (so ++ ahead) stop
+
+-- ---- the whole walk
+
+-- where the walk stands
+pub record SoFar (depth : ℕ) (in_flow : Bool) (start : List Token) (was : WriterState) (ahead : List Token) (levels : List CollectionKind)
+    (now : WriterState) : Type 0 where
+  pub taken : List Token
+  pub parts : taken ++ ahead ≡ start
+  pub stood : Stood in_flow was taken levels now
+  pub stands : Stands depth taken levels
+
+-- ---- what a caller is told
+
+-- the error says what the stop does
+abbrev pub SaysWhat : Stop → JsonError → Type 0
+SaysWhat (stops.NotJson spot) (errors.NotJson line column) = Unit {0}
+SaysWhat stops.TooDeep errors.TooDeep = Unit {0}
+SaysWhat (stops.NameAgain offset) (errors.DuplicateName line column) = Unit {0}
+SaysWhat (stops.Failed error) (errors.Emitter told) = Unit {0}
+SaysWhat _ _ = ⊥
