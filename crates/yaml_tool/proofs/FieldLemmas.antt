@@ -60,6 +60,16 @@ pub attached_both : (prefix more : Text) (pieces : List Text) → attached (pref
 attached_both [] more pieces = refl
 attached_both (c ∷ prefix) more pieces = ap (onto_first c) (attached_both prefix more pieces)
 
+-- outside texts only a space and a quotation mark matter
+pub run_outside : (prefix rest : Text) → IsFree 0x20 prefix → IsFree 0x22 prefix → pieces_from outside (prefix ++ rest) ≡ attached prefix (pieces_from outside rest)
+run_outside [] rest no_space no_mark = refl
+run_outside (c ∷ prefix) rest no_space no_mark =
+    let space = neither (c == 0x20) _ no_space in
+    let mark = neither (c == 0x22) _ no_mark in
+    ap (λ (b : Bool). cut_before b c (pieces_from (state_after outside c) (prefix ++ rest))) space.0
+    ∙ ap (λ (b : Bool). onto_first c (pieces_from (if b then inside else outside) (prefix ++ rest))) mark.0
+    ∙ ap (onto_first c) (run_outside prefix rest space.1 mark.1)
+
 -- inside texts only a quotation mark and a backslash matter
 pub run_inside : (prefix rest : Text) → IsFree 0x22 prefix → IsFree 0x5C prefix → pieces_from inside (prefix ++ rest) ≡ attached prefix (pieces_from inside rest)
 run_inside [] rest no_mark no_backslash = refl
@@ -71,6 +81,14 @@ run_inside (c ∷ prefix) rest no_mark no_backslash =
     ∙ ap (onto_first c) (run_inside prefix rest mark.1 backslash.1)
 
 -- so what stands before such a character is a run
+pub runs_outside : (text end : List ℕ) → IsUtf8 text → SkipsTo 0x20 0x22 text end → RunsTo outside text end
+runs_outside text end is skipped = record {
+  ends = skipped.ends;
+  is_end = skipped.is_end;
+  run = ap (pieces_from outside) (passed_to text end skipped.ends is skipped.is_end).all
+      ∙ run_outside (chars (prefix_of text end)) (chars end) skipped.free.0 skipped.free.1;
+}
+
 pub runs_inside : (text end : List ℕ) → IsUtf8 text → SkipsTo 0x22 0x5C text end → RunsTo inside text end
 runs_inside text end is skipped = record {
   ends = skipped.ends;

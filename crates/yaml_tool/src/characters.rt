@@ -2,6 +2,7 @@
 ghost use Rattle.std.specs.Prelude.{◌≡◌, ◌++◌, ◌∷◌, ◌<◌, [], length, IfSome, MatchOption};
 ghost use Rattle.std.specs.Char.{encode_utf8};
 ghost use Rattle.std.specs.Str.{chars, IsUtf8};
+ghost use Rattle.memchr.specs.Find.{IsFirstByte, is_byte2};
 ghost use Rattle.yaml_tool.specs.Cuts.{IsFree, IsCut, EndsIn, SkipsTo, prefix_of};
 
 use memchr::memchr2;
@@ -37,6 +38,30 @@ pub fn from_sign(first: u8, second: u8, text: &str) -> &str
     ensures { SkipsTo first second text.now result.now }
 {
     match memchr2(first, second, text.as_bytes()) {
+        Some(place) => &text[place..],
+        None => "",
+    }
+}
+
+/// The place of the first of two bytes, looked for byte by byte.
+#[inline(always)]
+fn near_place(first: u8, second: u8, bytes: &[u8]) -> Option<usize>
+    ensures { IsFirstByte (is_byte2 first second) bytes.now result }
+{
+    for (index, byte) in bytes.iter().enumerate() {
+        if *byte == first || *byte == second {
+            return Some(index);
+        }
+    }
+    None
+}
+
+/// The text from the first space or quotation mark on; empty if it contains neither. Words are too short for a wide search.
+#[inline(always)]
+pub fn past_word(text: &str) -> &str
+    ensures { SkipsTo 0x20 0x22 text.now result.now }
+{
+    match near_place(b' ', b'"', text.as_bytes()) {
         Some(place) => &text[place..],
         None => "",
     }

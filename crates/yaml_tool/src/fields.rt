@@ -8,7 +8,7 @@ ghost use Rattle.yaml_base.specs.Seen.{seen_text};
 ghost use Rattle.yaml_tool.specs.Fields.{seen_field_state, RunsTo, later_fields, left_length, led_by, no_text, field_of, the_word};
 ghost use Rattle.yaml_tool.specs.Fields.{HasField, HasNoWord, HasNoText, HasNoDash, HasNoChoice};
 
-use crate::characters::{first_character, from_sign, prefix_before};
+use crate::characters::{first_character, from_sign, past_word, prefix_before};
 use crate::texts::text_behind;
 use crate::words::is_word;
 use std::alloc::{AllocError, Allocator};
@@ -26,23 +26,27 @@ enum FieldState {
 
 impl FieldState {
     /// Whether a character in this state separates two fields.
+    #[inline(always)]
     fn separates(self, character: char) -> bool
         ensures { result ≡ notation.separates (seen_field_state self) character }
     {
         matches!(self, FieldState::Outside) && character == ' '
     }
 
-    /// Skips characters inside a text that neither end it nor begin an escape; in the other states skips none.
+    /// Skips characters that separate no fields and leave the state as it is.
+    #[inline(always)]
     fn past_run(self, text: &str) -> &str
         ensures { RunsTo (seen_field_state self) text.now result.now }
     {
         match self {
+            FieldState::Outside => past_word(text),
             FieldState::Inside => from_sign(b'"', b'\\', text),
-            FieldState::Outside | FieldState::Escaped => text,
+            FieldState::Escaped => text,
         }
     }
 
     /// The state after a character.
+    #[inline(always)]
     fn after(self, character: char) -> FieldState
         ensures { seen_field_state result ≡ notation.state_after (seen_field_state self) character }
     {
@@ -65,13 +69,14 @@ pub fn is_end(rest: Option<&str>) -> bool
 }
 
 /// Splits a line at its first separator: returns the first field as it is written, and what is left.
+#[inline(always)]
 fn first_field(line: &str) -> (&str, Option<&str>)
     ensures cut { notation.fields_read (chars line.now) ≡ notation.field_and (notation.field_read (chars result.0.now)) (later_fields result.1) }
     ensures within { left_length result.1 ≤ length line.now }
     ensures utf8 { IfSome result.1 (λ rest. IsUtf8 rest.now) }
 {
     let mut standing = FieldState::Outside;
-    let mut rest = line;
+    let mut rest = standing.past_run(line);
     while let Some((character, after)) = first_character(rest) {
         if standing.separates(character) {
             return (prefix_before(line, rest), Some(after));
@@ -83,6 +88,7 @@ fn first_field(line: &str) -> (&str, Option<&str>)
 }
 
 /// Returns the next field and what is left, if that field is a word.
+#[inline(always)]
 pub fn word_after(rest: Option<&str>) -> Option<(&str, Option<&str>)>
     ensures { MatchOption result (HasNoWord (later_fields rest.entry))
         (λ parts. later_fields rest.entry ≡ led_by (notation.bare (chars parts.0.now)) (later_fields parts.1)) }
@@ -141,6 +147,7 @@ fn past_dash(rest: Option<&str>) -> Option<Option<&str>>
 }
 
 /// Returns the value of the next field and what is left, if that field is a text, or `-` for none.
+#[inline(always)]
 pub fn choice_after<A: Allocator>(
     alloc: A,
     rest: Option<&str>,

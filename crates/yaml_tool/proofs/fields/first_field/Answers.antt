@@ -9,10 +9,14 @@ use Rattle.yaml_tool.proofs.fields.first_field.Goals as goal
 
 pub loop-character-init : goal.loop-character-init
 loop-character-init c =
-    let line = c.args.line.now in record {
-      passed = nothing_passed line c.utf8.line;
-      cut = ap (λ prefix. attached prefix (pieces_from outside (chars line))) (sym (empty_prefix line));
-      within = omega arith;
+    let line = c.args.line.now in
+    let rest = c.past_run-rest.result.now in
+    let runs = c.past_run-rest.ensures in
+    let passed = nothing_passed line c.utf8.line in
+    let empty = ap (λ prefix. attached prefix (pieces_from outside (chars line))) (sym (empty_prefix line)) in record {
+      passed = past_run outside line line rest passed runs;
+      cut = further_on outside line line rest (pieces_from outside (chars line)) passed runs empty;
+      within = run_within outside line rest runs;
     }
 
 pub returns-then-separates-clause-cut : goal.returns-then-separates-clause-cut
@@ -34,8 +38,8 @@ loop-character-preserved c =
     let rest = c.loop-character.rest.now in
     let character = c.in-Some.character in
     let after = c.in-Some.after.now in
-    let end = c.past_run-rest.result.now in
-    let runs = c.past_run-rest.ensures in
+    let end = c.past_run-rest-in-Some.result.now in
+    let runs = c.past_run-rest-in-Some.ensures in
     let standing = seen_field_state c.loop-character.standing in
     let next = seen_field_state c.after-standing.result in
     let is_not : separates standing character ≡ false = sym c.separates.ensures ∙ c.if-separates.false in
