@@ -8,7 +8,7 @@ use Rattle.std.specs.Str.Parse.{digits_value}
 use Rattle.std.specs.Prelude.{ℕ, ℤ, pos, neg_ℤ, negsuc, Bool, true, false, Option, None, Some, [], ◌++◌, ◌+◌, ◌*◌, ◌^◌, ◌+ℤ◌, ◌-ℤ◌, ◌*ℤ◌, ◌&&◌, not, codes}
 use Rattle.std.specs.Prelude.{if◌then◌else◌}
 use Rattle.yaml_base.specs.Characters.{Text}
-use Rattle.yaml_base.specs.scripts.Script.{is_word}
+use Rattle.yaml_base.specs.Words.{is_word}
 use Rattle.yaml_base.specs.values.Resolved.{Decimal, meant_integer, meant_decimal, signed}
 use Rattle.yaml_base.specs.values.JsonNumbers.{JsonNumber, JsonExponent, above, is_same_number, means_number, exponent_value, value_with, json_value}
 use Rattle.yaml_base.specs.values.JsonNumbers.{number_meant}

@@ -7,7 +7,7 @@ use Rattle.std.proofs.lemmas.List.Sums.{AllPass-from_list_all, take_while-cons}
 use Rattle.std.specs.List.{All, list_all, slice_split, take_while}
 use Rattle.std.specs.Prelude.{ℕ, suc, Bool, true, false, Option, None, Some, List, [], ◌∷◌, ◌++◌, ◌==◌, ◌||◌, ◌&&◌, not, length, codes, ⊤, if◌then◌else◌}
 use Rattle.yaml_base.specs.Characters.{Text}
-use Rattle.yaml_base.specs.scripts.Script.{named}
+use Rattle.yaml_base.specs.Words.{named}
 use Rattle.yaml_base.specs.values.Resolved.{Resolved, meant_timestamp, words_of_core, words_of_11, is_point, is_exponent_mark, is_sign, is_decimal, first_is}
 use Rattle.yaml_base.specs.values.Resolved.{past_sign, is_negative, are_digits}
 use Rattle.yaml_base.specs.values.SchemaOf11.{is_underscore, ungrouped, are_grouped, is_hyphen, past, in_date, is_date, is_time_after_date, timestamp_11}

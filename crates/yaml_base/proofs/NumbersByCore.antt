@@ -6,7 +6,7 @@ use Rattle.std.specs.List.{list_all, slice_split}
 use Rattle.std.specs.Str.Parse.{digits_value}
 use Rattle.std.specs.Prelude.{ℕ, ℤ, pos, neg_ℤ, Bool, true, false, Option, None, Some, List, [], ◌∷◌, ◌++◌, ◌==◌, ◌&&◌, ◌+ℤ◌, not, length, codes, if◌then◌else◌}
 use Rattle.yaml_base.specs.Characters.{Text}
-use Rattle.yaml_base.specs.scripts.Script.{named}
+use Rattle.yaml_base.specs.Words.{named}
 use Rattle.yaml_base.specs.values.Resolved.{Decimal, Resolved, meant_integer, meant_decimal, first_reading, words_of_core, is_point, is_exponent_mark}
 use Rattle.yaml_base.specs.values.Resolved.{is_decimal, first_is, past_sign, is_negative, signed, are_digits, pointed, exponent_read, scaled, scientific}
 use Rattle.yaml_base.specs.values.SchemaCore.{core_integer, core_based, core_mantissa, core_decimal, resolved_by_core}

@@ -6,7 +6,7 @@ use Rattle.std.specs.List.{list_all, slice_split}
 use Rattle.std.specs.Str.Parse.{digits_value}
 use Rattle.std.specs.Prelude.{ℕ, pos, Bool, true, false, Option, None, Some, List, [], ◌∷◌, ◌++◌, ◌==◌, ◌||◌, ◌&&◌, not, length, codes, if◌then◌else◌}
 use Rattle.yaml_base.specs.Characters.{Text}
-use Rattle.yaml_base.specs.scripts.Script.{named, is_word}
+use Rattle.yaml_base.specs.Words.{named, is_word}
 use Rattle.yaml_base.specs.values.Resolved.{Decimal, Resolved, meant_integer, first_reading, words_of_11, is_point, is_exponent_mark, is_decimal, first_is}
 use Rattle.yaml_base.specs.values.Resolved.{past_sign, is_negative, signed, are_digits, pointed, scaled, scientific}
 use Rattle.yaml_base.specs.values.SchemaCore.{resolved_by_core}

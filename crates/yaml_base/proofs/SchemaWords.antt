@@ -5,7 +5,7 @@ use Rattle.std.proofs.lemmas.Slice.Eq.{bytes_eq-Decides}
 use Rattle.std.specs.List.{list_all}
 use Rattle.std.specs.Prelude.{Bool, true, false, None, Some, List, [], ◌∷◌, ◌++◌, ◌||◌, is_some, if◌then◌else◌}
 use Rattle.yaml_base.specs.Characters.{Text}
-use Rattle.yaml_base.specs.scripts.Script.{named, is_word}
+use Rattle.yaml_base.specs.Words.{named, is_word}
 
 -- a text that differs from all words of a table in some test is none of them
 pub named_unlike : {A : Type 0} (test : Text → Bool) (table : List (Text × A)) (text : Text)

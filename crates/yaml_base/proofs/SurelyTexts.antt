@@ -6,7 +6,7 @@ use Rattle.std.proofs.lemmas.List.Splits.{slice_split-cons_no}
 use Rattle.std.specs.List.{slice_split, onto_first, take_while}
 use Rattle.std.specs.Prelude.{ℕ, suc, ℤ, pos, Bool, true, false, Option, None, Some, List, [], ◌∷◌, ◌++◌, ◌==◌, ◌||◌, not, length, is_some, ⊤, if◌then◌else◌}
 use Rattle.yaml_base.specs.Characters.{Text, is_between}
-use Rattle.yaml_base.specs.scripts.Script.{named, is_word}
+use Rattle.yaml_base.specs.Words.{named, is_word}
 use Rattle.yaml_base.specs.values.Resolved.{Resolved, Decimal, meant_text, first_reading, words_of_core, words_besides, words_of_11, is_point, is_exponent_mark}
 use Rattle.yaml_base.specs.values.Resolved.{is_decimal, is_sign, is_negative, first_is, past_sign, are_digits, counted_digits, pointed, scaled, scientific}
 use Rattle.yaml_base.specs.values.Resolved.{exponent_read}

@@ -1,5 +1,5 @@
 -- Events and their parts as plain data (the serialization tree of YAML 1.1, section 3.2.2, in libyaml's events).
-use Rattle.std.specs.Prelude.{ℤ, Bool, Option, List}
+use Rattle.std.specs.Prelude.{ℤ, Bool, Option, None, List, ◌||◌, ◌&&◌, not, if◌then◌else◌}
 use Rattle.yaml_base.specs.Characters.{Text}
 use Rattle.yaml_base.specs.Settings.{Encoding}
 
@@ -62,3 +62,12 @@ pub data Event : Type 0 where
   sequence_end : Event
   mapping_start : Collection → Event
   mapping_end : Event
+
+-- the tag that a scalar is written with: none where a flag lets it be left out
+abbrev pub scalar_tag : Bool → Scalar → Option Text
+scalar_tag canonical content =
+    if canonical || (not content.plain_implicit && not content.quoted_implicit) then content.tag else None
+
+-- the tag that a collection is written with: none where its flag lets it be left out
+abbrev pub collection_tag : Bool → Collection → Option Text
+collection_tag canonical start = if canonical || not start.implicit then start.tag else None

@@ -1,4 +1,5 @@
 pub mod Characters
+pub mod Words
 pub mod Settings
 pub mod LineBreaks
 pub mod Prefix
@@ -28,5 +29,6 @@ pub mod scripts
 pub mod TidyBodies
 pub mod WrittenTexts
 pub mod streams
+pub mod StreamLaw
 pub mod values
 pub mod Laws

@@ -16,7 +16,7 @@ use Rattle.yaml_base.specs.scalars.BlockHeader.{header_mark}
 use Rattle.yaml_base.specs.scalars.Literal.{literal_body}
 use Rattle.yaml_base.specs.scalars.Folded.{folded_body}
 use Rattle.yaml_base.specs.Grammar.{Node, alias_node, scalar_node, sequence_node, mapping_node, Nodes, no_nodes, nodes_and, Pairs, no_pairs, pairs_and}
-use Rattle.yaml_base.specs.Refusal.{scalar_tag, collection_tag}
+use Rattle.yaml_base.specs.Event.{scalar_tag, collection_tag}
 use Rattle.yaml_base.specs.Places.{Role, as_item, as_key, as_value, Place, is_in_mapping, line_column, deeper, entries_column, has_no_nodes, has_no_pairs}
 use Rattle.yaml_base.specs.Places.{is_simple, is_simple_at, place_laid}
 

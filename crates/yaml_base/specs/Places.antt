@@ -10,7 +10,7 @@ use Rattle.yaml_base.specs.Indicators.{indicator_laid, opening, flow_entry, key,
 use Rattle.yaml_base.specs.Event.{TagDirective, Scalar, Collection}
 use Rattle.yaml_base.specs.Tags.{Spelling, shorthand, verbatim, spelling}
 use Rattle.yaml_base.specs.Grammar.{Node, alias_node, scalar_node, sequence_node, mapping_node, Nodes, no_nodes, nodes_and, Pairs, no_pairs, pairs_and}
-use Rattle.yaml_base.specs.Refusal.{scalar_tag, collection_tag}
+use Rattle.yaml_base.specs.Event.{scalar_tag, collection_tag}
 
 -- what a node is: the first item or key of a flow collection writes its bracket; a value knows whether its key is simple
 pub data Role : Type 0 where

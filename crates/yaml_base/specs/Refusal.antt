@@ -13,19 +13,11 @@ use Rattle.yaml_base.specs.Grammar.{stream_events}
 use Rattle.yaml_base.specs.declared.errors.yaml_error_t.{yaml_error_t}
 use Rattle.yaml_base.specs.declared.errors.yaml_error_t.TheVariants.{ExpectedStreamStart, ExpectedDocumentStart, ExpectedDocumentEnd, ExpectedNode}
 use Rattle.yaml_base.specs.declared.errors.yaml_error_t.TheVariants.{ExpectedNothing, NoTagNorImplicit, TooDeep}
+use Rattle.yaml_base.specs.Event.{scalar_tag, collection_tag}
 
 -- a fault where the test holds
 abbrev pub fault_if : Bool → yaml_error_t → Option yaml_error_t
 fault_if wrong fault = if wrong then Some fault else None
-
--- the tag that a scalar is written with: none where a flag lets it be left out
-abbrev pub scalar_tag : Bool → Scalar → Option Text
-scalar_tag canonical content =
-    if canonical || (not content.plain_implicit && not content.quoted_implicit) then content.tag else None
-
--- the tag that a collection is written with: none where its flag lets it be left out
-abbrev pub collection_tag : Bool → Collection → Option Text
-collection_tag canonical start = if canonical || not start.implicit then start.tag else None
 
 -- the refusal of an anchor and of the tag that is written, where there are any
 abbrev pub properties_fault : Option Text → Option Text → Option yaml_error_t

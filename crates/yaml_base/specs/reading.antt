@@ -3,6 +3,7 @@ pub mod ReadPlain
 pub mod ReadSingle
 pub mod ReadDouble
 pub mod ReadBlock
+pub mod TidyText
 pub mod Content
 pub mod ReadBytes
 pub mod CanonicalTokens

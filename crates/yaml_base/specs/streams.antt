@@ -6,4 +6,3 @@ pub mod StreamFlow
 pub mod StreamNodes
 pub mod StreamDocuments
 pub mod StreamReader
-pub mod StreamLaw

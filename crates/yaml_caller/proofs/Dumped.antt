@@ -9,7 +9,7 @@ use Rattle.yaml_base.specs.graphs.Meetings.{NumberPair, GraphNode, Graph, scalar
 use Rattle.yaml_base.specs.graphs.Dumped.{AreDumped}
 use Rattle.yaml_base.specs.Ready.{held_back}
 use Rattle.yaml_base.specs.Output.{output_of}
-use Rattle.yaml_base.specs.streams.StreamLaw.{is_portable}
+use Rattle.yaml_base.specs.StreamLaw.{is_portable}
 use Rattle.yaml_base.specs.graphs.Unfolding.{IsDocument}
 use Rattle.yaml_base.specs.declared.errors.yaml_error_t.{yaml_error_t}
 use Rattle.yaml_dump.specs.Dumps.{Dumps, EmitsAll, opening, closing}

@@ -15,7 +15,7 @@ use Rattle.yaml_base.specs.Event.{mapping_start, mapping_end}
 use Rattle.yaml_base.specs.Grammar.{Node, alias_node, scalar_node, sequence_node, mapping_node, Nodes, no_nodes, nodes_and, Pairs, no_pairs, pairs_and}
 use Rattle.yaml_base.specs.Grammar.{Document, Documents, no_documents, documents_and, Stream, node_events, nodes_events, pairs_events, document_events}
 use Rattle.yaml_base.specs.Grammar.{documents_events, tree_of}
-use Rattle.yaml_base.specs.Refusal.{scalar_tag, collection_tag}
+use Rattle.yaml_base.specs.Event.{scalar_tag, collection_tag}
 use Rattle.yaml_base.specs.reading.Content.{content_tag, node_content, nodes_content, pairs_content, document_content, documents_content}
 use Rattle.yaml_base.specs.graphs.Meetings.{Graph, GraphNode, Held, scalar_held, sequence_held, mapping_held, Step, enters, leaves, meets_again, steps}
 use Rattle.yaml_base.specs.graphs.Meetings.{string_tag, sequence_tag, mapping_tag, beginning_of, beginning_events, ending_of, ending_events, step_events}

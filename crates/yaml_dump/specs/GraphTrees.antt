@@ -9,7 +9,7 @@ use Rattle.yaml_base.specs.graphs.Unfolding.{scalar_kind, sequence_kind, mapping
 use Rattle.yaml_base.specs.graphs.Dumped.{AreDumped}
 use Rattle.yaml_base.specs.streams.StreamContent.{Tagging, with_tag, without_tag, Tree, alias_tree, scalar_tree, sequence_tree, mapping_tree, Trees, no_trees}
 use Rattle.yaml_base.specs.streams.StreamContent.{trees_and, TreePairs, no_tree_pairs, tree_pairs_and, DocumentTree, agrees}
-use Rattle.yaml_base.specs.streams.StreamLaw.{is_portable}
+use Rattle.yaml_base.specs.StreamLaw.{is_portable}
 use Rattle.yaml_base.specs.streams.StreamReader.{stream_trees}
 use Rattle.yaml_emitter.specs.State.{State}
 

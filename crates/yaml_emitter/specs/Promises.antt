@@ -12,7 +12,7 @@ use Rattle.yaml_base.specs.Pieces.{list_layout, pieces}
 use Rattle.yaml_base.specs.Output.{settings_for, text_written, bytes_written, output_of, hands_out_last}
 use Rattle.yaml_base.specs.Meaning.{BodyMeans}
 use Rattle.yaml_base.specs.streams.StreamContent.{agrees}
-use Rattle.yaml_base.specs.streams.StreamLaw.{is_portable}
+use Rattle.yaml_base.specs.StreamLaw.{is_portable}
 use Rattle.yaml_base.specs.streams.StreamReader.{stream_trees}
 use Rattle.yaml_base.specs.reading.Content.{content_of}
 use Rattle.yaml_base.specs.reading.CanonicalReader.{canonical_content}

@@ -10,7 +10,7 @@ use Rattle.yaml_base.specs.reading.Content.{content_of}
 use Rattle.yaml_base.specs.reading.CanonicalReader.{canonical_content}
 use Rattle.yaml_base.specs.Meaning.{has_scalar_texts}
 use Rattle.yaml_base.specs.streams.StreamContent.{DocumentTree, agrees}
-use Rattle.yaml_base.specs.streams.StreamLaw.{is_portable}
+use Rattle.yaml_base.specs.StreamLaw.{is_portable}
 use Rattle.yaml_base.specs.streams.StreamReader.{stream_trees}
 
 -- the limit is at least the length of all bytes

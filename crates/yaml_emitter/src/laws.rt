@@ -3,7 +3,7 @@ ghost use Rattle.std.specs.Prelude.{List};
 ghost use Rattle.yaml_base.specs.Event.{Event};
 ghost use Rattle.yaml_base.specs.Meaning.{CanonicalBytesRead, MeaningIsKept};
 ghost use Rattle.yaml_base.specs.Settings.{Settings};
-ghost use Rattle.yaml_base.specs.streams.StreamLaw.{StreamReadsBack};
+ghost use Rattle.yaml_base.specs.StreamLaw.{StreamReadsBack};
 ghost use Rattle.yaml_base.specs.WrittenTexts.{BodiesAreTidy, StreamsAgree, TextsHoldRaw};
 ghost use Rattle.yaml_emitter.specs.EncodedAlike as encoded;
 ghost use Rattle.yaml_emitter.specs.Promises.{Promised};

@@ -4,7 +4,8 @@ ghost use Rattle.std.specs.Prelude.{◌≡◌, ◌≤◌, ◌+◌, ℕ, Bool, No
 ghost use Rattle.yaml_base.specs.Event.{CollectionStyle, alias, scalar, any_layout};
 ghost use Rattle.yaml_base.specs.Layout as layout;
 ghost use Rattle.yaml_base.specs.Layout.{asks_flow, end_piece, entry_place, line_column};
-ghost use Rattle.yaml_base.specs.Refusal.{name_or_tag_fault, scalar_tag};
+ghost use Rattle.yaml_base.specs.Refusal.{name_or_tag_fault};
+ghost use Rattle.yaml_base.specs.Event.{scalar_tag};
 ghost use Rattle.yaml_base.specs.Seen.{seen_event, seen_mapping_style, seen_scalar_style, seen_sequence_style, seen_text};
 ghost use Rattle.yaml_base.specs.Steps.{is_first};
 ghost use Rattle.yaml_base.specs.scalars.Style as style;

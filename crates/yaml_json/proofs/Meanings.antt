@@ -15,7 +15,7 @@ use Rattle.yaml_base.specs.values.JsonNumbers.{JsonNumber, fraction_or, is_json_
 use Rattle.yaml_base.specs.values.JsonNumbers.{yaml_number}
 use Rattle.yaml_base.specs.Layout.{as_item, as_key, as_value, Place, has_no_nodes, has_no_pairs, is_simple, is_simple_at, is_written_in_flow, entry_place}
 use Rattle.yaml_base.specs.NodeLayout.{choice_of}
-use Rattle.yaml_base.specs.Refusal.{collection_tag, scalar_tag}
+use Rattle.yaml_base.specs.Event.{collection_tag, scalar_tag}
 use Rattle.yaml_base.specs.values.Resolved.{Resolved, meant_null, meant_boolean, meant_integer, meant_decimal, meant_text, meant_by_nobody, signed}
 use Rattle.yaml_base.specs.values.SchemaCore.{resolved_by_core}
 use Rattle.yaml_base.specs.values.SchemaOf11.{resolved_by_11}

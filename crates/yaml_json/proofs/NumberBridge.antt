@@ -13,7 +13,7 @@ use Rattle.json.specs.Word.{after_digits, after_exponent, after_fraction, after_
 use Rattle.yaml_base.specs.Characters.{Text}
 use Rattle.yaml_base.specs.values.JsonNumbers.{JsonExponent, JsonNumber, exponent_text, is_whole, minus}
 use Rattle.yaml_base.specs.values.Resolved.{are_digits, is_decimal}
-use Rattle.yaml_base.specs.scripts.Script.{is_word}
+use Rattle.yaml_base.specs.Words.{is_word}
 use Rattle.yaml_writer.specs.NumberParts.{IsNumber, number_in}
 use Rattle.yaml_writer.proofs.PartLemmas.{number_found}
 

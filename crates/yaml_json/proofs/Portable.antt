@@ -14,11 +14,11 @@ use Rattle.yaml_base.specs.Grammar.{Document, Documents, no_documents, documents
 use Rattle.yaml_base.specs.Grammar.{Stream, tree_of}
 use Rattle.yaml_base.specs.values.JsonNumbers.{JsonNumber, exponent_spelled, fraction_or, is_json_integer, is_json_number, minus, yaml_number}
 use Rattle.yaml_base.specs.Layout.{is_explicit}
-use Rattle.yaml_base.specs.Refusal.{scalar_tag, collection_tag}
+use Rattle.yaml_base.specs.Event.{scalar_tag, collection_tag}
 use Rattle.yaml_base.specs.values.Resolved.{are_digits}
 use Rattle.yaml_base.specs.streams.StreamContent.{documents_in_order}
-use Rattle.yaml_base.specs.streams.StreamLaw.{are_portable, document_has_flow_sign, is_lost, is_portable, is_written_as_nothing, node_has_flow_sign}
-use Rattle.yaml_base.specs.streams.StreamLaw.{nodes_have_flow_sign, pairs_have_flow_sign, tag_has_flow_sign}
+use Rattle.yaml_base.specs.StreamLaw.{are_portable, document_has_flow_sign, is_lost, is_portable, is_written_as_nothing, node_has_flow_sign}
+use Rattle.yaml_base.specs.StreamLaw.{nodes_have_flow_sign, pairs_have_flow_sign, tag_has_flow_sign}
 use Rattle.yaml_base.specs.scalars.Style.{is_plain, style_asked}
 use Rattle.yaml_base.specs.Tags.{directives_in_force}
 use Rattle.yaml_base.specs.values.TypedValues.{null_tag, bool_tag, int_tag, bool_text}

@@ -5,8 +5,8 @@ use Rattle.std.specs.Prelude.{◌==◌, not, replicate}
 use Rattle.std.proofs.lemmas.Bool.{and_from, eqb-true, false≢true, or_left, or_right}
 use Rattle.yaml_base.specs.Characters.{Text, space}
 use Rattle.yaml_base.specs.LineBreaks.{is_read_break}
-use Rattle.yaml_base.specs.TidyBodies.{begins_with_blank_line, begins_with_break, begins_with_deep_line, begins_with_spaces, has_deep_lines}
-use Rattle.yaml_base.specs.TidyBodies.{has_no_space_before_break}
+use Rattle.yaml_base.specs.reading.TidyText.{begins_with_blank_line, begins_with_break, begins_with_deep_line, begins_with_spaces, has_deep_lines}
+use Rattle.yaml_base.specs.reading.TidyText.{has_no_space_before_break}
 
 -- neither a space nor a break of a reader
 pub record Ink (breaks12 : Bool) (c : ℕ) : Type 0 where

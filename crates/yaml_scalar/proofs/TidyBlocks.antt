@@ -10,7 +10,7 @@ use Rattle.yaml_base.specs.scalars.Folded.{cut_from, cut_line, folded_body, fold
 use Rattle.yaml_base.specs.LineBreaks.{is_read_break}
 use Rattle.yaml_base.specs.scalars.Lines.{Part, line, line_break, begun, parts}
 use Rattle.yaml_base.specs.scalars.Literal.{indented, literal_body}
-use Rattle.yaml_base.specs.TidyBodies.{begins_with_blank_line, begins_with_deep_line, begins_with_spaces, has_deep_lines}
+use Rattle.yaml_base.specs.reading.TidyText.{begins_with_blank_line, begins_with_deep_line, begins_with_spaces, has_deep_lines}
 use Rattle.yaml_scalar.proofs.blocks.BlockFolds.{fold-spaced}
 use Rattle.yaml_scalar.proofs.blocks.BlockReads.{block-text, digit_text, ordinary, sign_of}
 use Rattle.yaml_scalar.proofs.DeepLines.{Unbroken, deep_after, deep_break, deep_unbroken, enough_spaces, space_unbroken, spaces_unbroken}

@@ -11,7 +11,7 @@ use Rattle.yaml_base.specs.LineBreaks.{is_read_break}
 use Rattle.yaml_base.specs.scalars.Plain.{Kind, spaces, breaks, others, kind_of, is_same_kind, indentation, plain_body}
 use Rattle.yaml_base.specs.reading.ReadPlain.{is_read_white}
 use Rattle.yaml_base.specs.scalars.SingleQuoted.{quotes_doubled, single_quote, single_quoted_body}
-use Rattle.yaml_base.specs.TidyBodies.{begins_with_break, ends_white, has_clean_edges}
+use Rattle.yaml_base.specs.reading.TidyText.{begins_with_break, ends_white, has_clean_edges}
 use Rattle.yaml_scalar.specs.LineSteps.{begins_kind, step_text, steps_laid}
 use Rattle.yaml_scalar.proofs.blocks.BlockReads.{ordinary}
 use Rattle.yaml_scalar.proofs.DeepLines.{AllInk, BeginsInk, Ink, IsEven, deep_break, even_break, even_ink, even_line, even_nothing, even_space, ink_unbroken}

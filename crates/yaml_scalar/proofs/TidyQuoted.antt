@@ -10,7 +10,7 @@ use Rattle.yaml_base.specs.Cursor.{Cursor, Laid, breaks_line, is_past_width, tex
 use Rattle.yaml_base.specs.scalars.DoubleQuoted.{backslash, character_text, double_fold, double_inside, double_quoted_body, escape_text, is_other, may_fold}
 use Rattle.yaml_base.specs.scalars.DoubleQuoted.{needs_escape, quote, space_kept}
 use Rattle.yaml_base.specs.LineBreaks.{is_read_break}
-use Rattle.yaml_base.specs.TidyBodies.{begins_with_break}
+use Rattle.yaml_base.specs.reading.TidyText.{begins_with_break}
 use Rattle.yaml_scalar.proofs.DeepLines.{AllInk, BeginsInk, Ink, IsEven, even_ink, even_line, even_nothing, even_space, ink_unbroken, space_unbroken}
 use Rattle.yaml_scalar.proofs.DoubleReads.{Fits, fits-breaks, fits-character, kept-column, may-fold-other, no-read-break, quoted_cursor, space-text}
 use Rattle.yaml_scalar.proofs.Sparing.{escape_graph, is_graph}

@@ -17,7 +17,7 @@ use Rattle.yaml_base.proofs.NumberCuts.{some_digits}
 use Rattle.yaml_base.specs.Characters.{Text}
 use Rattle.yaml_base.specs.values.JsonNumbers.{JsonExponent, JsonNumber, exponent_text, is_json_number, is_whole, json_text, minus}
 use Rattle.yaml_base.specs.values.Resolved.{are_digits, is_decimal}
-use Rattle.yaml_base.specs.scripts.Script.{is_word}
+use Rattle.yaml_base.specs.Words.{is_word}
 use Rattle.yaml_serde.specs.Numbers.{HasNumber}
 
 -- ---- digits

@@ -3,7 +3,8 @@ use Rattle.std.proofs.Common.{◌≡◌, ◌++◌, append_assoc, Bool, Option, N
 use Rattle.std.proofs.lemmas.List.{map-append}
 use Rattle.yaml_base.specs.Characters.{Text}
 use Rattle.yaml_base.specs.Event.{Event, TagDirective, ScalarStyle, CollectionStyle}
-use Rattle.yaml_base.specs.scripts.Script.{Field, bare, quoted, named, flags, scalar_styles, text_or_none, scalar_of, scalar_with, collection_of, collection_with}
+use Rattle.yaml_base.specs.scripts.Script.{Field, bare, quoted, flags, scalar_styles, text_or_none, scalar_of, scalar_with, collection_of, collection_with}
+use Rattle.yaml_base.specs.Words.{named}
 use Rattle.yaml_base.specs.scripts.Script.{collection_styles, directives_of}
 use Rattle.yaml_base.specs.declared.directives.yaml_tag_directive_t.{yaml_tag_directive_t}
 use Rattle.yaml_base.specs.Seen.{seen_directive}

@@ -9,8 +9,10 @@ use Rattle.yaml_base.proofs.Completions.{pushed-append}
 use Rattle.yaml_base.specs.Characters.{Text, is_alpha}
 use Rattle.yaml_base.specs.Event.{Event, TagDirective, Version, alias, document_start, mapping_start, scalar, sequence_start}
 use Rattle.yaml_base.specs.Grammar.{Partial, before_stream, between_documents, within_document, after_root, after_stream, push, pushed}
-use Rattle.yaml_base.specs.Refusal.{collection_tag, content_fault, depth_fault, expected, fault_if, name_or_tag_fault, place_fault}
-use Rattle.yaml_base.specs.Refusal.{begins_collection, most_open, open_levels, properties_fault, refusal_at, scalar_tag}
+use Rattle.yaml_base.specs.Refusal.{content_fault, depth_fault, expected, fault_if, name_or_tag_fault, place_fault}
+use Rattle.yaml_base.specs.Event.{collection_tag}
+use Rattle.yaml_base.specs.Refusal.{begins_collection, most_open, open_levels, properties_fault, refusal_at}
+use Rattle.yaml_base.specs.Event.{scalar_tag}
 use Rattle.yaml_base.specs.scalars.Style.{lacks_tag_and_flags}
 use Rattle.yaml_base.specs.Tags.{alias_fault, anchor_fault, directive_fault, directives_fault_after, gives_handle, handle_fault, name_fault}
 use Rattle.yaml_base.specs.Tags.{is_the_number, last_from, next_directive_fault, prefix_fault, tag_fault, tag_mark, version_fault, without_last}

@@ -6,7 +6,7 @@ use Rattle.std.specs.List.{list_all}
 use Rattle.std.specs.Prelude.{ℕ, suc, Bool, true, false, Option, None, Some, List, [], ◌∷◌, ◌++◌, ◌<◌, ◌==◌, ◌||◌, not, length, get_or, codes, option_map, ⊤}
 use Rattle.std.specs.Prelude.{if◌then◌else◌}
 use Rattle.yaml_base.specs.Characters.{Text}
-use Rattle.yaml_base.specs.scripts.Script.{is_word}
+use Rattle.yaml_base.specs.Words.{is_word}
 use Rattle.yaml_base.specs.values.Resolved.{is_decimal, is_negative, past_sign, are_digits}
 use Rattle.yaml_base.specs.values.JsonNumbers.{JsonNumber, JsonExponent, minus, is_whole, is_json_number, exponent_text, json_text}
 use Rattle.yaml_base.proofs.NumberCuts.{digit_unlike, minus_read}

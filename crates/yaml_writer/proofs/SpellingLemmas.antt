@@ -11,7 +11,7 @@ use Rattle.std.specs.Str.{chars, IsUtf8, encode_utf8_all}
 use Rattle.std.specs.Prelude.{ℕ, Bool, true, false, Option, None, Some, List, [], ◌∷◌, ◌++◌, ◌==◌, ◌||◌, ◌&&◌, not, nat_lt, length, codes, is_some}
 use Rattle.std.specs.Prelude.{if◌then◌else◌}
 use Rattle.yaml_base.specs.Characters.{Text}
-use Rattle.yaml_base.specs.scripts.Script.{is_word}
+use Rattle.yaml_base.specs.Words.{is_word}
 use Rattle.yaml_base.specs.values.Resolved.{is_decimal, first_is, are_digits}
 use Rattle.yaml_base.specs.values.JsonNumbers.{JsonNumber, JsonExponent, minus, is_json_number, is_json_integer, exponent_text, exponent_negative}
 use Rattle.yaml_base.specs.values.JsonNumbers.{exponent_spelled, fraction_or, json_text, yaml_number}

@@ -4,7 +4,7 @@ use Rattle.std.proofs.Common.{◌++◌, length, codes, ◌⊎◌, inl, inr, ⊎_
 use Rattle.std.proofs.lemmas.Bool.{true≢false}
 use Rattle.std.proofs.lemmas.List.{append_cancel_left}
 use Rattle.yaml_base.specs.Characters.{Text}
-use Rattle.yaml_base.specs.scripts.Script.{is_word}
+use Rattle.yaml_base.specs.Words.{is_word}
 use Rattle.yaml_base.specs.values.JsonNumbers.{JsonNumber, JsonExponent, minus, json_text, yaml_number}
 use Rattle.yaml_writer.specs.Spellings.{is_spelled}
 

@@ -6,7 +6,7 @@ use Rattle.std.specs.List.{list_all, filter}
 use Rattle.std.specs.Str.{chars, IsUtf8}
 use Rattle.std.specs.Prelude.{ℕ, Bool, true, false, Some, List, [], ◌∷◌, ◌++◌, ◌||◌, ◌&&◌, not, is_some, if◌then◌else◌}
 use Rattle.yaml_base.specs.Characters.{Text}
-use Rattle.yaml_base.specs.scripts.Script.{named, is_word}
+use Rattle.yaml_base.specs.Words.{named, is_word}
 use Rattle.yaml_base.specs.values.Resolved.{Resolved, words_of_11, first_is, past_sign}
 use Rattle.yaml_base.specs.values.SurelyText.{begins_number, is_surely_text}
 use Rattle.yaml_base.proofs.AsciiWords.{is_ascii_text, ascii_of, same_word}

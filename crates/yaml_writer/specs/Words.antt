@@ -1,7 +1,7 @@
 -- The words of a schema that begin neither with a digit nor with a point, past a sign.
 use Rattle.std.specs.Prelude.{Bool, true, false, List, [], ◌∷◌, ◌++◌, ◌||◌, codes, is_some}
 use Rattle.yaml_base.specs.Characters.{Text}
-use Rattle.yaml_base.specs.scripts.Script.{named}
+use Rattle.yaml_base.specs.Words.{named}
 use Rattle.yaml_base.specs.values.Resolved.{Resolved, all_mean, meant_null, meant_boolean, meant_merge, meant_value}
 
 -- the empty text

@@ -5,7 +5,7 @@ use Rattle.std.specs.Str.{chars, is_utf8}
 use Rattle.yaml_base.specs.Event.{plain, double_quoted, flow}
 use Rattle.yaml_base.specs.streams.StreamContent.{agrees}
 use Rattle.yaml_base.specs.streams.StreamReader.{stream_trees}
-use Rattle.yaml_base.specs.streams.StreamLaw.{is_portable}
+use Rattle.yaml_base.specs.StreamLaw.{is_portable}
 use Rattle.yaml_base.proofs.rows.RowEvents.{untagged, leaf, tagged, sequence, document_of, stream_of, alone}
 
 -- a root that is written as nothing, without `---`; not so one in quotes, one after another document, one with a tag, none at all

@@ -2,7 +2,7 @@
 use Rattle.std.specs.Prelude.{◌≡◌, ℕ, Bool, true, false, Option, None, Some, List, [], ◌∷◌, codes, refl}
 use Rattle.yaml_base.specs.Characters.{Text}
 use Rattle.yaml_base.specs.Event.{any_style, plain, single_quoted, double_quoted, literal, folded}
-use Rattle.yaml_base.specs.TidyBodies.{is_tidy}
+use Rattle.yaml_base.specs.reading.TidyText.{is_tidy}
 
 -- a text in each of the three flow styles
 abbrev in_flow_styles : Option ℕ → Text → List Bool

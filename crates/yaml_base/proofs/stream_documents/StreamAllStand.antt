@@ -17,7 +17,7 @@ use Rattle.yaml_base.specs.reading.ReadBytes.{characters_read}
 use Rattle.yaml_base.specs.Meaning.{has_scalar_texts, has_scalar_values, MeaningIsKept}
 use Rattle.yaml_base.specs.WrittenTexts.{BodiesAreTidy}
 use Rattle.yaml_base.specs.streams.StreamContent.{documents_in_order}
-use Rattle.yaml_base.specs.streams.StreamLaw.{StreamReadsBack, is_portable}
+use Rattle.yaml_base.specs.StreamLaw.{StreamReadsBack, is_portable}
 use Rattle.yaml_base.proofs.Trees.{tree_of-stream_events}
 use Rattle.yaml_base.proofs.stream_lines.StreamClosed.{margin_cursor}
 use Rattle.yaml_base.proofs.stream_nodes.StreamStands.{BodyStands, BodiesHold}

@@ -6,12 +6,12 @@ use Rattle.yaml_base.specs.Characters.{Text}
 use Rattle.yaml_base.specs.Settings.{Effective}
 use Rattle.yaml_base.specs.Event.{DocumentStart}
 use Rattle.yaml_base.specs.scalars.Analysis.{is_empty}
-use Rattle.yaml_base.specs.Refusal.{scalar_tag}
+use Rattle.yaml_base.specs.Event.{scalar_tag}
 use Rattle.yaml_base.specs.Grammar.{Node, alias_node, scalar_node, sequence_node, mapping_node, Document}
 use Rattle.yaml_base.specs.Layout.{has_directives, is_explicit}
 use Rattle.yaml_base.specs.streams.StreamContent.{DocumentTree}
 use Rattle.yaml_base.specs.streams.StreamDocuments.{after_root}
-use Rattle.yaml_base.specs.streams.StreamLaw.{is_written_as_nothing}
+use Rattle.yaml_base.specs.StreamLaw.{is_written_as_nothing}
 use Rattle.yaml_base.proofs.stream_lines.StreamClosed.{closed}
 use Rattle.yaml_base.proofs.stream_nodes.StreamFits.{size}
 use Rattle.yaml_base.proofs.stream_documents.StreamRootsStand.{root_laid, heading_text, HeadingStands, RootStands, DocumentStands}

@@ -14,7 +14,8 @@ use Rattle.yaml_base.specs.scalars.Style.{lacks_tag_and_flags}
 use Rattle.yaml_base.specs.Grammar.{Node, alias_node, scalar_node, sequence_node, mapping_node, Nodes, no_nodes, nodes_and, Pairs, no_pairs, pairs_and}
 use Rattle.yaml_base.specs.Grammar.{Document, Documents, no_documents, documents_and, Stream, node_events, nodes_events, pairs_events, documents_events}
 use Rattle.yaml_base.specs.Grammar.{stream_events, tree_of}
-use Rattle.yaml_base.specs.Refusal.{scalar_tag, fault_if, name_or_tag_fault, is_sound, IsAccepted}
+use Rattle.yaml_base.specs.Refusal.{fault_if, name_or_tag_fault, is_sound, IsAccepted}
+use Rattle.yaml_base.specs.Event.{scalar_tag}
 use Rattle.yaml_base.specs.Layout.{Piece, text_of, layout, has_directives, is_explicit}
 use Rattle.yaml_base.specs.Pieces.{list_layout}
 use Rattle.yaml_base.specs.Output.{bytes_written}
@@ -22,7 +23,7 @@ use Rattle.yaml_base.specs.reading.ReadBytes.{characters_read}
 use Rattle.yaml_base.specs.streams.StreamContent.{DocumentTree, documents_in_order, document_agrees, documents_agree, agrees}
 use Rattle.yaml_base.specs.streams.StreamDocuments.{documents_of}
 use Rattle.yaml_base.specs.streams.StreamReader.{stream_trees}
-use Rattle.yaml_base.specs.streams.StreamLaw.{is_written_as_nothing, is_lost, are_portable, document_has_flow_sign, is_portable}
+use Rattle.yaml_base.specs.StreamLaw.{is_written_as_nothing, is_lost, are_portable, document_has_flow_sign, is_portable}
 use Rattle.yaml_base.proofs.Trees.{tree_of-stream_events}
 use Rattle.yaml_base.proofs.stream_lines.StreamBytes.{trees_of_bytes}
 use Rattle.yaml_base.proofs.stream_nodes.StreamAgrees.{node_is_tagged, nodes_are_tagged, pairs_are_tagged, document_tree, document_tree_agrees}

@@ -9,8 +9,8 @@ use Rattle.yaml_base.specs.Settings.{Effective}
 use Rattle.yaml_base.specs.Event.{ScalarStyle, any_style, plain, single_quoted, double_quoted, literal, folded, TagDirective, Scalar, Collection}
 use Rattle.yaml_base.specs.scalars.Analysis.{is_empty}
 use Rattle.yaml_base.specs.Grammar.{Node, alias_node, scalar_node, sequence_node, mapping_node, Nodes, Pairs}
-use Rattle.yaml_base.specs.Refusal.{scalar_tag, collection_tag}
-use Rattle.yaml_base.specs.TidyBodies.{has_deep_lines, is_tidy_style}
+use Rattle.yaml_base.specs.Event.{scalar_tag, collection_tag}
+use Rattle.yaml_base.specs.reading.TidyText.{has_deep_lines, is_tidy_style}
 use Rattle.yaml_base.specs.streams.StreamScalars.{name_read}
 use Rattle.yaml_base.specs.Cursor.{Cursor, Laid, breaks_line, new_line, nothing_laid, then_laid, indicator}
 use Rattle.yaml_base.specs.Layout.{deeper, entries_column, has_no_nodes, has_no_pairs, root_place, properties_laid, alias_laid, separation_laid, body_laid}

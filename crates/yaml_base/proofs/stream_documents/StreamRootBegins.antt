@@ -13,7 +13,7 @@ use Rattle.yaml_base.specs.scalars.SingleQuoted.{quotes_doubled, single_quote}
 use Rattle.yaml_base.specs.scalars.DoubleQuoted.{double_inside, quote_laid}
 use Rattle.yaml_base.specs.Meaning.{read_in_style}
 use Rattle.yaml_base.specs.reading.ReadPlain.{is_read_white, read_plain}
-use Rattle.yaml_base.specs.TidyBodies.{has_no_space_before_break, has_clean_edges, ends_white, is_tidy_style}
+use Rattle.yaml_base.specs.reading.TidyText.{has_no_space_before_break, has_clean_edges, ends_white, is_tidy_style}
 use Rattle.yaml_base.specs.streams.StreamContent.{Tree}
 use Rattle.yaml_base.specs.Cursor.{Cursor, Laid, space_if}
 use Rattle.yaml_base.specs.Tags.{spelling, spelled}

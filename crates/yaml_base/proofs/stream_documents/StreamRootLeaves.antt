@@ -11,10 +11,10 @@ use Rattle.yaml_base.specs.scalars.Style.{Choice, is_plain, style_asked, fits_pl
 use Rattle.yaml_base.specs.Tags.{directives_in_force}
 use Rattle.yaml_base.specs.Cursor.{Cursor}
 use Rattle.yaml_base.specs.Grammar.{Node, alias_node, scalar_node, sequence_node, mapping_node, Document}
-use Rattle.yaml_base.specs.Refusal.{scalar_tag, collection_tag}
+use Rattle.yaml_base.specs.Event.{scalar_tag, collection_tag}
 use Rattle.yaml_base.specs.Layout.{as_root, deeper, properties_laid, choice_of, root_place}
-use Rattle.yaml_base.specs.TidyBodies.{has_deep_lines, is_tidy_style}
-use Rattle.yaml_base.specs.streams.StreamLaw.{is_written_as_nothing}
+use Rattle.yaml_base.specs.reading.TidyText.{has_deep_lines, is_tidy_style}
+use Rattle.yaml_base.specs.StreamLaw.{is_written_as_nothing}
 use Rattle.yaml_base.proofs.stream_nodes.StreamTexts.{node_own}
 use Rattle.yaml_base.proofs.stream_nodes.StreamAgrees.{node_tree}
 use Rattle.yaml_base.proofs.stream_nodes.StreamStands.{tag_written, NamesStand, BodyStands, body_from, BodiesHold}

@@ -8,7 +8,7 @@ use Rattle.yaml_base.specs.Event.{TagDirective, Collection}
 use Rattle.yaml_base.specs.Tags.{directives_in_force}
 use Rattle.yaml_base.specs.Cursor.{Laid}
 use Rattle.yaml_base.specs.Grammar.{Node, alias_node, scalar_node, sequence_node, mapping_node, Nodes, Pairs, Document}
-use Rattle.yaml_base.specs.Refusal.{collection_tag}
+use Rattle.yaml_base.specs.Event.{collection_tag}
 use Rattle.yaml_base.specs.Layout.{has_no_nodes, has_no_pairs, asks_flow, is_written_in_flow, root_place, square, curly}
 use Rattle.yaml_base.specs.streams.StreamContent.{Tagging, Tree, scalar_tree, sequence_tree, mapping_tree}
 use Rattle.yaml_base.specs.streams.StreamLines.{Line, lines_of, is_spaces, without_blank_lines, indented, blanked}
@@ -16,7 +16,7 @@ use Rattle.yaml_base.specs.streams.StreamScalars.{Rules, no_properties}
 use Rattle.yaml_base.specs.streams.StreamNodes.{NodeKind, begins_sequence, begins_mapping, begins_text, kind_of_node, Reads, ReadsText, node_by_kind, node_at}
 use Rattle.yaml_base.specs.streams.StreamNodes.{begins_properties, text_or_properties, node_read}
 use Rattle.yaml_base.specs.streams.StreamDocuments.{stands_at_margin}
-use Rattle.yaml_base.specs.streams.StreamLaw.{is_written_as_nothing}
+use Rattle.yaml_base.specs.StreamLaw.{is_written_as_nothing}
 use Rattle.yaml_base.proofs.stream_lines.StreamCuts.{none_not_some}
 use Rattle.yaml_base.proofs.stream_nodes.StreamAgrees.{node_tree}
 use Rattle.yaml_base.proofs.stream_nodes.StreamTexts.{collection_own, node_own, items_own, pairs_own}

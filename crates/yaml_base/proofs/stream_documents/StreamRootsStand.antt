@@ -14,7 +14,7 @@ use Rattle.yaml_base.specs.Layout.{has_no_nodes, has_no_pairs, is_written_in_flo
 use Rattle.yaml_base.specs.streams.StreamLines.{lines_of, spaces}
 use Rattle.yaml_base.specs.streams.StreamScalars.{Rules}
 use Rattle.yaml_base.specs.streams.StreamDocuments.{heading_of, begins_with_percent}
-use Rattle.yaml_base.specs.streams.StreamLaw.{is_written_as_nothing}
+use Rattle.yaml_base.specs.StreamLaw.{is_written_as_nothing}
 use Rattle.yaml_base.proofs.stream_nodes.StreamTexts.{node_own}
 use Rattle.yaml_base.proofs.stream_lines.StreamLineLaws.{is_closed}
 use Rattle.yaml_base.proofs.stream_lines.StreamTidyLaws.{lines_after_first}

@@ -17,7 +17,7 @@ use Rattle.yaml_base.specs.streams.StreamLines.{Line, lines_of, is_spaces, all_b
 use Rattle.yaml_base.specs.streams.StreamNodes.{node_read}
 use Rattle.yaml_base.specs.streams.StreamDocuments.{mark_of, Sections, sections_of, no_heading, document_added, sections_read, documents_at_end}
 use Rattle.yaml_base.specs.streams.StreamDocuments.{begins_with_percent, directive_lines, document_lines, front_kind, front_read, documents_of}
-use Rattle.yaml_base.specs.streams.StreamLaw.{is_written_as_nothing}
+use Rattle.yaml_base.specs.StreamLaw.{is_written_as_nothing}
 use Rattle.yaml_base.proofs.stream_lines.StreamCuts.{none_not_some}
 use Rattle.yaml_base.proofs.stream_lines.StreamSections.{is_unmarked, AllUnmarked, unmarked_before}
 use Rattle.yaml_base.proofs.stream_lines.StreamClosed.{closing, margin_cursor}

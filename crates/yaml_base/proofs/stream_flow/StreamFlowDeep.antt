@@ -13,12 +13,12 @@ use Rattle.yaml_base.specs.scalars.Plain.{runs, runs_laid}
 use Rattle.yaml_base.specs.scalars.SingleQuoted.{quotes_doubled, single_quote}
 use Rattle.yaml_base.specs.scalars.DoubleQuoted.{double_inside, quote_laid}
 use Rattle.yaml_base.specs.Grammar.{Node, alias_node, scalar_node, sequence_node, mapping_node, Nodes, no_nodes, nodes_and, Pairs, no_pairs, pairs_and}
-use Rattle.yaml_base.specs.Refusal.{scalar_tag, collection_tag}
+use Rattle.yaml_base.specs.Event.{scalar_tag, collection_tag}
 use Rattle.yaml_base.specs.Layout.{Role, Place, is_in_mapping, entries_column, is_written_in_flow, as_root, as_item, as_key, as_value, is_key, line_column}
 use Rattle.yaml_base.specs.Layout.{deeper, has_no_nodes, has_no_pairs, is_simple, is_simple_at, flow_break, opening_or_comma, key_sign, flow_place_laid}
 use Rattle.yaml_base.specs.Layout.{place_laid, properties_laid, alias_laid, separation_laid, body_laid, choice_of, Brackets, square, curly, empty_or_comma}
 use Rattle.yaml_base.specs.Layout.{end_laid, entry_place}
-use Rattle.yaml_base.specs.TidyBodies.{has_deep_lines, has_no_space_before_break, has_clean_edges, ends_white, is_tidy_style, is_tidy}
+use Rattle.yaml_base.specs.reading.TidyText.{has_deep_lines, has_no_space_before_break, has_clean_edges, ends_white, is_tidy_style, is_tidy}
 use Rattle.yaml_base.specs.streams.StreamScalars.{name_read}
 use Rattle.yaml_base.proofs.stream_lines.StreamLineLaws.{OneLine, one_line_both}
 use Rattle.yaml_base.proofs.stream_lines.StreamTidyLaws.{deep_lines_fewer}

@@ -8,7 +8,7 @@ use Rattle.yaml_base.specs.Event.{TagDirective, Scalar, Collection}
 use Rattle.yaml_base.specs.Cursor.{Cursor, Laid, space_if}
 use Rattle.yaml_base.specs.scalars.Style.{is_plain}
 use Rattle.yaml_base.specs.Grammar.{Node, alias_node, scalar_node, sequence_node, mapping_node, Nodes, no_nodes, nodes_and, Pairs, no_pairs, pairs_and}
-use Rattle.yaml_base.specs.Refusal.{scalar_tag, collection_tag}
+use Rattle.yaml_base.specs.Event.{scalar_tag, collection_tag}
 use Rattle.yaml_base.specs.Layout.{Role, is_key, deeper, is_simple, properties_laid, alias_laid, separation_laid, body_laid, choice_of, square, curly, end_laid}
 use Rattle.yaml_base.specs.Layout.{entry_place}
 use Rattle.yaml_base.specs.streams.StreamContent.{Tree, alias_tree, sequence_tree, mapping_tree, no_trees, no_tree_pairs}

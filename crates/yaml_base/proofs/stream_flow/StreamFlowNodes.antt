@@ -6,7 +6,7 @@ use Rattle.yaml_base.specs.Settings.{Effective}
 use Rattle.yaml_base.specs.Event.{TagDirective}
 use Rattle.yaml_base.specs.Cursor.{Cursor, Laid, space_if, indicator}
 use Rattle.yaml_base.specs.Grammar.{Node, alias_node, scalar_node, sequence_node, mapping_node, Nodes, no_nodes, nodes_and, Pairs, no_pairs, pairs_and}
-use Rattle.yaml_base.specs.Refusal.{collection_tag}
+use Rattle.yaml_base.specs.Event.{collection_tag}
 use Rattle.yaml_base.specs.Layout.{Role, as_item, as_key, as_value, is_key, deeper, has_no_nodes, has_no_pairs, is_simple, flow_break, key_sign}
 use Rattle.yaml_base.specs.Layout.{flow_place_laid, place_laid, properties_laid, entry_place}
 use Rattle.yaml_base.specs.streams.StreamContent.{Tree, no_trees, TreePairs, no_tree_pairs, tree_pairs_and}

@@ -8,7 +8,7 @@ use Rattle.yaml_base.specs.Settings.{Effective}
 use Rattle.yaml_base.specs.Event.{TagDirective, Collection}
 use Rattle.yaml_base.specs.Cursor.{Cursor, Laid, space_if, new_line, indicator}
 use Rattle.yaml_base.specs.Grammar.{sequence_node, mapping_node, Nodes, no_nodes, nodes_and, Pairs, no_pairs, pairs_and}
-use Rattle.yaml_base.specs.Refusal.{collection_tag}
+use Rattle.yaml_base.specs.Event.{collection_tag}
 use Rattle.yaml_base.specs.Layout.{Place, is_in_mapping, line_column, deeper, entries_column, has_no_nodes, has_no_pairs, properties_laid, is_written_in_flow}
 use Rattle.yaml_base.specs.Layout.{Brackets, square, curly, end_laid}
 use Rattle.yaml_base.specs.reading.ReadPlain.{is_read_white}

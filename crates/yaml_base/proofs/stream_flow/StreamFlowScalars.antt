@@ -14,8 +14,8 @@ use Rattle.yaml_base.specs.scalars.DoubleQuoted.{double_inside, quote_laid}
 use Rattle.yaml_base.specs.Meaning.{read_in_style}
 use Rattle.yaml_base.specs.reading.ReadPlain.{read_plain}
 use Rattle.yaml_base.specs.Layout.{properties_laid, separation_laid, body_laid, choice_of, entry_place, Role}
-use Rattle.yaml_base.specs.Refusal.{scalar_tag}
-use Rattle.yaml_base.specs.TidyBodies.{is_tidy}
+use Rattle.yaml_base.specs.Event.{scalar_tag}
+use Rattle.yaml_base.specs.reading.TidyText.{is_tidy}
 use Rattle.yaml_base.specs.streams.StreamScalars.{Rules}
 use Rattle.yaml_base.proofs.stream_lines.StreamCuts.{none_not_some}
 use Rattle.yaml_base.proofs.stream_flow.StreamPropertyWords.{lead}

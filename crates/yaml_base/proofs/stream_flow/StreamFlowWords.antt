@@ -12,7 +12,7 @@ use Rattle.yaml_base.specs.reading.ReadTags.{TagSaid}
 use Rattle.yaml_base.specs.reading.ReadPlain.{is_read_white, begins_white, begins_with_hash, holds_no_plain, read_plain}
 use Rattle.yaml_base.specs.reading.ReadSingle.{read_single}
 use Rattle.yaml_base.specs.reading.ReadDouble.{read_double}
-use Rattle.yaml_base.specs.TidyBodies.{is_tidy, has_deep_lines, has_no_space_before_break, has_clean_edges}
+use Rattle.yaml_base.specs.reading.TidyText.{is_tidy, has_deep_lines, has_no_space_before_break, has_clean_edges}
 use Rattle.yaml_base.specs.streams.StreamContent.{Tree, alias_tree, scalar_tree, sequence_tree, mapping_tree, no_trees, no_tree_pairs}
 use Rattle.yaml_base.specs.streams.StreamLines.{spaces, ends_sign}
 use Rattle.yaml_base.specs.streams.StreamScalars.{Rules, name_read, tagging_said, standing_of, scalar_said, scalar_of_style, collection_tag_said, a_scalar}

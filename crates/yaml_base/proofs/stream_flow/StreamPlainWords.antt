@@ -8,7 +8,7 @@ use Rattle.yaml_base.specs.Characters.{Text, is_among, is_blank}
 use Rattle.yaml_base.specs.LineBreaks.{is_read_break}
 use Rattle.yaml_base.specs.reading.ReadFolding.{unit_of, folding_read}
 use Rattle.yaml_base.specs.reading.ReadPlain.{is_read_white, begins_white, begins_with_hash, begins_no_plain, holds_no_plain, read_plain}
-use Rattle.yaml_base.specs.TidyBodies.{ends_white, has_clean_edges}
+use Rattle.yaml_base.specs.reading.TidyText.{ends_white, has_clean_edges}
 use Rattle.yaml_base.specs.streams.StreamTokens.{FlowToken, word, free, in_plain, FlowClass, is_white_blank, is_white_break, is_flow_sign, begins_property}
 use Rattle.yaml_base.specs.streams.StreamTokens.{begins_double, begins_single, begins_bracket, begins_plain, class_of, FlowTurn, begun, plain_turn}
 use Rattle.yaml_base.specs.streams.StreamTokens.{white_of_class, white_token, flow_tokens}

@@ -9,7 +9,7 @@ use Rattle.yaml_base.specs.reading.ReadTags.{TagSaid}
 use Rattle.yaml_base.specs.reading.ReadPlain.{is_read_white, read_plain}
 use Rattle.yaml_base.specs.reading.ReadSingle.{read_single}
 use Rattle.yaml_base.specs.reading.ReadDouble.{read_double}
-use Rattle.yaml_base.specs.TidyBodies.{has_clean_edges}
+use Rattle.yaml_base.specs.reading.TidyText.{has_clean_edges}
 use Rattle.yaml_base.specs.streams.StreamTokens.{word, opens, FlowPlace, free, in_property, after_property, FlowClass, is_white_blank, is_white_break}
 use Rattle.yaml_base.specs.streams.StreamTokens.{is_flow_sign, begins_property, begins_double, begins_single, begins_bracket, begins_plain, class_of, FlowTurn}
 use Rattle.yaml_base.specs.streams.StreamTokens.{begun, begun_after_property, property_turn, bracket_turn, is_pair, flow_tokens}

@@ -6,7 +6,7 @@ use Rattle.yaml_base.specs.Characters.{Text}
 use Rattle.yaml_base.specs.reading.ReadPlain.{read_plain}
 use Rattle.yaml_base.specs.reading.ReadSingle.{read_single}
 use Rattle.yaml_base.specs.reading.ReadDouble.{read_double}
-use Rattle.yaml_base.specs.TidyBodies.{has_clean_edges}
+use Rattle.yaml_base.specs.reading.TidyText.{has_clean_edges}
 use Rattle.yaml_base.specs.streams.StreamTokens.{FlowToken, word, opens, sign, blank, line_end, free, is_white_blank, is_white_break, is_flow_sign}
 use Rattle.yaml_base.specs.streams.StreamTokens.{begins_double, begins_single, begins_bracket, begins_plain, class_of, FlowTurn, begun, bracket_turn, is_pair}
 use Rattle.yaml_base.specs.streams.StreamTokens.{flow_tokens}

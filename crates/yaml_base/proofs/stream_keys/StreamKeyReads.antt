@@ -9,7 +9,7 @@ use Rattle.yaml_base.specs.reading.ReadTags.{TagSaid}
 use Rattle.yaml_base.specs.reading.ReadPlain.{read_plain}
 use Rattle.yaml_base.specs.reading.ReadSingle.{read_single}
 use Rattle.yaml_base.specs.reading.ReadDouble.{read_double}
-use Rattle.yaml_base.specs.TidyBodies.{is_tidy}
+use Rattle.yaml_base.specs.reading.TidyText.{is_tidy}
 use Rattle.yaml_base.specs.streams.StreamContent.{stood_quoted, Tree, sequence_tree, mapping_tree, no_trees, no_tree_pairs}
 use Rattle.yaml_base.specs.streams.StreamLines.{ends_sign}
 use Rattle.yaml_base.specs.streams.StreamScalars.{Rules, Properties, scalar_said, scalar_of_style, an_alias, empty_sequence, empty_mapping, a_scalar}

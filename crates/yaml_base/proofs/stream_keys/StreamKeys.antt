@@ -7,7 +7,7 @@ use Rattle.yaml_base.specs.Characters.{Text, space}
 use Rattle.yaml_base.specs.Event.{single_quoted, double_quoted}
 use Rattle.yaml_base.specs.reading.ReadSingle.{read_single}
 use Rattle.yaml_base.specs.reading.ReadDouble.{read_double}
-use Rattle.yaml_base.specs.TidyBodies.{is_tidy}
+use Rattle.yaml_base.specs.reading.TidyText.{is_tidy}
 use Rattle.yaml_base.specs.streams.StreamContent.{Stood, stood_quoted, Tagging, without_tag, Tree, scalar_tree}
 use Rattle.yaml_base.specs.streams.StreamLines.{ends_sign}
 use Rattle.yaml_base.specs.streams.StreamScalars.{Rules, Properties, no_properties, tagging_said, scalar_said, scalar_of_style, word_read}

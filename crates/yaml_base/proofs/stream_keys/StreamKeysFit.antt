@@ -13,7 +13,7 @@ use Rattle.yaml_base.specs.Cursor.{Cursor, space_if}
 use Rattle.yaml_base.specs.scalars.Analysis.{Allowances, is_empty, allowances}
 use Rattle.yaml_base.specs.scalars.Style.{style_asked, style_fitting, fits_plain}
 use Rattle.yaml_base.specs.Grammar.{alias_node, scalar_node, sequence_node, mapping_node, no_nodes, nodes_and, no_pairs, pairs_and}
-use Rattle.yaml_base.specs.Refusal.{scalar_tag, collection_tag}
+use Rattle.yaml_base.specs.Event.{scalar_tag, collection_tag}
 use Rattle.yaml_base.specs.Layout.{Role, is_key, byte_count, name_count, tag_count, is_short, is_simple, deeper, properties_laid, alias_laid, separation_laid}
 use Rattle.yaml_base.specs.Layout.{body_laid, choice_of, entry_place}
 use Rattle.yaml_base.specs.Places.{most_key_bytes}

@@ -12,7 +12,7 @@ use Rattle.yaml_base.specs.reading.ReadTags.{TagSaid, tag_said}
 use Rattle.yaml_base.specs.streams.StreamScalars.{Rules, Properties, PropertiesRead, word_cut, name_read, tag_of_word, tag_first, collection_tag_said}
 use Rattle.yaml_base.specs.streams.StreamScalars.{tagging_said, scalar_said, standing_of, style_begun, value_read, alias_said, WordKind, an_alias}
 use Rattle.yaml_base.specs.streams.StreamScalars.{empty_sequence, empty_mapping, a_scalar, kind_of_word, word_by_kind, word_after, word_read}
-use Rattle.yaml_base.specs.TidyBodies.{is_tidy}
+use Rattle.yaml_base.specs.reading.TidyText.{is_tidy}
 use Rattle.yaml_base.specs.streams.StreamFlow.{is_alias, longest_key}
 use Rattle.yaml_base.specs.streams.StreamNodes.{key_ends, key_of_text, key_from, word_of_alias, without_last_space}
 use Rattle.yaml_base.proofs.stream_lines.StreamInside.{indented_spaces}

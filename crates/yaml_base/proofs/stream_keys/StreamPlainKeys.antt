@@ -8,7 +8,7 @@ use Rattle.yaml_base.specs.Characters.{Text, space, is_among, is_printable}
 use Rattle.yaml_base.specs.Event.{TagDirective, plain}
 use Rattle.yaml_base.specs.reading.ReadFolding.{unit_of, folding_read}
 use Rattle.yaml_base.specs.reading.ReadPlain.{is_read_white, begins_white, begins_with_three, begins_with_hash, begins_no_plain, holds_no_plain, read_plain}
-use Rattle.yaml_base.specs.TidyBodies.{is_tidy, has_deep_lines, has_no_space_before_break, has_clean_edges, ends_white}
+use Rattle.yaml_base.specs.reading.TidyText.{is_tidy, has_deep_lines, has_no_space_before_break, has_clean_edges, ends_white}
 use Rattle.yaml_base.specs.streams.StreamContent.{stood_plain, without_tag, Tree, scalar_tree}
 use Rattle.yaml_base.specs.streams.StreamLines.{ends_sign, Indented, indented, indented_step}
 use Rattle.yaml_base.specs.streams.StreamScalars.{Rules, no_properties, properties_read, anchor_of_word, word_cut, tag_first, tag_of_word, scalar_said}

@@ -11,9 +11,9 @@ use Rattle.yaml_base.specs.Cursor.{Cursor, Laid, nothing_laid, space_if}
 use Rattle.yaml_base.specs.scalars.Analysis.{Allowances, is_empty, allowances}
 use Rattle.yaml_base.specs.scalars.Style.{is_plain, style_asked, style_fitting, fits_plain}
 use Rattle.yaml_base.specs.Grammar.{alias_node, scalar_node, sequence_node, mapping_node, no_nodes, nodes_and, Pairs, no_pairs, pairs_and}
-use Rattle.yaml_base.specs.Refusal.{scalar_tag, collection_tag}
+use Rattle.yaml_base.specs.Event.{scalar_tag, collection_tag}
 use Rattle.yaml_base.specs.Meaning.{read_in_style}
-use Rattle.yaml_base.specs.TidyBodies.{is_tidy}
+use Rattle.yaml_base.specs.reading.TidyText.{is_tidy}
 use Rattle.yaml_base.specs.Layout.{as_key, byte_count, name_count, tag_count, is_short, has_no_pairs, deeper, Body, body_at, properties_laid, separation_laid}
 use Rattle.yaml_base.specs.Layout.{body_laid, choice_of, Place, entry_place, Role, alias_laid, asks_flow, is_written_in_flow, Brackets, square, curly, end_laid}
 use Rattle.yaml_base.specs.Places.{most_key_bytes}

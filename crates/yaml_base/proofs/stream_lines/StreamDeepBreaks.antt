@@ -7,7 +7,7 @@ use Rattle.yaml_base.specs.Characters.{Text, space, line_feed, is_blank}
 use Rattle.yaml_base.specs.LineBreaks.{is_read_break}
 use Rattle.yaml_base.specs.reading.ReadPlain.{is_read_white}
 use Rattle.yaml_base.specs.Cursor.{Cursor, breaks_line, new_line, space_if}
-use Rattle.yaml_base.specs.TidyBodies.{begins_with_spaces, begins_with_blank_line, begins_with_deep_line, has_deep_lines, begins_with_break, ends_white}
+use Rattle.yaml_base.specs.reading.TidyText.{begins_with_spaces, begins_with_blank_line, begins_with_deep_line, has_deep_lines, begins_with_break, ends_white}
 use Rattle.yaml_base.specs.streams.StreamLines.{Line, character_before, lines_of, is_inside, spaces}
 use Rattle.yaml_base.proofs.stream_lines.StreamLineLaws.{OneLine}
 use Rattle.yaml_base.proofs.stream_lines.StreamInside.{AllInside}

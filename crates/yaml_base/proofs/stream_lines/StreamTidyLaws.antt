@@ -6,7 +6,7 @@ use Rattle.std.specs.Prelude.{ℕ, Bool, true, false, Option, None, Some, List, 
 use Rattle.yaml_base.specs.Characters.{Text, space, is_printable}
 use Rattle.yaml_base.specs.LineBreaks.{is_read_break}
 use Rattle.yaml_base.specs.Event.{ScalarStyle}
-use Rattle.yaml_base.specs.TidyBodies.{ends_line, begins_with_spaces, begins_with_blank_line, begins_with_deep_line, has_deep_lines, is_tidy_style, is_tidy}
+use Rattle.yaml_base.specs.reading.TidyText.{ends_line, begins_with_spaces, begins_with_blank_line, begins_with_deep_line, has_deep_lines, is_tidy_style, is_tidy}
 use Rattle.yaml_base.specs.streams.StreamLines.{Line, extending, character_before, lines_of, is_inside}
 use Rattle.yaml_base.proofs.stream_lines.StreamInside.{AllInside}
 

@@ -13,7 +13,7 @@ use Rattle.yaml_base.specs.scalars.Analysis.{Allowances, is_empty, allowances}
 use Rattle.yaml_base.specs.scalars.Style.{Choice, lacks_tag_and_flags, is_plain, style_asked, style_quoted, style_fitting, fits_plain}
 use Rattle.yaml_base.specs.Grammar.{Node, alias_node, scalar_node, sequence_node, mapping_node, Nodes, no_nodes, nodes_and, Pairs, no_pairs, pairs_and}
 use Rattle.yaml_base.specs.Grammar.{Document}
-use Rattle.yaml_base.specs.Refusal.{scalar_tag, collection_tag}
+use Rattle.yaml_base.specs.Event.{scalar_tag, collection_tag}
 use Rattle.yaml_base.specs.Layout.{as_item, as_key, as_value, Place, has_no_nodes, has_no_pairs, is_simple, is_simple_at, choice_of, is_written_in_flow}
 use Rattle.yaml_base.specs.Layout.{entry_place, root_place}
 use Rattle.yaml_base.specs.streams.StreamContent.{Stood, stood_plain, stood_quoted, stood_bare, Tagging, with_tag, without_tag, Tree, alias_tree, scalar_tree}

@@ -10,7 +10,8 @@ use Rattle.yaml_base.specs.Event.{TagDirective}
 use Rattle.yaml_base.specs.Tags.{directives_in_force}
 use Rattle.yaml_base.specs.Grammar.{Node, alias_node, scalar_node, sequence_node, mapping_node, Nodes, no_nodes, nodes_and, Pairs, no_pairs, pairs_and}
 use Rattle.yaml_base.specs.Grammar.{Documents, no_documents, documents_and, Stream, stream_events}
-use Rattle.yaml_base.specs.Refusal.{collection_tag, IsAccepted}
+use Rattle.yaml_base.specs.Refusal.{IsAccepted}
+use Rattle.yaml_base.specs.Event.{collection_tag}
 use Rattle.yaml_base.specs.Layout.{as_item, as_key, as_value, Place, is_in_mapping, entries_column, has_no_nodes, has_no_pairs, is_simple, is_simple_at}
 use Rattle.yaml_base.specs.Layout.{place_laid, Body, Piece, bodies_of, Standing, properties_laid, is_written_in_flow, entry_place, node_laid, nodes_laid}
 use Rattle.yaml_base.specs.Layout.{pairs_laid, document_start_laid, document_start_piece, document_laid, documents_laid, has_no_documents, first_standing}
@@ -18,7 +19,8 @@ use Rattle.yaml_base.specs.Layout.{root_place, layout}
 use Rattle.yaml_base.specs.Pieces.{list_layout}
 use Rattle.yaml_base.specs.Meaning.{read_in_style, BodyReads, BodyMeans, has_scalar_values, MeaningIsKept}
 use Rattle.yaml_base.specs.WrittenTexts.{BodiesAreTidy}
-use Rattle.yaml_base.specs.TidyBodies.{IsTidy, has_deep_lines, is_tidy_style}
+use Rattle.yaml_base.specs.TidyBodies.{IsTidy}
+use Rattle.yaml_base.specs.reading.TidyText.{has_deep_lines, is_tidy_style}
 use Rattle.yaml_base.proofs.Trees.{tree_of-stream_events}
 use Rattle.yaml_base.proofs.BreakLaws.{breaks-round}
 use Rattle.yaml_base.proofs.stream_lines.StreamBytes.{printable_laid}

@@ -13,12 +13,13 @@ use Rattle.yaml_base.specs.Event.{mapping_start, mapping_end}
 use Rattle.yaml_base.specs.Tags.{name_fault, anchor_fault, tag_fault, version_fault, directives_fault, directives_in_force}
 use Rattle.yaml_base.specs.Grammar.{Node, alias_node, scalar_node, sequence_node, mapping_node, Nodes, no_nodes, nodes_and, Pairs, no_pairs, pairs_and}
 use Rattle.yaml_base.specs.Grammar.{Document, node_events, nodes_events, pairs_events, document_events, documents_events, Stream, stream_events, tree_of}
-use Rattle.yaml_base.specs.Refusal.{scalar_tag, collection_tag, properties_fault, name_or_tag_fault, content_fault, is_sound, IsAccepted}
+use Rattle.yaml_base.specs.Refusal.{properties_fault, name_or_tag_fault, content_fault, is_sound, IsAccepted}
+use Rattle.yaml_base.specs.Event.{scalar_tag, collection_tag}
 use Rattle.yaml_base.specs.Meaning.{option_scalars, directive_scalars, has_scalar_texts}
 use Rattle.yaml_base.specs.streams.StreamContent.{documents_in_order}
 use Rattle.yaml_base.specs.streams.StreamScalars.{name_read}
-use Rattle.yaml_base.specs.streams.StreamLaw.{tag_has_flow_sign, node_has_flow_sign, nodes_have_flow_sign, pairs_have_flow_sign, document_has_flow_sign}
-use Rattle.yaml_base.specs.streams.StreamLaw.{is_lost, are_portable, is_portable}
+use Rattle.yaml_base.specs.StreamLaw.{tag_has_flow_sign, node_has_flow_sign, nodes_have_flow_sign, pairs_have_flow_sign, document_has_flow_sign}
+use Rattle.yaml_base.specs.StreamLaw.{is_lost, are_portable, is_portable}
 use Rattle.yaml_base.proofs.Trees.{tree_of-stream_events}
 use Rattle.yaml_base.proofs.NoFaults.{neither, is_none_none}
 use Rattle.yaml_base.proofs.stream_nodes.StreamProperties.{IsNamed}

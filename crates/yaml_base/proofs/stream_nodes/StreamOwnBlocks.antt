@@ -9,7 +9,7 @@ use Rattle.yaml_base.specs.LineBreaks.{is_read_break}
 use Rattle.yaml_base.specs.Event.{ScalarStyle, literal, folded}
 use Rattle.yaml_base.specs.reading.ReadTags.{TagSaid}
 use Rattle.yaml_base.specs.reading.ReadBlock.{elements, digit_first, after_digit, chomping_first, after_chomping, after_break, read_lines, read_block}
-use Rattle.yaml_base.specs.TidyBodies.{has_deep_lines, is_tidy}
+use Rattle.yaml_base.specs.reading.TidyText.{has_deep_lines, is_tidy}
 use Rattle.yaml_base.specs.streams.StreamContent.{stood_quoted}
 use Rattle.yaml_base.specs.streams.StreamLines.{Line, extending, character_before, lines_of}
 use Rattle.yaml_base.specs.streams.StreamScalars.{Rules, Properties, no_properties, scalar_said, a_scalar, kind_of_word, word_by_kind}

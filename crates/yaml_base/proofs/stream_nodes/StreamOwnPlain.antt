@@ -8,7 +8,7 @@ use Rattle.yaml_base.specs.Characters.{Text, tab, is_among, is_blank, is_printab
 use Rattle.yaml_base.specs.LineBreaks.{is_read_break}
 use Rattle.yaml_base.specs.Event.{plain}
 use Rattle.yaml_base.specs.reading.ReadPlain.{is_read_white, begins_white, begins_with_three, begins_with_hash, begins_no_plain, holds_no_plain, read_plain}
-use Rattle.yaml_base.specs.TidyBodies.{has_deep_lines, ends_white, has_no_space_before_break, has_clean_edges, is_tidy}
+use Rattle.yaml_base.specs.reading.TidyText.{has_deep_lines, ends_white, has_no_space_before_break, has_clean_edges, is_tidy}
 use Rattle.yaml_base.specs.streams.StreamContent.{stood_plain}
 use Rattle.yaml_base.specs.streams.StreamLines.{Line, extending, character_before, lines_of, ends_sign, begins_with_sign}
 use Rattle.yaml_base.specs.streams.StreamScalars.{Rules, scalar_said, scalar_of_style, word_by_kind, word_after}

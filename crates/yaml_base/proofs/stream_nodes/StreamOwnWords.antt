@@ -11,7 +11,7 @@ use Rattle.yaml_base.specs.reading.ReadTags.{TagSaid}
 use Rattle.yaml_base.specs.reading.ReadPlain.{is_read_white}
 use Rattle.yaml_base.specs.reading.ReadSingle.{read_single}
 use Rattle.yaml_base.specs.reading.ReadDouble.{read_double}
-use Rattle.yaml_base.specs.TidyBodies.{begins_with_spaces, begins_with_blank_line, begins_with_deep_line, has_deep_lines, ends_white, is_tidy_style, is_tidy}
+use Rattle.yaml_base.specs.reading.TidyText.{begins_with_spaces, begins_with_blank_line, begins_with_deep_line, has_deep_lines, ends_white, is_tidy_style, is_tidy}
 use Rattle.yaml_base.specs.streams.StreamContent.{Stood, stood_quoted}
 use Rattle.yaml_base.specs.streams.StreamLines.{Line, extending, character_before, lines_of, ends_sign, is_inside}
 use Rattle.yaml_base.specs.streams.StreamScalars.{Rules, Properties, scalar_said, word_by_kind, word_after}

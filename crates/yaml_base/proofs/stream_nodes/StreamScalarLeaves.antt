@@ -9,8 +9,8 @@ use Rattle.yaml_base.specs.Event.{ScalarStyle, TagDirective, any_style, plain, s
 use Rattle.yaml_base.specs.scalars.Analysis.{Allowances, allowances, allows_block, is_empty}
 use Rattle.yaml_base.specs.scalars.Style.{is_plain, style_asked, fits_plain}
 use Rattle.yaml_base.specs.Meaning.{read_in_style}
-use Rattle.yaml_base.specs.TidyBodies.{is_tidy}
-use Rattle.yaml_base.specs.Refusal.{scalar_tag}
+use Rattle.yaml_base.specs.reading.TidyText.{is_tidy}
+use Rattle.yaml_base.specs.Event.{scalar_tag}
 use Rattle.yaml_base.specs.Grammar.{scalar_node}
 use Rattle.yaml_base.specs.Layout.{Place, deeper, is_simple_at, body_laid, choice_of}
 use Rattle.yaml_base.proofs.stream_nodes.StreamFits.{Fits}

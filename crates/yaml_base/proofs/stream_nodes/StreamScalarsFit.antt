@@ -17,7 +17,7 @@ use Rattle.yaml_base.specs.scalars.Literal.{indented}
 use Rattle.yaml_base.specs.scalars.Folded.{folded_parts}
 use Rattle.yaml_base.specs.reading.ReadBlock.{read_block}
 use Rattle.yaml_base.specs.Meaning.{read_in_style}
-use Rattle.yaml_base.specs.TidyBodies.{is_tidy}
+use Rattle.yaml_base.specs.reading.TidyText.{is_tidy}
 use Rattle.yaml_base.specs.Layout.{Place, properties_laid, separation_laid, body_laid}
 use Rattle.yaml_base.specs.streams.StreamLines.{spaces}
 use Rattle.yaml_base.specs.streams.StreamScalars.{Rules}

@@ -8,7 +8,7 @@ use Rattle.yaml_base.specs.Event.{TagDirective, Scalar}
 use Rattle.yaml_base.specs.Cursor.{Cursor}
 use Rattle.yaml_base.specs.Tags.{spelling, spelled}
 use Rattle.yaml_base.specs.Grammar.{Node, alias_node, scalar_node, sequence_node, mapping_node, Nodes, no_nodes, nodes_and, Pairs, no_pairs, pairs_and}
-use Rattle.yaml_base.specs.Refusal.{scalar_tag, collection_tag}
+use Rattle.yaml_base.specs.Event.{scalar_tag, collection_tag}
 use Rattle.yaml_base.specs.Meaning.{read_in_style}
 use Rattle.yaml_base.specs.Layout.{as_item, as_key, as_value, Place, is_in_mapping, deeper, entries_column, has_no_nodes, has_no_pairs, is_simple, is_simple_at}
 use Rattle.yaml_base.specs.Layout.{place_laid, Body, body_at, properties_laid, separation_laid, body_laid, choice_of, is_written_in_flow, entry_place}

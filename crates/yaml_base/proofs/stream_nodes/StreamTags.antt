@@ -14,7 +14,7 @@ use Rattle.yaml_base.specs.reading.ReadTags.{bare_said, name_said, CutText, cut_
 use Rattle.yaml_base.specs.reading.ReadTags.{without_end_sign, name_joined, prefix_among, directives_assumed}
 use Rattle.yaml_base.specs.reading.CanonicalReader.{shorthand_read, tag_read, verbatim_read}
 use Rattle.yaml_base.specs.Tags.{tag_mark, directives_fault, directives_in_force, Spelling, verbatim, spelling, spelled}
-use Rattle.yaml_base.specs.streams.StreamLaw.{has_flow_sign}
+use Rattle.yaml_base.specs.StreamLaw.{has_flow_sign}
 use Rattle.yaml_base.proofs.PercentLaws.{character_is_no_flow_sign, stands_written, escaped_stands, suffix_stands, escaped_begins, suffix_begins}
 use Rattle.yaml_base.proofs.PercentLaws.{written_is_no_less, alpha_is_no_less, portable_suffix_has_no_flow_sign}
 use Rattle.yaml_base.proofs.TagForms.{end_sign_dropped, IsHandle, handle_form, in_force_found, spelling_is}

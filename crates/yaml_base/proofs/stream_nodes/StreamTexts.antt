@@ -7,7 +7,7 @@ use Rattle.yaml_base.specs.Settings.{Effective}
 use Rattle.yaml_base.specs.Event.{TagDirective, Scalar}
 use Rattle.yaml_base.specs.Cursor.{Cursor, Laid, nothing_laid, then_laid}
 use Rattle.yaml_base.specs.Grammar.{Node, alias_node, scalar_node, sequence_node, mapping_node, Nodes, no_nodes, nodes_and, Pairs, no_pairs, pairs_and}
-use Rattle.yaml_base.specs.Refusal.{scalar_tag, collection_tag}
+use Rattle.yaml_base.specs.Event.{scalar_tag, collection_tag}
 use Rattle.yaml_base.specs.Layout.{as_item, as_key, as_value, Place, is_in_mapping, deeper, entries_column, has_no_nodes, has_no_pairs, is_simple, is_simple_at}
 use Rattle.yaml_base.specs.Layout.{place_laid, Piece, piece_text, text_of, Standing, PiecesLaid, then_pieces, properties_laid, alias_laid, separation_laid}
 use Rattle.yaml_base.specs.Layout.{body_laid, choice_of, is_written_in_flow, Brackets, square, curly, end_laid, entry_place, node_laid, nodes_laid, pairs_laid}

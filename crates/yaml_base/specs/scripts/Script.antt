@@ -10,9 +10,12 @@ use Rattle.yaml_base.specs.Characters.{Text, line_feed, carriage_return}
 use Rattle.yaml_base.specs.Settings.{largest_i32, Settings, Encoding, LineBreak}
 use Rattle.yaml_base.specs.Event.{Event, stream_start, stream_end, document_start, document_end, alias, scalar, sequence_start, sequence_end, mapping_start}
 use Rattle.yaml_base.specs.Event.{mapping_end, ScalarStyle, CollectionStyle, Version, TagDirective, Collection}
-pub use Rattle.yaml_base.specs.scripts.ScriptWords.{quotation_mark, number_sign, backslash, is_word, Within, Turn, numbered_turn, turn, text_from, Field}
+use Rattle.yaml_base.specs.Words.{is_word, named}
+pub use Rattle.yaml_base.specs.scripts.ScriptWords.{quotation_mark, number_sign, backslash, Within, Turn, numbered_turn, turn, text_from, Field}
+pub use Rattle.yaml_base.specs.Words.{is_word}
 pub use Rattle.yaml_base.specs.scripts.ScriptWords.{FieldState, state_after, separates, cut_before, pieces_from, field_read, field_and, each_field, fields_read}
-pub use Rattle.yaml_base.specs.scripts.ScriptWords.{named, flags, switches, encodings, line_breaks, scalar_styles, collection_styles, number_up_to}
+pub use Rattle.yaml_base.specs.scripts.ScriptWords.{flags, switches, encodings, line_breaks, scalar_styles, collection_styles, number_up_to}
+pub use Rattle.yaml_base.specs.Words.{named}
 pub use Rattle.yaml_base.specs.scripts.ScriptWords.{signed_number, at_character, at_escape, at_brace, at_digits, goes_on, stands_for, ends, fails, bare, quoted}
 pub use Rattle.yaml_base.specs.scripts.ScriptWords.{outside, inside, escaped}
 

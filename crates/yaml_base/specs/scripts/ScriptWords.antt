@@ -23,10 +23,6 @@ number_sign = 0x23
 abbrev pub backslash : ℕ
 backslash = 0x5C
 
--- a text is this word
-abbrev pub is_word : Text → Text → Bool
-is_word text word = bytes_eq text word
-
 -- ---- texts between quotation marks
 
 -- a text's next character stands after a whole character, a backslash, `\u`, or `\u{` and these characters
@@ -128,11 +124,6 @@ abbrev pub fields_read : Text → Option (List Field)
 fields_read line = each_field (pieces_from outside line)
 
 -- ---- words and numbers
-
--- what a word means in a table
-abbrev pub named : {A : Type 0} → List (Text × A) → Text → Option A
-named [] word = None
-named (entry ∷ rest) word = if is_word word entry.0 then Some entry.1 else named rest word
 
 -- off and on, of a flag and of a setting
 abbrev pub flags : List (Text × Bool)

@@ -6,7 +6,7 @@ use Rattle.yaml_base.specs.Characters.{Text}
 use Rattle.yaml_base.specs.Event.{Version, TagDirective, Scalar, Event}
 use Rattle.yaml_base.specs.Grammar.{Node, alias_node, scalar_node, sequence_node, mapping_node, Nodes, no_nodes, nodes_and, Pairs, no_pairs, pairs_and}
 use Rattle.yaml_base.specs.Grammar.{Document, Documents, no_documents, documents_and, tree_of}
-use Rattle.yaml_base.specs.Refusal.{scalar_tag, collection_tag}
+use Rattle.yaml_base.specs.Event.{scalar_tag, collection_tag}
 
 -- how a scalar without a tag stood: plain, in quotes or a block style, or so after the bare tag `!`
 pub data Stood : Type 0 where

@@ -4,7 +4,7 @@ use Rattle.std.specs.Prelude.{length, codes, is_some, if◌then◌else◌}
 use Rattle.std.specs.Str.Parse.{digits_value}
 use Rattle.std.specs.Ordering.{int_eq}
 use Rattle.yaml_base.specs.Characters.{Text}
-use Rattle.yaml_base.specs.scripts.Script.{is_word}
+use Rattle.yaml_base.specs.Words.{is_word}
 use Rattle.yaml_base.specs.values.Resolved.{Decimal, Resolved, meant_integer, meant_decimal, first_is, signed, are_digits}
 use Rattle.yaml_base.specs.values.SchemaCore.{resolved_by_core}
 use Rattle.yaml_base.specs.values.SchemaOf11.{resolved_by_11}

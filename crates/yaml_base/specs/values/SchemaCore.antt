@@ -3,7 +3,7 @@ use Rattle.std.specs.Prelude.{ℕ, pos, Bool, Option, None, List, [], ◌∷◌,
 use Rattle.std.specs.List.{slice_split}
 use Rattle.std.specs.Str.Parse.{digits_value}
 use Rattle.yaml_base.specs.Characters.{Text}
-use Rattle.yaml_base.specs.scripts.Script.{named}
+use Rattle.yaml_base.specs.Words.{named}
 use Rattle.yaml_base.specs.values.Resolved.{Decimal, Resolved, meant_integer, first_reading, reading_if, words_of_core, is_point, is_exponent_mark, past_sign}
 use Rattle.yaml_base.specs.values.Resolved.{is_negative, signed, are_digits, pointed, exponent_read, scientific}
 

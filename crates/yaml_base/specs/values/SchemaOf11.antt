@@ -6,7 +6,7 @@ use Rattle.std.specs.List.{list_all, slice_split, filter, concat, prefix_len, ta
 use Rattle.std.specs.Char.{is_digit}
 use Rattle.std.specs.Str.Parse.{digits_value}
 use Rattle.yaml_base.specs.Characters.{Text, is_blank}
-use Rattle.yaml_base.specs.scripts.Script.{named, is_word}
+use Rattle.yaml_base.specs.Words.{named, is_word}
 use Rattle.yaml_base.specs.values.Resolved.{Decimal, Resolved, meant_integer, meant_decimal, meant_timestamp, meant_by_nobody, first_reading, reading_if}
 use Rattle.yaml_base.specs.values.Resolved.{words_of_11, is_point, is_exponent_mark, is_sign, is_decimal, first_is, past_sign, is_negative, signed, are_digits}
 use Rattle.yaml_base.specs.values.Resolved.{counted_digits, pointed, exponent_read, scientific}

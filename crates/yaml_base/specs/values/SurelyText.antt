@@ -1,7 +1,7 @@
 -- Texts that are written plain and read as texts, whichever schema reads them.
 use Rattle.std.specs.Prelude.{◌≡◌, ℕ, Bool, true, ◌||◌, ◌&&◌, not, is_some}
 use Rattle.yaml_base.specs.Characters.{Text}
-use Rattle.yaml_base.specs.scripts.Script.{named}
+use Rattle.yaml_base.specs.Words.{named}
 use Rattle.yaml_base.specs.values.Resolved.{meant_text, words_of_11, is_point, is_decimal, first_is, past_sign}
 use Rattle.yaml_base.specs.values.SchemaCore.{resolved_by_core}
 use Rattle.yaml_base.specs.values.SchemaOf11.{resolved_by_11}

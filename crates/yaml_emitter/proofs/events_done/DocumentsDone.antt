@@ -8,7 +8,8 @@ use Rattle.yaml_base.specs.Event.{Version, TagDirective, DocumentStart, Event, s
 use Rattle.yaml_base.specs.Event.{sequence_start, sequence_end, mapping_start, mapping_end}
 use Rattle.yaml_base.specs.Tags.{anchor_fault, tag_fault, name_fault, version_fault, handle_fault, prefix_fault, directive_fault, next_directive_fault}
 use Rattle.yaml_base.specs.Tags.{directives_fault, directives_fault_after, directives_in_force, gives_handle, is_the_number, last_from, without_last, tag_mark}
-use Rattle.yaml_base.specs.Refusal.{content_fault, properties_fault, name_or_tag_fault, scalar_tag, collection_tag, fault_if, begins_collection, most_open}
+use Rattle.yaml_base.specs.Refusal.{content_fault, properties_fault, name_or_tag_fault, fault_if, begins_collection, most_open}
+use Rattle.yaml_base.specs.Event.{scalar_tag, collection_tag}
 use Rattle.yaml_base.specs.Layout.{document_start_piece}
 use Rattle.yaml_base.specs.Steps.{Frame, Stage, at_document, at_node, stage_refusal, stage_allows, stage_expected, open_frames}
 use Rattle.yaml_base.specs.declared.errors.yaml_error_t.{yaml_error_t}

@@ -6,7 +6,8 @@ use Rattle.std.specs.Prelude.{is_some, option_and_then}
 use Rattle.yaml_base.specs.Settings.{Effective}
 use Rattle.yaml_base.specs.Event.{Event, TagDirective, Scalar, Collection, alias, scalar}
 use Rattle.yaml_base.specs.Layout.{Place, is_key, is_simple_alias, is_simple_scalar, alias_piece, scalar_piece}
-use Rattle.yaml_base.specs.Refusal.{name_or_tag_fault, scalar_tag, collection_tag, fault_if}
+use Rattle.yaml_base.specs.Refusal.{name_or_tag_fault, fault_if}
+use Rattle.yaml_base.specs.Event.{scalar_tag, collection_tag}
 use Rattle.yaml_base.specs.scalars.Style.{lacks_tag_and_flags}
 use Rattle.yaml_base.specs.Tags.{alias_fault, anchor_fault, tag_fault}
 use Rattle.yaml_base.specs.Steps.{Frame, Stage, at_node, next_place, stage_after, stage_refusal}

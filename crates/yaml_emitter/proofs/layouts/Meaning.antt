@@ -16,7 +16,8 @@ use Rattle.yaml_base.specs.Meaning.{BodyMeans, has_scalar_values, MeaningIsKept}
 use Rattle.yaml_base.specs.NodeLayout.{Body, Piece, bodies_of, Standing, choice_of, scalar_lead, scalar_piece, body_at, body_laid}
 use Rattle.yaml_base.specs.Pieces.{list_layout}
 use Rattle.yaml_base.specs.Places.{Place, deeper}
-use Rattle.yaml_base.specs.Refusal.{IsAccepted, scalar_tag}
+use Rattle.yaml_base.specs.Refusal.{IsAccepted}
+use Rattle.yaml_base.specs.Event.{scalar_tag}
 use Rattle.yaml_base.specs.Settings.{Effective, effective, effective_indent}
 use Rattle.yaml_base.specs.Steps.{Frame, Stage, at_stream, at_document, at_node, at_document_end, step, node_step, ends_next, steps}
 use Rattle.yaml_base.proofs.StepLaws.{stream_steps}

@@ -12,7 +12,8 @@ use Rattle.yaml_base.specs.Event.{sequence_start, sequence_end, mapping_start, m
 use Rattle.yaml_base.specs.Layout.{Place, Piece, piece_text, text_of, Standing, deeper, body_laid, choice_of, scalar_lead, scalar_piece, place_laid}
 use Rattle.yaml_base.specs.Layout.{properties_laid, separation_laid, alias_laid, start_piece, Brackets, square, curly, end_laid, end_piece, laid_if}
 use Rattle.yaml_base.specs.Layout.{closing_mark_laid, is_key, is_simple_alias, document_start_laid, document_end_piece}
-use Rattle.yaml_base.specs.Refusal.{is_sound, name_or_tag_fault, content_fault, scalar_tag, collection_tag}
+use Rattle.yaml_base.specs.Refusal.{is_sound, name_or_tag_fault, content_fault}
+use Rattle.yaml_base.specs.Event.{scalar_tag, collection_tag}
 use Rattle.yaml_base.specs.Settings.{Effective}
 use Rattle.yaml_base.specs.Steps.{Frame, Stage, at_stream, at_document, at_node, at_document_end, next_place, stage_after, is_first, step, node_step, ends_next}
 use Rattle.yaml_base.specs.Steps.{steps}

@@ -11,7 +11,7 @@ use Rattle.yaml_base.specs.Meaning.{has_scalar_texts}
 use Rattle.yaml_base.specs.Pieces.{list_layout}
 use Rattle.yaml_base.specs.Output.{bytes_written, text_written}
 use Rattle.yaml_base.specs.Refusal.{IsAccepted}
-use Rattle.yaml_base.specs.streams.StreamLaw.{StreamReadsBack, is_portable}
+use Rattle.yaml_base.specs.StreamLaw.{StreamReadsBack, is_portable}
 use Rattle.yaml_base.specs.streams.StreamReader.{stream_trees}
 use Rattle.yaml_base.proofs.stream_documents.StreamAllStand.{LayoutsArePrintable, LayoutsAreRead, StreamsStand, streams_read_back, streams_stand}
 use Rattle.yaml_base.proofs.stream_documents.StreamLawStands.{stream_read_back}

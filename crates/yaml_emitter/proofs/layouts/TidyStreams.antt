@@ -10,7 +10,8 @@ use Rattle.yaml_base.specs.Event.{ScalarStyle, any_style, plain, single_quoted, 
 use Rattle.yaml_base.specs.NodeLayout.{body_at, body_laid}
 use Rattle.yaml_base.specs.Places.{Place, deeper}
 use Rattle.yaml_base.specs.Settings.{Effective, effective}
-use Rattle.yaml_base.specs.TidyBodies.{IsTidy, has_deep_lines, is_tidy_style}
+use Rattle.yaml_base.specs.TidyBodies.{IsTidy}
+use Rattle.yaml_base.specs.reading.TidyText.{has_deep_lines, is_tidy_style}
 use Rattle.yaml_base.specs.WrittenTexts.{BodiesAreTidy}
 use Rattle.yaml_scalar.proofs.TidyLines.{plain_even, plain_edges, single_even}
 use Rattle.yaml_scalar.proofs.TidyQuoted.{double_even}

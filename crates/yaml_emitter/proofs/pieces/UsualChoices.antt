@@ -9,7 +9,7 @@ use Rattle.yaml_base.specs.Cursor.{Cursor, Laid, then_laid}
 use Rattle.yaml_base.specs.Event.{ScalarStyle, TagDirective, any_style, plain, single_quoted, double_quoted, literal, folded}
 use Rattle.yaml_base.specs.Layout.{Place, anchor_laid, byte_count, choice_of, deeper, is_short, is_simple_scalar, name_count, place_laid, scalar_piece}
 use Rattle.yaml_base.specs.Layout.{tag_count}
-use Rattle.yaml_base.specs.Refusal.{scalar_tag}
+use Rattle.yaml_base.specs.Event.{scalar_tag}
 use Rattle.yaml_base.specs.Seen.{seen_scalar_style}
 use Rattle.yaml_base.specs.Settings.{Effective}
 use Rattle.yaml_base.specs.scalars.Style.{Choice, chosen, fits_plain, is_plain, lacks_tag_and_flags, style_asked, style_fitting, style_quoted}

@@ -16,7 +16,7 @@ use Rattle.yaml_base.specs.Event.{ScalarStyle, any_style, plain, single_quoted, 
 use Rattle.yaml_base.specs.scalars.Folded.{folded_laid}
 use Rattle.yaml_base.specs.Layout.{Place, anchor_laid, place_laid, properties_laid, choice_of, deeper, scalar_piece, separation_laid, body_laid}
 use Rattle.yaml_base.specs.scalars.Plain.{plain_laid}
-use Rattle.yaml_base.specs.Refusal.{scalar_tag}
+use Rattle.yaml_base.specs.Event.{scalar_tag}
 use Rattle.yaml_base.specs.Settings.{Effective}
 use Rattle.yaml_base.specs.scalars.SingleQuoted.{single_quoted_laid}
 use Rattle.yaml_base.specs.scalars.Style.{Choice, chosen, fits_plain, is_plain, style_asked, style_fitting, style_quoted}

@@ -2,7 +2,7 @@
 
 ghost use Rattle.std.specs.Prelude.{◌≡◌, ◌||◌, ◌&&◌, not, option_map};
 ghost use Rattle.yaml_base.specs.Event.{CollectionStyle};
-ghost use Rattle.yaml_base.specs.Refusal.{scalar_tag, collection_tag};
+ghost use Rattle.yaml_base.specs.Event.{scalar_tag, collection_tag};
 ghost use Rattle.yaml_base.specs.Seen.{seen_text};
 ghost use Rattle.yaml_emitter.specs.BorrowedTexts.{seen_name, seen_collection, seen_scalar};
 

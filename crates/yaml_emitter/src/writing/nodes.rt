@@ -7,7 +7,7 @@ ghost use Rattle.yaml_base.specs.Cursor.{then_laid};
 ghost use Rattle.yaml_base.specs.Event.{Collection, CollectionStyle, TagDirective};
 ghost use Rattle.yaml_base.specs.Layout as layout;
 ghost use Rattle.yaml_base.specs.Layout.{alias_piece, anchor_laid, end_piece, line_column, place_laid, start_piece, asks_flow};
-ghost use Rattle.yaml_base.specs.Refusal.{collection_tag};
+ghost use Rattle.yaml_base.specs.Event.{collection_tag};
 ghost use Rattle.yaml_base.specs.Steps.{is_first};
 ghost use Rattle.yaml_base.specs.Tags.{spelling};
 ghost use Rattle.yaml_pen.specs.Page.{IsReady};

@@ -4,7 +4,7 @@ ghost use Rattle.std.specs.Prelude.{◌≡◌, ◌&&◌, List, false, true, not,
 ghost use Rattle.yaml_base.specs.scalars.Analysis.{is_empty};
 ghost use Rattle.yaml_base.specs.Event.{TagDirective, double_quoted};
 ghost use Rattle.yaml_base.specs.Layout.{choice_of, mark_after, scalar_piece};
-ghost use Rattle.yaml_base.specs.Refusal.{scalar_tag};
+ghost use Rattle.yaml_base.specs.Event.{scalar_tag};
 ghost use Rattle.yaml_base.specs.Seen.{seen_scalar_style};
 ghost use Rattle.yaml_base.specs.scalars.Style.{lacks_tag_and_flags, style_asked};
 ghost use Rattle.yaml_base.specs.Tags.{spelling};

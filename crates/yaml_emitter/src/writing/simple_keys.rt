@@ -6,7 +6,7 @@ ghost use Rattle.yaml_base.specs.Characters as class;
 ghost use Rattle.yaml_base.specs.Event.{CollectionStyle, TagDirective};
 ghost use Rattle.yaml_base.specs.Layout as layout;
 ghost use Rattle.yaml_base.specs.Layout.{is_key};
-ghost use Rattle.yaml_base.specs.Refusal.{collection_tag, scalar_tag};
+ghost use Rattle.yaml_base.specs.Event.{collection_tag, scalar_tag};
 ghost use Rattle.yaml_base.specs.Tags.{spelling};
 ghost use Rattle.yaml_emitter.specs.Places.{seen_place};
 ghost use Rattle.yaml_emitter.specs.BorrowedTexts.{seen_name, seen_collection, seen_scalar, seen_spelling};

@@ -2,7 +2,8 @@ use Rattle.std.proofs.Common.{arith, ap, ◌∙◌, option_map}
 use Rattle.std.proofs.lemmas.Grind.{common_steps}
 use Rattle.std.specs.Prelude.{length, nat_lt}
 use Rattle.yaml_base.specs.Event.{any_layout}
-use Rattle.yaml_base.specs.Refusal.{collection_tag, most_open}
+use Rattle.yaml_base.specs.Refusal.{most_open}
+use Rattle.yaml_base.specs.Event.{collection_tag}
 use Rattle.yaml_base.specs.Tags.{spelling}
 use Rattle.yaml_emitter.specs.WrittenSigns.{seen_tag}
 use Rattle.yaml_emitter.proofs.pieces.WritingTags.{spelled_handle}

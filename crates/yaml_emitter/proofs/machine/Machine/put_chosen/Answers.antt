@@ -1,5 +1,5 @@
 use Rattle.std.proofs.Common.{true, false, ap, ◌∙◌, option_map}
-use Rattle.yaml_base.specs.Refusal.{scalar_tag}
+use Rattle.yaml_base.specs.Event.{scalar_tag}
 use Rattle.yaml_base.specs.Tags.{spelling}
 use Rattle.yaml_emitter.specs.WrittenSigns.{seen_tag}
 use Rattle.yaml_emitter.proofs.pieces.SignsWritten.{written_is_some}

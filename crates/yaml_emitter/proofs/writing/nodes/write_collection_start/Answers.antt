@@ -1,7 +1,7 @@
 use Rattle.std.proofs.Common.{false}
 use Rattle.yaml_base.specs.Cursor.{Cursor, then_laid}
 use Rattle.yaml_base.specs.Layout.{place_laid, properties_laid}
-use Rattle.yaml_base.specs.Refusal.{collection_tag}
+use Rattle.yaml_base.specs.Event.{collection_tag}
 use Rattle.yaml_pen.proofs.Composing.{wrote_as}
 use Rattle.yaml_emitter.specs.BorrowedTexts.{seen_name, seen_collection}
 use Rattle.yaml_emitter.specs.Given.{seen_effective}

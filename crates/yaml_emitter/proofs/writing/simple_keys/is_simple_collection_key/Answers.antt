@@ -1,6 +1,6 @@
 use Rattle.std.proofs.Common.{◌≡◌, true, false, ap, ◌∙◌, ◌+◌, ℕ}
 use Rattle.yaml_base.specs.Layout.{is_key, is_short, name_count, tag_count}
-use Rattle.yaml_base.specs.Refusal.{collection_tag}
+use Rattle.yaml_base.specs.Event.{collection_tag}
 use Rattle.yaml_emitter.specs.BorrowedTexts.{seen_collection}
 use Rattle.yaml_emitter.specs.Places.{seen_role}
 use Rattle.yaml_emitter.specs.WrittenSigns.{spelled_count}

@@ -3,7 +3,7 @@ use Rattle.std.proofs.Common.{not, ◌&&◌}
 use Rattle.std.specs.List.{list_any}
 use Rattle.yaml_base.specs.Characters.{is_break}
 use Rattle.yaml_base.specs.Layout.{is_key, is_short, byte_count, name_count}
-use Rattle.yaml_base.specs.Refusal.{scalar_tag}
+use Rattle.yaml_base.specs.Event.{scalar_tag}
 use Rattle.yaml_emitter.specs.BorrowedTexts.{seen_scalar}
 use Rattle.yaml_emitter.specs.Places.{seen_role}
 use Rattle.yaml_emitter.specs.WrittenSigns.{spelled_count}

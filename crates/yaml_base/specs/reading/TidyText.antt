@@ -1,0 +1,72 @@
+-- Tidy texts: what every text of a scalar keeps to beside what its style's reader asks, so that it stays where it is put
+-- and means the same to all readers. A strict reader of streams demands it.
+use Rattle.std.specs.Prelude.{ℕ, zero, suc, Bool, true, false, Option, [], ◌∷◌, ◌==◌, ◌||◌, ◌&&◌, not, unwrap_or}
+use Rattle.std.specs.List.{list_all}
+use Rattle.yaml_base.specs.Characters.{Text, space, is_printable}
+use Rattle.yaml_base.specs.LineBreaks.{is_read_break}
+use Rattle.yaml_base.specs.Event.{ScalarStyle, any_style, plain, single_quoted, double_quoted, literal, folded}
+use Rattle.yaml_base.specs.reading.ReadPlain.{is_read_white}
+
+-- a text is empty, or begins with a break
+abbrev pub ends_line : Bool → Text → Bool
+ends_line breaks12 [] = true
+ends_line breaks12 (c ∷ rest) = is_read_break breaks12 c
+
+-- a text begins with so many spaces
+abbrev pub begins_with_spaces : ℕ → Text → Bool
+begins_with_spaces zero text = true
+begins_with_spaces (suc count) [] = false
+begins_with_spaces (suc count) (c ∷ rest) = c == space && begins_with_spaces count rest
+
+-- up to the end of its line a text is of spaces alone
+abbrev pub begins_with_blank_line : Bool → Text → Bool
+begins_with_blank_line breaks12 [] = true
+begins_with_blank_line breaks12 (c ∷ rest) = is_read_break breaks12 c || (c == space && begins_with_blank_line breaks12 rest)
+
+-- the line that a text begins with is empty, or begins with so many spaces and isn't of spaces alone
+abbrev pub begins_with_deep_line : Bool → ℕ → Text → Bool
+begins_with_deep_line breaks12 count text =
+    ends_line breaks12 text || (begins_with_spaces count text && not (begins_with_blank_line breaks12 text))
+
+-- each line after the first is empty, or begins with so many spaces and isn't of spaces alone
+abbrev pub has_deep_lines : Bool → ℕ → Text → Bool
+has_deep_lines breaks12 count [] = true
+has_deep_lines breaks12 count (c ∷ rest) =
+    (not (is_read_break breaks12 c) || begins_with_deep_line breaks12 count rest) && has_deep_lines breaks12 count rest
+
+-- a text begins with a break
+abbrev pub begins_with_break : Bool → Text → Bool
+begins_with_break breaks12 [] = false
+begins_with_break breaks12 (c ∷ rest) = is_read_break breaks12 c
+
+-- no space stands before a break
+abbrev pub has_no_space_before_break : Bool → Text → Bool
+has_no_space_before_break breaks12 [] = true
+has_no_space_before_break breaks12 (c ∷ rest) =
+    not (c == space && begins_with_break breaks12 rest) && has_no_space_before_break breaks12 rest
+
+-- a text ends with a blank or a break
+abbrev pub ends_white : Bool → Text → Bool
+ends_white breaks12 [] = false
+ends_white breaks12 (c ∷ []) = is_read_white breaks12 c
+ends_white breaks12 (c ∷ d ∷ rest) = ends_white breaks12 (d ∷ rest)
+
+-- a text is empty, or has no blank or break at its edges
+abbrev pub has_clean_edges : Bool → Text → Bool
+has_clean_edges breaks12 [] = true
+has_clean_edges breaks12 (c ∷ rest) = not (is_read_white breaks12 c) && not (ends_white breaks12 (c ∷ rest))
+
+-- what a style asks beside that: no space before a break but in a block style, no white edges in plain
+abbrev pub is_tidy_style : ScalarStyle → Bool → Text → Bool
+is_tidy_style plain breaks12 text = has_no_space_before_break breaks12 text && has_clean_edges breaks12 text
+is_tidy_style single_quoted breaks12 text = has_no_space_before_break breaks12 text
+is_tidy_style double_quoted breaks12 text = has_no_space_before_break breaks12 text
+is_tidy_style literal breaks12 text = true
+is_tidy_style folded breaks12 text = true
+is_tidy_style any_style breaks12 text = false
+
+-- the text of a scalar inside a block whose entries stand at a column (none: the root) is tidy: all its characters are
+-- printable, its lines after the first are deeper than the column and at least one space deep, and what its style asks
+abbrev pub is_tidy : ScalarStyle → Bool → Option ℕ → Text → Bool
+is_tidy style breaks12 column text =
+    list_all is_printable text && has_deep_lines breaks12 (suc (unwrap_or column 0)) text && is_tidy_style style breaks12 text
