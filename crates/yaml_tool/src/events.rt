@@ -19,6 +19,7 @@ use yaml_base::{
 };
 
 /// An event without any field.
+#[inline(always)]
 fn alone<A: Allocator>(event: yaml_event_t<A>, rest: Option<&str>) -> Option<yaml_event_t<A>>
     ensures { option_map seen_event result ≡ option_and_then (notation.alone (seen_event event)) (later_fields rest.entry) }
 {
@@ -26,6 +27,7 @@ fn alone<A: Allocator>(event: yaml_event_t<A>, rest: Option<&str>) -> Option<yam
 }
 
 /// `+STR`: an encoding.
+#[inline(always)]
 fn stream_start_of<A: Allocator>(rest: Option<&str>) -> Option<yaml_event_t<A>>
     ensures { option_map seen_event result ≡ option_and_then notation.stream_start_of (later_fields rest.entry) }
 {
@@ -67,6 +69,7 @@ fn document_start_of<A: Allocator + Copy>(
 }
 
 /// `-DOC`: whether it is implicit.
+#[inline(always)]
 fn document_end_of<A: Allocator>(rest: Option<&str>) -> Option<yaml_event_t<A>>
     ensures { option_map seen_event result ≡ option_and_then notation.document_end_of (later_fields rest.entry) }
 {

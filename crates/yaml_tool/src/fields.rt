@@ -109,6 +109,7 @@ pub fn last_word(rest: Option<&str>) -> Option<&str>
 }
 
 /// Returns the value of the next field and what is left, if that field is a text.
+#[inline(always)]
 pub fn text_after<A: Allocator>(
     alloc: A,
     rest: Option<&str>,
