@@ -103,9 +103,8 @@ fn write_token<'a, A: Allocator + Copy>(
         Token::String(text) => write_text(writer, text),
         Token::BeginArray => begin(writer, nest, CollectionKind::Sequence, settings),
         Token::BeginObject => begin(writer, nest, CollectionKind::Mapping, settings),
-        Token::EndObject | Token::EndArray | Token::Key(_) | Token::Bad => {
-            Err(Stop::NotJson(Spot::At(offset)))
-        }
+        Token::Key(_) => Err(Stop::NotJson(Spot::PastString(offset))),
+        Token::EndObject | Token::EndArray | Token::Bad => Err(Stop::NotJson(Spot::At(offset))),
     }
 }
 
