@@ -19,7 +19,7 @@ use yaml_emitter::{
     yaml_emitter_t,
 };
 
-type Answer = Result<(), yaml_error_t>;
+pub(super) type Answer = Result<(), yaml_error_t>;
 
 /// What is set before a stream.
 #[derive(Clone, Copy)]
@@ -71,7 +71,7 @@ pub(super) fn give<A: Allocator + Copy>(
 }
 
 /// A flush, where the encoding is known.
-fn flush_if_known<A: Allocator + Copy>(rt: &impl Abort, emitter: &mut yaml_emitter_t<A>) -> Answer {
+pub(super) fn flush_if_known<A: Allocator + Copy>(rt: &impl Abort, emitter: &mut yaml_emitter_t<A>) -> Answer {
     assert!(rt; emitter.has_output());
     if emitter.encoding_known() {
         return yaml_emitter_flush(emitter);
@@ -144,7 +144,7 @@ fn check_flush_refused<A: Allocator + Copy>(
 }
 
 /// After an error each call answers it; nothing waits, and nothing more is handed out.
-fn check_failed<A: Allocator + Copy>(
+pub(super) fn check_failed<A: Allocator + Copy>(
     rt: &impl Abort,
     emitter: &mut yaml_emitter_t<A>,
     error: yaml_error_t,

@@ -1,25 +1,77 @@
-//! Scripts, with what a run of each writes and tells. The expected values were worked out by hand. Each run is made
-//! again with each of its growths refused in turn.
+//! Scripts, with what comes of each: by the calls of an emitter, one by one, and by a run of the whole. The expected values
+//! were worked out by hand. All is made again with each growth refused in turn.
 mod bad_lines;
+mod calls;
 mod canonical;
 mod collections;
 mod cuts;
 mod devices;
 mod documents;
-mod fronts;
 mod growths;
+mod held;
 mod limits;
 mod places;
 mod portable;
+mod prefixes;
 mod refusals;
 mod scalars;
 mod settings;
 
 use crate::tests::{equal, joined, same};
+use calls::check_calls;
 use growths::answered;
 use std::alloc::Global;
 use std::process::Abort;
+use yaml_base::yaml_error_t;
 use yaml_tool::{run_answer_t, status, write_line};
+
+/// When the caller flushes.
+#[derive(Clone, Copy)]
+enum Flushes {
+    /// After the last event alone.
+    Last,
+    /// After this line's event, and after the last.
+    After(u64),
+    /// After each event.
+    Each,
+}
+
+impl Flushes {
+    fn is_after(self, line: u64) -> bool {
+        match self {
+            Flushes::Last => false,
+            Flushes::After(at) => at == line,
+            Flushes::Each => true,
+        }
+    }
+}
+
+/// A script, and what comes of it.
+#[derive(Clone, Copy)]
+struct Row<'a> {
+    script: &'a str,
+    /// The call that is refused, if one is.
+    answer: run_answer_t,
+    /// All that is flushed.
+    output: &'a [u8],
+    /// The output's length after each event with a flush, the ends of documents and of the stream and those of the caller's
+    /// flushes, up to the one after which it is whole.
+    lengths: &'a [usize],
+    flushes: Flushes,
+}
+
+impl<'a> Row<'a> {
+    /// No call is refused, and the first flush has it all.
+    fn done(script: &'a str, output: &'a [u8]) -> Row<'a> {
+        Row {
+            script,
+            answer: run_answer_t::Done,
+            output,
+            lengths: &[],
+            flushes: Flushes::Last,
+        }
+    }
+}
 
 /// What a run wrote and told.
 #[derive(Drop)]
@@ -53,21 +105,59 @@ fn check_told(rt: &impl Abort, told: &Told, output: &[u8], line: &str) {
     same(rt, told.line.as_slice(), line.as_bytes());
 }
 
-// Nothing is refused, and these bytes are written.
-fn check_text(rt: &impl Abort, alloc: Global, script: &str, text: &[u8]) {
-    let ran = ran(rt, alloc, script.as_bytes());
-    equal(rt, &(script, ran.output.as_slice()), &(script, text));
-    check_told(rt, &ran, text, "");
-    equal(rt, &(script, ran.status), &(script, 0));
+// A run of the whole script.
+fn check_run(rt: &impl Abort, alloc: Global, row: &Row) {
+    let mut output = Vec::new(alloc);
+    let answer = answered(rt, alloc, row.script.as_bytes(), &mut output);
+    equal(rt, &(row.script, answer), &(row.script, row.answer));
+    let written = output.as_slice();
+    equal(rt, &(row.script, written), &(row.script, row.output));
 }
 
-/// Scripts or parts of them, each with the text that comes of it.
+/// By calls, and by a run.
+fn check_row(rt: &impl Abort, alloc: Global, row: &Row) {
+    check_calls(rt, alloc, row);
+    check_run(rt, alloc, row);
+}
+
+// Nothing is refused, and these bytes are written.
+fn check_text(rt: &impl Abort, alloc: Global, script: &str, text: &[u8]) {
+    check_row(rt, alloc, &Row::done(script, text));
+}
+
+/// Roots of documents, each with its text.
 type Rows<'a> = &'a [(&'a str, &'a str)];
 
+/// Streams, each with what the ends of documents and of the stream add to the output, and then the last flush.
+type Streams<'a> = &'a [(&'a str, &'a [&'a str])];
+
+/// The lengths of the parts together, after each.
+fn lengths(rt: &impl Abort, alloc: Global, parts: &[&str]) -> Vec<usize> {
+    let mut lengths = Vec::new(alloc);
+    let mut length: usize = 0;
+    for part in parts {
+        length = length.saturating_add(part.len());
+        lengths.push(length).expect(rt, "no memory");
+    }
+    lengths
+}
+
+// A row whose output comes in these parts.
+fn check_parts(rt: &impl Abort, alloc: Global, row: &Row, parts: &[&str]) {
+    let output = joined(rt, alloc, parts);
+    let lengths = lengths(rt, alloc, parts);
+    let row = Row {
+        output: output.as_str().as_bytes(),
+        lengths: lengths.as_slice(),
+        ..*row
+    };
+    check_row(rt, alloc, &row);
+}
+
 /// A stream, after these settings.
-fn check_stream(rt: &impl Abort, alloc: Global, settings: &str, stream: &str, text: &str) {
+fn check_stream(rt: &impl Abort, alloc: Global, settings: &str, stream: &str, parts: &[&str]) {
     let script = joined(rt, alloc, &[settings, stream]);
-    check_text(rt, alloc, script.as_str(), text.as_bytes());
+    check_parts(rt, alloc, &Row::done(script.as_str(), b""), parts);
 }
 
 /// A stream of one document, after these settings, by the events of its root.
@@ -77,7 +167,7 @@ fn check_root(rt: &impl Abort, alloc: Global, settings: &str, root: &str, text: 
     check_text(rt, alloc, script.as_str(), text.as_bytes());
 }
 
-fn check_streams(rt: &impl Abort, alloc: Global, settings: &str, rows: Rows) {
+fn check_streams(rt: &impl Abort, alloc: Global, settings: &str, rows: Streams) {
     for row in rows {
         check_stream(rt, alloc, settings, row.0, row.1);
     }
@@ -89,14 +179,17 @@ fn check_roots(rt: &impl Abort, alloc: Global, settings: &str, rows: Rows) {
     }
 }
 
-/// Settings, and what comes after them.
-type Group<'a> = (&'a str, Rows<'a>);
+/// Settings, and the streams that come after them.
+type StreamGroup<'a> = (&'a str, Streams<'a>);
 
-fn check_all_streams(rt: &impl Abort, alloc: Global, groups: &[Group]) {
+fn check_all_streams(rt: &impl Abort, alloc: Global, groups: &[StreamGroup]) {
     for group in groups {
         check_streams(rt, alloc, group.0, group.1);
     }
 }
+
+/// Settings, and the roots that come after them.
+type Group<'a> = (&'a str, Rows<'a>);
 
 fn check_all_roots(rt: &impl Abort, alloc: Global, groups: &[Group]) {
     for group in groups {
@@ -104,50 +197,16 @@ fn check_all_roots(rt: &impl Abort, alloc: Global, groups: &[Group]) {
     }
 }
 
-/// A stream of one document in canonical mode, without a width.
-fn canonical_stream(
-    rt: &impl Abort,
-    alloc: Global,
-    settings: &str,
-    encoding: &str,
-    root: &str,
-) -> String {
-    let document = "\n+DOC 1 -\n=VAL any 1 1 - - ";
-    let set = ["canonical on\nwidth -1\n", settings, "+STR ", encoding];
-    let stream = joined(rt, alloc, &set);
-    joined(
-        rt,
-        alloc,
-        &[stream.as_str(), document, root, "\n-DOC 1\n-STR\n"],
-    )
-}
-
 /// The first script: one scalar in canonical mode.
 const FIRST: &str =
     "canonical on\nwidth -1\n+STR any\n+DOC 1 -\n=VAL any 1 1 - - \"a\"\n-DOC 1\n-STR\n";
 
-const WHOLE: Rows = &[
-    ("", ""),
-    ("limit 007", ""),
-    (FIRST, "---\n\"a\"\n"),
-    (
-        "canonical on\nwidth -1\n+STR any\n+DOC 1 -\n=VAL any 1 1 - - \"a\"\n-DOC 1\n+DOC 1 -\n=VAL any 1 1 - - \"b\"\n-DOC 1\n-STR",
-        "---\n\"a\"\n---\n\"b\"\n",
-    ),
-    (
-        "canonical on\nwidth -1\n+STR any\n+DOC 1 -\n=VAL any 1 1 - - \"a\"\n-DOC 0\n-STR",
-        "---\n\"a\"\n...\n",
-    ),
-    (
-        "canonical on\nwidth -1\n+STR any\n+DOC 1 -\n=VAL any 1 1 - - \"\\n \"\n-DOC 1\n-STR",
-        "---\n\"\\n \"\n",
-    ),
-    (
-        "canonical on\nwidth -1\nbreak cr\n+STR any\n+DOC 1 -\n=VAL any 1 1 - - \"a\"\n-DOC 1\n-STR",
-        "---\r\"a\"\r",
-    ),
-    ("+STR utf8\n-STR", ""),
-    ("+STR any\n-STR", ""),
+const WHOLE: Streams = &[
+    ("", &[]),
+    ("limit 007", &[]),
+    (FIRST, &["---\n\"a\"\n"]),
+    ("+STR utf8\n-STR", &[]),
+    ("+STR any\n-STR", &[]),
 ];
 
 #[test]
@@ -155,68 +214,58 @@ fn whole_streams_are_written(rt: HostRuntime) {
     check_streams(&rt, rt.alloc(), "", WHOLE);
 }
 
-const BIG: &[u8] = b"\xFE\xFF\0-\0-\0-\0\n\0\"\0a\0\"\0\n";
+/// Scripts, each with the call that is refused, what is written, and what is told.
+type Refusals<'a> = &'a [(&'a str, run_answer_t, &'a [u8], &'a str)];
 
-const LITTLE: &[u8] = b"\xFF\xFE-\0-\0-\0\n\0\"\0\x3D\xD8\0\xDE\"\0\n\0";
-
-#[test]
-fn utf_16_begins_with_a_mark(rt: HostRuntime) {
-    let alloc = rt.alloc();
-    let big = canonical_stream(&rt, alloc, "", "utf16be", "\"a\"");
-    check_text(&rt, alloc, big.as_str(), BIG);
-    let little = canonical_stream(&rt, alloc, "unicode on\n", "utf16le", "\"\u{1F600}\"");
-    check_text(&rt, alloc, little.as_str(), LITTLE);
-    check_text(&rt, alloc, "+STR utf16be\n-STR", b"\xFE\xFF");
-}
-
-// A refusal, of which this is written and told.
-fn check_refused(rt: &impl Abort, alloc: Global, script: &str, output: &[u8], line: &str) {
-    let ran = ran(rt, alloc, script.as_bytes());
-    check_told(rt, &ran, output, line);
-    equal(rt, &(script, ran.status), &(script, 1));
-}
-
-/// Scripts, each with what is written and told.
-type Refusals<'a> = &'a [(&'a str, &'a [u8], &'a str)];
-
+// A refusal, and its line.
 fn check_refusals(rt: &impl Abort, alloc: Global, rows: Refusals) {
-    for row in rows {
-        check_refused(rt, alloc, row.0, row.1, row.2);
+    for (script, answer, output, line) in rows {
+        let row = Row {
+            answer: *answer,
+            ..Row::done(script, output)
+        };
+        check_row(rt, alloc, &row);
+        equal(rt, &(*script, status(answer)), &(*script, 1));
+        same(rt, line_of(rt, alloc, answer).as_slice(), line.as_bytes());
     }
 }
 
 const TOLD: Refusals = &[
     (
         "+DOC 1 -\n=VAL any 1 1 - - \"a\"",
+        run_answer_t::Refused(2, yaml_error_t::ExpectedStreamStart),
         b"",
         "yamlemit: line 2: expected STREAM-START\n",
     ),
-    // Nothing waits, and the last call hands out what the limit leaves.
+    // Nothing waits, and the last flush writes what the limit leaves.
     (
         "limit 2\n+STR any\n# a comment\n+DOC 1 -\n\n=VAL any 1 1 - - \"abc\"\n\n",
+        run_answer_t::Refused(6, yaml_error_t::WriteError),
         b"ab",
         "yamlemit: line 6: write error\n",
     ),
     // What was given after a refusal changes nothing.
     (
         "+STR any\n+DOC 1 -\n=VAL any 1 1 - - \"a\"\n-DOC 1\n-DOC 1\n+DOC 1 -\n=VAL any 1 1 - - \"b\"\n-DOC 1\n-STR",
+        run_answer_t::Refused(5, yaml_error_t::ExpectedDocumentStart),
         b"a\n",
         "yamlemit: line 5: expected DOCUMENT-START or STREAM-END\n",
+    ),
+    (
+        "limit 4\ncanonical on\nwidth -1\n+STR any\n+DOC 1 -\n=VAL any 1 1 - - \"a\"\n-DOC 1\n-STR",
+        run_answer_t::Refused(7, yaml_error_t::WriteError),
+        b"---\n",
+        "yamlemit: line 7: write error\n",
+    ),
+    (
+        "limit 3\ncanonical on\nwidth -1\n+STR utf16be\n+DOC 1 -\n=VAL any 1 1 - - \"a\"\n-DOC 1\n-STR",
+        run_answer_t::Refused(7, yaml_error_t::WriteError),
+        b"\xFE\xFF\0",
+        "yamlemit: line 7: write error\n",
     ),
 ];
 
 #[test]
 fn refusals_are_told_with_their_line(rt: HostRuntime) {
     check_refusals(&rt, rt.alloc(), TOLD);
-}
-
-const CUT: &str = "yamlemit: line 7: write error\n";
-
-#[test]
-fn a_limit_is_told_with_its_line(rt: HostRuntime) {
-    let alloc = rt.alloc();
-    let limited = canonical_stream(&rt, alloc, "limit 4\n", "any", "\"a\"");
-    check_refused(&rt, alloc, limited.as_str(), b"---\n", CUT);
-    let marked = canonical_stream(&rt, alloc, "limit 3\n", "utf16be", "\"a\"");
-    check_refused(&rt, alloc, marked.as_str(), b"\xFE\xFF\0", CUT);
 }

@@ -1,5 +1,5 @@
 //! Canonical text: in flow, a node a line, every scalar between double quotes.
-use super::{Group, Rows, check_all_roots, check_all_streams};
+use super::{Group, Rows, StreamGroup, check_all_roots, check_all_streams};
 
 const CANONICAL: &str = "canonical on\nwidth -1\n";
 
@@ -67,7 +67,7 @@ const ROOTS: &[Group] = &[
     ),
     // An indent of four moves items.
     (
-        "canonical on\nindent 4\n",
+        "canonical on\nwidth -1\nindent 4\n",
         &[(
             r#"
 +SEQ block 1 - -
@@ -103,7 +103,7 @@ fn each_root_is_written(rt: HostRuntime) {
 }
 
 /// Streams, after some settings.
-const STREAMS: &[Group] = &[
+const STREAMS: &[StreamGroup] = &[
     // The documents own handles come first.
     (
         CANONICAL,
@@ -115,7 +115,7 @@ const STREAMS: &[Group] = &[
 =VAL any 0 0 - "!xy" "x"
 -DOC 1
 -STR"#,
-                "%TAG !e! %21x\n---\n!e!y \"x\"\n",
+                &["%TAG !e! %21x\n---\n!e!y \"x\"\n"],
             ),
             (
                 r#"
@@ -124,7 +124,7 @@ const STREAMS: &[Group] = &[
 =VAL any 0 0 - "tag:e.com,2000:t" "x"
 -DOC 1
 -STR"#,
-                "%TAG !! tag:e.com,2000:\n---\n!!t \"x\"\n",
+                &["%TAG !! tag:e.com,2000:\n---\n!!t \"x\"\n"],
             ),
             (
                 r#"
@@ -133,7 +133,7 @@ const STREAMS: &[Group] = &[
 =VAL any 0 0 - "tag:yaml.org,2002:str" "x"
 -DOC 1
 -STR"#,
-                "%TAG !! tag:e.com,2000:\n---\n!<tag:yaml.org,2002:str> \"x\"\n",
+                &["%TAG !! tag:e.com,2000:\n---\n!<tag:yaml.org,2002:str> \"x\"\n"],
             ),
         ],
     ),
@@ -151,7 +151,7 @@ const STREAMS: &[Group] = &[
 =VAL any 1 1 - - "b"
 -DOC 1
 -STR"#,
-                "---\n\"a\"\n---\n\"b\"\n",
+                &["---\n\"a\"\n", "---\n\"b\"\n"],
             ),
             (
                 r#"
@@ -160,7 +160,7 @@ const STREAMS: &[Group] = &[
 =VAL any 1 1 - - "a"
 -DOC 0
 -STR"#,
-                "---\n\"a\"\n...\n",
+                &["---\n\"a\"\n...\n"],
             ),
             (
                 r#"
@@ -172,7 +172,7 @@ const STREAMS: &[Group] = &[
 =VAL any 1 1 - - "b"
 -DOC 1
 -STR"#,
-                "---\n\"a\"\n...\n%YAML 1.1\n---\n\"b\"\n",
+                &["---\n\"a\"\n", "...\n%YAML 1.1\n---\n\"b\"\n"],
             ),
         ],
     ),

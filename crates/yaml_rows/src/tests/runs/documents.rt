@@ -1,11 +1,11 @@
 //! How documents and streams begin and end, and the encodings of a stream.
-use super::{Group, check_all_streams, check_text};
+use super::{StreamGroup, check_all_streams, check_text};
 use crate::tests::joined;
 use std::alloc::Global;
 use std::process::Abort;
 
 /// Streams, after some settings.
-const STREAMS: &[Group] = &[
+const STREAMS: &[StreamGroup] = &[
     // Marks stand where they are needed.
     (
         "",
@@ -17,7 +17,7 @@ const STREAMS: &[Group] = &[
 =VAL any 1 1 - - "foo"
 -DOC 0
 -STR"#,
-                "--- foo\n...\n",
+                &["--- foo\n...\n"],
             ),
             (
                 r#"
@@ -26,7 +26,7 @@ const STREAMS: &[Group] = &[
 =VAL any 1 1 - - "foo"
 -DOC 1
 -STR"#,
-                "%YAML 1.1\n--- foo\n",
+                &["%YAML 1.1\n--- foo\n"],
             ),
             (
                 r#"
@@ -38,7 +38,7 @@ const STREAMS: &[Group] = &[
 =VAL any 0 0 - "tag:e.com,2000:t" "x"
 -DOC 1
 -STR"#,
-                "a\n...\n%TAG !e! tag:e.com,2000:\n--- !e!t x\n",
+                &["a\n", "...\n%TAG !e! tag:e.com,2000:\n--- !e!t x\n"],
             ),
             (
                 r#"
@@ -50,7 +50,7 @@ const STREAMS: &[Group] = &[
 =VAL any 1 1 - - "b"
 -DOC 1
 -STR"#,
-                "|+\n  a\n\n--- b\n",
+                &["|+\n  a\n\n", "--- b\n"],
             ),
         ],
     ),
@@ -64,7 +64,7 @@ const STREAMS: &[Group] = &[
 =VAL any 1 1 - - "a"
 -DOC 1
 -STR"#,
-            "a\n",
+            &["a\n"],
         )],
     ),
 ];

@@ -1,7 +1,7 @@
 //! Outputs with a limit, and outputs longer than the buffer.
 use super::growths::answered;
-use super::{check_text, ran};
-use crate::tests::{equal, joined, same};
+use super::{Flushes, Row, check_row, check_text};
+use crate::tests::{equal, joined};
 use std::alloc::Global;
 use std::process::Abort;
 use yaml_base::yaml_error_t;
@@ -28,18 +28,27 @@ fn limited(rt: &impl Abort, alloc: Global, limit: usize, encoding: &str, events:
     )
 }
 
+/// The length after each end.
+fn lengths(rt: &impl Abort, alloc: Global, ends: &[(u64, usize)]) -> Vec<usize> {
+    let mut lengths = Vec::new(alloc);
+    for (_, length) in ends {
+        lengths.push(*length).expect(rt, "no memory");
+    }
+    lengths
+}
+
 // The output is the text up to the limit.
 fn check_limit(rt: &impl Abort, alloc: Global, events: &str, stream: &Stream, limit: usize) {
     let script = limited(rt, alloc, limit, stream.0, events);
-    let mut output = Vec::new(alloc);
-    let answer = answered(rt, alloc, script.as_bytes(), &mut output);
-    let expected = answer_within(limit, stream.1);
-    equal(rt, &(limit, answer), &(limit, expected));
-    same(
-        rt,
-        output.as_slice(),
-        stream.2.get(..limit).unwrap_or(stream.2),
-    );
+    let lengths = lengths(rt, alloc, stream.1);
+    let row = Row {
+        script: script.as_str(),
+        answer: answer_within(limit, stream.1),
+        output: stream.2.get(..limit).unwrap_or(stream.2),
+        lengths: lengths.as_slice(),
+        flushes: Flushes::Last,
+    };
+    check_row(rt, alloc, &row);
 }
 
 fn check_limits(rt: &impl Abort, alloc: Global, events: &str, stream: &Stream) {
@@ -84,6 +93,48 @@ const DOCUMENTS: &[Stream] = &[
 #[test]
 fn a_limit_cuts_two_documents_anywhere(rt: HostRuntime) {
     check_all_limits(&rt, rt.alloc(), TWO_DOCUMENTS, DOCUMENTS);
+}
+
+const FACE: &str = r#"+STR any
++DOC 1 -
+=VAL any 1 1 - - "\u{1F600}"
+-DOC 1
+-STR"#;
+
+const FACES: &[Stream] = &[
+    ("utf8", &[(7, 5)], b"\xF0\x9F\x98\x80\n"),
+    ("utf16le", &[(7, 8)], b"\xFF\xFE\x3D\xD8\x00\xDE\n\0"),
+    ("utf16be", &[(7, 8)], b"\xFE\xFF\xD8\x3D\xDE\x00\0\n"),
+];
+
+#[test]
+fn a_limit_cuts_a_character_anywhere(rt: HostRuntime) {
+    check_all_limits(&rt, rt.alloc(), FACE, FACES);
+}
+
+const LETTER: &str = r#"+STR any
++DOC 1 -
+=VAL any 1 1 - - "a"
+-DOC 1
+-STR"#;
+
+const LETTERS: &[Stream] = &[
+    ("utf8", &[(7, 2)], b"a\n"),
+    ("utf16be", &[(7, 6)], b"\xFE\xFF\0a\0\n"),
+];
+
+const WORD: &str = r#"+STR any
++DOC 1 -
+=VAL any 1 1 - - "foo"
+-DOC 1
+-STR"#;
+
+const WORDS: &[Stream] = &[("utf8", &[(7, 4)], b"foo\n")];
+
+#[test]
+fn a_limit_cuts_short_roots(rt: HostRuntime) {
+    check_all_limits(&rt, rt.alloc(), LETTER, LETTERS);
+    check_all_limits(&rt, rt.alloc(), WORD, WORDS);
 }
 
 const LAST_BREAKS: &str = r#"+STR any
@@ -149,16 +200,21 @@ fn units(rt: &impl Abort, alloc: Global, count: usize) -> Vec<u8> {
 }
 
 // Which of two calls answers is left to the buffer: the scalar's, or the document's end.
-fn is_cut(line: &[u8]) -> bool {
-    line == b"yamlemit: line 5: write error\n".as_slice()
-        || line == b"yamlemit: line 6: write error\n".as_slice()
+fn is_cut(answer: run_answer_t) -> bool {
+    matches!(
+        answer,
+        run_answer_t::Refused(5 | 6, yaml_error_t::WriteError)
+    )
 }
 
 fn check_long(rt: &impl Abort, alloc: Global, script: &str, text: &[u8]) {
-    let cut = ran(rt, alloc, script.as_bytes());
-    equal(rt, &is_cut(cut.line.as_slice()), &true);
-    equal(rt, &cut.output.len(), &32_771);
-    equal(rt, &text.starts_with(cut.output.as_slice()), &true);
+    let answer = answered(rt, alloc, script.as_bytes(), &mut Vec::new(alloc));
+    equal(rt, &is_cut(answer), &true);
+    let row = Row {
+        answer,
+        ..Row::done(script, text.get(..32_771).unwrap_or(text))
+    };
+    check_row(rt, alloc, &row);
 }
 
 fn check_units(rt: &impl Abort, alloc: Global, value: &str, text: &[u8]) {

@@ -1,5 +1,7 @@
 //! Each kind of event at each place: where it stands, and how it is refused where it doesn't.
+use super::calls::check_calls;
 use super::growths::answered;
+use super::{Flushes, Row};
 use crate::tests::{equal, joined};
 use std::alloc::Global;
 use std::process::Abort;
@@ -20,9 +22,9 @@ const KINDS: &[&str] = &[
     "-MAP\n",
 ];
 
-/// Events that lead to a place; a `+` for each kind, in their order, that may come there, and a `-` for each that may
-/// not; the error of those.
-type Row<'a> = (&'a str, &'a str, yaml_error_t);
+/// Events that lead to a place, and the output's length after each document that ends there; a `+` for each kind, in their
+/// order, that may come there, and a `-` for each that may not; the error of those.
+type Place<'a> = (&'a str, &'a [usize], &'a str, yaml_error_t);
 
 // One that may not stand there is refused by the last event's call.
 fn expected(script: &str, stands: bool, error: yaml_error_t) -> run_answer_t {
@@ -36,45 +38,58 @@ fn expected(script: &str, stands: bool, error: yaml_error_t) -> run_answer_t {
     run_answer_t::Refused(lines, error)
 }
 
-fn check_kind(rt: &impl Abort, alloc: Global, row: &Row, kind: &str, sign: char) {
-    let script = joined(rt, alloc, &[row.0, kind]);
-    let answer = answered(rt, alloc, script.as_bytes(), &mut Vec::new(alloc));
-    let wanted = expected(script.as_str(), sign == '+', row.2);
-    equal(rt, &(script.as_str(), answer), &(script.as_str(), wanted));
+// By a run, and by calls, which write the same.
+fn check_kind(rt: &impl Abort, alloc: Global, place: &Place, kind: &str, sign: char) {
+    let script = joined(rt, alloc, &[place.0, kind]);
+    let mut output = Vec::new(alloc);
+    let answer = answered(rt, alloc, script.as_str().as_bytes(), &mut output);
+    let row = Row {
+        script: script.as_str(),
+        answer: expected(script.as_str(), sign == '+', place.3),
+        output: output.as_slice(),
+        lengths: place.1,
+        flushes: Flushes::Last,
+    };
+    equal(rt, &(row.script, answer), &(row.script, row.answer));
+    check_calls(rt, alloc, &row);
 }
 
-fn check_place(rt: &impl Abort, alloc: Global, row: &Row) {
-    equal(rt, &row.1.len(), &KINDS.len());
-    for (kind, sign) in KINDS.iter().zip(row.1.chars()) {
-        check_kind(rt, alloc, row, kind, sign);
+fn check_place(rt: &impl Abort, alloc: Global, place: &Place) {
+    equal(rt, &place.2.len(), &KINDS.len());
+    for (kind, sign) in KINDS.iter().zip(place.2.chars()) {
+        check_kind(rt, alloc, place, kind, sign);
     }
 }
 
-fn check_places(rt: &impl Abort, alloc: Global, rows: &[Row]) {
-    for row in rows {
-        check_place(rt, alloc, row);
+fn check_places(rt: &impl Abort, alloc: Global, places: &[Place]) {
+    for place in places {
+        check_place(rt, alloc, place);
     }
 }
 
-const PLACES: &[Row] = &[
-    ("", "+---------", yaml_error_t::ExpectedStreamStart),
+const PLACES: &[Place] = &[
+    ("", &[], "+---------", yaml_error_t::ExpectedStreamStart),
     (
         "+STR any\n",
+        &[],
         "-++-------",
         yaml_error_t::ExpectedDocumentStart,
     ),
     (
         "+STR any\n+DOC 1 -\n=VAL any 1 1 - - \"a\"\n-DOC 1\n",
+        &[2],
         "-++-------",
         yaml_error_t::ExpectedDocumentStart,
     ),
     (
         "+STR any\n+DOC 1 -\n=VAL any 1 1 - - \"a\"\n",
+        &[],
         "---+------",
         yaml_error_t::ExpectedDocumentEnd,
     ),
     (
         "+STR any\n-STR\n",
+        &[],
         "----------",
         yaml_error_t::ExpectedNothing,
     ),
@@ -88,20 +103,23 @@ fn each_kind_stands_only_at_its_places(rt: HostRuntime) {
 const NODE: yaml_error_t = yaml_error_t::ExpectedNode;
 
 // At a root, at an item, at a key, and at its value.
-const NODE_PLACES: &[Row] = &[
-    ("+STR any\n+DOC 1 -\n", "----+++-+-", NODE),
+const NODE_PLACES: &[Place] = &[
+    ("+STR any\n+DOC 1 -\n", &[], "----+++-+-", NODE),
     (
         "+STR any\n+DOC 1 -\n+SEQ block 1 - -\n=VAL any 1 1 - - \"a\"\n=VAL any 1 1 - - \"b\"\n",
+        &[],
         "----+++++-",
         NODE,
     ),
     (
         "+STR any\n+DOC 1 -\n+MAP block 1 - -\n=VAL any 1 1 - - \"a\"\n=VAL any 1 1 - - \"b\"\n=VAL any 1 1 - - \"c\"\n=VAL any 1 1 - - \"d\"\n",
+        &[],
         "----+++-++",
         NODE,
     ),
     (
         "+STR any\n+DOC 1 -\n+MAP block 1 - -\n=VAL any 1 1 - - \"a\"\n=VAL any 1 1 - - \"b\"\n=VAL any 1 1 - - \"c\"\n",
+        &[],
         "----+++-+-",
         NODE,
     ),

@@ -1,5 +1,5 @@
 //! Portable mode: documents begin with `---`, signs of flow after a handle are escaped, a prefix begins with its `!`.
-use super::{Group, check_all_roots, check_all_streams};
+use super::{Group, StreamGroup, check_all_roots, check_all_streams};
 
 /// Roots of documents, after some settings.
 const ROOTS: &[Group] = &[
@@ -55,7 +55,7 @@ const ROOTS: &[Group] = &[
 ];
 
 /// Streams, after some settings.
-const STREAMS: &[Group] = &[
+const STREAMS: &[StreamGroup] = &[
     // A mark that begins a prefix stands raw.
     (
         "portable on\n",
@@ -67,7 +67,7 @@ const STREAMS: &[Group] = &[
 =VAL any 0 0 - "!xy" "x"
 -DOC 1
 -STR"#,
-                "%TAG !e! !x\n--- !e!y x\n",
+                &["%TAG !e! !x\n--- !e!y x\n"],
             ),
             (
                 r#"
@@ -76,7 +76,7 @@ const STREAMS: &[Group] = &[
 =VAL any 0 0 - "!!a!b" "x"
 -DOC 1
 -STR"#,
-                "%TAG !e! !%21a%21\n--- !e!b x\n",
+                &["%TAG !e! !%21a%21\n--- !e!b x\n"],
             ),
             (
                 r#"
@@ -85,7 +85,7 @@ const STREAMS: &[Group] = &[
 =VAL any 0 0 - "a!,[," "x"
 -DOC 1
 -STR"#,
-                "%TAG !e! a%21,[\n--- !e!%2C x\n",
+                &["%TAG !e! a%21,[\n--- !e!%2C x\n"],
             ),
         ],
     ),
@@ -98,7 +98,7 @@ const STREAMS: &[Group] = &[
 =VAL any 0 0 - "!xy" "x"
 -DOC 1
 -STR"#,
-            "%TAG !e! %21x\n--- !e!y x\n",
+            &["%TAG !e! %21x\n--- !e!y x\n"],
         )],
     ),
     // Documents of nothing are kept apart.
@@ -112,7 +112,7 @@ const STREAMS: &[Group] = &[
 =VAL any 1 1 - - ""
 -DOC 0
 -STR"#,
-                "---\n...\n",
+                &["---\n...\n"],
             ),
             (
                 r#"
@@ -124,7 +124,7 @@ const STREAMS: &[Group] = &[
 =VAL any 1 1 - - ""
 -DOC 1
 -STR"#,
-                "---\n---\n",
+                &["---\n", "---\n"],
             ),
         ],
     ),

@@ -1,7 +1,6 @@
 //! Events that are refused: with which error, and by which call.
-use super::growths::answered;
-use super::{Rows, check_streams};
-use crate::tests::equal;
+use super::{Row, Streams, check_row, check_streams};
+use crate::tests::joined;
 use std::alloc::Global;
 use std::process::Abort;
 use yaml_base::yaml_error_t;
@@ -11,22 +10,32 @@ use yaml_tool::run_answer_t;
 type Refusals<'a> = &'a [(&'a str, u64, yaml_error_t)];
 
 // Nothing is written, and the call is refused so.
-fn check_refusal(rt: &impl Abort, alloc: Global, script: &str, refused: run_answer_t) {
-    let mut output = Vec::new(alloc);
-    let answer = answered(rt, alloc, script.as_bytes(), &mut output);
-    equal(rt, &(script, answer), &(script, refused));
-    equal(rt, &(script, output.len()), &(script, 0));
+fn check_refusal(rt: &impl Abort, alloc: Global, script: &str, answer: run_answer_t) {
+    let row = Row {
+        answer,
+        ..Row::done(script, b"")
+    };
+    check_row(rt, alloc, &row);
 }
 
-fn check_refusals(rt: &impl Abort, alloc: Global, rows: Refusals) {
+// The lines are counted after the settings.
+fn check_refusals(rt: &impl Abort, alloc: Global, settings: &str, rows: Refusals) {
+    let before = settings.lines().count() as u64;
     for row in rows {
-        check_refusal(rt, alloc, row.0, run_answer_t::Refused(row.1, row.2));
+        let script = joined(rt, alloc, &[settings, row.0]);
+        let line = before.saturating_add(row.1);
+        check_refusal(
+            rt,
+            alloc,
+            script.as_str(),
+            run_answer_t::Refused(line, row.2),
+        );
     }
 }
 
-fn check_topics(rt: &impl Abort, alloc: Global, topics: &[Refusals]) {
+fn check_topics(rt: &impl Abort, alloc: Global, settings: &str, topics: &[Refusals]) {
     for rows in topics {
-        check_refusals(rt, alloc, rows);
+        check_refusals(rt, alloc, settings, rows);
     }
 }
 
@@ -180,33 +189,38 @@ const REFUSED: &[Refusals] = &[
             yaml_error_t::ExpectedDocumentStart,
         ),
     ],
-    // A tag that isn't written isn't looked at; canonical text has every tag.
-    &[(
-        r#"canonical on
-+STR any
-+DOC 1 -
-=VAL any 1 1 - "" "a"
--DOC 1
--STR"#,
-        4,
-        yaml_error_t::TagEmpty,
-    )],
 ];
 
-#[test]
-fn each_refusal_is_told(rt: HostRuntime) {
-    check_topics(&rt, rt.alloc(), REFUSED);
-}
-
-/// A tag that isn't written isn't checked.
-const UNWRITTEN: Rows = &[(
+/// A tag that isn't written isn't looked at; canonical text has every tag.
+const TAGGED: Refusals = &[(
     r#"
 +STR any
 +DOC 1 -
 =VAL any 1 1 - "" "a"
 -DOC 1
 -STR"#,
-    "a\n",
+    4,
+    yaml_error_t::TagEmpty,
+)];
+
+const CANONICAL: &str = "canonical on\nwidth -1\n";
+
+#[test]
+fn each_refusal_is_told(rt: HostRuntime) {
+    check_topics(&rt, rt.alloc(), "", REFUSED);
+    check_topics(&rt, rt.alloc(), CANONICAL, REFUSED);
+    check_refusals(&rt, rt.alloc(), CANONICAL, TAGGED);
+}
+
+/// A tag that isn't written isn't checked.
+const UNWRITTEN: Streams = &[(
+    r#"
++STR any
++DOC 1 -
+=VAL any 1 1 - "" "a"
+-DOC 1
+-STR"#,
+    &["a\n"],
 )];
 
 #[test]

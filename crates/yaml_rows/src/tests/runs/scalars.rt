@@ -1,5 +1,5 @@
 //! Documents whose root is a scalar.
-use super::{Group, check_all_roots};
+use super::{Group, Streams, check_all_roots, check_streams};
 
 /// Roots of documents, after some settings.
 const ROOTS: &[Group] = &[
@@ -32,17 +32,14 @@ const ROOTS: &[Group] = &[
             (r#"=VAL literal 1 1 - - " ""#, "\" \"\n"),
         ],
     ),
-    // Three dots end the stream where a text keeps its last breaks.
+    // Lines stand below a header.
     (
         "",
         &[
-            (r#"=VAL literal 1 1 - - "a\n\n""#, "|+\n  a\n\n...\n"),
-            (r#"=VAL literal 1 1 - - "\n""#, "|2+\n\n...\n"),
             (
                 r#"=VAL folded 1 1 - - "a\nb\n\n c\n""#,
                 ">\n  a\n\n  b\n\n   c\n",
             ),
-            (r#"=VAL folded 1 1 - - "\n\n""#, ">2+\n\n\n...\n"),
             (r#"=VAL folded 1 1 - - "\n a""#, ">2-\n\n   a\n"),
         ],
     ),
@@ -91,6 +88,10 @@ const ROOTS: &[Group] = &[
             ),
         ],
     ),
+    (
+        "unicode on\nbreaks12 off\n",
+        &[(r#"=VAL single 1 1 - - "a\u{2028}b""#, "'a\u{2028}  b'\n")],
+    ),
     // A line separator is escaped for readers of 1 2.
     (
         "unicode on\nbreaks12 on\n",
@@ -134,4 +135,40 @@ const ROOTS: &[Group] = &[
 #[test]
 fn each_root_is_written(rt: HostRuntime) {
     check_all_roots(&rt, rt.alloc(), ROOTS);
+}
+
+/// Three dots end the stream where a text keeps its last breaks.
+const DOTS: Streams = &[
+    (
+        r#"
++STR any
++DOC 1 -
+=VAL literal 1 1 - - "a\n\n"
+-DOC 1
+-STR"#,
+        &["|+\n  a\n\n", "...\n"],
+    ),
+    (
+        r#"
++STR any
++DOC 1 -
+=VAL literal 1 1 - - "\n"
+-DOC 1
+-STR"#,
+        &["|2+\n\n", "...\n"],
+    ),
+    (
+        r#"
++STR any
++DOC 1 -
+=VAL folded 1 1 - - "\n\n"
+-DOC 1
+-STR"#,
+        &[">2+\n\n\n", "...\n"],
+    ),
+];
+
+#[test]
+fn dots_end_a_stream_whose_text_keeps_its_breaks(rt: HostRuntime) {
+    check_streams(&rt, rt.alloc(), "", DOTS);
 }

@@ -1,0 +1,253 @@
+//! The events of a script, given to an emitter one by one: each answer, how many events wait after each call, and what was
+//! flushed; and all again with each growth refused in turn.
+use super::Row;
+use super::held::{Kind, held, kind_of};
+use crate::tests::emitters::{Answer, check_failed, flush_if_known, give};
+use crate::tests::{equal, same};
+use std::alloc::{Allocator, Global};
+use std::process::Abort;
+use yaml_base::yaml_error_t;
+use yaml_emitter::{
+    yaml_emitter_initialize, yaml_emitter_set_break, yaml_emitter_set_canonical,
+    yaml_emitter_set_encoding, yaml_emitter_set_indent, yaml_emitter_set_line_breaks_1_2,
+    yaml_emitter_set_output_string, yaml_emitter_set_portable, yaml_emitter_set_unicode,
+    yaml_emitter_set_width, yaml_emitter_t,
+};
+use yaml_test_allocator::Refusing;
+use yaml_tool::{NumberedEvent, Settings, read_script, run_answer_t};
+
+/// An emitter with these settings.
+fn emitter_with<A: Allocator + Copy>(
+    alloc: A,
+    settings: &Settings,
+) -> Result<yaml_emitter_t<A>, yaml_error_t> {
+    let mut emitter = yaml_emitter_initialize(alloc)?;
+    yaml_emitter_set_output_string(&mut emitter, settings.limit as usize);
+    yaml_emitter_set_encoding(&mut emitter, settings.encoding);
+    yaml_emitter_set_canonical(&mut emitter, settings.canonical);
+    yaml_emitter_set_unicode(&mut emitter, settings.unicode);
+    yaml_emitter_set_break(&mut emitter, settings.line_break);
+    yaml_emitter_set_line_breaks_1_2(&mut emitter, settings.breaks12);
+    yaml_emitter_set_portable(&mut emitter, settings.portable);
+    match (settings.indent, settings.width) {
+        (None, None) => {}
+        (Some(indent), None) => yaml_emitter_set_indent(&mut emitter, indent),
+        (None, Some(width)) => yaml_emitter_set_width(&mut emitter, width),
+        (Some(indent), Some(width)) => {
+            yaml_emitter_set_indent(&mut emitter, indent);
+            yaml_emitter_set_width(&mut emitter, width);
+        }
+    }
+    Ok(emitter)
+}
+
+/// An output below this size is flushed at ends and by the caller alone.
+const BUFFER_SIZE: usize = 16_384;
+
+/// How an event's call is answered. The limit of a short output is told by a flush, which only the ends of documents and of
+/// the stream make.
+fn emit_answer(row: &Row, line: u64, kind: Kind) -> Answer {
+    let flushes = matches!(kind, Kind::FlushingEnd) || row.output.len() >= BUFFER_SIZE;
+    match row.answer {
+        run_answer_t::Refused(at, yaml_error_t::WriteError) if at == line && !flushes => Ok(()),
+        _ => flush_answer(row, line),
+    }
+}
+
+/// How a flush after this line's event is answered.
+fn flush_answer(row: &Row, line: u64) -> Answer {
+    match row.answer {
+        run_answer_t::Refused(at, error) if at <= line => Err(error),
+        _ => Ok(()),
+    }
+}
+
+/// What was flushed by so many flushes.
+fn flushed<'a>(row: &Row<'a>, flushes: usize) -> &'a [u8] {
+    let Some(last) = flushes.checked_sub(1) else {
+        return b"";
+    };
+    match row.lengths.get(last) {
+        Some(length) => row.output.get(..*length).unwrap_or(row.output),
+        None => row.output,
+    }
+}
+
+/// A row on its way through an emitter.
+#[derive(Drop)]
+struct Walk<'a> {
+    row: Row<'a>,
+    /// Refuses one growth, or none.
+    heap: &'a Refusing<Global>,
+    /// The events given so far.
+    given: Vec<Kind>,
+    /// How often was flushed.
+    flushes: usize,
+}
+
+// From the call on in which the growth was refused each answers so.
+fn check_answer(rt: &impl Abort, walk: &Walk, got: Answer, row: Answer) {
+    let wanted = if walk.heap.left() == 0 {
+        Err(yaml_error_t::Memory)
+    } else {
+        row
+    };
+    equal(rt, &(walk.row.script, got), &(walk.row.script, wanted));
+}
+
+// Where a growth was refused, what is flushed begins the row's output.
+fn check_output(rt: &impl Abort, walk: &Walk, output: &[u8]) {
+    if walk.heap.left() == 0 {
+        equal(rt, &walk.row.output.starts_with(output), &true);
+    } else {
+        let wanted = flushed(&walk.row, walk.flushes);
+        equal(rt, &(walk.row.script, output), &(walk.row.script, wanted));
+    }
+}
+
+// How many events wait; after an error none does.
+fn check_held(rt: &impl Abort, walk: &Walk, got: usize, answer: Answer) {
+    let wanted = match answer {
+        Ok(()) => held(walk.given.as_slice()),
+        Err(_) => 0,
+    };
+    equal(rt, &(walk.row.script, got), &(walk.row.script, wanted));
+}
+
+// A flush that is refused a growth leaves the output.
+fn check_flush<A: Allocator + Copy>(
+    rt: &impl Abort,
+    walk: &Walk,
+    emitter: &mut yaml_emitter_t<A>,
+    wanted: Answer,
+) {
+    let length = emitter.output().len();
+    let answer = flush_if_known(rt, emitter);
+    check_answer(rt, walk, answer, wanted);
+    check_held(rt, walk, emitter.held(), answer);
+    if walk.heap.left() == 0 {
+        equal(rt, &emitter.output().len(), &length);
+    }
+    check_output(rt, walk, emitter.output());
+}
+
+/// Adds an event. Answers whether it is only kept until more are given.
+fn add(rt: &impl Abort, walk: &mut Walk, kind: Kind) -> bool {
+    let waiting = held(walk.given.as_slice());
+    walk.given.push(kind).expect(rt, "no memory");
+    held(walk.given.as_slice()) > waiting
+}
+
+// An event that is only kept asks for no growth.
+fn check_emit<A: Allocator + Copy>(
+    rt: &impl Abort,
+    walk: &mut Walk,
+    emitter: &mut yaml_emitter_t<A>,
+    numbered: NumberedEvent<A>,
+) {
+    let kind = kind_of(&numbered.event);
+    let is_kept = add(rt, walk, kind);
+    let wanted = emit_answer(&walk.row, numbered.line, kind);
+    let left = walk.heap.left();
+    let answer = give(rt, emitter, numbered.event);
+    if is_kept && wanted.is_ok() {
+        equal(
+            rt,
+            &(walk.row.script, walk.heap.left()),
+            &(walk.row.script, left),
+        );
+    }
+    check_answer(rt, walk, answer, wanted);
+    check_held(rt, walk, emitter.held(), answer);
+}
+
+// An event, and a flush after it where the row has one.
+fn check_event<A: Allocator + Copy>(
+    rt: &impl Abort,
+    walk: &mut Walk,
+    emitter: &mut yaml_emitter_t<A>,
+    numbered: NumberedEvent<A>,
+) {
+    let line = numbered.line;
+    let ends = matches!(kind_of(&numbered.event), Kind::FlushingEnd);
+    let flushes = walk.row.flushes.is_after(line);
+    check_emit(rt, walk, emitter, numbered);
+    if ends {
+        walk.flushes = walk.flushes.saturating_add(1);
+    }
+    if ends || walk.row.output.len() < BUFFER_SIZE {
+        check_output(rt, walk, emitter.output());
+    }
+    if flushes {
+        check_flush_after(rt, walk, emitter, line, ends);
+    }
+}
+
+// The caller's flush after an event.
+fn check_flush_after<A: Allocator + Copy>(
+    rt: &impl Abort,
+    walk: &mut Walk,
+    emitter: &mut yaml_emitter_t<A>,
+    line: u64,
+    ends: bool,
+) {
+    if !ends {
+        walk.flushes = walk.flushes.saturating_add(1);
+    }
+    if emitter.encoding_known() {
+        check_flush(rt, walk, emitter, flush_answer(&walk.row, line));
+    }
+}
+
+// All events, and a last flush. An error is then kept.
+fn check_events<A: Allocator + Copy>(
+    rt: &impl Abort,
+    walk: &mut Walk,
+    emitter: &mut yaml_emitter_t<A>,
+    events: Vec<NumberedEvent<A>, A>,
+) {
+    for numbered in events {
+        check_event(rt, walk, emitter, numbered);
+    }
+    walk.flushes = usize::MAX;
+    if emitter.encoding_known() {
+        check_flush(rt, walk, emitter, flush_answer(&walk.row, u64::MAX));
+    }
+    if let Some(error) = emitter.error() {
+        check_failed(rt, emitter, error);
+    }
+}
+
+/// A row of which the growth of this number is refused. Answers whether there is that growth.
+fn is_refused<A: Allocator + Copy>(
+    rt: &impl Abort,
+    walk: &mut Walk,
+    alloc: A,
+    number: usize,
+) -> bool {
+    let heap = walk.heap;
+    heap.refuse(0);
+    let script = read_script(alloc, walk.row.script.as_bytes()).expect(rt, "a script");
+    heap.refuse(number);
+    match emitter_with(alloc, &script.settings) {
+        Ok(mut emitter) => check_events(rt, walk, &mut emitter, script.events),
+        Err(error) => equal(rt, &(heap.left(), error), &(0, yaml_error_t::Memory)),
+    }
+    heap.left() == 0
+}
+
+/// The calls of a row, with the first growth refused, the second, and so on, until none is.
+pub(super) fn check_calls(rt: &impl Abort, alloc: Global, row: &Row) {
+    let heap = Refusing::new(alloc);
+    for number in 1..usize::MAX {
+        let mut walk = Walk {
+            row: *row,
+            heap: &heap,
+            given: Vec::new(alloc),
+            flushes: 0,
+        };
+        if !is_refused(rt, &mut walk, &heap, number) {
+            return;
+        }
+    }
+}
