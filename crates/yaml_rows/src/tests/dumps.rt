@@ -1,6 +1,5 @@
 //! Documents dumped, as tests write them.
 mod events;
-mod memory;
 mod steps;
 mod streams;
 mod texts;
@@ -50,7 +49,7 @@ fn mapping<A: Allocator>(tag: String<A>, pairs: Vec<yaml_node_pair_t, A>) -> yam
 
 /// A node as tables write it.
 #[derive(Clone, Copy)]
-enum Given<'a> {
+pub(super) enum Given<'a> {
     /// A string.
     Text(&'a str),
     /// A scalar's tag and value.
@@ -93,7 +92,7 @@ fn add<A: Allocator + Copy>(
     nodes.push(node(rt, alloc, given)).expect(rt, "no memory");
 }
 
-fn nodes<A: Allocator + Copy>(
+pub(super) fn nodes<A: Allocator + Copy>(
     rt: &impl Abort,
     alloc: A,
     given: &[Given],

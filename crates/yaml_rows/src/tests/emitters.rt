@@ -1,10 +1,13 @@
-//! Emitters from outside, call by call: what waits, what is handed out meanwhile, growths that are refused.
+//! Emitters from outside, step by step: values in each style, outputs that are taken, deep collections, growths that are refused.
 mod depth;
+mod each_style;
+mod early;
 mod memory;
+mod short_block;
+mod short_quoted;
 mod steps;
 mod streams;
 mod taking;
-mod waiting;
 
 use crate::tests::{equal, same};
 use std::alloc::Allocator;
@@ -15,8 +18,8 @@ use yaml_base::{
 };
 use yaml_emitter::{
     yaml_emitter_emit, yaml_emitter_flush, yaml_emitter_initialize, yaml_emitter_set_canonical,
-    yaml_emitter_set_encoding, yaml_emitter_set_output_string, yaml_emitter_set_width,
-    yaml_emitter_t,
+    yaml_emitter_set_encoding, yaml_emitter_set_output_string, yaml_emitter_set_unicode,
+    yaml_emitter_set_width, yaml_emitter_t,
 };
 
 pub(super) type Answer = Result<(), yaml_error_t>;
@@ -27,6 +30,7 @@ pub(super) struct Setting {
     pub(super) limit: usize,
     pub(super) encoding: yaml_encoding_t,
     pub(super) canonical: bool,
+    pub(super) unicode: bool,
     pub(super) width: i32,
 }
 
@@ -35,11 +39,12 @@ pub(super) const UNSET: Setting = Setting {
     limit: usize::MAX,
     encoding: YAML_ANY_ENCODING,
     canonical: false,
+    unicode: false,
     width: 80,
 };
 
 /// An emitter before its stream.
-fn begun<A: Allocator + Copy>(
+pub(super) fn begun<A: Allocator + Copy>(
     alloc: A,
     setting: &Setting,
 ) -> Result<yaml_emitter_t<A>, yaml_error_t> {
@@ -47,11 +52,12 @@ fn begun<A: Allocator + Copy>(
     yaml_emitter_set_output_string(&mut emitter, setting.limit);
     yaml_emitter_set_encoding(&mut emitter, setting.encoding);
     yaml_emitter_set_canonical(&mut emitter, setting.canonical);
+    yaml_emitter_set_unicode(&mut emitter, setting.unicode);
     yaml_emitter_set_width(&mut emitter, setting.width);
     Ok(emitter)
 }
 
-/// The same, where there is memory for it.
+/// An emitter before its stream, for which there is memory.
 pub(super) fn made<A: Allocator + Copy>(
     rt: &impl Abort,
     alloc: A,
@@ -71,7 +77,10 @@ pub(super) fn give<A: Allocator + Copy>(
 }
 
 /// A flush, where the encoding is known.
-pub(super) fn flush_if_known<A: Allocator + Copy>(rt: &impl Abort, emitter: &mut yaml_emitter_t<A>) -> Answer {
+pub(super) fn flush_if_known<A: Allocator + Copy>(
+    rt: &impl Abort,
+    emitter: &mut yaml_emitter_t<A>,
+) -> Answer {
     assert!(rt; emitter.has_output());
     if emitter.encoding_known() {
         return yaml_emitter_flush(emitter);
@@ -101,24 +110,13 @@ fn emit_all<A: Allocator + Copy>(
     }
 }
 
-// What was handed out, and how many events wait.
-fn check_output<A: Allocator>(
-    rt: &impl Abort,
-    emitter: &yaml_emitter_t<A>,
-    text: &str,
-    held: usize,
-) {
-    same(rt, emitter.output(), text.as_bytes());
-    equal(rt, &(text, emitter.held()), &(text, held));
-}
-
 // The error is kept, and nothing waits.
 fn check_kept<A: Allocator>(rt: &impl Abort, emitter: &yaml_emitter_t<A>, error: yaml_error_t) {
     equal(rt, &emitter.error(), &Some(error));
     equal(rt, &emitter.held(), &0);
 }
 
-// An event that is refused by this error hands out nothing.
+// An event that is refused by this error flushes nothing.
 fn check_refused<A: Allocator + Copy>(
     rt: &impl Abort,
     emitter: &mut yaml_emitter_t<A>,
@@ -143,7 +141,7 @@ fn check_flush_refused<A: Allocator + Copy>(
     }
 }
 
-/// After an error each call answers it; nothing waits, and nothing more is handed out.
+/// After an error each call answers it; nothing waits, and nothing more is flushed.
 pub(super) fn check_failed<A: Allocator + Copy>(
     rt: &impl Abort,
     emitter: &mut yaml_emitter_t<A>,
@@ -155,7 +153,7 @@ pub(super) fn check_failed<A: Allocator + Copy>(
     check_kept(rt, emitter, error);
 }
 
-/// A growth was refused: what was handed out begins the whole, and each call answers the error.
+/// A growth was refused: what was flushed begins the whole, and each call answers the error.
 pub(super) fn check_out_of_memory<A: Allocator + Copy>(
     rt: &impl Abort,
     emitter: &mut yaml_emitter_t<A>,

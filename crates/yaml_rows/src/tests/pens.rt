@@ -108,7 +108,7 @@ fn check_cursor(rt: &impl Abort, pen: &Pen<Global>, column: i32, flags: bool) {
     equal(rt, &cursor, &(column, flags, flags));
 }
 
-// Nothing was handed out before the flush, and this is after it.
+// Nothing was flushed before the flush, and this is after it.
 fn check_flushed(rt: &impl Abort, pen: &mut Pen<Global>, expected: &[u8])
     requires { IsReady pen.old }
 {
@@ -212,7 +212,7 @@ fn line_breaks_are_those_of_the_setting(rt: HostRuntime) {
     check_flushed(&rt, &mut pen, b"a\r\n\r\n\r-b c");
 }
 
-// The flush hands out what the limit leaves, and each call after it is refused.
+// The flush writes what the limit leaves, and each call after it is refused.
 fn check_cut(rt: &impl Abort, pen: &mut Pen<Global>, cut: &[u8])
     requires { IsReady pen.old }
 {

@@ -4,10 +4,7 @@ ghost use Rattle.yaml_pen.specs.Page.{IsReady};
 mod block;
 mod chosen;
 mod double_quoted;
-mod each_style;
 mod plain;
-mod short_block;
-mod short_quoted;
 mod single_quoted;
 mod styles;
 
@@ -24,7 +21,7 @@ pub(super) fn begun(rt: &impl Abort, alloc: Global) -> Pen<Global>
     begun_within(rt, alloc, usize::MAX)
 }
 
-/// The same, with a limit on the output's bytes.
+/// A pen at the start of a text in UTF-8, with a limit on the output's bytes.
 fn begun_within(rt: &impl Abort, alloc: Global, limit: usize) -> Pen<Global>
     ensures { IsReady result }
 {
@@ -34,7 +31,7 @@ fn begun_within(rt: &impl Abort, alloc: Global, limit: usize) -> Pen<Global>
     pen
 }
 
-/// The same, with lines that end in CR, or in CR LF.
+/// A pen at the start of a text in UTF-8 whose lines end in CR, or in CR LF.
 fn begun_with_returns(rt: &impl Abort, alloc: Global, line_feed_too: bool) -> Pen<Global>
     ensures { IsReady result }
 {
@@ -47,7 +44,7 @@ fn begun_with_returns(rt: &impl Abort, alloc: Global, line_feed_too: bool) -> Pe
     pen
 }
 
-/// The flush is refused, and hands out this.
+/// The flush is refused, and writes this.
 fn check_cut(rt: &impl Abort, pen: &mut Pen<Global>, cut: &[u8])
     requires { IsReady pen.old }
     ensures { IsReady pen.new }
@@ -70,7 +67,7 @@ pub(super) fn check_written(
     same(rt, pen.output(), wanted.as_bytes());
 }
 
-/// The same, where the answer is an open mark.
+/// The answer was an open mark, and this was written.
 fn check_marked(
     rt: &impl Abort,
     pen: &mut Pen<Global>,

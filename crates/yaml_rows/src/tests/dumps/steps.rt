@@ -1,14 +1,16 @@
-//! Calls on one emitter, and what is then so, as tables write them.
+//! Calls on one emitter, and what is then so, as tables write them; also with each growth refused in turn.
 use super::{Given, close, document, dump, nodes};
-use crate::tests::emitters::{Setting, give, made};
+use crate::tests::emitters::{Setting, begun, check_out_of_memory, give};
 use crate::tests::{equal, same};
-use std::alloc::Global;
+use std::alloc::{Allocator, Global};
 use std::process::Abort;
 use yaml_base::{
-    YAML_ANY_ENCODING, YAML_STREAM_END_EVENT, YAML_STREAM_START_EVENT, yaml_error_t, yaml_event_t,
+    YAML_ANY_ENCODING, YAML_STREAM_END_EVENT, YAML_STREAM_START_EVENT, yaml_document_t,
+    yaml_error_t,
 };
 use yaml_dump::yaml_emitter_open;
 use yaml_emitter::yaml_emitter_t;
+use yaml_test_allocator::Refusing;
 
 pub(super) type Answer = Result<(), yaml_error_t>;
 
@@ -33,37 +35,80 @@ pub(super) enum Step<'a> {
     Error(Option<yaml_error_t>),
 }
 
-const START: yaml_event_t<Global> = YAML_STREAM_START_EVENT {
-    encoding: YAML_ANY_ENCODING,
-};
-
-fn open(rt: &impl Abort, emitter: &mut yaml_emitter_t<Global>) -> Answer {
+fn open<A: Allocator + Copy>(rt: &impl Abort, emitter: &mut yaml_emitter_t<A>) -> Answer {
     assert!(rt; emitter.has_output() && !emitter.is_opened());
     yaml_emitter_open(emitter)
 }
 
-// A dump of these nodes.
-fn dump_nodes(
-    rt: &impl Abort,
-    alloc: Global,
-    emitter: &mut yaml_emitter_t<Global>,
-    given: &[Given],
-) -> Answer {
-    dump(
-        rt,
-        alloc,
-        emitter,
-        document(rt, alloc, nodes(rt, alloc, given)),
-    )
+fn start<A: Allocator + Copy>(rt: &impl Abort, emitter: &mut yaml_emitter_t<A>) -> Answer {
+    let event = YAML_STREAM_START_EVENT {
+        encoding: YAML_ANY_ENCODING,
+    };
+    give(rt, emitter, event)
 }
 
-fn take(rt: &impl Abort, alloc: Global, emitter: &mut yaml_emitter_t<Global>, step: &Step) {
+/// A document of these nodes, of which no growth is refused.
+fn granted<A: Allocator + Copy>(
+    rt: &impl Abort,
+    heap: &Refusing<Global>,
+    alloc: A,
+    given: &[Given],
+) -> yaml_document_t<A> {
+    let number = heap.left();
+    heap.refuse(0);
+    let document = document(rt, alloc, nodes(rt, alloc, given));
+    heap.refuse(number);
+    document
+}
+
+/// A dump. Where a growth was refused and no error is kept, the emitter is as before, and takes an equal document.
+fn dump_again<A: Allocator + Copy>(
+    rt: &impl Abort,
+    heap: &Refusing<Global>,
+    alloc: A,
+    emitter: &mut yaml_emitter_t<A>,
+    given: &[Given],
+) -> Answer {
+    let answer = dump(rt, alloc, emitter, granted(rt, heap, alloc, given));
+    if heap.left() != 0 || emitter.error().is_some() {
+        return answer;
+    }
+    equal(rt, &answer, &Err(yaml_error_t::Memory));
+    heap.refuse(usize::MAX);
+    dump(rt, alloc, emitter, granted(rt, heap, alloc, given))
+}
+
+// The call in which a growth was refused answers so.
+fn check_answer(rt: &impl Abort, heap: &Refusing<Global>, answer: Answer, wanted: &Answer) {
+    if heap.left() == 0 {
+        equal(rt, &answer, &Err(yaml_error_t::Memory));
+    } else {
+        equal(rt, &answer, wanted);
+    }
+}
+
+fn take<A: Allocator + Copy>(
+    rt: &impl Abort,
+    heap: &Refusing<Global>,
+    alloc: A,
+    emitter: &mut yaml_emitter_t<A>,
+    step: &Step,
+) {
     match step {
-        Step::Open(answer) => equal(rt, &open(rt, emitter), answer),
-        Step::Start(answer) => equal(rt, &give(rt, emitter, START), answer),
-        Step::End(answer) => equal(rt, &give(rt, emitter, YAML_STREAM_END_EVENT), answer),
-        Step::Dump(given, answer) => equal(rt, &dump_nodes(rt, alloc, emitter, given), answer),
-        Step::Close(answer) => equal(rt, &close(rt, emitter), answer),
+        Step::Open(answer) => check_answer(rt, heap, open(rt, emitter), answer),
+        Step::Start(answer) => check_answer(rt, heap, start(rt, emitter), answer),
+        Step::End(answer) => {
+            check_answer(rt, heap, give(rt, emitter, YAML_STREAM_END_EVENT), answer)
+        }
+        Step::Dump(given, answer) => {
+            check_answer(
+                rt,
+                heap,
+                dump_again(rt, heap, alloc, emitter, given),
+                answer,
+            )
+        }
+        Step::Close(answer) => check_answer(rt, heap, close(rt, emitter), answer),
         Step::Opened(is_opened) => equal(rt, &emitter.is_opened(), is_opened),
         Step::Closed(is_closed) => equal(rt, &emitter.is_closed(), is_closed),
         Step::Output(bytes) => same(rt, emitter.output(), bytes),
@@ -71,13 +116,74 @@ fn take(rt: &impl Abort, alloc: Global, emitter: &mut yaml_emitter_t<Global>, st
     }
 }
 
-fn take_all(rt: &impl Abort, alloc: Global, emitter: &mut yaml_emitter_t<Global>, steps: &[Step]) {
+/// The last output that is looked at.
+fn last_output<'a>(steps: &[Step<'a>]) -> &'a [u8] {
+    let mut output: &[u8] = b"";
     for step in steps {
-        take(rt, alloc, emitter, step);
+        if let Step::Output(bytes) = step {
+            output = bytes;
+        }
+    }
+    output
+}
+
+// Steps up to the one in which a growth is refused. No event waits after any.
+fn take_all<A: Allocator + Copy>(
+    rt: &impl Abort,
+    heap: &Refusing<Global>,
+    alloc: A,
+    emitter: &mut yaml_emitter_t<A>,
+    steps: &[Step],
+) {
+    for step in steps {
+        take(rt, heap, alloc, emitter, step);
+        equal(rt, &emitter.held(), &0);
+        if heap.left() == 0 {
+            check_out_of_memory(rt, emitter, last_output(steps));
+            return;
+        }
     }
 }
 
-/// The steps are taken on an emitter of their own.
+// On an emitter of its own.
+fn take_refused<A: Allocator + Copy>(
+    rt: &impl Abort,
+    heap: &Refusing<Global>,
+    alloc: A,
+    setting: &Setting,
+    steps: &[Step],
+) {
+    match begun(alloc, setting) {
+        Ok(mut emitter) => take_all(rt, heap, alloc, &mut emitter, steps),
+        Err(error) => check_answer(rt, heap, Err(error), &Ok(())),
+    }
+}
+
+/// The steps are taken with the first growth refused, the second, and so on, until none is.
 pub(super) fn check_steps(rt: &impl Abort, alloc: Global, setting: &Setting, steps: &[Step]) {
-    take_all(rt, alloc, &mut made(rt, alloc, setting), steps);
+    let heap = Refusing::new(alloc);
+    for number in 1..usize::MAX {
+        heap.refuse(number);
+        take_refused(rt, &heap, &heap, setting, steps);
+        // It was refused; or no growth was refused before another dump, from which on so many are left.
+        let is_refused = heap.left() == 0 || heap.left() > number;
+        if !is_refused {
+            return;
+        }
+    }
+}
+
+/// A dump of these nodes and a close give this text.
+pub(super) type Row<'a> = (&'a [Given<'a>], &'a str);
+
+pub(super) fn check_rows(rt: &impl Abort, alloc: Global, setting: &Setting, rows: &[Row]) {
+    for row in rows {
+        let output = row.1.as_bytes();
+        let steps = [
+            Step::Dump(row.0, Ok(())),
+            Step::Close(Ok(())),
+            Step::Output(output),
+        ];
+        check_steps(rt, alloc, setting, &steps);
+    }
 }

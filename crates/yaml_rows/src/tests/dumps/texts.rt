@@ -1,9 +1,8 @@
 //! Documents dumped: texts worked out by hand, and dumps in wrong moments.
 use super::Given::{Mapping, Sequence, Tagged, Text};
 use super::events::events_of;
-use super::memory::{Row, check_rows};
 use super::steps::Step::{Close, Closed, Dump, End, Error, Open, Opened, Output, Start};
-use super::steps::{Answer, Step, check_steps};
+use super::steps::{Answer, Row, Step, check_rows, check_steps};
 use super::streams::ONE_BYTE;
 use super::{Given, add, document, dump, in_each_other};
 use crate::tests::emitters::{Setting, UNSET, made};
@@ -27,7 +26,12 @@ const ONCE: &[Row] = &[
         &[Sequence(&[2, 2]), Sequence(&[3, 3]), Text("a")],
         "- &id002\n  - &id001 a\n  - *id001\n- *id002\n",
     ),
-    // A mapping may hold itself.
+    (
+        &[Sequence(&[2]), Sequence(&[3, 3]), Text("a")],
+        "- - &id001 a\n  - *id001\n",
+    ),
+    // Collections may hold themselves.
+    (&[Sequence(&[1])], "&id001\n- *id001\n"),
     (ITSELF, "&id001\nk: *id001\n"),
     // Another tag than that of strings is written.
     (&[Tagged("tag:yaml.org,2002:int", "5")], "!!int 5\n"),
@@ -118,6 +122,7 @@ const UNCLOSED: &[Step] = &[
     Opened(true),
     Closed(false),
     Close(REFUSED),
+    Output(b"\xFE"),
 ];
 
 #[test]

@@ -67,7 +67,7 @@ fn check_answer(rt: &impl Abort, heap: &Refusing<Global>, answer: Result<(), yam
 }
 
 // An event of which no growth is refused.
-fn granted<A: Allocator + Copy>(
+pub(super) fn granted<A: Allocator + Copy>(
     rt: &impl Abort,
     heap: &Refusing<Global>,
     alloc: A,
@@ -80,7 +80,7 @@ fn granted<A: Allocator + Copy>(
     next
 }
 
-// An event is emitted. After a refusal nothing is handed out.
+// An event is emitted. After a refusal nothing is flushed.
 fn check_emit<A: Allocator + Copy>(
     rt: &impl Abort,
     heap: &Refusing<Global>,
@@ -177,7 +177,7 @@ fn refuse_in_turn(
 }
 
 /// A stream gives these bytes, and each growth that it takes is refused in turn.
-pub(super) fn check_growths(rt: &impl Abort, alloc: Global, events: &[Given], whole: &[u8]) {
+fn check_growths(rt: &impl Abort, alloc: Global, events: &[Given], whole: &[u8]) {
     let heap = Refusing::new(alloc);
     refuse_in_turn(rt, &heap, events, false, whole);
     refuse_in_turn(rt, &heap, events, true, whole);

@@ -1,31 +1,25 @@
-//! Calls on one emitter, and what is then so, as tables write them.
-use super::streams::{Given, event};
-use super::{
-    Answer, Setting, check_failed, check_output, check_refused, emit_all, flush_if_known, made,
-};
+//! Calls on one emitter, and what is then so, as tables write them; also with each growth refused in turn.
+use super::memory::granted;
+use super::streams::Given;
+use super::{Answer, Setting, begun, check_failed, check_out_of_memory, flush_if_known, give};
 use crate::tests::{equal, same};
-use std::alloc::Global;
+use std::alloc::{Allocator, Global};
 use std::process::Abort;
 use yaml_base::yaml_error_t;
 use yaml_emitter::{yaml_emitter_t, yaml_emitter_take_output};
+use yaml_test_allocator::Refusing;
 
 /// Calls with their answers, or what stands after them.
 #[derive(Clone, Copy)]
 pub(super) enum Step<'a> {
-    /// These events are emitted.
-    Emit(&'a [Given<'a>]),
-    /// This event is refused.
-    Refuse(Given<'a>, yaml_error_t),
+    /// This event is emitted, and not refused.
+    Emit(Given<'a>),
     /// A flush, where the encoding is known.
     Flush(Answer),
-    /// The output is taken.
+    /// The output, which is then taken.
     Take(&'a [u8]),
-    /// These events are emitted, and the output is flushed and taken.
-    Part(&'a [Given<'a>], &'a [u8]),
-    /// What was handed out.
+    /// The output.
     Output(&'a [u8]),
-    /// The same, and how many events wait.
-    Waits(&'a str, usize),
     /// How many events wait.
     Held(usize),
     /// Whether the encoding is known.
@@ -36,49 +30,55 @@ pub(super) enum Step<'a> {
     Failed(yaml_error_t),
 }
 
-// These bytes were handed out.
-fn check_bytes(rt: &impl Abort, taken: Vec<u8>, bytes: &[u8]) {
+// These bytes were taken.
+fn check_bytes<A: Allocator>(rt: &impl Abort, taken: Vec<u8, A>, bytes: &[u8]) {
     same(rt, taken.as_slice(), bytes);
 }
 
-// A call gives this.
-fn take(rt: &impl Abort, emitter: &mut yaml_emitter_t<Global>, bytes: &[u8]) {
-    same(rt, emitter.output(), bytes);
-    check_bytes(rt, yaml_emitter_take_output(emitter), bytes);
-}
-
-// What a call gives. A second one gives nothing, and nothing is left.
-fn check_taken(rt: &impl Abort, emitter: &mut yaml_emitter_t<Global>, bytes: &[u8]) {
-    take(rt, emitter, bytes);
-    take(rt, emitter, b"");
-}
-
-// A flush is answered so.
-fn check_flush(rt: &impl Abort, emitter: &mut yaml_emitter_t<Global>, answer: &Answer) {
-    equal(rt, &flush_if_known(rt, emitter), answer);
-}
-
-fn take_part(
+// The output is taken. A second call gives nothing, and nothing is left.
+fn check_taken<A: Allocator + Copy>(
     rt: &impl Abort,
-    alloc: Global,
-    emitter: &mut yaml_emitter_t<Global>,
-    events: &[Given],
+    emitter: &mut yaml_emitter_t<A>,
     bytes: &[u8],
 ) {
-    emit_all(rt, alloc, emitter, events);
-    check_flush(rt, emitter, &Ok(()));
-    check_taken(rt, emitter, bytes);
+    same(rt, emitter.output(), bytes);
+    check_bytes(rt, yaml_emitter_take_output(emitter), bytes);
+    same(rt, emitter.output(), b"");
+    check_bytes(rt, yaml_emitter_take_output(emitter), b"");
 }
 
-fn take_step(rt: &impl Abort, alloc: Global, emitter: &mut yaml_emitter_t<Global>, step: &Step) {
+// The call in which a growth was refused answers so.
+fn check_answer(rt: &impl Abort, heap: &Refusing<Global>, answer: Answer, wanted: &Answer) {
+    if heap.left() == 0 {
+        equal(rt, &answer, &Err(yaml_error_t::Memory));
+    } else {
+        equal(rt, &answer, wanted);
+    }
+}
+
+fn emit<A: Allocator + Copy>(
+    rt: &impl Abort,
+    heap: &Refusing<Global>,
+    alloc: A,
+    emitter: &mut yaml_emitter_t<A>,
+    given: &Given,
+) {
+    let answer = give(rt, emitter, granted(rt, heap, alloc, given));
+    check_answer(rt, heap, answer, &Ok(()));
+}
+
+fn take_step<A: Allocator + Copy>(
+    rt: &impl Abort,
+    heap: &Refusing<Global>,
+    alloc: A,
+    emitter: &mut yaml_emitter_t<A>,
+    step: &Step,
+) {
     match step {
-        Step::Emit(events) => emit_all(rt, alloc, emitter, events),
-        Step::Refuse(given, error) => check_refused(rt, emitter, event(rt, alloc, given), *error),
-        Step::Flush(answer) => check_flush(rt, emitter, answer),
+        Step::Emit(given) => emit(rt, heap, alloc, emitter, given),
+        Step::Flush(answer) => check_answer(rt, heap, flush_if_known(rt, emitter), answer),
         Step::Take(bytes) => check_taken(rt, emitter, bytes),
-        Step::Part(events, bytes) => take_part(rt, alloc, emitter, events, bytes),
         Step::Output(bytes) => same(rt, emitter.output(), bytes),
-        Step::Waits(text, held) => check_output(rt, emitter, text, *held),
         Step::Held(held) => equal(rt, &emitter.held(), held),
         Step::Known(is_known) => equal(rt, &emitter.encoding_known(), is_known),
         Step::Started(is_started) => equal(rt, &emitter.is_started(), is_started),
@@ -86,18 +86,56 @@ fn take_step(rt: &impl Abort, alloc: Global, emitter: &mut yaml_emitter_t<Global
     }
 }
 
-fn take_steps(
+/// The next output that is looked at.
+fn next_output<'a>(steps: &[Step<'a>]) -> &'a [u8] {
+    for step in steps {
+        if let Step::Output(bytes) | Step::Take(bytes) = step {
+            return bytes;
+        }
+    }
+    b""
+}
+
+// Steps up to the one in which a growth is refused.
+fn take_steps<A: Allocator + Copy>(
     rt: &impl Abort,
-    alloc: Global,
-    emitter: &mut yaml_emitter_t<Global>,
+    heap: &Refusing<Global>,
+    alloc: A,
+    emitter: &mut yaml_emitter_t<A>,
     steps: &[Step],
 ) {
-    for step in steps {
-        take_step(rt, alloc, emitter, step);
+    for (number, step) in steps.iter().enumerate() {
+        take_step(rt, heap, alloc, emitter, step);
+        if heap.left() == 0 {
+            let rest = steps.get(number..).unwrap_or(&[]);
+            check_out_of_memory(rt, emitter, next_output(rest));
+            return;
+        }
     }
 }
 
-/// The steps are taken on an emitter of their own.
+// On an emitter of its own.
+fn take_refused<A: Allocator + Copy>(
+    rt: &impl Abort,
+    heap: &Refusing<Global>,
+    alloc: A,
+    setting: &Setting,
+    steps: &[Step],
+) {
+    match begun(alloc, setting) {
+        Ok(mut emitter) => take_steps(rt, heap, alloc, &mut emitter, steps),
+        Err(error) => check_answer(rt, heap, Err(error), &Ok(())),
+    }
+}
+
+/// The steps are taken with the first growth refused, the second, and so on, until none is.
 pub(super) fn check_steps(rt: &impl Abort, alloc: Global, setting: &Setting, steps: &[Step]) {
-    take_steps(rt, alloc, &mut made(rt, alloc, setting), steps);
+    let heap = Refusing::new(alloc);
+    for number in 1..usize::MAX {
+        heap.refuse(number);
+        take_refused(rt, &heap, &heap, setting, steps);
+        if heap.left() != 0 {
+            return;
+        }
+    }
 }

@@ -3,9 +3,8 @@ use crate::tests::owned;
 use std::alloc::Allocator;
 use std::process::Abort;
 use yaml_base::{
-    YAML_ALIAS_EVENT, YAML_ANY_ENCODING, YAML_ANY_SCALAR_STYLE, YAML_BLOCK_MAPPING_STYLE,
-    YAML_BLOCK_SEQUENCE_STYLE, YAML_DOCUMENT_END_EVENT, YAML_DOCUMENT_START_EVENT,
-    YAML_FLOW_MAPPING_STYLE, YAML_FLOW_SEQUENCE_STYLE, YAML_LITERAL_SCALAR_STYLE,
+    YAML_ANY_ENCODING, YAML_ANY_SCALAR_STYLE, YAML_BLOCK_MAPPING_STYLE, YAML_BLOCK_SEQUENCE_STYLE,
+    YAML_DOCUMENT_END_EVENT, YAML_DOCUMENT_START_EVENT, YAML_FLOW_SEQUENCE_STYLE,
     YAML_MAPPING_END_EVENT, YAML_MAPPING_START_EVENT, YAML_SCALAR_EVENT, YAML_SEQUENCE_END_EVENT,
     YAML_SEQUENCE_START_EVENT, YAML_STREAM_END_EVENT, YAML_STREAM_START_EVENT, yaml_encoding_t,
     yaml_event_t, yaml_mapping_style_t, yaml_scalar_style_t, yaml_sequence_style_t,
@@ -26,21 +25,15 @@ pub(crate) enum Given<'a> {
     Document,
     Directed(Tags<'a>),
     DocumentEnd,
-    Alias(&'a str),
     /// A scalar of any style.
     Text(&'a str),
-    Literal(&'a str),
+    Styled(&'a str, yaml_scalar_style_t),
     /// A tag and a value, both flags off.
     Tagged(&'a str, &'a str),
-    /// An anchor and a value.
-    Anchored(&'a str, &'a str),
     BlockSequence,
     FlowSequence,
-    /// A flow sequence with an anchor.
-    AnchoredSequence(&'a str),
     SequenceEnd,
     BlockMapping,
-    FlowMapping,
     MappingEnd,
 }
 
@@ -63,14 +56,13 @@ fn document<A: Allocator + Copy>(rt: &impl Abort, alloc: A, tags: Tags) -> yaml_
 
 // The flags are on where there is no tag.
 fn scalar<A: Allocator>(
-    anchor: Option<String<A>>,
     tag: Option<String<A>>,
     value: String<A>,
     style: yaml_scalar_style_t,
 ) -> yaml_event_t<A> {
     let implicit = tag.is_none();
     YAML_SCALAR_EVENT {
-        anchor,
+        anchor: None,
         tag,
         value,
         plain_implicit: implicit,
@@ -79,12 +71,9 @@ fn scalar<A: Allocator>(
     }
 }
 
-fn sequence<A: Allocator>(
-    anchor: Option<String<A>>,
-    style: yaml_sequence_style_t,
-) -> yaml_event_t<A> {
+fn sequence<A: Allocator>(style: yaml_sequence_style_t) -> yaml_event_t<A> {
     YAML_SEQUENCE_START_EVENT {
-        anchor,
+        anchor: None,
         tag: None,
         implicit: true,
         style,
@@ -118,30 +107,16 @@ pub(crate) fn event<A: Allocator + Copy>(
         Given::Document => document(rt, alloc, &[]),
         Given::Directed(tags) => document(rt, alloc, tags),
         Given::DocumentEnd => YAML_DOCUMENT_END_EVENT { implicit: true },
-        Given::Alias(name) => YAML_ALIAS_EVENT {
-            anchor: owned(rt, alloc, name),
-        },
-        Given::Text(value) => scalar(None, None, owned(rt, alloc, value), any),
-        Given::Literal(value) => {
-            let value = owned(rt, alloc, value);
-            scalar(None, None, value, YAML_LITERAL_SCALAR_STYLE)
-        }
+        Given::Text(value) => scalar(None, owned(rt, alloc, value), any),
+        Given::Styled(value, style) => scalar(None, owned(rt, alloc, value), *style),
         Given::Tagged(tag, value) => {
             let tag = owned(rt, alloc, tag);
-            scalar(None, Some(tag), owned(rt, alloc, value), any)
+            scalar(Some(tag), owned(rt, alloc, value), any)
         }
-        Given::Anchored(name, value) => {
-            let name = owned(rt, alloc, name);
-            scalar(Some(name), None, owned(rt, alloc, value), any)
-        }
-        Given::BlockSequence => sequence(None, YAML_BLOCK_SEQUENCE_STYLE),
-        Given::FlowSequence => sequence(None, YAML_FLOW_SEQUENCE_STYLE),
-        Given::AnchoredSequence(name) => {
-            sequence(Some(owned(rt, alloc, name)), YAML_FLOW_SEQUENCE_STYLE)
-        }
+        Given::BlockSequence => sequence(YAML_BLOCK_SEQUENCE_STYLE),
+        Given::FlowSequence => sequence(YAML_FLOW_SEQUENCE_STYLE),
         Given::SequenceEnd => YAML_SEQUENCE_END_EVENT,
         Given::BlockMapping => mapping(YAML_BLOCK_MAPPING_STYLE),
-        Given::FlowMapping => mapping(YAML_FLOW_MAPPING_STYLE),
         Given::MappingEnd => YAML_MAPPING_END_EVENT,
     }
 }

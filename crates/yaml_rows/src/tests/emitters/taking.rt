@@ -1,5 +1,5 @@
 //! The output, taken in parts while the stream is written.
-use super::steps::Step::{Emit, Failed, Flush, Held, Part, Take};
+use super::steps::Step::{Emit, Failed, Flush, Held, Take};
 use super::steps::{Step, check_steps};
 use super::streams::Given::{
     Document, DocumentEnd, FlowSequence, SequenceEnd, Stream, StreamEnd, Text,
@@ -9,14 +9,32 @@ use yaml_base::{YAML_UTF16LE_ENCODING, yaml_error_t};
 
 // In the middle of a document, and where events wait.
 const PARTS: &[Step] = &[
-    Part(&[], b""),
-    Part(&[Stream, Document, FlowSequence], b""),
-    Part(&[Text("a"), Text("b")], b"[a, b"),
-    Part(&[FlowSequence, Text("c")], b""),
+    Take(b""),
+    Emit(Stream),
+    Emit(Document),
+    Emit(FlowSequence),
+    Flush(Ok(())),
+    Take(b""),
+    Emit(Text("a")),
+    Emit(Text("b")),
+    Flush(Ok(())),
+    Take(b"[a, b"),
+    Emit(FlowSequence),
+    Emit(Text("c")),
+    Flush(Ok(())),
+    Take(b""),
     Held(2),
-    Part(&[SequenceEnd], b", [c]"),
-    Part(&[SequenceEnd, DocumentEnd], b"]\n"),
-    Part(&[Document, Text("d"), DocumentEnd, StreamEnd], b"--- d\n"),
+    Emit(SequenceEnd),
+    Flush(Ok(())),
+    Take(b", [c]"),
+    Emit(SequenceEnd),
+    Emit(DocumentEnd),
+    Take(b"]\n"),
+    Emit(Document),
+    Emit(Text("d")),
+    Emit(DocumentEnd),
+    Emit(StreamEnd),
+    Take(b"--- d\n"),
 ];
 
 #[test]
@@ -31,9 +49,16 @@ const UTF16: &Setting = &Setting {
 
 // The byte order mark comes with the first part alone.
 const IN_UTF16: &[Step] = &[
-    Part(&[Stream, Document], b"\xFF\xFE"),
-    Part(&[Text("a")], b"a\0"),
-    Part(&[DocumentEnd, StreamEnd], b"\n\0"),
+    Emit(Stream),
+    Emit(Document),
+    Flush(Ok(())),
+    Take(b"\xFF\xFE"),
+    Emit(Text("a")),
+    Flush(Ok(())),
+    Take(b"a\0"),
+    Emit(DocumentEnd),
+    Emit(StreamEnd),
+    Take(b"\n\0"),
 ];
 
 #[test]
@@ -45,11 +70,14 @@ const SIX: &Setting = &Setting { limit: 6, ..UNSET };
 
 // Five bytes are taken, and the limit leaves one of the next three.
 const TO_THE_LIMIT: &[Step] = &[
-    Part(
-        &[Stream, Document, FlowSequence, Text("a"), Text("b")],
-        b"[a, b",
-    ),
-    Emit(&[Text("c")]),
+    Emit(Stream),
+    Emit(Document),
+    Emit(FlowSequence),
+    Emit(Text("a")),
+    Emit(Text("b")),
+    Flush(Ok(())),
+    Take(b"[a, b"),
+    Emit(Text("c")),
     Flush(Err(yaml_error_t::WriteError)),
     Take(b","),
     Failed(yaml_error_t::WriteError),

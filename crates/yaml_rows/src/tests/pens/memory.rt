@@ -23,7 +23,7 @@ fn heap(rt: &impl Abort, alloc: Global, size: usize) -> LocalHeap {
     LocalHeap::new(alloc, size).expect(rt, "no memory")
 }
 
-// Letters find no room, and then nothing does; so many of them were handed out.
+// Letters find no room, and then nothing does; so many of them were flushed.
 fn check_full<A: Allocator>(rt: &impl Abort, pen: &mut Pen<A>, handed_out: usize)
     requires { IsReady pen.old }
 {

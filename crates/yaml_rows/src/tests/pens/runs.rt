@@ -52,14 +52,14 @@ fn check_each_run(rt: &impl Abort, alloc: Global, row: &Cycle) {
     }
 }
 
-// The same ten bytes, written as runs.
+// The ten bytes of each encoding, written as runs.
 #[test]
 fn runs_stay_whole_across_the_buffer(rt: HostRuntime) {
     check_each_run(&rt, rt.alloc(), &(YAML_UTF8_ENCODING, IN_UTF8));
     check_each_run(&rt, rt.alloc(), &(YAML_UTF16LE_ENCODING, IN_UTF16LE));
 }
 
-// After a refusal a run is refused by the same error, and hands out nothing.
+// After a refusal a run is refused by the same error, and flushes nothing.
 pub(super) fn check_run_refused<A: Allocator>(
     rt: &impl Abort,
     pen: &mut Pen<A>,

@@ -183,7 +183,7 @@ fn check_stopped(rt: &impl Abort, pen: &mut Pen<Global>)
     equal(rt, &write_block_scalar_hints(pen, "a\n", 2), &refused);
 }
 
-// The flush hands out what the limit leaves; with room for all it is whole.
+// The flush writes what the limit leaves; with room for all it is whole.
 fn check_cut_text(rt: &impl Abort, pen: &mut Pen<Global>, limit: usize, text: &str)
     requires { IsReady pen.old }
 {

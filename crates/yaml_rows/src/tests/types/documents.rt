@@ -1,5 +1,7 @@
 //! Documents made of nodes: what they give back, and which numbers are refused.
 use super::{mapping, one_directive, sequence_node};
+use crate::tests::dumps::Given::{Mapping, Sequence};
+use crate::tests::dumps::{Given, nodes};
 use crate::tests::equal;
 use std::alloc::Global;
 use std::process::Abort;
@@ -96,4 +98,22 @@ fn check_numbers(rt: &impl Abort, alloc: Global, rows: &[(i32, i32, i32)]) {
 #[test]
 fn the_first_number_outside_is_refused(rt: HostRuntime) {
     check_numbers(&rt, rt.alloc(), &[(1, 3, 3), (0, 3, 0), (2, -7, -7)]);
+}
+
+/// The one node of a document, and which of its numbers is refused.
+const OUTSIDE: &[(Given, i32)] = &[
+    (Sequence(&[2, 0]), 2),
+    (Sequence(&[1, 0]), 0),
+    (Mapping(&[yaml_node_pair_t { key: 1, value: 3 }]), 3),
+];
+
+fn check_outside(rt: &impl Abort, alloc: Global, rows: &[(Given, i32)]) {
+    for row in rows {
+        check_refused(rt, alloc, nodes(rt, alloc, &[row.0]), row.1);
+    }
+}
+
+#[test]
+fn a_number_past_the_only_node_is_refused(rt: HostRuntime) {
+    check_outside(&rt, rt.alloc(), OUTSIDE);
 }
