@@ -191,7 +191,7 @@ room_if true true h = refl
 room_if true false h = let no : false ≡ true = h refl in cc
 room_if false room h = refl
 
-pushed_next : (before : List Event) (event : Event) (p : Partial) → partial_of before ≡ Some p
+pub pushed_next : (before : List Event) (event : Event) (p : Partial) → partial_of before ≡ Some p
     → partial_of (before ++ event ∷ []) ≡ option_and_then (λ next. Some next) (push p event)
 pushed_next before event p given =
     pushed-append before (event ∷ []) before_stream ∙ ap (λ o. option_and_then (λ q. pushed q (event ∷ [])) o) given

@@ -32,6 +32,7 @@ pub mod SameShapes
 pub mod Unstyled
 pub mod SameWalks
 pub mod SameEvents
+pub mod GraphRefusals
 pub mod stream_lines
 pub mod stream_flow
 pub mod stream_keys

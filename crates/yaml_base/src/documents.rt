@@ -5,6 +5,7 @@ ghost use Rattle.yaml_base.specs.Seen.{seen_version, seen_directive};
 ghost use Rattle.yaml_base.specs.graphs.Meetings.{is_whole};
 ghost use Rattle.yaml_base.specs.graphs.SeenNodes.{seen_number, seen_node, seen_document, names_node as is_named, numbers_of, numbers_of_pairs, all_numbers};
 ghost use Rattle.yaml_base.specs.graphs.SeenNodes.{first_outside};
+ghost use Rattle.yaml_base.specs.graphs.Isomorphic as isomorphic;
 ghost use Rattle.yaml_base.specs.Settings.{largest_i32};
 
 use crate::directives::{yaml_tag_directive_t, yaml_version_directive_t};
@@ -122,6 +123,25 @@ impl<A: Allocator> yaml_document_t<A> {
                 start_implicit,
                 end_implicit,
             }),
+        }
+    }
+
+    /// The same nodes in a document without version and directives, whose start and end are implicit.
+    pub fn bare(self) -> yaml_document_t<A>
+        ensures { graph_of result ≡ isomorphic.bare (graph_of self) }
+    {
+        let yaml_document_t {
+            nodes,
+            mut tag_directives,
+            ..
+        } = self;
+        tag_directives.clear();
+        yaml_document_t {
+            version_directive: None,
+            tag_directives,
+            nodes,
+            start_implicit: true,
+            end_implicit: true,
         }
     }
 

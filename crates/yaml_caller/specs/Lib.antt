@@ -1,3 +1,4 @@
 pub mod Cycle
+pub mod GraphBytes
 pub mod Letter
 pub mod Pair

@@ -2,6 +2,7 @@
 #![tactic(auto)]
 
 mod cycles;
+mod graphs;
 mod listed;
 mod pairs;
 mod values;
@@ -12,6 +13,7 @@ ghost use Rattle.yaml_emitter.specs.StandsAfter.{StandsAfter};
 ghost use Rattle.yaml_caller.specs.Letter.{letter_settings};
 
 pub use cycles::cycle_written;
+pub use graphs::same_graph;
 pub use listed::list_written;
 pub use pairs::pair_written;
 use std::alloc::Allocator;

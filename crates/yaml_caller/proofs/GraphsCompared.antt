@@ -1,0 +1,288 @@
+-- Two graphs are isomorphic exactly where their bytes are the same.
+use Rattle.std.proofs.Common.{◌≡◌, ◌⊎◌, inl, inr, refl, sym, ap, ◌∙◌, subst, arith, ne_eqb, append_assoc, append-nil}
+use Rattle.std.proofs.lemmas.Bool.{eqb-true, false≢true}
+use Rattle.std.proofs.lemmas.List.Elements.{All-cons, All-nil}
+use Rattle.std.proofs.lemmas.Slice.Eq.{bytes_eq-Decides}
+use Rattle.std.specs.Prelude.{ℕ, zero, suc, ◌==◌, Bool, true, false, Decides, Option, None, Some, List, [], ◌∷◌, ◌++◌, length, map, is_none, bytes_eq}
+use Rattle.std.specs.Prelude.{option_map, slice_get, Result, Ok, Err, IsErr, IsErrAnd, IfErr, OnOk, IfOk, Vec, ◌<◌, if◌then◌else◌}
+use Rattle.yaml_base.specs.Settings.{largest_usize}
+use Rattle.yaml_base.specs.Event.{Event, stream_start, stream_end}
+use Rattle.yaml_base.specs.graphs.Meetings.{Graph, GraphNode, node_numbered, numbers_in, is_whole, document_event_list}
+use Rattle.yaml_base.specs.graphs.Unfolding.{label_of, IsReached, first_reached, child_reached, IsDocument}
+use Rattle.yaml_base.specs.graphs.Isomorphic.{label_at, Isomorphic, IsWrittenAlike, bare}
+use Rattle.yaml_base.specs.graphs.Dumped.{AreDumped, GraphsRead}
+use Rattle.yaml_base.specs.values.TypedValues.{typed_settings}
+use Rattle.yaml_base.specs.declared.errors.yaml_error_t.{yaml_error_t}
+use Rattle.yaml_base.specs.declared.errors.yaml_error_t.TheVariants.{WriteError, Memory, TagEmpty, TooDeep}
+use Rattle.yaml_base.proofs.ContentsUnfold.{dumped_stream}
+use Rattle.yaml_base.proofs.GraphRefusals.{refused_so, stream_writable}
+use Rattle.yaml_base.proofs.Twins.{IsIn, in_right}
+use Rattle.yaml_pen.specs.Page.{told}
+use Rattle.yaml_emitter.specs.State.{State}
+use Rattle.yaml_emitter.specs.StandsAfter.{StandsAfter}
+use Rattle.yaml_emitter.specs.Promises.{Promised, RefusedAt}
+use Rattle.yaml_dump.specs.Dumps.{Dumps, opening, closing}
+use Rattle.yaml_dump.proofs.EqualBytesLemmas.{one_reading, equal_documents}
+use Rattle.yaml_dump.proofs.GraphLemmas.{written_whole}
+use Rattle.yaml_caller.specs.GraphBytes.{graph_events, WritesGraph, AreRefused, IsRefused}
+use Rattle.yaml_caller.proofs.KnownStreams.{told_none}
+use Rattle.yaml_caller.proofs.Dumped.{copy_holds}
+
+-- ---- a graph and its nodes alone
+
+bare_reached : (graph : Graph) {number : ℕ} → IsReached graph number → IsReached (bare graph) number
+bare_reached graph first_reached = first_reached
+bare_reached graph (child_reached {number = parent} {child = child} reached within) = child_reached (bare_reached graph reached) within
+
+of_bare : (graph : Graph) {number : ℕ} → IsReached (bare graph) number → IsReached graph number
+of_bare graph first_reached = first_reached
+of_bare graph (child_reached {number = parent} {child = child} reached within) = child_reached (of_bare graph reached) within
+
+from_bare : (first second : Graph) → Isomorphic (bare first) (bare second) → Isomorphic first second
+from_bare first second iso =
+    record {
+      partner = iso.partner;
+      back = iso.back;
+      root = iso.root;
+      labels = λ number reached. iso.labels number (bare_reached first reached);
+      kept = λ number reached. iso.kept number (bare_reached first reached);
+      one_to_one = λ number reached. iso.one_to_one number (bare_reached first reached);
+      onto = λ number reached. iso.onto number (bare_reached second reached);
+    }
+
+to_bare : (first second : Graph) → Isomorphic first second → Isomorphic (bare first) (bare second)
+to_bare first second iso =
+    record {
+      partner = iso.partner;
+      back = iso.back;
+      root = iso.root;
+      labels = λ number reached. iso.labels number (of_bare first reached);
+      kept = λ number reached. iso.kept number (of_bare first reached);
+      one_to_one = λ number reached. iso.one_to_one number (of_bare first reached);
+      onto = λ number reached. iso.onto number (of_bare second reached);
+    }
+
+-- ---- by their bytes
+
+pub one_dumped : (graph : Graph) → IsDocument (bare graph) → AreDumped (bare graph ∷ []) (graph_events graph)
+one_dumped graph is =
+    record {
+      encoding = None;
+      documents = All-cons IsDocument (bare graph) [] is (All-nil IsDocument);
+      parts = ap (λ events. stream_start None ∷ (events ++ stream_end ∷ [])) (append-nil (document_event_list (bare graph)));
+    }
+
+pub graphs_decide : (first second : Graph) (first_bytes second_bytes : List ℕ) (answer : Bool) → IsDocument (bare first) → IsDocument (bare second)
+    → WritesGraph first first_bytes → WritesGraph second second_bytes → answer ≡ bytes_eq first_bytes second_bytes
+    → Decides answer (Isomorphic first second)
+graphs_decide first second first_bytes second_bytes answer is also writes writes_also same = (
+  λ yes.
+      let equal = (bytes_eq-Decides first_bytes second_bytes).0 (sym same ∙ yes) in
+      from_bare first second
+      (one_reading false (bare first ∷ []) (bare second ∷ []) first_bytes writes.reads
+      (subst (λ bytes. GraphsRead false (bare second ∷ []) bytes) (sym equal) writes_also.reads)).0.graphs,
+  λ iso.
+      let alike : IsWrittenAlike (bare first) (bare second) =
+      record { says = record { version = refl; directives = refl; graphs = to_bare first second iso }; end_implicit = refl } in
+      let outputs = equal_documents typed_settings (bare first ∷ []) (bare second ∷ []) (graph_events first) (graph_events second) refl
+      (one_dumped first is) (one_dumped second also) refl (alike, tt) in
+      same ∙ (bytes_eq-Decides first_bytes second_bytes).1 (writes.output ∙ outputs ∙ sym writes_also.output),
+)
+
+-- ---- without nodes
+
+no_nodes : (nodes : List GraphNode) → (length nodes == 0) ≡ true → nodes ≡ []
+no_nodes [] none = refl
+no_nodes (node ∷ nodes) none = absurd (omega (arith, eqb-true (length (node ∷ nodes)) 0 none))
+
+none_numbered : (graph : Graph) (number : ℕ) → graph.nodes ≡ [] → node_numbered graph number ≡ None
+none_numbered graph zero none = refl
+none_numbered graph (suc before) none = ap (λ (nodes : List GraphNode). slice_get nodes before) none
+
+empty_isomorphic : (first second : Graph) → first.nodes ≡ [] → second.nodes ≡ [] → Isomorphic first second
+empty_isomorphic first second none also =
+    record {
+      partner = λ number. number;
+      back = λ number. number;
+      root = refl;
+      labels = λ number reached.
+          ap (option_map (label_of false)) (none_numbered second number also ∙ sym (none_numbered first number none));
+      kept = λ number reached.
+          ap numbers_in (none_numbered second number also) ∙ sym (ap (λ found. map (λ (n : ℕ). n) (numbers_in found)) (none_numbered first number none));
+      one_to_one = λ number reached. refl;
+      onto = λ number reached. refl;
+    }
+
+root_none : (nodes : List GraphNode) → is_none (option_map (label_of false) (slice_get nodes 0)) ≡ (length nodes == 0)
+root_none [] = refl
+root_none (node ∷ nodes) = sym (ne_eqb (length (node ∷ nodes)) 0 (λ none. omega (arith, none)))
+
+both_empty : (first second : Graph) → Isomorphic first second → (length first.nodes == 0) ≡ (length second.nodes == 0)
+both_empty first second iso =
+    sym (root_none first.nodes)
+    ∙ ap is_none (sym (iso.labels 1 first_reached) ∙ ap (label_at second) iso.root)
+    ∙ root_none second.nodes
+
+pub first_empty : (first second : Graph) (answer : Bool) → (length first.nodes == 0) ≡ true → answer ≡ (length second.nodes == 0)
+    → Decides answer (Isomorphic first second)
+first_empty first second answer none is = (
+  λ yes. empty_isomorphic first second (no_nodes first.nodes none) (no_nodes second.nodes (sym is ∙ yes)),
+  λ iso. is ∙ sym (both_empty first second iso) ∙ none,
+)
+
+pub second_empty : (first second : Graph) → (length first.nodes == 0) ≡ false → (length second.nodes == 0) ≡ true → Decides false (Isomorphic first second)
+second_empty first second some none = (λ yes. absurd (false≢true yes), λ iso. sym some ∙ both_empty first second iso ∙ none)
+
+-- ---- a stream that fails
+
+-- why it fails: want of memory, a full output, or a refusal
+abbrev pub Fails : List Event → yaml_error_t → State → Type 0
+Fails events error state = (error ≡ Memory) ⊎ ((length state.page.output ≡ largest_usize) ⊎ AreRefused events error)
+
+-- only an empty tag and too great a depth are refused
+pub refused_named : (graph : Graph) (error : yaml_error_t) → IsDocument (bare graph) → IsRefused graph error → (error ≡ TagEmpty) ⊎ (error ≡ TooDeep)
+refused_named graph error is refused =
+    let dumped = dumped_stream (bare graph ∷ []) (graph_events graph) (one_dumped graph is) in
+    refused_so dumped.stream refused.front refused.event refused.later error (refused.parts ∙ sym dumped.is)
+    (stream_writable (bare graph) refl refl refused.event
+    (subst (λ events. IsIn refused.event events) refused.parts
+    (in_right refused.event refused.front (refused.event ∷ refused.later) (inl refl))))
+    refused.refusal
+
+refused_in : (events all rest : List Event) (error : yaml_error_t) (state : State) → all ++ rest ≡ events → RefusedAt typed_settings all error state
+    → AreRefused events error
+refused_in events all rest error state begins at =
+    record {
+      front = at.front;
+      event = at.event;
+      later = at.later ++ rest;
+      parts = sym (append_assoc at.front (at.event ∷ at.later) rest) ∙ ap (λ given. given ++ rest) at.parts ∙ begins;
+      refusal = at.refusal;
+    }
+
+why_failed : (events all rest : List Event) (state : State) (error : yaml_error_t) → all ++ rest ≡ events → Promised typed_settings all state
+    → state.error ≡ Some error → Fails events error state
+why_failed events all rest state WriteError begins promised is = inr (inl (promised.full is).full)
+why_failed events all rest state Memory begins promised is = inl refl
+why_failed events all rest state error begins promised is = inr (inr (refused_in events all rest error state begins (promised.refused error is tt)))
+
+-- the events before the stream's end
+abbrev pub before_end : Graph → List Event
+before_end graph = stream_start None ∷ document_event_list (bare graph)
+
+emitted : (graph : Graph) (before after : State) → before.opened ≡ false → bare graph ≡ graph → (length graph.nodes == 0) ≡ false
+    → (before_events : List Event)
+    → before_events ≡ opening before.opened ++ (if length graph.nodes == 0 then closing before.closed else document_event_list graph)
+    → before_events ≡ before_end graph
+emitted graph before after unopened is nonempty events are =
+    are
+    ∙ ap (λ (b : Bool). opening b ++ (if length graph.nodes == 0 then closing before.closed else document_event_list graph)) unopened
+    ∙ ap (λ (b : Bool). stream_start None ∷ (if b then closing before.closed else document_event_list graph)) nonempty
+    ∙ ap (λ (g : Graph). stream_start None ∷ document_event_list g) (sym is)
+
+pub stands_dumped : (graph : Graph) (before after : State) (done : Unit {0}) → before.opened ≡ false → bare graph ≡ graph
+    → (length graph.nodes == 0) ≡ false → StandsAfter typed_settings [] before
+    → Dumps graph before (Ok done) after → StandsAfter typed_settings (before_end graph) after
+stands_dumped graph before after done unopened is nonempty stands (inl failed) = absurd (cc)
+stands_dumped graph before after done unopened is nonempty stands (inr emits) =
+    subst (λ events. StandsAfter typed_settings events after) (emitted graph before after unopened is nonempty _ refl)
+    (emits typed_settings [] stands).stands
+
+pub dump_fails : (graph : Graph) (before after : State) (error : yaml_error_t) → before.opened ≡ false → bare graph ≡ graph
+    → (length graph.nodes == 0) ≡ false → StandsAfter typed_settings [] before
+    → Dumps graph before (Err error) after → Fails (graph_events graph) error after
+dump_fails graph before after error unopened is nonempty stands (inl failed) = inl (let same : error ≡ Memory = cc in same)
+dump_fails graph before after error unopened is nonempty stands (inr emits) =
+    let fails = (emits typed_settings [] stands).fails in
+    let parts : fails.before ++ fails.event ∷ fails.later ≡ before_end graph = fails.parts ∙ emitted graph before after unopened is nonempty _ refl in
+    why_failed (graph_events graph) (fails.before ++ fails.event ∷ []) (fails.later ++ stream_end ∷ []) after error
+    (append_assoc fails.before (fails.event ∷ []) (fails.later ++ stream_end ∷ [])
+    ∙ sym (append_assoc fails.before (fails.event ∷ fails.later) (stream_end ∷ []))
+    ∙ ap (λ events. events ++ stream_end ∷ []) parts)
+    fails.promised fails.failed
+
+error_of : (error : yaml_error_t) (state : State) → Err error ≡ told state.error → state.error ≡ Some error
+error_of error state is = by state.error is
+  where
+    by : (given : Option yaml_error_t) → Err error ≡ told given → given ≡ Some error
+    by None is = cc
+    by (Some other) is = cc
+
+-- what closing the stream comes to
+pub close_fails : (graph : Graph) (state : State) (answer : Result (Unit {0}) yaml_error_t) → Promised typed_settings (graph_events graph) state
+    → answer ≡ told state.error → IfErr answer (λ error. Fails (graph_events graph) error state)
+close_fails graph state (Ok done) promised is = tt
+close_fails graph state (Err error) promised is =
+    why_failed (graph_events graph) (graph_events graph) [] state error (append-nil (graph_events graph)) promised (error_of error state is)
+
+pub close_writes : (graph : Graph) (state : State) (answer : Result (Unit {0}) yaml_error_t) → IsDocument (bare graph)
+    → Promised typed_settings (graph_events graph) state → answer ≡ told state.error
+    → OnOk answer ((graphs : List Graph) → AreDumped graphs (graph_events graph) → GraphsRead false graphs state.page.output)
+    → OnOk answer (WritesGraph graph state.page.output)
+close_writes graph state (Ok done) document promised is reads =
+    let dumped = one_dumped graph document in
+    record {
+      output = (written_whole typed_settings (before_end graph) (bare graph ∷ []) state promised (told_none state is) dumped).output;
+      reads = reads (bare graph ∷ []) dumped;
+    }
+close_writes graph state (Err error) document promised is reads = tt
+
+-- ---- a document and its nodes alone
+
+pub writes_nodes : (graph : Graph) (bytes : List ℕ) → WritesGraph (bare graph) bytes → WritesGraph graph bytes
+writes_nodes graph bytes writes = record { output = writes.output; reads = writes.reads }
+
+pub is_document : (graph : Graph) → is_whole graph ≡ true → (length graph.nodes == 0) ≡ false → IsDocument (bare graph)
+is_document graph whole some = record { whole = whole; has_nodes = some }
+
+-- the copy of the bytes of a dump that went well
+pub copy_writes : {A E : Type 0} (copy : Result (Vec ℕ A) E) (graph made : Graph) (bytes output : List ℕ) (answer : Result (Unit {0}) yaml_error_t)
+    (done : Unit {0})
+    → made ≡ bare graph → answer ≡ Ok done → bytes ≡ output → OnOk answer (WritesGraph made output) → IfOk copy (λ c. c.items ≡ bytes)
+    → IfOk copy (λ c. WritesGraph graph c.items)
+copy_writes copy graph made bytes output answer done is ok same writes copied =
+    let written : WritesGraph made output = subst (λ a. OnOk a (WritesGraph made output)) ok writes in
+    copy_holds (WritesGraph graph) copy bytes copied
+    (writes_nodes graph bytes
+    (subst (λ b. WritesGraph (bare graph) b) (sym same) (subst (λ g. WritesGraph g output) is written)))
+
+-- why a dump failed, where its output is less than full
+pub dump_refused : (graph made : Graph) (error : yaml_error_t) (bytes output : List ℕ) (answer : Result (Unit {0}) yaml_error_t)
+    → made ≡ bare graph → answer ≡ Err error → bytes ≡ output → length bytes < largest_usize
+    → IfErr answer (λ e. (e ≡ Memory) ⊎ ((length output ≡ largest_usize) ⊎ IsRefused made e))
+    → (error ≡ Memory) ⊎ IsRefused graph error
+dump_refused graph made error bytes output answer is failed same few why =
+    by (subst (λ a. IfErr a (λ e. (e ≡ Memory) ⊎ ((length output ≡ largest_usize) ⊎ IsRefused made e))) failed why)
+  where
+    by : (error ≡ Memory) ⊎ ((length output ≡ largest_usize) ⊎ IsRefused made error) → (error ≡ Memory) ⊎ IsRefused graph error
+    by (inl memory) = inl memory
+    by (inr (inl full)) = absurd (omega (arith, few, ap length same, full))
+    by (inr (inr refused)) = inr (subst (λ g. IsRefused g error) is refused)
+
+-- what holds of an error holds where it is passed on
+pub passed_on : {A : Type 0} (P : yaml_error_t → Type 0) (error : yaml_error_t) (answer : Result A yaml_error_t) → P error
+    → IsErr answer × IsErrAnd answer (λ given. given ≡ error) → IfErr answer P
+passed_on P error (Ok done) holds is = tt
+passed_on P error (Err given) holds is = subst P (sym is.1) holds
+
+-- a refusal's name
+pub named_so : (graph : Graph) (error : yaml_error_t) → IsDocument (bare graph) → (error ≡ Memory) ⊎ IsRefused graph error
+    → (error ≡ Memory) ⊎ ((error ≡ TagEmpty) ⊎ (error ≡ TooDeep))
+named_so graph error is (inl memory) = inl memory
+named_so graph error is (inr refused) = inr (refused_named graph error is refused)
+
+pub first_refused : (first second : Graph) (error : yaml_error_t) → (error ≡ Memory) ⊎ IsRefused first error
+    → (error ≡ Memory) ⊎ (IsRefused first error ⊎ IsRefused second error)
+first_refused first second error (inl memory) = inl memory
+first_refused first second error (inr refused) = inr (inl refused)
+
+pub second_refused : (first second : Graph) (error : yaml_error_t) → (error ≡ Memory) ⊎ IsRefused second error
+    → (error ≡ Memory) ⊎ (IsRefused first error ⊎ IsRefused second error)
+second_refused first second error (inl memory) = inl memory
+second_refused first second error (inr refused) = inr (inr refused)
+
+-- a copy fails for want of memory
+pub copy_fails : {A : Type 0} (P : yaml_error_t → Type 0) (answer : Result A yaml_error_t) → IfErr answer (λ error. error ≡ Memory)
+    → IfErr answer (λ error. (error ≡ Memory) ⊎ P error)
+copy_fails P (Ok copy) memory = tt
+copy_fails P (Err error) memory = inl memory

@@ -1,0 +1,134 @@
+//! A caller of dumps: it compares the graphs of documents by their canonical bytes, as a store that hashes them does.
+ghost use Rattle.std.specs.Prelude.{◌≡◌, ◌⊎◌, ◌==◌, ◌<◌, Decides, IfOk, IfErr, OnOk, None, [], true, false, length};
+ghost use Rattle.yaml_base.specs.graphs.Documents.{graph_of};
+ghost use Rattle.yaml_base.specs.graphs.Isomorphic.{Isomorphic, bare};
+ghost use Rattle.yaml_base.specs.Settings.{largest_usize};
+ghost use Rattle.yaml_base.specs.values.TypedValues.{typed_settings};
+ghost use Rattle.yaml_emitter.specs.StandsAfter.{StandsAfter};
+ghost use Rattle.yaml_caller.specs.GraphBytes.{IsRefused, WritesGraph};
+
+use super::copied;
+use std::alloc::Allocator;
+use yaml_base::{YAML_LN_BREAK, YAML_UTF8_ENCODING, yaml_document_t, yaml_error_t};
+use yaml_dump::{yaml_emitter_close, yaml_emitter_dump};
+use yaml_emitter::{
+    yaml_emitter_initialize, yaml_emitter_set_break, yaml_emitter_set_canonical,
+    yaml_emitter_set_encoding, yaml_emitter_set_indent, yaml_emitter_set_output_string,
+    yaml_emitter_set_unicode, yaml_emitter_set_width, yaml_emitter_t,
+};
+
+/// Whether two documents have the same canonical bytes, their directives and marks aside: exactly where the parts of their
+/// graphs that the roots reach are isomorphic. The numbers and the styles of nodes don't count; which nodes are shared, does.
+///
+/// # Errors
+/// Where a graph can't be written the refusal of its first event that is refused: `TagEmpty`, or `TooDeep`. `Memory` where an
+/// allocation fails.
+pub fn same_graph<A: Allocator + Copy>(
+    alloc: A,
+    first: yaml_document_t<A>,
+    second: yaml_document_t<A>,
+) -> Result<bool, yaml_error_t>
+    ensures same { IfOk result (λ same. Decides same (Isomorphic (graph_of first) (graph_of second))) }
+    ensures failed { IfErr result (λ error. (error ≡ yaml_error_t.Memory) ⊎ (IsRefused (graph_of first) error ⊎ IsRefused (graph_of second) error)) }
+    ensures named { IfErr result (λ error. (error ≡ yaml_error_t.Memory) ⊎ ((error ≡ yaml_error_t.TagEmpty) ⊎ (error ≡ yaml_error_t.TooDeep))) }
+{
+    let first_is_empty = first.is_empty();
+    let second_is_empty = second.is_empty();
+    if first_is_empty {
+        return Ok(second_is_empty);
+    }
+    if second_is_empty {
+        return Ok(false);
+    }
+    same_nodes(alloc, first, second)
+}
+
+/// Whether two documents that have nodes have isomorphic graphs.
+fn same_nodes<A: Allocator + Copy>(
+    alloc: A,
+    first: yaml_document_t<A>,
+    second: yaml_document_t<A>,
+) -> Result<bool, yaml_error_t>
+    requires first_nodes { (length (graph_of first).nodes == 0) ≡ false }
+    requires second_nodes { (length (graph_of second).nodes == 0) ≡ false }
+    ensures same { IfOk result (λ same. Decides same (Isomorphic (graph_of first) (graph_of second))) }
+    ensures failed { IfErr result (λ error. (error ≡ yaml_error_t.Memory) ⊎ (IsRefused (graph_of first) error ⊎ IsRefused (graph_of second) error)) }
+    ensures named { IfErr result (λ error. (error ≡ yaml_error_t.Memory) ⊎ ((error ≡ yaml_error_t.TagEmpty) ⊎ (error ≡ yaml_error_t.TooDeep))) }
+{
+    // A law: what the nodes hold are numbers of nodes.
+    first.numbers_name_nodes();
+    second.numbers_name_nodes();
+    let one = graph_bytes(alloc, first)?;
+    let other = graph_bytes(alloc, second)?;
+    Ok(one.as_slice() == other.as_slice())
+}
+
+/// The canonical bytes of a document's nodes.
+fn graph_bytes<A: Allocator + Copy>(
+    alloc: A,
+    document: yaml_document_t<A>,
+) -> Result<Vec<u8, A>, yaml_error_t>
+    requires nonempty { (length (graph_of document).nodes == 0) ≡ false }
+    ensures written { IfOk result (λ bytes. WritesGraph (graph_of document) bytes.items) }
+    ensures failed { IfErr result (λ error. (error ≡ yaml_error_t.Memory) ⊎ IsRefused (graph_of document) error) }
+{
+    let mut emitter = graph_emitter(alloc)?;
+    let answer = dump_graph(alloc, &mut emitter, document.bare());
+    let output = emitter.output();
+    // A law: no output reaches the limit.
+    is_below_limit(output);
+    match answer {
+        Ok(()) => copied(alloc, output),
+        Err(error) => Err(error),
+    }
+}
+
+/// Dumps the document as a whole stream.
+fn dump_graph<A: Allocator + Copy>(
+    alloc: A,
+    emitter: &mut yaml_emitter_t<A>,
+    document: yaml_document_t<A>,
+) -> Result<(), yaml_error_t>
+    requires stands { StandsAfter typed_settings [] emitter.old }
+    requires output { emitter.old.has_output ≡ true }
+    requires no_error { emitter.old.error ≡ None }
+    requires unopened { emitter.old.opened ≡ false }
+    requires unclosed { emitter.old.closed ≡ false }
+    requires nonempty { (length (graph_of document).nodes == 0) ≡ false }
+    requires is_bare { bare (graph_of document) ≡ graph_of document }
+    ensures taken { emitter.new.page.taken ≡ emitter.old.page.taken }
+    ensures written { OnOk result (WritesGraph (graph_of document) emitter.new.page.output) }
+    ensures failed { IfErr result (λ error. (error ≡ yaml_error_t.Memory)
+        ⊎ ((length emitter.new.page.output ≡ largest_usize) ⊎ IsRefused (graph_of document) error)) }
+{
+    // A law: what the nodes hold are numbers of nodes.
+    document.numbers_name_nodes();
+    yaml_emitter_dump(alloc, emitter, document)?;
+    yaml_emitter_close(emitter)
+}
+
+/// An emitter of canonical form in UTF-8, without a width, whose output has no limit that a vector reaches.
+fn graph_emitter<A: Allocator + Copy>(alloc: A) -> Result<yaml_emitter_t<A>, yaml_error_t>
+    ensures stands { IfOk result (λ emitter. StandsAfter typed_settings [] emitter) }
+    ensures output { IfOk result (λ emitter. emitter.has_output ≡ true) }
+    ensures no_error { IfOk result (λ emitter. emitter.error ≡ None) }
+    ensures untaken { IfOk result (λ emitter. emitter.page.taken ≡ 0) }
+    ensures unopened { IfOk result (λ emitter. emitter.opened ≡ false) }
+    ensures unclosed { IfOk result (λ emitter. emitter.closed ≡ false) }
+    ensures memory { IfErr result (λ error. error ≡ yaml_error_t.Memory) }
+{
+    let mut emitter = yaml_emitter_initialize(alloc)?;
+    yaml_emitter_set_output_string(&mut emitter, usize::MAX);
+    yaml_emitter_set_encoding(&mut emitter, YAML_UTF8_ENCODING);
+    yaml_emitter_set_canonical(&mut emitter, true);
+    yaml_emitter_set_unicode(&mut emitter, true);
+    yaml_emitter_set_indent(&mut emitter, 2);
+    yaml_emitter_set_width(&mut emitter, -1);
+    yaml_emitter_set_break(&mut emitter, YAML_LN_BREAK);
+    Ok(emitter)
+}
+
+/// A law: a slice has fewer bytes than the largest limit.
+fn is_below_limit(bytes: &[u8])
+    ensures { length bytes.now < largest_usize }
+{}
