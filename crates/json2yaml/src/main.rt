@@ -5,16 +5,17 @@ mod arguments;
 mod program;
 
 use crate::arguments::read_arguments;
-use crate::program::serve;
+use crate::program::{refuse_arguments, serve};
 use std::io;
 use std::process::ExitCode;
 
 /// Ends with the run's status, also where what went wrong can't be told.
 fn main(rt: HostRuntime) -> ExitCode {
-    let Ok(words) = read_arguments(&rt) else {
-        return ExitCode::from(3);
-    };
     let stderr = rt.stderr();
-    let status = serve(&rt, words.as_slice(), &mut io::writer(&stderr));
+    let mut faults = io::writer(&stderr);
+    let status = match read_arguments(&rt) {
+        Ok(words) => serve(&rt, words.as_slice(), &mut faults),
+        Err(error) => refuse_arguments(&error, &mut faults),
+    };
     ExitCode::from(status)
 }

@@ -1,6 +1,7 @@
 //! The program: what its arguments ask for is done with files and the standard streams.
-ghost use Rattle.std.specs.Prelude.{◌≤◌, OnOk};
-ghost use Rattle.yaml_json.specs.Wrote.{IsBare};
+ghost use Rattle.std.specs.Prelude.{◌≡◌, ◌≤◌, OnOk};
+ghost use Rattle.yaml_json.specs.Wrote.{IsBare, WroteTexts};
+ghost use Rattle.json2yaml.specs.Faults as faults;
 
 use crate::arguments::{Conversion, Task, task_of};
 use std::alloc::Global;
@@ -35,7 +36,7 @@ enum Fault {
 
 /// The program's status: 1 where a text isn't written as YAML, 3 where reading, writing or memory failed.
 fn status_of(fault: &Fault) -> u8
-    ensures { result ≤ 3 }
+    ensures { result ≡ faults.status_of fault.now }
 {
     match fault {
         Fault::Refused(_) | Fault::NotText { .. } | Fault::Marked => 1,
@@ -90,7 +91,8 @@ fn give_bytes(
     settings: &JsonSettings,
 ) -> Result<(), Fault>
     requires { IsBare writer.old }
-    ensures { OnOk result (IsBare writer.new) }
+    ensures bare { OnOk result (IsBare writer.new) }
+    ensures written { OnOk result (WroteTexts settings.now.depth settings.now.flow bytes.now writer.old writer.new) }
 {
     if bytes.starts_with(MARK) {
         return Err(Fault::Marked);
@@ -235,6 +237,18 @@ fn write_usage<R: Runtime>(rt: &R) -> io::Result<()> {
     println!(rt;
         "Writes the JSON texts of the FILEs, or of standard input, as YAML to the FILE of -o, or to standard output."
     )
+}
+
+/// Says why the arguments can't be read, and returns the program's status.
+pub fn refuse_arguments<W: Write>(error: &io::Error, faults: &mut W) -> u8
+    ensures { result ≤ 3 }
+{
+    if error.kind() == ErrorKind::OutOfMemory {
+        let _told = write_fault(&Fault::NoMemory, None, faults);
+        return 3;
+    }
+    let _told = writeln!(faults, "json2yaml: an argument isn't UTF-8");
+    2
 }
 
 /// Does what the arguments ask for, says on `faults` what went wrong, and returns the program's status.
