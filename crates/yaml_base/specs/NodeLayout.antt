@@ -1,4 +1,5 @@
--- The text of a node, one piece for each of its events (libyaml's own rules; YAML 1.1, chapters 8 to 10, for the signs).
+-- The text of a node, one piece for each of its events.
+-- Source, unless a definition names its own: libyaml's emitter.
 use Rattle.std.specs.Prelude.{ℕ, Bool, true, false, Option, None, Some, List, [], ◌∷◌, ◌++◌, ◌||◌, not, codes, is_some, filter_map, flat_map, if◌then◌else◌}
 use Rattle.yaml_base.specs.Characters.{Text}
 use Rattle.yaml_base.specs.Settings.{Effective}
@@ -20,7 +21,7 @@ use Rattle.yaml_base.specs.Event.{scalar_tag, collection_tag}
 use Rattle.yaml_base.specs.Places.{Role, as_item, as_key, as_value, Place, is_in_mapping, line_column, deeper, entries_column, has_no_nodes, has_no_pairs}
 use Rattle.yaml_base.specs.Places.{is_simple, is_simple_at, place_laid}
 
--- Pieces
+-- Pieces. Source: this project.
 
 -- a scalar's own text, in the style that was chosen, for its value, in flow or in block, in a block whose entries
 -- stand at a column (none: the root)
@@ -54,7 +55,7 @@ abbrev pub bodies_of : List Piece → List Body
 bodies_of pieces = filter_map (λ piece. piece.body) pieces
 
 -- where writing stands: the cursor, and the open mark, which is 1 after an implicit document end and 2 after a block
--- scalar that keeps its final breaks
+-- scalar that keeps its final breaks (libyaml's emitter)
 pub record Standing : Type 0 where
   pub cursor : Cursor
   pub mark : ℕ
@@ -91,9 +92,9 @@ lead_alone mark laid =
       standing = record { cursor = laid.cursor; mark = mark };
     }
 
--- Anchors and tags
+-- Anchors and tags. Source: libyaml's emitter.
 
--- `&` and the name, where there is an anchor (YAML 1.1, section 8.1.2)
+-- `&` and the name, where there is an anchor (YAML 1.1, section 8.1 Node Anchors, c-ns-anchor-property)
 abbrev pub anchor_laid : Option Text → Cursor → Laid
 anchor_laid None cursor = nothing_laid cursor
 anchor_laid (Some name) cursor = then_laid (indicators.indicator_laid indicators.anchor cursor) (name_laid name)
@@ -102,7 +103,7 @@ anchor_laid (Some name) cursor = then_laid (indicators.indicator_laid indicators
 abbrev pub handle_laid : Text → Cursor → Laid
 handle_laid handle cursor = name_laid (space_if true cursor ++ handle) cursor
 
--- a tag as it is spelled (YAML 1.1, section 8.1.1)
+-- a tag as it is spelled (YAML 1.1, section 8.2 Node Tags, c-ns-shorthand-tag, c-verbatim-tag; `portable` is this project's)
 abbrev pub spelling_laid : (portable : Bool) → Spelling → Cursor → Laid
 spelling_laid portable (shorthand handle suffix) cursor =
     then_laid (handle_laid handle cursor) (name_laid (suffix_escaped portable suffix))
@@ -117,15 +118,15 @@ tag_laid portable directives (Some tag) bare cursor = spelling_laid portable (sp
 tag_laid portable directives None true cursor = handle_laid (codes "!") cursor
 tag_laid portable directives None false cursor = nothing_laid cursor
 
--- the anchor, and then the tag (YAML 1.1, section 8.1)
+-- the anchor, and then the tag (YAML 1.1, chapter 8 Nodes; this order is libyaml's)
 abbrev pub properties_laid :
     (portable : Bool) → List TagDirective → Option Text → Option Text → (bare : Bool) → Cursor → Laid
 properties_laid portable directives anchor tag bare cursor =
     then_laid (anchor_laid anchor cursor) (tag_laid portable directives tag bare)
 
--- Nodes
+-- Nodes. Source: libyaml's emitter.
 
--- an alias; as a simple key it is followed by a space
+-- an alias; as a simple key it is followed by a space (YAML 1.1, section 8.4 Alias Nodes, c-ns-alias-node; the space is libyaml's)
 abbrev pub alias_laid : Text → (simple : Bool) → Cursor → Laid
 alias_laid name simple cursor =
     then_laid (then_laid (indicators.indicator_laid indicators.alias cursor) (name_laid name))
@@ -167,7 +168,7 @@ scalar_lead s directives place simple choice content cursor =
     (properties_laid s.portable directives content.anchor (scalar_tag s.canonical content) choice.bare))
     (separation_laid choice.style place.in_flow content.value)
 
--- its body as a piece of the layout
+-- its body as a piece of the layout (this project)
 abbrev pub body_at : Place → ScalarStyle → Text → Laid → Body
 body_at place style value body =
     record { style = style; in_flow = place.in_flow; column = place.column; value = value; text = body.text }
@@ -211,11 +212,11 @@ pub record Brackets : Type 0 where
   pub opening : Text
   pub closing : Text
 
--- the brackets of a sequence in flow (YAML 1.1, section 10.1.1)
+-- the brackets of a sequence in flow (YAML 1.1, section 10.1.1 Flow Sequences, c-flow-sequence(n,c))
 abbrev pub square : Brackets
 square = record { opening = codes "["; closing = codes "]" }
 
--- the brackets of a mapping in flow (YAML 1.1, section 10.2.1)
+-- the brackets of a mapping in flow (YAML 1.1, section 10.2.1 Flow Mappings, c-flow-mapping(n,c))
 abbrev pub curly : Brackets
 curly = record { opening = codes "{"; closing = codes "}" }
 

@@ -1,5 +1,5 @@
--- Where a node stands, which keys are simple, and what a place puts before its node (libyaml's own rules; YAML 1.1,
--- chapter 10, for the signs).
+-- Where a node stands, which keys are simple, and what a place puts before its node.
+-- Source, unless a definition names its own: libyaml's emitter.
 use Rattle.std.specs.Prelude.{ℕ, Bool, true, false, Option, None, Some, List, ◌||◌, ◌&&◌, ◌+◌, not, nat_le, length, codes, unwrap_or, encode_utf8_all}
 use Rattle.std.specs.Prelude.{if◌then◌else◌}
 use Rattle.std.specs.List.{list_any}
@@ -13,6 +13,7 @@ use Rattle.yaml_base.specs.Grammar.{Node, alias_node, scalar_node, sequence_node
 use Rattle.yaml_base.specs.Event.{scalar_tag, collection_tag}
 
 -- what a node is: the first item or key of a flow collection writes its bracket; a value knows whether its key is simple
+-- (this project's form of libyaml's states)
 pub data Role : Type 0 where
   as_root : Role
   as_item : (first : Bool) → Role
@@ -20,6 +21,7 @@ pub data Role : Type 0 where
   as_value : (simple : Bool) → Role
 
 -- where a node stands: in flow or in block, as what, and the column of the entries around it (none: the root)
+-- (this project's form of libyaml's states)
 pub record Place : Type 0 where
   pub in_flow : Bool
   pub role : Role
@@ -73,7 +75,7 @@ abbrev pub tag_count : List TagDirective → Option Text → ℕ
 tag_count directives None = 0
 tag_count directives (Some tag) = spelling_count (spelling directives tag)
 
--- a simple key has at most so many bytes (YAML 1.1, chapter 10, allows 1024 characters; this is libyaml's)
+-- a simple key has at most so many bytes (libyaml's emitter; YAML 1.1, section 10.2 Mapping Styles, allows 1,024 characters)
 abbrev pub most_key_bytes : ℕ
 most_key_bytes = 128
 
@@ -81,7 +83,7 @@ most_key_bytes = 128
 abbrev pub is_short : ℕ → Bool
 is_short count = nat_le count most_key_bytes
 
--- an alias, a scalar without a break or an empty collection, whose names, tag and value are short
+-- an alias that may be a simple key: a short name
 abbrev pub is_simple_alias : Text → Bool
 is_simple_alias name = is_short (byte_count name)
 
@@ -137,7 +139,7 @@ abbrev pub key_sign : (simple in_block : Bool) → Cursor → Laid
 key_sign true in_block cursor = nothing_laid cursor
 key_sign false in_block cursor = indicator_laid (key in_block) cursor
 
--- what a place in flow puts before its node (YAML 1.1, sections 10.1.1 and 10.2.1)
+-- what a place in flow puts before its node (YAML 1.1, sections 10.1.1 Flow Sequences and 10.2.1 Flow Mappings; new lines are libyaml's rule)
 abbrev pub flow_place_laid : Effective → Role → (simple : Bool) → Option ℕ → Cursor → Laid
 flow_place_laid s as_root simple column cursor = nothing_laid cursor
 flow_place_laid s (as_item first) simple column cursor =
@@ -148,7 +150,8 @@ flow_place_laid s (as_value true) simple column cursor = indicator_laid simple_v
 flow_place_laid s (as_value false) simple column cursor =
     then_laid (flow_break s column cursor) (indicator_laid flow_value)
 
--- what a place in a block puts before its node (YAML 1.1, sections 10.1.2 and 10.2.2)
+-- what a place in a block puts before its node
+-- (YAML 1.1, sections 10.1.2 Block Sequences and 10.2.2 Block Mappings; new lines are libyaml's rule)
 abbrev pub block_place_laid : Role → (simple : Bool) → Option ℕ → Cursor → Laid
 block_place_laid as_root simple column cursor = nothing_laid cursor
 block_place_laid (as_item first) simple column cursor =

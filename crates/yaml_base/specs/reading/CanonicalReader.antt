@@ -1,6 +1,8 @@
 -- Reading canonical bytes back, without any word of what writes them: bytes to characters (`ReadBytes`), characters to tokens
--- (`CanonicalTokens`), and here tokens to contents (YAML 1.1, section 5.2 and chapters 7 to 10, in flow style and double quotes alone).
+-- (`CanonicalTokens`), and here tokens to contents, in flow style and double quotes alone.
 --     canonical_content breaks12 bytes      the documents' contents, or nothing
+-- Source, unless a definition names its own: this project's steps, for YAML 1.1, chapters 7 YAML Character Stream, 8 Nodes, 9 Scalar Styles and
+-- 10 Collection Styles.
 use Rattle.std.specs.Prelude.{ℕ, Bool, true, false, Option, None, Some, List, [], ◌∷◌, ◌++◌, ◌==◌, not, fold, option_map, option_and_then, is_some}
 use Rattle.std.specs.Prelude.{if◌then◌else◌}
 use Rattle.yaml_base.specs.Characters.{Text, space}
@@ -19,14 +21,15 @@ use Rattle.yaml_base.specs.reading.CanonicalTokens.{value_token, comma, free}
 -- ---- written tags
 
 -- a handle's prefix, by a document's own directives and those assumed, and what stands after the handle
+-- (YAML 1.1, section 8.2 Node Tags, c-ns-shorthand-tag)
 abbrev pub shorthand_read : List TagDirective → CutText → Option TagSaid
 shorthand_read own text = name_joined (prefix_among (own ++ directives_assumed) text.front) (percent_read text.rest)
 
--- what stands between `!<` and `>`, where that ends it
+-- what stands between `!<` and `>`, where that ends it (YAML 1.1, section 8.2 Node Tags, c-verbatim-tag)
 abbrev pub verbatim_read : Option Text → Option TagSaid
 verbatim_read text = option_map name_said (option_and_then percent_read text)
 
--- a written tag, from its `!` to its last character (YAML 1.1, section 8.1.1); since a space ends it, it may hold the signs of flow
+-- a written tag, from its `!` to its last character; since a space ends it, it may hold the signs of flow (YAML 1.1, section 8.2 Node Tags)
 abbrev pub tag_read : List TagDirective → Text → Option TagSaid
 tag_read own [] = None
 tag_read own (c ∷ []) = if c == 0x21 then Some bare_said else None
@@ -49,7 +52,7 @@ pub data Awaited : Type 0 where
   comma_awaited : Awaited
   value_awaited : Awaited
 
--- a document's directives
+-- a document's directives (YAML 1.1, section 7.1 Directives)
 pub record Head : Type 0 where
   pub version : Option Version
   pub directives : List TagDirective
@@ -61,7 +64,7 @@ pub data Reading : Type 0 where
   outside : List DocumentContent → Head → (may_end : Bool) → Reading
   within : List DocumentContent → Head → List OpenContent → Awaited → Reading
 
--- nothing said before `---`
+-- nothing said before `---` (YAML 1.1, section 7.1 Directives)
 abbrev pub no_head : Head
 no_head = record { version = None; directives = [] }
 
@@ -76,24 +79,25 @@ with_content documents head (open_mapping anchor tag pairs None ∷ levels) cont
 with_content documents head (open_mapping anchor tag pairs (Some key) ∷ levels) content =
     within documents head (open_mapping anchor tag (content_pairs_and pairs key content) None ∷ levels) comma_awaited
 
--- a scalar without a tag may go without one where it isn't plain, unless it has the bare tag
+-- a scalar without a tag may go without one where it isn't plain, unless it has the bare tag (this project)
 abbrev pub scalar_tag_read : Option TagSaid → ScalarTag
 scalar_tag_read None = untagged true
 scalar_tag_read (Some bare_said) = untagged false
 scalar_tag_read (Some (name_said name)) = tagged name
 
--- a tag after an anchor or none, read with the document's directives
+-- a tag after an anchor or none, read with the document's directives (YAML 1.1, section 8.2 Node Tags)
 abbrev pub with_tag : List DocumentContent → Head → List OpenContent → Option Text → Option TagSaid → Reading
 with_tag documents head levels given None = failed
 with_tag documents head levels given (Some read) = within documents head levels (node_awaited given (Some read))
 
--- a collection begins; the bare tag isn't one of its own
+-- a collection begins; the bare tag isn't one of its own (YAML 1.1, section 8.2 Node Tags; the refusal of the bare tag is this project's)
 abbrev pub with_open : List DocumentContent → Head → List OpenContent → (Option Text → OpenContent) → Option TagSaid → Reading
 with_open documents head levels opened None = within documents head (opened None ∷ levels) entry_awaited
 with_open documents head levels opened (Some (name_said name)) = within documents head (opened (Some name) ∷ levels) entry_awaited
 with_open documents head levels opened (Some bare_said) = failed
 
 -- where a node is awaited: an anchor, then a tag, then the node; an alias has neither
+-- (YAML 1.1, sections 8.4 Alias Nodes and 8.5 Complete Nodes, c-ns-alias-node)
 abbrev pub node_read : List DocumentContent → Head → List OpenContent → Option Text → Option TagSaid → Token → Reading
 node_read documents head levels None None (anchor_token name) = within documents head levels (node_awaited (Some name) None)
 node_read documents head levels given None (tag_token text) = with_tag documents head levels given (tag_read head.directives text)
@@ -104,6 +108,7 @@ node_read documents head levels given read opens_mapping = with_open documents h
 node_read documents head levels _ _ _ = failed
 
 -- where an entry is awaited: the innermost collection ends, or another entry begins
+-- (YAML 1.1, sections 10.1.1 Flow Sequences and 10.2.1 Flow Mappings, c-flow-sequence(n,c), c-flow-mapping(n,c))
 abbrev pub entry_read : List DocumentContent → Head → List OpenContent → Token → Reading
 entry_read documents head (open_sequence given named items ∷ levels) closes_sequence = with_content documents head levels (sequence_content given named items)
 entry_read documents head (open_sequence given named items ∷ levels) token = node_read documents head (open_sequence given named items ∷ levels) None None token
@@ -121,6 +126,7 @@ within_read documents head levels value_awaited value_token = within documents h
 within_read documents head levels _ _ = failed
 
 -- a token outside documents: a version once, directives, `---`, and once after a document `...`
+-- (YAML 1.1, sections 7.1 Directives and 7.2 Document Boundary Markers)
 abbrev pub outside_read : List DocumentContent → Head → Bool → Token → Reading
 outside_read documents head may_end (version_line version) =
     if is_some head.version then failed else outside documents (record head { version = Some version }) false
@@ -136,23 +142,23 @@ token_read failed token = failed
 token_read (outside documents head may_end) token = outside_read documents head may_end token
 token_read (within documents head levels awaited) token = within_read documents head levels awaited token
 
--- the documents read, where no directive waits for a document
+-- the documents read, where no directive waits for a document (YAML 1.1, section 7.3 Documents)
 abbrev pub without_head : List DocumentContent → Option Version → List TagDirective → Option (List DocumentContent)
 without_head documents None [] = Some documents
 without_head documents _ _ = None
 
--- the stream may end outside documents, where no directives await one
+-- the stream may end outside documents, where no directives await one (YAML 1.1, section 7.4 Complete Stream)
 abbrev pub documents_at_end : Reading → Option (List DocumentContent)
 documents_at_end (outside documents head may_end) = without_head documents head.version head.directives
 documents_at_end _ = None
 
--- the documents of a list of tokens
+-- the documents of a list of tokens (YAML 1.1, section 7.4 Complete Stream, l-yaml-stream)
 abbrev pub documents_read : List Token → Option (List DocumentContent)
 documents_read tokens = documents_at_end (fold token_read (outside [] no_head false) tokens)
 
 -- ---- the whole
 
--- the contents of the documents in canonical bytes
+-- the contents of the documents in canonical bytes (YAML 1.1, sections 5.2 Character Encoding and 7.4 Complete Stream, l-yaml-stream)
 abbrev pub canonical_content : Bool → List ℕ → Option (List DocumentContent)
 canonical_content breaks12 bytes =
     option_and_then (λ text. documents_read (tokens_from breaks12 free (with_line_breaks_read text))) (characters_read bytes)

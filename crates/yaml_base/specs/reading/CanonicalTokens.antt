@@ -1,5 +1,6 @@
--- Characters to the tokens of a canonical stream, without any word of what writes them (YAML 1.1, section 5.2 and chapters 7 to 10, in
--- flow style and double quotes alone).
+-- Characters to the tokens of a canonical stream, in flow style and double quotes alone, without any word of what writes them.
+-- Source, unless a definition names its own: this project's steps, for YAML 1.1, chapters 7 YAML Character Stream, 8 Nodes, 9 Scalar Styles and
+-- 10 Collection Styles.
 use Rattle.std.specs.Prelude.{ℕ, zero, suc, pos, Bool, Option, None, Some, List, [], ◌∷◌, ◌++◌, ◌==◌, ◌||◌, not, length, filter, codes, bytes_eq, if◌then◌else◌}
 use Rattle.std.specs.List.{slice_split}
 use Rattle.yaml_base.specs.Characters.{Text, is_alpha, is_blank, space}
@@ -53,47 +54,47 @@ goes_to place = record { tokens = []; place = place }
 abbrev pub completes : Token → TokenTurn
 completes token = record { tokens = token ∷ []; place = free }
 
--- a token, and then a token_turn
+-- a token, and then what a turn completes
 abbrev pub completes_before : Token → TokenTurn → TokenTurn
 completes_before token next = record { tokens = token ∷ next.tokens; place = next.place }
 
--- a name has at least one character
+-- a name has at least one character (YAML 1.1, section 8.1 Node Anchors, c-ns-anchor-property)
 abbrev pub anchor_named : Text → Token
 anchor_named [] = bad
 anchor_named (c ∷ rest) = anchor_token (c ∷ rest)
 
--- an alias has a name of at least one character
+-- an alias has a name of at least one character (YAML 1.1, section 8.4 Alias Nodes, c-ns-alias-node)
 abbrev pub alias_named : Text → Token
 alias_named [] = bad
 alias_named (c ∷ rest) = alias_token (c ∷ rest)
 
--- the words of a directive's line
+-- the words of a directive's line (YAML 1.1, section 7.1 Directives)
 abbrev pub words : Text → List Text
 words line = filter (λ word. not (length word == 0)) (slice_split is_blank line)
 
--- `%YAML 1.1` and `%YAML 1.2` (YAML 1.1, section 7.1.1)
+-- `%YAML 1.1` and `%YAML 1.2` (YAML 1.1, section 7.1.1 "YAML" Directive; 1.2 is libyaml's)
 abbrev pub version_named : Text → Token
 version_named word =
     if bytes_eq word (codes "1.1") then version_line (record { major = pos 1; minor = pos 1 })
     else (if bytes_eq word (codes "1.2") then version_line (record { major = pos 1; minor = pos 2 }) else bad)
 
--- a `%TAG` line, whose handle is well-formed and whose prefix is decoded
+-- a `%TAG` line, whose handle is well-formed and whose prefix is decoded (YAML 1.1, section 7.1.2 "TAG" Directive, ns-tag-directive)
 abbrev pub tag_line_of : Text → Option Text → Token
 tag_line_of handle None = bad
 tag_line_of handle (Some prefix) = if is_handle_text handle then tag_line (record { handle = handle; prefix = prefix }) else bad
 
--- a directive by its words; a prefix may hold percent forms
+-- a directive by its words; a prefix may hold percent forms (YAML 1.1, section 7.1 Directives, l-directive)
 abbrev pub directive_token : List Text → Token
 directive_token (name ∷ word ∷ []) = if bytes_eq name (codes "%YAML") then version_named word else bad
 directive_token (name ∷ handle ∷ prefix ∷ []) =
     if bytes_eq name (codes "%TAG") then tag_line_of handle (percent_read prefix) else bad
 directive_token _ = bad
 
--- the document mark of three `-` or of three `.`
+-- the document mark of three `-` or of three `.` (YAML 1.1, section 7.2 Document Boundary Markers)
 abbrev pub mark_token : ℕ → Token
 mark_token sign = if sign == 0x2D then document_begins else document_ends
 
--- a sign that is a token by itself
+-- a sign that is a token by itself (YAML 1.1, section 5.3 Indicator Characters)
 abbrev pub sign_token : ℕ → Token
 sign_token c =
     if c == 0x5B then opens_sequence else (if c == 0x5D then closes_sequence
@@ -111,14 +112,14 @@ free_turn breaks12 c =
     else (if c == 0x22 then goes_to (in_quotes between [])
     else (if c == 0x2D || c == 0x2E then goes_to (in_mark c 1) else completes (sign_token c)))))))
 
--- between quotes it is the reader of double quotes that goes on
+-- between quotes it is the reader of double quotes that goes on (YAML 1.1, section 9.1.1 Double Quoted, c-double-quoted(n,c))
 abbrev pub quotes_turn : List FoldUnit → QuoteStep → TokenTurn
 quotes_turn units (goes_on place) = goes_to (in_quotes place units)
 quotes_turn units (gives unit) = goes_to (in_quotes between (units ++ unit ∷ []))
 quotes_turn units ends_quotes = completes (scalar_token (folding_read units))
 quotes_turn units has_no_reading = completes bad
 
--- one more `-` or `.` of a document mark, of which so many are still to come
+-- one more `-` or `.` of a document mark, of which so many are still to come (YAML 1.1, section 7.2 Document Boundary Markers)
 abbrev pub mark_turn : (sign more : ℕ) → TokenTurn
 mark_turn sign zero = completes (mark_token sign)
 mark_turn sign (suc more) = goes_to (in_mark sign more)

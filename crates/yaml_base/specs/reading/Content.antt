@@ -1,12 +1,13 @@
--- What canonical bytes keep of a list of events: versions, directives, and the trees of kinds, anchors, tags, values and
--- aliases (the serialization tree of YAML 1.1, section 3.2.2). Styles, other flags and document marks are dropped.
+-- What canonical bytes keep of a list of events: versions, directives, and the trees of kinds, anchors, tags, values and aliases.
+-- Styles, other flags and document marks are dropped.
+-- Source, unless a definition names its own: YAML 1.1, section 3.2.2 Serialization Tree.
 use Rattle.std.specs.Prelude.{Bool, Option, None, Some, List, [], ◌∷◌, ◌++◌, option_map}
 use Rattle.yaml_base.specs.Characters.{Text}
 use Rattle.yaml_base.specs.Event.{Version, TagDirective, Event}
 use Rattle.yaml_base.specs.Grammar.{Node, alias_node, scalar_node, sequence_node, mapping_node, Nodes, no_nodes, nodes_and, Pairs, no_pairs, pairs_and}
 use Rattle.yaml_base.specs.Grammar.{Document, Documents, no_documents, documents_and, tree_of}
 
--- a scalar has a tag; else it counts whether it may go without one where it isn't plain
+-- a scalar has a tag; else it counts whether it may go without one where it isn't plain (this project, from libyaml's flags)
 pub data ScalarTag : Type 0 where
   tagged : Text → ScalarTag
   untagged : (quoted_implicit : Bool) → ScalarTag
@@ -27,13 +28,13 @@ mutual
     no_content_pairs : ContentPairs
     content_pairs_and : ContentPairs → Content → Content → ContentPairs
 
--- a document's version, directives and tree
+-- a document's version, directives and tree (YAML 1.1, section 7.3 Documents)
 pub record DocumentContent : Type 0 where
   pub version : Option Version
   pub directives : List TagDirective
   pub root : Content
 
--- a scalar with its tag, or one whose flag for quoted styles tells whether the bare tag stands before it
+-- a scalar with its tag, or one whose flag for quoted styles tells whether the bare tag stands before it (this project, from libyaml's flags)
 abbrev pub content_tag : Option Text → Bool → ScalarTag
 content_tag (Some tag) quoted_implicit = tagged tag
 content_tag None quoted_implicit = untagged quoted_implicit
@@ -54,7 +55,7 @@ abbrev mutual
   pairs_content no_pairs = no_content_pairs
   pairs_content (pairs_and pairs key value) = content_pairs_and (pairs_content pairs) (node_content key) (node_content value)
 
--- the content of a document
+-- the content of a document (YAML 1.1, section 7.3 Documents)
 abbrev pub document_content : Document → DocumentContent
 document_content document =
     record { version = document.start.version; directives = document.start.directives; root = node_content document.root }

@@ -1,5 +1,5 @@
--- How literal and folded scalars are read (this project's profile of YAML 1.1, sections 9.2 and 9.3),
--- once line breaks are read.
+-- How literal and folded scalars are read, once line breaks are read.
+-- Source, unless a definition names its own: this project's profile of YAML 1.1, section 9.3 Block Scalar Styles, in its own steps.
 use Rattle.std.specs.Prelude.{ℕ, zero, suc, Bool, true, false, Option, None, Some, List, [], ◌∷◌, ◌++◌, ◌==◌, ◌||◌, ◌&&◌, ◌+◌, ◌-◌, not, take, option_map}
 use Rattle.std.specs.Prelude.{option_and_then, if◌then◌else◌}
 use Rattle.yaml_base.specs.Characters.{Text, is_between, is_space, is_blank, line_feed, space}
@@ -20,41 +20,41 @@ extended c (line_end b ∷ rest) = content (c ∷ []) ∷ line_end b ∷ rest
 abbrev pub element_before : Bool → ℕ → List Element → List Element
 element_before breaks12 c elements = if is_read_break breaks12 c then line_end c ∷ elements else extended c elements
 
--- a text cut at its breaks
+-- a text cut at its breaks (YAML 1.1, section 5.4 Line Break Characters)
 abbrev pub elements : Bool → Text → List Element
 elements breaks12 [] = []
 elements breaks12 (c ∷ rest) = element_before breaks12 c (elements breaks12 rest)
 
--- how many spaces a text begins with
+-- how many spaces a text begins with (YAML 1.1, section 6.1 Indentation Spaces)
 abbrev pub leading_spaces : Text → ℕ
 leading_spaces [] = 0
 leading_spaces (c ∷ rest) = if is_space c then suc (leading_spaces rest) else 0
 
--- the spaces before the first content
+-- the spaces before the first content (YAML 1.1, section 9.2.2 Block Indentation Indicator)
 abbrev pub detected : List Element → ℕ
 detected [] = 0
 detected (content text ∷ rest) = leading_spaces text
 detected (line_end b ∷ rest) = detected rest
 
--- the read_indentation: what the digit adds to the column of the enclosing block's entries (the digit itself
--- at the root), or else what the first content shows
+-- the indentation: what the digit adds to the column of the enclosing block's entries (the digit itself at the root), or else what
+-- the first content shows (YAML 1.1, section 9.2.2 Block Indentation Indicator, c-indentation-indicator)
 abbrev pub read_indentation : (digit column : Option ℕ) → List Element → ℕ
 read_indentation None column lines = detected lines
 read_indentation (Some digit) None lines = digit
 read_indentation (Some digit) (Some column) lines = column + digit
 
--- a text without so many leading spaces; none where it has fewer
+-- a text without so many leading spaces; none where it has fewer (YAML 1.1, section 6.1 Indentation Spaces, s-indent(n))
 abbrev pub unindented : ℕ → Text → Option Text
 unindented zero text = Some text
 unindented (suc n) [] = None
 unindented (suc n) (c ∷ rest) = if is_space c then unindented n rest else None
 
--- a content without so many leading spaces, or a line's end as it is
+-- a content without so many leading spaces, or a line's end as it is (YAML 1.1, section 6.1 Indentation Spaces)
 abbrev pub element_unindented : ℕ → Element → Option Element
 element_unindented n (content text) = option_map content (unindented n text)
 element_unindented n (line_end b) = Some (line_end b)
 
--- all contents without the read_indentation
+-- all contents without the indentation (YAML 1.1, section 6.1 Indentation Spaces)
 abbrev pub all_unindented : ℕ → List Element → Option (List Element)
 all_unindented n [] = Some []
 all_unindented n (element ∷ rest) =
@@ -66,88 +66,89 @@ has_content [] = false
 has_content (content text ∷ rest) = true
 has_content (line_end b ∷ rest) = has_content rest
 
--- all up to the last content
+-- all up to the last content (YAML 1.1, section 9.2.3 Block Chomping Indicator)
 abbrev pub kept_lines : List Element → List Element
 kept_lines [] = []
 kept_lines (content text ∷ rest) = content text ∷ kept_lines rest
 kept_lines (line_end b ∷ rest) = if has_content rest then line_end b ∷ kept_lines rest else []
 
--- the breaks after the last content
+-- the breaks after the last content (YAML 1.1, section 9.2.3 Block Chomping Indicator)
 abbrev pub final_ends : List Element → Text
 final_ends [] = []
 final_ends (content text ∷ rest) = final_ends rest
 final_ends (line_end b ∷ rest) = (if has_content rest then [] else b ∷ []) ++ final_ends rest
 
--- literal: all is kept
+-- literal: all is kept (YAML 1.1, section 9.3.1 Literal)
 abbrev pub joined : List Element → Text
 joined [] = []
 joined (content text ∷ rest) = text ++ joined rest
 joined (line_end b ∷ rest) = b ∷ joined rest
 
--- the text doesn't begin with a blank
+-- the text doesn't begin with a blank (YAML 1.1, section 9.3.2 Folded)
 abbrev pub is_even : Text → Bool
 is_even [] = true
 is_even (c ∷ rest) = not (is_blank c)
 
--- there is a next content, and it doesn't begin with a blank
+-- there is a next content, and it doesn't begin with a blank (YAML 1.1, section 9.3.2 Folded)
 abbrev pub even_next : List Element → Bool
 even_next [] = false
 even_next (content text ∷ rest) = is_even text
 even_next (line_end b ∷ rest) = even_next rest
 
 -- what a folded LF reads as: a space where it stands alone, else nothing beside the breaks that follow it
+-- (YAML 1.1, sections 6.5 Line Folding and 9.3.2 Folded)
 abbrev pub fold_read : List Element → Text
 fold_read [] = []
 fold_read (content text ∷ rest) = space ∷ []
 fold_read (line_end b ∷ rest) = []
 
--- folded: a LF at the end of a content is folded, where neither that content nor the next begins with a blank
+-- folded: a LF at the end of a content is folded, where neither that content nor the next begins with a blank (YAML 1.1, section 9.3.2 Folded)
 abbrev pub unfolded : (after_even : Bool) → List Element → Text
 unfolded after_even [] = []
 unfolded after_even (content text ∷ rest) = text ++ unfolded (is_even text) rest
 unfolded after_even (line_end b ∷ rest) =
     (if after_even && b == line_feed && even_next rest then fold_read rest else b ∷ []) ++ unfolded false rest
 
--- what becomes of the final breaks
+-- what becomes of the final breaks (YAML 1.1, section 9.2.3 Block Chomping Indicator, c-chomping-indicator(t))
 pub data Chomping : Type 0 where
   strip : Chomping
   clip : Chomping
   keep : Chomping
 
--- none, all, or the first where a content stands before it
+-- none, all, or the first where a content stands before it (YAML 1.1, section 9.2.3 Block Chomping Indicator)
 abbrev pub chomped : Chomping → (content_before : Bool) → Text → Text
 chomped strip content_before ends = []
 chomped clip content_before ends = if content_before then take 1 ends else []
 chomped keep content_before ends = ends
 
--- what lines without their read_indentation read as: all up to the last content, joined or folded, and what is
--- kept of the final breaks
+-- what lines without their indentation read as: all up to the last content, joined or folded, and what is kept of the final breaks
 abbrev pub lines_read : (folded : Bool) → Chomping → List Element → Text
 lines_read folded chomping lines =
     (if folded then unfolded false (kept_lines lines) else joined (kept_lines lines))
     ++ chomped chomping (has_content lines) (final_ends lines)
 
 -- the header's digit, 1 to 9, where one comes next, and what follows it
+-- (YAML 1.1, section 9.2.2 Block Indentation Indicator, c-indentation-indicator)
 abbrev pub digit_first : Text → Option ℕ
 digit_first [] = None
 digit_first (c ∷ rest) = if is_between 49 57 c then Some (c - 48) else None
 
--- what follows the digit, or all where there is none
+-- what follows the digit, or all where there is none (YAML 1.1, section 9.2.2 Block Indentation Indicator)
 abbrev pub after_digit : Text → Text
 after_digit [] = []
 after_digit (c ∷ rest) = if is_between 49 57 c then rest else c ∷ rest
 
--- `-` strips, `+` keeps, no sign clips
+-- `-` strips, `+` keeps, no sign clips (YAML 1.1, section 9.2.3 Block Chomping Indicator, c-chomping-indicator(t))
 abbrev pub chomping_first : Text → Chomping
 chomping_first [] = clip
 chomping_first (c ∷ rest) = if c == 45 then strip else (if c == 43 then keep else clip)
 
--- what follows the chomping sign, or all where there is none
+-- what follows the chomping sign, or all where there is none (YAML 1.1, section 9.2.3 Block Chomping Indicator)
 abbrev pub after_chomping : Text → Text
 after_chomping [] = []
 after_chomping (c ∷ rest) = if c == 45 || c == 43 then rest else c ∷ rest
 
--- what follows a break; none where no break comes first
+-- what follows a break; none where no break comes first (YAML 1.1, section 9.2 Block Scalar Header)
 abbrev pub after_break : Bool → Text → Option Text
 after_break breaks12 [] = None
 after_break breaks12 (c ∷ rest) = if is_read_break breaks12 c then Some rest else None
@@ -159,6 +160,7 @@ read_lines folded chomping digit column lines =
 
 -- a block scalar from its sign on: `|` or `>`, a digit or none, a chomping sign or none, a break, lines;
 -- the column is that of the enclosing block's entries, none at the root
+-- (YAML 1.1, section 9.3 Block Scalar Styles, c-l+literal(n), c-l+folded(n))
 abbrev pub read_block : (breaks12 : Bool) (column : Option ℕ) → Text → Option Text
 read_block breaks12 column [] = None
 read_block breaks12 column (sign ∷ rest) =

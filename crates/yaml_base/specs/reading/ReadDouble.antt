@@ -1,4 +1,5 @@
--- Reading a double-quoted scalar (YAML 1.1, sections 5.6 and 9.1.1), one character after another.
+-- Reading a double-quoted scalar, one character after another.
+-- Source, unless a definition names its own: YAML 1.1, section 9.1.1 Double Quoted, in this project's steps.
 use Rattle.std.specs.Prelude.{ℕ, zero, suc, Bool, Option, None, Some, List, [], ◌∷◌, ◌==◌, ◌||◌, ◌+◌, ◌-◌, ◌*◌, nat_lt, codes, if◌then◌else◌}
 use Rattle.yaml_base.specs.Characters.{Text, is_between}
 use Rattle.yaml_base.specs.reading.ReadFolding.{FoldUnit, itself, unit_of, folding_read}
@@ -24,6 +25,7 @@ meaning_among (letter ∷ letters) (meaning ∷ meanings) c =
 meaning_among _ _ c = None
 
 -- what the letter of a short escape stands for; a space stands for itself
+-- (YAML 1.1, section 5.6 Escape Sequences, ns-esc-null to ns-esc-paragraph-separator)
 abbrev pub letter_meaning : ℕ → Option ℕ
 letter_meaning c =
     meaning_among
@@ -31,30 +33,30 @@ letter_meaning c =
     (0 ∷ 7 ∷ 8 ∷ 9 ∷ 0xA ∷ 0xB ∷ 0xC ∷ 0xD ∷ 0x1B ∷ 0x22 ∷ 0x5C ∷ 0x85 ∷ 0xA0 ∷ 0x2028 ∷ 0x2029 ∷ 0x20 ∷ [])
     c
 
--- how many digits follow the first one after `x`, `u`, `U`
+-- how many digits follow the first one after `x`, `u`, `U` (YAML 1.1, section 5.6 Escape Sequences, ns-esc-8-bit, ns-esc-16-bit, ns-esc-32-bit)
 abbrev pub digits_after_first : ℕ → Option ℕ
 digits_after_first c = meaning_among (codes "xuU") (1 ∷ 3 ∷ 7 ∷ []) c
 
--- the value of an upper-case hexadecimal digit
+-- the value of an upper-case hexadecimal digit (YAML 1.1, section 5.5 Miscellaneous Characters, ns-hex-digit; upper case alone by this project)
 abbrev pub digit_meaning : ℕ → Option ℕ
 digit_meaning c =
     if is_between 48 57 c then Some (c - 48) else (if is_between 65 70 c then Some (c - 55) else None)
 
--- the number of a character: no surrogate, at most U+10FFFF
+-- the number of a character: no surrogate, at most U+10FFFF (libyaml's scanner)
 abbrev pub is_scalar_number : ℕ → Bool
 is_scalar_number n = nat_lt n 0xD800 || is_between 0xE000 0x10FFFF n
 
--- an escape's number is given where it is a character's
+-- an escape's number is given where it is a character's (YAML 1.1, section 5.6 Escape Sequences)
 abbrev pub number_step : ℕ → QuoteStep
 number_step n = if is_scalar_number n then gives (itself n) else has_no_reading
 
--- one digit more: the number grows, and is complete where no digit follows
+-- one digit more: the number grows, and is complete where no digit follows (YAML 1.1, section 5.6 Escape Sequences)
 abbrev pub digit_step : (more number : ℕ) → Option ℕ → QuoteStep
 digit_step more number None = has_no_reading
 digit_step zero number (Some digit) = number_step (number * 16 + digit)
 digit_step (suc more) number (Some digit) = goes_on (within_digits more (number * 16 + digit))
 
--- after a backslash: a letter's meaning, or the digits that its letter asks for
+-- after a backslash: a letter's meaning, or the digits that its letter asks for (YAML 1.1, section 5.6 Escape Sequences)
 abbrev pub escape_step : (meaning digits : Option ℕ) → QuoteStep
 escape_step (Some meaning) digits = gives (itself meaning)
 escape_step None (Some more) = goes_on (within_digits more 0)
@@ -95,12 +97,13 @@ quoted_from breaks12 place [] = None
 quoted_from breaks12 place (c ∷ rest) =
     after_step (quote_step breaks12 place c) (λ next. quoted_from breaks12 next rest) rest
 
--- the units fold to a value
+-- the units fold to a value (YAML 1.1, section 6.5 Line Folding)
 abbrev pub quoted_reading : Option Quoted → Option QuotedReading
 quoted_reading None = None
 quoted_reading (Some quoted) = Some (record { value = folding_read quoted.units; rest = quoted.rest })
 
 -- a text that begins with a double-quoted scalar: its value, and what follows the closing quote
+-- (YAML 1.1, section 9.1.1 Double Quoted, c-double-quoted(n,c))
 abbrev pub double_quoted_front : Bool → Text → Option QuotedReading
 double_quoted_front breaks12 [] = None
 double_quoted_front breaks12 (c ∷ rest) =
@@ -116,6 +119,6 @@ abbrev pub value_alone : Option QuotedReading → Option Text
 value_alone None = None
 value_alone (Some reading) = value_before reading.rest reading.value
 
--- a text that is a double-quoted scalar: its value
+-- a text that is a double-quoted scalar: its value (YAML 1.1, section 9.1.1 Double Quoted, c-double-quoted(n,c))
 abbrev pub read_double : Bool → Text → Option Text
 read_double breaks12 text = value_alone (double_quoted_front breaks12 text)

@@ -1,4 +1,5 @@
--- How blanks and breaks fold in plain and quoted text (YAML 1.1, section 6.5, as libyaml has it).
+-- How blanks and breaks fold in plain and quoted text.
+-- Source, unless a definition names its own: YAML 1.1, section 6.5 Line Folding, as libyaml's scanner has it, in this project's steps.
 use Rattle.std.specs.Prelude.{ℕ, Bool, List, [], ◌∷◌, ◌++◌, ◌==◌, if◌then◌else◌}
 use Rattle.yaml_base.specs.Characters.{Text, is_blank, line_feed, space}
 use Rattle.yaml_base.specs.LineBreaks.{is_read_break}
@@ -9,7 +10,7 @@ pub data FoldUnit : Type 0 where
   literal_break : ℕ → FoldUnit
   itself : ℕ → FoldUnit
 
--- a character that isn't escaped
+-- a character that isn't escaped (YAML 1.1, sections 5.4 Line Break Characters and 5.5 Miscellaneous Characters)
 abbrev pub unit_of : Bool → ℕ → FoldUnit
 unit_of breaks12 c =
     if is_blank c then literal_blank c else if is_read_break breaks12 c then literal_break c else itself c
@@ -22,6 +23,7 @@ pub record Front : Type 0 where
 
 -- a run that begins with LF reads as a space where it is that LF alone, else as the breaks that follow it;
 -- a run that begins with U+2028 or U+2029 is kept
+-- (YAML 1.1, section 6.5 Line Folding, b-l-folded-specific, b-l-folded-as-space, b-l-folded-trimmed)
 abbrev pub run_read : Text → Text
 run_read [] = []
 run_read (first ∷ []) = if first == line_feed then space ∷ [] else first ∷ []
@@ -32,11 +34,13 @@ abbrev pub front_read : Front → Text
 front_read front = front.blanks ++ (run_read front.breaks ++ front.rest)
 
 -- a blank more before others, or before the breaks of a run, where it is dropped
+-- (YAML 1.1, sections 6.4 Ignored Line Prefix and 9.1 Flow Scalar Styles)
 abbrev pub blanks_before : (breaks : Text) → (blanks : Text) → Text
 blanks_before [] blanks = blanks
 blanks_before (first ∷ more) blanks = []
 
 -- one more unit before a front: blanks before, between and after the breaks of a run are dropped
+-- (YAML 1.1, sections 6.4 Ignored Line Prefix and 9.1 Flow Scalar Styles)
 abbrev pub unit_before : FoldUnit → Front → Front
 unit_before (literal_blank c) front = record front { blanks = blanks_before front.breaks (c ∷ front.blanks) }
 unit_before (literal_break c) front = record front { blanks = []; breaks = c ∷ front.breaks }

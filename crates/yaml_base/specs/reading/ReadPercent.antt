@@ -1,10 +1,12 @@
--- Reading percent forms, in tags and prefixes (YAML 1.1, section 5.5, after RFC 2396, section 2.4, over the bytes of
--- UTF-8), without any word of what writes them.
+-- Reading percent forms, in tags and prefixes, without any word of what writes them.
+-- Source, unless a definition names its own: YAML 1.1, section 5.5 Miscellaneous Characters, after RFC 2396, section 2.4, over the bytes of
+-- UTF-8, in this project's steps.
 use Rattle.std.specs.Prelude.{ℕ, Bool, Option, None, Some, List, [], ◌∷◌, ◌++◌, ◌==◌, ◌||◌, ◌+◌, ◌-◌, ◌*◌, codes, chars, encode_utf8, if◌then◌else◌}
 use Rattle.std.specs.Str.{is_utf8}
 use Rattle.yaml_base.specs.Characters.{Text, is_alpha, is_among, is_between}
 
 -- may stand in a tag or a prefix: the anchor alphabet, the signs of a URI, and `%`
+-- (YAML 1.1, section 5.5 Miscellaneous Characters, ns-uri-char; without `!` by this project)
 abbrev pub is_uri_character : ℕ → Bool
 is_uri_character c = is_alpha c || is_among (codes "%;/?:@&=+$,.~*'()[]") c
 
@@ -14,7 +16,7 @@ pub data PercentPlace : Type 0 where
   after_percent : PercentPlace
   after_high : Option ℕ → PercentPlace
 
--- the value of a hexadecimal digit in either case
+-- the value of a hexadecimal digit in either case (YAML 1.1, section 5.5 Miscellaneous Characters, ns-hex-digit)
 abbrev pub digit_given : ℕ → Option ℕ
 digit_given c =
     if is_between 48 57 c then Some (c - 48)

@@ -1,10 +1,11 @@
--- Reading a plain scalar (YAML 1.1, section 9.1.3; which texts are read is this library's own rule).
+-- Reading a plain scalar.
+-- Source, unless a definition names its own: YAML 1.1, section 9.1.3 Plain, narrowed by this project.
 use Rattle.std.specs.Prelude.{ℕ, Bool, true, false, Option, None, Some, [], ◌∷◌, ◌==◌, ◌||◌, ◌&&◌, map, codes, if◌then◌else◌}
 use Rattle.yaml_base.specs.Characters.{Text, is_among, is_blank}
 use Rattle.yaml_base.specs.LineBreaks.{is_read_break}
 use Rattle.yaml_base.specs.reading.ReadFolding.{unit_of, folding_read}
 
--- a blank or a break of a text whose line breaks are read
+-- a blank or a break of a text whose line breaks are read (YAML 1.1, sections 5.4 Line Break Characters and 5.5 Miscellaneous Characters)
 abbrev pub is_read_white : Bool → ℕ → Bool
 is_read_white breaks12 c = is_blank c || is_read_break breaks12 c
 
@@ -19,6 +20,7 @@ begins_with_three mark (a ∷ b ∷ c ∷ rest) = a == mark && b == mark && c ==
 begins_with_three mark _ = false
 
 -- what no plain text begins with: `---` or `...`, an indicator, or `-`, `?`, `:` before a blank, a break or the end
+-- (YAML 1.1, sections 5.3 Indicator Characters, 7.2 Document Boundary Markers and 9.1.3 Plain, c-indicator)
 abbrev pub begins_no_plain : Bool → Text → Bool
 begins_no_plain breaks12 [] = false
 begins_no_plain breaks12 (c ∷ rest) =
@@ -42,6 +44,7 @@ holds_no_plain breaks12 flow (c ∷ rest) =
     || holds_no_plain breaks12 flow rest
 
 -- the empty text reads as the empty value in block and has no reading in flow; any other reads by folding
+-- (YAML 1.1, section 9.1.3 Plain, ns-plain(n,c))
 abbrev pub read_plain : (breaks12 flow : Bool) → Text → Option Text
 read_plain breaks12 flow [] = if flow then None else Some []
 read_plain breaks12 flow (c ∷ rest) =

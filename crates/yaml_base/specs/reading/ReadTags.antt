@@ -1,4 +1,5 @@
--- Reading written tags and handles (YAML 1.1, sections 7.1.2 and 8.1.1), without any word of what writes them.
+-- Reading written tags and handles, without any word of what writes them.
+-- Source, unless a definition names its own: YAML 1.1, section 8.2 Node Tags, in this project's steps.
 use Rattle.std.specs.Prelude.{ℕ, Bool, false, Option, None, Some, List, [], ◌∷◌, ◌++◌, ◌==◌, ◌||◌, ◌&&◌, not, codes, bytes_eq, option_map, if◌then◌else◌}
 use Rattle.std.specs.List.{list_all, list_any}
 use Rattle.yaml_base.specs.Characters.{Text, is_alpha, is_among}
@@ -15,25 +16,25 @@ pub record CutText : Type 0 where
   pub front : Text
   pub rest : Text
 
--- the prefix that the first directive with this handle gives
+-- the prefix that the first directive with this handle gives (YAML 1.1, section 7.1.2 "TAG" Directive, ns-tag-directive)
 abbrev pub prefix_among : List TagDirective → Text → Option Text
 prefix_among [] handle = None
 prefix_among (directive ∷ rest) handle =
     if bytes_eq directive.handle handle then Some directive.prefix else prefix_among rest handle
 
--- what `!` and `!!` stand for where a document doesn't say (YAML 1.1, section 7.1.2.2)
+-- what `!` and `!!` stand for where a document doesn't say (YAML 1.1, section 7.1.2.2 Tag Handles, c-primary-tag-handle, ns-secondary-tag-handle)
 abbrev pub directives_assumed : List TagDirective
 directives_assumed =
     record { handle = codes "!"; prefix = codes "!" }
     ∷ record { handle = codes "!!"; prefix = codes "tag:yaml.org,2002:" } ∷ []
 
--- the anchor alphabet, and then `!`
+-- the anchor alphabet, and then `!` (YAML 1.1, section 7.1.2.2 Tag Handles, c-named-tag-handle; the alphabet is libyaml's)
 abbrev pub closes_handle : Text → Bool
 closes_handle [] = false
 closes_handle (c ∷ []) = c == 0x21
 closes_handle (c ∷ d ∷ rest) = is_alpha c && closes_handle (d ∷ rest)
 
--- `!`, or the anchor alphabet between two `!` (YAML 1.1, section 7.1.2.2)
+-- `!`, or the anchor alphabet between two `!` (YAML 1.1, section 7.1.2.2 Tag Handles, c-tag-handle; the alphabet is libyaml's)
 abbrev pub is_handle_text : Text → Bool
 is_handle_text [] = false
 is_handle_text (c ∷ []) = c == 0x21
@@ -49,7 +50,7 @@ abbrev pub cut_after_mark : Text → CutText
 cut_after_mark [] = record { front = []; rest = [] }
 cut_after_mark (c ∷ text) = let cut = cut_after_mark text in before_cut c cut.front cut.rest
 
--- may stand after a handle: what may stand in a URI but for the signs of flow
+-- may stand after a handle: what may stand in a URI but for the signs of flow (this project, since readers end a tag at these signs)
 abbrev pub may_follow_handle : ℕ → Bool
 may_follow_handle c = is_uri_character c && not (is_among (codes ",[]") c)
 
@@ -58,26 +59,26 @@ abbrev pub name_joined : Option Text → Option Text → Option TagSaid
 name_joined (Some prefix) (Some suffix) = Some (name_said (prefix ++ suffix))
 name_joined _ _ = None
 
--- a handle's prefix and what stands after the handle, which is at least one character
+-- a handle's prefix and what stands after the handle, which is at least one character (YAML 1.1, section 8.2 Node Tags, c-ns-shorthand-tag)
 abbrev pub shorthand_said : List TagDirective → Text → Text → Option TagSaid
 shorthand_said own handle [] = None
 shorthand_said own handle (c ∷ suffix) =
     if list_all may_follow_handle (c ∷ suffix) then name_joined (prefix_among (own ++ directives_assumed) handle) (percent_read (c ∷ suffix))
     else None
 
--- a text without a `>` at its end; none where it doesn't end so
+-- a text without a `>` at its end; none where it doesn't end so (YAML 1.1, section 8.2 Node Tags, c-verbatim-tag)
 abbrev pub without_end_sign : Text → Option Text
 without_end_sign [] = None
 without_end_sign (c ∷ []) = if c == 0x3E then Some [] else None
 without_end_sign (c ∷ d ∷ rest) = option_map (λ text. c ∷ text) (without_end_sign (d ∷ rest))
 
--- a name of at least one character
+-- a name of at least one character (YAML 1.1, section 8.2 Node Tags, c-verbatim-tag)
 abbrev pub verbatim_said : Option Text → Option TagSaid
 verbatim_said None = None
 verbatim_said (Some []) = None
 verbatim_said (Some (c ∷ name)) = if list_all is_uri_character (c ∷ name) then option_map name_said (percent_read (c ∷ name)) else None
 
--- a written tag, from its `!` to its last character, by a document's own directives and those assumed (YAML 1.1, section 8.1.1)
+-- a written tag, from its `!` to its last character, by a document's own directives and those assumed (YAML 1.1, section 8.2 Node Tags)
 abbrev pub tag_said : List TagDirective → Text → Option TagSaid
 tag_said own [] = None
 tag_said own (c ∷ []) = if c == 0x21 then Some bare_said else None
@@ -86,12 +87,12 @@ tag_said own (c ∷ d ∷ rest) =
     else (if d == 0x3C then verbatim_said (without_end_sign rest)
     else (let cut = cut_after_mark (c ∷ d ∷ rest) in shorthand_said own cut.front cut.rest))
 
--- a prefix of a directive: percent forms and characters of a URI, at least one; a `!` may begin it
+-- a prefix of a directive: percent forms and characters of a URI, at least one; a `!` may begin it (YAML 1.1, section 7.1.2.1 Tag Prefixes)
 abbrev pub prefix_said : Text → Option Text
 prefix_said [] = None
 prefix_said (c ∷ rest) =
     if (c == 0x21 || is_uri_character c) && list_all is_uri_character rest then percent_read (c ∷ rest) else None
 
--- some directive gives this handle
+-- some directive gives this handle (YAML 1.1, section 7.1.2 "TAG" Directive)
 abbrev pub is_given : Text → List TagDirective → Bool
 is_given handle directives = list_any (λ directive. bytes_eq directive.handle handle) directives

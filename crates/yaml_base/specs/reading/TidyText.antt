@@ -1,5 +1,6 @@
 -- Tidy texts: what every text of a scalar keeps to beside what its style's reader asks, so that it stays where it is put
 -- and means the same to all readers. A strict reader of streams demands it.
+-- Source: this project, stricter than YAML 1.1.
 use Rattle.std.specs.Prelude.{ℕ, zero, suc, Bool, true, false, Option, [], ◌∷◌, ◌==◌, ◌||◌, ◌&&◌, not, unwrap_or}
 use Rattle.std.specs.List.{list_all}
 use Rattle.yaml_base.specs.Characters.{Text, space, is_printable}

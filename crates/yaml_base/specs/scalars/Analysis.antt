@@ -1,10 +1,11 @@
--- Which styles a scalar's value allows, as tests on the whole value (YAML 1.1, sections 9.1 and 9.3; libyaml's own rules).
+-- Which styles a scalar's value allows, as tests on the whole value.
+-- Source, unless a definition names its own: libyaml's emitter, in this project's form.
 use Rattle.std.specs.Prelude.{ℕ, Bool, true, false, [], ◌∷◌, ◌==◌, ◌||◌, ◌&&◌, not, codes}
 use Rattle.std.specs.List.{list_any}
 use Rattle.yaml_base.specs.Characters.{Text, is_among, is_ascii, is_blank, is_break, is_printable, is_space, line_separator, paragraph_separator}
 
 -- what may stand as itself: all printable characters or ASCII alone; and whether U+2028 and U+2029 are
--- taken for ordinary characters, as YAML 1.2 does
+-- taken for ordinary characters, as YAML 1.2 does (libyaml's emitter; `breaks12` is this project's)
 pub record Charset : Type 0 where
   pub unicode : Bool
   pub breaks12 : Bool
@@ -41,19 +42,20 @@ is_gap c = is_blank c || is_break c || c == 0
 abbrev pub ends_word : Text → Bool
 ends_word rest = is_empty rest || begins_with is_gap rest
 
--- cannot stand as itself in a text of this charset: only double quotes can write it
+-- cannot stand as itself in a text of this charset: only double quotes can write it (libyaml's emitter; `breaks12` is this project's)
 abbrev pub is_special : Charset → ℕ → Bool
 is_special charset c =
     not (is_printable c)
     || (not charset.unicode && not (is_ascii c))
     || (charset.breaks12 && (c == line_separator || c == paragraph_separator))
 
--- `---` or `...`
+-- `---` or `...` (libyaml's emitter, for YAML 1.1, section 7.2 Document Boundary Markers)
 abbrev pub begins_like_mark : Text → Bool
 begins_like_mark (a ∷ b ∷ c ∷ rest) = (a == 45 || a == 46) && b == a && c == a
 begins_like_mark _ = false
 
 -- a first character that means something else to a reader of plain text
+-- (YAML 1.1, section 5.3 Indicator Characters, c-indicator; without `-`, `?` and `:`)
 abbrev pub is_indicator : ℕ → Bool
 is_indicator c = is_among (codes "#,[]{}&*!|>'\"%@`") c
 

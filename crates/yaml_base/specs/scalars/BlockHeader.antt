@@ -1,4 +1,5 @@
--- The header of literal and folded scalars (YAML 1.1, section 9.2).
+-- The header of literal and folded scalars.
+-- Source, unless a definition names its own: libyaml's emitter.
 use Rattle.std.specs.Prelude.{ℕ, Bool, true, false, Option, None, Some, [], ◌∷◌, ◌||◌, ◌+◌, ◌≡◌, if◌then◌else◌}
 use Rattle.yaml_base.specs.Characters.{Text, is_break, is_space, line_feed}
 use Rattle.yaml_base.specs.scalars.Analysis.{begins_with}
@@ -21,11 +22,12 @@ ending (c ∷ d ∷ e ∷ rest) = ending (d ∷ e ∷ rest)
 abbrev pub begins_blank : Text → Bool
 begins_blank value = begins_with (λ c. is_space c || is_break c) value
 
--- the digit of the indent, where the first line would not show the indentation (YAML 1.1, section 9.2.2)
+-- the digit of the indent, where the first line would not show the indentation
+-- (YAML 1.1, section 9.2.2 Block Indentation Indicator, c-indentation-indicator)
 abbrev pub indentation_hint : ℕ → Text → Text
 indentation_hint best_indent value = if begins_blank value then (48 + best_indent) ∷ [] else []
 
--- `-`, nothing or `+`: what becomes of the final breaks (YAML 1.1, section 9.2.3)
+-- `-`, nothing or `+`: what becomes of the final breaks (YAML 1.1, section 9.2.3 Block Chomping Indicator, c-chomping-indicator(t))
 abbrev pub ending_hint : Ending → Text
 ending_hint without_break = 45 ∷ []
 ending_hint one_break = []
@@ -41,7 +43,7 @@ abbrev pub hints_laid : (best_indent : ℕ) (value : Text) → Cursor → Laid
 hints_laid best_indent value cursor =
     then_laid (hint_laid (indentation_hint best_indent value) cursor) (hint_laid (ending_hint (ending value)))
 
--- the style's sign, the hints and a break
+-- the style's sign, the hints and a break (YAML 1.1, section 9.2 Block Scalar Header)
 abbrev pub header_laid : (sign best_indent : ℕ) (value : Text) → Cursor → Laid
 header_laid sign best_indent value cursor =
     then_laid (indicator (sign ∷ []) false false false cursor)
@@ -69,13 +71,13 @@ ends_in_break more_breaks = true
 abbrev pub lines_laid : (value lines : Text) → Cursor → Laid
 lines_laid value lines cursor = with_flags true (ends_in_break (ending value)) (text_laid lines cursor)
 
--- a block scalar's text: its header, and then its lines (YAML 1.1, section 9.3)
+-- a block scalar's text: its header, and then its lines (YAML 1.1, section 9.3 Block Scalar Styles)
 abbrev pub block_body : (sign best_indent : ℕ) (value lines : Text) → Cursor → Laid
 block_body sign best_indent value lines cursor =
     then_laid (header_laid sign best_indent value cursor) (lines_laid value lines)
 
 -- the entries of the enclosing block stand at the scalar's indentation less the indent; at the root there are none,
--- and the two are equal
+-- and the two are equal (this project)
 abbrev pub Encloses : (indent best_indent : ℕ) → (column : Option ℕ) → Type 0
 Encloses indent best_indent None = indent ≡ best_indent
 Encloses indent best_indent (Some column) = indent ≡ column + best_indent

@@ -1,17 +1,18 @@
--- The layout of a double-quoted scalar (YAML 1.1, sections 5.6 and 9.1.1; folds by libyaml's own rule).
+-- The layout of a double-quoted scalar.
+-- Source, unless a definition names its own: libyaml's emitter.
 use Rattle.std.specs.Prelude.{ℕ, Bool, true, false, Option, None, Some, List, [], ◌∷◌, ◌==◌, ◌||◌, ◌&&◌, not, nat_le, if◌then◌else◌}
 use Rattle.yaml_base.specs.Characters.{Text, hex_digits, is_ascii, is_break, is_printable, is_space}
 use Rattle.yaml_base.specs.Cursor.{Cursor, Laid, indicator, is_past_width, new_line, nothing_laid, space_if, text_laid, then_laid}
 
--- U+0022
+-- U+0022 (YAML 1.1, section 9.1.1 Double Quoted)
 abbrev pub quote : ℕ
 quote = 0x22
 
--- U+005C
+-- U+005C (YAML 1.1, section 5.6 Escape Sequences)
 abbrev pub backslash : ℕ
 backslash = 0x5C
 
--- a character that has an escape of one letter
+-- a character that has an escape of one letter (YAML 1.1, section 5.6 Escape Sequences)
 pub record ShortEscape : Type 0 where
   pub character : ℕ
   pub letter : ℕ
@@ -21,7 +22,7 @@ abbrev pub short : (character letter : ℕ) → ShortEscape
 short character letter = record { character = character; letter = letter }
 
 -- NUL, bell, backspace, tab, LF, vertical tab, form feed, CR, escape, the quote, the backslash, U+0085,
--- U+00A0, U+2028 and U+2029
+-- U+00A0, U+2028 and U+2029 (YAML 1.1, section 5.6 Escape Sequences, ns-esc-null to ns-esc-paragraph-separator)
 abbrev pub short_escapes : List ShortEscape
 short_escapes =
     short 0 48 ∷ short 7 97 ∷ short 8 98 ∷ short 9 116 ∷ short 0xA 110 ∷ short 0xB 118 ∷ short 0xC 102
@@ -34,12 +35,13 @@ letter_among [] c = None
 letter_among (entry ∷ more) c = if c == entry.character then Some entry.letter else letter_among more c
 
 -- what follows the backslash: a letter alone, or `x`, `u`, `U` and two, four, eight digits, the fewest that do
+-- (YAML 1.1, section 5.6 Escape Sequences, ns-esc-8-bit, ns-esc-16-bit, ns-esc-32-bit; the fewest is libyaml's rule)
 abbrev pub escape_after_backslash : Option ℕ → ℕ → Text
 escape_after_backslash (Some letter) c = letter ∷ []
 escape_after_backslash None c =
     if nat_le c 0xFF then 120 ∷ hex_digits 2 c else (if nat_le c 0xFFFF then 117 ∷ hex_digits 4 c else 85 ∷ hex_digits 8 c)
 
--- a backslash and what follows it
+-- a backslash and what follows it (YAML 1.1, section 5.6 Escape Sequences)
 abbrev pub escape_text : ℕ → Text
 escape_text c = backslash ∷ escape_after_backslash (letter_among short_escapes c) c
 
@@ -62,7 +64,7 @@ abbrev pub may_fold : (before : Option ℕ) → (rest : Text) → Bool
 may_fold before [] = false
 may_fold before (c ∷ rest) = is_other before
 
--- where a space follows the fold, a backslash keeps it
+-- where a space follows the fold, a backslash keeps it (YAML 1.1, section 5.6 Escape Sequences, ns-esc-space)
 abbrev pub space_kept : Text → Text
 space_kept [] = []
 space_kept (c ∷ rest) = if is_space c then backslash ∷ [] else []
@@ -92,7 +94,7 @@ double_inside unicode limit indent before (c ∷ rest) cursor =
 abbrev pub quote_laid : Cursor → Laid
 quote_laid cursor = indicator (quote ∷ []) false false false cursor
 
--- from quote to quote
+-- from quote to quote (YAML 1.1, section 9.1.1 Double Quoted, c-double-quoted(n,c))
 abbrev pub double_quoted_body : (unicode : Bool) → (limit : Option ℕ) → (indent : ℕ) → (value : Text) → Cursor → Laid
 double_quoted_body unicode limit indent value cursor =
     then_laid

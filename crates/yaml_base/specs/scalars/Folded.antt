@@ -1,4 +1,5 @@
--- How a folded scalar is laid out (YAML 1.1, section 9.3.2): as literal, after its long lines are cut.
+-- How a folded scalar is laid out: as literal, after its long lines are cut.
+-- Source, unless a definition names its own: libyaml's emitter.
 use Rattle.std.specs.Prelude.{ℕ, Bool, true, false, Option, None, Some, List, [], ◌∷◌, ◌++◌, ◌==◌, ◌&&◌, ◌+◌, not, nat_lt, if◌then◌else◌}
 use Rattle.yaml_base.specs.Characters.{Text, is_space, line_feed}
 use Rattle.yaml_base.specs.scalars.Analysis.{begins_with}
@@ -24,7 +25,7 @@ cut_from limit indent column (c ∷ rest) =
     let further = cut_from limit indent (if fold then indent else column + 1) rest in
     if fold then line [] ∷ line_break line_feed ∷ further else begun c further
 
--- a line that begins with a space is never folded
+-- a line that begins with a space is never folded (YAML 1.1, section 9.3.2 Folded; libyaml folds it, which is a fault)
 abbrev pub cut_line : (limit : Option ℕ) (indent : ℕ) → Text → List Part
 cut_line limit indent text = if begins_with is_space text then line text ∷ [] else cut_from limit indent indent text
 
@@ -35,7 +36,7 @@ next_even (line text ∷ rest) = not (begins_with is_space text)
 next_even (line_break b ∷ rest) = next_even rest
 
 -- the value's parts as they are written, after a line that doesn't begin with a space or not: a LF between
--- two lines that don't is doubled, since alone it would read as a space
+-- two lines that don't is doubled, since alone it would read as a space (YAML 1.1, sections 6.5 Line Folding and 9.3.2 Folded)
 abbrev pub folded_parts : (limit : Option ℕ) (indent : ℕ) (after_even : Bool) → List Part → List Part
 folded_parts limit indent after_even [] = []
 folded_parts limit indent after_even (line text ∷ rest) =
@@ -44,7 +45,7 @@ folded_parts limit indent after_even (line_break b ∷ rest) =
     (if after_even && b == line_feed && next_even rest then line_break b ∷ line_break b ∷ [] else line_break b ∷ [])
     ++ folded_parts limit indent false rest
 
--- `>`, the header and the value's lines
+-- `>`, the header and the value's lines (YAML 1.1, section 9.3.2 Folded, c-l+folded(n))
 abbrev pub folded_body : (limit : Option ℕ) (indent best_indent : ℕ) (value : Text) → Cursor → Laid
 folded_body limit indent best_indent value cursor =
     block_body 62 best_indent value (indented indent (folded_parts limit indent false (parts value))) cursor

@@ -1,5 +1,5 @@
--- Laying out a plain scalar, and the lines that it shares with single quotes (YAML 1.1, sections 6.5 and 9.1.3;
--- where folds stand is libyaml's own rule).
+-- Laying out a plain scalar, and the lines that it shares with single quotes.
+-- Source, unless a definition names its own: libyaml's emitter, in this project's steps.
 use Rattle.std.specs.Prelude.{ℕ, Bool, true, false, Option, List, [], ◌∷◌, ◌++◌, ◌==◌, ◌||◌, ◌&&◌, not, replicate, if◌then◌else◌}
 use Rattle.yaml_base.specs.Characters.{Text, is_break, is_space, line_feed, space}
 use Rattle.yaml_base.specs.scalars.Analysis.{begins_with, is_empty}
@@ -44,12 +44,13 @@ abbrev pub is_lone : Text → Bool
 is_lone (c ∷ []) = true
 is_lone _ = false
 
--- so many spaces (YAML 1.1, section 6.1)
+-- so many spaces (YAML 1.1, section 6.1 Indentation Spaces, s-indent(n))
 abbrev pub indentation : ℕ → Text
 indentation indent = replicate indent space
 
 -- a run's text: a lone space past the limit, neither first nor last, becomes a break and the indentation;
 -- the first break of a run is written twice if it is LF, and the indentation follows; others stand as they are written
+-- (YAML 1.1, section 6.5 Line Folding; which space folds is libyaml's rule)
 abbrev pub run_text : (written : Text → Text) (folds : Bool) (indent : ℕ) → Kind → Text → Text
 run_text written folds indent spaces text =
     if folds && is_lone text then line_feed ∷ indentation indent else text
@@ -69,7 +70,7 @@ runs_laid written limit indent edge (run ∷ more) cursor =
     let folds = is_past_width limit cursor && not (edge || is_last more) in
     then_laid (text_laid (run_text written folds indent run.kind run.text) cursor) (runs_laid written limit indent false more)
 
--- a plain scalar's characters stand for themselves
+-- a plain scalar's characters stand for themselves (YAML 1.1, section 9.1.3 Plain, ns-plain(n,c))
 abbrev pub plain_body : (limit : Option ℕ) (indent : ℕ) (value : Text) → Cursor → Laid
 plain_body limit indent value cursor =
     with_flags false false (runs_laid (λ text. text) limit indent true (runs value) cursor)

@@ -1,19 +1,20 @@
--- Laying out a single-quoted scalar (YAML 1.1, section 9.1.2; where folds stand is libyaml's own rule).
+-- Laying out a single-quoted scalar; folds stand where `Plain` has them.
+-- Source, unless a definition names its own: libyaml's emitter.
 use Rattle.std.specs.Prelude.{ℕ, true, false, Option, [], ◌∷◌, ◌++◌, ◌==◌, codes, if◌then◌else◌}
 use Rattle.yaml_base.specs.Characters.{Text}
 use Rattle.yaml_base.specs.Cursor.{Cursor, Laid, then_laid, text_laid, indicator, space_if}
 use Rattle.yaml_base.specs.scalars.Plain.{runs, runs_laid}
 
--- every `'` is written twice
+-- every `'` is written twice (YAML 1.1, section 9.1.2 Single Quoted, c-quoted-quote)
 abbrev pub quotes_doubled : Text → Text
 quotes_doubled [] = []
 quotes_doubled (c ∷ rest) = (if c == 39 then 39 ∷ 39 ∷ [] else c ∷ []) ++ quotes_doubled rest
 
--- an opening or closing quote (YAML 1.1, section 9.1.2)
+-- an opening or closing quote (YAML 1.1, section 9.1.2 Single Quoted)
 abbrev pub single_quote : Cursor → Laid
 single_quote cursor = indicator (codes "'") false false false cursor
 
--- the value's lines between two quotes
+-- the value's lines between two quotes (YAML 1.1, section 9.1.2 Single Quoted, c-single-quoted(n,c))
 abbrev pub single_quoted_body : (limit : Option ℕ) (indent : ℕ) (value : Text) → Cursor → Laid
 single_quoted_body limit indent value cursor =
     then_laid (single_quote cursor) (λ after_quote.

@@ -1,4 +1,5 @@
--- The style that is chosen for a scalar, and whether the bare tag `!` is written (libyaml's own rules).
+-- The style that is chosen for a scalar, and whether the bare tag `!` is written.
+-- Source: libyaml's emitter.
 use Rattle.std.specs.Prelude.{Bool, true, false, ◌||◌, ◌&&◌, not, if◌then◌else◌}
 use Rattle.yaml_base.specs.scalars.Analysis.{Allowances}
 use Rattle.yaml_base.specs.Event.{ScalarStyle, any_style, plain, single_quoted, double_quoted, literal, folded}

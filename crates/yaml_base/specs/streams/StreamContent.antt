@@ -1,5 +1,6 @@
--- What a stream in any mode keeps of a list of events: versions, directives, and the trees of kinds, anchors, tags, values
--- and aliases (the serialization tree of YAML 1.1, section 3.2.2); and when such trees agree with the events.
+-- What a stream in any mode keeps of a list of events: versions, directives, and the trees of kinds, anchors, tags, values and
+-- aliases; and when such trees agree with the events.
+-- Source, unless a definition names its own: this project.
 use Rattle.std.specs.Prelude.{Bool, true, false, Option, None, Some, List, [], ◌∷◌, ◌++◌, ◌&&◌, not, bytes_eq, option_map, unwrap_or}
 use Rattle.std.specs.Ordering.{int_eq}
 use Rattle.yaml_base.specs.Characters.{Text}
@@ -19,7 +20,7 @@ pub data Tagging : Type 0 where
   with_tag : Text → Tagging
   without_tag : Stood → Tagging
 
--- a node's tree: its kind, anchor, tag, and value or entries; lists grow at their end
+-- a node's tree: its kind, anchor, tag, and value or entries; lists grow at their end (YAML 1.1, section 3.2.2 Serialization Tree)
 mutual
   pub data Tree : Type 0 where
     alias_tree : Text → Tree
@@ -35,13 +36,13 @@ mutual
     no_tree_pairs : TreePairs
     tree_pairs_and : TreePairs → Tree → Tree → TreePairs
 
--- a document's version, directives and tree
+-- a document's version, directives and tree (YAML 1.1, section 7.3 Documents)
 pub record DocumentTree : Type 0 where
   pub version : Option Version
   pub directives : List TagDirective
   pub root : Tree
 
--- the flags of a scalar let it stand so without a tag
+-- the flags of a scalar let it stand so without a tag (libyaml's flags)
 abbrev pub may_stand : Scalar → Stood → Bool
 may_stand content stood_plain = content.plain_implicit
 may_stand content stood_quoted = content.quoted_implicit

@@ -1,5 +1,6 @@
--- The documents of a stream (YAML 1.1, chapter 7): its lines are cut at the marks `---` and `...`, and what stands before
--- the first of them is the first document or its directives.
+-- The documents of a stream: its lines are cut at the marks `---` and `...`, and what stands before the first of them is the first
+-- document or its directives.
+-- Source, unless a definition names its own: that of its part, in this project's steps.
 use Rattle.std.specs.Prelude.{ℕ, suc, pos, Bool, true, false, Option, None, Some, List, [], ◌∷◌, ◌++◌, ◌==◌, ◌&&◌, not, length, fold, codes, bytes_eq}
 use Rattle.std.specs.Prelude.{option_map, option_and_then, is_some, if◌then◌else◌}
 use Rattle.std.specs.List.{slice_split}
@@ -11,7 +12,7 @@ use Rattle.yaml_base.specs.streams.StreamLines.{Line, lines_of, is_spaces, witho
 use Rattle.yaml_base.specs.streams.StreamScalars.{Rules}
 use Rattle.yaml_base.specs.streams.StreamNodes.{node_read}
 
--- Marks
+-- Marks. Source: YAML 1.1, section 7.2 Document Boundary Markers.
 
 -- a line begins with three of a sign, before a space or its end
 abbrev pub begins_with_mark : ℕ → Text → Bool
@@ -51,7 +52,7 @@ abbrev pub sections_of : List Line → Sections
 sections_of [] = record { before = []; sections = [] }
 sections_of (line ∷ rest) = section_before (mark_of line.text) line (sections_of rest)
 
--- Directives
+-- Directives. Source: YAML 1.1, section 7.1 Directives.
 
 -- what is said before `---`
 pub record Heading : Type 0 where
@@ -66,18 +67,18 @@ no_heading = record { version = None; directives = [] }
 abbrev pub is_no_heading : Heading → Bool
 is_no_heading heading = not (is_some heading.version) && length heading.directives == 0
 
--- 1.1 and 1.2 (YAML 1.1, section 7.1.1)
+-- 1.1 and 1.2 (YAML 1.1, section 7.1.1 "YAML" Directive; 1.2 is libyaml's)
 abbrev pub version_said : Text → Option Version
 version_said word =
     if bytes_eq word (codes "1.1") then Some (record { major = pos 1; minor = pos 1 })
     else (if bytes_eq word (codes "1.2") then Some (record { major = pos 1; minor = pos 2 }) else None)
 
--- a version stands first
+-- a version stands first (this project; YAML 1.1, section 7.1.1 "YAML" Directive, asks for one at most)
 abbrev pub with_version : Heading → Option Version → Option Heading
 with_version heading version =
     if is_no_heading heading then option_map (λ said. record { version = Some said; directives = [] }) version else None
 
--- a handle is given once
+-- a handle is given once (YAML 1.1, section 7.1.2 "TAG" Directive, ns-tag-directive)
 abbrev pub with_directive : Heading → Text → Option Text → Option Heading
 with_directive heading handle prefix =
     if is_handle_text handle && not (is_given handle heading.directives)
@@ -85,14 +86,14 @@ with_directive heading handle prefix =
     (λ said. record { version = heading.version; directives = heading.directives ++ record { handle = handle; prefix = said } ∷ [] })
     prefix else None
 
--- a directive by its words (YAML 1.1, sections 7.1.1 and 7.1.2)
+-- a directive by its words (YAML 1.1, section 7.1 Directives, l-directive)
 abbrev pub directive_by_words : Heading → List Text → Option Heading
 directive_by_words heading (name ∷ word ∷ []) = if bytes_eq name (codes "%YAML") then with_version heading (version_said word) else None
 directive_by_words heading (name ∷ handle ∷ prefix ∷ []) =
     if bytes_eq name (codes "%TAG") then with_directive heading handle (prefix_said prefix) else None
 directive_by_words heading _ = None
 
--- one line more of directives, whose words stand one space apart
+-- one line more of directives, whose words stand one space apart (this project; YAML 1.1, section 7.1 Directives, allows more white space)
 abbrev pub directive_line : Option Heading → Line → Option Heading
 directive_line None line = None
 directive_line (Some heading) line = directive_by_words heading (slice_split is_space line.text)
@@ -101,18 +102,18 @@ directive_line (Some heading) line = directive_by_words heading (slice_split is_
 abbrev pub heading_of : List Line → Option Heading
 heading_of lines = fold directive_line (Some no_heading) lines
 
--- Documents
+-- Documents. Source: YAML 1.1, section 7.3 Documents.
 
--- a line begins with a character that is no space
+-- a line begins with a character that is no space (this project)
 abbrev pub stands_at_margin : List Line → Bool
 stands_at_margin [] = true
 stands_at_margin (line ∷ rest) = not (ends_sign line.text)
 
--- a root on lines of its own, the first of which stands at column 0; nothing is the empty scalar
+-- a root on lines of its own, the first of which stands at column 0; nothing is the empty scalar (this project)
 abbrev pub root_below : ℕ → Rules → List Line → Option Tree
 root_below depth rules lines = if stands_at_margin lines then node_read depth rules true None lines else None
 
--- a root on the line of `---` or below it; no block begins on that line
+-- a root on the line of `---` or below it; no block begins on that line (libyaml's scanner)
 abbrev pub root_after_mark : (mark_alone : Bool) → ℕ → Rules → Line → List Line → Option Tree
 root_after_mark true depth rules line rest = root_below depth rules (without_blank_lines rest)
 root_after_mark false depth rules line rest = node_read depth rules false None (line ∷ rest)
@@ -127,6 +128,8 @@ abbrev pub root_marked : ℕ → Rules → Line → List Line → Option Tree
 root_marked depth rules line rest =
     root_after_mark (is_spaces (after_mark line.text)) depth rules (blanked 3 (after_mark line.text) line.ending) rest
 
+-- Streams. Source: YAML 1.1, section 7.4 Complete Stream.
+
 -- what may come after the documents so far: a mark of either kind, or after directives and `...` only `---`
 pub data StreamPlace : Type 0 where
   after_root : StreamPlace
@@ -137,7 +140,7 @@ pub record StreamRead : Type 0 where
   pub documents : List DocumentTree
   pub place : StreamPlace
 
--- one document more
+-- one document more (YAML 1.1, section 7.3 Documents)
 abbrev pub document_added : List DocumentTree → Heading → Option Tree → Option StreamRead
 document_added documents heading root =
     option_map
@@ -147,7 +150,7 @@ document_added documents heading root =
     })
     root
 
--- the document of `---`, with the directives before it
+-- the document of `---`, with the directives before it (YAML 1.1, section 7.3 Documents)
 abbrev pub document_read : ℕ → Bool → List DocumentTree → Heading → Section → Option StreamRead
 document_read depth breaks12 documents heading section =
     document_added documents heading
@@ -158,6 +161,7 @@ abbrev pub heading_added : List DocumentTree → Option Heading → Option Strea
 heading_added documents heading = option_map (λ said. record { documents = documents; place = after_heading said }) heading
 
 -- one section more: `...` stands alone on its line, blank lines may follow it, and then directives
+-- (YAML 1.1, sections 7.2 Document Boundary Markers and 7.3 Documents; `...` alone on its line is this project's rule)
 abbrev pub section_by_kind : MarkKind → ℕ → Bool → List DocumentTree → StreamPlace → Section → Option StreamRead
 section_by_kind start_mark depth breaks12 documents after_root section = document_read depth breaks12 documents no_heading section
 section_by_kind start_mark depth breaks12 documents (after_heading heading) section = document_read depth breaks12 documents heading section
@@ -176,7 +180,7 @@ pub data FrontKind : Type 0 where
   directive_lines : FrontKind
   document_lines : FrontKind
 
--- a line begins with `%`
+-- a line begins with `%` (YAML 1.1, section 7.1 Directives)
 abbrev pub begins_with_percent : Text → Bool
 begins_with_percent [] = false
 begins_with_percent (c ∷ rest) = c == 0x25
@@ -186,7 +190,7 @@ abbrev pub front_kind : List Line → FrontKind
 front_kind [] = no_lines
 front_kind (line ∷ rest) = if begins_with_percent line.text then directive_lines else document_lines
 
--- the lines before the first mark: none, directives, or a document that has no `---`
+-- the lines before the first mark: none, directives, or a document that has no `---` (YAML 1.1, section 7.3 Documents)
 abbrev pub front_read : FrontKind → ℕ → Bool → List Line → Option StreamRead
 front_read no_lines depth breaks12 lines = Some (record { documents = []; place = after_heading no_heading })
 front_read directive_lines depth breaks12 lines = heading_added [] (heading_of lines)
@@ -208,7 +212,7 @@ sections_read depth breaks12 all =
     option_and_then documents_at_end
     (fold (section_read depth breaks12) (front_read (front_kind all.before) depth breaks12 all.before) all.sections)
 
--- the documents of a text whose line breaks are read; blank lines alone hold none
+-- the documents of a text whose line breaks are read; blank lines alone hold none (YAML 1.1, section 7.4 Complete Stream, l-yaml-stream)
 abbrev pub documents_of : Bool → Text → Option (List DocumentTree)
 documents_of breaks12 text =
     let lines = lines_of breaks12 text in

@@ -1,5 +1,6 @@
--- Flow collections, from tokens to a tree (YAML 1.1, sections 10.1.1 and 10.2.1). White space stands after `[`, `{` and
--- `,`, blanks after `?` and `:`, a blank after an alias that is a key, and anything white after a key with a `?`.
+-- Flow collections, from tokens to a tree. White space stands after `[`, `{` and `,`, blanks after `?` and `:`, a blank after an
+-- alias that is a key, and anything white after a key with a `?`; that these are needed is this project's rule.
+-- Source, unless a definition names its own: YAML 1.1, sections 10.1.1 Flow Sequences and 10.2.1 Flow Mappings, in this project's steps.
 use Rattle.std.specs.Prelude.{ℕ, suc, Bool, true, false, Option, None, Some, List, [], ◌∷◌, ◌==◌, ◌&&◌, not, nat_le, length, fold, if◌then◌else◌}
 use Rattle.std.specs.List.{list_any}
 use Rattle.yaml_base.specs.Characters.{Text}
@@ -17,15 +18,15 @@ abbrev pub is_alias : Tree → Bool
 is_alias (alias_tree name) = true
 is_alias _ = false
 
--- a simple key has at most so many characters up to its `:` (chapter 10)
+-- a simple key has at most so many characters up to its `:` (YAML 1.1, section 10.2 Mapping Styles)
 abbrev pub longest_key : ℕ
 longest_key = 1024
 
--- the length of a key's text up to its `:`; a space follows an alias there
+-- the length of a key's text up to its `:`; a space follows an alias there (this project)
 abbrev pub key_length : Tree → Text → ℕ
 key_length key text = if is_alias key then suc (length text) else length text
 
--- the text of a simple key stands on one line and isn't longer than it may be
+-- the text of a simple key stands on one line and isn't longer than it may be (YAML 1.1, section 10.2 Mapping Styles)
 abbrev pub is_key_text : Bool → Tree → Text → Bool
 is_key_text breaks12 key text = nat_le (key_length key text) longest_key && not (list_any (is_read_break breaks12) text)
 
@@ -96,12 +97,12 @@ abbrev pub level_opened : ℕ → Option Text → Option Text → Level
 level_opened bracket anchor tag =
     if bracket == 0x5B then in_sequence anchor tag no_trees else in_mapping anchor tag no_tree_pairs no_key
 
--- a collection opens with its anchor and tag, if its tag is one of its own
+-- a collection opens with its anchor and tag, if its tag is one of its own (this project)
 abbrev pub opened : List Level → ℕ → Option Text → Option (Option Text) → FlowReading
 opened levels bracket anchor None = failed
 opened levels bracket anchor (Some tag) = within (level_opened bracket anchor tag ∷ levels) entry_awaited
 
--- a collection that holds something is no simple key
+-- a collection that holds something is no simple key (this project)
 abbrev pub may_open : List Level → Bool
 may_open (in_mapping anchor tag pairs no_key ∷ levels) = false
 may_open levels = true
@@ -138,6 +139,7 @@ entry_step rules levels (sign c) = if c == 0x3F then key_asked levels else close
 entry_step rules levels token = node_step rules levels token
 
 -- where a node stands on the line of the `?` or `:` before it, after a blank
+-- (this project, stricter than YAML 1.1, section 6.3 Separation Spaces)
 abbrev pub spaced_step : Rules → List Level → (blank_came : Bool) → FlowToken → FlowReading
 spaced_step rules levels came blank = within levels (node_awaited true)
 spaced_step rules levels true token = node_step rules levels token
@@ -186,6 +188,7 @@ tree_at_end (done tree) = Some tree
 tree_at_end _ = None
 
 -- a text that is a flow collection, after its properties
+-- (YAML 1.1, sections 10.1.1 Flow Sequences and 10.2.1 Flow Mappings, c-flow-sequence(n,c), c-flow-mapping(n,c))
 abbrev pub flow_read : Rules → Properties → Text → Option Tree
 flow_read rules properties text =
     tree_at_end (fold (flow_step rules) (within [] (collection_awaited properties)) (flow_tokens rules.breaks12 free text))

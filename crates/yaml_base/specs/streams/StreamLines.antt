@@ -1,10 +1,11 @@
 -- A text by lines and columns: which lines belong to an entry above them, and a block's lines cut into its entries. What a
 -- collection has read of a line becomes spaces, so that each entry is again a text of its own, with the columns it had.
+-- Source, unless a definition names its own: this project's steps, for YAML 1.1, section 6.1 Indentation Spaces.
 use Rattle.std.specs.Prelude.{ℕ, zero, suc, Bool, true, false, Option, None, Some, List, [], ◌∷◌, ◌++◌, ◌==◌, ◌||◌, ◌&&◌, not, replicate, if◌then◌else◌}
 use Rattle.yaml_base.specs.Characters.{Text, space}
 use Rattle.yaml_base.specs.LineBreaks.{is_read_break}
 
--- a line and the break that ends it; the last line of a text may have none
+-- a line and the break that ends it; the last line of a text may have none (YAML 1.1, section 5.4 Line Break Characters)
 pub record Line : Type 0 where
   pub text : Text
   pub ending : Text
@@ -19,7 +20,7 @@ abbrev pub character_before : (is_break : Bool) → ℕ → List Line → List L
 character_before true c rest = record { text = []; ending = c ∷ [] } ∷ rest
 character_before false c rest = extending c rest
 
--- the lines of a text, whose line breaks are read
+-- the lines of a text, whose line breaks are read (YAML 1.1, section 5.4 Line Break Characters)
 abbrev pub lines_of : Bool → Text → List Line
 lines_of breaks12 [] = []
 lines_of breaks12 (c ∷ rest) = character_before (is_read_break breaks12 c) c (lines_of breaks12 rest)
@@ -49,7 +50,7 @@ abbrev pub all_blank : List Line → Bool
 all_blank [] = true
 all_blank (line ∷ rest) = is_spaces line.text && all_blank rest
 
--- a sign stands before a space or the end of its line
+-- a sign stands before a space or the end of its line (this project, stricter than YAML 1.1, section 6.3 Separation Spaces)
 abbrev pub ends_sign : Text → Bool
 ends_sign [] = true
 ends_sign (c ∷ rest) = c == space
@@ -60,6 +61,7 @@ begins_with_sign sign [] = false
 begins_with_sign sign (c ∷ rest) = c == sign && ends_sign rest
 
 -- a line belongs to the entry above it at a column: it is blank or deeper; a `-` at the column of a mapping is too
+-- (YAML 1.1, section 6.1 Indentation Spaces)
 abbrev pub is_inside : (in_sequence : Bool) → ℕ → Text → Bool
 is_inside in_sequence column [] = true
 is_inside in_sequence zero (c ∷ rest) = c == space || (not in_sequence && begins_with_sign 0x2D (c ∷ rest))
@@ -75,7 +77,7 @@ abbrev pub line_before : (inside : Bool) → Line → Entries → Entries
 line_before true line after = record { before = line ∷ after.before; entries = after.entries }
 line_before false line after = record { before = []; entries = (line ∷ after.before) ∷ after.entries }
 
--- the lines of a collection at a column, cut into its entries
+-- the lines of a collection at a column, cut into its entries (YAML 1.1, sections 10.1.2 Block Sequences and 10.2.2 Block Mappings)
 abbrev pub entries_at : (in_sequence : Bool) → ℕ → List Line → Entries
 entries_at in_sequence column [] = record { before = []; entries = [] }
 entries_at in_sequence column (line ∷ rest) =

@@ -1,5 +1,6 @@
--- Nodes in block, by lines and columns (YAML 1.1, sections 8 to 10): the lines inside a column are a node, and each entry of
--- a collection is read as lines of its own. The depth of reading is bounded by a number that the text's length gives.
+-- Nodes in block, by lines and columns: the lines inside a column are a node, and each entry of a collection is read as lines of
+-- its own. The depth of reading is bounded by a number that the text's length gives.
+-- Source, unless a definition names its own: that of its part, in this project's steps.
 use Rattle.std.specs.Prelude.{ℕ, zero, suc, Bool, true, false, Option, None, Some, List, [], ◌∷◌, ◌++◌, ◌==◌, ◌||◌, ◌&&◌, ◌+◌, not, nat_le, length, fold}
 use Rattle.std.specs.Prelude.{option_map, option_and_then, is_some, if◌then◌else◌}
 use Rattle.std.specs.Option.{option_or}
@@ -12,7 +13,7 @@ use Rattle.yaml_base.specs.streams.StreamScalars.{Rules, Properties, no_properti
 use Rattle.yaml_base.specs.streams.StreamScalars.{scalar_of_style, nothing_said, word_after, word_read}
 use Rattle.yaml_base.specs.streams.StreamFlow.{is_alias, longest_key, flow_read}
 
--- Simple keys
+-- Simple keys. Source: YAML 1.1, section 10.2 Mapping Styles.
 
 -- a simple key, the length of its text, and what follows its `:`
 pub record SimpleKey : Type 0 where
@@ -35,7 +36,7 @@ abbrev pub word_of_alias : Rules → Text → Option Tree
 word_of_alias rules text = option_and_then (λ tree. if is_alias tree then Some tree else None) (word_read rules false text)
 
 -- a text before a `:` that is a simple key: a node's own text, with a space after it where that is an alias; it isn't
--- longer than it may be
+-- longer than it may be (YAML 1.1, section 10.2 Mapping Styles; the space after an alias is this project's)
 abbrev pub key_of_text : Rules → Text → Option Tree
 key_of_text rules text =
     if nat_le (length text) longest_key
@@ -56,19 +57,19 @@ key_from rules before (c ∷ rest) =
 abbrev pub key_of_line : Rules → Text → Option SimpleKey
 key_of_line rules text = key_from rules [] text
 
--- Collections
+-- Collections. Source: YAML 1.1, sections 10.1.2 Block Sequences and 10.2.2 Block Mappings.
 
 -- how the lines inside a column are read (none: those of a document), where a block may begin on the first of them or not
 abbrev pub Reads : Type 0
 Reads = (here : Bool) → Option ℕ → List Line → Option Tree
 
--- an item whose sign stands at the column
+-- an item whose sign stands at the column (YAML 1.1, section 10.1.2 Block Sequences)
 abbrev pub item_by_sign : Reads → ℕ → Text → List Line → Option Text → Option Tree
 item_by_sign reads column ending rest (Some (c ∷ text)) =
     if begins_with_sign 0x2D (c ∷ text) then reads true (Some column) (blanked (suc column) text ending ∷ rest) else None
 item_by_sign reads column ending rest _ = None
 
--- an item of a sequence at a column
+-- an item of a sequence at a column (YAML 1.1, section 10.1.2 Block Sequences)
 abbrev pub item_read : Reads → ℕ → List Line → Option Tree
 item_read reads column [] = None
 item_read reads column (line ∷ rest) = item_by_sign reads column line.ending rest (past_column column line.text)
@@ -78,7 +79,7 @@ abbrev pub item_added : Option Trees → Option Tree → Option Trees
 item_added (Some trees) (Some tree) = Some (trees_and trees tree)
 item_added _ _ = None
 
--- the items of a sequence at a column
+-- the items of a sequence at a column (YAML 1.1, section 10.1.2 Block Sequences)
 abbrev pub items_read : Reads → ℕ → List (List Line) → Option Trees
 items_read reads column entries = fold (λ before entry. item_added before (item_read reads column entry)) (Some no_trees) entries
 
@@ -87,16 +88,16 @@ pub record HeldPairs : Type 0 where
   pub pairs : TreePairs
   pub key : Option Tree
 
--- a key after pairs whose last has its value
+-- a key after pairs whose last has its value (YAML 1.1, section 10.2.2 Block Mappings)
 abbrev pub with_key : HeldPairs → Option Tree → Option HeldPairs
 with_key held read = if is_some held.key then None else option_map (λ key. record { pairs = held.pairs; key = Some key }) read
 
--- the value of the key that is held
+-- the value of the key that is held (YAML 1.1, section 10.2.2 Block Mappings)
 abbrev pub with_value : TreePairs → Option Tree → Option Tree → Option HeldPairs
 with_value pairs (Some key) (Some value) = Some (record { pairs = tree_pairs_and pairs key value; key = None })
 with_value pairs _ _ = None
 
--- a simple key and its value, on the line after the key's `:` or below it
+-- a simple key and its value, on the line after the key's `:` or below it (YAML 1.1, section 10.2.2 Block Mappings)
 abbrev pub simple_pair : Reads → ℕ → Text → List Line → Option HeldPairs → Option SimpleKey → Option HeldPairs
 simple_pair reads column ending rest (Some held) (Some found) =
     with_value held.pairs held.key (reads false (Some column) (blanked (suc (column + found.length)) found.after ending ∷ rest))
@@ -108,12 +109,12 @@ pub data EntryKind : Type 0 where
   value_entry : EntryKind
   simple_entry : EntryKind
 
--- `?`, `:`, or a simple key
+-- `?`, `:`, or a simple key (YAML 1.1, section 10.2.2 Block Mappings)
 abbrev pub kind_of_entry : Text → EntryKind
 kind_of_entry text =
     if begins_with_sign 0x3F text then key_entry else (if begins_with_sign 0x3A text then value_entry else simple_entry)
 
--- an entry of a mapping at a column, by its kind
+-- an entry of a mapping at a column, by its kind (YAML 1.1, section 10.2.2 Block Mappings)
 abbrev pub entry_by_kind : EntryKind → Rules → Reads → ℕ → Text → List Line → HeldPairs → Text → Option HeldPairs
 entry_by_kind key_entry rules reads column ending rest held [] = None
 entry_by_kind key_entry rules reads column ending rest held (c ∷ text) =
@@ -152,7 +153,7 @@ pairs_read rules reads column entries = option_and_then pairs_held (fold (entry_
 abbrev pub entries_whole : Entries → Option (List (List Line))
 entries_whole all = if length all.before == 0 then Some all.entries else None
 
--- a sequence at a column, whose tag is one of its own
+-- a sequence at a column, whose tag is one of its own (YAML 1.1, section 10.1.2 Block Sequences)
 abbrev pub sequence_read : Reads → Properties → ℕ → List Line → Option Tree
 sequence_read reads properties column lines =
     option_and_then
@@ -160,7 +161,7 @@ sequence_read reads properties column lines =
     (option_and_then (items_read reads column) (entries_whole (entries_at true column lines))))
     (collection_tag_said properties.tag)
 
--- a mapping at a column, whose tag is one of its own
+-- a mapping at a column, whose tag is one of its own (YAML 1.1, section 10.2.2 Block Mappings)
 abbrev pub mapping_read : Rules → Reads → Properties → ℕ → List Line → Option Tree
 mapping_read rules reads properties column lines =
     option_and_then
@@ -168,7 +169,7 @@ mapping_read rules reads properties column lines =
     (option_and_then (pairs_read rules reads column) (entries_whole (entries_at false column lines))))
     (collection_tag_said properties.tag)
 
--- Texts
+-- Texts. Source: YAML 1.1, section 8.5 Complete Nodes.
 
 -- a white character before a text that has none at its end
 abbrev pub before_trimmed : (is_white : Bool) → ℕ → Text → Text
@@ -186,7 +187,7 @@ pub data TextKind : Type 0 where
   flow_text : TextKind
   word_text : TextKind
 
--- `|` or `>`; `[` or `{`; any other
+-- `|` or `>`; `[` or `{`; any other (YAML 1.1, section 5.3 Indicator Characters)
 abbrev pub kind_of_text : Text → TextKind
 kind_of_text [] = word_text
 kind_of_text (c ∷ rest) =
@@ -204,7 +205,7 @@ text_read rules column properties text ending rest =
     if all_deeper column rest then text_by_kind (kind_of_text text) rules column properties (text ++ (ending ++ text_of_lines rest))
     else None
 
--- Nodes
+-- Nodes. Source: YAML 1.1, section 8.5 Complete Nodes.
 
 -- what a node's first line that isn't blank begins
 pub data NodeKind : Type 0 where
@@ -244,12 +245,12 @@ node_at rules reads reads_text properties here first (line ∷ rest) =
     let begun = indented line.text in
     node_by_kind (kind_of_node rules begun.text) rules reads reads_text properties here first begun line.ending rest (line ∷ rest)
 
--- blank lines before a node are skipped; after one a block may begin, and no text
+-- blank lines before a node are skipped; after one a block may begin, and no text (this project)
 abbrev pub node_lines : Rules → Reads → ReadsText → Properties → (here : Bool) → List Line → Option Tree
 node_lines rules reads reads_text properties here lines =
     node_at rules reads reads_text properties (here || begins_blank lines) (not (begins_blank lines)) (without_blank_lines lines)
 
--- a text begins with an anchor or a tag
+-- a text begins with an anchor or a tag (YAML 1.1, sections 8.1 Node Anchors and 8.2 Node Tags)
 abbrev pub begins_properties : Text → Bool
 begins_properties [] = false
 begins_properties (c ∷ rest) = c == 0x26 || c == 0x21

@@ -1,5 +1,6 @@
--- One node's own text on the stretch that is cut out for it: an alias, an empty collection or a scalar, after its anchor
--- and its tag (YAML 1.1, sections 8.1 and 9). The scalars' readers are called on tidy text alone.
+-- One node's own text on the stretch that is cut out for it: an alias, an empty collection or a scalar, after its anchor and its
+-- tag. The scalars' readers are called on tidy text alone.
+-- Source, unless a definition names its own: this project's steps, for YAML 1.1, chapters 8 Nodes and 9 Scalar Styles.
 use Rattle.std.specs.Prelude.{ℕ, suc, Bool, true, false, Option, None, Some, List, [], ◌∷◌, ◌++◌, ◌==◌, ◌&&◌, ◌+◌, length, option_map, option_and_then}
 use Rattle.std.specs.Prelude.{if◌then◌else◌}
 use Rattle.std.specs.List.{list_all}
@@ -46,52 +47,52 @@ abbrev pub word_cut : Text → CutText
 word_cut [] = record { front = []; rest = [] }
 word_cut (c ∷ rest) = word_step (c == space) c rest (word_cut rest)
 
--- a name: at least one character, all of the anchor alphabet
+-- a name: at least one character, all of the anchor alphabet (libyaml's scanner; YAML 1.1, section 8.1 Node Anchors, allows more)
 abbrev pub name_read : Text → Option Text
 name_read [] = None
 name_read (c ∷ rest) = if list_all is_alpha (c ∷ rest) then Some (c ∷ rest) else None
 
--- an anchor's word after its `&`
+-- an anchor's word after its `&` (YAML 1.1, section 8.1 Node Anchors, c-ns-anchor-property)
 abbrev pub anchor_of_word : CutText → Option PropertiesRead
 anchor_of_word word =
     option_map
     (λ name. record { properties = record { anchor = Some name; tag = None }; text = spaces (suc (length word.front)) ++ word.rest })
     (name_read word.front)
 
--- the anchor that a text begins with, if it begins with one (YAML 1.1, section 8.1.2)
+-- the anchor that a text begins with, if it begins with one (YAML 1.1, section 8.1 Node Anchors, c-ns-anchor-property)
 abbrev pub anchor_first : Text → Option PropertiesRead
 anchor_first [] = Some (record { properties = no_properties; text = [] })
 anchor_first (c ∷ rest) =
     if c == 0x26 then anchor_of_word (word_cut rest) else Some (record { properties = no_properties; text = c ∷ rest })
 
--- a tag's word, at a column
+-- a tag's word, at a column (YAML 1.1, section 8.2 Node Tags)
 abbrev pub tag_of_word : List TagDirective → Option Text → ℕ → CutText → Option PropertiesRead
 tag_of_word directives anchor column word =
     option_map
     (λ said. record { properties = record { anchor = anchor; tag = Some said }; text = spaces (column + length word.front) ++ word.rest })
     (tag_said directives word.front)
 
--- the tag that a text begins with at a column, if it begins with one (YAML 1.1, section 8.1.1)
+-- the tag that a text begins with at a column, if it begins with one (YAML 1.1, section 8.2 Node Tags)
 abbrev pub tag_first : List TagDirective → Option Text → ℕ → Text → Option PropertiesRead
 tag_first directives anchor column [] = Some (record { properties = record { anchor = anchor; tag = None }; text = spaces column })
 tag_first directives anchor column (c ∷ rest) =
     if c == 0x21 then tag_of_word directives anchor column (word_cut (c ∷ rest))
     else Some (record { properties = record { anchor = anchor; tag = None }; text = spaces column ++ c ∷ rest })
 
--- the anchor, and then the tag
+-- the anchor, and then the tag (this project; YAML 1.1, chapter 8 Nodes, allows either order)
 abbrev pub properties_read : List TagDirective → Text → Option PropertiesRead
 properties_read directives text =
     option_and_then
     (λ read. let after = indented read.text in tag_first directives read.properties.anchor after.column after.text)
     (anchor_first text)
 
--- the tag of a collection: the bare tag isn't one
+-- the tag of a collection: the bare tag isn't one (this project)
 abbrev pub collection_tag_said : Option TagSaid → Option (Option Text)
 collection_tag_said None = Some None
 collection_tag_said (Some (name_said name)) = Some (Some name)
 collection_tag_said (Some bare_said) = None
 
--- how a scalar is tagged that stood so: the bare tag stands before none that is plain
+-- how a scalar is tagged that stood so: the bare tag stands before none that is plain (this project)
 abbrev pub tagging_said : Option TagSaid → Stood → Option Tagging
 tagging_said None standing = Some (without_tag standing)
 tagging_said (Some (name_said name)) standing = Some (with_tag name)
@@ -100,7 +101,7 @@ tagging_said (Some bare_said) _ = None
 
 -- Scalars
 
--- the style that a text's first character tells
+-- the style that a text's first character tells (YAML 1.1, section 5.3 Indicator Characters)
 abbrev pub style_begun : Text → ScalarStyle
 style_begun [] = plain
 style_begun (c ∷ rest) =
@@ -125,7 +126,7 @@ abbrev pub scalar_said : Properties → Stood → Option Text → Option Tree
 scalar_said properties standing value =
     option_and_then (λ text. option_map (λ tagging. scalar_tree properties.anchor tagging text) (tagging_said properties.tag standing)) value
 
--- a scalar's text, tidy where it stands
+-- a scalar's text, tidy where it stands (this project)
 abbrev pub scalar_of_style : ScalarStyle → Rules → (flow : Bool) → Option ℕ → Properties → Text → Option Tree
 scalar_of_style style rules flow column properties text =
     scalar_said properties (standing_of style)
@@ -137,7 +138,7 @@ nothing_said properties = scalar_said properties stood_plain (Some [])
 
 -- Words
 
--- an alias has no properties (YAML 1.1, section 7.1)
+-- an alias has no properties (YAML 1.1, section 8.4 Alias Nodes, c-ns-alias-node)
 abbrev pub alias_said : Option Text → Option TagSaid → Option Text → Option Tree
 alias_said None None name = option_map alias_tree name
 alias_said _ _ name = None
@@ -149,7 +150,7 @@ pub data WordKind : Type 0 where
   empty_mapping : WordKind
   a_scalar : WordKind
 
--- `*`, `[]` whole, `{}` whole, or a scalar
+-- `*`, `[]` whole, `{}` whole, or a scalar (YAML 1.1, sections 8.4 Alias Nodes, 10.1.1 Flow Sequences and 10.2.1 Flow Mappings)
 abbrev pub kind_of_word : Text → WordKind
 kind_of_word [] = a_scalar
 kind_of_word (c ∷ []) = if c == 0x2A then an_alias else a_scalar

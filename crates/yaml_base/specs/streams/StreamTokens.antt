@@ -1,5 +1,7 @@
--- The tokens of a flow collection's text, one character after another (YAML 1.1, sections 9.1, 10.1.1 and 10.2.1): words,
--- each the whole text of a scalar, an alias or an empty collection with its properties, and signs, blanks and breaks.
+-- The tokens of a flow collection's text, one character after another: words, each the whole text of a scalar, an alias or an empty
+-- collection with its properties, and signs, blanks and breaks.
+-- Source, unless a definition names its own: YAML 1.1, sections 9.1 Flow Scalar Styles, 10.1.1 Flow Sequences and 10.2.1 Flow Mappings, in this
+-- project's steps.
 use Rattle.std.specs.Prelude.{ℕ, Bool, true, false, List, [], ◌∷◌, ◌++◌, ◌==◌, ◌||◌, ◌&&◌, map, codes, if◌then◌else◌}
 use Rattle.yaml_base.specs.Characters.{Text, is_among, is_blank}
 use Rattle.yaml_base.specs.LineBreaks.{is_read_break}
@@ -56,6 +58,7 @@ pub data FlowClass : Type 0 where
   begins_plain : FlowClass
 
 -- the class of a character: a blank, a break, one of `]},:?`, one of `&!`, a quote, a bracket, or any other
+-- (YAML 1.1, sections 5.3 Indicator Characters, 5.4 Line Break Characters and 5.5 Miscellaneous Characters)
 abbrev pub class_of : Bool → ℕ → FlowClass
 class_of breaks12 c =
     if is_blank c then is_white_blank
@@ -77,14 +80,14 @@ begun begins_single properties c = goes_to (in_single (properties ++ c ∷ []))
 begun begins_bracket properties c = goes_to (after_bracket properties c)
 begun begins_plain properties c = goes_to (in_plain (properties ++ c ∷ []) [])
 
--- after properties: more blanks, or what they belong to on the same line
+-- after properties: more blanks, or what they belong to on the same line (this project, stricter than YAML 1.1, section 6.3 Separation Spaces)
 abbrev pub begun_after_property : FlowClass → Text → ℕ → FlowTurn
 begun_after_property is_white_blank text c = goes_to (after_property (text ++ c ∷ []))
 begun_after_property is_white_break text c = completes bad
 begun_after_property is_flow_sign text c = completes bad
 begun_after_property class text c = begun class text c
 
--- an anchor or a tag goes on to a blank
+-- an anchor or a tag goes on to a blank (YAML 1.1, sections 8.1 Node Anchors and 8.2 Node Tags)
 abbrev pub property_turn : FlowClass → Text → ℕ → FlowTurn
 property_turn is_white_blank text c = goes_to (after_property (text ++ c ∷ []))
 property_turn is_white_break text c = completes bad
@@ -103,7 +106,7 @@ white_token breaks12 c = white_of_class (class_of breaks12 c)
 abbrev pub word_ends : Bool → Text → Text → FlowTurn → FlowTurn
 word_ends breaks12 text white turn = tokens_before (word text ∷ map (white_token breaks12) white) turn
 
--- plain text goes on, also over white space, to a sign of flow
+-- plain text goes on, also over white space, to a sign of flow (YAML 1.1, section 9.1.3 Plain)
 abbrev pub plain_turn : FlowClass → Bool → Text → Text → ℕ → FlowTurn
 plain_turn is_white_blank breaks12 text white c = goes_to (in_plain text (white ++ c ∷ []))
 plain_turn is_white_break breaks12 text white c = goes_to (in_plain text (white ++ c ∷ []))
