@@ -1,4 +1,4 @@
--- Which event is refused after which list, and with what fault (libyaml's own rules; YAML 1.1, sections 7.1 and 8.1, for
+-- Which event is refused after which list, and with what fault (libyaml's own rules; YAML 1.1, sections 7.1, 8.1 and 8.2, for
 -- directives, anchors and tags).
 use Rattle.std.specs.Prelude.{◌≡◌, ◌↔◌, ℕ, ◌-◌, ◌≤◌, Bool, true, false, Option, None, Some, List, [], ◌∷◌, ◌++◌, ◌||◌, ◌&&◌, not, nat_lt, length, count_by}
 use Rattle.std.specs.Prelude.{is_some, is_none, option_and_then, if◌then◌else◌}

@@ -1,5 +1,5 @@
 -- Names, versions, tag directives and tags: what is refused in them, and how a tag is spelled by the directives in force
--- (YAML 1.1, sections 7.1 and 8.1, and libyaml's own rules).
+-- (YAML 1.1, sections 7.1, 8.1 and 8.2, and libyaml's own rules).
 use Rattle.std.specs.Prelude.{ℕ, ℤ, pos, negsuc, Bool, false, Option, None, Some, List, [], ◌∷◌, ◌++◌, ◌==◌, ◌||◌, ◌&&◌, not, codes, bytes_eq, filter}
 use Rattle.std.specs.Prelude.{if◌then◌else◌}
 use Rattle.std.specs.List.{list_any, list_all}
@@ -12,7 +12,7 @@ use Rattle.yaml_base.specs.declared.errors.yaml_error_t.TheVariants.{Incompatibl
 use Rattle.yaml_base.specs.declared.errors.yaml_error_t.TheVariants.{TagPrefixEmpty, DuplicateDirective, AnchorEmpty, AnchorAlphabet, AliasEmpty, AliasAlphabet}
 use Rattle.yaml_base.specs.declared.errors.yaml_error_t.TheVariants.{TagEmpty}
 
--- the refusal of a name: it has at least one character, and all of them are of the anchor alphabet (YAML 1.1, section 8.1.2;
+-- the refusal of a name: it has at least one character, and all of them are of the anchor alphabet (YAML 1.1, section 8.1;
 -- the alphabet is libyaml's)
 abbrev pub name_fault : (if_empty if_other : yaml_error_t) → Text → Option yaml_error_t
 name_fault if_empty if_other [] = Some if_empty
@@ -111,7 +111,7 @@ behind [] (c ∷ rest) = Some (c ∷ rest)
 behind (p ∷ prefix) [] = None
 behind (p ∷ prefix) (c ∷ rest) = if p == c then behind prefix rest else None
 
--- a tag as a handle and what stands behind the handle's prefix, or as it is (YAML 1.1, section 8.1.1)
+-- a tag as a handle and what stands behind the handle's prefix, or as it is (YAML 1.1, section 8.2)
 pub data Spelling : Type 0 where
   shorthand : Text → Text → Spelling
   verbatim : Text → Spelling
@@ -126,7 +126,7 @@ abbrev pub spelling : List TagDirective → Text → Spelling
 spelling [] tag = verbatim tag
 spelling (directive ∷ rest) tag = spelling_by directive.handle (behind directive.prefix tag) (spelling rest tag)
 
--- the text of a spelling (YAML 1.1, section 8.1.1)
+-- the text of a spelling (YAML 1.1, section 8.2)
 abbrev pub spelled : (portable : Bool) → Spelling → Text
 spelled portable (shorthand handle suffix) = handle ++ suffix_escaped portable suffix
 spelled portable (verbatim tag) = codes "!<" ++ percent_escaped tag ++ codes ">"
