@@ -1,4 +1,4 @@
-//! Anchors, aliases, versions and tag directives: what is refused in them (YAML 1.1, sections 7.1 and 8.1.2).
+//! Anchors, aliases, versions and tag directives: what is refused in them (YAML 1.1, sections 7.1, 8.1 and 8.4).
 ghost use Rattle.std.specs.Prelude.{◌≡◌, ◌==◌, length, chars, if◌then◌else◌};
 ghost use Rattle.std.specs.List.{list_all};
 ghost use Rattle.yaml_base.specs.Characters as class;

@@ -1,4 +1,4 @@
-//! How a tag is spelled by the directives in force (YAML 1.1, sections 7.1.2 and 8.1.1).
+//! How a tag is spelled by the directives in force (YAML 1.1, sections 7.1.2 and 8.2).
 ghost use Rattle.std.specs.Prelude.{◌≡◌, Option, IfOk, is_some, position, string_bytes, chars};
 ghost use Rattle.yaml_base.specs.Errors.{refused};
 ghost use Rattle.yaml_base.specs.Tags.{spelling, tag_fault, behind};

@@ -1,4 +1,4 @@
-//! Anchors and tags as text (YAML 1.1, section 8.1).
+//! Anchors and tags as text (YAML 1.1, sections 8.1 and 8.2).
 ghost use Rattle.std.specs.Prelude.{◌≡◌, [], ◌∷◌, ◌++◌, true, false, chars, flat_map, MatchOption};
 ghost use Rattle.std.specs.List.{list_any, position_or_len, prefix_len};
 ghost use Rattle.yaml_base.specs.Characters.{is_break};
