@@ -1,4 +1,4 @@
-//! Anchors, aliases and tags (YAML 1.1, sections 8.1 and 8.3).
+//! Anchors, aliases and tags (YAML 1.1, sections 8.1, 8.2 and 8.4).
 
 ghost use Rattle.std.specs.Prelude.{◌≡◌, Bool, Some, None, chars, false, ◌&&◌};
 ghost use Rattle.yaml_base.specs.Cursor.{Cursor, nothing_laid, then_laid};
